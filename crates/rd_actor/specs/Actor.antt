@@ -1,0 +1,27 @@
+-- Two records that an actor may begin with.
+use Rattle.std.specs.Prelude.{ℕ, false, Some, None}
+use Rattle.rd_cell.specs.Place.{root}
+use Rattle.rd_actor.specs.declared.actors.Actor.{Actor}
+use Rattle.rd_actor.specs.declared.actors.Pc.TheVariants.{Idle, E4}
+use Rattle.rd_actor.specs.declared.actors.Op.TheVariants.{Enq}
+
+-- the record of an actor in no call
+abbrev pub idle : Actor
+idle = record {
+  pc = Idle;
+  op = None;
+  crq = root;
+  new = root;
+  next = root;
+  t = 0;
+  h = 0;
+  closed = false;
+  val = None;
+  safe = false;
+  idx = 0;
+  pass = 0;
+}
+
+-- the record of an actor that is to draw a position for this value on the root
+abbrev pub poised : ℕ → Actor
+poised value = record idle { pc = E4; op = Some (Enq value) }

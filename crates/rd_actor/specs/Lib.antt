@@ -1,0 +1,4 @@
+pub mod Actor
+pub mod Table
+pub mod World
+pub mod Words

@@ -1,0 +1,172 @@
+//! An actor's record, what it may be asked to do, and what its calls reply.
+
+ghost use Rattle.std.specs.Prelude.{◌≡◌};
+ghost use Rattle.rd_actor.specs.Actor.{idle, poised};
+
+use rd_cell::SegName;
+
+/// Where an actor stands: the label of the row of the place table that it does next.
+#[derive(Clone, Copy, Debug, PartialEq, Eq)]
+pub enum Pc {
+    /// In no call.
+    Idle,
+    /// Enqueue: reads the queue's tail.
+    E1,
+    /// Enqueue: reads the segment's next.
+    E2,
+    /// Enqueue: tries to move the queue's tail to the next segment.
+    E3,
+    /// Enqueue: fetch-and-add on the segment's tail.
+    E4,
+    /// Enqueue: reads the cell's value.
+    E5,
+    /// Enqueue: reads the cell's safe bit and index.
+    E6,
+    /// Enqueue: reads the segment's head, since the cell is unsafe.
+    E7,
+    /// Enqueue: tries to put the value into the cell.
+    E8,
+    /// Enqueue: reads the segment's head, to see whether the ring is full.
+    E9,
+    /// Enqueue: the choice whether it starves.
+    E10,
+    /// Enqueue: closes the ring.
+    E11,
+    /// Enqueue: makes a segment that holds the value.
+    E12,
+    /// Enqueue: tries to link the new segment.
+    E13,
+    /// Enqueue: tries to move the queue's tail to the new segment.
+    E14,
+    /// Dequeue: reads the queue's head.
+    Q1,
+    /// Dequeue: fetch-and-add on the segment's head.
+    Q2,
+    /// Dequeue: reads the cell's value.
+    Q3,
+    /// Dequeue: reads the cell's safe bit and index.
+    Q4,
+    /// Dequeue: tries to take the value out.
+    Q5,
+    /// Dequeue: tries to mark the cell unsafe.
+    Q6,
+    /// Dequeue: tries to move the empty cell on.
+    Q7,
+    /// Dequeue: reads the tail, to see whether the ring is empty.
+    Q8,
+    /// Dequeue: the repair reads the tail.
+    Q9,
+    /// Dequeue: the repair reads the head.
+    Q10,
+    /// Dequeue: the repair reads the tail again.
+    Q11,
+    /// Dequeue: the repair tries to move the tail up to the head.
+    Q12,
+    /// Dequeue: reads the segment's next.
+    Q13,
+    /// Dequeue: tries to move the queue's head to the next segment.
+    Q14,
+    /// Enqueue on the array: fetch-and-add on its tail.
+    A1,
+    /// Enqueue on the array: swaps the value in.
+    A2,
+    /// Dequeue on the array: fetch-and-add on its head.
+    B1,
+    /// Dequeue on the array: swaps the slot out.
+    B2,
+    /// Dequeue on the array: reads its tail.
+    B3,
+}
+
+/// The call that an actor is in.
+#[derive(Clone, Copy, Debug, PartialEq, Eq)]
+pub enum Op {
+    /// Enqueue of this value.
+    Enq(u64),
+    /// Dequeue.
+    Deq,
+    /// Enqueue of this value on the array.
+    AEnq(u64),
+    /// Dequeue on the array.
+    ADeq,
+}
+
+/// What an actor is told to do in one step.
+#[derive(Clone, Copy, Debug, PartialEq, Eq)]
+pub enum Act {
+    /// The step of the row where it stands.
+    Go,
+}
+
+/// What a call answers when it is over.
+#[derive(Clone, Copy, Debug, PartialEq, Eq)]
+pub enum OpReply {
+    /// The value was enqueued.
+    Enqueued,
+    /// This value was dequeued.
+    Value(u64),
+    /// There was nothing to dequeue.
+    Empty,
+}
+
+/// The words of one actor.
+#[derive(Clone, Copy, Debug, PartialEq, Eq)]
+pub struct Actor {
+    /// Where it stands.
+    pub pc: Pc,
+    /// The call that it is in, if any.
+    pub op: Option<Op>,
+    /// The segment on which it works.
+    pub crq: SegName,
+    /// The segment that it made last in this call.
+    pub new: SegName,
+    /// The next segment that it read last.
+    pub next: SegName,
+    /// The tail position that it read or drew last, at most 2^62.
+    pub t: u64,
+    /// The head position that it read or drew last, at most 2^62.
+    pub h: u64,
+    /// The closed bit that its repair read.
+    pub closed: bool,
+    /// The value that it read from a cell.
+    pub val: Option<u64>,
+    /// The safe bit that it read from a cell.
+    pub safe: bool,
+    /// The index that it read from a cell, at most 2^62 plus the ring's size.
+    pub idx: u64,
+    /// The pass of a dequeue over its segment: 0 before the first, then 1 or 2.
+    pub pass: u8,
+}
+
+impl Actor {
+    /// The record of an actor in no call: all names the root, all numbers 0, all bits 0, no value.
+    pub fn idle() -> Actor
+        ensures { result ≡ idle }
+    {
+        Actor {
+            pc: Pc::Idle,
+            op: None,
+            crq: SegName::ROOT,
+            new: SegName::ROOT,
+            next: SegName::ROOT,
+            t: 0,
+            h: 0,
+            closed: false,
+            val: None,
+            safe: false,
+            idx: 0,
+            pass: 0,
+        }
+    }
+
+    /// The record of an actor that stands at the fetch-and-add of an enqueue of this value, on the root.
+    pub fn poised(value: u64) -> Actor
+        ensures { result ≡ poised value }
+    {
+        Actor {
+            pc: Pc::E4,
+            op: Some(Op::Enq(value)),
+            ..Actor::idle()
+        }
+    }
+}

@@ -1,0 +1,3 @@
+pub mod PlaceLemmas
+pub mod AccessLemmas
+pub mod ListLemmas

@@ -1,0 +1,55 @@
+-- What each operation does to one content.
+use Rattle.std.specs.Prelude.{ℕ, ◌+◌, ◌^◌, Bool, true, false, not, ◌==◌, ◌&&◌, nat_lt, if◌then◌else◌, Option, Some, None, Result, Ok, Err}
+use Rattle.rd_cell.specs.declared.places.SegName.{SegName}
+use Rattle.rd_cell.specs.declared.contents.Content.{Content}
+use Rattle.rd_cell.specs.declared.contents.Content.TheVariants.{Name, Number, Tail, Next, Cell, Slot}
+use Rattle.rd_cell.specs.declared.access.Operation.{Operation}
+use Rattle.rd_cell.specs.declared.access.Operation.TheVariants.{Read, ReadValue, ReadTurn, Add, AddArray, Close, CasName, CasNext, CasTail, Cas2, Swap}
+use Rattle.rd_cell.specs.declared.access.Answer.{Answer}
+use Rattle.rd_cell.specs.declared.access.Answer.TheVariants.{Nothing, Found, Value, Turn, WasClosed, Won, Lost}
+use Rattle.rd_cell.specs.declared.refusal.Refusal.{Refusal}
+use Rattle.rd_cell.specs.declared.refusal.Refusal.TheVariants.{CounterEnd, ArrayEnd, NoSuchPlace}
+use Rattle.rd_cell.specs.Place.{is_name}
+use Rattle.rd_cell.specs.Content.{is_cell}
+
+-- what an operation does to one content: what it answers, and the content that it writes, or none where it reads
+pub record Effect : Type 0 where
+  pub answer : Answer
+  pub writes : Option Content
+
+-- it reads
+abbrev pub reads : Answer → Result Effect Refusal
+reads answer = Ok (record { answer = answer; writes = None })
+
+-- it writes this content
+abbrev pub writes : Answer → Content → Result Effect Refusal
+writes answer c = Ok (record { answer = answer; writes = Some c })
+
+-- a compare-and-swap: where the test holds it wins and writes, and else it loses and reads
+abbrev pub swaps : Bool → Content → Result Effect Refusal
+swaps true c = writes Won c
+swaps false c = reads Lost
+
+-- a fetch-and-add on a counter at n, which ends at the limit
+abbrev pub adds : ℕ → ℕ → Refusal → Content → Content → Result Effect Refusal
+adds limit n refusal old new = if nat_lt n limit then writes (Found old) new else Err refusal
+
+-- the effect of an operation on a content; no well-formed world asks for one on a content of another kind
+abbrev pub effect : Operation → Content → Result Effect Refusal
+effect Read (Name s) = reads (Found (Name s))
+effect Read (Number n) = reads (Found (Number n))
+effect Read (Tail c n) = reads (Found (Tail c n))
+effect Read (Next m) = reads (Found (Next m))
+effect ReadValue (Cell c) = reads (Value c.val)
+effect ReadTurn (Cell c) = reads (Turn c.safe c.idx)
+effect Add (Number n) = adds (2 ^ 62) n CounterEnd (Number n) (Number (n + 1))
+effect Add (Tail c n) = adds (2 ^ 62) n CounterEnd (Tail c n) (Tail c (n + 1))
+effect AddArray (Number n) = adds 64 n ArrayEnd (Number n) (Number (n + 1))
+effect Close (Tail c n) = writes (WasClosed c) (Tail true n)
+effect (CasName old new) (Name s) = swaps (is_name s old) (Name new)
+effect (CasNext new) (Next None) = swaps true (Next (Some new))
+effect (CasNext new) (Next (Some m)) = swaps false (Next (Some new))
+effect (CasTail old new) (Tail c n) = swaps (not c && (n == old)) (Tail false new)
+effect (Cas2 old new) (Cell c) = swaps (is_cell c old) (Cell new)
+effect (Swap new) (Slot old) = writes (Found (Slot old)) (Slot new)
+effect _ _ = Err NoSuchPlace

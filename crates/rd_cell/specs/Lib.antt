@@ -1,0 +1,4 @@
+pub mod Place
+pub mod Content
+pub mod Effect
+pub mod Access

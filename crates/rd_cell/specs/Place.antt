@@ -1,0 +1,45 @@
+-- Places: when two are one, and when two overlap.
+use Rattle.std.specs.Prelude.{ℕ, Bool, true, false, ◌==◌, ◌&&◌, ◌||◌}
+use Rattle.rd_cell.specs.declared.places.SegName.{SegName}
+use Rattle.rd_cell.specs.declared.places.Place.{Place}
+use Rattle.rd_cell.specs.declared.places.Place.TheVariants.{QHead, QTail, Head, Tail, Next, Cell, Whole, ArrHead, ArrTail, ArrCell}
+
+-- the segment that is there from the start
+abbrev pub root : SegName
+root = record { maker = 0; n = 0 }
+
+-- whether two names are one
+abbrev pub is_name : SegName → SegName → Bool
+is_name s t = (s.maker == t.maker) && (s.n == t.n)
+
+-- whether the place is one of the segment's, or the whole of it
+abbrev pub is_of : SegName → Place → Bool
+is_of s (Head t) = is_name s t
+is_of s (Tail t) = is_name s t
+is_of s (Next t) = is_name s t
+is_of s (Cell t i) = is_name s t
+is_of s (Whole t) = is_name s t
+is_of s _ = false
+
+-- whether two places are one
+abbrev pub is_place : Place → Place → Bool
+is_place QHead QHead = true
+is_place QTail QTail = true
+is_place (Head s) (Head t) = is_name s t
+is_place (Tail s) (Tail t) = is_name s t
+is_place (Next s) (Next t) = is_name s t
+is_place (Cell s i) (Cell t j) = is_name s t && (i == j)
+is_place (Whole s) (Whole t) = is_name s t
+is_place ArrHead ArrHead = true
+is_place ArrTail ArrTail = true
+is_place (ArrCell i) (ArrCell j) = i == j
+is_place _ _ = false
+
+-- whether a write of p may change what is at q: q is p, or p is the whole of q's segment
+abbrev pub covers : Place → Place → Bool
+covers (Whole s) q = is_of s q
+covers p q = is_place p q
+
+-- whether two places overlap: one covers the other
+abbrev pub overlaps : Place → Place → Bool
+overlaps p q = covers p q || covers q p

@@ -1,0 +1,74 @@
+//! Segment names, the ten kinds of place, and which places overlap.
+
+ghost use Rattle.std.specs.Prelude.{◌≡◌};
+ghost use Rattle.rd_cell.specs.Place.{covers, is_of, overlaps};
+
+/// The name of a segment: (maker, n) is the one that this actor made as its n-th, from 0. The root is (0, 0).
+#[derive(Clone, Copy, Debug, PartialEq, Eq)]
+pub struct SegName {
+    /// The number of the actor that made the segment, 1 to 16, or 0 for the root.
+    pub maker: u8,
+    /// How many segments that maker had made before, 0 to 65,534.
+    pub n: u32,
+}
+
+impl SegName {
+    /// The segment that is there from the start.
+    pub const ROOT: SegName = SegName { maker: 0, n: 0 };
+}
+
+/// What one atomic step reads or writes.
+#[derive(Clone, Copy, Debug, PartialEq, Eq)]
+pub enum Place {
+    /// The name of the segment at the head of the queue.
+    QHead,
+    /// The name of the segment at its tail.
+    QTail,
+    /// A segment's head counter.
+    Head(SegName),
+    /// A segment's tail counter with the closed bit.
+    Tail(SegName),
+    /// The name of the segment that follows a segment, or none.
+    Next(SegName),
+    /// One cell of a segment, by its index from 0.
+    Cell(SegName, u8),
+    /// All places of one segment together: what its making writes.
+    Whole(SegName),
+    /// The head counter of the array queue.
+    ArrHead,
+    /// The tail counter of the array queue.
+    ArrTail,
+    /// One slot of the array queue, 0 to 63.
+    ArrCell(u8),
+}
+
+/// Whether two places overlap: they are equal, or one is the whole of the segment that the other belongs to.
+pub fn overlaps(a: Place, b: Place) -> bool
+    ensures { result ≡ overlaps a b }
+{
+    covers(a, b) || covers(b, a)
+}
+
+/// Whether a write of `a` may change what is at `b`.
+fn covers(a: Place, b: Place) -> bool
+    ensures { result ≡ covers a b }
+{
+    match a {
+        Place::Whole(name) => is_of(name, b),
+        _ => a == b,
+    }
+}
+
+/// Whether the place is one of the segment's, or the whole of it.
+pub fn is_of(name: SegName, place: Place) -> bool
+    ensures { result ≡ is_of name place }
+{
+    match place {
+        Place::Head(of)
+        | Place::Tail(of)
+        | Place::Next(of)
+        | Place::Cell(of, _)
+        | Place::Whole(of) => name == of,
+        Place::QHead | Place::QTail | Place::ArrHead | Place::ArrTail | Place::ArrCell(_) => false,
+    }
+}

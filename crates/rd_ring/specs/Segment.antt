@@ -1,0 +1,51 @@
+-- What a segment has at each of its places, and what its operations do.
+use Rattle.std.specs.Prelude.{◌≡◌, ℕ, ◌+◌, Bool, true, Option, Some, None, option_map, slice_get, Result, Ok, Err}
+use Rattle.rd_cell.specs.declared.places.SegName.{SegName}
+use Rattle.rd_cell.specs.declared.places.Place.{Place}
+use Rattle.rd_cell.specs.declared.places.Place.TheVariants.{Head, Tail, Next, Cell as CellAt}
+use Rattle.rd_cell.specs.declared.contents.Content.{Content}
+use Rattle.rd_cell.specs.declared.contents.Content.TheVariants.{Number, Tail as TailIs, Next as NextIs, Cell as CellIs}
+use Rattle.rd_cell.specs.declared.access.Operation.{Operation}
+use Rattle.rd_cell.specs.declared.access.Answer.TheVariants.{Found}
+use Rattle.rd_cell.specs.declared.refusal.Refusal.{Refusal}
+use Rattle.rd_cell.specs.Place.{is_of}
+use Rattle.rd_cell.specs.Content.{Contents}
+use Rattle.rd_cell.specs.Effect.{Effect, effect}
+use Rattle.rd_cell.specs.Access.{put}
+use Rattle.rd_ring.specs.declared.segments.Segment.{Segment}
+
+-- the content of a segment's place, whatever the segment is named there
+abbrev pub part : {R : ℕ} → Segment R → Contents
+part s (Head name) = Some (Number s.head)
+part s (Tail name) = Some (TailIs s.closed s.tail)
+part s (Next name) = Some (NextIs s.next)
+part s (CellAt name i) = option_map CellIs (slice_get s.cells i)
+part s _ = None
+
+-- the tail counter
+abbrev pub tail_count : {R : ℕ} → Segment R → ℕ
+tail_count s = s.tail
+
+-- the segment's place has this content now, if there is one, and every other place of the segment what it had
+pub record Leaves {R : ℕ} (place : SegName → Place) (content : Option Content) (old new : Segment R) : Type 0 where
+  pub at : (s : SegName) (q : Place) → is_of s q ≡ true → part new q ≡ put (place s) content q (part old q)
+
+-- the segment's place has this content now, and every other place of the segment what it had
+abbrev pub Puts : {R : ℕ} → (SegName → Place) → Content → Segment R → Segment R → Type 0
+Puts place content old new = Leaves place (Some content) old new
+
+-- the operation found this content at the segment's place and had its effect there
+pub record Performs {R : ℕ} (op : Operation) (place : SegName → Place) (content : Content) (gives : Effect) (old new : Segment R) : Type 0 where
+  pub found : (s : SegName) → part old (place s) ≡ Some content
+  pub does : effect op content ≡ Ok gives
+  pub leaves : Leaves place gives.writes old new
+
+-- the operation is refused on the content that the segment's place has
+pub record Refuses {R : ℕ} (op : Operation) (place : SegName → Place) (old : Segment R) (refusal : Refusal) : Type 0 where
+  pub content : Content
+  pub found : (s : SegName) → part old (place s) ≡ Some content
+  pub does : effect op content ≡ Err refusal
+
+-- what a fetch-and-add does that finds this tail
+abbrev pub tail_step : Bool → ℕ → Effect
+tail_step closed count = record { answer = Found (TailIs closed count); writes = Some (TailIs closed (count + 1)) }

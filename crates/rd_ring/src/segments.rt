@@ -1,0 +1,166 @@
+//! The segment and its operations.
+
+ghost use Rattle.std.specs.Prelude.{◌≡◌, ℕ, ◌^◌, ◌<◌, ◌≤◌, ◌↔◌, IsSome, IfOk, IfErr, OnErr, option_map, slice_get, length};
+ghost use Rattle.rd_cell.specs.declared.places.SegName.{SegName};
+ghost use Rattle.rd_cell.specs.declared.places.Place.TheVariants.{Head, Tail, Next, Cell as CellAt};
+ghost use Rattle.rd_cell.specs.declared.contents.Content.TheVariants.{Number, Tail as TailIs, Next as NextIs, Cell as CellIs};
+ghost use Rattle.rd_cell.specs.declared.access.Operation.TheVariants.{Add};
+ghost use Rattle.rd_cell.specs.Content.{fresh, new_cell};
+
+use rd_cell::{Cell, Content, Place, Refusal, SegName};
+
+/// A segment: a ring of `R` cells, 1 to 64.
+#[derive(Debug, Drop)]
+pub struct Segment<const R: usize> {
+    head: u64,
+    tail: u64,
+    closed: bool,
+    next: Option<SegName>,
+    cells: [Cell; R],
+    ghost small: { R ≤ 64 },
+    ghost sized: { length cells ≡ R },
+    ghost head_within: { head ≤ 2 ^ 62 },
+    ghost tail_within: { tail ≤ 2 ^ 62 },
+}
+
+impl<const R: usize> Segment<R> {
+    ghost use Rattle.rd_ring.specs.Segment.{part, tail_count, tail_step, Puts, Performs, Refuses};
+
+    /// A fresh segment: both counters are 0, it is open, no segment follows, and cell u is safe at index u and empty.
+    pub fn fresh() -> Self
+        requires { R ≤ 64 }
+        ensures { (q : Place) → part result q ≡ fresh R q }
+    {
+        Segment {
+            head: 0,
+            tail: 0,
+            closed: false,
+            next: None,
+            cells: fresh_cells(),
+        }
+    }
+
+    /// What is at a place of the segment, whatever the segment is named there; none where it has no such place.
+    pub fn content(&self, place: Place) -> Option<Content>
+        ensures { result ≡ part self.now place }
+    {
+        match place {
+            Place::Head(_) => Some(Content::Number(self.head)),
+            Place::Tail(_) => Some(Content::Tail {
+                closed: self.closed,
+                count: self.tail,
+            }),
+            Place::Next(_) => Some(Content::Next(self.next)),
+            Place::Cell(_, i) => match self.cell(i) {
+                None => None,
+                Some(cell) => Some(Content::Cell(cell)),
+            },
+            _ => None,
+        }
+    }
+
+    /// The head counter, at most 2^62.
+    pub fn head(&self) -> u64
+        ensures value { (s : SegName) → part self.now (Head s) ≡ Some (Number result) }
+        ensures within { result ≤ 2 ^ 62 }
+    {
+        self.head
+    }
+
+    /// The closed bit and the tail counter, at most 2^62.
+    pub fn tail(&self) -> (bool, u64)
+        ensures value { (s : SegName) → part self.now (Tail s) ≡ Some (TailIs result.0 result.1) }
+        ensures within { result.1 ≤ 2 ^ 62 }
+    {
+        (self.closed, self.tail)
+    }
+
+    /// The name of the segment that follows, or none.
+    pub fn next(&self) -> Option<SegName>
+        ensures { (s : SegName) → part self.now (Next s) ≡ Some (NextIs result) }
+    {
+        self.next
+    }
+
+    /// The cell of this index, or none from `R` on.
+    pub fn cell(&self, i: u8) -> Option<Cell>
+        ensures value { (s : SegName) → part self.now (CellAt s i) ≡ option_map CellIs result }
+        ensures there { IsSome result ↔ (i < R) }
+    {
+        self.cells.get(i as usize).copied()
+    }
+
+    /// Fetch-and-add of 1 on the tail: answers the closed bit and the counter from before.
+    ///
+    /// # Errors
+    ///
+    /// `CounterEnd` exactly where the counter is 2^62; the segment is then as before.
+    pub fn add_tail(&mut self) -> Result<(bool, u64), Refusal>
+        ensures ok { IfOk result (λ old. Performs Add Tail (TailIs old.0 old.1) (tail_step old.0 old.1) self.old self.new) }
+        ensures err { IfErr result (λ e. Refuses Add Tail self.old e) }
+        ensures end { (result ≡ Err Refusal.CounterEnd) ↔ (tail_count self.old ≡ 2 ^ 62) }
+        ensures unchanged { OnErr result (self.new ≡ self.old) }
+    {
+        if self.tail == COUNTER_END {
+            return Err(Refusal::CounterEnd);
+        }
+        let old = (self.closed, self.tail);
+        self.tail += 1;
+        Ok(old)
+    }
+
+    /// The inverse of what writes the head: the counter becomes the one from before.
+    pub fn restore_head(&mut self, count: u64)
+        requires { count ≤ 2 ^ 62 }
+        ensures { Puts Head (Number count) self.old self.new }
+    {
+        self.head = count;
+    }
+
+    /// The inverse of what writes a tail: the closed bit and the counter become those from before.
+    pub fn restore_tail(&mut self, closed: bool, count: u64)
+        requires { count ≤ 2 ^ 62 }
+        ensures { Puts Tail (TailIs closed count) self.old self.new }
+    {
+        self.closed = closed;
+        self.tail = count;
+    }
+
+    /// The inverse of what writes the next: it becomes the one from before.
+    pub fn restore_next(&mut self, next: Option<SegName>)
+        ensures { Puts Next (NextIs next) self.old self.new }
+    {
+        self.next = next;
+    }
+
+    /// The inverse of what writes a cell: it becomes the one from before.
+    pub fn restore_cell(&mut self, i: u8, cell: Cell)
+        requires { i < R }
+        ensures { Puts (λ s. CellAt s i) (CellIs cell) self.old self.new }
+    {
+        self.cells[usize::from(i)] = cell;
+    }
+}
+
+/// Where a segment's counters end.
+pub const COUNTER_END: u64 = 1 << 62;
+
+/// The cells of a fresh segment.
+fn fresh_cells<const R: usize>() -> [Cell; R]
+    requires { R ≤ 64 }
+    ensures { (u : ℕ) → u < R → slice_get result u ≡ Some (new_cell u None) }
+{
+    let mut cells = [Cell {
+        safe: true,
+        idx: 0,
+        val: None,
+    }; R];
+    for i in 0..R {
+        cells[i] = Cell {
+            safe: true,
+            idx: i as u64,
+            val: None,
+        };
+    }
+    cells
+}

@@ -1,0 +1,7 @@
+pub mod Step
+pub mod Run
+pub mod Dependence
+pub mod WellFormed
+pub mod Machine
+pub mod Model
+pub mod Laws

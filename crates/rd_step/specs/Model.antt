@@ -1,0 +1,9 @@
+-- The code's world, as a world of the model: what public clauses cite.
+use Rattle.std.specs.Prelude.{ℕ}
+use Rattle.rd_actor.specs.World.{World}
+use Rattle.rd_step.specs.declared.worlds.World.{World as Machine}
+use Rattle.rd_step.specs.Machine.{machine_of}
+
+-- what is at each of the world's places, and each actor's record
+abbrev pub model : {R : ℕ} → Machine R → World
+model w = machine_of w.space w.actors.items

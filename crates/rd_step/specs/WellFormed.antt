@@ -1,0 +1,93 @@
+-- Well-formed worlds, as far as places exist: the queue's two ends, and segments.
+use Rattle.std.specs.Prelude.{◌≡◌, ℕ, zero, suc, ◌+◌, ◌^◌, ◌≤◌, Bool, true, false, not, ◌==◌, ◌&&◌, ◌||◌, nat_lt, nat_le, Option, Some, None, is_some, IsTrue}
+use Rattle.rd_cell.specs.declared.places.SegName.{SegName}
+use Rattle.rd_cell.specs.declared.places.Place.{Place}
+use Rattle.rd_cell.specs.declared.places.Place.TheVariants.{QHead, QTail, Head, Tail, Next, Cell as CellAt}
+use Rattle.rd_cell.specs.declared.contents.Content.{Content}
+use Rattle.rd_cell.specs.declared.contents.Content.TheVariants.{Name, Number, Tail as TailIs, Next as NextIs, Cell as CellIs}
+use Rattle.rd_cell.specs.Place.{root}
+use Rattle.rd_cell.specs.Content.{is_there}
+use Rattle.rd_actor.specs.declared.actors.Actor.{Actor}
+use Rattle.rd_actor.specs.Words.{words_fit}
+use Rattle.rd_actor.specs.World.{World}
+
+-- which segments are there, by name
+abbrev pub Presence : Type 0
+Presence = SegName → Bool
+
+-- which places are there: the queue's ends, and those of each segment that is there. The whole of a segment is a
+-- name for its places, and no place of the map
+abbrev pub belongs : ℕ → Presence → Place → Bool
+belongs R there QHead = true
+belongs R there QTail = true
+belongs R there (Head s) = there s
+belongs R there (Tail s) = there s
+belongs R there (Next s) = there s
+belongs R there (CellAt s i) = nat_lt i R && there s
+belongs R there _ = false
+
+-- whether a content fits its place: it is of the place's kind, the segments that it names are there, counters are
+-- at most 2^62, and a cell's index is at most 2^62 + R
+abbrev pub content_fits : ℕ → Presence → Place → Content → Bool
+content_fits R there QHead (Name s) = there s
+content_fits R there QTail (Name s) = there s
+content_fits R there (Head s) (Number n) = nat_le n (2 ^ 62)
+content_fits R there (Tail s) (TailIs closed n) = nat_le n (2 ^ 62)
+content_fits R there (Next s) (NextIs None) = true
+content_fits R there (Next s) (NextIs (Some m)) = there m
+content_fits R there (CellAt s i) (CellIs c) = nat_le c.idx (2 ^ 62 + R)
+content_fits R there _ _ = false
+
+-- whether what is at a place fits it, if anything is
+abbrev pub place_fits : ℕ → Presence → Place → Option Content → Bool
+place_fits R there p None = true
+place_fits R there p (Some c) = content_fits R there p c
+
+-- whether the segments that an actor's words name are there
+abbrev pub names_fit : Presence → Actor → Bool
+names_fit there a = there a.crq && there a.new && there a.next
+
+-- whether an actor's numbers are within their ends
+abbrev pub numbers_fit : ℕ → Actor → Bool
+numbers_fit R a = nat_le a.t (2 ^ 62) && nat_le a.h (2 ^ 62) && nat_le a.idx (2 ^ 62 + R)
+
+-- whether an actor's record fits: its names, its numbers, and its words as its place wants them
+abbrev pub record_fits : ℕ → Presence → Actor → Bool
+record_fits R there a = names_fit there a && numbers_fit R a && words_fit a
+
+-- whether an actor's record fits, if there is such an actor
+abbrev pub actor_fits : ℕ → Presence → Option Actor → Bool
+actor_fits R there None = true
+actor_fits R there (Some a) = record_fits R there a
+
+-- there are 1 to 16 actors, numbered from 1 without a gap
+pub record IsNumbered (acting : ℕ → Bool) : Type 0 where
+  pub first : IsTrue (acting 1)
+  pub from_one : IsTrue (not (acting 0))
+  pub to_sixteen : (n : ℕ) → IsTrue (acting n) → n ≤ 16
+  pub no_gap : (n : ℕ) → IsTrue (acting (suc (suc n))) → IsTrue (acting (suc n))
+
+-- whether a segment of this maker and number may be there: the root alone has no maker, and a maker is an actor
+abbrev pub maker_fits : (ℕ → Bool) → ℕ → ℕ → Bool
+maker_fits acting zero n = n == 0
+maker_fits acting (suc m) n = acting (suc m) && nat_lt n 65535
+
+-- the root is there, each other segment is one that an actor made, and a maker's segments are numbered without a gap
+pub record AreMade (acting : ℕ → Bool) (there : Presence) : Type 0 where
+  pub rooted : IsTrue (there root)
+  pub makers : (s : SegName) → IsTrue (there s) → IsTrue (maker_fits acting s.maker s.n)
+  pub no_gap : (m n : ℕ) → IsTrue (there (record { maker = m; n = suc n })) → IsTrue (there (record { maker = m; n = n }))
+
+-- whether there is an actor of this number
+abbrev pub acting : (ℕ → Option Actor) → ℕ → Bool
+acting actors n = is_some (actors n)
+
+-- a world of rings of R cells is well-formed
+pub record IsWellFormed (R : ℕ) (w : World) : Type 0 where
+  pub numbered : IsNumbered (acting w.actor)
+  pub made : AreMade (acting w.actor) (is_there w.at)
+  -- just the places are there that belong there
+  pub places : (p : Place) → is_some (w.at p) ≡ belongs R (is_there w.at) p
+  -- each place's content and each actor's record fit
+  pub contents : (p : Place) → IsTrue (place_fits R (is_there w.at) p (w.at p))
+  pub actors : (n : ℕ) → IsTrue (actor_fits R (is_there w.at) (w.actor n))
