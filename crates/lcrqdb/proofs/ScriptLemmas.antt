@@ -1,0 +1,260 @@
+-- A script that runs: the bytes that were given so far, their lines, and their report.
+use Rattle.std.proofs.Common.{◌≡◌, ◌≢◌, ℕ, ◌+◌, ◌-◌, ◌^◌, ◌≤◌, Bool, true, false, List, [], ◌∷◌, ◌++◌, length, Option, Ok, refl, sym, ◌∙◌, ap, subst, arith, inl, inr, append_assoc, length-append, Result, Err}
+use Rattle.std.proofs.lemmas.Bool.{ne_eqb}
+use Rattle.std.proofs.lemmas.List.{append-nil}
+use Rattle.std.specs.Io.KnownBytes.{Consumes, Appends, IsAtEnd}
+use Rattle.rd_actor.specs.World.{World}
+use Rattle.rd_step.specs.declared.entries.Entry.{Entry}
+use Rattle.rd_step.specs.WellFormed.{IsWellFormed}
+use Rattle.lcrqdb.specs.declared.lines.Line.{Line}
+use Rattle.std.specs.Result.{OnOk, OnErr}
+use Rattle.lcrqdb.specs.declared.device.WriteFault.{WriteFault}
+use Rattle.lcrqdb.specs.declared.replies.Reply.{Reply}
+use Rattle.lcrqdb.specs.Answering.{Wrote}
+use Rattle.lcrqdb.specs.Device.{TakesBeginning}
+use Rattle.lcrqdb.specs.Lines.{begun_with, lines_of, ended_lines_of}
+use Rattle.lcrqdb.specs.Reading.{IsOneLine, ReadsLine, ReadsLast, ReadsPart}
+use Rattle.lcrqdb.specs.Texts.{text_of}
+use Rattle.lcrqdb.specs.Session.{Session, no_steps, Answered, AnswersLine, Runs, IsSession}
+use Rattle.lcrqdb.specs.Script.{Devices, LeadsTo, Obeyed, DidAll, DidEnded, DidUnreported}
+use Rattle.lcrqdb.proofs.KnownLemmas.{Consumes-nil, Consumes-join, Appends-nil, Appends-join}
+
+-- a reply was written, or a beginning of it, by the result
+pub Wrote-from_result : (old new : Option (List ℕ)) (reply : Reply) (r : Result (Unit {0}) WriteFault) → OnOk r (Appends old new (text_of reply)) → OnErr r (TakesBeginning old new (text_of reply)) → Wrote old new reply r
+Wrote-from_result old new reply (Ok x) h k = h
+Wrote-from_result old new reply (Err x) h k = k
+
+-- a line feed ends the first line
+lines-first : (text rest : List ℕ) → IsOneLine text → lines_of (text ++ 10 ∷ rest) ≡ text ∷ lines_of rest
+lines-first [] rest h = refl
+lines-first (x ∷ xs) rest h = rw (ne_eqb x 10 h.0, lines-first xs rest h.1) refl
+
+ended-first : (text rest : List ℕ) → IsOneLine text → ended_lines_of (text ++ 10 ∷ rest) ≡ text ∷ ended_lines_of rest
+ended-first [] rest h = refl
+ended-first (x ∷ xs) rest h = rw (ne_eqb x 10 h.0, ended-first xs rest h.1) refl
+
+-- a text without a line feed is one line, and none that is ended
+lines-only : (x : ℕ) (xs : List ℕ) → IsOneLine (x ∷ xs) → lines_of (x ∷ xs) ≡ (x ∷ xs) ∷ []
+lines-only x [] h = rw (ne_eqb x 10 h.0) refl
+lines-only x (y ∷ ys) h = let rest = lines-only y ys h.1 in rw (ne_eqb x 10 h.0) (ap (begun_with x) rest)
+
+lines-last : (text : List ℕ) → IsOneLine text → text ≢ [] → lines_of text ≡ text ∷ []
+lines-last [] h n = absurd (n refl)
+lines-last (x ∷ xs) h n = lines-only x xs h
+
+ended-none : (text : List ℕ) → IsOneLine text → ended_lines_of text ≡ []
+ended-none [] h = refl
+ended-none (x ∷ xs) h = rw (ne_eqb x 10 h.0, ended-none xs h.1) refl
+
+-- these bytes are these whole lines: whatever follows them is read as if they were not there
+pub record Splits (given : List ℕ) (lines : List (List ℕ)) : Type 0 where
+  pub all : (rest : List ℕ) → lines_of (given ++ rest) ≡ lines ++ lines_of rest
+  pub ended : (rest : List ℕ) → ended_lines_of (given ++ rest) ≡ lines ++ ended_lines_of rest
+
+Splits-nil : Splits [] []
+Splits-nil = record { all = λ rest. refl; ended = λ rest. refl }
+
+Splits-line : (given : List ℕ) (lines : List (List ℕ)) (text : List ℕ) → Splits given lines → IsOneLine text → Splits (given ++ (text ++ 10 ∷ [])) (lines ++ text ∷ [])
+Splits-line given lines text s h = record {
+  all = λ rest.
+      ap lines_of (append_assoc given (text ++ 10 ∷ []) rest ∙ ap (λ t. given ++ t) (append_assoc text (10 ∷ []) rest))
+      ∙ (s.all (text ++ 10 ∷ rest) ∙ (ap (λ t. lines ++ t) (lines-first text rest h) ∙ sym (append_assoc lines (text ∷ []) (lines_of rest))));
+  ended = λ rest.
+      ap ended_lines_of (append_assoc given (text ++ 10 ∷ []) rest ∙ ap (λ t. given ++ t) (append_assoc text (10 ∷ []) rest))
+      ∙ (s.ended (text ++ 10 ∷ rest) ∙ (ap (λ t. lines ++ t) (ended-first text rest h) ∙ sym (append_assoc lines (text ∷ []) (ended_lines_of rest))));
+}
+
+-- the lines of whole lines alone
+lines-whole : (given : List ℕ) (lines : List (List ℕ)) → Splits given lines → lines_of given ≡ lines
+lines-whole given lines s = ap lines_of (sym (append-nil given)) ∙ (s.all [] ∙ append-nil lines)
+
+ended-whole : (given : List ℕ) (lines : List (List ℕ)) → Splits given lines → ended_lines_of given ≡ lines
+ended-whole given lines s = ap ended_lines_of (sym (append-nil given)) ∙ (s.ended [] ∙ append-nil lines)
+
+-- one line more, with its reply
+Runs-more : (R : ℕ) (start : World) (s : Session) (lines : List (List ℕ)) (report : List ℕ) (mid : Session) (line : List ℕ) (a : Answered) → Runs R start s lines report mid → AnswersLine R start mid line a → Runs R start s (lines ++ line ∷ []) (report ++ text_of a.reply) a.session
+Runs-more R start s [] report mid line a h k = (
+  a,
+  [],
+  subst (λ x. AnswersLine R start x line a) h.1 k,
+  ap (λ t. t ++ text_of a.reply) h.0 ∙ sym (append-nil (text_of a.reply)),
+  (refl, refl),
+)
+Runs-more R start s (x ∷ xs) report mid line a h k = (
+  h.0,
+  h.1 ++ text_of a.reply,
+  h.2,
+  ap (λ t. t ++ text_of a.reply) h.3 ∙ append_assoc (text_of h.0.reply) h.1 (text_of a.reply),
+  Runs-more R start h.0.session xs h.1 mid line a h.4 k,
+)
+
+-- so many lines were read, obeyed and reported, and both devices work
+pub record Going (R : ℕ) (start world : World) (entries : List Entry) (undone : ℕ) (in_before in_now : Option (List ℕ)) (in_failed : Bool) (out_before out_now : Option (List ℕ)) (out_failed : Bool) (n : ℕ) : Type 0 where
+  pub in_works : in_failed ≡ false
+  pub out_works : out_failed ≡ false
+  pub given : List ℕ
+  pub took : Consumes in_before in_now given
+  pub lines : List (List ℕ)
+  pub splits : Splits given lines
+  pub counted : length lines ≡ n
+  pub enough : n ≤ length given
+  pub report : List ℕ
+  pub wrote : Appends out_before out_now report
+  pub session : Session
+  pub runs : Runs R start no_steps lines report session
+  pub is : IsSession R start session world entries undone
+
+-- before the first line
+pub starts : (R : ℕ) (w : World) (entries : List Entry) (undone : ℕ) (in_now : Option (List ℕ)) (in_failed : Bool) (out_now : Option (List ℕ)) (out_failed : Bool) → IsWellFormed R w → entries ≡ [] → undone ≡ 0 → in_failed ≡ false → out_failed ≡ false → Going R w w entries undone in_now in_now in_failed out_now out_now out_failed 0
+starts R w entries undone in_now in_failed out_now out_failed formed none zero in_works out_works = record {
+  in_works = in_works;
+  out_works = out_works;
+  given = [];
+  took = Consumes-nil in_now;
+  lines = [];
+  splits = Splits-nil;
+  counted = refl;
+  enough = omega arith;
+  report = [];
+  wrote = Appends-nil out_now;
+  session = no_steps;
+  runs = (refl, refl);
+  is = record { well_formed = formed; ran = ap (λ xs. Ok (record { world = w; entries = xs })) (sym none); same = zero };
+}
+
+module _ (R : ℕ) (start world : World) (entries : List Entry) (undone : ℕ) (in_before in_now : Option (List ℕ)) (in_failed : Bool) (out_before out_now : Option (List ℕ)) (out_failed : Bool) (n : ℕ) (g : Going R start world entries undone in_before in_now in_failed out_before out_now out_failed n) where
+  -- the lines read so far were obeyed
+  leads : LeadsTo R start g.session.live world
+  leads = (entries, g.is.ran)
+
+  -- the devices after more calls
+  abbrev now_at : Option (List ℕ) → Bool → Option (List ℕ) → Bool → Devices
+  now_at in_new in_failed' out_new out_failed' = record {
+    in_before = in_before;
+    in_after = in_new;
+    in_failed = in_failed';
+    out_before = out_before;
+    out_after = out_new;
+    out_failed = out_failed';
+  }
+
+  -- the end
+  pub did_all : (in_new : Option (List ℕ)) (in_failed' out_failed' : Bool) → Consumes in_now in_new [] → IsAtEnd in_new → DidAll R start world (now_at in_new in_failed' out_now out_failed') n
+  did_all in_new in_failed' out_failed' keeps ended = record {
+    given = g.given;
+    took = subst (λ t. Consumes in_before in_new t) (append-nil g.given) (Consumes-join in_before in_now in_new g.given [] g.took keeps);
+    ended = ended;
+    counted = ap length (lines-whole g.given g.lines g.splits) ∙ g.counted;
+    report = g.report;
+    wrote = g.wrote;
+    obeyed = subst (λ ls. Obeyed R start world ls g.report) (sym (lines-whole g.given g.lines g.splits)) (record { session = g.session; runs = g.runs; leads = leads });
+  }
+
+  -- the reader failed
+  pub did_ended : (in_new : Option (List ℕ)) (in_failed' out_failed' : Bool) → ReadsPart in_now in_new in_failed' → DidEnded R start world (now_at in_new in_failed' out_now out_failed')
+  did_ended in_new in_failed' out_failed' part =
+      let whole : ended_lines_of (g.given ++ part.text) ≡ g.lines = g.splits.ended part.text ∙ (ap (λ ls. g.lines ++ ls) (ended-none part.text part.is_one) ∙ append-nil g.lines) in
+      record {
+        given = g.given ++ part.text;
+        took = Consumes-join in_before in_now in_new g.given part.text g.took part.took;
+        cause = elim part.cause [ inl failed ↦ inl failed | inr many ↦ inr (omega (arith, many, length-append g.given part.text)) ];
+        report = g.report;
+        wrote = g.wrote;
+        obeyed = subst (λ ls. Obeyed R start world ls g.report) (sym whole) (record { session = g.session; runs = g.runs; leads = leads });
+      }
+
+  -- 2^64 - 1 lines without an end
+  pub did_endless : n ≡ 2 ^ 64 - 1 → DidEnded R start world (now_at in_now in_failed out_now out_failed)
+  did_endless most = record {
+    given = g.given;
+    took = g.took;
+    cause = inr (omega (arith, g.enough, most));
+    report = g.report;
+    wrote = g.wrote;
+    obeyed = subst (λ ls. Obeyed R start world ls g.report) (sym (ended-whole g.given g.lines g.splits)) (record { session = g.session; runs = g.runs; leads = leads });
+  }
+
+  -- one more line, ended by a line feed, was obeyed and reported
+  pub goes_on : (in_new out_new : Option (List ℕ)) (in_failed' out_failed' : Bool) (line : Line) (read : ReadsLine in_now in_new line (10 ∷ [])) (a : Answered) → AnswersLine R start g.session read.text a → (world' : World) (entries' : List Entry) (undone' : ℕ) → IsSession R start a.session world' entries' undone' → Appends out_now out_new (text_of a.reply) → in_failed' ≡ false → out_failed' ≡ false → Going R start world' entries' undone' in_before in_new in_failed' out_before out_new out_failed' (n + 1)
+  goes_on in_new out_new in_failed' out_failed' line read a answers world' entries' undone' is' wrote in_works out_works = record {
+    in_works = in_works;
+    out_works = out_works;
+    given = g.given ++ (read.text ++ 10 ∷ []);
+    took = Consumes-join in_before in_now in_new g.given (read.text ++ 10 ∷ []) g.took read.took;
+    lines = g.lines ++ read.text ∷ [];
+    splits = Splits-line g.given g.lines read.text g.splits read.is_one;
+    counted = length-append g.lines (read.text ∷ []) ∙ ap (λ k. k + 1) g.counted;
+    enough = omega (arith, g.enough, length-append g.given (read.text ++ 10 ∷ []), length-append read.text (10 ∷ []));
+    report = g.report ++ text_of a.reply;
+    wrote = Appends-join out_before out_now out_new g.report (text_of a.reply) g.wrote wrote;
+    session = a.session;
+    runs = Runs-more R start no_steps g.lines g.report g.session read.text a g.runs answers;
+    is = is';
+  }
+
+  -- the last line was obeyed and reported
+  pub did_last : (in_new out_new : Option (List ℕ)) (in_failed' out_failed' : Bool) (line : Line) (r : ReadsLast in_now in_new line) (a : Answered) → AnswersLine R start g.session r.read.text a → (world' : World) (entries' : List Entry) (undone' : ℕ) → IsSession R start a.session world' entries' undone' → Appends out_now out_new (text_of a.reply) → DidAll R start world' (now_at in_new in_failed' out_new out_failed') (n + 1)
+  did_last in_new out_new in_failed' out_failed' line r a answers world' entries' undone' is' wrote =
+      let text = r.read.text in
+      let all : lines_of (g.given ++ (text ++ [])) ≡ g.lines ++ text ∷ [] = ap (λ t. lines_of (g.given ++ t)) (append-nil text) ∙ (g.splits.all text ∙ ap (λ ls. g.lines ++ ls) (lines-last text r.read.is_one r.some)) in
+      record {
+        given = g.given ++ (text ++ []);
+        took = Consumes-join in_before in_now in_new g.given (text ++ []) g.took r.read.took;
+        ended = r.ended;
+        counted = ap length all ∙ (length-append g.lines (text ∷ []) ∙ ap (λ k. k + 1) g.counted);
+        report = g.report ++ text_of a.reply;
+        wrote = Appends-join out_before out_now out_new g.report (text_of a.reply) g.wrote wrote;
+        obeyed = subst (λ ls. Obeyed R start world' ls (g.report ++ text_of a.reply)) (sym all) (record {
+          session = a.session;
+          runs = Runs-more R start no_steps g.lines g.report g.session text a g.runs answers;
+          leads = (entries', is'.ran);
+        });
+      }
+
+  -- the writer failed at the reply to a line that a line feed ended
+  pub unreported : (in_new out_new : Option (List ℕ)) (in_failed' out_failed' : Bool) (line : Line) (read : ReadsLine in_now in_new line (10 ∷ [])) (a : Answered) → AnswersLine R start g.session read.text a → (world' : World) (entries' : List Entry) (undone' : ℕ) → IsSession R start a.session world' entries' undone' → TakesBeginning out_now out_new (text_of a.reply) → out_failed' ≡ true → DidUnreported R start world' (now_at in_new in_failed' out_new out_failed')
+  unreported in_new out_new in_failed' out_failed' line read a answers world' entries' undone' is' wrote fails =
+      let given = g.given ++ (read.text ++ 10 ∷ []) in
+      let lines = g.lines ++ read.text ∷ [] in
+      let splits = Splits-line g.given g.lines read.text g.splits read.is_one in
+      record {
+        failed = fails;
+        given = given;
+        took = Consumes-join in_before in_now in_new g.given (read.text ++ 10 ∷ []) g.took read.took;
+        lines = g.lines;
+        last = read.text;
+        all = lines-whole given lines splits;
+        whole = inl (ended-whole given lines splits ∙ sym (lines-whole given lines splits));
+        report = g.report;
+        session = g.session;
+        runs = g.runs;
+        answered = a;
+        answers = answers;
+        leads = (entries', is'.ran);
+        part = wrote.part;
+        begins = wrote.begins;
+        wrote = Appends-join out_before out_now out_new g.report wrote.part g.wrote wrote.took;
+      }
+
+  -- the writer failed at the reply to the last line
+  pub unreported_last : (in_new out_new : Option (List ℕ)) (in_failed' out_failed' : Bool) (line : Line) (r : ReadsLast in_now in_new line) (a : Answered) → AnswersLine R start g.session r.read.text a → (world' : World) (entries' : List Entry) (undone' : ℕ) → IsSession R start a.session world' entries' undone' → TakesBeginning out_now out_new (text_of a.reply) → out_failed' ≡ true → DidUnreported R start world' (now_at in_new in_failed' out_new out_failed')
+  unreported_last in_new out_new in_failed' out_failed' line r a answers world' entries' undone' is' wrote fails =
+      let text = r.read.text in
+      record {
+        failed = fails;
+        given = g.given ++ (text ++ []);
+        took = Consumes-join in_before in_now in_new g.given (text ++ []) g.took r.read.took;
+        lines = g.lines;
+        last = text;
+        all = ap (λ t. lines_of (g.given ++ t)) (append-nil text) ∙ (g.splits.all text ∙ ap (λ ls. g.lines ++ ls) (lines-last text r.read.is_one r.some));
+        whole = inr r.ended;
+        report = g.report;
+        session = g.session;
+        runs = g.runs;
+        answered = a;
+        answers = answers;
+        leads = (entries', is'.ran);
+        part = wrote.part;
+        begins = wrote.begins;
+        wrote = Appends-join out_before out_now out_new g.report wrote.part g.wrote wrote.took;
+      }

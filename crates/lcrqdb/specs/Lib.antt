@@ -1,0 +1,9 @@
+pub mod Device
+pub mod Lines
+pub mod Reading
+pub mod Spelling
+pub mod Texts
+pub mod Session
+pub mod Script
+pub mod Answering
+pub mod Program

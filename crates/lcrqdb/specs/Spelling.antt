@@ -1,0 +1,28 @@
+-- Commands and their one spelling, and what a line says.
+use Rattle.std.specs.Prelude.{◌≡◌, ◌≢◌, ℕ, ◌<◌, ◌≤◌, List, ◌++◌, length, codes, Option, Some, None, Result, Ok, Err}
+use Rattle.std.specs.Fmt.{decimal}
+use Rattle.lcrqdb.specs.declared.commands.Command.{Command}
+use Rattle.lcrqdb.specs.declared.commands.Command.TheVariants.{Go, Undo}
+use Rattle.lcrqdb.specs.declared.commands.LineFault.{LineFault}
+use Rattle.lcrqdb.specs.declared.commands.LineFault.TheVariants.{BadLine, LineTooLong}
+
+-- the one line that spells a command; numbers are decimal without leading zeros
+abbrev pub spelling : Command → List ℕ
+spelling (Go actor) = codes "go " ++ decimal actor
+spelling Undo = codes "undo"
+
+-- the numbers of a command are in their ranges: an actor's is 0 to 255
+abbrev pub IsInRange : Command → Type 0
+IsInRange (Go actor) = actor < 256
+IsInRange Undo = Unit {0}
+
+-- the answer is the command that the text spells, or none where it spells no command
+abbrev pub Spells : List ℕ → Option Command → Type 0
+Spells text (Some command) = IsInRange command × (text ≡ spelling command)
+Spells text None = (command : Command) → IsInRange command → text ≢ spelling command
+
+-- what a line says: a command that it spells, or that it has more than 256 bytes, or that it has no more and spells none
+abbrev pub Says : List ℕ → Result Command LineFault → Type 0
+Says line (Ok command) = (length line ≤ 256) × Spells line (Some command)
+Says line (Err BadLine) = (length line ≤ 256) × Spells line None
+Says line (Err LineTooLong) = 256 < length line

@@ -1,0 +1,43 @@
+//! A causal reversible debugger for LCRQ.
+//!
+//! The program reads one command a line from standard input and writes one reply a line to standard output, over the
+//! poised world: 4 actors that each stand at the first shared step of an enqueue, over a ring of 4 cells.
+#![tactic(auto)]
+
+mod commands;
+mod device;
+mod journal;
+mod lines;
+mod numbers;
+mod program;
+mod replies;
+mod script;
+#[cfg(test)]
+mod tests;
+mod texts;
+
+use device::{ReadSource, WriteSink};
+use program::{ProgramFault, play};
+use std::io::BufReader;
+use std::process::ExitCode;
+
+fn main(rt: HostRuntime) -> ExitCode {
+    // The reader has a buffer, since it is asked for one byte at a time; the writer has none, so that a reply goes out
+    // at once.
+    let answer = match BufReader::new(rt.alloc(), rt.stdin()) {
+        Ok(input) => play(
+            rt.alloc(),
+            &mut ReadSource::new(input),
+            &mut WriteSink::new(rt.stdout()),
+        ),
+        Err(_) => Err(ProgramFault::NoMemory),
+    };
+    match answer {
+        Ok(_) => ExitCode::SUCCESS,
+        Err(fault) => {
+            // Where standard error fails too, the status alone tells.
+            let _ = eprintln!(rt; "lcrqdb: {fault}");
+            ExitCode::FAILURE
+        }
+    }
+}
