@@ -9,6 +9,8 @@ pub mod cells;
 pub mod contents;
 pub mod places;
 pub mod refusal;
+#[cfg(test)]
+mod tests;
 
 pub use access::{Access, Answer, Done, Operation};
 pub use cells::Cell;

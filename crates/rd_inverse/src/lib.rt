@@ -4,5 +4,7 @@
 #![tactic(auto)]
 
 pub mod inverse;
+#[cfg(test)]
+mod tests;
 
 pub use inverse::unstep;

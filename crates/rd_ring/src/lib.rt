@@ -5,5 +5,7 @@
 #![tactic(auto)]
 
 pub mod segments;
+#[cfg(test)]
+mod tests;
 
 pub use segments::Segment;

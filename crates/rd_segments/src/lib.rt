@@ -4,5 +4,7 @@
 #![tactic(auto)]
 
 pub mod space;
+#[cfg(test)]
+mod tests;
 
 pub use space::Space;

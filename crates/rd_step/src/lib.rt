@@ -7,6 +7,8 @@
 
 pub mod entries;
 pub mod laws;
+#[cfg(test)]
+mod tests;
 pub mod worlds;
 
 pub use entries::{Entry, Event};
