@@ -1,7 +1,6 @@
 pub mod NumberLemmas
 pub mod KnownLemmas
 pub mod LineLemmas
-pub mod RunLemmas
-pub mod SessionLemmas
+pub mod SpellLemmas
 pub mod ScriptLemmas
 pub mod ProgramLemmas

@@ -3,9 +3,7 @@ use Rattle.std.proofs.Common.{◌≡◌, ◌≢◌, ℕ, ◌+◌, ◌-◌, ◌^�
 use Rattle.std.proofs.lemmas.Bool.{ne_eqb}
 use Rattle.std.proofs.lemmas.List.{append-nil}
 use Rattle.std.specs.Io.KnownBytes.{Consumes, Appends, IsAtEnd}
-use Rattle.rd_actor.specs.World.{World}
-use Rattle.rd_step.specs.declared.entries.Entry.{Entry}
-use Rattle.rd_step.specs.WellFormed.{IsWellFormed}
+use Rattle.rd_journal.specs.State.{State}
 use Rattle.lcrqdb.specs.declared.lines.Line.{Line}
 use Rattle.std.specs.Result.{OnOk, OnErr}
 use Rattle.lcrqdb.specs.declared.device.WriteFault.{WriteFault}
@@ -15,8 +13,8 @@ use Rattle.lcrqdb.specs.Device.{TakesBeginning}
 use Rattle.lcrqdb.specs.Lines.{begun_with, lines_of, ended_lines_of}
 use Rattle.lcrqdb.specs.Reading.{IsOneLine, ReadsLine, ReadsLast, ReadsPart}
 use Rattle.lcrqdb.specs.Texts.{text_of}
-use Rattle.lcrqdb.specs.Session.{Session, no_steps, Answered, AnswersLine, Runs, IsSession}
-use Rattle.lcrqdb.specs.Script.{Devices, LeadsTo, Obeyed, DidAll, DidEnded, DidUnreported}
+use Rattle.lcrqdb.specs.Session.{Answered, AnswersLine, Runs}
+use Rattle.lcrqdb.specs.Script.{Devices, DidAll, DidEnded, DidUnreported}
 use Rattle.lcrqdb.proofs.KnownLemmas.{Consumes-nil, Consumes-join, Appends-nil, Appends-join}
 
 -- a reply was written, or a beginning of it, by the result
@@ -72,24 +70,24 @@ ended-whole : (given : List ℕ) (lines : List (List ℕ)) → Splits given line
 ended-whole given lines s = ap ended_lines_of (sym (append-nil given)) ∙ (s.ended [] ∙ append-nil lines)
 
 -- one line more, with its reply
-Runs-more : (R : ℕ) (start : World) (s : Session) (lines : List (List ℕ)) (report : List ℕ) (mid : Session) (line : List ℕ) (a : Answered) → Runs R start s lines report mid → AnswersLine R start mid line a → Runs R start s (lines ++ line ∷ []) (report ++ text_of a.reply) a.session
-Runs-more R start s [] report mid line a h k = (
+Runs-more : (R : ℕ) (s : State) (lines : List (List ℕ)) (report : List ℕ) (mid : State) (line : List ℕ) (a : Answered) → Runs R s lines report mid → AnswersLine R mid line a → Runs R s (lines ++ line ∷ []) (report ++ text_of a.reply) a.state
+Runs-more R s [] report mid line a h k = (
   a,
   [],
-  subst (λ x. AnswersLine R start x line a) h.1 k,
+  subst (λ x. AnswersLine R x line a) h.1 k,
   ap (λ t. t ++ text_of a.reply) h.0 ∙ sym (append-nil (text_of a.reply)),
   (refl, refl),
 )
-Runs-more R start s (x ∷ xs) report mid line a h k = (
+Runs-more R s (x ∷ xs) report mid line a h k = (
   h.0,
   h.1 ++ text_of a.reply,
   h.2,
   ap (λ t. t ++ text_of a.reply) h.3 ∙ append_assoc (text_of h.0.reply) h.1 (text_of a.reply),
-  Runs-more R start h.0.session xs h.1 mid line a h.4 k,
+  Runs-more R h.0.state xs h.1 mid line a h.4 k,
 )
 
 -- so many lines were read, obeyed and reported, and both devices work
-pub record Going (R : ℕ) (start world : World) (entries : List Entry) (undone : ℕ) (in_before in_now : Option (List ℕ)) (in_failed : Bool) (out_before out_now : Option (List ℕ)) (out_failed : Bool) (n : ℕ) : Type 0 where
+pub record Going (R : ℕ) (before now : State) (in_before in_now : Option (List ℕ)) (in_failed : Bool) (out_before out_now : Option (List ℕ)) (out_failed : Bool) (n : ℕ) : Type 0 where
   pub in_works : in_failed ≡ false
   pub out_works : out_failed ≡ false
   pub given : List ℕ
@@ -100,13 +98,11 @@ pub record Going (R : ℕ) (start world : World) (entries : List Entry) (undone 
   pub enough : n ≤ length given
   pub report : List ℕ
   pub wrote : Appends out_before out_now report
-  pub session : Session
-  pub runs : Runs R start no_steps lines report session
-  pub is : IsSession R start session world entries undone
+  pub runs : Runs R before lines report now
 
 -- before the first line
-pub starts : (R : ℕ) (w : World) (entries : List Entry) (undone : ℕ) (in_now : Option (List ℕ)) (in_failed : Bool) (out_now : Option (List ℕ)) (out_failed : Bool) → IsWellFormed R w → entries ≡ [] → undone ≡ 0 → in_failed ≡ false → out_failed ≡ false → Going R w w entries undone in_now in_now in_failed out_now out_now out_failed 0
-starts R w entries undone in_now in_failed out_now out_failed formed none zero in_works out_works = record {
+pub starts : (R : ℕ) (s : State) (in_now : Option (List ℕ)) (in_failed : Bool) (out_now : Option (List ℕ)) (out_failed : Bool) → in_failed ≡ false → out_failed ≡ false → Going R s s in_now in_now in_failed out_now out_now out_failed 0
+starts R s in_now in_failed out_now out_failed in_works out_works = record {
   in_works = in_works;
   out_works = out_works;
   given = [];
@@ -117,16 +113,10 @@ starts R w entries undone in_now in_failed out_now out_failed formed none zero i
   enough = omega arith;
   report = [];
   wrote = Appends-nil out_now;
-  session = no_steps;
   runs = (refl, refl);
-  is = record { well_formed = formed; ran = ap (λ xs. Ok (record { world = w; entries = xs })) (sym none); same = zero };
 }
 
-module _ (R : ℕ) (start world : World) (entries : List Entry) (undone : ℕ) (in_before in_now : Option (List ℕ)) (in_failed : Bool) (out_before out_now : Option (List ℕ)) (out_failed : Bool) (n : ℕ) (g : Going R start world entries undone in_before in_now in_failed out_before out_now out_failed n) where
-  -- the lines read so far were obeyed
-  leads : LeadsTo R start g.session.live world
-  leads = (entries, g.is.ran)
-
+module _ (R : ℕ) (before now : State) (in_before in_now : Option (List ℕ)) (in_failed : Bool) (out_before out_now : Option (List ℕ)) (out_failed : Bool) (n : ℕ) (g : Going R before now in_before in_now in_failed out_before out_now out_failed n) where
   -- the devices after more calls
   abbrev now_at : Option (List ℕ) → Bool → Option (List ℕ) → Bool → Devices
   now_at in_new in_failed' out_new out_failed' = record {
@@ -139,7 +129,7 @@ module _ (R : ℕ) (start world : World) (entries : List Entry) (undone : ℕ) (
   }
 
   -- the end
-  pub did_all : (in_new : Option (List ℕ)) (in_failed' out_failed' : Bool) → Consumes in_now in_new [] → IsAtEnd in_new → DidAll R start world (now_at in_new in_failed' out_now out_failed') n
+  pub did_all : (in_new : Option (List ℕ)) (in_failed' out_failed' : Bool) → Consumes in_now in_new [] → IsAtEnd in_new → DidAll R before now (now_at in_new in_failed' out_now out_failed') n
   did_all in_new in_failed' out_failed' keeps ended = record {
     given = g.given;
     took = subst (λ t. Consumes in_before in_new t) (append-nil g.given) (Consumes-join in_before in_now in_new g.given [] g.took keeps);
@@ -147,11 +137,11 @@ module _ (R : ℕ) (start world : World) (entries : List Entry) (undone : ℕ) (
     counted = ap length (lines-whole g.given g.lines g.splits) ∙ g.counted;
     report = g.report;
     wrote = g.wrote;
-    obeyed = subst (λ ls. Obeyed R start world ls g.report) (sym (lines-whole g.given g.lines g.splits)) (record { session = g.session; runs = g.runs; leads = leads });
+    runs = subst (λ ls. Runs R before ls g.report now) (sym (lines-whole g.given g.lines g.splits)) g.runs;
   }
 
   -- the reader failed
-  pub did_ended : (in_new : Option (List ℕ)) (in_failed' out_failed' : Bool) → ReadsPart in_now in_new in_failed' → DidEnded R start world (now_at in_new in_failed' out_now out_failed')
+  pub did_ended : (in_new : Option (List ℕ)) (in_failed' out_failed' : Bool) → ReadsPart in_now in_new in_failed' → DidEnded R before now (now_at in_new in_failed' out_now out_failed')
   did_ended in_new in_failed' out_failed' part =
       let whole : ended_lines_of (g.given ++ part.text) ≡ g.lines = g.splits.ended part.text ∙ (ap (λ ls. g.lines ++ ls) (ended-none part.text part.is_one) ∙ append-nil g.lines) in
       record {
@@ -160,23 +150,23 @@ module _ (R : ℕ) (start world : World) (entries : List Entry) (undone : ℕ) (
         cause = elim part.cause [ inl failed ↦ inl failed | inr many ↦ inr (omega (arith, many, length-append g.given part.text)) ];
         report = g.report;
         wrote = g.wrote;
-        obeyed = subst (λ ls. Obeyed R start world ls g.report) (sym whole) (record { session = g.session; runs = g.runs; leads = leads });
+        runs = subst (λ ls. Runs R before ls g.report now) (sym whole) g.runs;
       }
 
   -- 2^64 - 1 lines without an end
-  pub did_endless : n ≡ 2 ^ 64 - 1 → DidEnded R start world (now_at in_now in_failed out_now out_failed)
+  pub did_endless : n ≡ 2 ^ 64 - 1 → DidEnded R before now (now_at in_now in_failed out_now out_failed)
   did_endless most = record {
     given = g.given;
     took = g.took;
     cause = inr (omega (arith, g.enough, most));
     report = g.report;
     wrote = g.wrote;
-    obeyed = subst (λ ls. Obeyed R start world ls g.report) (sym (ended-whole g.given g.lines g.splits)) (record { session = g.session; runs = g.runs; leads = leads });
+    runs = subst (λ ls. Runs R before ls g.report now) (sym (ended-whole g.given g.lines g.splits)) g.runs;
   }
 
   -- one more line, ended by a line feed, was obeyed and reported
-  pub goes_on : (in_new out_new : Option (List ℕ)) (in_failed' out_failed' : Bool) (line : Line) (read : ReadsLine in_now in_new line (10 ∷ [])) (a : Answered) → AnswersLine R start g.session read.text a → (world' : World) (entries' : List Entry) (undone' : ℕ) → IsSession R start a.session world' entries' undone' → Appends out_now out_new (text_of a.reply) → in_failed' ≡ false → out_failed' ≡ false → Going R start world' entries' undone' in_before in_new in_failed' out_before out_new out_failed' (n + 1)
-  goes_on in_new out_new in_failed' out_failed' line read a answers world' entries' undone' is' wrote in_works out_works = record {
+  pub goes_on : (in_new out_new : Option (List ℕ)) (in_failed' out_failed' : Bool) (line : Line) (read : ReadsLine in_now in_new line (10 ∷ [])) (a : Answered) → AnswersLine R now read.text a → (after : State) → a.state ≡ after → Appends out_now out_new (text_of a.reply) → in_failed' ≡ false → out_failed' ≡ false → Going R before after in_before in_new in_failed' out_before out_new out_failed' (n + 1)
+  goes_on in_new out_new in_failed' out_failed' line read a answers after leaves wrote in_works out_works = record {
     in_works = in_works;
     out_works = out_works;
     given = g.given ++ (read.text ++ 10 ∷ []);
@@ -187,14 +177,12 @@ module _ (R : ℕ) (start world : World) (entries : List Entry) (undone : ℕ) (
     enough = omega (arith, g.enough, length-append g.given (read.text ++ 10 ∷ []), length-append read.text (10 ∷ []));
     report = g.report ++ text_of a.reply;
     wrote = Appends-join out_before out_now out_new g.report (text_of a.reply) g.wrote wrote;
-    session = a.session;
-    runs = Runs-more R start no_steps g.lines g.report g.session read.text a g.runs answers;
-    is = is';
+    runs = subst (λ x. Runs R before (g.lines ++ read.text ∷ []) (g.report ++ text_of a.reply) x) leaves (Runs-more R before g.lines g.report now read.text a g.runs answers);
   }
 
   -- the last line was obeyed and reported
-  pub did_last : (in_new out_new : Option (List ℕ)) (in_failed' out_failed' : Bool) (line : Line) (r : ReadsLast in_now in_new line) (a : Answered) → AnswersLine R start g.session r.read.text a → (world' : World) (entries' : List Entry) (undone' : ℕ) → IsSession R start a.session world' entries' undone' → Appends out_now out_new (text_of a.reply) → DidAll R start world' (now_at in_new in_failed' out_new out_failed') (n + 1)
-  did_last in_new out_new in_failed' out_failed' line r a answers world' entries' undone' is' wrote =
+  pub did_last : (in_new out_new : Option (List ℕ)) (in_failed' out_failed' : Bool) (line : Line) (r : ReadsLast in_now in_new line) (a : Answered) → AnswersLine R now r.read.text a → (after : State) → a.state ≡ after → Appends out_now out_new (text_of a.reply) → DidAll R before after (now_at in_new in_failed' out_new out_failed') (n + 1)
+  did_last in_new out_new in_failed' out_failed' line r a answers after leaves wrote =
       let text = r.read.text in
       let all : lines_of (g.given ++ (text ++ [])) ≡ g.lines ++ text ∷ [] = ap (λ t. lines_of (g.given ++ t)) (append-nil text) ∙ (g.splits.all text ∙ ap (λ ls. g.lines ++ ls) (lines-last text r.read.is_one r.some)) in
       record {
@@ -204,16 +192,14 @@ module _ (R : ℕ) (start world : World) (entries : List Entry) (undone : ℕ) (
         counted = ap length all ∙ (length-append g.lines (text ∷ []) ∙ ap (λ k. k + 1) g.counted);
         report = g.report ++ text_of a.reply;
         wrote = Appends-join out_before out_now out_new g.report (text_of a.reply) g.wrote wrote;
-        obeyed = subst (λ ls. Obeyed R start world' ls (g.report ++ text_of a.reply)) (sym all) (record {
-          session = a.session;
-          runs = Runs-more R start no_steps g.lines g.report g.session text a g.runs answers;
-          leads = (entries', is'.ran);
-        });
+        runs =
+            subst (λ ls. Runs R before ls (g.report ++ text_of a.reply) after) (sym all)
+            (subst (λ x. Runs R before (g.lines ++ text ∷ []) (g.report ++ text_of a.reply) x) leaves (Runs-more R before g.lines g.report now text a g.runs answers));
       }
 
   -- the writer failed at the reply to a line that a line feed ended
-  pub unreported : (in_new out_new : Option (List ℕ)) (in_failed' out_failed' : Bool) (line : Line) (read : ReadsLine in_now in_new line (10 ∷ [])) (a : Answered) → AnswersLine R start g.session read.text a → (world' : World) (entries' : List Entry) (undone' : ℕ) → IsSession R start a.session world' entries' undone' → TakesBeginning out_now out_new (text_of a.reply) → out_failed' ≡ true → DidUnreported R start world' (now_at in_new in_failed' out_new out_failed')
-  unreported in_new out_new in_failed' out_failed' line read a answers world' entries' undone' is' wrote fails =
+  pub unreported : (in_new out_new : Option (List ℕ)) (in_failed' out_failed' : Bool) (line : Line) (read : ReadsLine in_now in_new line (10 ∷ [])) (a : Answered) → AnswersLine R now read.text a → (after : State) → a.state ≡ after → TakesBeginning out_now out_new (text_of a.reply) → out_failed' ≡ true → DidUnreported R before after (now_at in_new in_failed' out_new out_failed')
+  unreported in_new out_new in_failed' out_failed' line read a answers after leaves wrote fails =
       let given = g.given ++ (read.text ++ 10 ∷ []) in
       let lines = g.lines ++ read.text ∷ [] in
       let splits = Splits-line g.given g.lines read.text g.splits read.is_one in
@@ -226,19 +212,19 @@ module _ (R : ℕ) (start world : World) (entries : List Entry) (undone : ℕ) (
         all = lines-whole given lines splits;
         whole = inl (ended-whole given lines splits ∙ sym (lines-whole given lines splits));
         report = g.report;
-        session = g.session;
+        reached = now;
         runs = g.runs;
         answered = a;
         answers = answers;
-        leads = (entries', is'.ran);
+        leaves = leaves;
         part = wrote.part;
         begins = wrote.begins;
         wrote = Appends-join out_before out_now out_new g.report wrote.part g.wrote wrote.took;
       }
 
   -- the writer failed at the reply to the last line
-  pub unreported_last : (in_new out_new : Option (List ℕ)) (in_failed' out_failed' : Bool) (line : Line) (r : ReadsLast in_now in_new line) (a : Answered) → AnswersLine R start g.session r.read.text a → (world' : World) (entries' : List Entry) (undone' : ℕ) → IsSession R start a.session world' entries' undone' → TakesBeginning out_now out_new (text_of a.reply) → out_failed' ≡ true → DidUnreported R start world' (now_at in_new in_failed' out_new out_failed')
-  unreported_last in_new out_new in_failed' out_failed' line r a answers world' entries' undone' is' wrote fails =
+  pub unreported_last : (in_new out_new : Option (List ℕ)) (in_failed' out_failed' : Bool) (line : Line) (r : ReadsLast in_now in_new line) (a : Answered) → AnswersLine R now r.read.text a → (after : State) → a.state ≡ after → TakesBeginning out_now out_new (text_of a.reply) → out_failed' ≡ true → DidUnreported R before after (now_at in_new in_failed' out_new out_failed')
+  unreported_last in_new out_new in_failed' out_failed' line r a answers after leaves wrote fails =
       let text = r.read.text in
       record {
         failed = fails;
@@ -249,11 +235,11 @@ module _ (R : ℕ) (start world : World) (entries : List Entry) (undone : ℕ) (
         all = ap (λ t. lines_of (g.given ++ t)) (append-nil text) ∙ (g.splits.all text ∙ ap (λ ls. g.lines ++ ls) (lines-last text r.read.is_one r.some));
         whole = inr r.ended;
         report = g.report;
-        session = g.session;
+        reached = now;
         runs = g.runs;
         answered = a;
         answers = answers;
-        leads = (entries', is'.ran);
+        leaves = leaves;
         part = wrote.part;
         begins = wrote.begins;
         wrote = Appends-join out_before out_now out_new g.report wrote.part g.wrote wrote.took;

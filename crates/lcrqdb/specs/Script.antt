@@ -1,15 +1,12 @@
 -- What a run of a script did: which lines it read, obeyed and reported, by how it ended.
 use Rattle.std.specs.Prelude.{◌≡◌, ℕ, ◌+◌, ◌^◌, ◌≤◌, ◌⊎◌, Bool, true, List, [], ◌∷◌, ◌++◌, length, Option, Result, Ok, Err}
 use Rattle.std.specs.Io.KnownBytes.{Consumes, Appends, IsAtEnd}
-use Rattle.rd_actor.specs.World.{World}
-use Rattle.rd_step.specs.Run.{run}
-use Rattle.rd_step.specs.declared.entries.Event.{Event}
-use Rattle.rd_step.specs.declared.entries.Entry.{Entry}
+use Rattle.rd_journal.specs.State.{State}
 use Rattle.lcrqdb.specs.declared.script.ScriptFault.{ScriptFault}
 use Rattle.lcrqdb.specs.declared.script.ScriptFault.TheVariants.{Read, Write}
 use Rattle.lcrqdb.specs.Device.{IsBeginning}
 use Rattle.lcrqdb.specs.Lines.{lines_of, ended_lines_of}
-use Rattle.lcrqdb.specs.Session.{Session, no_steps, Answered, AnswersLine, Runs}
+use Rattle.lcrqdb.specs.Session.{Answered, AnswersLine, Runs}
 use Rattle.lcrqdb.specs.Texts.{text_of}
 
 -- what a reader has left and a writer has, before a run and after it, and whether each has failed then
@@ -21,39 +18,29 @@ pub record Devices : Type 0 where
   pub out_after : Option (List ℕ)
   pub out_failed : Bool
 
--- the run of these events ends in this world
-abbrev pub LeadsTo : ℕ → World → List Event → World → Type 0
-LeadsTo R start events world = (entries : List Entry) × (run R start events ≡ Ok (record { world = world; entries = entries }))
-
--- the lines were obeyed, with this report, and left this world
-pub record Obeyed (R : ℕ) (start world : World) (lines : List (List ℕ)) (report : List ℕ) : Type 0 where
-  pub session : Session
-  pub runs : Runs R start no_steps lines report session
-  pub leads : LeadsTo R start session.live world
-
 -- the run came to the end: the reader gave n lines and then the end, and their report was written
-pub record DidAll (R : ℕ) (start world : World) (d : Devices) (n : ℕ) : Type 0 where
+pub record DidAll (R : ℕ) (before after : State) (d : Devices) (n : ℕ) : Type 0 where
   pub given : List ℕ
   pub took : Consumes d.in_before d.in_after given
   pub ended : IsAtEnd d.in_after
   pub counted : length (lines_of given) ≡ n
   pub report : List ℕ
   pub wrote : Appends d.out_before d.out_after report
-  pub obeyed : Obeyed R start world (lines_of given) report
+  pub runs : Runs R before (lines_of given) report after
 
 -- the reader failed, or gave 2^64 - 1 bytes without an end: the lines that a line feed ended were obeyed, and their
 -- report was written
-pub record DidEnded (R : ℕ) (start world : World) (d : Devices) : Type 0 where
+pub record DidEnded (R : ℕ) (before after : State) (d : Devices) : Type 0 where
   pub given : List ℕ
   pub took : Consumes d.in_before d.in_after given
   pub cause : (d.in_failed ≡ true) ⊎ (2 ^ 64 ≤ length given + 1)
   pub report : List ℕ
   pub wrote : Appends d.out_before d.out_after report
-  pub obeyed : Obeyed R start world (ended_lines_of given) report
+  pub runs : Runs R before (ended_lines_of given) report after
 
 -- the writer failed at the reply to the last line that was read: all lines were obeyed, and the report of those before
 -- it was written, and a beginning of that reply
-pub record DidUnreported (R : ℕ) (start world : World) (d : Devices) : Type 0 where
+pub record DidUnreported (R : ℕ) (before after : State) (d : Devices) : Type 0 where
   pub failed : d.out_failed ≡ true
   pub given : List ℕ
   pub took : Consumes d.in_before d.in_after given
@@ -64,19 +51,19 @@ pub record DidUnreported (R : ℕ) (start world : World) (d : Devices) : Type 0 
   pub whole : (ended_lines_of given ≡ lines_of given) ⊎ IsAtEnd d.in_after
   -- the report of the lines before the last
   pub report : List ℕ
-  pub session : Session
-  pub runs : Runs R start no_steps lines report session
+  pub reached : State
+  pub runs : Runs R before lines report reached
   -- the last line's answer
   pub answered : Answered
-  pub answers : AnswersLine R start session last answered
-  pub leads : LeadsTo R start answered.session.live world
+  pub answers : AnswersLine R reached last answered
+  pub leaves : answered.state ≡ after
   -- the beginning of its text
   pub part : List ℕ
   pub begins : IsBeginning part (text_of answered.reply)
   pub wrote : Appends d.out_before d.out_after (report ++ part)
 
 -- what a run of a script did, by how it ended
-abbrev pub Did : ℕ → World → World → Devices → Result ℕ ScriptFault → Type 0
-Did R start world d (Ok n) = DidAll R start world d n
-Did R start world d (Err Read) = DidEnded R start world d
-Did R start world d (Err Write) = DidUnreported R start world d
+abbrev pub Did : ℕ → State → State → Devices → Result ℕ ScriptFault → Type 0
+Did R before after d (Ok n) = DidAll R before after d n
+Did R before after d (Err Read) = DidEnded R before after d
+Did R before after d (Err Write) = DidUnreported R before after d

@@ -1,96 +1,99 @@
--- A session: which steps are live, and what each command answers. Only the run of the live events counts: there is no
--- inverse and no old content here.
-use Rattle.std.specs.Prelude.{◌≡◌, ℕ, ◌+◌, ◌-◌, ◌==◌, nat_lt, if◌then◌else◌, ◌⊎◌, List, [], ◌∷◌, ◌++◌, length, take, Result, Ok, Err}
+-- What each command answers, by the state of the session alone: there is no inverse and no old content here.
+use Rattle.std.specs.Prelude.{◌≡◌, ℕ, ◌⊎◌, List, [], ◌∷◌, ◌++◌, length, Option, Some, None, Result, Ok, Err}
 use Rattle.rd_cell.specs.declared.refusal.Refusal.{Refusal}
-use Rattle.rd_cell.specs.declared.refusal.Refusal.TheVariants.{TooLong, NothingToUndo, NoMemory}
+use Rattle.rd_cell.specs.declared.refusal.Refusal.TheVariants.{NoActor, NoSuchPlace, NoMemory}
+use Rattle.rd_cell.specs.declared.places.Place.TheVariants.{Tail as TailOf}
+use Rattle.rd_cell.specs.declared.contents.Content.{Content}
+use Rattle.rd_cell.specs.declared.contents.Content.TheVariants.{Tail as TailHas}
+use Rattle.rd_cell.specs.Place.{root}
 use Rattle.rd_actor.specs.declared.actors.Act.TheVariants.{Go as GoOn}
-use Rattle.rd_actor.specs.World.{World}
-use Rattle.rd_step.specs.declared.entries.Event.{Event}
-use Rattle.rd_step.specs.declared.entries.Entry.{Entry}
-use Rattle.rd_step.specs.Step.{Stepped, step}
-use Rattle.rd_step.specs.Run.{Ran, run}
-use Rattle.rd_step.specs.WellFormed.{IsWellFormed}
+use Rattle.rd_actor.specs.declared.actors.Actor.{Actor as Record}
+use Rattle.rd_step.specs.Run.{Ran}
+use Rattle.rd_journal.specs.State.{State, run_of, apply, undo, back, redo, forward}
 use Rattle.lcrqdb.specs.declared.commands.Command.{Command}
-use Rattle.lcrqdb.specs.declared.commands.Command.TheVariants.{Go, Undo}
+use Rattle.lcrqdb.specs.declared.commands.Command.TheVariants.{Go, Undo, Back, Redo, Forward, Len, Actor, ShowTail}
 use Rattle.lcrqdb.specs.declared.commands.LineFault.{LineFault}
 use Rattle.lcrqdb.specs.declared.replies.Reply.{Reply}
-use Rattle.lcrqdb.specs.declared.replies.Reply.TheVariants.{Applied, At, Refused, Unread}
+use Rattle.lcrqdb.specs.declared.replies.Reply.TheVariants.{Applied, At, ActorIs, TailIs, Refused, Unread}
 use Rattle.lcrqdb.specs.Spelling.{Says}
 use Rattle.lcrqdb.specs.Texts.{text_of}
 
--- the events of the live steps in order, and how many steps are undone
-pub record Session : Type 0 where
-  pub live : List Event
-  pub undone : ℕ
-
--- the session before the first command
-abbrev pub no_steps : Session
-no_steps = record { live = []; undone = 0 }
-
--- what a command answers, and the session after it
+-- what a command answers, and the state after it
 pub record Answered : Type 0 where
   pub reply : Reply
-  pub session : Session
+  pub state : State
+
+-- a command that is answered so and changes nothing
+abbrev pub told : State → Reply → Answered
+told s reply = record { reply = reply; state = s }
 
 -- a refused command changes nothing
-abbrev pub refused : Session → Refusal → Answered
-refused s refusal = record { reply = Refused refusal; session = s }
+abbrev pub refused : State → Refusal → Answered
+refused s refusal = told s (Refused refusal)
 
--- an event that the step takes becomes the last live one, and what was undone is let go
-abbrev pub stepped : Session → Event → Result Stepped Refusal → Answered
-stepped s e (Err refusal) = refused s refusal
-stepped s e (Ok _) =
-    record { reply = Applied (length s.live + 1); session = record { live = s.live ++ e ∷ []; undone = 0 } }
+-- how many steps are live and how many are undone
+abbrev pub counts : State → Reply
+counts s = At (length s.live) (length s.undone)
 
--- the event is stepped in the last world of the live events' run
-abbrev pub stepped_after : ℕ → Session → Event → Result Ran Refusal → Answered
-stepped_after R s e (Err refusal) = refused s refusal
-stepped_after R s e (Ok ran) = stepped s e (step R ran.world e)
+-- an event is answered by the number of its step, the last live one
+abbrev pub applied : State → Result State Refusal → Answered
+applied s (Err refusal) = refused s refusal
+applied s (Ok t) = record { reply = Applied (length t.live); state = t }
 
--- an event; 65,535 steps are the most that are live
-abbrev pub apply : ℕ → World → Session → Event → Answered
-apply R start s e = if nat_lt (length s.live) 65535 then stepped_after R s e (run R start s.live) else refused s TooLong
+-- a walk up or down the run is answered by the numbers of steps after it
+abbrev pub moved : State → Result State Refusal → Answered
+moved s (Err refusal) = refused s refusal
+moved s (Ok t) = record { reply = counts t; state = t }
 
--- the session with its last live step undone
-abbrev pub without_last : Session → Session
-without_last s = record { live = take (length s.live - 1) s.live; undone = s.undone + 1 }
+-- what is said of an actor's words, if there is such an actor
+abbrev pub words_told : Option Record → Reply
+words_told None = Refused NoActor
+words_told (Some words) = ActorIs words
 
--- `undo`, which takes a live step
-abbrev pub undo : Session → Answered
-undo s =
-    if length s.live == 0
-    then refused s (NothingToUndo 0)
-    else record { reply = At (length s.live - 1) (s.undone + 1); session = without_last s }
+-- what is said of an actor in the last world of a run
+abbrev pub actor_told : ℕ → Result Ran Refusal → Reply
+actor_told n (Err refusal) = Refused refusal
+actor_told n (Ok ran) = words_told (ran.world.actor n)
 
--- what an event may be answered: for want of memory it is refused, and changes nothing
-abbrev pub IsApplied : ℕ → World → Session → Event → Answered → Type 0
-IsApplied R start s e answered = (answered ≡ apply R start s e) ⊎ (answered ≡ refused s NoMemory)
+-- what is said of a tail's content, where it is one
+abbrev pub content_told : Option Content → Reply
+content_told (Some (TailHas closed count)) = TailIs closed count
+content_told _ = Refused NoSuchPlace
+
+-- what is said of the root's tail in the last world of a run
+abbrev pub tail_told : Result Ran Refusal → Reply
+tail_told (Err refusal) = Refused refusal
+tail_told (Ok ran) = content_told (ran.world.at (TailOf root))
+
+-- the answer is this one, or for want of memory the command is refused, and changes nothing
+abbrev pub AnswersOrWants : State → Answered → Answered → Type 0
+AnswersOrWants s wanted answered = (answered ≡ wanted) ⊎ (answered ≡ refused s NoMemory)
 
 -- what a command may be answered
-abbrev pub IsObeyed : ℕ → World → Session → Command → Answered → Type 0
-IsObeyed R start s (Go actor) answered = IsApplied R start s (record { actor = actor; act = GoOn }) answered
-IsObeyed R start s Undo answered = answered ≡ undo s
+abbrev pub IsObeyed : ℕ → State → Command → Answered → Type 0
+IsObeyed R s (Go actor) answered = AnswersOrWants s (applied s (apply R s (record { actor = actor; act = GoOn }))) answered
+IsObeyed R s Undo answered = answered ≡ moved s (undo s)
+IsObeyed R s (Back n) answered = answered ≡ moved s (back s n)
+IsObeyed R s Redo answered = answered ≡ moved s (redo s)
+IsObeyed R s (Forward n) answered = answered ≡ moved s (forward s n)
+IsObeyed R s Len answered = answered ≡ told s (counts s)
+IsObeyed R s (Actor n) answered = answered ≡ told s (actor_told n (run_of R s))
+IsObeyed R s ShowTail answered = answered ≡ told s (tail_told (run_of R s))
 
 -- what a line that says this may be answered
-abbrev pub Answers : ℕ → World → Session → Result Command LineFault → Answered → Type 0
-Answers R start s (Err fault) answered = answered ≡ record { reply = Unread fault; session = s }
-Answers R start s (Ok command) answered = IsObeyed R start s command answered
+abbrev pub Answers : ℕ → State → Result Command LineFault → Answered → Type 0
+Answers R s (Err fault) answered = answered ≡ told s (Unread fault)
+Answers R s (Ok command) answered = IsObeyed R s command answered
 
 -- what a line may be answered
-pub record AnswersLine (R : ℕ) (start : World) (s : Session) (line : List ℕ) (answered : Answered) : Type 0 where
+pub record AnswersLine (R : ℕ) (s : State) (line : List ℕ) (answered : Answered) : Type 0 where
   pub said : Result Command LineFault
   pub says : Says line said
-  pub answers : Answers R start s said answered
+  pub answers : Answers R s said answered
 
--- lines may be answered by this report, each by the text of its reply, and leave this session
-abbrev pub Runs : ℕ → World → Session → List (List ℕ) → List ℕ → Session → Type 0
-Runs R start s [] report after = (report ≡ []) × (after ≡ s)
-Runs R start s (line ∷ lines) report after =
-    (answered : Answered) × (rest : List ℕ) × AnswersLine R start s line answered
-    × (report ≡ text_of answered.reply ++ rest) × Runs R start answered.session lines rest after
-
--- the world, the entries and the number of undone steps are those of a session that began in this well-formed world
-pub record IsSession (R : ℕ) (start : World) (s : Session) (world : World) (entries : List Entry) (undone : ℕ) : Type 0 where
-  pub well_formed : IsWellFormed R start
-  pub ran : run R start s.live ≡ Ok (record { world = world; entries = entries })
-  pub same : undone ≡ s.undone
+-- lines may be answered by this report, each by the text of its reply, and leave this state
+abbrev pub Runs : ℕ → State → List (List ℕ) → List ℕ → State → Type 0
+Runs R s [] report after = (report ≡ []) × (after ≡ s)
+Runs R s (line ∷ lines) report after =
+    (answered : Answered) × (rest : List ℕ) × AnswersLine R s line answered
+    × (report ≡ text_of answered.reply ++ rest) × Runs R answered.state lines rest after

@@ -2,7 +2,7 @@
 //!
 //! A command is read by what stands before its number, and its number by the one spelling that it has.
 
-ghost use Rattle.std.specs.Prelude.{◌≡◌, ◌≢◌, ℕ, ◌<◌, IfSome, IfNone};
+ghost use Rattle.std.specs.Prelude.{◌≡◌, ◌≢◌, ℕ, ◌<◌, ◌^◌, ◌++◌, IfSome, IfNone};
 ghost use Rattle.std.specs.Fmt.{decimal};
 ghost use Rattle.lcrqdb.specs.declared.commands.Command.{Command as Spelled};
 ghost use Rattle.lcrqdb.specs.Spelling.{spelling, IsInRange, Spells};
@@ -16,6 +16,18 @@ pub enum Command {
     Go(u8),
     /// `undo`: the last live step is undone.
     Undo,
+    /// `back N`: the last N live steps are undone.
+    Back(u64),
+    /// `redo`: the step that was undone last is done again.
+    Redo,
+    /// `forward N`: the N steps that were undone last are done again.
+    Forward(u64),
+    /// `len`: how many steps are live and how many are undone.
+    Len,
+    /// `actor A`: the words of this actor.
+    Actor(u8),
+    /// `show tail 0.0`: what the root's tail has.
+    ShowTail,
 }
 
 /// Why a line spells no command.
@@ -34,10 +46,28 @@ pub fn command_in(text: &[u8]) -> Option<Command>
     if text == b"undo".as_slice() {
         return Some(Command::Undo);
     }
-    match go_in(text) {
-        Some(actor) => Some(Command::Go(actor)),
-        None => None,
+    if text == b"redo".as_slice() {
+        return Some(Command::Redo);
     }
+    if text == b"len".as_slice() {
+        return Some(Command::Len);
+    }
+    if text == b"show tail 0.0".as_slice() {
+        return Some(Command::ShowTail);
+    }
+    if let Some(actor) = byte_behind(text, b"go ") {
+        return Some(Command::Go(actor));
+    }
+    if let Some(actor) = byte_behind(text, b"actor ") {
+        return Some(Command::Actor(actor));
+    }
+    if let Some(steps) = number_behind(text, b"back ") {
+        return Some(Command::Back(steps));
+    }
+    if let Some(steps) = number_behind(text, b"forward ") {
+        return Some(Command::Forward(steps));
+    }
+    None
 }
 
 /// A text spells one command at most: two commands of one spelling are one. There is nothing to do for it.
@@ -45,13 +75,24 @@ pub fn spellings_differ()
     ensures { (a b : Spelled) → IsInRange a → IsInRange b → spelling a ≡ spelling b → a ≡ b }
 {}
 
-/// The actor of a text that spells `go A`.
-fn go_in(text: &[u8]) -> Option<u8>
-    ensures spelled { IfSome result (λ actor. text.now ≡ spelling (Command.Go actor)) }
-    ensures unspelled { IfNone result ((actor : ℕ) → actor < 256 → text.now ≢ spelling (Command.Go actor)) }
+/// The number from 0 to 255 that a text spells behind these words.
+fn byte_behind(text: &[u8], words: &[u8]) -> Option<u8>
+    ensures spelled { IfSome result (λ n. text.now ≡ words.now ++ decimal n) }
+    ensures unspelled { IfNone result ((n : ℕ) → n < 256 → text.now ≢ words.now ++ decimal n) }
 {
-    match text.strip_prefix(b"go ") {
+    match text.strip_prefix(words) {
         Some(number) => byte_in(number),
+        None => None,
+    }
+}
+
+/// The number that a text spells behind these words.
+fn number_behind(text: &[u8], words: &[u8]) -> Option<u64>
+    ensures spelled { IfSome result (λ n. text.now ≡ words.now ++ decimal n) }
+    ensures unspelled { IfNone result ((n : ℕ) → n < 2 ^ 64 → text.now ≢ words.now ++ decimal n) }
+{
+    match text.strip_prefix(words) {
+        Some(number) => number_in(number),
         None => None,
     }
 }

@@ -4,12 +4,13 @@
 //! poised world: 4 actors that each stand at the first shared step of an enqueue, over a ring of 4 cells.
 #![tactic(auto)]
 
+mod answers;
 mod commands;
 mod device;
-mod journal;
 mod lines;
 mod numbers;
 mod program;
+mod records;
 mod replies;
 mod script;
 #[cfg(test)]

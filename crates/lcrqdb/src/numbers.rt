@@ -13,7 +13,7 @@ pub const MOST_DIGITS: usize = 20;
 
 /// Puts the digits of a number behind the text.
 pub fn push_number(text: &mut Text, number: u64)
-    requires { array_vec_len text.old ≤ 100 }
+    requires { array_vec_len text.old ≤ 480 }
     ensures items { text.new.items ≡ text.old.items ++ decimal number }
     ensures len { array_vec_len text.new ≤ array_vec_len text.old + MOST_DIGITS }
 {
@@ -38,7 +38,7 @@ pub fn number_in(text: &[u8]) -> Option<u64>
 /// Puts the digits behind the text, the higher ones first.
 #[tactic(auto, using(crate::proofs::NumberLemmas::length_decimal_digit, crate::proofs::NumberLemmas::length_decimal_step))]
 fn push_digits(text: &mut Text, number: u64)
-    requires { array_vec_len text.old + length (decimal number) ≤ 120 }
+    requires { array_vec_len text.old + length (decimal number) ≤ 500 }
     ensures { text.new.items ≡ text.old.items ++ decimal number }
 {
     if number < 10 {

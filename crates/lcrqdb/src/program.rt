@@ -5,6 +5,7 @@ ghost use Rattle.lcrqdb.specs.Program.{fault_words, Played};
 
 use super::device::{Sink, Source};
 use super::script::{ScriptFault, run_lines};
+use rd_journal::Session;
 use rd_step::World;
 use std::alloc::Global;
 use std::fmt;
@@ -56,11 +57,12 @@ pub fn play<S: Source, K: Sink>(
       out_failed = K.has_failed writer.new;
     }) result }
 {
-    let mut world = match World::<RING>::poised(alloc, ACTORS) {
+    let world = match World::<RING>::poised(alloc, ACTORS) {
         Ok(world) => world,
         Err(_) => return Err(ProgramFault::NoMemory),
     };
-    match run_lines(alloc, reader, writer, &mut world) {
+    let mut session = Session::open(alloc, world);
+    match run_lines(reader, writer, &mut session) {
         Ok(lines) => Ok(lines),
         Err(ScriptFault::Read) => Err(ProgramFault::Read),
         Err(ScriptFault::Write) => Err(ProgramFault::Write),

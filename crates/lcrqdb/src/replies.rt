@@ -6,11 +6,13 @@ ghost use Rattle.std.specs.Prelude.{◌≡◌, ◌+◌, ◌<◌, ◌≤◌, ◌+
 ghost use Rattle.std.specs.Io.KnownBytes.{Appends};
 ghost use Rattle.lcrqdb.specs.Device.{TakesBeginning};
 ghost use Rattle.arrayvec.specs.ArrayVec.{array_vec_len};
-ghost use Rattle.lcrqdb.specs.Texts.{spaced, refusal_name, refusal_data, fault_name, words_of, text_of};
+ghost use Rattle.lcrqdb.specs.Texts.{refusal_name, refusal_data, fault_name, tail_word, words_of, text_of};
 
 use super::commands::LineFault;
 use super::device::{Sink, WriteFault, hand_over};
-use super::texts::{Text, push_spaced, push_words};
+use super::records::push_actor;
+use super::texts::{Text, push_counted, push_spaced, push_words};
+use rd_actor::Actor;
 use rd_cell::Refusal;
 
 /// The answer to one line.
@@ -24,6 +26,15 @@ pub enum Reply {
         live: u64,
         /// The undone steps.
         undone: u64,
+    },
+    /// The words of an actor.
+    ActorIs(Actor),
+    /// What a segment's tail has.
+    TailIs {
+        /// Whether the ring is closed for enqueues.
+        closed: bool,
+        /// The counter.
+        count: u64,
     },
     /// The command was refused.
     Refused(Refusal),
@@ -57,7 +68,7 @@ pub fn text_of(reply: Reply) -> Text
 fn push_reply(text: &mut Text, reply: Reply)
     requires { array_vec_len text.old ≡ 0 }
     ensures items { text.new.items ≡ words_of reply }
-    ensures len { array_vec_len text.new ≤ 100 }
+    ensures len { array_vec_len text.new ≤ 500 }
 {
     match reply {
         Reply::Applied(step) => push_counted(text, b"ok", step),
@@ -65,6 +76,8 @@ fn push_reply(text: &mut Text, reply: Reply)
             push_counted(text, b"at", live);
             push_spaced(text, undone);
         }
+        Reply::ActorIs(words) => push_actor(text, &words),
+        Reply::TailIs { closed, count } => push_counted(text, tail_word(closed), count),
         Reply::Refused(refusal) => {
             push_words(text, b"refused ");
             push_refusal(text, refusal);
@@ -91,14 +104,12 @@ fn push_refusal(text: &mut Text, refusal: Refusal)
     }
 }
 
-/// Puts words behind the text, and a number behind them.
-fn push_counted(text: &mut Text, words: &[u8], number: u64)
-    requires { array_vec_len text.old + length words.now < 100 }
-    ensures items { text.new.items ≡ text.old.items ++ words.now ++ spaced number }
-    ensures len { array_vec_len text.new ≤ array_vec_len text.old + length words.now + 21 }
+/// Whether a ring is open.
+fn tail_word(closed: bool) -> &'static [u8]
+    ensures name { result.now ≡ tail_word closed }
+    ensures len { length result.now ≤ 20 }
 {
-    push_words(text, words);
-    push_spaced(text, number);
+    if closed { b"is closed" } else { b"is open" }
 }
 
 /// The number and the name of a line's fault.

@@ -1,19 +1,17 @@
 //! A script: each line is read, obeyed and answered before the next one is read.
 
 ghost use Rattle.std.specs.Prelude.{◌≡◌, ℕ, List, true, false, OnOk, OnErr, IfOk};
-ghost use Rattle.rd_actor.specs.World.{World as Model};
-ghost use Rattle.rd_step.specs.Model.{model};
-ghost use Rattle.lcrqdb.specs.Session.{Session, Answered, AnswersLine};
+ghost use Rattle.rd_journal.specs.Session.{state};
+ghost use Rattle.lcrqdb.specs.Session.{Answered, AnswersLine};
 ghost use Rattle.lcrqdb.specs.Reading.{Holds};
-ghost use Rattle.lcrqdb.specs.Answering.{IsAt, HasSession, Wrote};
+ghost use Rattle.lcrqdb.specs.Answering.{Wrote};
 ghost use Rattle.lcrqdb.specs.Script.{Did};
 
+use super::answers::answer;
 use super::device::{ReadFault, Sink, Source, WriteFault};
-use super::journal::Journal;
 use super::lines::{Line, Reading, next_line};
 use super::replies::write_reply;
-use rd_step::World;
-use std::alloc::Global;
+use rd_journal::Session;
 
 /// Which device ended a script before its end.
 #[derive(Clone, Copy, Debug, PartialEq, Eq)]
@@ -24,17 +22,16 @@ pub enum ScriptFault {
     Write,
 }
 
-/// Runs a script over a world: reads its lines to the end, obeys each when it is complete and writes its reply at
+/// Runs a script over a session: reads its lines to the end, obeys each when it is complete and writes its reply at
 /// once. The answer is the number of lines.
 pub fn run_lines<S: Source, K: Sink, const R: usize>(
-    alloc: Global,
     reader: &mut S,
     writer: &mut K,
-    world: &mut World<R>,
+    session: &mut Session<R>,
 ) -> Result<u64, ScriptFault>
     requires reader_works { S.has_failed reader.old ≡ false }
     requires writer_works { K.has_failed writer.old ≡ false }
-    ensures did { Did R (model world.old) (model world.new) (record {
+    ensures did { Did R (state session.old) (state session.new) (record {
       in_before = S.bytes reader.old;
       in_after = S.bytes reader.new;
       in_failed = S.has_failed reader.new;
@@ -44,16 +41,15 @@ pub fn run_lines<S: Source, K: Sink, const R: usize>(
     }) result }
     ensures works { OnOk result ((S.has_failed reader.new ≡ false) × (K.has_failed writer.new ≡ false)) }
 {
-    let mut journal = Journal::new(alloc);
     for done in 0..u64::MAX {
         match next_line(reader) {
             Err(ReadFault) => return Err(ScriptFault::Read),
             Ok(Reading::End) => return Ok(done),
-            Ok(Reading::Last(line)) => match do_line(&mut journal, world, &line, writer) {
+            Ok(Reading::Last(line)) => match do_line(session, &line, writer) {
                 Ok(()) => return Ok(done + 1),
                 Err(WriteFault) => return Err(ScriptFault::Write),
             },
-            Ok(Reading::Ended(line)) => match do_line(&mut journal, world, &line, writer) {
+            Ok(Reading::Ended(line)) => match do_line(session, &line, writer) {
                 Ok(()) => {}
                 Err(WriteFault) => return Err(ScriptFault::Write),
             },
@@ -64,20 +60,17 @@ pub fn run_lines<S: Source, K: Sink, const R: usize>(
 
 /// Does what a line says, and writes its reply.
 fn do_line<K: Sink, const R: usize>(
-    journal: &mut Journal,
-    world: &mut World<R>,
+    session: &mut Session<R>,
     line: &Line,
     writer: &mut K,
 ) -> Result<(), WriteFault>
-    requires works { K.has_failed writer.old ≡ false }
-    requires session { HasSession R (model world.old) journal.old }
-    ensures does { (start : Model) (s : Session) (text : List ℕ) → IsAt R start s (model world.old) journal.old →
-        Holds line.now text → (answered : Answered) × AnswersLine R start s text answered
-        × IsAt R start answered.session (model world.new) journal.new
+    requires { K.has_failed writer.old ≡ false }
+    ensures does { (text : List ℕ) → Holds line.now text → (answered : Answered)
+        × AnswersLine R (state session.old) text answered × (answered.state ≡ state session.new)
         × Wrote (K.contents writer.old) (K.contents writer.new) answered.reply result }
     ensures works { OnOk result (K.has_failed writer.new ≡ false) }
     ensures fails { OnErr result (K.has_failed writer.new ≡ true) }
 {
-    let reply = journal.answer(world, line);
+    let reply = answer(session, line);
     write_reply(writer, reply)
 }

@@ -5,7 +5,8 @@ use super::device::{ReadSource, WriteSink};
 use super::numbers::number_in;
 use super::program::{ProgramFault, play};
 use super::replies::{Reply, text_of};
-use rd_cell::Refusal;
+use rd_actor::{Actor, Op, Pc};
+use rd_cell::{Refusal, SegName};
 use std::alloc::Global;
 use std::io;
 use std::io::{Read, Write};
@@ -105,8 +106,7 @@ fn steps_are_done_and_the_last_is_undone(rt: HostRuntime) -> Result<(), Fail> {
 #[test]
 fn each_refused_line_says_why(rt: HostRuntime) -> Result<(), Fail> {
     let report = report_of(rt.alloc(), b"undo\ngo 1\ngo 1\ngo 5\nhello\n")?;
-    let wanted =
-        b"refused 10 NothingToUndo 0\nok 1\nrefused 3 Idle\nrefused 1 NoActor\nrefused 22 BadLine\n";
+    let wanted = b"refused 10 NothingToUndo 0\nok 1\nok 2\nrefused 1 NoActor\nrefused 22 BadLine\n";
     assert_eq!(rt; report.as_slice(), wanted.as_slice());
     Ok(())
 }
@@ -115,6 +115,43 @@ fn each_refused_line_says_why(rt: HostRuntime) -> Result<(), Fail> {
 fn an_event_lets_go_what_was_undone(rt: HostRuntime) -> Result<(), Fail> {
     let report = report_of(rt.alloc(), b"go 1\ngo 2\nundo\nundo\ngo 2\nundo\nundo\n")?;
     let wanted = b"ok 1\nok 2\nat 1 1\nat 0 2\nok 1\nat 0 1\nrefused 10 NothingToUndo 0\n";
+    assert_eq!(rt; report.as_slice(), wanted.as_slice());
+    Ok(())
+}
+
+#[test]
+fn a_walk_back_and_forward(rt: HostRuntime) -> Result<(), Fail> {
+    let script =
+        b"go 1\ngo 2\ngo 3\nshow tail 0.0\nactor 2\nback 2\nactor 2\nforward 3\nforward 2\nback 4\nback 1\ngo 4\nredo\nlen\n";
+    let report = report_of(rt.alloc(), script)?;
+    let mut wanted = Vec::new(rt.alloc());
+    for line in [
+        b"ok 1\nok 2\nok 3\nis open 3\n".as_slice(),
+        b"actor E5 enq 2 crq 0.0 new 0.0 next 0.0 t 1 h 0 closed 0 val none safe 0 idx 0 pass 0\n".as_slice(),
+        b"at 1 2\n".as_slice(),
+        b"actor E4 enq 2 crq 0.0 new 0.0 next 0.0 t 0 h 0 closed 0 val none safe 0 idx 0 pass 0\n".as_slice(),
+        b"refused 11 NothingToRedo\nat 3 0\nrefused 10 NothingToUndo 3\n".as_slice(),
+        b"at 2 1\nok 3\nrefused 11 NothingToRedo\nat 3 0\n".as_slice(),
+    ] {
+        wanted.extend_from_slice(line)?;
+    }
+    assert_eq!(rt; report.as_slice(), wanted.as_slice());
+    Ok(())
+}
+
+#[test]
+fn an_actor_that_is_not_there_is_refused(rt: HostRuntime) -> Result<(), Fail> {
+    let report = report_of(rt.alloc(), b"actor 0\nactor 5\nactor 255\nlen\n")?;
+    let wanted = b"refused 1 NoActor\nrefused 1 NoActor\nrefused 1 NoActor\nat 0 0\n";
+    assert_eq!(rt; report.as_slice(), wanted.as_slice());
+    Ok(())
+}
+
+#[test]
+fn a_walk_of_no_step_goes(rt: HostRuntime) -> Result<(), Fail> {
+    let script = b"back 0\nforward 0\nback 18446744073709551615\nforward 18446744073709551615\n";
+    let report = report_of(rt.alloc(), script)?;
+    let wanted = b"at 0 0\nat 0 0\nrefused 10 NothingToUndo 0\nrefused 11 NothingToRedo\n";
     assert_eq!(rt; report.as_slice(), wanted.as_slice());
     Ok(())
 }
@@ -163,6 +200,15 @@ fn a_command_has_one_spelling(rt: HostRuntime) {
     assert_eq!(rt; command_in(b"go 0"), Some(Command::Go(0)));
     assert_eq!(rt; command_in(b"go 255"), Some(Command::Go(255)));
     assert_eq!(rt; command_in(b"undo"), Some(Command::Undo));
+    assert_eq!(rt; command_in(b"back 0"), Some(Command::Back(0)));
+    assert_eq!(rt; command_in(b"redo"), Some(Command::Redo));
+    assert_eq!(rt;
+        command_in(b"forward 18446744073709551615"),
+        Some(Command::Forward(u64::MAX))
+    );
+    assert_eq!(rt; command_in(b"len"), Some(Command::Len));
+    assert_eq!(rt; command_in(b"actor 255"), Some(Command::Actor(255)));
+    assert_eq!(rt; command_in(b"show tail 0.0"), Some(Command::ShowTail));
     for text in [
         b"go 256".as_slice(),
         b"go 01".as_slice(),
@@ -176,6 +222,17 @@ fn a_command_has_one_spelling(rt: HostRuntime) {
         b"go ".as_slice(),
         b"undo ".as_slice(),
         b"undo 1".as_slice(),
+        b"back".as_slice(),
+        b"back 01".as_slice(),
+        b"back 18446744073709551616".as_slice(),
+        b"redo 1".as_slice(),
+        b"forward -1".as_slice(),
+        b"len ".as_slice(),
+        b"actor 256".as_slice(),
+        b"actor  1".as_slice(),
+        b"show tail 0.1".as_slice(),
+        b"show tail 0.0 ".as_slice(),
+        b"show head 0.0".as_slice(),
     ] {
         assert_eq!(rt; command_in(text), None);
     }
@@ -298,6 +355,14 @@ fn the_longest_replies_fit(rt: HostRuntime) {
         at.as_slice(),
         b"at 18446744073709551615 18446744073709551615\n".as_slice()
     );
+    let tail = text_of(Reply::TailIs {
+        closed: true,
+        count: most,
+    });
+    assert_eq!(rt;
+        tail.as_slice(),
+        b"is closed 18446744073709551615\n".as_slice()
+    );
     let undo = text_of(Reply::Refused(Refusal::NothingToUndo(most)));
     assert_eq!(rt;
         undo.as_slice(),
@@ -305,6 +370,55 @@ fn the_longest_replies_fit(rt: HostRuntime) {
     );
     let long = text_of(Reply::Unread(LineFault::LineTooLong));
     assert_eq!(rt; long.as_slice(), b"refused 23 LineTooLong\n".as_slice());
+}
+
+#[test]
+fn the_longest_actor_fits(rt: HostRuntime) {
+    let name = SegName {
+        maker: u8::MAX,
+        n: u32::MAX,
+    };
+    let words = text_of(Reply::ActorIs(Actor {
+        pc: Pc::Q14,
+        op: Some(Op::AEnq(u64::MAX)),
+        crq: name,
+        new: name,
+        next: name,
+        t: u64::MAX,
+        h: u64::MAX,
+        closed: true,
+        val: Some(u64::MAX),
+        safe: true,
+        idx: u64::MAX,
+        pass: u8::MAX,
+    }));
+    let wanted =
+        b"actor Q14 aenq 18446744073709551615 crq 255.4294967295 new 255.4294967295 next 255.4294967295 t 18446744073709551615 h 18446744073709551615 closed 1 val 18446744073709551615 safe 1 idx 18446744073709551615 pass 255\n";
+    assert_eq!(rt; words.as_slice(), wanted.as_slice());
+}
+
+#[test]
+fn each_call_has_its_words(rt: HostRuntime) {
+    for (op, wanted) in [
+        (
+            None,
+            b"actor Idle none crq 0.0 new 0.0 next 0.0 t 0 h 0 closed 0 val none safe 0 idx 0 pass 0\n".as_slice(),
+        ),
+        (
+            Some(Op::Deq),
+            b"actor Idle deq crq 0.0 new 0.0 next 0.0 t 0 h 0 closed 0 val none safe 0 idx 0 pass 0\n".as_slice(),
+        ),
+        (
+            Some(Op::ADeq),
+            b"actor Idle adeq crq 0.0 new 0.0 next 0.0 t 0 h 0 closed 0 val none safe 0 idx 0 pass 0\n".as_slice(),
+        ),
+    ] {
+        let words = Actor {
+            op,
+            ..Actor::idle()
+        };
+        assert_eq!(rt; text_of(Reply::ActorIs(words)).as_slice(), wanted);
+    }
 }
 
 #[test]

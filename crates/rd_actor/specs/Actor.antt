@@ -3,6 +3,8 @@ use Rattle.std.specs.Prelude.{ℕ, false, Some, None}
 use Rattle.rd_cell.specs.Place.{root}
 use Rattle.rd_actor.specs.declared.actors.Actor.{Actor}
 use Rattle.rd_actor.specs.declared.actors.Pc.TheVariants.{Idle, E4}
+use Rattle.rd_actor.specs.declared.actors.Pc.{Pc}
+use Rattle.rd_actor.specs.declared.actors.Op.{Op}
 use Rattle.rd_actor.specs.declared.actors.Op.TheVariants.{Enq}
 
 -- the record of an actor in no call
@@ -25,3 +27,7 @@ idle = record {
 -- the record of an actor that is to draw a position for this value on the root
 abbrev pub poised : ℕ → Actor
 poised value = record idle { pc = E4; op = Some (Enq value) }
+
+-- the record of an actor that begins this call at this place
+abbrev pub calling : Pc → Op → Actor
+calling pc op = record idle { pc = pc; op = Some op }

@@ -1,40 +1,190 @@
 -- The place table, one row a place: what an actor asks for, and how it goes on.
-use Rattle.std.specs.Prelude.{ℕ, Bool, if◌then◌else◌, Option, Some, None, Result, Ok, Err}
-use Rattle.rd_cell.specs.declared.places.Place.TheVariants.{Tail}
-use Rattle.rd_cell.specs.declared.contents.Content.TheVariants.{Tail as TailIs}
+use Rattle.std.specs.Prelude.{ℕ, ◌+◌, ◌%◌, Bool, true, false, ◌==◌, ◌&&◌, ◌||◌, nat_lt, nat_le, if◌then◌else◌, Option, Some, None, is_some, is_none, Result, Ok, Err}
+use Rattle.rd_cell.specs.declared.cells.Cell.{Cell}
+use Rattle.rd_cell.specs.declared.places.SegName.{SegName}
+use Rattle.rd_cell.specs.declared.places.Place.{Place}
+use Rattle.rd_cell.specs.declared.places.Place.TheVariants.{QHead, QTail, Head, Tail, Next, Cell as CellAt}
+use Rattle.rd_cell.specs.declared.contents.Content.{Content}
+use Rattle.rd_cell.specs.declared.contents.Content.TheVariants.{Name, Number, Tail as TailIs, Next as NextIs}
 use Rattle.rd_cell.specs.declared.access.Access.{Access}
-use Rattle.rd_cell.specs.declared.access.Access.TheVariants.{At}
-use Rattle.rd_cell.specs.declared.access.Operation.TheVariants.{Add}
+use Rattle.rd_cell.specs.declared.access.Access.TheVariants.{NoPlace, At, Make}
+use Rattle.rd_cell.specs.declared.access.Operation.{Operation}
+use Rattle.rd_cell.specs.declared.access.Operation.TheVariants.{Read, ReadValue, ReadTurn, Add, Close, CasName, CasNext, CasTail, Cas2}
 use Rattle.rd_cell.specs.declared.access.Answer.{Answer}
-use Rattle.rd_cell.specs.declared.access.Answer.TheVariants.{Found}
+use Rattle.rd_cell.specs.declared.access.Answer.TheVariants.{Nothing, Found, Value, Turn, WasClosed, Won, Lost, Made}
 use Rattle.rd_cell.specs.declared.refusal.Refusal.{Refusal}
-use Rattle.rd_cell.specs.declared.refusal.Refusal.TheVariants.{Idle as IsIdle}
+use Rattle.rd_cell.specs.declared.refusal.Refusal.TheVariants.{NotIdle, Idle as IsIdle, NeedsChoice, NoChoice}
+use Rattle.rd_cell.specs.Content.{is_bit}
 use Rattle.rd_actor.specs.declared.actors.Act.{Act}
-use Rattle.rd_actor.specs.declared.actors.Act.TheVariants.{Go}
+use Rattle.rd_actor.specs.declared.actors.Act.TheVariants.{Enq, Deq, Go, Starve}
 use Rattle.rd_actor.specs.declared.actors.Actor.{Actor}
+use Rattle.rd_actor.specs.declared.actors.Op.{Op}
+use Rattle.rd_actor.specs.declared.actors.Op.TheVariants.{Enq as Enqueue, Deq as Dequeue}
 use Rattle.rd_actor.specs.declared.actors.OpReply.{OpReply}
+use Rattle.rd_actor.specs.declared.actors.OpReply.TheVariants.{Enqueued, Value as Dequeued, Empty}
 use Rattle.rd_actor.specs.declared.actors.Pc.{Pc}
-use Rattle.rd_actor.specs.declared.actors.Pc.TheVariants.{E4, E5, E12}
+use Rattle.rd_actor.specs.declared.actors.Pc.TheVariants.{Idle, E1, E2, E3, E4, E5, E6, E7, E8, E9, E10, E11, E12, E13, E14, Q1, Q2, Q3, Q4, Q5, Q6, Q7, Q8, Q9, Q10, Q11, Q12, Q13, Q14}
+use Rattle.rd_actor.specs.Actor.{idle, calling}
+
+-- the value that an enqueue is to put
+abbrev pub value_of : Option Op → ℕ
+value_of (Some (Enqueue x)) = x
+value_of _ = 0
+
+-- the cell that an enqueue works on, and the one that a dequeue works on
+abbrev pub tail_cell : ℕ → Actor → Place
+tail_cell R a = CellAt a.crq (a.t % R)
+
+abbrev pub head_cell : ℕ → Actor → Place
+head_cell R a = CellAt a.crq (a.h % R)
+
+-- a cell of these words
+abbrev pub cell_of : Bool → ℕ → Option ℕ → Cell
+cell_of safe idx val = record { safe = safe; idx = idx; val = val }
 
 -- what an actor that stands here asks for
 abbrev pub need_at : ℕ → Pc → Actor → Result Access Refusal
+need_at R E1 a = Ok (At QTail Read)
+need_at R E2 a = Ok (At (Next a.crq) Read)
+need_at R E3 a = Ok (At QTail (CasName a.crq a.next))
 need_at R E4 a = Ok (At (Tail a.crq) Add)
+need_at R E5 a = Ok (At (tail_cell R a) ReadValue)
+need_at R E6 a = Ok (At (tail_cell R a) ReadTurn)
+need_at R E7 a = Ok (At (Head a.crq) Read)
+need_at R E8 a = Ok (At (tail_cell R a) (Cas2 (cell_of a.safe a.idx None) (cell_of true a.t (Some (value_of a.op)))))
+need_at R E9 a = Ok (At (Head a.crq) Read)
+need_at R E10 a = Err NeedsChoice
+need_at R E11 a = Ok (At (Tail a.crq) Close)
+need_at R E12 a = Ok (Make (value_of a.op))
+need_at R E13 a = Ok (At (Next a.crq) (CasNext a.new))
+need_at R E14 a = Ok (At QTail (CasName a.crq a.new))
+need_at R Q1 a = Ok (At QHead Read)
+need_at R Q2 a = Ok (At (Head a.crq) Add)
+need_at R Q3 a = Ok (At (head_cell R a) ReadValue)
+need_at R Q4 a = Ok (At (head_cell R a) ReadTurn)
+need_at R Q5 a = Ok (At (head_cell R a) (Cas2 (cell_of a.safe a.idx a.val) (cell_of a.safe (a.h + R) None)))
+need_at R Q6 a = Ok (At (head_cell R a) (Cas2 (cell_of a.safe a.idx a.val) (cell_of false a.idx a.val)))
+need_at R Q7 a = Ok (At (head_cell R a) (Cas2 (cell_of a.safe a.idx None) (cell_of a.safe (a.h + R) None)))
+need_at R Q8 a = Ok (At (Tail a.crq) Read)
+need_at R Q9 a = Ok (At (Tail a.crq) Read)
+need_at R Q10 a = Ok (At (Head a.crq) Read)
+need_at R Q11 a = Ok (At (Tail a.crq) Read)
+need_at R Q12 a = Ok (At (Tail a.crq) (CasTail a.t a.h))
+need_at R Q13 a = Ok (At (Next a.crq) Read)
+need_at R Q14 a = Ok (At QHead (CasName a.crq a.next))
 need_at R _ a = Err IsIdle
+
+-- a call needs an idle actor, and no place
+abbrev pub need_call : Pc → Result Access Refusal
+need_call Idle = Ok NoPlace
+need_call _ = Err NotIdle
+
+-- a choice needs an actor that is to make one, and no place
+abbrev pub need_choice : Pc → Result Access Refusal
+need_choice Idle = Err IsIdle
+need_choice E10 = Ok NoPlace
+need_choice _ = Err NoChoice
 
 -- the one access that an actor asks for over rings of R cells, or why it has none
 abbrev pub need : ℕ → Actor → Act → Result Access Refusal
+need R a (Enq x) = need_call a.pc
+need R a Deq = need_call a.pc
 need R a Go = need_at R a.pc a
+need R a (Starve b) = need_choice a.pc
 
--- an actor that drew a position from a tail: it goes on to that position's cell, or to make a segment where the
--- ring is closed
+-- the actor goes on to this place
+abbrev pub goes : Pc → Actor → Actor
+goes pc a = record a { pc = pc }
+
+-- where a pass over a segment ends that found it empty: after the first the next segment is read, after the second
+-- the queue's head moves on
+abbrev pub done : Actor → Pc
+done a = if a.pass == 1 then Q13 else Q14
+
+-- an enqueue that drew a position from a tail goes on to its cell, or to make a segment where the ring is closed
 abbrev pub drawn : Actor → Bool → ℕ → Actor
 drawn a closed count = record a { t = count; pc = if closed then E12 else E5 }
 
+-- an enqueue that read a cell's safe bit and index tries the cell where it is empty and its turn has not passed, if
+-- it is safe at once, else after a look at the head
+abbrev pub turned_to_enqueue : Actor → Bool → ℕ → Actor
+turned_to_enqueue a safe idx =
+    record a { safe = safe; idx = idx; pc = if is_none a.val && nat_le idx a.t then (if safe then E8 else E7) else E9 }
+
+-- a dequeue that read a cell's safe bit and index: it takes the value that is there for it, marks the cell unsafe
+-- where an older value is there, moves an empty cell on, and passes a cell whose turn is later
+abbrev pub turned_to_dequeue : Actor → Bool → ℕ → Actor
+turned_to_dequeue a safe idx = record a {
+  safe = safe;
+  idx = idx;
+  pc = if nat_lt a.h idx then Q8 else (if is_some a.val then (if idx == a.h then Q5 else Q6) else Q7);
+}
+
+-- an enqueue at an unsafe cell that read the head tries the cell if its position is not behind the head
+abbrev pub checked_head : Actor → ℕ → Actor
+checked_head a g = record a { pc = if nat_le g a.t then E8 else E9 }
+
+-- an enqueue that read the head closes the ring if that is full, else is to choose
+abbrev pub checked_room : ℕ → Actor → ℕ → Actor
+checked_room R a g = record a { h = g; pc = if nat_le (g + R) a.t then E11 else E10 }
+
+-- a dequeue that read the tail goes to repair it where nothing is enqueued behind its position, else it tries the next one
+abbrev pub checked_tail : Actor → ℕ → Actor
+checked_tail a count = record a { t = count; pc = if nat_le count (a.h + 1) then Q9 else Q2 }
+
+-- a repair that read the tail again: it starts over where that changed, ends where the tail is closed or not behind
+-- the head, and else tries to move it
+abbrev pub checked_again : Actor → Bool → ℕ → Actor
+checked_again a closed count =
+    record a { pc = if is_bit closed a.closed && (count == a.t) then (if a.closed || nat_le a.h a.t then done a else Q12) else Q9 }
+
+-- a dequeue that took this value replies it
+abbrev pub taken : Option ℕ → Actor → Actor × Option OpReply
+taken (Some v) a = (idle, Some (Dequeued v))
+taken None a = (a, None)
+
 -- how an actor that stands here goes on with an answer, and what it replies
 abbrev pub after_at : ℕ → Pc → Actor → Answer → Actor × Option OpReply
+after_at R E1 a (Found (Name s)) = (record a { crq = s; pc = E2 }, None)
+after_at R E2 a (Found (NextIs (Some m))) = (record a { next = m; pc = E3 }, None)
+after_at R E2 a (Found (NextIs None)) = (goes E4 a, None)
+after_at R E3 a answer = (goes E1 a, None)
 after_at R E4 a (Found (TailIs closed count)) = (drawn a closed count, None)
+after_at R E5 a (Value v) = (record a { val = v; pc = E6 }, None)
+after_at R E6 a (Turn safe idx) = (turned_to_enqueue a safe idx, None)
+after_at R E7 a (Found (Number g)) = (checked_head a g, None)
+after_at R E8 a Won = (idle, Some Enqueued)
+after_at R E8 a Lost = (goes E9 a, None)
+after_at R E9 a (Found (Number g)) = (checked_room R a g, None)
+after_at R E11 a answer = (goes E12 a, None)
+after_at R E12 a (Made s) = (record a { new = s; pc = E13 }, None)
+after_at R E13 a Won = (goes E14 a, None)
+after_at R E13 a Lost = (goes E1 a, None)
+after_at R E14 a answer = (idle, Some Enqueued)
+after_at R Q1 a (Found (Name s)) = (record a { crq = s; pass = 1; pc = Q2 }, None)
+after_at R Q2 a (Found (Number g)) = (record a { h = g; pc = Q3 }, None)
+after_at R Q3 a (Value v) = (record a { val = v; pc = Q4 }, None)
+after_at R Q4 a (Turn safe idx) = (turned_to_dequeue a safe idx, None)
+after_at R Q5 a Won = taken a.val a
+after_at R Q5 a Lost = (goes Q3 a, None)
+after_at R Q6 a Won = (goes Q8 a, None)
+after_at R Q6 a Lost = (goes Q3 a, None)
+after_at R Q7 a Won = (goes Q8 a, None)
+after_at R Q7 a Lost = (goes Q3 a, None)
+after_at R Q8 a (Found (TailIs closed count)) = (checked_tail a count, None)
+after_at R Q9 a (Found (TailIs closed count)) = (record a { closed = closed; t = count; pc = Q10 }, None)
+after_at R Q10 a (Found (Number g)) = (record a { h = g; pc = Q11 }, None)
+after_at R Q11 a (Found (TailIs closed count)) = (checked_again a closed count, None)
+after_at R Q12 a Won = (goes (done a) a, None)
+after_at R Q12 a Lost = (goes Q9 a, None)
+after_at R Q13 a (Found (NextIs None)) = (idle, Some Empty)
+after_at R Q13 a (Found (NextIs (Some m))) = (record a { next = m; pass = 2; pc = Q2 }, None)
+after_at R Q14 a answer = (goes Q1 a, None)
 after_at R _ a _ = (a, None)
 
 -- the actor's next record, and what it replies where its call is over
 abbrev pub after : ℕ → Actor → Act → Answer → Actor × Option OpReply
+after R a (Enq x) answer = (calling E1 (Enqueue x), None)
+after R a Deq answer = (calling Q1 Dequeue, None)
 after R a Go answer = after_at R a.pc a answer
+after R a (Starve b) answer = (goes (if b then E11 else E4) a, None)

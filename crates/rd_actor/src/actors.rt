@@ -1,7 +1,7 @@
 //! An actor's record, what it may be asked to do, and what its calls reply.
 
 ghost use Rattle.std.specs.Prelude.{◌≡◌};
-ghost use Rattle.rd_actor.specs.Actor.{idle, poised};
+ghost use Rattle.rd_actor.specs.Actor.{idle, poised, calling};
 
 use rd_cell::SegName;
 
@@ -94,8 +94,14 @@ pub enum Op {
 /// What an actor is told to do in one step.
 #[derive(Clone, Copy, Debug, PartialEq, Eq)]
 pub enum Act {
+    /// The call of an enqueue of this value.
+    Enq(u64),
+    /// The call of a dequeue.
+    Deq,
     /// The step of the row where it stands.
     Go,
+    /// The choice whether an enqueue starves and closes the ring.
+    Starve(bool),
 }
 
 /// What a call answers when it is over.
@@ -166,6 +172,17 @@ impl Actor {
         Actor {
             pc: Pc::E4,
             op: Some(Op::Enq(value)),
+            ..Actor::idle()
+        }
+    }
+
+    /// The record of an actor that begins this call at this place.
+    pub fn calling(pc: Pc, op: Op) -> Actor
+        ensures { result ≡ calling pc op }
+    {
+        Actor {
+            pc,
+            op: Some(op),
             ..Actor::idle()
         }
     }

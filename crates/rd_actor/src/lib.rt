@@ -6,8 +6,9 @@
 
 pub mod actors;
 pub mod table;
-#[cfg(test)]
-mod tests;
 
 pub use actors::{Act, Actor, Op, OpReply, Pc};
 pub use table::{after, need};
+
+#[cfg(test)]
+mod tests;

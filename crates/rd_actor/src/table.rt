@@ -1,37 +1,162 @@
 //! The place table: what an actor asks for where it stands, and how it goes on.
+//!
+//! A row a place, in the table's order. `need` has the column of accesses, `after` those of the words set and of
+//! the next place. The helpers below have the rows that choose between places.
 
-ghost use Rattle.std.specs.Prelude.{◌≡◌};
-ghost use Rattle.rd_actor.specs.Table.{need, after, drawn};
+ghost use Rattle.std.specs.Prelude.{◌≡◌, ◌+◌, ◌%◌, ◌^◌, ◌<◌, ◌≤◌, true, false, Some, None};
+ghost use Rattle.rd_cell.specs.declared.places.Place.TheVariants.{Cell as CellAt};
+ghost use Rattle.rd_cell.specs.declared.access.Operation.TheVariants.{CasName, CasTail, Cas2};
+ghost use Rattle.rd_actor.specs.Table.{value_of, cell_of, need, need_at, after, after_at, goes, done, taken, drawn, turned_to_enqueue, turned_to_dequeue, checked_head, checked_room, checked_tail, checked_again};
 
-use super::actors::{Act, Actor, OpReply, Pc};
-use rd_cell::{Access, Answer, Content, Operation, Place, Refusal};
+use super::actors::{Act, Actor, Op, OpReply, Pc};
+use rd_cell::{Access, Answer, Cell, Content, Operation, Place, Refusal, SegName};
 
 /// The one access that the actor's next step makes, over rings of `R` cells.
 ///
 /// # Errors
 ///
-/// `Idle` where the table has no row for the actor's place. No world is looked at and nothing changes.
+/// In this order: `NotIdle` for a call by an actor that is in one; `Idle` for a step or a choice by an actor that is
+/// in no call, or that stands at a place without a row; `NeedsChoice` for a step where a choice is due; `NoChoice`
+/// for a choice where none is.
 pub fn need<const R: usize>(actor: &Actor, act: Act) -> Result<Access, Refusal>
-    ensures { result ≡ need R actor.now act }
+    requires positive { 1 ≤ R }
+    requires small { R ≤ 64 }
+    ensures { actor.now.h + R < 2 ^ 64 → result ≡ need R actor.now act }
 {
-    let Act::Go = act;
+    match (act, actor.pc) {
+        (Act::Enq(_) | Act::Deq, Pc::Idle) => Ok(Access::NoPlace),
+        (Act::Enq(_) | Act::Deq, _) => Err(Refusal::NotIdle),
+        (Act::Go | Act::Starve(_), Pc::Idle) => Err(Refusal::Idle),
+        (Act::Go, Pc::E10) => Err(Refusal::NeedsChoice),
+        (Act::Starve(_), Pc::E10) => Ok(Access::NoPlace),
+        (Act::Starve(_), _) => Err(Refusal::NoChoice),
+        (Act::Go, _) => need_at::<R>(actor),
+    }
+}
+
+/// What an actor that stands at a row asks for.
+fn need_at<const R: usize>(actor: &Actor) -> Result<Access, Refusal>
+    requires positive { 1 ≤ R }
+    requires small { R ≤ 64 }
+    ensures { actor.now.h + R < 2 ^ 64 → result ≡ need_at R actor.now.pc actor.now }
+{
+    let crq = actor.crq;
     match actor.pc {
-        Pc::E4 => Ok(Access::At(Place::Tail(actor.crq), Operation::Add)),
+        Pc::E1 => Ok(Access::At(Place::QTail, Operation::Read)),
+        Pc::E2 | Pc::Q13 => Ok(Access::At(Place::Next(crq), Operation::Read)),
+        Pc::E3 => Ok(Access::At(Place::QTail, cas_name(actor, actor.next))),
+        Pc::E4 => Ok(Access::At(Place::Tail(crq), Operation::Add)),
+        Pc::E5 => Ok(Access::At(cell_at::<R>(actor, actor.t), Operation::ReadValue)),
+        Pc::E6 => Ok(Access::At(cell_at::<R>(actor, actor.t), Operation::ReadTurn)),
+        Pc::E7 | Pc::E9 | Pc::Q10 => Ok(Access::At(Place::Head(crq), Operation::Read)),
+        Pc::E8 => Ok(Access::At(cell_at::<R>(actor, actor.t), put_value(actor))),
+        Pc::E10 => Err(Refusal::NeedsChoice),
+        Pc::E11 => Ok(Access::At(Place::Tail(crq), Operation::Close)),
+        Pc::E12 => Ok(Access::Make(value_of(actor.op))),
+        Pc::E13 => Ok(Access::At(Place::Next(crq), Operation::CasNext(actor.new))),
+        Pc::E14 => Ok(Access::At(Place::QTail, cas_name(actor, actor.new))),
+        Pc::Q1 => Ok(Access::At(Place::QHead, Operation::Read)),
+        Pc::Q2 => Ok(Access::At(Place::Head(crq), Operation::Add)),
+        Pc::Q3 => Ok(Access::At(cell_at::<R>(actor, actor.h), Operation::ReadValue)),
+        Pc::Q4 => Ok(Access::At(cell_at::<R>(actor, actor.h), Operation::ReadTurn)),
+        Pc::Q5 => Ok(Access::At(cell_at::<R>(actor, actor.h), move_on::<R>(actor, actor.val))),
+        Pc::Q6 => Ok(Access::At(cell_at::<R>(actor, actor.h), mark_unsafe(actor))),
+        Pc::Q7 => Ok(Access::At(cell_at::<R>(actor, actor.h), move_on::<R>(actor, None))),
+        Pc::Q8 | Pc::Q9 | Pc::Q11 => Ok(Access::At(Place::Tail(crq), Operation::Read)),
+        Pc::Q12 => Ok(Access::At(Place::Tail(crq), move_tail(actor))),
+        Pc::Q14 => Ok(Access::At(Place::QHead, cas_name(actor, actor.next))),
         _ => Err(Refusal::Idle),
     }
 }
 
 /// The actor's record after a step, by what the access answered, and what the call replies if that ended it.
 pub fn after<const R: usize>(actor: &Actor, act: Act, answer: Answer) -> (Actor, Option<OpReply>)
+    requires { R ≤ 64 }
     ensures { result ≡ after R actor.now act answer }
 {
-    let Act::Go = act;
-    match (actor.pc, answer) {
-        (Pc::E4, Answer::Found(Content::Tail { closed, count })) => (
-            drawn(actor, closed, count),
-            None,
+    match act {
+        Act::Enq(value) => (Actor::calling(Pc::E1, Op::Enq(value)), None),
+        Act::Deq => (Actor::calling(Pc::Q1, Op::Deq), None),
+        Act::Go => after_at::<R>(actor, answer),
+        Act::Starve(starves) => (goes(actor, if starves { Pc::E11 } else { Pc::E4 }), None),
+    }
+}
+
+/// How an actor that stands at a row goes on. An answer that its row does not give leaves it as it is.
+fn after_at<const R: usize>(actor: &Actor, answer: Answer) -> (Actor, Option<OpReply>)
+    requires { R ≤ 64 }
+    ensures { result ≡ after_at R actor.now.pc actor.now answer }
+{
+    let next = match (actor.pc, answer) {
+        (Pc::E1, Answer::Found(Content::Name(name))) => at_tail(actor, name),
+        (Pc::E2, Answer::Found(Content::Next(Some(name)))) => behind_tail(actor, name),
+        (Pc::E2, Answer::Found(Content::Next(None))) => goes(actor, Pc::E4),
+        (Pc::E3, _) => goes(actor, Pc::E1),
+        (Pc::E4, Answer::Found(Content::Tail { closed, count })) => drawn(actor, closed, count),
+        (Pc::E5, Answer::Value(val)) => with_value(actor, val, Pc::E6),
+        (Pc::E6, Answer::Turn { safe, idx }) => turned_to_enqueue(actor, safe, idx),
+        (Pc::E7, Answer::Found(Content::Number(head))) => checked_head(actor, head),
+        (Pc::E8, Answer::Won) => return (Actor::idle(), Some(OpReply::Enqueued)),
+        (Pc::E8, Answer::Lost) => goes(actor, Pc::E9),
+        (Pc::E9, Answer::Found(Content::Number(head))) => checked_room::<R>(actor, head),
+        (Pc::E11, _) => goes(actor, Pc::E12),
+        (Pc::E12, Answer::Made(name)) => with_new(actor, name),
+        (Pc::E13, Answer::Won) => goes(actor, Pc::E14),
+        (Pc::E13, Answer::Lost) => goes(actor, Pc::E1),
+        (Pc::E14, _) => return (Actor::idle(), Some(OpReply::Enqueued)),
+        (Pc::Q1, Answer::Found(Content::Name(name))) => at_head(actor, name),
+        (Pc::Q2, Answer::Found(Content::Number(head))) => with_head(actor, head, Pc::Q3),
+        (Pc::Q3, Answer::Value(val)) => with_value(actor, val, Pc::Q4),
+        (Pc::Q4, Answer::Turn { safe, idx }) => turned_to_dequeue(actor, safe, idx),
+        (Pc::Q5, Answer::Won) => return taken(actor),
+        (Pc::Q5 | Pc::Q6 | Pc::Q7, Answer::Lost) => goes(actor, Pc::Q3),
+        (Pc::Q6 | Pc::Q7, Answer::Won) => goes(actor, Pc::Q8),
+        (Pc::Q8, Answer::Found(Content::Tail { count, .. })) => checked_tail(actor, count),
+        (Pc::Q9, Answer::Found(Content::Tail { closed, count })) => repairing(actor, closed, count),
+        (Pc::Q10, Answer::Found(Content::Number(head))) => with_head(actor, head, Pc::Q11),
+        (Pc::Q11, Answer::Found(Content::Tail { closed, count })) => checked_again(
+            actor, closed, count,
         ),
-        _ => (*actor, None),
+        (Pc::Q12, Answer::Won) => goes(actor, done(actor)),
+        (Pc::Q12, Answer::Lost) => goes(actor, Pc::Q9),
+        (Pc::Q13, Answer::Found(Content::Next(None))) => return (
+            Actor::idle(),
+            Some(OpReply::Empty),
+        ),
+        (Pc::Q13, Answer::Found(Content::Next(Some(name)))) => second_pass(actor, name),
+        (Pc::Q14, _) => goes(actor, Pc::Q1),
+        (Pc::Idle | Pc::E10 | Pc::A1 | Pc::A2 | Pc::B1 | Pc::B2 | Pc::B3, _) => *actor,
+        _ => *actor,
+    };
+    (next, None)
+}
+
+/// The actor goes on to this place.
+fn goes(actor: &Actor, pc: Pc) -> Actor
+    ensures { result ≡ goes pc actor.now }
+{
+    Actor { pc, ..*actor }
+}
+
+/// E1: the enqueue works on the segment at the tail.
+fn at_tail(actor: &Actor, name: SegName) -> Actor
+    ensures { result ≡ record actor.now { crq = name; pc = Pc.E2 } }
+{
+    Actor {
+        crq: name,
+        pc: Pc::E2,
+        ..*actor
+    }
+}
+
+/// E2: the tail is behind, and the enqueue helps it on to this segment.
+fn behind_tail(actor: &Actor, name: SegName) -> Actor
+    ensures { result ≡ record actor.now { next = name; pc = Pc.E3 } }
+{
+    Actor {
+        next: name,
+        pc: Pc::E3,
+        ..*actor
     }
 }
 
@@ -40,8 +165,278 @@ fn drawn(actor: &Actor, closed: bool, count: u64) -> Actor
     ensures { result ≡ drawn actor.now closed count }
 {
     Actor {
-        pc: if closed { Pc::E12 } else { Pc::E5 },
         t: count,
+        pc: if closed { Pc::E12 } else { Pc::E5 },
         ..*actor
+    }
+}
+
+/// E5, Q3: the actor read a cell's value.
+fn with_value(actor: &Actor, val: Option<u64>, pc: Pc) -> Actor
+    ensures { result ≡ record actor.now { val = val; pc = pc } }
+{
+    Actor { val, pc, ..*actor }
+}
+
+/// E6: the enqueue tries the cell where it is empty and its turn has not passed; if unsafe, after a look at the head.
+fn turned_to_enqueue(actor: &Actor, safe: bool, idx: u64) -> Actor
+    ensures { result ≡ turned_to_enqueue actor.now safe idx }
+{
+    let pc = if actor.val.is_none() && idx <= actor.t {
+        if safe { Pc::E8 } else { Pc::E7 }
+    } else {
+        Pc::E9
+    };
+    Actor {
+        safe,
+        idx,
+        pc,
+        ..*actor
+    }
+}
+
+/// E7: the enqueue tries the unsafe cell if its position is not behind the head.
+fn checked_head(actor: &Actor, head: u64) -> Actor
+    ensures { result ≡ checked_head actor.now head }
+{
+    let pc = if head <= actor.t { Pc::E8 } else { Pc::E9 };
+    Actor { pc, ..*actor }
+}
+
+/// E9: the enqueue closes the ring if it is full, else it is to choose.
+fn checked_room<const R: usize>(actor: &Actor, head: u64) -> Actor
+    requires { R ≤ 64 }
+    ensures { result ≡ checked_room R actor.now head }
+{
+    // The same as `head + R <= t`, which could pass the end of a word.
+    let full = head <= actor.t && R as u64 <= actor.t - head;
+    let pc = if full { Pc::E11 } else { Pc::E10 };
+    Actor {
+        h: head,
+        pc,
+        ..*actor
+    }
+}
+
+/// E12: the enqueue made this segment.
+fn with_new(actor: &Actor, name: SegName) -> Actor
+    ensures { result ≡ record actor.now { new = name; pc = Pc.E13 } }
+{
+    Actor {
+        new: name,
+        pc: Pc::E13,
+        ..*actor
+    }
+}
+
+/// Q1: the dequeue begins its first pass over the segment at the head.
+fn at_head(actor: &Actor, name: SegName) -> Actor
+    ensures { result ≡ record actor.now { crq = name; pass = 1; pc = Pc.Q2 } }
+{
+    Actor {
+        crq: name,
+        pass: 1,
+        pc: Pc::Q2,
+        ..*actor
+    }
+}
+
+/// Q2, Q10: the actor drew or read a head position.
+fn with_head(actor: &Actor, head: u64, pc: Pc) -> Actor
+    ensures { result ≡ record actor.now { h = head; pc = pc } }
+{
+    Actor {
+        h: head,
+        pc,
+        ..*actor
+    }
+}
+
+/// Q4: the dequeue takes the value that is there for it, marks the cell where an older one is there, moves an empty
+/// cell on, and passes a cell whose turn is later.
+fn turned_to_dequeue(actor: &Actor, safe: bool, idx: u64) -> Actor
+    ensures { result ≡ turned_to_dequeue actor.now safe idx }
+{
+    let pc = if actor.h < idx {
+        Pc::Q8
+    } else if actor.val.is_none() {
+        Pc::Q7
+    } else if idx == actor.h {
+        Pc::Q5
+    } else {
+        Pc::Q6
+    };
+    Actor {
+        safe,
+        idx,
+        pc,
+        ..*actor
+    }
+}
+
+/// Q5: the dequeue took the value that it had read.
+fn taken(actor: &Actor) -> (Actor, Option<OpReply>)
+    ensures { result ≡ taken actor.now.val actor.now }
+{
+    match actor.val {
+        Some(value) => (Actor::idle(), Some(OpReply::Value(value))),
+        None => (*actor, None),
+    }
+}
+
+/// Q8: the dequeue goes to repair the tail where nothing is enqueued behind its position, else it draws the next one.
+fn checked_tail(actor: &Actor, count: u64) -> Actor
+    ensures { result ≡ checked_tail actor.now count }
+{
+    // The same as `count <= h + 1`, which could pass the end of a word.
+    let empty = count == 0 || count - 1 <= actor.h;
+    let pc = if empty { Pc::Q9 } else { Pc::Q2 };
+    Actor {
+        t: count,
+        pc,
+        ..*actor
+    }
+}
+
+/// Q9: the repair read the tail.
+fn repairing(actor: &Actor, closed: bool, count: u64) -> Actor
+    ensures { result ≡ record actor.now { closed = closed; t = count; pc = Pc.Q10 } }
+{
+    Actor {
+        closed,
+        t: count,
+        pc: Pc::Q10,
+        ..*actor
+    }
+}
+
+/// Q11: the repair starts over where the tail changed, ends where it is closed or not behind the head, and else tries
+/// to move it.
+fn checked_again(actor: &Actor, closed: bool, count: u64) -> Actor
+    ensures { result ≡ checked_again actor.now closed count }
+{
+    let pc = if closed == actor.closed && count == actor.t {
+        if actor.closed || actor.h <= actor.t {
+            done(actor)
+        } else {
+            Pc::Q12
+        }
+    } else {
+        Pc::Q9
+    };
+    Actor { pc, ..*actor }
+}
+
+/// Where a pass ends that found its segment empty: the first reads the next one, the second moves the queue's head.
+fn done(actor: &Actor) -> Pc
+    ensures { result ≡ done actor.now }
+{
+    if actor.pass == 1 { Pc::Q13 } else { Pc::Q14 }
+}
+
+/// Q13: a segment follows, and the dequeue passes over its own a second time.
+fn second_pass(actor: &Actor, name: SegName) -> Actor
+    ensures { result ≡ record actor.now { next = name; pass = 2; pc = Pc.Q2 } }
+{
+    Actor {
+        next: name,
+        pass: 2,
+        pc: Pc::Q2,
+        ..*actor
+    }
+}
+
+/// The value that an enqueue is to put.
+fn value_of(op: Option<Op>) -> u64
+    ensures { result ≡ value_of op }
+{
+    match op {
+        Some(Op::Enq(value)) => value,
+        _ => 0,
+    }
+}
+
+/// The cell of this position on the actor's segment.
+fn cell_at<const R: usize>(actor: &Actor, position: u64) -> Place
+    requires positive { 1 ≤ R }
+    requires small { R ≤ 64 }
+    ensures { result ≡ CellAt actor.now.crq (position % R) }
+{
+    Place::Cell(actor.crq, (position % R as u64) as u8)
+}
+
+/// A compare-and-swap of a name from the actor's segment.
+fn cas_name(actor: &Actor, new: SegName) -> Operation
+    ensures { result ≡ CasName actor.now.crq new }
+{
+    Operation::CasName {
+        old: actor.crq,
+        new,
+    }
+}
+
+/// E8: from the empty cell that was read to the value at the actor's position.
+fn put_value(actor: &Actor) -> Operation
+    ensures { result ≡ Cas2 (cell_of actor.now.safe actor.now.idx None) (cell_of true actor.now.t (Some (value_of actor.now.op))) }
+{
+    Operation::Cas2 {
+        old: Cell {
+            safe: actor.safe,
+            idx: actor.idx,
+            val: None,
+        },
+        new: Cell {
+            safe: true,
+            idx: actor.t,
+            val: Some(value_of(actor.op)),
+        },
+    }
+}
+
+/// Q5, Q7: from the cell that was read, with this value, to an empty one for the next round.
+fn move_on<const R: usize>(actor: &Actor, val: Option<u64>) -> Operation
+    requires { R ≤ 64 }
+    ensures { actor.now.h + R < 2 ^ 64
+        → result ≡ Cas2 (cell_of actor.now.safe actor.now.idx val) (cell_of actor.now.safe (actor.now.h + R) None) }
+{
+    Operation::Cas2 {
+        old: Cell {
+            safe: actor.safe,
+            idx: actor.idx,
+            val,
+        },
+        new: Cell {
+            safe: actor.safe,
+            idx: actor.h.saturating_add(R as u64),
+            val: None,
+        },
+    }
+}
+
+/// Q6: from the cell that was read to the same, marked unsafe.
+fn mark_unsafe(actor: &Actor) -> Operation
+    ensures { result ≡ Cas2 (cell_of actor.now.safe actor.now.idx actor.now.val) (cell_of false actor.now.idx actor.now.val) }
+{
+    Operation::Cas2 {
+        old: Cell {
+            safe: actor.safe,
+            idx: actor.idx,
+            val: actor.val,
+        },
+        new: Cell {
+            safe: false,
+            idx: actor.idx,
+            val: actor.val,
+        },
+    }
+}
+
+/// Q12: the tail moves up to the head.
+fn move_tail(actor: &Actor) -> Operation
+    ensures { result ≡ CasTail actor.now.t actor.now.h }
+{
+    Operation::CasTail {
+        old: actor.t,
+        new: actor.h,
     }
 }

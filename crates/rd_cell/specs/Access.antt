@@ -1,5 +1,5 @@
 -- What each access does to the contents of all places.
-use Rattle.std.specs.Prelude.{◌≡◌, ℕ, zero, suc, ◌+◌, Bool, true, false, ◌&&◌, ◌||◌, nat_lt, if◌then◌else◌, Option, Some, None, is_some, Result, Ok, Err}
+use Rattle.std.specs.Prelude.{◌≡◌, ◌<◌, ℕ, zero, suc, ◌+◌, Bool, true, false, ◌&&◌, ◌||◌, nat_lt, if◌then◌else◌, Option, Some, None, is_some, Result, Ok, Err}
 use Rattle.rd_cell.specs.declared.places.SegName.{SegName}
 use Rattle.rd_cell.specs.declared.places.Place.{Place}
 use Rattle.rd_cell.specs.declared.places.Place.TheVariants.{Head, Whole}
@@ -44,6 +44,10 @@ made_from (suc more) at maker n =
 unfoldable pub made : Contents → ℕ → ℕ
 made at maker = made_from 65535 at maker 0
 
+-- what an operation at a place did that found this content
+abbrev pub done_with : Place → Content → Answer → Bool → Done
+done_with p found answer wrote = record { place = Some p; old = Some found; answer = answer; wrote = wrote }
+
 -- no access
 abbrev pub nothing_done : Performed
 nothing_done = record { done = record { place = None; old = None; answer = Nothing; wrote = false }; leaves = λ q was. was }
@@ -85,10 +89,16 @@ pub record Operates (p : Place) (op : Operation) (old new : Contents) (done : Do
   pub notes : performed.done ≡ done
   pub leaves : new ≡ left_by performed old
 
--- the access did this, whichever actor made it, and these contents became those
-pub record Accesses (R : ℕ) (access : Access) (old new : Contents) (done : Done) : Type 0 where
+-- this segment, the maker's n-th, was made with R cells and holding x, and these contents became those
+pub record Makes (R maker n x : ℕ) (name : SegName) (old new : Contents) : Type 0 where
+  pub name_is : name ≡ record { maker = maker; n = n }
+  pub below : n < 65535
+  pub leaves : (q : Place) → new q ≡ lay name (holding R x) q (old q)
+
+-- the access by this actor did this, and these contents became those
+pub record Accesses (R actor : ℕ) (access : Access) (old new : Contents) (done : Done) : Type 0 where
   pub performed : Performed
-  pub does : (actor : ℕ) → perform R actor old access ≡ Ok performed
+  pub does : perform R actor old access ≡ Ok performed
   pub notes : performed.done ≡ done
   pub leaves : new ≡ left_by performed old
 

@@ -5,7 +5,7 @@ use Rattle.rd_cell.specs.declared.places.SegName.{SegName}
 use Rattle.rd_cell.specs.declared.places.Place.{Place}
 use Rattle.rd_cell.specs.declared.places.Place.TheVariants.{QHead, QTail, Head, Tail, Next, Cell as CellAt, Whole as WholeOf}
 use Rattle.rd_cell.specs.declared.contents.Content.{Content}
-use Rattle.rd_cell.specs.Place.{is_place}
+use Rattle.rd_cell.specs.Place.{is_of, is_place}
 use Rattle.rd_cell.specs.declared.contents.Content.TheVariants.{Name, Number, Tail as TailIs, Next as NextIs, Cell as CellIs, Whole}
 
 -- what each place has: nothing where it is not there. The whole of a segment is no place of the map, but a
@@ -16,6 +16,10 @@ Contents = Place → Option Content
 -- the contents with this one at the place
 abbrev pub with_content : Place → Content → Contents → Contents
 with_content p c at q = if is_place p q then Some c else at q
+
+-- the contents without the places of a segment
+abbrev pub without_segment : SegName → Contents → Contents
+without_segment s at q = if is_of s q then None else at q
 
 -- whether a content is of its place's kind, and a counter at most 2^62. The whole of a segment has no content
 abbrev pub may_have : Place → Content → Bool

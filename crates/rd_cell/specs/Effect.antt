@@ -1,5 +1,5 @@
 -- What each operation does to one content.
-use Rattle.std.specs.Prelude.{ℕ, ◌+◌, ◌^◌, Bool, true, false, not, ◌==◌, ◌&&◌, nat_lt, if◌then◌else◌, Option, Some, None, Result, Ok, Err}
+use Rattle.std.specs.Prelude.{ℕ, ◌+◌, ◌^◌, Bool, true, false, not, ◌==◌, ◌&&◌, nat_lt, nat_le, if◌then◌else◌, Option, Some, None, Result, Ok, Err}
 use Rattle.rd_cell.specs.declared.places.SegName.{SegName}
 use Rattle.rd_cell.specs.declared.contents.Content.{Content}
 use Rattle.rd_cell.specs.declared.contents.Content.TheVariants.{Name, Number, Tail, Next, Cell, Slot}
@@ -53,3 +53,26 @@ effect (CasTail old new) (Tail c n) = swaps (not c && (n == old)) (Tail false ne
 effect (Cas2 old new) (Cell c) = swaps (is_cell c old) (Cell new)
 effect (Swap new) (Slot old) = writes (Found (Slot old)) (Slot new)
 effect _ _ = Err NoSuchPlace
+
+-- whether an operation only looks
+abbrev pub is_read : Operation → Bool
+is_read Read = true
+is_read ReadValue = true
+is_read ReadTurn = true
+is_read _ = false
+
+-- what a read answers on a content of its kind
+abbrev pub read_answer : Operation → Content → Option Answer
+read_answer Read (Name s) = Some (Found (Name s))
+read_answer Read (Number n) = Some (Found (Number n))
+read_answer Read (Tail c n) = Some (Found (Tail c n))
+read_answer Read (Next m) = Some (Found (Next m))
+read_answer ReadValue (Cell c) = Some (Value c.val)
+read_answer ReadTurn (Cell c) = Some (Turn c.safe c.idx)
+read_answer _ _ = None
+
+-- whether an operation is one for the places of a segment, and puts no counter past its end
+abbrev pub suits_segments : Operation → Bool
+suits_segments AddArray = false
+suits_segments (CasTail old new) = nat_le new (2 ^ 62)
+suits_segments _ = true

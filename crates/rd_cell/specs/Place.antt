@@ -1,5 +1,5 @@
 -- Places: when two are one, and when two overlap.
-use Rattle.std.specs.Prelude.{ℕ, Bool, true, false, ◌==◌, ◌&&◌, ◌||◌}
+use Rattle.std.specs.Prelude.{ℕ, Bool, true, false, ◌==◌, ◌&&◌, ◌||◌, Option, Some, None}
 use Rattle.rd_cell.specs.declared.places.SegName.{SegName}
 use Rattle.rd_cell.specs.declared.places.Place.{Place}
 use Rattle.rd_cell.specs.declared.places.Place.TheVariants.{QHead, QTail, Head, Tail, Next, Cell, Whole, ArrHead, ArrTail, ArrCell}
@@ -20,6 +20,14 @@ is_of s (Next t) = is_name s t
 is_of s (Cell t i) = is_name s t
 is_of s (Whole t) = is_name s t
 is_of s _ = false
+
+-- the segment that has a place of the map, if one does
+abbrev pub segment_of : Place → Option SegName
+segment_of (Head s) = Some s
+segment_of (Tail s) = Some s
+segment_of (Next s) = Some s
+segment_of (Cell s i) = Some s
+segment_of _ = None
 
 -- whether two places are one
 abbrev pub is_place : Place → Place → Bool

@@ -1,5 +1,10 @@
 //! The accesses that a step may make, and what they answer.
 
+ghost use Rattle.std.specs.Prelude.{◌≡◌, if◌then◌else◌};
+ghost use Rattle.rd_cell.specs.declared.access.Answer.TheVariants.{Won, Lost};
+ghost use Rattle.rd_cell.specs.Effect.{is_read, read_answer};
+ghost use Rattle.rd_cell.specs.Access.{done_with};
+
 use super::cells::Cell;
 use super::contents::{ArrSlot, Content};
 use super::places::{Place, SegName};
@@ -94,4 +99,56 @@ pub struct Done {
     pub answer: Answer,
     /// Whether it wrote: always but for reads and for compare-and-swaps that lost.
     pub wrote: bool,
+}
+
+impl Operation {
+    /// Whether it only looks: it never writes.
+    pub fn is_read(self) -> bool
+        ensures { result ≡ is_read self }
+    {
+        matches!(
+            self,
+            Operation::Read | Operation::ReadValue | Operation::ReadTurn
+        )
+    }
+
+    /// What a read answers on this content; none where the content is of another kind, or this is no read.
+    pub fn read(self, content: Content) -> Option<Answer>
+        ensures { result ≡ read_answer self content }
+    {
+        match (self, content) {
+            (
+                Operation::Read,
+                Content::Name(_) | Content::Number(_) | Content::Tail { .. } | Content::Next(_),
+            ) => Some(Answer::Found(content)),
+            (Operation::ReadValue, Content::Cell(cell)) => Some(Answer::Value(cell.val)),
+            (Operation::ReadTurn, Content::Cell(cell)) => Some(Answer::Turn {
+                safe: cell.safe,
+                idx: cell.idx,
+            }),
+            _ => None,
+        }
+    }
+}
+
+impl Done {
+    /// An operation that found this content, answered this, and wrote or not.
+    pub fn at(place: Place, found: Content, answer: Answer, wrote: bool) -> Done
+        ensures { result ≡ done_with place found answer wrote }
+    {
+        Done {
+            place: Some(place),
+            old: Some(found),
+            answer,
+            wrote,
+        }
+    }
+
+    /// A compare-and-swap that found this content, and won or lost.
+    pub fn swapped(place: Place, found: Content, won: bool) -> Done
+        ensures { result ≡ done_with place found (if won then Won else Lost) won }
+    {
+        let answer = if won { Answer::Won } else { Answer::Lost };
+        Done::at(place, found, answer, won)
+    }
 }

@@ -3,7 +3,7 @@
 ghost use Rattle.std.specs.Prelude.{◌≡◌, ◌↔◌, IsTrue};
 ghost use Rattle.std.specs.Bool.{OnTrue, OnFalse};
 
-/// One cell of a ring (Morrison and Afek 2013, section 4.1). "No value" is the absent option.
+/// One cell of a ring (Morrison and Afek 2013). "No value" is the absent option.
 #[derive(Clone, Copy, Debug, PartialEq, Eq)]
 pub struct Cell {
     /// Whether an enqueue may use the cell without looking at the ring's head.

@@ -9,11 +9,12 @@ pub mod cells;
 pub mod contents;
 pub mod places;
 pub mod refusal;
-#[cfg(test)]
-mod tests;
 
 pub use access::{Access, Answer, Done, Operation};
 pub use cells::Cell;
 pub use contents::{ArrSlot, Content};
 pub use places::{Place, SegName, is_of, overlaps};
 pub use refusal::Refusal;
+
+#[cfg(test)]
+mod tests;

@@ -1,7 +1,7 @@
 //! Segment names, the ten kinds of place, and which places overlap.
 
 ghost use Rattle.std.specs.Prelude.{◌≡◌};
-ghost use Rattle.rd_cell.specs.Place.{covers, is_of, overlaps};
+ghost use Rattle.rd_cell.specs.Place.{covers, is_of, overlaps, segment_of};
 
 /// The name of a segment: (maker, n) is the one that this actor made as its n-th, from 0. The root is (0, 0).
 #[derive(Clone, Copy, Debug, PartialEq, Eq)]
@@ -40,6 +40,19 @@ pub enum Place {
     ArrTail,
     /// One slot of the array queue, 0 to 63.
     ArrCell(u8),
+}
+
+impl Place {
+    /// The segment that has this place; none for the queue's ends, the array's places and the whole of a segment.
+    pub fn segment(self) -> Option<SegName>
+        ensures { result ≡ segment_of self }
+    {
+        match self {
+            Place::Head(name) | Place::Tail(name) | Place::Next(name) | Place::Cell(name, _) =>
+                Some(name),
+            _ => None,
+        }
+    }
 }
 
 /// Whether two places overlap: they are equal, or one is the whole of the segment that the other belongs to.

@@ -1,7 +1,8 @@
 //! The inverse of the plain step.
 
-ghost use Rattle.std.specs.Prelude.{◌≡◌};
-ghost use Rattle.rd_step.specs.Model.{model};
+ghost use Rattle.std.specs.Prelude.{◌≡◌, ◌+◌, ℕ};
+ghost use Rattle.rd_step.specs.Machine.{given};
+ghost use Rattle.rd_step.specs.Model.{model, room};
 ghost use Rattle.rd_step.specs.Step.{unstepped};
 ghost use Rattle.rd_step.specs.Laws.{WasStepped, IsTakenOut};
 
@@ -17,6 +18,7 @@ pub fn unstep<const R: usize>(world: &mut World<R>, entry: &Entry)
     ensures back { model world.new ≡ unstepped (model world.old) entry.now }
     ensures taken_out { (was : WasStepped R (model world.old) entry.now)
         → IsTakenOut R (model world.old) (model world.new) entry.now was }
+    ensures room { (m : ℕ) → room world.new m ≡ room world.old m + given entry.now.place entry.now.old_content m }
 {
     world.revert(
         entry.event.actor,

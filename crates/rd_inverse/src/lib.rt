@@ -4,7 +4,8 @@
 #![tactic(auto)]
 
 pub mod inverse;
-#[cfg(test)]
-mod tests;
 
 pub use inverse::unstep;
+
+#[cfg(test)]
+mod tests;

@@ -1,17 +1,19 @@
 -- What a segment has at each of its places, and what its operations do.
-use Rattle.std.specs.Prelude.{◌≡◌, ℕ, ◌+◌, Bool, true, Option, Some, None, option_map, slice_get, Result, Ok, Err}
+use Rattle.std.specs.Prelude.{◌≡◌, ℕ, Bool, true, if◌then◌else◌, Option, Some, None, is_some, option_map, slice_get, Result, Ok, Err}
 use Rattle.rd_cell.specs.declared.places.SegName.{SegName}
 use Rattle.rd_cell.specs.declared.places.Place.{Place}
 use Rattle.rd_cell.specs.declared.places.Place.TheVariants.{Head, Tail, Next, Cell as CellAt}
 use Rattle.rd_cell.specs.declared.contents.Content.{Content}
 use Rattle.rd_cell.specs.declared.contents.Content.TheVariants.{Number, Tail as TailIs, Next as NextIs, Cell as CellIs}
 use Rattle.rd_cell.specs.declared.access.Operation.{Operation}
-use Rattle.rd_cell.specs.declared.access.Answer.TheVariants.{Found}
+use Rattle.rd_cell.specs.declared.access.Answer.TheVariants.{Found, Won, Lost}
+use Rattle.rd_cell.specs.declared.access.Done.{Done}
 use Rattle.rd_cell.specs.declared.refusal.Refusal.{Refusal}
+use Rattle.rd_cell.specs.declared.refusal.Refusal.TheVariants.{NoSuchPlace}
 use Rattle.rd_cell.specs.Place.{is_of}
 use Rattle.rd_cell.specs.Content.{Contents}
 use Rattle.rd_cell.specs.Effect.{Effect, effect}
-use Rattle.rd_cell.specs.Access.{put}
+use Rattle.rd_cell.specs.Access.{put, done_with}
 use Rattle.rd_ring.specs.declared.segments.Segment.{Segment}
 
 -- the content of a segment's place, whatever the segment is named there
@@ -21,6 +23,10 @@ part s (Tail name) = Some (TailIs s.closed s.tail)
 part s (Next name) = Some (NextIs s.next)
 part s (CellAt name i) = option_map CellIs (slice_get s.cells i)
 part s _ = None
+
+-- the head counter
+abbrev pub head_count : {R : ℕ} → Segment R → ℕ
+head_count s = s.head
 
 -- the tail counter
 abbrev pub tail_count : {R : ℕ} → Segment R → ℕ
@@ -46,6 +52,33 @@ pub record Refuses {R : ℕ} (op : Operation) (place : SegName → Place) (old :
   pub found : (s : SegName) → part old (place s) ≡ Some content
   pub does : effect op content ≡ Err refusal
 
--- what a fetch-and-add does that finds this tail
-abbrev pub tail_step : Bool → ℕ → Effect
-tail_step closed count = record { answer = Found (TailIs closed count); writes = Some (TailIs closed (count + 1)) }
+-- what a fetch-and-add does that finds this content and leaves that one
+abbrev pub added : Content → Content → Effect
+added found leaves = record { answer = Found found; writes = Some leaves }
+
+-- what a compare-and-swap does that is to leave this content, where it wins and where it loses
+abbrev pub swapped : Bool → Content → Effect
+swapped won content = if won then record { answer = Won; writes = Some content } else record { answer = Lost; writes = None }
+
+-- the operation had its effect at this place of the segment, as the entry of it says, and left every other place of
+-- the segment as it was
+pub record Operated {R : ℕ} (place : Place) (op : Operation) (done : Done) (old new : Segment R) : Type 0 where
+  pub content : Content
+  pub found : part old place ≡ Some content
+  pub gives : Effect
+  pub does : effect op content ≡ Ok gives
+  pub notes : done_with place content gives.answer (is_some gives.writes) ≡ done
+  pub leaves : (s : SegName) (q : Place) → is_of s place ≡ true → is_of s q ≡ true → part new q ≡ put place gives.writes q (part old q)
+
+-- what an operation does on what is at a place, if anything is
+abbrev pub effect_at : Operation → Option Content → Result Effect Refusal
+effect_at op None = Err NoSuchPlace
+effect_at op (Some c) = effect op c
+
+-- the operation is refused on what the segment has at this place
+abbrev pub RefusesAt : {R : ℕ} → Place → Operation → Segment R → Refusal → Type 0
+RefusesAt place op old refusal = effect_at op (part old place) ≡ Err refusal
+
+-- the place has this content now, and every other place of its segment what it had
+pub record IsRestored {R : ℕ} (place : Place) (content : Content) (old new : Segment R) : Type 0 where
+  pub at : (s : SegName) (q : Place) → is_of s place ≡ true → is_of s q ≡ true → part new q ≡ put place (Some content) q (part old q)

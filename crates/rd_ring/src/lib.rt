@@ -4,8 +4,10 @@
 //! takes the content from before it.
 #![tactic(auto)]
 
+pub mod operations;
 pub mod segments;
-#[cfg(test)]
-mod tests;
 
 pub use segments::Segment;
+
+#[cfg(test)]
+mod tests;

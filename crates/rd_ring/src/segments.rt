@@ -1,11 +1,14 @@
 //! The segment and its operations.
 
-ghost use Rattle.std.specs.Prelude.{◌≡◌, ℕ, ◌^◌, ◌<◌, ◌≤◌, ◌↔◌, IsSome, IfOk, IfErr, OnErr, option_map, slice_get, length};
+ghost use Rattle.std.specs.Prelude.{◌≡◌, ℕ, ◌+◌, ◌^◌, ◌<◌, ◌≤◌, ◌↔◌, true, false, Some, None, Err, IsSome, IfOk, IfErr, OnErr, option_map, slice_get, length};
 ghost use Rattle.rd_cell.specs.declared.places.SegName.{SegName};
 ghost use Rattle.rd_cell.specs.declared.places.Place.TheVariants.{Head, Tail, Next, Cell as CellAt};
+ghost use Rattle.rd_cell.specs.declared.contents.Content.{Content};
 ghost use Rattle.rd_cell.specs.declared.contents.Content.TheVariants.{Number, Tail as TailIs, Next as NextIs, Cell as CellIs};
-ghost use Rattle.rd_cell.specs.declared.access.Operation.TheVariants.{Add};
-ghost use Rattle.rd_cell.specs.Content.{fresh, new_cell};
+ghost use Rattle.rd_cell.specs.declared.access.Operation.TheVariants.{Add, Close, CasTail, CasNext, Cas2};
+ghost use Rattle.rd_cell.specs.declared.access.Answer.TheVariants.{WasClosed};
+ghost use Rattle.rd_cell.specs.Place.{root};
+ghost use Rattle.rd_cell.specs.Content.{fresh, holding, new_cell};
 
 use rd_cell::{Cell, Content, Place, Refusal, SegName};
 
@@ -24,7 +27,7 @@ pub struct Segment<const R: usize> {
 }
 
 impl<const R: usize> Segment<R> {
-    ghost use Rattle.rd_ring.specs.Segment.{part, tail_count, tail_step, Puts, Performs, Refuses};
+    ghost use Rattle.rd_ring.specs.Segment.{part, head_count, tail_count, added, swapped, Puts, Performs, Refuses};
 
     /// A fresh segment: both counters are 0, it is open, no segment follows, and cell u is safe at index u and empty.
     pub fn fresh() -> Self
@@ -37,6 +40,23 @@ impl<const R: usize> Segment<R> {
             closed: false,
             next: None,
             cells: fresh_cells(),
+        }
+    }
+
+    /// A new segment that holds a value already: the fresh one, but its tail is 1 and the value is in cell 0.
+    pub fn holding(value: u64) -> Self
+        requires positive { 1 ≤ R }
+        requires small { R ≤ 64 }
+        ensures { (q : Place) → part result q ≡ holding R value q }
+    {
+        let mut cells = fresh_cells();
+        cells[0].val = Some(value);
+        Segment {
+            head: 0,
+            tail: 1,
+            closed: false,
+            next: None,
+            cells,
         }
     }
 
@@ -90,13 +110,33 @@ impl<const R: usize> Segment<R> {
         self.cells.get(i as usize).copied()
     }
 
+    /// Fetch-and-add of 1 on the head: answers the counter from before.
+    ///
+    /// # Errors
+    ///
+    /// `CounterEnd` exactly where the counter is 2^62; the segment is then as before.
+    pub fn add_head(&mut self) -> Result<u64, Refusal>
+        ensures ok { IfOk result (λ n. Performs Add Head (Number n) (added (Number n) (Number (n + 1))) self.old self.new) }
+        ensures err { IfErr result (λ e. Refuses Add Head self.old e) }
+        ensures end { (result ≡ Err Refusal.CounterEnd) ↔ (head_count self.old ≡ 2 ^ 62) }
+        ensures unchanged { OnErr result (self.new ≡ self.old) }
+    {
+        if self.head == COUNTER_END {
+            return Err(Refusal::CounterEnd);
+        }
+        let old = self.head;
+        self.head += 1;
+        Ok(old)
+    }
+
     /// Fetch-and-add of 1 on the tail: answers the closed bit and the counter from before.
     ///
     /// # Errors
     ///
     /// `CounterEnd` exactly where the counter is 2^62; the segment is then as before.
     pub fn add_tail(&mut self) -> Result<(bool, u64), Refusal>
-        ensures ok { IfOk result (λ old. Performs Add Tail (TailIs old.0 old.1) (tail_step old.0 old.1) self.old self.new) }
+        ensures ok { IfOk result (λ old. Performs Add Tail (TailIs old.0 old.1)
+            (added (TailIs old.0 old.1) (TailIs old.0 (old.1 + 1))) self.old self.new) }
         ensures err { IfErr result (λ e. Refuses Add Tail self.old e) }
         ensures end { (result ≡ Err Refusal.CounterEnd) ↔ (tail_count self.old ≡ 2 ^ 62) }
         ensures unchanged { OnErr result (self.new ≡ self.old) }
@@ -107,6 +147,53 @@ impl<const R: usize> Segment<R> {
         let old = (self.closed, self.tail);
         self.tail += 1;
         Ok(old)
+    }
+
+    /// Test-and-set of the closed bit: answers the old bit.
+    pub fn close(&mut self) -> bool
+        ensures { Performs Close Tail (TailIs result (tail_count self.old))
+            (record { answer = WasClosed result; writes = Some (TailIs true (tail_count self.old)) }) self.old self.new }
+    {
+        let old = self.closed;
+        self.closed = true;
+        old
+    }
+
+    /// Compare-and-swap of the tail, from open at one count to open at another: answers whether it won.
+    pub fn cas_tail(&mut self, old: u64, new: u64) -> bool
+        requires { new ≤ 2 ^ 62 }
+        ensures { (c : Content) → part self.old (Tail root) ≡ Some c
+            → Performs (CasTail old new) Tail c (swapped result (TailIs false new)) self.old self.new }
+    {
+        let won = !self.closed && self.tail == old;
+        if won {
+            self.tail = new;
+        }
+        won
+    }
+
+    /// Compare-and-swap of the next, from none: answers whether it won.
+    pub fn cas_next(&mut self, new: SegName) -> bool
+        ensures { (c : Content) → part self.old (Next root) ≡ Some c
+            → Performs (CasNext new) Next c (swapped result (NextIs (Some new))) self.old self.new }
+    {
+        let won = self.next.is_none();
+        if won {
+            self.next = Some(new);
+        }
+        won
+    }
+
+    /// Compare-and-swap of a whole cell: answers whether it won.
+    pub fn cas2_cell(&mut self, i: u8, old: Cell, new: Cell) -> bool
+        requires { i < R }
+        ensures { (c : Content) → part self.old (CellAt root i) ≡ Some c
+            → Performs (Cas2 old new) (λ s. CellAt s i) c (swapped result (CellIs new)) self.old self.new }
+    {
+        let mut cell = self.cells[usize::from(i)];
+        let won = cell.cas2(old, new);
+        self.cells[usize::from(i)] = cell;
+        won
     }
 
     /// The inverse of what writes the head: the counter becomes the one from before.

@@ -1,1 +1,4 @@
-pub mod SpaceLemmas
+pub mod ListsLemmas
+pub mod EndsLemmas
+pub mod FieldsLemmas
+pub mod CountLemmas

@@ -1,1 +1,4 @@
+pub mod Lists
+pub mod Ends
+pub mod Fields
 pub mod Space

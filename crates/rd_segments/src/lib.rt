@@ -1,10 +1,14 @@
-//! The space of the queue: its segments, and the names at its head and its tail.
+//! The space of the queue: its segments by their makers, and the names at its head and its tail.
 //!
 //! The crates above see it as one map from places to contents.
 #![tactic(auto)]
 
+mod ends;
+mod lists;
+mod makers;
 pub mod space;
-#[cfg(test)]
-mod tests;
 
 pub use space::Space;
+
+#[cfg(test)]
+mod tests;

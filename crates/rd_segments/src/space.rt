@@ -1,35 +1,51 @@
 //! The space and what is done to it.
 
-ghost use Rattle.std.specs.Prelude.{◌≡◌, ◌≤◌, true, Some, Err, is_some, IsTrue, IfOk, IfErr, OnErr};
-ghost use Rattle.rd_cell.specs.declared.places.Place.TheVariants.{Tail};
-ghost use Rattle.rd_cell.specs.declared.access.Operation.TheVariants.{Add};
-ghost use Rattle.rd_cell.specs.declared.access.Answer.TheVariants.{Found};
-ghost use Rattle.rd_cell.specs.Place.{root};
-ghost use Rattle.rd_cell.specs.Content.{shown, with_content, may_have};
-ghost use Rattle.rd_cell.specs.Access.{operate, Operates};
-ghost use Rattle.rd_segments.specs.Space.{contents, fresh_space};
+ghost use Rattle.std.specs.Prelude.{◌≡◌, ◌+◌, ◌-◌, ◌<◌, ◌≤◌, ℕ, suc, true, is_ok, is_some, Err, IsTrue, IfOk, IfErr, OnOk, OnErr};
+ghost use Rattle.rd_cell.specs.Content.{shown, with_content, without_segment, may_have};
+ghost use Rattle.rd_cell.specs.Effect.{suits_segments};
+ghost use Rattle.rd_cell.specs.Access.{operate, Operates, Makes};
+ghost use Rattle.rd_segments.specs.Lists.{named, part_of, count, spare, uses, Changes, OperatesIn, RestoresIn};
+ghost use Rattle.rd_segments.specs.Fields.{contents_of, fresh_space};
 
-use rd_cell::{Answer, Content, Done, Operation, Place, Refusal, SegName};
+use super::ends::operate_on_name;
+use super::lists::{find, make_in, make_room_in, operate_in, restore_in, unmake_in};
+use super::makers::first_lists;
+use rd_cell::{Content, Done, Operation, Place, Refusal, SegName};
 use rd_ring::Segment;
+use std::alloc::Global;
 
-/// The places of the queue. So far the root is the one segment.
-#[derive(Debug, Drop)]
+/// The places of the queue: the segments, by their makers, and the names at the queue's two ends.
+#[derive(Drop)]
 pub struct Space<const R: usize> {
-    root: Segment<R>,
+    makers: Vec<Vec<Segment<R>>>,
     qhead: SegName,
     qtail: SegName,
+    ghost positive: { 1 ≤ R },
+    ghost small: { R ≤ 64 },
 }
 
 impl<const R: usize> Space<R> {
-    /// A fresh space: the root is fresh, and the queue's head and tail name it.
-    pub fn fresh() -> Self
-        requires { R ≤ 64 }
-        ensures { contents result ≡ fresh_space R }
+    ghost use Rattle.rd_segments.specs.Space.{contents, lists, made_by, room, RefusesMake};
+
+    /// A fresh space for so many actors: the root is there, fresh, and the queue's two ends name it.
+    ///
+    /// # Errors
+    ///
+    /// `NoMemory` where the room for the makers' lists was refused.
+    pub fn fresh(alloc: Global, actors: u8) -> Result<Space<R>, Refusal>
+        requires positive { 1 ≤ R }
+        requires small { R ≤ 64 }
+        ensures ok { IfOk result (λ space. contents space ≡ fresh_space R) }
+        ensures number { IfOk result (λ space. lists space ≡ suc actors) }
+        ensures err { IfErr result (λ e. e ≡ Refusal.NoMemory) }
     {
-        Space {
-            root: Segment::fresh(),
-            qhead: SegName::ROOT,
-            qtail: SegName::ROOT,
+        match first_lists(alloc, actors) {
+            Err(refusal) => Err(refusal),
+            Ok(makers) => Ok(Space {
+                makers,
+                qhead: SegName::ROOT,
+                qtail: SegName::ROOT,
+            }),
         }
     }
 
@@ -40,64 +56,105 @@ impl<const R: usize> Space<R> {
         match place {
             Place::QHead => Some(Content::Name(self.qhead)),
             Place::QTail => Some(Content::Name(self.qtail)),
-            Place::Whole(SegName::ROOT) => Some(Content::Whole),
-            Place::Head(SegName::ROOT)
-            | Place::Tail(SegName::ROOT)
-            | Place::Next(SegName::ROOT)
-            | Place::Cell(SegName::ROOT, _) => self.root.content(place),
-            _ => None,
+            Place::Whole(name) => match find(&self.makers, name) {
+                None => None,
+                Some(_) => Some(Content::Whole),
+            },
+            Place::Head(name) | Place::Tail(name) | Place::Next(name) | Place::Cell(name, _) => {
+                match find(&self.makers, name) {
+                    None => None,
+                    Some(segment) => segment.content(place),
+                }
+            }
+            Place::ArrHead | Place::ArrTail | Place::ArrCell(_) => None,
         }
     }
 
-    /// Does an operation at a place: so far, the fetch-and-add on the root's tail.
+    /// Does an operation at a place.
     ///
     /// # Errors
     ///
-    /// `CounterEnd` exactly where the counter is 2^62; the space is then as before.
+    /// `CounterEnd` for a fetch-and-add on a counter that is 2^62; `NoSuchPlace` where there is no such place, or a
+    /// content of another kind, for which no actor asks. The space is then as before.
     pub fn operate(&mut self, place: Place, operation: Operation) -> Result<Done, Refusal>
-        requires tail { place ≡ Tail root }
-        requires adds { operation ≡ Add }
+        requires { IsTrue (suits_segments operation) }
         ensures ok { IfOk result (λ done. Operates place operation (contents self.old) (contents self.new) done) }
         ensures err { IfErr result (λ e. operate place operation (contents self.old place) ≡ Err e) }
-        ensures unchanged { OnErr result (self.new ≡ self.old) }
+        ensures unchanged { OnErr result (contents self.new ≡ contents self.old) }
+        ensures kept { (m : ℕ) → room self.new m ≡ room self.old m }
+        ensures number { lists self.new ≡ lists self.old }
     {
-        match (place, operation) {
-            (Place::Tail(_), Operation::Add) => match self.root.add_tail() {
-                Err(refusal) => Err(refusal),
-                Ok((closed, count)) => Ok(wrote(place, Content::Tail { closed, count })),
+        match place.segment() {
+            Some(name) => {
+                if find(&self.makers, name).is_none() {
+                    return Err(Refusal::NoSuchPlace);
+                }
+                operate_in(&mut self.makers, name, place, operation)
+            }
+            None => match place {
+                Place::QHead => operate_on_name(&mut self.qhead, place, operation),
+                Place::QTail => operate_on_name(&mut self.qtail, place, operation),
+                _ => Err(Refusal::NoSuchPlace),
             },
-            _ => unreachable!(),
         }
+    }
+
+    /// Makes the maker's next segment, which holds this value.
+    ///
+    /// # Errors
+    ///
+    /// `SegmentsEnd` exactly where the maker has made 65,535; else `NoMemory` where the growth was refused, which it
+    /// is not where the maker has room. The space is then as before.
+    pub fn make(&mut self, maker: u8, value: u64) -> Result<SegName, Refusal>
+        requires { maker < lists self.old }
+        ensures ok { IfOk result (λ name. Makes R maker (made_by self.old maker) value name (contents self.old) (contents self.new)) }
+        ensures err { IfErr result (λ e. RefusesMake self.old maker e) }
+        ensures unchanged { OnErr result (contents self.new ≡ contents self.old) }
+        ensures used { (m : ℕ) → room self.old m ≤ room self.new m + uses (is_ok result) maker m }
+        ensures number { lists self.new ≡ lists self.old }
+    {
+        make_in(&mut self.makers, maker, value)
+    }
+
+    /// Takes the maker's last segment away, and gives its room back.
+    pub fn unmake(&mut self, maker: u8)
+        requires { 0 < made_by self.old maker }
+        ensures gone { contents self.new ≡ without_segment (record { maker = maker; n = made_by self.old maker - 1 }) (contents self.old) }
+        ensures given { (m : ℕ) → room self.new m ≡ room self.old m + uses true maker m }
+        ensures number { lists self.new ≡ lists self.old }
+    {
+        unmake_in(&mut self.makers, maker);
     }
 
     /// Puts the content from before back at a place that is there.
     pub fn restore(&mut self, place: Place, content: Content)
         requires there { IsTrue (is_some (contents self.old place)) }
         requires kind { IsTrue (may_have place content) }
-        ensures { contents self.new ≡ with_content place content (contents self.old) }
+        ensures done { contents self.new ≡ with_content place content (contents self.old) }
+        ensures kept { (m : ℕ) → room self.new m ≡ room self.old m }
+        ensures number { lists self.new ≡ lists self.old }
     {
-        match (place, content) {
-            (Place::QHead, Content::Name(name)) => self.qhead = name,
-            (Place::QTail, Content::Name(name)) => self.qtail = name,
-            (Place::Head(_), Content::Number(count)) => self.root.restore_head(count),
-            (Place::Tail(_), Content::Tail { closed, count }) => self
-                .root
-                .restore_tail(closed, count),
-            (Place::Next(_), Content::Next(next)) => self.root.restore_next(next),
-            (Place::Cell(_, i), Content::Cell(cell)) => self.root.restore_cell(i, cell),
+        match (place.segment(), place, content) {
+            (Some(name), _, _) => restore_in(&mut self.makers, name, place, content),
+            (None, Place::QHead, Content::Name(name)) => self.qhead = name,
+            (None, Place::QTail, Content::Name(name)) => self.qtail = name,
             _ => unreachable!(),
         }
     }
-}
 
-/// What a fetch-and-add or a swap did that found this content.
-fn wrote(place: Place, found: Content) -> Done
-    ensures { result ≡ record { place = Some place; old = Some found; answer = Found found; wrote = true } }
-{
-    Done {
-        place: Some(place),
-        old: Some(found),
-        answer: Answer::Found(found),
-        wrote: true,
+    /// Gives a maker room for so many makings, which are then not refused for memory.
+    ///
+    /// # Errors
+    ///
+    /// `NoMemory` where the growth was refused. No place changes.
+    pub fn make_room(&mut self, maker: u8, more: usize) -> Result<(), Refusal>
+        requires { maker < lists self.old }
+        ensures ok { OnOk result (more ≤ room self.new maker) }
+        ensures err { IfErr result (λ e. (e ≡ Refusal.NoMemory) × (room self.old maker < more)) }
+        ensures unchanged { contents self.new ≡ contents self.old }
+        ensures kept { (m : ℕ) → room self.old m ≤ room self.new m }
+        ensures number { lists self.new ≡ lists self.old }
+    {
+        make_room_in(&mut self.makers, maker, more)
     }
 }

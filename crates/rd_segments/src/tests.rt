@@ -2,13 +2,14 @@
 
 use super::space::Space;
 use rd_cell::{Answer, Cell, Content, Done, Operation, Place, Refusal, SegName};
+use std::test::Fail;
 
 /// A segment that nobody has made.
 const UNMADE: SegName = SegName { maker: 1, n: 0 };
 
 #[test]
-fn a_fresh_space_has_the_root_alone(rt: HostRuntime) {
-    let space = Space::<4>::fresh();
+fn a_fresh_space_has_the_root_alone(rt: HostRuntime) -> Result<(), Fail> {
+    let space = Space::<4>::fresh(rt.alloc(), 2)?;
     let root = SegName::ROOT;
     assert_eq!(rt; space.content(Place::QHead), Some(Content::Name(root)));
     assert_eq!(rt; space.content(Place::QTail), Some(Content::Name(root)));
@@ -19,11 +20,12 @@ fn a_fresh_space_has_the_root_alone(rt: HostRuntime) {
     assert_eq!(rt; space.content(Place::Whole(UNMADE)), None);
     assert_eq!(rt; space.content(Place::Tail(UNMADE)), None);
     assert_eq!(rt; space.content(Place::ArrHead), None);
+    Ok(())
 }
 
 #[test]
-fn an_add_says_what_it_found_and_is_put_back(rt: HostRuntime) {
-    let mut space = Space::<4>::fresh();
+fn an_add_says_what_it_found(rt: HostRuntime) -> Result<(), Fail> {
+    let mut space = Space::<4>::fresh(rt.alloc(), 2)?;
     let tail = Place::Tail(SegName::ROOT);
     let before = Content::Tail {
         closed: false,
@@ -41,48 +43,44 @@ fn an_add_says_what_it_found_and_is_put_back(rt: HostRuntime) {
     };
     assert_eq!(rt; space.operate(tail, Operation::Add), Ok(done));
     assert_eq!(rt; space.content(tail), Some(after));
-    space.restore(tail, before);
-    assert_eq!(rt; space.content(tail), Some(before));
-}
-
-#[test]
-fn an_add_at_the_end_is_refused_and_changes_nothing(rt: HostRuntime) {
-    let mut space = Space::<4>::fresh();
-    let tail = Place::Tail(SegName::ROOT);
-    let end = Content::Tail {
-        closed: false,
-        count: 4611686018427387904,
-    };
-    space.restore(tail, end);
     assert_eq!(rt;
-        space.operate(tail, Operation::Add),
-        Err(Refusal::CounterEnd)
+        space.operate(Place::Tail(UNMADE), Operation::Add),
+        Err(Refusal::NoSuchPlace)
     );
-    assert_eq!(rt; space.content(tail), Some(end));
+    Ok(())
 }
 
 #[test]
-fn each_kind_of_place_is_put_back(rt: HostRuntime) {
-    let mut space = Space::<4>::fresh();
-    let root = SegName::ROOT;
-    let cell = Cell {
-        safe: false,
-        idx: 4,
-        val: Some(7),
+fn each_maker_counts_its_own_segments(rt: HostRuntime) -> Result<(), Fail> {
+    let mut space = Space::<4>::fresh(rt.alloc(), 2)?;
+    let second = SegName { maker: 2, n: 0 };
+    assert_eq!(rt; space.make(2, 9)?, second);
+    assert_eq!(rt; space.make(1, 7)?, UNMADE);
+    assert_eq!(rt; space.make(1, 8)?, SegName { maker: 1, n: 1 });
+    let held = Cell {
+        safe: true,
+        idx: 0,
+        val: Some(9),
     };
+    assert_eq!(rt;
+        space.content(Place::Cell(second, 0)),
+        Some(Content::Cell(held))
+    );
+    assert_eq!(rt; space.content(Place::Whole(second)), Some(Content::Whole));
+    let tail = Content::Tail {
+        closed: false,
+        count: 1,
+    };
+    assert_eq!(rt; space.content(Place::Tail(second)), Some(tail));
+    Ok(())
+}
+
+#[test]
+fn an_end_of_the_queue_is_put_back(rt: HostRuntime) -> Result<(), Fail> {
+    let mut space = Space::<4>::fresh(rt.alloc(), 2)?;
+    let root = SegName::ROOT;
     space.restore(Place::QHead, Content::Name(UNMADE));
-    space.restore(Place::Head(root), Content::Number(3));
-    space.restore(Place::Next(root), Content::Next(Some(UNMADE)));
-    space.restore(Place::Cell(root, 0), Content::Cell(cell));
     assert_eq!(rt; space.content(Place::QHead), Some(Content::Name(UNMADE)));
     assert_eq!(rt; space.content(Place::QTail), Some(Content::Name(root)));
-    assert_eq!(rt; space.content(Place::Head(root)), Some(Content::Number(3)));
-    assert_eq!(rt;
-        space.content(Place::Next(root)),
-        Some(Content::Next(Some(UNMADE)))
-    );
-    assert_eq!(rt;
-        space.content(Place::Cell(root, 0)),
-        Some(Content::Cell(cell))
-    );
+    Ok(())
 }

@@ -65,12 +65,12 @@ made_from-absent (suc more) at m n h =
           ap (λ (j : ℕ). is_there at (record { maker = m; n = j })) k ∙ e
     ]
 
-made-absent : (at : Contents) (m : ℕ) → made at m < 65535 → is_there at (record { maker = m; n = made at m }) ≡ false
+pub made-absent : (at : Contents) (m : ℕ) → made at m < 65535 → is_there at (record { maker = m; n = made at m }) ≡ false
 unfolding made
 made-absent at m h = made_from-absent 65535 at m 0 h
 
 -- a place of a segment that is not there has nothing
-absent_place : (R : ℕ) (there : Presence) (s : SegName) (q : Place) → there s ≡ false → is_of s q ≡ true → belongs R there q ≡ false
+pub absent_place : (R : ℕ) (there : Presence) (s : SegName) (q : Place) → there s ≡ false → is_of s q ≡ true → belongs R there q ≡ false
 absent_place R there s (Head t) h e = subst (λ (x : SegName). there x ≡ false) (is_name-true s t e) h
 absent_place R there s (Tail t) h e = subst (λ (x : SegName). there x ≡ false) (is_name-true s t e) h
 absent_place R there s (Next t) h e = subst (λ (x : SegName). there x ≡ false) (is_name-true s t e) h

@@ -1,8 +1,14 @@
 pub mod Steps
 pub mod Commute
+pub mod Fits
+pub mod Effects
+pub mod Rows
+pub mod Making
 pub mod Inverse
 pub mod Keeps
-pub mod Actors
-pub mod WorldLemmas
-pub mod Starts
+pub mod PutBack
 pub mod Removal
+pub mod Actors
+pub mod Starts
+pub mod WorldLemmas
+pub mod Room

@@ -1,30 +1,24 @@
 -- A step on which no later one depends may be taken out of a run, and go last.
-use Rattle.std.proofs.Common.{◌≡◌, ℕ, ◌+◌, ◌==◌, nat_le, Bool, true, false, refl, sym, ◌∙◌, ap, subst, List, [], ◌∷◌, Option, Some, None, is_some, Result, Ok, Err, IfOk, le-leb, arith, ◌^◌, ◌<◌, ◌≤◌}
-use Rattle.std.proofs.lemmas.Result.{IfOk-at_ok}
-use Rattle.std.proofs.lemmas.Bool.{cond_both}
-use Rattle.rd_cell.specs.declared.places.SegName.{SegName}
+use Rattle.std.proofs.Common.{◌≡◌, ℕ, true, ◌==◌, ◌&&◌, ◌||◌, refl, sym, ◌∙◌, ap, subst, List, [], ◌∷◌, Option, Some, is_some, Ok}
+use Rattle.std.proofs.lemmas.Bool.{cond_both, or_parts}
 use Rattle.rd_cell.specs.declared.places.Place.{Place}
-use Rattle.rd_cell.specs.declared.places.Place.TheVariants.{Tail}
-use Rattle.rd_cell.specs.declared.contents.Content.{Content}
-use Rattle.rd_cell.specs.declared.contents.Content.TheVariants.{Tail as TailIs}
-use Rattle.rd_cell.specs.declared.access.Operation.TheVariants.{Add}
-use Rattle.rd_cell.specs.Content.{Contents}
-use Rattle.rd_cell.specs.Access.{Performed, left_by, put, operate, perform}
-use Rattle.rd_cell.proofs.AccessLemmas.{put-is_some}
+use Rattle.rd_cell.specs.Content.{is_there}
+use Rattle.rd_cell.specs.Access.{meet}
 use Rattle.rd_actor.specs.declared.actors.Actor.{Actor}
 use Rattle.rd_actor.specs.Table.{after}
 use Rattle.rd_actor.specs.World.{World}
 use Rattle.rd_step.specs.declared.entries.Event.{Event}
 use Rattle.rd_step.specs.declared.entries.Entry.{Entry}
-use Rattle.rd_step.specs.Step.{Stepped, finished, step, unstepped, with_actor, CanPutBack}
+use Rattle.rd_step.specs.Step.{Stepped, step, unstepped, CanPutBack}
 use Rattle.rd_step.specs.Run.{Ran, run}
-use Rattle.rd_step.specs.Dependence.{depends, IsFree}
+use Rattle.rd_step.specs.Dependence.{IsFree}
 use Rattle.rd_step.specs.Laws.{Swapped, Removed, WasStepped, IsTakenOut}
 use Rattle.rd_step.specs.WellFormed.{IsWellFormed}
-use Rattle.rd_step.proofs.Steps.{Took, took, with_actor-same, with_actor-other}
+use Rattle.rd_step.proofs.Steps.{took, with_actor-same}
 use Rattle.rd_step.proofs.Commute.{commutes}
-use Rattle.rd_step.proofs.Keeps.{keeps, asks_for_tail, added_to_tail, tail_added}
-use Rattle.rd_step.proofs.Inverse.{undoes, RanOn, ran_on, run-cons}
+use Rattle.rd_step.proofs.Keeps.{keeps}
+use Rattle.rd_step.proofs.Inverse.{undoes, ran_on, run-cons}
+use Rattle.rd_step.proofs.PutBack.{stays_at, others_stay, entry_can}
 
 -- the last step of a run taken out
 last_removed : (R : ℕ) (w : World) (e : Event) (s : Stepped) → IsWellFormed R w → step R w e ≡ Ok s
@@ -77,21 +71,7 @@ run_keeps R w (e ∷ es) r formed h =
     let p : ran.rest.world ≡ r.world = ap (λ (x : Ran). x.world) ran.joins in
     subst (λ (v : World). IsWellFormed R v) p (run_keeps R ran.one.world es ran.rest (keeps R w e ran.one formed ran.goes) ran.goes_on)
 
--- a step takes nothing away
-stays_at : (R : ℕ) (w : World) (e : Event) (s : Stepped) (q : Place) → IsWellFormed R w → step R w e ≡ Ok s → is_some (w.at q) ≡ true
-    → is_some (s.world.at q) ≡ true
-stays_at R w e s q formed h there =
-    let t = took R w e s h in
-    let asked = asks_for_tail R t.a e.act t.access t.needs in
-    let performed : operate (Tail t.a.crq) Add (w.at (Tail t.a.crq)) ≡ Ok t.did = ap (perform R e.actor w.at) (sym asked.asks) ∙ t.does in
-    let added = added_to_tail R w t.a.crq t.did formed performed in
-    let same : is_some (put (Tail t.a.crq) (Some (TailIs added.closed (added.count + 1))) q (w.at q)) ≡ is_some (w.at q) =
-    put-is_some (Tail t.a.crq) (TailIs added.closed added.count) (Some (TailIs added.closed (added.count + 1))) w.at q added.found in
-    let left : is_some (left_by t.did w.at q) ≡ true =
-    subst (λ (d : Performed). is_some (left_by d w.at q) ≡ true) added.did_so (same ∙ there) in
-    subst (λ (x : Stepped). is_some (x.world.at q) ≡ true) t.ends left
-
--- nor an actor
+-- a step takes no actor away
 stays_actor : (R : ℕ) (w : World) (e : Event) (s : Stepped) (n : ℕ) → step R w e ≡ Ok s → is_some (w.actor n) ≡ true
     → is_some (s.world.actor n) ≡ true
 stays_actor R w e s n h there =
@@ -118,6 +98,21 @@ run_stays_actor R w (e ∷ es) r n h there =
     subst (λ (v : World). is_some (v.actor n) ≡ true) p
     (run_stays_actor R ran.one.world es ran.rest n ran.goes_on (stays_actor R w e ran.one n ran.goes there))
 
+-- steps that do not depend on x keep which segments of its actor are there
+run_others : (R : ℕ) (w : World) (es : List Event) (r : Ran) (x : Entry) (k : ℕ) → run R w es ≡ Ok r → IsFree x r.entries
+    → is_there r.world.at (record { maker = x.event.actor; n = k }) ≡ is_there w.at (record { maker = x.event.actor; n = k })
+run_others R w [] r x k h free =
+    let p : w ≡ r.world = cc in
+    ap (λ (v : World). is_there v.at (record { maker = x.event.actor; n = k })) (sym p)
+run_others R w (e ∷ es) r x k h free =
+    let ran = ran_on R w e es r h in
+    let p : ran.rest.world ≡ r.world = ap (λ (y : Ran). y.world) ran.joins in
+    let parts : IsFree x (ran.one.entry ∷ ran.rest.entries) = subst (λ (y : Ran). IsFree x y.entries) (sym ran.joins) free in
+    let other = or_parts (x.event.actor == ran.one.entry.event.actor) (meet x.place ran.one.entry.place && (x.wrote || ran.one.entry.wrote)) parts.0 in
+    ap (λ (v : World). is_there v.at (record { maker = x.event.actor; n = k })) (sym p)
+    ∙ run_others R ran.one.world es ran.rest x k ran.goes_on parts.1
+    ∙ others_stay R w e ran.one x.event.actor k ran.goes other.0
+
 -- Undoing
 
 -- the actor of a step is there after it
@@ -127,19 +122,6 @@ entry_actor R w e s h =
     let next = after R t.a e.act t.did.done.answer in
     subst (λ (x : Stepped). is_some (x.world.actor x.entry.event.actor) ≡ true) t.ends
     (ap is_some (with_actor-same e.actor next.0 w.actor))
-
--- what a step's entry keeps may be put back wherever the places are there that were there after it
-entry_can : (R : ℕ) (w : World) (e : Event) (s : Stepped) (at : Contents) → IsWellFormed R w → step R w e ≡ Ok s
-    → ((q : Place) → is_some (s.world.at q) ≡ true → is_some (at q) ≡ true) → CanPutBack at s.entry.place s.entry.old_content
-entry_can R w e s at formed h there =
-    let t = took R w e s h in
-    let asked = asks_for_tail R t.a e.act t.access t.needs in
-    let performed : operate (Tail t.a.crq) Add (w.at (Tail t.a.crq)) ≡ Ok t.did = ap (perform R e.actor w.at) (sym asked.asks) ∙ t.does in
-    let added = added_to_tail R w t.a.crq t.did formed performed in
-    let here : is_some (at (Tail t.a.crq)) ≡ true = there (Tail t.a.crq) (stays_at R w e s (Tail t.a.crq) formed h (ap is_some added.found)) in
-    let may : nat_le added.count (2 ^ 62) ≡ true = le-leb added.count (2 ^ 62) (omega arith) in
-    subst (λ (x : Stepped). CanPutBack at x.entry.place x.entry.old_content) t.ends
-    (subst (λ (d : Performed). CanPutBack at d.done.place d.done.old) added.did_so (here, may))
 
 -- what `revert` asks for holds where an entry's step may be undone, and what is left is the run of the later steps
 pub record CanUndo (R : ℕ) (now : World) (x : Entry) : Type 0 where
@@ -153,7 +135,9 @@ can_undo_ran R w e s es r formed h k free =
     let formed' = keeps R w e s formed h in
     record {
       actor_there = run_stays_actor R s.world es r s.entry.event.actor k (entry_actor R w e s h);
-      place_there = entry_can R w e s r.world.at formed h (λ q there. run_stays_at R s.world es r q formed' k there);
+      place_there =
+          entry_can R w e s r.world.at formed h (λ q there. run_stays_at R s.world es r q formed' k there)
+          (λ n. run_others R s.world es r s.entry n k free);
       formed = (removes R w e s es r formed h k free).well_formed;
     }
 

@@ -12,7 +12,8 @@ use Rattle.rd_cell.specs.Place.{root, is_name}
 use Rattle.rd_cell.specs.Content.{Contents, is_there, new_cell}
 use Rattle.rd_cell.proofs.PlaceLemmas.{is_name-true}
 use Rattle.rd_segments.specs.declared.space.Space.{Space}
-use Rattle.rd_segments.specs.Space.{contents, fresh_space}
+use Rattle.rd_segments.specs.Fields.{fresh_space}
+use Rattle.rd_segments.specs.Space.{contents}
 use Rattle.rd_actor.specs.declared.actors.Actor.{Actor}
 use Rattle.rd_actor.specs.Actor.{idle, poised}
 use Rattle.rd_actor.specs.World.{World}

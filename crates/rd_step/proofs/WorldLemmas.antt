@@ -1,50 +1,116 @@
 -- The code's world, as the model's.
-use Rattle.std.proofs.Common.{◌≡◌, ◌≢◌, ℕ, zero, suc, ◌+◌, ◌-◌, ◌^◌, ◌<◌, ◌≤◌, ◌↔◌, Bool, true, false, not, ◌==◌, ◌&&◌, cond, if◌then◌else◌, nat_lt, nat_le, ◌⊎◌, inl, inr, refl, sym, ◌∙◌, ap, ap₂, subst, arith, List, [], ◌∷◌, length, set, slice_get, Vec, Global, Option, Some, None, is_some, IsSome, IfOk, OnErr, MatchResult, Result, Ok, Err}
-use Rattle.std.proofs.lemmas.Bool.{cases_Bool, cases_lt, cond-true, cond-false, cond_both, and_parts, and_from}
-use Rattle.std.proofs.lemmas.Option.{slice_get_within, slice_get-get_or, slice_get_past}
+use Rattle.std.proofs.Common.{◌≡◌, ◌≢◌, ℕ, zero, suc, ◌+◌, ◌-◌, ◌^◌, ◌<◌, ◌≤◌, ◌↔◌, Bool, true, false, ◌==◌, ◌&&◌, if◌then◌else◌, nat_lt, nat_le, ◌⊎◌, inl, inr, refl, sym, ◌∙◌, ap, subst, arith, List, [], ◌∷◌, length, set, slice_get, Option, Some, None, is_some, IsSome, IsTrue, IfOk, IfErr, OnErr, Result, Ok, Err, lt-ltb, le-ltb, leb-true, ltb-true, ne_eqb}
+use Rattle.std.proofs.lemmas.Bool.{cases_lt, cond-true, cond-false, and_parts}
 use mathlib.Core.Path.{fun_ext}
 use Rattle.rd_cell.specs.declared.places.SegName.{SegName}
 use Rattle.rd_cell.specs.declared.places.Place.{Place}
-use Rattle.rd_cell.specs.declared.places.Place.TheVariants.{Tail, Head}
-use Rattle.rd_cell.specs.declared.contents.Content.TheVariants.{Number}
+use Rattle.rd_cell.specs.declared.places.Place.TheVariants.{Head, Whole}
 use Rattle.rd_cell.specs.declared.access.Access.{Access}
-use Rattle.rd_cell.specs.declared.access.Access.TheVariants.{At}
+use Rattle.rd_cell.specs.declared.access.Access.TheVariants.{NoPlace, At, Make}
+use Rattle.rd_cell.specs.declared.access.Answer.TheVariants.{Made}
 use Rattle.rd_cell.specs.declared.access.Operation.{Operation}
-use Rattle.rd_cell.specs.declared.access.Operation.TheVariants.{Add}
+use Rattle.rd_cell.specs.declared.access.Operation.TheVariants.{Read, ReadValue, ReadTurn, Add, AddArray, Close, CasName, CasNext, CasTail, Cas2, Swap}
 use Rattle.rd_cell.specs.declared.access.Done.{Done}
 use Rattle.rd_cell.specs.declared.refusal.Refusal.{Refusal}
-use Rattle.rd_cell.specs.Place.{root, is_name}
-use Rattle.rd_cell.specs.Content.{Contents, is_there}
-use Rattle.rd_cell.specs.Access.{Performed, left_by, perform, Operates, Accesses}
-use Rattle.rd_cell.proofs.PlaceLemmas.{is_name-true}
-use Rattle.rd_ring.specs.Segment.{part}
+use Rattle.rd_cell.specs.declared.refusal.Refusal.TheVariants.{SegmentsEnd, NoMemory}
+use Rattle.rd_cell.specs.Content.{Contents, is_there, holding, without_segment}
+use Rattle.rd_cell.specs.Effect.{suits_segments}
+use Rattle.rd_cell.specs.Access.{Performed, lay, left_by, made, nothing_done, make, perform, Operates, Makes, Accesses}
 use Rattle.rd_segments.specs.declared.space.Space.{Space}
-use Rattle.rd_segments.specs.Space.{contents}
+use Rattle.rd_segments.specs.Space.{contents, made_by, room, lists, RefusesMake}
+use Rattle.rd_segments.proofs.CountLemmas.{counts, there_below, absent_from}
+use Rattle.rd_actor.specs.declared.actors.Act.{Act}
 use Rattle.rd_actor.specs.declared.actors.Actor.{Actor}
 use Rattle.rd_actor.specs.declared.actors.OpReply.{OpReply}
 use Rattle.rd_actor.specs.Table.{need, after}
-use Rattle.rd_actor.specs.Words.{words_fit}
 use Rattle.rd_actor.specs.World.{World}
 use Rattle.rd_step.specs.declared.entries.Event.{Event}
 use Rattle.rd_step.specs.declared.entries.Entry.{Entry}
-use Rattle.rd_step.specs.Step.{Stepped, with_actor, finished, step}
-use Rattle.rd_step.specs.Machine.{actor_at, machine_of}
-use Rattle.rd_step.specs.WellFormed.{actor_fits, record_fits, names_fit, numbers_fit, IsWellFormed}
-use Rattle.rd_step.proofs.Steps.{step_of, step_refused}
+use Rattle.rd_step.specs.Step.{Stepped, with_actor, finished, step, put_back, IsLast}
+use Rattle.rd_step.specs.Machine.{actor_at, machine_of, suits, makes, needs_making, actor_makes, makes_segment}
+use Rattle.rd_step.specs.WellFormed.{Presence, actor_fits, record_fits, maker_fits, acting, IsWellFormed}
+use Rattle.rd_step.proofs.Steps.{step_of, step_refused, step_not_needed}
 use Rattle.rd_step.proofs.Actors.{actor_at-set, actor_at-within}
-use Rattle.rd_step.proofs.Keeps.{asks_for_tail, keeps}
+use Rattle.rd_step.proofs.Fits.{PartsFit, parts_of, op_fits, access_fits, need_fits}
+use Rattle.rd_step.proofs.Keeps.{keeps}
+use Rattle.std.proofs.lemmas.Result.{IfOk-at_ok}
 
 -- Accesses
 
--- an operation at a place is an access there
-operates_access : (R : ℕ) (old new : Contents) (p : Place) (op : Operation) (done : Done) → Operates p op old new done
-    → Accesses R (At p op) old new done
-operates_access R old new p op done o = record { performed = o.performed; does = λ actor. o.does; notes = o.notes; leaves = o.leaves }
+pub no_access : (R actor : ℕ) (at : Contents) (x : Access) (done : Done) → x ≡ NoPlace → done ≡ nothing_done.done → Accesses R actor x at at done
+no_access R actor at x done is notes = record {
+  performed = nothing_done;
+  does = ap (perform R actor at) is;
+  notes = sym notes;
+  leaves = refl;
+}
 
-pub operates_accesses : (R : ℕ) (old new : Contents) (p : Place) (op : Operation) {x : Access} → x ≡ At p op → (r : Result Done Refusal)
-    → IfOk r (λ done. Operates p op old new done) → IfOk r (λ done. Accesses R x old new done)
-operates_accesses R old new p op is (Err e) h = tt
-operates_accesses R old new p op is (Ok done) h = subst (λ (y : Access). Accesses R y old new done) (sym is) (operates_access R old new p op done h)
+-- an operation at a place is an access there
+operates_access : (R actor : ℕ) (old new : Contents) (p : Place) (op : Operation) (done : Done) → Operates p op old new done
+    → Accesses R actor (At p op) old new done
+operates_access R actor old new p op done o = record { performed = o.performed; does = o.does; notes = o.notes; leaves = o.leaves }
+
+pub operates_accesses : (R actor : ℕ) (old new : Contents) (p : Place) (op : Operation) {x : Access} → x ≡ At p op → (r : Result Done Refusal)
+    → IfOk r (λ done. Operates p op old new done) → IfOk r (λ done. Accesses R actor x old new done)
+operates_accesses R actor old new p op is (Err e) h = tt
+operates_accesses R actor old new p op is (Ok done) h =
+    subst (λ (y : Access). Accesses R actor y old new done) (sym is) (operates_access R actor old new p op done h)
+
+-- what a making does
+abbrev making : ℕ → SegName → ℕ → Performed
+making R s x = record {
+  done = record { place = Some (Whole s); old = None; answer = Made s; wrote = true };
+  leaves = lay s (holding R x);
+}
+
+made_in : {R : ℕ} (space : Space R) (m : ℕ) → made_by space m ≤ 65535 → made (contents space) m ≡ made_by space m
+made_in space m few = counts space.makers.items space.qhead space.qtail m few
+
+pub makes_access : {R : ℕ} (old : Space R) (new : Contents) (actor x : ℕ) (name : SegName) (done : Done) → made_by old actor ≤ 65535
+    → Makes R actor (made_by old actor) x name (contents old) new
+    → done ≡ record { place = Some (Whole name); old = None; answer = Made name; wrote = true }
+    → Accesses R actor (Make x) (contents old) new done
+makes_access {R} old new actor x name done few m notes =
+    let s : SegName = record { maker = actor; n = made (contents old) actor } in
+    let e : s ≡ name = (λ i. record { maker = actor; n = made_in old actor few i }) ∙ sym m.name_is in
+    let below : made (contents old) actor < 65535 = let k = made_in old actor few in let b = m.below in omega arith in
+    record {
+      performed = making R name x;
+      does = cond-true (nat_lt s.n 65535) (Ok (making R s x)) (Err SegmentsEnd) (lt-ltb s.n 65535 below) ∙ ap (λ (t : SegName). Ok (making R t x)) e;
+      notes = sym notes;
+      leaves = fun_ext m.leaves;
+    }
+
+pub refuses_access : {R : ℕ} (space : Space R) (actor x : ℕ) (e : Refusal) → made_by space actor ≤ 65535 → RefusesMake space actor e
+    → (perform R actor (contents space) (Make x) ≡ Err e) ⊎ ((e ≡ NoMemory) × (room space actor ≡ 0))
+refuses_access {R} space actor x SegmentsEnd few h =
+    inl (cond-false (nat_lt (made (contents space) actor) 65535) _ _ (le-ltb (made (contents space) actor) 65535 (let k = made_in space actor few in omega arith)))
+refuses_access space actor x NoMemory few h = inr (refl, h.1)
+refuses_access space actor x _ few h = absurd h
+
+-- Taking a segment away
+
+below_count : {R : ℕ} (space : Space R) (s : SegName) → is_there (contents space) s ≡ true → s.n < made_by space s.maker
+below_count space s h =
+    elim (cases_lt s.n (made_by space s.maker))
+    [ inl lt ↦ lt | inr past ↦ absurd (cc (absent_from space.makers.items space.qhead space.qtail s.maker s.n past, h)) ]
+
+at_count : {R : ℕ} (space : Space R) (m n : ℕ) → is_there (contents space) (record { maker = m; n = n }) ≡ false → made_by space m ≤ n
+at_count space m n h =
+    elim (cases_lt n (made_by space m))
+    [ inl lt ↦ absurd (cc (there_below space.makers.items space.qhead space.qtail m n lt, h)) | inr past ↦ past ]
+
+pub last_some : {R : ℕ} (space : Space R) (s : SegName) → IsLast (contents space) s → 0 < made_by space s.maker
+last_some space s h = let k = below_count space s h.here in omega arith
+
+pub last_taken : {R : ℕ} (old : Space R) (new : Contents) (s : SegName) → IsLast (contents old) s
+    → new ≡ without_segment (record { maker = s.maker; n = made_by old s.maker - 1 }) (contents old)
+    → new ≡ put_back (Some (Whole s)) None (contents old)
+last_taken old new s h gone =
+    let low = below_count old s h.here in
+    let high = at_count old s.maker (s.n + 1) h.last in
+    let e : made_by old s.maker - 1 ≡ s.n = omega arith in
+    gone ∙ (λ i. without_segment (record { maker = s.maker; n = e i }) (contents old))
 
 -- Actors
 
@@ -75,35 +141,71 @@ few_actors R space xs formed =
 
 -- The step
 
--- the root is the one segment that is there
-there_root : {R : ℕ} (space : Space R) (s : SegName) → is_there (contents space) s ≡ true → s ≡ root
-there_root space s h =
-    elim (cases_Bool (is_name root s)) [
-      | inl e ↦ sym (is_name-true root s e)
-      | inr e ↦ absurd (cc (ap is_some (cond-false (is_name root s) (Some (Number space.root.head)) None e), h))
+-- an actor that is there has a list of segments, of 65,535 at most
+pub actor_maker : {R : ℕ} (space : Space R) (xs : List Actor) (n : ℕ) (a : Actor) → lists space ≡ suc (length xs) → actor_at xs n ≡ Some a → n < lists space
+actor_maker space xs zero a lists_are has = omega arith
+actor_maker space xs (suc n) a lists_are has =
+    let k : suc n - 1 < length xs = actor_at-within xs (suc n) (ap is_some has) in omega arith
+
+pub some_maker : {R : ℕ} (space : Space R) (xs : List Actor) (n : ℕ) → lists space ≡ suc (length xs) → IsSome (actor_at xs n) → n < lists space
+some_maker space xs zero lists_are h = cc
+some_maker space xs (suc n) lists_are h = let k : suc n - 1 < length xs = actor_at-within xs (suc n) h in omega arith
+
+no_such : {R : ℕ} (space : Space R) (xs : List Actor) (n : ℕ) → maker_fits (acting (actor_at xs)) n 65535 ≡ true → ⊥
+no_such space xs zero h = absurd (cc (ne_eqb 65535 0 (λ e. absurd (omega arith)), h))
+no_such space xs (suc n) h = let k = (and_parts (acting (actor_at xs) (suc n)) (nat_lt 65535 65535) h).1 in let l = ltb-true 65535 65535 k in absurd (omega arith)
+
+pub few_made : {R : ℕ} (space : Space R) (xs : List Actor) (n : ℕ) → IsWellFormed R (machine_of space xs) → made_by space n ≤ 65535
+few_made space xs n formed =
+    elim (cases_lt 65535 (made_by space n)) [
+      | inl many ↦
+          absurd (no_such space xs n (formed.made.makers (record { maker = n; n = 65535 }) (there_below space.makers.items space.qhead space.qtail n 65535 many)))
+      | inr few ↦ few
     ]
 
--- an actor that asks for an access asks for the fetch-and-add on the root's tail
-pub asks_root : (R : ℕ) (space : Space R) (xs : List Actor) (e : Event) (a : Actor) (x : Access) → IsWellFormed R (machine_of space xs)
-    → actor_at xs e.actor ≡ Some a → need R a e.act ≡ Ok x → x ≡ At (Tail root) Add
-asks_root R space xs e a x formed has needs =
+op_suits : (R : ℕ) (there : Presence) (op : Operation) → op_fits R there op ≡ true → suits_segments op ≡ true
+op_suits R there AddArray h = cc
+op_suits R there (CasTail old new) h = h
+op_suits R there _ h = refl
+
+access_suits : (R : ℕ) (there : Presence) (x : Access) → access_fits R there x ≡ true → suits x ≡ true
+access_suits R there NoPlace h = refl
+access_suits R there (At p op) h = op_suits R there op h
+access_suits R there (Make x) h = refl
+
+-- what the need of an actor that is there says of its access
+pub need_suits : (R : ℕ) (space : Space R) (xs : List Actor) (e : Event) (a : Actor) (x : Access) → IsWellFormed R (machine_of space xs)
+    → actor_at xs e.actor ≡ Some a → need R a e.act ≡ Ok x → suits x ≡ true
+need_suits R space xs e a x formed has needs =
     let there = is_there (contents space) in
     let fits : record_fits R there a ≡ true = subst (λ (o : Option Actor). actor_fits R there o ≡ true) has (formed.actors e.actor) in
-    let parts = and_parts (names_fit there a && numbers_fit R a) (words_fit a) fits in
-    let named = and_parts (names_fit there a) (numbers_fit R a) parts.0 in
-    let two = and_parts (there a.crq && there a.new) (there a.next) named.0 in
-    let one = and_parts (there a.crq) (there a.new) two.0 in
-    (asks_for_tail R a e.act x needs).asks ∙ ap (λ (s : SegName). At (Tail s) Add) (there_root space a.crq one.0)
+    access_suits R there x (IfOk-at_ok (λ (y : Access). access_fits R there y ≡ true) needs (need_fits R there a e.act fits))
 
--- the step is refused where the access is
+-- an actor that is there has a head position with room for the ring's size behind it
+pub head_small : (R : ℕ) (space : Space R) (xs : List Actor) (n : ℕ) (a : Actor) → IsWellFormed R (machine_of space xs) → R ≤ 64
+    → actor_at xs n ≡ Some a → a.h + R < 2 ^ 64
+head_small R space xs n a formed small has =
+    let there = is_there (contents space) in
+    let fits : record_fits R there a ≡ true = subst (λ (o : Option Actor). actor_fits R there o ≡ true) has (formed.actors n) in
+    let h = leb-true a.h (2 ^ 62) (parts_of R there a fits).h in
+    omega arith
+
+-- whether an actor's event makes a segment, by its access
+pub makes_by : (R : ℕ) (w : World) (e : Event) (a : Actor) (x : Access) → w.actor e.actor ≡ Some a → need R a e.act ≡ Ok x
+    → makes_segment R w e ≡ makes x
+makes_by R w e a x has needs = ap (actor_makes R e.act) has ∙ ap needs_making needs
+
 pub step_refuses : (R : ℕ) (space : Space R) (xs : List Actor) (e : Event) (a : Actor) (x : Access) (refusal : Refusal)
-    → actor_at xs e.actor ≡ Some a → need R a e.act ≡ Ok x → ((actor : ℕ) → perform R actor (contents space) x ≡ Err refusal)
-    → step R (machine_of space xs) e ≡ Err refusal
-step_refuses R space xs e a x refusal has needs refuses = step_refused R (machine_of space xs) e a x refusal has needs (refuses e.actor)
+    → actor_at xs e.actor ≡ Some a → need R a e.act ≡ Ok x
+    → (perform R e.actor (contents space) x ≡ Err refusal) ⊎ ((refusal ≡ NoMemory) × (makes x ≡ true) × (room space e.actor ≡ 0))
+    → (step R (machine_of space xs) e ≡ Err refusal)
+    ⊎ ((refusal ≡ NoMemory) × (makes_segment R (machine_of space xs) e ≡ true) × (room space e.actor ≡ 0))
+step_refuses R space xs e a x refusal has needs (inl h) = inl (step_refused R (machine_of space xs) e a x refusal has needs h)
+step_refuses R space xs e a x refusal has needs (inr h) = inr (h.0, makes_by R (machine_of space xs) e a x has needs ∙ h.1, h.2)
 
 -- the step that the code makes is the model's
 pub step_goes : (R : ℕ) (old new : Space R) (xs ys : List Actor) (e : Event) (a : Actor) (x : Access) (done : Done) (next : Actor × Option OpReply)
-    → actor_at xs e.actor ≡ Some a → need R a e.act ≡ Ok x → Accesses R x (contents old) (contents new) done
+    → actor_at xs e.actor ≡ Some a → need R a e.act ≡ Ok x → Accesses R e.actor x (contents old) (contents new) done
     → next ≡ after R a e.act done.answer → actor_at ys ≡ with_actor e.actor next.0 (actor_at xs)
     → step R (machine_of old xs) e ≡ Ok (record {
       world = machine_of new ys;
@@ -111,7 +213,7 @@ pub step_goes : (R : ℕ) (old new : Space R) (xs ys : List Actor) (e : Event) (
     })
 step_goes R old new xs ys e a x done next has needs accesses goes actors =
     let d = accesses.performed in
-    let did = step_of R (machine_of old xs) e a x d has needs (accesses.does e.actor) in
+    let did = step_of R (machine_of old xs) e a x d has needs accesses.does in
     let n : after R a e.act d.done.answer ≡ next = ap (λ (k : Done). after R a e.act k.answer) accesses.notes ∙ sym goes in
     did ∙ ap Ok (λ i. record {
       world = record { at = sym accesses.leaves i; actor = (ap (λ (k : Actor × Option OpReply). with_actor e.actor k.0 (actor_at xs)) n ∙ sym actors) i };
@@ -130,12 +232,16 @@ step_goes R old new xs ys e a x done next has needs accesses goes actors =
 pub still_well_formed : (R : ℕ) (old new : Space R) (xs ys : List Actor) (e : Event) (r : Result Entry Refusal)
     → IsWellFormed R (machine_of old xs)
     → IfOk r (λ entry. step R (machine_of old xs) e ≡ Ok (record { world = machine_of new ys; entry = entry }))
-    → OnErr r ((new ≡ old) × (ys ≡ xs)) → IsWellFormed R (machine_of new ys)
+    → OnErr r ((contents new ≡ contents old) × (ys ≡ xs)) → IsWellFormed R (machine_of new ys)
 still_well_formed R old new xs ys e (Ok entry) formed ok same = keeps R (machine_of old xs) e _ formed ok
 still_well_formed R old new xs ys e (Err refusal) formed ok same =
-    subst (λ (w : World). IsWellFormed R w) (λ i. machine_of (sym same.0 i) (sym same.1 i)) formed
+    subst (λ (w : World). IsWellFormed R w) (λ i. record { at = sym same.0 i; actor = actor_at (sym same.1 i) }) formed
 
-pub still_same : {R : ℕ} (old new : Space R) (xs ys : List Actor) (r : Result Entry Refusal) → OnErr r ((new ≡ old) × (ys ≡ xs))
+pub still_same : {R : ℕ} (old new : Space R) (xs ys : List Actor) (r : Result Entry Refusal) → OnErr r ((contents new ≡ contents old) × (ys ≡ xs))
     → OnErr r (machine_of new ys ≡ machine_of old xs)
 still_same old new xs ys (Ok entry) same = tt
-still_same old new xs ys (Err refusal) same = λ i. machine_of (same.0 i) (same.1 i)
+still_same old new xs ys (Err refusal) same = λ i. record { at = same.0 i; actor = actor_at (same.1 i) }
+
+-- a world whose space has the same contents is the same
+pub same_world : {R : ℕ} (old new : Space R) (xs : List Actor) → contents new ≡ contents old → machine_of new xs ≡ machine_of old xs
+same_world old new xs same = λ i. record { at = same i; actor = actor_at xs }

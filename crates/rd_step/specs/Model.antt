@@ -2,8 +2,13 @@
 use Rattle.std.specs.Prelude.{ℕ}
 use Rattle.rd_actor.specs.World.{World}
 use Rattle.rd_step.specs.declared.worlds.World.{World as Machine}
+use Rattle.rd_segments.specs.Space.{room as space_room}
 use Rattle.rd_step.specs.Machine.{machine_of}
 
 -- what is at each of the world's places, and each actor's record
 abbrev pub model : {R : ℕ} → Machine R → World
 model w = machine_of w.space w.actors.items
+
+-- how many makings of an actor can't be refused for memory
+abbrev pub room : {R : ℕ} → Machine R → ℕ → ℕ
+room w m = space_room w.space m

@@ -1,12 +1,14 @@
 -- The plain step: one event in a world (Morrison and Afek 2013, in our profile of docs/MODEL.md), and its undoing.
-use Rattle.std.specs.Prelude.{ℕ, Bool, true, ◌==◌, if◌then◌else◌, Option, Some, None, is_some, IsTrue, Result, Ok, Err}
+use Rattle.std.specs.Prelude.{◌≡◌, ℕ, ◌+◌, ◌≤◌, true, false, ◌==◌, if◌then◌else◌, Option, Some, None, is_some, IsTrue, Result, Ok, Err}
+use Rattle.rd_cell.specs.declared.places.SegName.{SegName}
 use Rattle.rd_cell.specs.declared.places.Place.{Place}
+use Rattle.rd_cell.specs.declared.places.Place.TheVariants.{Whole}
 use Rattle.rd_cell.specs.declared.contents.Content.{Content}
 use Rattle.rd_cell.specs.declared.access.Access.{Access}
 use Rattle.rd_cell.specs.declared.refusal.Refusal.{Refusal}
 use Rattle.rd_cell.specs.declared.refusal.Refusal.TheVariants.{NoActor}
 use Rattle.rd_cell.specs.Place.{is_place, covers}
-use Rattle.rd_cell.specs.Content.{Contents, may_have}
+use Rattle.rd_cell.specs.Content.{Contents, is_there, may_have}
 use Rattle.rd_cell.specs.Access.{Performed, left_by, perform}
 use Rattle.rd_actor.specs.declared.actors.Actor.{Actor}
 use Rattle.rd_actor.specs.declared.actors.OpReply.{OpReply}
@@ -62,10 +64,18 @@ put_back None c at q = at q
 put_back (Some p) (Some c) at q = if is_place p q then Some c else at q
 put_back (Some p) None at q = if covers p q then None else at q
 
--- whether a content may be put back: at no place none, and at a place that is there one that it may have
+-- the segment is there, an actor made it, and it is the last one that this actor made
+pub record IsLast (at : Contents) (s : SegName) : Type 0 where
+  pub here : is_there at s ≡ true
+  pub made : 1 ≤ s.maker
+  pub last : is_there at (record { maker = s.maker; n = s.n + 1 }) ≡ false
+
+-- whether a content may be put back: at no place none, at a place that is there one that it may have, and for the
+-- whole of a segment, where that is its maker's last one, that it was not there
 abbrev pub CanPutBack : Contents → Option Place → Option Content → Type 0
 CanPutBack at None None = Unit {0}
 CanPutBack at (Some p) (Some c) = IsTrue (is_some (at p)) × IsTrue (may_have p c)
+CanPutBack at (Some (Whole s)) None = IsLast at s
 CanPutBack at _ _ = ⊥
 
 -- the world with this record for the actor and this content, or none, put back at the place

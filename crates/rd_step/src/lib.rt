@@ -6,10 +6,12 @@
 #![tactic(auto)]
 
 pub mod entries;
+mod fields;
 pub mod laws;
-#[cfg(test)]
-mod tests;
 pub mod worlds;
 
 pub use entries::{Entry, Event};
 pub use worlds::World;
+
+#[cfg(test)]
+mod tests;

@@ -12,5 +12,5 @@ revert-requires g c =
 
 pub returns-clause-taken_out : goal.returns-clause-taken_out
 returns-clause-taken_out g c = λ was.
-    subst (λ (w : World). IsTakenOut _ (model c.args.world.now) w c.args.entry.now was) (sym c.revert.ensures)
+    subst (λ (w : World). IsTakenOut _ (model c.args.world.now) w c.args.entry.now was) (sym c.revert.ensures.done)
     (taken_out _ (model c.args.world.now) c.args.entry.now was)

@@ -1,5 +1,5 @@
-use Rattle.rd_segments.proofs.SpaceLemmas.{fresh-contents}
+use Rattle.rd_segments.proofs.FieldsLemmas.{space_fresh}
 use Rattle.rd_segments.proofs.space.Space.fresh.Goals as goal
 
-pub returns : goal.returns
-returns g c = fresh-contents c.fresh.result c.fresh.ensures
+pub returns-in-Ok-clause-ok : goal.returns-in-Ok-clause-ok
+returns-in-Ok-clause-ok g c = space_fresh c.in-Ok.makers.items c.in-Ok.ensures.ok

@@ -1,16 +1,18 @@
-use Rattle.std.proofs.Common.{refl, sym, subst}
-use Rattle.rd_cell.specs.declared.access.Operation.{Operation}
-use Rattle.rd_cell.specs.declared.access.Operation.TheVariants.{Add}
-use Rattle.rd_cell.specs.Content.{with_content}
-use Rattle.rd_cell.specs.Access.{operate, Operates}
-use Rattle.rd_segments.specs.Space.{contents}
-use Rattle.rd_segments.proofs.SpaceLemmas.{root_operates, root_refuses}
+use Rattle.std.proofs.Common.{sym, ◌∙◌}
+use Rattle.rd_segments.proofs.FieldsLemmas.{space_operates, space_refuses, unchanged_fields, head_operates, tail_operates}
 use Rattle.rd_segments.proofs.space.Space.operate.Goals as goal
 
-pub returns-in-Err-clause-err : goal.returns-in-Err-clause-err
-returns-in-Err-clause-err g c = rw c.requires.adds (root_refuses c.args.self.now _ _ _ c.requires.tail c.in-Err.ensures.err)
+pub returns-else-is_none-clause-ok : goal.returns-else-is_none-clause-ok
+returns-else-is_none-clause-ok g c =
+    space_operates c.args.self.now.makers.items c.operate_in.new.makers.items c.args.self.now.qhead c.args.self.now.qtail
+    c.in-Some.name c.args.place c.args.operation (sym c.in-Some.ensures) c.operate_in.result c.operate_in.ensures.ok
 
-pub returns-in-Ok-clause-ok : goal.returns-in-Ok-clause-ok
-returns-in-Ok-clause-ok g c =
-    rw c.requires.adds
-    (root_operates c.args.self.now _ _ _ _ _ _ c.requires.tail refl refl c.in-Ok.ensures.ok (sym c.wrote.ensures))
+pub returns-in-QHead-clause-ok : goal.returns-in-QHead-clause-ok
+returns-in-QHead-clause-ok g c =
+    head_operates c.args.self.now.makers.items c.args.self.now.qhead c.operate_on_name.new.name c.args.self.now.qtail
+    c.args.place c.args.operation c.in-QHead.is c.operate_on_name.result c.operate_on_name.ensures.ok
+
+pub returns-in-QTail-clause-ok : goal.returns-in-QTail-clause-ok
+returns-in-QTail-clause-ok g c =
+    tail_operates c.args.self.now.makers.items c.args.self.now.qhead c.args.self.now.qtail c.operate_on_name-in-QTail.new.name
+    c.args.place c.args.operation c.in-QTail.is c.operate_on_name-in-QTail.result c.operate_on_name-in-QTail.ensures.ok

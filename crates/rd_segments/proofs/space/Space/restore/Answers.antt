@@ -1,9 +1,8 @@
-use Rattle.std.proofs.Common.{arith}
-use Rattle.rd_segments.proofs.SpaceLemmas.{cell_within}
+use Rattle.std.proofs.Common.{sym}
+use Rattle.rd_segments.proofs.FieldsLemmas.{space_restored}
 use Rattle.rd_segments.proofs.space.Space.restore.Goals as goal
 
-pub restore_cell-requires : goal.restore_cell-requires
-restore_cell-requires g c = (
-  omega (arith, c.args.self.now.root.small),
-  cell_within c.args.self.now _ _ c.args.place c.in-Cell-Cell.is-0 c.requires.there,
-)
+pub returns-in-Some-default-default-clause-done : goal.returns-in-Some-default-default-clause-done
+returns-in-Some-default-default-clause-done g c =
+    space_restored c.args.self.now.makers.items c.restore_in.new.makers.items c.args.self.now.qhead c.args.self.now.qtail
+    c.in-Some-default-default.name c.args.place c.args.content (sym c.in-Some-default-default.ensures) c.restore_in.ensures.done

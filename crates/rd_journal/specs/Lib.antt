@@ -1,0 +1,6 @@
+pub mod Journal
+pub mod State
+pub mod Room
+pub mod Moves
+pub mod Session
+pub mod Laws

@@ -1,0 +1,186 @@
+-- Which accesses and answers fit, and that an actor whose record fits asks for an access that fits.
+use Rattle.std.proofs.Common.{◌≡◌, ℕ, ◌+◌, ◌^◌, ◌≤◌, Bool, true, false, ◌&&◌, nat_le, refl, arith, Option, Some, None, IfOk, le-leb, leb-true}
+use Rattle.std.proofs.lemmas.Bool.{and_parts, and_from}
+use Rattle.rd_cell.specs.declared.places.SegName.{SegName}
+use Rattle.rd_cell.specs.declared.places.Place.{Place}
+use Rattle.rd_cell.specs.declared.places.Place.TheVariants.{QHead, QTail, Head, Tail, Next, Cell as CellAt}
+use Rattle.rd_cell.specs.declared.contents.Content.{Content}
+use Rattle.rd_cell.specs.declared.contents.Content.TheVariants.{Name, Number, Tail as TailIs, Next as NextIs, Cell as CellIs}
+use Rattle.rd_cell.specs.declared.access.Access.{Access}
+use Rattle.rd_cell.specs.declared.access.Access.TheVariants.{NoPlace, At, Make}
+use Rattle.rd_cell.specs.declared.access.Answer.{Answer}
+use Rattle.rd_cell.specs.declared.access.Answer.TheVariants.{Found, Turn, Made}
+use Rattle.rd_cell.specs.declared.access.Operation.{Operation}
+use Rattle.rd_cell.specs.declared.access.Operation.TheVariants.{AddArray, CasName, CasNext, CasTail, Cas2, Swap}
+use Rattle.rd_cell.specs.Content.{may_have}
+use Rattle.rd_actor.specs.declared.actors.Act.{Act}
+use Rattle.rd_actor.specs.declared.actors.Act.TheVariants.{Enq, Deq, Go, Starve}
+use Rattle.rd_actor.specs.declared.actors.Actor.{Actor}
+use Rattle.rd_actor.specs.declared.actors.Pc.{Pc}
+use Rattle.rd_actor.specs.declared.actors.Pc.TheVariants.{Idle, E1, E2, E3, E4, E5, E6, E7, E8, E9, E10, E11, E12, E13, E14, Q1, Q2, Q3, Q4, Q5, Q6, Q7, Q8, Q9, Q10, Q11, Q12, Q13, Q14}
+use Rattle.rd_actor.specs.Table.{need, need_at, need_call, need_choice}
+use Rattle.rd_actor.specs.Words.{words_fit}
+use Rattle.rd_step.specs.WellFormed.{Presence, content_fits, place_fits, names_fit, numbers_fit, record_fits, actor_fits}
+
+-- A record that fits, by its parts
+
+-- the names and the numbers of a record that fits
+pub record PartsFit (R : ℕ) (there : Presence) (a : Actor) : Type 0 where
+  pub crq : there a.crq ≡ true
+  pub new : there a.new ≡ true
+  pub next : there a.next ≡ true
+  pub t : nat_le a.t (2 ^ 62) ≡ true
+  pub h : nat_le a.h (2 ^ 62) ≡ true
+  pub idx : nat_le a.idx (2 ^ 62 + R) ≡ true
+
+pub parts_of : (R : ℕ) (there : Presence) (a : Actor) → record_fits R there a ≡ true → PartsFit R there a
+parts_of R there a fits =
+    let parts = and_parts (names_fit there a && numbers_fit R a) (words_fit a) fits in
+    let named = and_parts (names_fit there a) (numbers_fit R a) parts.0 in
+    let names = and_parts (there a.crq && there a.new) (there a.next) named.0 in
+    let first = and_parts (there a.crq) (there a.new) names.0 in
+    let numbers = and_parts (nat_le a.t (2 ^ 62) && nat_le a.h (2 ^ 62)) (nat_le a.idx (2 ^ 62 + R)) named.1 in
+    let positions = and_parts (nat_le a.t (2 ^ 62)) (nat_le a.h (2 ^ 62)) numbers.0 in
+    record { crq = first.0; new = first.1; next = names.1; t = positions.0; h = positions.1; idx = numbers.1 }
+
+pub words_of : (R : ℕ) (there : Presence) (a : Actor) → record_fits R there a ≡ true → words_fit a ≡ true
+words_of R there a fits = (and_parts (names_fit there a && numbers_fit R a) (words_fit a) fits).1
+
+-- and back: these parts and the words make a record that fits
+pub together : (R : ℕ) (there : Presence) (a : Actor) → PartsFit R there a → words_fit a ≡ true → record_fits R there a ≡ true
+together R there a f words =
+    and_from (names_fit there a && numbers_fit R a) (words_fit a)
+    (and_from (names_fit there a) (numbers_fit R a)
+    (and_from (there a.crq && there a.new) (there a.next) (and_from (there a.crq) (there a.new) f.crq f.new) f.next)
+    (and_from (nat_le a.t (2 ^ 62) && nat_le a.h (2 ^ 62)) (nat_le a.idx (2 ^ 62 + R))
+    (and_from (nat_le a.t (2 ^ 62)) (nat_le a.h (2 ^ 62)) f.t f.h) f.idx))
+    words
+
+-- What fits goes on to fit where more segments are there
+
+-- each segment that is there in the first is there in the second
+abbrev pub Grows : Presence → Presence → Type 0
+Grows there there' = (s : SegName) → there s ≡ true → there' s ≡ true
+
+pub content_grows : (R : ℕ) (there there' : Presence) (p : Place) (c : Content) → Grows there there' → content_fits R there p c ≡ true
+    → content_fits R there' p c ≡ true
+content_grows R there there' QHead (Name s) more h = more s h
+content_grows R there there' QTail (Name s) more h = more s h
+content_grows R there there' (Head s) (Number n) more h = h
+content_grows R there there' (Tail s) (TailIs closed n) more h = h
+content_grows R there there' (Next s) (NextIs None) more h = h
+content_grows R there there' (Next s) (NextIs (Some m)) more h = more m h
+content_grows R there there' (CellAt s i) (CellIs c) more h = h
+content_grows R there there' _ _ more h = cc
+
+pub place_grows : (R : ℕ) (there there' : Presence) (p : Place) (o : Option Content) → Grows there there' → place_fits R there p o ≡ true
+    → place_fits R there' p o ≡ true
+place_grows R there there' p None more h = h
+place_grows R there there' p (Some c) more h = content_grows R there there' p c more h
+
+pub record_grows : (R : ℕ) (there there' : Presence) (a : Actor) → Grows there there' → record_fits R there a ≡ true
+    → record_fits R there' a ≡ true
+record_grows R there there' a more h =
+    let f = parts_of R there a h in
+    together R there' a
+    (record { crq = more a.crq f.crq; new = more a.new f.new; next = more a.next f.next; t = f.t; h = f.h; idx = f.idx })
+    (words_of R there a h)
+
+pub actor_grows : (R : ℕ) (there there' : Presence) (o : Option Actor) → Grows there there' → actor_fits R there o ≡ true
+    → actor_fits R there' o ≡ true
+actor_grows R there there' None more h = h
+actor_grows R there there' (Some a) more h = record_grows R there there' a more h
+
+-- a content that fits a place is one that the place may have
+pub may_fit : (R : ℕ) (there : Presence) (p : Place) (c : Content) → content_fits R there p c ≡ true → may_have p c ≡ true
+may_fit R there QHead (Name s) h = refl
+may_fit R there QTail (Name s) h = refl
+may_fit R there (Head s) (Number n) h = h
+may_fit R there (Tail s) (TailIs closed n) h = h
+may_fit R there (Next s) (NextIs m) h = refl
+may_fit R there (CellAt s i) (CellIs c) h = refl
+may_fit R there _ _ h = cc
+
+-- What an actor asks for
+
+-- whether what an operation would put fits; one on the array does not
+abbrev pub op_fits : ℕ → Presence → Operation → Bool
+op_fits R there (CasName old new) = there new
+op_fits R there (CasNext new) = there new
+op_fits R there (CasTail old new) = nat_le new (2 ^ 62)
+op_fits R there (Cas2 old new) = nat_le new.idx (2 ^ 62 + R)
+op_fits R there AddArray = false
+op_fits R there (Swap slot) = false
+op_fits R there _ = true
+
+-- whether an access fits
+abbrev pub access_fits : ℕ → Presence → Access → Bool
+access_fits R there NoPlace = true
+access_fits R there (At p op) = op_fits R there op
+access_fits R there (Make x) = true
+
+-- whether an answer fits: the segments that it names are there, and its numbers are within their ends
+abbrev pub answer_fits : ℕ → Presence → Answer → Bool
+answer_fits R there (Found (Name s)) = there s
+answer_fits R there (Found (Number g)) = nat_le g (2 ^ 62)
+answer_fits R there (Found (TailIs closed count)) = nat_le count (2 ^ 62)
+answer_fits R there (Found (NextIs (Some m))) = there m
+answer_fits R there (Turn safe idx) = nat_le idx (2 ^ 62 + R)
+answer_fits R there (Made s) = there s
+answer_fits R there _ = true
+
+-- a position is an index
+wide : (R n : ℕ) → nat_le n (2 ^ 62) ≡ true → nat_le n (2 ^ 62 + R) ≡ true
+wide R n h = let k : n ≤ 2 ^ 62 = leb-true n (2 ^ 62) h in le-leb n (2 ^ 62 + R) (omega arith)
+
+-- and a position moved on by one round is one
+wider : (R n : ℕ) → nat_le n (2 ^ 62) ≡ true → nat_le (n + R) (2 ^ 62 + R) ≡ true
+wider R n h = let k : n ≤ 2 ^ 62 = leb-true n (2 ^ 62) h in le-leb (n + R) (2 ^ 62 + R) (omega arith)
+
+need_at_fits : (R : ℕ) (there : Presence) (pc : Pc) (a : Actor) → PartsFit R there a
+    → IfOk (need_at R pc a) (λ x. access_fits R there x ≡ true)
+need_at_fits R there E1 a f = refl
+need_at_fits R there E2 a f = refl
+need_at_fits R there E3 a f = f.next
+need_at_fits R there E4 a f = refl
+need_at_fits R there E5 a f = refl
+need_at_fits R there E6 a f = refl
+need_at_fits R there E7 a f = refl
+need_at_fits R there E8 a f = wide R a.t f.t
+need_at_fits R there E9 a f = refl
+need_at_fits R there E10 a f = tt
+need_at_fits R there E11 a f = refl
+need_at_fits R there E12 a f = refl
+need_at_fits R there E13 a f = f.new
+need_at_fits R there E14 a f = f.new
+need_at_fits R there Q1 a f = refl
+need_at_fits R there Q2 a f = refl
+need_at_fits R there Q3 a f = refl
+need_at_fits R there Q4 a f = refl
+need_at_fits R there Q5 a f = wider R a.h f.h
+need_at_fits R there Q6 a f = f.idx
+need_at_fits R there Q7 a f = wider R a.h f.h
+need_at_fits R there Q8 a f = refl
+need_at_fits R there Q9 a f = refl
+need_at_fits R there Q10 a f = refl
+need_at_fits R there Q11 a f = refl
+need_at_fits R there Q12 a f = f.h
+need_at_fits R there Q13 a f = refl
+need_at_fits R there Q14 a f = f.next
+need_at_fits R there _ a f = tt
+
+need_call_fits : (R : ℕ) (there : Presence) (pc : Pc) → IfOk (need_call pc) (λ x. access_fits R there x ≡ true)
+need_call_fits R there Idle = refl
+need_call_fits R there _ = tt
+
+need_choice_fits : (R : ℕ) (there : Presence) (pc : Pc) → IfOk (need_choice pc) (λ x. access_fits R there x ≡ true)
+need_choice_fits R there E10 = refl
+need_choice_fits R there _ = tt
+
+-- an actor whose record fits asks for an access that fits
+pub need_fits : (R : ℕ) (there : Presence) (a : Actor) (act : Act) → record_fits R there a ≡ true
+    → IfOk (need R a act) (λ x. access_fits R there x ≡ true)
+need_fits R there a (Enq x) h = need_call_fits R there a.pc
+need_fits R there a Deq h = need_call_fits R there a.pc
+need_fits R there a Go h = need_at_fits R there a.pc a (parts_of R there a h)
+need_fits R there a (Starve b) h = need_choice_fits R there a.pc

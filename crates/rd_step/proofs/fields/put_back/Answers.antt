@@ -1,0 +1,12 @@
+use Rattle.std.proofs.Common.{sym, ◌∙◌, subst, Option}
+use Rattle.rd_step.specs.Step.{put_back}
+use Rattle.rd_segments.specs.Space.{contents}
+use Rattle.rd_step.proofs.fields.put_back.Goals as goal
+
+pub returns-in-Some-Some-clause-done : goal.returns-in-Some-Some-clause-done
+returns-in-Some-Some-clause-done g c =
+    c.restore.ensures.done ∙ (λ i. put_back (sym c.in-Some-Some.is-0 i) (sym c.in-Some-Some.is-1 i) (contents c.args.space.now))
+
+pub returns-in-Some-None-clause-done : goal.returns-in-Some-None-clause-done
+returns-in-Some-None-clause-done g c =
+    c.take_away.ensures.done ∙ (λ i. put_back (sym c.in-Some-None.is-0 i) (sym c.in-Some-None.is-1 i) (contents c.args.space.now))
