@@ -1,17 +1,14 @@
 -- The place table, one row a place: what an actor asks for, and how it goes on.
 use Rattle.std.specs.Prelude.{ℕ, ◌+◌, ◌%◌, Bool, true, false, ◌==◌, ◌&&◌, ◌||◌, nat_lt, nat_le, if◌then◌else◌, Option, Some, None, is_some, is_none, Result, Ok, Err}
 use Rattle.rd_cell.specs.declared.cells.Cell.{Cell}
-use Rattle.rd_cell.specs.declared.places.SegName.{SegName}
 use Rattle.rd_cell.specs.declared.places.Place.{Place}
 use Rattle.rd_cell.specs.declared.places.Place.TheVariants.{QHead, QTail, Head, Tail, Next, Cell as CellAt}
-use Rattle.rd_cell.specs.declared.contents.Content.{Content}
 use Rattle.rd_cell.specs.declared.contents.Content.TheVariants.{Name, Number, Tail as TailIs, Next as NextIs}
 use Rattle.rd_cell.specs.declared.access.Access.{Access}
 use Rattle.rd_cell.specs.declared.access.Access.TheVariants.{NoPlace, At, Make}
-use Rattle.rd_cell.specs.declared.access.Operation.{Operation}
 use Rattle.rd_cell.specs.declared.access.Operation.TheVariants.{Read, ReadValue, ReadTurn, Add, Close, CasName, CasNext, CasTail, Cas2}
 use Rattle.rd_cell.specs.declared.access.Answer.{Answer}
-use Rattle.rd_cell.specs.declared.access.Answer.TheVariants.{Nothing, Found, Value, Turn, WasClosed, Won, Lost, Made}
+use Rattle.rd_cell.specs.declared.access.Answer.TheVariants.{Found, Value, Turn, Won, Lost, Made}
 use Rattle.rd_cell.specs.declared.refusal.Refusal.{Refusal}
 use Rattle.rd_cell.specs.declared.refusal.Refusal.TheVariants.{NotIdle, Idle as IsIdle, NeedsChoice, NoChoice}
 use Rattle.rd_cell.specs.Content.{is_bit}

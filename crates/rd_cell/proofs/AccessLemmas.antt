@@ -1,20 +1,20 @@
 -- Accesses that do not meet commute.
-use Rattle.std.proofs.Common.{◌≡◌, ℕ, zero, suc, ◌+◌, Bool, true, false, ◌==◌, ◌&&◌, ◌||◌, cond, if◌then◌else◌, nat_lt, ◌⊎◌, inl, inr, refl, sym, ◌∙◌, ap, ap₂, subst, eqb-true, eq-eqb, Option, Some, None, is_some, Result, Ok, Err, IfOk}
+use Rattle.std.proofs.Common.{◌≡◌, ℕ, zero, suc, ◌+◌, Bool, true, false, ◌==◌, ◌&&◌, ◌||◌, if◌then◌else◌, nat_lt, inl, inr, refl, sym, ◌∙◌, ap, ap₂, subst, Option, Some, None, is_some, Result, Ok, Err, IfOk}
 use Rattle.std.proofs.lemmas.Bool.{cases_Bool, both_ways, and_left, and_parts, and_from, and_cases, or_cases, or_left, or_right, or_parts, ne_eqb, cond_both, cond-false, false_from_ne_true}
 use Rattle.std.proofs.lemmas.Result.{IfOk-at_ok}
 use mathlib.Core.Path.{fun_ext}
 use Rattle.rd_cell.specs.declared.places.SegName.{SegName}
 use Rattle.rd_cell.specs.declared.places.Place.{Place}
-use Rattle.rd_cell.specs.declared.places.Place.TheVariants.{Head, Whole}
+use Rattle.rd_cell.specs.declared.places.Place.TheVariants.{Head}
 use Rattle.rd_cell.specs.declared.contents.Content.{Content}
 use Rattle.rd_cell.specs.declared.access.Operation.{Operation}
 use Rattle.rd_cell.specs.declared.access.Access.{Access}
 use Rattle.rd_cell.specs.declared.access.Access.TheVariants.{NoPlace, At, Make}
 use Rattle.rd_cell.specs.declared.refusal.Refusal.{Refusal}
-use Rattle.rd_cell.specs.Place.{is_name, is_of, is_place, covers, overlaps}
+use Rattle.rd_cell.specs.Place.{is_name, is_of, is_place, covers}
 use Rattle.rd_cell.specs.Content.{Contents, holding}
 use Rattle.rd_cell.specs.Effect.{Effect, effect}
-use Rattle.rd_cell.specs.Access.{Performed, left_by, put, lay, made_from, made, nothing_done, done_at, operate, make, perform, meet}
+use Rattle.rd_cell.specs.Access.{Performed, left_by, put, lay, made_from, made, done_at, operate, make, perform, meet}
 use Rattle.rd_cell.proofs.PlaceLemmas.{is_place-true, covers-refl, covers-other, overlaps-sym, overlaps_of_covers}
 
 -- whether an access at this place may change what is at q

@@ -1,5 +1,5 @@
 -- Reading a list after a write.
-use Rattle.std.proofs.Common.{◌≡◌, ◌≢◌, ℕ, zero, suc, ◌+◌, ◌<◌, ◌≤◌, refl, sym, ap, arith, ◌-◌, ◌++◌, Option, Some, None, List, [], ◌∷◌, length, set, take, slice_get}
+use Rattle.std.proofs.Common.{◌≡◌, ◌≢◌, ℕ, zero, suc, ◌<◌, ◌≤◌, refl, sym, ap, arith, ◌++◌, Some, None, List, [], ◌∷◌, length, set, take, slice_get}
 use Rattle.std.proofs.lemmas.Option.{slice_get_past}
 
 -- the written element

@@ -1,12 +1,11 @@
 -- What each operation does to one content.
 use Rattle.std.specs.Prelude.{ℕ, ◌+◌, ◌^◌, Bool, true, false, not, ◌==◌, ◌&&◌, nat_lt, nat_le, if◌then◌else◌, Option, Some, None, Result, Ok, Err}
-use Rattle.rd_cell.specs.declared.places.SegName.{SegName}
 use Rattle.rd_cell.specs.declared.contents.Content.{Content}
 use Rattle.rd_cell.specs.declared.contents.Content.TheVariants.{Name, Number, Tail, Next, Cell, Slot}
 use Rattle.rd_cell.specs.declared.access.Operation.{Operation}
 use Rattle.rd_cell.specs.declared.access.Operation.TheVariants.{Read, ReadValue, ReadTurn, Add, AddArray, Close, CasName, CasNext, CasTail, Cas2, Swap}
 use Rattle.rd_cell.specs.declared.access.Answer.{Answer}
-use Rattle.rd_cell.specs.declared.access.Answer.TheVariants.{Nothing, Found, Value, Turn, WasClosed, Won, Lost}
+use Rattle.rd_cell.specs.declared.access.Answer.TheVariants.{Found, Value, Turn, WasClosed, Won, Lost}
 use Rattle.rd_cell.specs.declared.refusal.Refusal.{Refusal}
 use Rattle.rd_cell.specs.declared.refusal.Refusal.TheVariants.{CounterEnd, ArrayEnd, NoSuchPlace}
 use Rattle.rd_cell.specs.Place.{is_name}

@@ -1,12 +1,11 @@
 -- The room that redoing wants is there: what undoing gave back.
-use Rattle.std.proofs.Common.{◌≡◌, ℕ, zero, suc, ◌+◌, ◌-◌, ◌<◌, ◌≤◌, Bool, true, refl, sym, ◌∙◌, ap, subst, arith, List, [], ◌∷◌, ◌++◌, length, take, drop, get_or, set, IfOk, OnOk, OnErr, Result, Ok, Err, length-append, length-take-le, eq-eqb, ◌==◌}
+use Rattle.std.proofs.Common.{◌≡◌, ℕ, suc, ◌+◌, ◌≤◌, Bool, true, refl, sym, ◌∙◌, ap, subst, arith, List, [], ◌∷◌, ◌++◌, length, take, drop, IfOk, OnOk, OnErr, Result, Ok, Err, length-append, length-take-le, eq-eqb, ◌==◌}
 use Rattle.std.proofs.Math.Seq.{drop-cons}
 use Rattle.std.proofs.Math.ListN.{drop_of_length-le}
 use Rattle.std.proofs.lemmas.Bool.{cond-true}
 use Rattle.rd_cell.specs.declared.refusal.Refusal.{Refusal}
 use Rattle.rd_actor.specs.World.{World}
 use Rattle.rd_step.specs.declared.entries.Entry.{Entry}
-use Rattle.rd_step.specs.Step.{step}
 use Rattle.rd_step.specs.Machine.{makes_segment, uses, given}
 use Rattle.rd_step.proofs.Room.{uses_given}
 use Rattle.rd_journal.specs.Journal.{journal_of, IsRun}

@@ -1,5 +1,5 @@
 -- An operation at any place of a segment.
-use Rattle.std.proofs.Common.{◌≡◌, ℕ, Bool, true, false, refl, sym, ◌∙◌, ap, subst, arith, ◌<◌, ◌≤◌, ◌+◌, Option, Some, None, is_some, option_map, slice_get, length, Result, Ok, Err, if◌then◌else◌, ◌⊎◌, inl, inr}
+use Rattle.std.proofs.Common.{◌≡◌, ℕ, Bool, true, false, refl, sym, ◌∙◌, ap, subst, arith, ◌<◌, Option, Some, None, is_some, option_map, slice_get, length, Ok, if◌then◌else◌, inl, inr}
 use Rattle.std.proofs.lemmas.Bool.{cases_lt}
 use Rattle.std.proofs.lemmas.Option.{slice_get_past}
 use Rattle.rd_cell.specs.declared.cells.Cell.{Cell}
@@ -7,19 +7,18 @@ use Rattle.rd_cell.specs.declared.places.SegName.{SegName}
 use Rattle.rd_cell.specs.declared.places.Place.{Place}
 use Rattle.rd_cell.specs.declared.places.Place.TheVariants.{Cell as CellAt}
 use Rattle.rd_cell.specs.declared.contents.Content.{Content}
-use Rattle.rd_cell.specs.declared.contents.Content.TheVariants.{Name, Number, Tail, Next, Cell as CellIs, Whole, Slot}
+use Rattle.rd_cell.specs.declared.contents.Content.TheVariants.{Name, Number, Tail, Next, Cell as CellIs}
 use Rattle.rd_cell.specs.declared.access.Operation.{Operation}
-use Rattle.rd_cell.specs.declared.access.Operation.TheVariants.{Read, ReadValue, ReadTurn, Add, AddArray, Close, CasName, CasNext, CasTail, Cas2, Swap}
+use Rattle.rd_cell.specs.declared.access.Operation.TheVariants.{Read, ReadValue, ReadTurn}
 use Rattle.rd_cell.specs.declared.access.Answer.{Answer}
 use Rattle.rd_cell.specs.declared.access.Answer.TheVariants.{Won, Lost}
 use Rattle.rd_cell.specs.declared.access.Done.{Done}
 use Rattle.rd_cell.specs.declared.refusal.Refusal.{Refusal}
-use Rattle.rd_cell.specs.Place.{root, is_of, is_place}
+use Rattle.rd_cell.specs.Place.{is_of}
 use Rattle.rd_cell.specs.Effect.{Effect, effect, read_answer}
 use Rattle.rd_cell.specs.Access.{put, done_with}
-use Rattle.rd_cell.proofs.PlaceLemmas.{is_name-true}
 use Rattle.rd_ring.specs.declared.segments.Segment.{Segment}
-use Rattle.rd_ring.specs.Segment.{part, swapped, Leaves, Performs, Refuses, Operated, effect_at, RefusesAt}
+use Rattle.rd_ring.specs.Segment.{part, swapped, Performs, Refuses, Operated, effect_at, RefusesAt}
 
 -- a read has its answer as its effect
 read_effect : (op : Operation) (c : Content) (a : Answer) → read_answer op c ≡ Some a → effect op c ≡ Ok (record { answer = a; writes = None })

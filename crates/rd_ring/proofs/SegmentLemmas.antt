@@ -1,25 +1,23 @@
 -- What an operation leaves at each place of a segment.
-use Rattle.std.proofs.Common.{◌≡◌, ◌≢◌, ℕ, ◌+◌, ◌^◌, ◌<◌, ◌≤◌, Bool, true, false, cond, refl, sym, ap, ap₂, arith, Option, Some, None, Result, Ok, Err, List, [], ◌∷◌, zero, suc, ◌↔◌, nat_lt, lt-ltb, le-ltb, ◌∙◌, ◌==◌, ◌&&◌, inl, inr, length, set, eq-eqb, ne_eqb, option_map, slice_get, if◌then◌else◌}
+use Rattle.std.proofs.Common.{◌≡◌, ◌≢◌, ℕ, ◌+◌, ◌^◌, ◌<◌, ◌≤◌, Bool, true, false, refl, sym, ap, ap₂, arith, Option, Some, List, [], ◌∷◌, zero, suc, ◌↔◌, nat_lt, lt-ltb, le-ltb, ◌∙◌, ◌==◌, ◌&&◌, inl, inr, length, set, eq-eqb, ne_eqb, option_map, slice_get, if◌then◌else◌}
 use Rattle.std.proofs.lemmas.Bool.{true≢false, false_from_ne_true, cases_eq, cond-true, cond-false, and_from, and_right}
 use Rattle.std.specs.Bool.{OnTrue, OnFalse}
 use Rattle.rd_cell.specs.declared.cells.Cell.{Cell}
 use Rattle.rd_cell.specs.declared.places.SegName.{SegName}
 use Rattle.rd_cell.specs.declared.places.Place.{Place}
-use Rattle.rd_cell.specs.declared.places.Place.TheVariants.{QHead, QTail, Head, Tail, Next, Cell as CellAt, Whole, ArrHead, ArrTail, ArrCell}
+use Rattle.rd_cell.specs.declared.places.Place.TheVariants.{Head, Tail, Next, Cell as CellAt, Whole}
 use Rattle.rd_cell.specs.declared.contents.Content.{Content}
 use Rattle.rd_cell.specs.declared.contents.Content.TheVariants.{Number, Tail as TailIs, Next as NextIs, Cell as CellIs}
-use Rattle.rd_cell.specs.declared.access.Operation.{Operation}
-use Rattle.rd_cell.specs.declared.access.Operation.TheVariants.{Add, Close, CasTail, CasNext, Cas2}
-use Rattle.rd_cell.specs.declared.access.Answer.TheVariants.{Found, WasClosed, Won, Lost}
-use Rattle.rd_cell.specs.declared.refusal.Refusal.{Refusal}
+use Rattle.rd_cell.specs.declared.access.Operation.TheVariants.{Add, Close, Cas2}
+use Rattle.rd_cell.specs.declared.access.Answer.TheVariants.{WasClosed}
 use Rattle.rd_cell.specs.declared.refusal.Refusal.TheVariants.{CounterEnd}
 use Rattle.rd_cell.specs.Place.{is_of, is_place, is_name}
-use Rattle.rd_cell.specs.Effect.{Effect, effect, writes, swaps}
+use Rattle.rd_cell.specs.Effect.{effect, swaps}
 use Rattle.rd_cell.specs.Content.{is_cell}
 use Rattle.rd_cell.proofs.CellLemmas.{is_cell-true, is_cell_same}
 use Rattle.rd_cell.proofs.ListLemmas.{slice_get-set_same, slice_get-set_other}
 use Rattle.rd_ring.specs.declared.segments.Segment.{Segment}
-use Rattle.rd_ring.specs.Segment.{part, added, swapped, Leaves, Puts, Performs, Refuses}
+use Rattle.rd_ring.specs.Segment.{part, added, swapped, Puts, Performs, Refuses}
 
 -- two segments that differ in the tail alone
 pub tail_put : {R : ℕ} (old new : Segment R) (closed : Bool) (count : ℕ) → new.head ≡ old.head → new.next ≡ old.next

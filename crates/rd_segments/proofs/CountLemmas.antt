@@ -1,10 +1,10 @@
 -- How many segments a maker has made, counted in the map and in its list.
-use Rattle.std.proofs.Common.{◌≡◌, ℕ, zero, suc, ◌+◌, ◌-◌, ◌<◌, ◌≤◌, Bool, true, false, ◌⊎◌, inl, inr, refl, sym, ◌∙◌, ap, arith, List, length, Option, Some, None, is_some, slice_get}
+use Rattle.std.proofs.Common.{◌≡◌, ℕ, zero, suc, ◌+◌, ◌<◌, ◌≤◌, true, false, inl, inr, refl, ◌∙◌, ap, arith, List, length, Option, Some, None, is_some, slice_get}
 use Rattle.std.proofs.lemmas.Bool.{cases_lt, cond-true, cond-false}
-use Rattle.std.proofs.lemmas.Option.{slice_get_past, slice_get-get_or, slice_get_cases}
+use Rattle.std.proofs.lemmas.Option.{slice_get_past, slice_get_cases}
 use Rattle.rd_cell.specs.declared.places.SegName.{SegName}
 use Rattle.rd_cell.specs.declared.places.Place.TheVariants.{Head}
-use Rattle.rd_cell.specs.Content.{Contents, is_there}
+use Rattle.rd_cell.specs.Content.{is_there}
 use Rattle.rd_cell.specs.Access.{made_from, made}
 use Rattle.rd_ring.specs.declared.segments.Segment.{Segment}
 use Rattle.rd_segments.specs.Lists.{ListOf, numbered, named, part_of, count_in, count}

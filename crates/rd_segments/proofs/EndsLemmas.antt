@@ -1,9 +1,8 @@
 -- An operation on a name.
-use Rattle.std.proofs.Common.{◌≡◌, Bool, true, false, refl, sym, ◌∙◌, ap, Option, Some, None, Ok, if◌then◌else◌, ◌↔◌}
+use Rattle.std.proofs.Common.{◌≡◌, Bool, true, false, refl, sym, ◌∙◌, ap, Some, None, if◌then◌else◌, ◌↔◌}
 use Rattle.std.proofs.lemmas.Bool.{false_from_ne_true, true≢false}
 use Rattle.rd_cell.specs.declared.places.SegName.{SegName}
 use Rattle.rd_cell.specs.declared.places.Place.{Place}
-use Rattle.rd_cell.specs.declared.contents.Content.{Content}
 use Rattle.rd_cell.specs.declared.contents.Content.TheVariants.{Name}
 use Rattle.rd_cell.specs.declared.access.Operation.{Operation}
 use Rattle.rd_cell.specs.declared.access.Operation.TheVariants.{Read, CasName}

@@ -1,5 +1,5 @@
 -- The space's map after a change of one segment, or of one of the queue's ends.
-use Rattle.std.proofs.Common.{◌≡◌, ℕ, Bool, true, false, ◌==◌, ◌&&◌, if◌then◌else◌, ◌⊎◌, inl, inr, refl, sym, ◌∙◌, ap, subst, List, Option, Some, None, is_some, Result, Ok, Err, IfOk, IfErr, OnErr}
+use Rattle.std.proofs.Common.{◌≡◌, ℕ, true, false, if◌then◌else◌, inl, inr, refl, sym, ◌∙◌, ap, subst, List, Option, Some, None, is_some, Result, Ok, Err, IfOk, IfErr, OnErr}
 use Rattle.std.proofs.lemmas.Bool.{cases_Bool, cond-true, cond-false, cond_both, false_from_ne_true, both_ways}
 use mathlib.Core.Path.{fun_ext}
 use Rattle.rd_cell.specs.declared.places.SegName.{SegName}
@@ -13,12 +13,11 @@ use Rattle.rd_cell.specs.declared.refusal.Refusal.{Refusal}
 use Rattle.rd_cell.specs.declared.refusal.Refusal.TheVariants.{NoSuchPlace}
 use Rattle.rd_cell.specs.Place.{root, is_name, is_of, is_place, segment_of}
 use Rattle.rd_cell.specs.Content.{Contents, fresh, holding, with_content, without_segment}
-use Rattle.rd_cell.specs.Effect.{Effect, effect}
-use Rattle.rd_cell.specs.Access.{Performed, put, lay, left_by, operate, done_at, done_with, Operates, Makes}
+use Rattle.rd_cell.specs.Access.{put, operate, done_at, done_with, Operates, Makes}
 use Rattle.rd_cell.proofs.PlaceLemmas.{is_name-true, is_name-refl, is_place-true}
 use Rattle.rd_cell.proofs.AccessLemmas.{put-other}
 use Rattle.rd_ring.specs.declared.segments.Segment.{Segment}
-use Rattle.rd_ring.specs.Segment.{part, Operated, IsRestored, effect_at}
+use Rattle.rd_ring.specs.Segment.{part, effect_at}
 use Rattle.rd_segments.specs.Lists.{ListOf, named, part_of, count, Changes, OperatesIn, RestoresIn, MakesIn, IsFresh}
 use Rattle.rd_segments.specs.Ends.{written, OperatesOnName}
 use Rattle.rd_segments.specs.Fields.{contents_of, fresh_space}

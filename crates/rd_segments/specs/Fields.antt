@@ -1,7 +1,6 @@
 -- The space's fields as one map from places to contents.
 use Rattle.std.specs.Prelude.{ℕ, List, Some, None, if◌then◌else◌}
 use Rattle.rd_cell.specs.declared.places.SegName.{SegName}
-use Rattle.rd_cell.specs.declared.places.Place.{Place}
 use Rattle.rd_cell.specs.declared.places.Place.TheVariants.{QHead, QTail, Head, Tail, Next, Cell as CellAt}
 use Rattle.rd_cell.specs.declared.contents.Content.TheVariants.{Name}
 use Rattle.rd_cell.specs.Place.{root, is_of}

@@ -1,16 +1,14 @@
 -- A step that does not depend on the one before it may go first.
-use Rattle.std.proofs.Common.{◌≡◌, ◌≢◌, ℕ, Bool, true, false, ◌==◌, ◌||◌, if◌then◌else◌, ◌⊎◌, inl, inr, refl, sym, ◌∙◌, ap, ap₂, subst, Option, Some, None, Result, Ok, Err}
+use Rattle.std.proofs.Common.{◌≡◌, ◌≢◌, ℕ, false, ◌==◌, if◌then◌else◌, inl, inr, refl, sym, ◌∙◌, ap, subst, Option, Some, Ok}
 use Rattle.std.proofs.lemmas.Bool.{cases_eq, eqb-false, or_parts}
 use mathlib.Core.Path.{fun_ext}
 use Rattle.rd_cell.specs.declared.access.Access.{Access}
-use Rattle.rd_cell.specs.Content.{Contents}
 use Rattle.rd_cell.specs.Access.{Performed, left_by, perform}
-use Rattle.rd_cell.proofs.AccessLemmas.{IsLocal, clash, clash-sym, performed_local, perform_around, left_by_swap}
+use Rattle.rd_cell.proofs.AccessLemmas.{clash, clash-sym, performed_local, perform_around, left_by_swap}
 use Rattle.rd_actor.specs.declared.actors.Actor.{Actor}
 use Rattle.rd_actor.specs.Table.{need, after}
 use Rattle.rd_actor.specs.World.{World}
 use Rattle.rd_step.specs.declared.entries.Event.{Event}
-use Rattle.rd_step.specs.declared.entries.Entry.{Entry}
 use Rattle.rd_step.specs.Step.{Stepped, with_actor, finished, step}
 use Rattle.rd_step.specs.Dependence.{depends}
 use Rattle.rd_step.specs.Laws.{Swapped}

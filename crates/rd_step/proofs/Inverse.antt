@@ -1,18 +1,18 @@
 -- The words that an entry keeps give the world before its step back, and a step on which no later one depends may
 -- be taken out of a run.
-use Rattle.std.proofs.Common.{◌≡◌, ◌≢◌, ℕ, zero, suc, ◌+◌, ◌<◌, ◌≤◌, Bool, true, false, not, ◌==◌, ◌&&◌, cond, if◌then◌else◌, nat_lt, ◌⊎◌, inl, inr, refl, sym, ◌∙◌, ap, ap₂, subst, arith, List, [], ◌∷◌, Option, Some, None, is_some, Result, Ok, Err, IfOk, ltb-true}
-use Rattle.std.proofs.lemmas.Bool.{cases_eq, cases_Bool, cond-true, cond-false, cond_both, and_right, false_from_ne_true}
+use Rattle.std.proofs.Common.{◌≡◌, ℕ, zero, suc, ◌+◌, ◌<◌, true, false, if◌then◌else◌, nat_lt, inl, inr, refl, sym, ◌∙◌, ap, subst, arith, List, ◌∷◌, Option, Some, None, is_some, Result, Ok, Err, IfOk, ltb-true}
+use Rattle.std.proofs.lemmas.Bool.{cases_eq, cases_Bool, cond-true, cond-false, cond_both, and_right}
 use Rattle.std.proofs.lemmas.Result.{IfOk-at_ok}
 use mathlib.Core.Path.{fun_ext}
 use Rattle.rd_cell.specs.declared.places.SegName.{SegName}
 use Rattle.rd_cell.specs.declared.places.Place.{Place}
-use Rattle.rd_cell.specs.declared.places.Place.TheVariants.{QHead, QTail, Head, Tail, Next, Cell as CellAt, Whole, ArrHead, ArrTail, ArrCell}
+use Rattle.rd_cell.specs.declared.places.Place.TheVariants.{Head, Tail, Next, Cell as CellAt, Whole}
 use Rattle.rd_cell.specs.declared.contents.Content.{Content}
 use Rattle.rd_cell.specs.declared.access.Access.{Access}
 use Rattle.rd_cell.specs.declared.access.Access.TheVariants.{NoPlace, At, Make}
 use Rattle.rd_cell.specs.declared.access.Operation.{Operation}
 use Rattle.rd_cell.specs.declared.refusal.Refusal.{Refusal}
-use Rattle.rd_cell.specs.Place.{is_of, is_place, covers}
+use Rattle.rd_cell.specs.Place.{is_of, is_place}
 use Rattle.rd_cell.specs.Content.{Contents, is_there, holding}
 use Rattle.rd_cell.specs.Effect.{Effect, effect}
 use Rattle.rd_cell.specs.Access.{Performed, left_by, put, lay, made_from, made, operate, done_at, make, perform}
@@ -22,15 +22,10 @@ use Rattle.rd_actor.specs.declared.actors.Actor.{Actor}
 use Rattle.rd_actor.specs.Table.{after}
 use Rattle.rd_actor.specs.World.{World}
 use Rattle.rd_step.specs.declared.entries.Event.{Event}
-use Rattle.rd_step.specs.declared.entries.Entry.{Entry}
-use Rattle.rd_step.specs.Step.{Stepped, with_actor, finished, step, put_back, reverted, unstepped}
+use Rattle.rd_step.specs.Step.{Stepped, with_actor, step, put_back, unstepped}
 use Rattle.rd_step.specs.Run.{Ran, preceded, then_on, run}
-use Rattle.rd_step.specs.Dependence.{depends, IsFree}
-use Rattle.rd_step.specs.Laws.{Swapped}
 use Rattle.rd_step.specs.WellFormed.{Presence, belongs, IsWellFormed}
-use Rattle.rd_step.proofs.Steps.{Took, took, with_actor-same, with_actor-other}
-use Rattle.rd_step.proofs.Commute.{commutes}
-use Rattle.rd_step.proofs.Keeps.{keeps}
+use Rattle.rd_step.proofs.Steps.{took, with_actor-same, with_actor-other}
 
 -- the contents that an access left, with what was at its place put back, are those from before it
 abbrev PutsBack : Contents → Performed → Type 0

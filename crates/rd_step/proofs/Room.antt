@@ -1,8 +1,7 @@
 -- The room that a step uses is the room that its undoing gives back.
-use Rattle.std.proofs.Common.{◌≡◌, ℕ, nat_lt, Bool, true, false, refl, sym, ◌∙◌, ap, subst, Option, Some, None, Result, Ok, Err, IfOk}
+use Rattle.std.proofs.Common.{◌≡◌, ℕ, nat_lt, Bool, true, refl, ◌∙◌, ap, subst, Option, Some, None, Result, Ok, Err, IfOk}
 use Rattle.std.proofs.lemmas.Bool.{cond_both}
 use Rattle.std.proofs.lemmas.Result.{IfOk-at_ok}
-use Rattle.rd_cell.specs.declared.places.SegName.{SegName}
 use Rattle.rd_cell.specs.declared.places.Place.{Place}
 use Rattle.rd_cell.specs.declared.contents.Content.{Content}
 use Rattle.rd_cell.specs.declared.access.Access.{Access}
@@ -13,12 +12,11 @@ use Rattle.rd_cell.specs.Content.{Contents}
 use Rattle.rd_cell.specs.Effect.{Effect, effect}
 use Rattle.rd_cell.specs.Access.{Performed, made, operate, done_at, make, perform}
 use Rattle.rd_segments.specs.Lists.{uses}
-use Rattle.rd_actor.specs.Table.{after}
 use Rattle.rd_actor.specs.World.{World}
 use Rattle.rd_step.specs.declared.entries.Event.{Event}
-use Rattle.rd_step.specs.Step.{Stepped, finished, step}
+use Rattle.rd_step.specs.Step.{Stepped, step}
 use Rattle.rd_step.specs.Machine.{makes, actor_makes, needs_making, makes_segment, given}
-use Rattle.rd_step.proofs.Steps.{Took, took}
+use Rattle.rd_step.proofs.Steps.{took}
 
 given-done_at : (p : Place) (c : Content) (r : Result Effect Refusal) (m : ℕ) → IfOk (done_at p c r) (λ did. 0 ≡ given did.done.place did.done.old m)
 given-done_at p c (Err x) m = tt

@@ -1,6 +1,6 @@
 -- The worlds that a session may begin with are well-formed.
-use Rattle.std.proofs.Common.{◌≡◌, ◌≢◌, ℕ, zero, suc, ◌+◌, ◌-◌, ◌^◌, ◌<◌, ◌≤◌, Bool, true, false, not, ◌==◌, ◌&&◌, if◌then◌else◌, nat_lt, nat_le, ◌⊎◌, inl, inr, refl, sym, ◌∙◌, ap, subst, arith, List, length, slice_get, Option, Some, None, is_some, le-leb, lt-ltb, le-ltb, ltb-true}
-use Rattle.std.proofs.lemmas.Bool.{cases_Bool, cases_lt, cond-true, cond-false, cond_both, and_from, and_parts, and_left}
+use Rattle.std.proofs.Common.{◌≡◌, ℕ, zero, suc, ◌+◌, ◌^◌, ◌<◌, ◌≤◌, Bool, true, false, ◌&&◌, if◌then◌else◌, nat_lt, inl, inr, refl, sym, ◌∙◌, ap, subst, arith, List, length, slice_get, Option, Some, None, is_some, le-leb, lt-ltb, le-ltb, ltb-true}
+use Rattle.std.proofs.lemmas.Bool.{cases_Bool, cases_lt, cond-true, cond-false, cond_both, and_from}
 use Rattle.std.proofs.lemmas.Option.{slice_get_past}
 use mathlib.Core.Path.{fun_ext}
 use Rattle.rd_cell.specs.declared.places.SegName.{SegName}
@@ -9,14 +9,13 @@ use Rattle.rd_cell.specs.declared.places.Place.TheVariants.{QHead, QTail, Head, 
 use Rattle.rd_cell.specs.declared.contents.Content.{Content}
 use Rattle.rd_cell.specs.declared.contents.Content.TheVariants.{Number, Tail as TailIs, Next as NextIs, Cell as CellIs}
 use Rattle.rd_cell.specs.Place.{root, is_name}
-use Rattle.rd_cell.specs.Content.{Contents, is_there, new_cell}
+use Rattle.rd_cell.specs.Content.{is_there, new_cell}
 use Rattle.rd_cell.proofs.PlaceLemmas.{is_name-true}
 use Rattle.rd_segments.specs.declared.space.Space.{Space}
 use Rattle.rd_segments.specs.Fields.{fresh_space}
 use Rattle.rd_segments.specs.Space.{contents}
 use Rattle.rd_actor.specs.declared.actors.Actor.{Actor}
 use Rattle.rd_actor.specs.Actor.{idle, poised}
-use Rattle.rd_actor.specs.World.{World}
 use Rattle.rd_step.specs.Machine.{actor_at, actors_by, machine_of, fresh_world, poised_world}
 use Rattle.rd_step.specs.WellFormed.{Presence, belongs, place_fits, record_fits, actor_fits, acting, maker_fits, IsNumbered, AreMade, IsWellFormed}
 

@@ -1,9 +1,9 @@
 -- A step that was not refused, taken apart.
-use Rattle.std.proofs.Common.{◌≡◌, ◌≢◌, ℕ, Bool, true, false, ◌==◌, cond, if◌then◌else◌, refl, sym, ◌∙◌, ap, subst, Option, Some, None, Result, Ok, Err, ne_eqb, eq-eqb}
+use Rattle.std.proofs.Common.{◌≡◌, ℕ, ◌==◌, refl, ◌∙◌, ap, Option, Some, None, Result, Ok, Err, ne_eqb, eq-eqb}
 use Rattle.std.proofs.lemmas.Bool.{cond-true, cond-false}
 use Rattle.rd_cell.specs.declared.access.Access.{Access}
 use Rattle.rd_cell.specs.declared.refusal.Refusal.{Refusal}
-use Rattle.rd_cell.specs.Access.{Performed, left_by, perform}
+use Rattle.rd_cell.specs.Access.{Performed, perform}
 use Rattle.rd_actor.specs.declared.actors.Actor.{Actor}
 use Rattle.rd_actor.specs.Table.{need, after}
 use Rattle.rd_actor.specs.World.{World}

@@ -1,37 +1,36 @@
 -- The code's world, as the model's.
-use Rattle.std.proofs.Common.{◌≡◌, ◌≢◌, ℕ, zero, suc, ◌+◌, ◌-◌, ◌^◌, ◌<◌, ◌≤◌, ◌↔◌, Bool, true, false, ◌==◌, ◌&&◌, if◌then◌else◌, nat_lt, nat_le, ◌⊎◌, inl, inr, refl, sym, ◌∙◌, ap, subst, arith, List, [], ◌∷◌, length, set, slice_get, Option, Some, None, is_some, IsSome, IsTrue, IfOk, IfErr, OnErr, Result, Ok, Err, lt-ltb, le-ltb, leb-true, ltb-true, ne_eqb}
+use Rattle.std.proofs.Common.{◌≡◌, ℕ, zero, suc, ◌+◌, ◌-◌, ◌^◌, ◌<◌, ◌≤◌, true, false, nat_lt, ◌⊎◌, inl, inr, refl, sym, ◌∙◌, ap, subst, arith, List, [], ◌∷◌, length, set, slice_get, Option, Some, None, is_some, IsSome, IfOk, OnErr, Result, Ok, Err, lt-ltb, le-ltb, leb-true, ltb-true, ne_eqb}
 use Rattle.std.proofs.lemmas.Bool.{cases_lt, cond-true, cond-false, and_parts}
 use mathlib.Core.Path.{fun_ext}
 use Rattle.rd_cell.specs.declared.places.SegName.{SegName}
 use Rattle.rd_cell.specs.declared.places.Place.{Place}
-use Rattle.rd_cell.specs.declared.places.Place.TheVariants.{Head, Whole}
+use Rattle.rd_cell.specs.declared.places.Place.TheVariants.{Whole}
 use Rattle.rd_cell.specs.declared.access.Access.{Access}
 use Rattle.rd_cell.specs.declared.access.Access.TheVariants.{NoPlace, At, Make}
 use Rattle.rd_cell.specs.declared.access.Answer.TheVariants.{Made}
 use Rattle.rd_cell.specs.declared.access.Operation.{Operation}
-use Rattle.rd_cell.specs.declared.access.Operation.TheVariants.{Read, ReadValue, ReadTurn, Add, AddArray, Close, CasName, CasNext, CasTail, Cas2, Swap}
+use Rattle.rd_cell.specs.declared.access.Operation.TheVariants.{AddArray, CasTail}
 use Rattle.rd_cell.specs.declared.access.Done.{Done}
 use Rattle.rd_cell.specs.declared.refusal.Refusal.{Refusal}
 use Rattle.rd_cell.specs.declared.refusal.Refusal.TheVariants.{SegmentsEnd, NoMemory}
 use Rattle.rd_cell.specs.Content.{Contents, is_there, holding, without_segment}
 use Rattle.rd_cell.specs.Effect.{suits_segments}
-use Rattle.rd_cell.specs.Access.{Performed, lay, left_by, made, nothing_done, make, perform, Operates, Makes, Accesses}
+use Rattle.rd_cell.specs.Access.{Performed, lay, made, nothing_done, perform, Operates, Makes, Accesses}
 use Rattle.rd_segments.specs.declared.space.Space.{Space}
 use Rattle.rd_segments.specs.Space.{contents, made_by, room, lists, RefusesMake}
 use Rattle.rd_segments.proofs.CountLemmas.{counts, there_below, absent_from}
-use Rattle.rd_actor.specs.declared.actors.Act.{Act}
 use Rattle.rd_actor.specs.declared.actors.Actor.{Actor}
 use Rattle.rd_actor.specs.declared.actors.OpReply.{OpReply}
 use Rattle.rd_actor.specs.Table.{need, after}
 use Rattle.rd_actor.specs.World.{World}
 use Rattle.rd_step.specs.declared.entries.Event.{Event}
 use Rattle.rd_step.specs.declared.entries.Entry.{Entry}
-use Rattle.rd_step.specs.Step.{Stepped, with_actor, finished, step, put_back, IsLast}
+use Rattle.rd_step.specs.Step.{with_actor, step, put_back, IsLast}
 use Rattle.rd_step.specs.Machine.{actor_at, machine_of, suits, makes, needs_making, actor_makes, makes_segment}
 use Rattle.rd_step.specs.WellFormed.{Presence, actor_fits, record_fits, maker_fits, acting, IsWellFormed}
-use Rattle.rd_step.proofs.Steps.{step_of, step_refused, step_not_needed}
+use Rattle.rd_step.proofs.Steps.{step_of, step_refused}
 use Rattle.rd_step.proofs.Actors.{actor_at-set, actor_at-within}
-use Rattle.rd_step.proofs.Fits.{PartsFit, parts_of, op_fits, access_fits, need_fits}
+use Rattle.rd_step.proofs.Fits.{parts_of, op_fits, access_fits, need_fits}
 use Rattle.rd_step.proofs.Keeps.{keeps}
 use Rattle.std.proofs.lemmas.Result.{IfOk-at_ok}
 

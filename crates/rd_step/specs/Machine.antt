@@ -1,5 +1,5 @@
 -- The fields of the code's world, as a world of the model.
-use Rattle.std.specs.Prelude.{ℕ, zero, suc, List, Option, Some, None, slice_get, nat_lt, if◌then◌else◌, ◌≡◌, ◌+◌, Bool, true, false, Result, Ok, Err}
+use Rattle.std.specs.Prelude.{ℕ, zero, suc, List, Option, Some, None, slice_get, nat_lt, if◌then◌else◌, Bool, true, false, Result, Ok, Err}
 use Rattle.rd_cell.specs.declared.places.Place.{Place}
 use Rattle.rd_cell.specs.declared.places.Place.TheVariants.{Whole}
 use Rattle.rd_cell.specs.declared.contents.Content.{Content}

@@ -1,4 +1,3 @@
-use Rattle.std.proofs.Common.{refl}
 use Rattle.rd_segments.proofs.ListsLemmas.{makes_in, refuses_making, making_same, spare_lessened}
 use Rattle.rd_segments.proofs.lists.make_in.Goals as goal
 

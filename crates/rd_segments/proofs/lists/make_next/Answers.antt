@@ -1,5 +1,4 @@
-use Rattle.std.proofs.Common.{◌≡◌, ◌<◌, length, ap, arith}
-use Rattle.rd_cell.specs.declared.places.SegName.{SegName}
+use Rattle.std.proofs.Common.{◌≡◌, length, arith}
 use Rattle.rd_segments.proofs.lists.make_next.Goals as goal
 
 pub returns-in-Ok-clause-ok : goal.returns-in-Ok-clause-ok

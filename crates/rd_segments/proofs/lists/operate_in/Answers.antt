@@ -1,4 +1,4 @@
-use Rattle.std.proofs.Common.{◌≡◌, ◌<◌, sym, ap, arith, length}
+use Rattle.std.proofs.Common.{◌<◌, arith, length}
 use Rattle.rd_segments.proofs.ListsLemmas.{operates_in, refuses_in, unchanged_in, spare_written, maker_within}
 use Rattle.rd_segments.proofs.lists.operate_in.Goals as goal
 

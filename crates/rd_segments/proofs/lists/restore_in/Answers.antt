@@ -1,4 +1,4 @@
-use Rattle.std.proofs.Common.{◌≡◌, ◌<◌, arith, length}
+use Rattle.std.proofs.Common.{◌<◌, arith, length}
 use Rattle.rd_segments.proofs.ListsLemmas.{restores_in, segment_there, spare_written, maker_within}
 use Rattle.rd_segments.proofs.lists.restore_in.Goals as goal
 

@@ -1,5 +1,4 @@
 use Rattle.std.proofs.Common.{◌≡◌, List, ◌++◌, ◌∷◌, [], ◌∙◌, ap, arith}
-use Rattle.rd_cell.specs.declared.places.SegName.{SegName}
 use Rattle.rd_ring.specs.declared.segments.Segment.{Segment}
 use Rattle.rd_segments.specs.Lists.{ListOf, named}
 use Rattle.rd_segments.proofs.ListsLemmas.{first_list, empty_pushed}

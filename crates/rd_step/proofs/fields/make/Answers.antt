@@ -1,5 +1,4 @@
 use Rattle.std.proofs.Common.{refl}
-use Rattle.rd_cell.specs.Content.{Contents}
 use Rattle.rd_segments.specs.Space.{contents}
 use Rattle.rd_step.proofs.WorldLemmas.{makes_access, refuses_access}
 use Rattle.rd_step.proofs.fields.make.Goals as goal

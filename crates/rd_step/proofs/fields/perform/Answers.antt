@@ -1,4 +1,3 @@
-use Rattle.std.proofs.Common.{sym}
 use Rattle.rd_step.proofs.WorldLemmas.{no_access, operates_accesses}
 use Rattle.rd_step.proofs.fields.perform.Goals as goal
 

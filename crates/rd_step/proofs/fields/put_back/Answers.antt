@@ -1,4 +1,4 @@
-use Rattle.std.proofs.Common.{sym, ◌∙◌, subst, Option}
+use Rattle.std.proofs.Common.{sym, ◌∙◌}
 use Rattle.rd_step.specs.Step.{put_back}
 use Rattle.rd_segments.specs.Space.{contents}
 use Rattle.rd_step.proofs.fields.put_back.Goals as goal

@@ -1,7 +1,6 @@
-use Rattle.std.proofs.Common.{◌≡◌, Bool, ℕ, ◌≤◌, ◌+◌, sym, ◌∙◌, ap, subst, inl, arith, Ok, Err}
+use Rattle.std.proofs.Common.{Bool, ◌≤◌, ◌+◌, sym, subst, inl, arith}
 use Rattle.rd_segments.specs.Lists.{uses}
 use Rattle.rd_segments.specs.Space.{room}
-use Rattle.rd_actor.specs.Table.{need}
 use Rattle.rd_step.specs.Machine.{machine_of}
 use Rattle.rd_step.proofs.Steps.{step_not_needed}
 use Rattle.rd_step.proofs.WorldLemmas.{head_small, actor_maker, few_made, need_suits, step_refuses, step_goes, makes_by}

@@ -1,4 +1,4 @@
-use Rattle.std.proofs.Common.{sym, ◌∙◌, ap, subst, arith, Some, None}
+use Rattle.std.proofs.Common.{sym, ◌∙◌, subst, arith, Some, None}
 use Rattle.rd_cell.specs.declared.places.Place.{Place}
 use Rattle.rd_step.specs.Step.{put_back, CanPutBack}
 use Rattle.rd_segments.specs.Space.{contents}

@@ -1,4 +1,4 @@
-use Rattle.std.proofs.Common.{◌≡◌, ◌<◌, ℕ, false, None, refl, sym, ◌∙◌, ap, arith, length, set, get_or, slice_get, Some}
+use Rattle.std.proofs.Common.{◌≡◌, ◌<◌, ℕ, false, None, refl, sym, ◌∙◌, ap, arith, length, set, get_or, Some}
 use Rattle.std.proofs.lemmas.Option.{slice_get-get_or}
 use Rattle.rd_cell.specs.declared.cells.Cell.{Cell}
 use Rattle.rd_ring.proofs.SegmentLemmas.{cell_swapped}

@@ -1,5 +1,4 @@
 use Rattle.std.proofs.Common.{true, sym, ◌∙◌, ap, arith}
-use Rattle.rd_cell.specs.declared.places.SegName.{SegName}
 use Rattle.rd_cell.specs.declared.places.Place.TheVariants.{Head, Tail, Next, Cell as CellAt}
 use Rattle.rd_cell.specs.declared.contents.Content.{Content}
 use Rattle.rd_cell.specs.declared.access.Answer.TheVariants.{Found}

@@ -1,5 +1,5 @@
-use Rattle.std.proofs.Common.{sym, ◌∙◌}
-use Rattle.rd_segments.proofs.FieldsLemmas.{space_operates, space_refuses, unchanged_fields, head_operates, tail_operates}
+use Rattle.std.proofs.Common.{sym}
+use Rattle.rd_segments.proofs.FieldsLemmas.{space_operates, head_operates, tail_operates}
 use Rattle.rd_segments.proofs.space.Space.operate.Goals as goal
 
 pub returns-else-is_none-clause-ok : goal.returns-else-is_none-clause-ok

@@ -1,4 +1,4 @@
-use Rattle.std.proofs.Common.{◌≡◌, ℕ, ◌<◌, ◌-◌, slice_get, Some, vec_len, vec_capacity}
+use Rattle.std.proofs.Common.{◌≡◌, ℕ, ◌<◌, slice_get, Some, vec_len, vec_capacity}
 use Rattle.rd_actor.specs.Actor.{idle}
 use Rattle.rd_step.proofs.worlds.World.fresh.Given as goal
 

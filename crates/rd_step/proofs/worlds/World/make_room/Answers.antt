@@ -1,6 +1,5 @@
-use Rattle.std.proofs.Common.{◌≡◌, ◌∙◌, ◌<◌, sym, subst, arith}
+use Rattle.std.proofs.Common.{◌∙◌, sym, subst, arith}
 use Rattle.rd_actor.specs.World.{World}
-use Rattle.rd_segments.specs.Space.{lists}
 use Rattle.rd_step.specs.WellFormed.{IsWellFormed}
 use Rattle.rd_step.proofs.WorldLemmas.{some_maker, same_world}
 use Rattle.rd_step.proofs.worlds.World.make_room.Goals as goal
