@@ -2,30 +2,33 @@
 use Rattle.std.specs.Prelude.{ℕ, ◌+◌, ◌%◌, Bool, true, false, ◌==◌, ◌&&◌, ◌||◌, nat_lt, nat_le, if◌then◌else◌, Option, Some, None, is_some, is_none, Result, Ok, Err}
 use Rattle.rd_cell.specs.declared.cells.Cell.{Cell}
 use Rattle.rd_cell.specs.declared.places.Place.{Place}
-use Rattle.rd_cell.specs.declared.places.Place.TheVariants.{QHead, QTail, Head, Tail, Next, Cell as CellAt}
-use Rattle.rd_cell.specs.declared.contents.Content.TheVariants.{Name, Number, Tail as TailIs, Next as NextIs}
+use Rattle.rd_cell.specs.declared.places.Place.TheVariants.{QHead, QTail, Head, Tail, Next, Cell as CellAt, ArrHead, ArrTail, ArrCell}
+use Rattle.rd_cell.specs.declared.contents.ArrSlot.{ArrSlot}
+use Rattle.rd_cell.specs.declared.contents.ArrSlot.TheVariants.{Empty as NobodyYet, Top, Value as Held}
+use Rattle.rd_cell.specs.declared.contents.Content.TheVariants.{Name, Number, Tail as TailIs, Next as NextIs, Slot}
 use Rattle.rd_cell.specs.declared.access.Access.{Access}
 use Rattle.rd_cell.specs.declared.access.Access.TheVariants.{NoPlace, At, Make}
-use Rattle.rd_cell.specs.declared.access.Operation.TheVariants.{Read, ReadValue, ReadTurn, Add, Close, CasName, CasNext, CasTail, Cas2}
+use Rattle.rd_cell.specs.declared.access.Operation.TheVariants.{Read, ReadValue, ReadTurn, Add, AddArray, Close, CasName, CasNext, CasTail, Cas2, Swap}
 use Rattle.rd_cell.specs.declared.access.Answer.{Answer}
 use Rattle.rd_cell.specs.declared.access.Answer.TheVariants.{Found, Value, Turn, Won, Lost, Made}
 use Rattle.rd_cell.specs.declared.refusal.Refusal.{Refusal}
 use Rattle.rd_cell.specs.declared.refusal.Refusal.TheVariants.{NotIdle, Idle as IsIdle, NeedsChoice, NoChoice}
 use Rattle.rd_cell.specs.Content.{is_bit}
 use Rattle.rd_actor.specs.declared.actors.Act.{Act}
-use Rattle.rd_actor.specs.declared.actors.Act.TheVariants.{Enq, Deq, Go, Starve}
+use Rattle.rd_actor.specs.declared.actors.Act.TheVariants.{Enq, Deq, AEnq, ADeq, Go, Starve}
 use Rattle.rd_actor.specs.declared.actors.Actor.{Actor}
 use Rattle.rd_actor.specs.declared.actors.Op.{Op}
-use Rattle.rd_actor.specs.declared.actors.Op.TheVariants.{Enq as Enqueue, Deq as Dequeue}
+use Rattle.rd_actor.specs.declared.actors.Op.TheVariants.{Enq as Enqueue, Deq as Dequeue, AEnq as EnqueueInArray, ADeq as DequeueFromArray}
 use Rattle.rd_actor.specs.declared.actors.OpReply.{OpReply}
 use Rattle.rd_actor.specs.declared.actors.OpReply.TheVariants.{Enqueued, Value as Dequeued, Empty}
 use Rattle.rd_actor.specs.declared.actors.Pc.{Pc}
-use Rattle.rd_actor.specs.declared.actors.Pc.TheVariants.{Idle, E1, E2, E3, E4, E5, E6, E7, E8, E9, E10, E11, E12, E13, E14, Q1, Q2, Q3, Q4, Q5, Q6, Q7, Q8, Q9, Q10, Q11, Q12, Q13, Q14}
+use Rattle.rd_actor.specs.declared.actors.Pc.TheVariants.{Idle, E1, E2, E3, E4, E5, E6, E7, E8, E9, E10, E11, E12, E13, E14, Q1, Q2, Q3, Q4, Q5, Q6, Q7, Q8, Q9, Q10, Q11, Q12, Q13, Q14, A1, A2, B1, B2, B3}
 use Rattle.rd_actor.specs.Actor.{idle, calling}
 
--- the value that an enqueue is to put
+-- the value that an enqueue is to put, on either queue
 abbrev pub value_of : Option Op → ℕ
 value_of (Some (Enqueue x)) = x
+value_of (Some (EnqueueInArray x)) = x
 value_of _ = 0
 
 -- the cell that an enqueue works on, and the one that a dequeue works on
@@ -69,7 +72,12 @@ need_at R Q11 a = Ok (At (Tail a.crq) Read)
 need_at R Q12 a = Ok (At (Tail a.crq) (CasTail a.t a.h))
 need_at R Q13 a = Ok (At (Next a.crq) Read)
 need_at R Q14 a = Ok (At QHead (CasName a.crq a.next))
-need_at R _ a = Err IsIdle
+need_at R A1 a = Ok (At ArrTail AddArray)
+need_at R A2 a = Ok (At (ArrCell a.t) (Swap (Held (value_of a.op))))
+need_at R B1 a = Ok (At ArrHead AddArray)
+need_at R B2 a = Ok (At (ArrCell a.h) (Swap Top))
+need_at R B3 a = Ok (At ArrTail Read)
+need_at R Idle a = Err IsIdle
 
 -- a call needs an idle actor, and no place
 abbrev pub need_call : Pc → Result Access Refusal
@@ -86,6 +94,8 @@ need_choice _ = Err NoChoice
 abbrev pub need : ℕ → Actor → Act → Result Access Refusal
 need R a (Enq x) = need_call a.pc
 need R a Deq = need_call a.pc
+need R a (AEnq x) = need_call a.pc
+need R a ADeq = need_call a.pc
 need R a Go = need_at R a.pc a
 need R a (Starve b) = need_choice a.pc
 
@@ -140,6 +150,22 @@ abbrev pub taken : Option ℕ → Actor → Actor × Option OpReply
 taken (Some v) a = (idle, Some (Dequeued v))
 taken None a = (a, None)
 
+-- an enqueue on the array that swapped its value in is over where nobody had come there yet, else it draws the next
+-- position
+abbrev pub swapped_in : Actor → ArrSlot → Actor × Option OpReply
+swapped_in a NobodyYet = (idle, Some Enqueued)
+swapped_in a _ = (goes A1 a, None)
+
+-- a dequeue on the array that swapped a slot out replies the value that it found there, else it looks at the tail
+abbrev pub swapped_out : Actor → ArrSlot → Actor × Option OpReply
+swapped_out a (Held v) = (idle, Some (Dequeued v))
+swapped_out a _ = (goes B3 a, None)
+
+-- a dequeue on the array that read the tail is over where nothing is enqueued behind its position, else it draws the
+-- next one
+abbrev pub checked_array : Actor → ℕ → Actor × Option OpReply
+checked_array a count = if nat_le count (a.h + 1) then (idle, Some Empty) else (goes B1 a, None)
+
 -- how an actor that stands here goes on with an answer, and what it replies
 abbrev pub after_at : ℕ → Pc → Actor → Answer → Actor × Option OpReply
 after_at R E1 a (Found (Name s)) = (record a { crq = s; pc = E2 }, None)
@@ -177,11 +203,18 @@ after_at R Q12 a Lost = (goes Q9 a, None)
 after_at R Q13 a (Found (NextIs None)) = (idle, Some Empty)
 after_at R Q13 a (Found (NextIs (Some m))) = (record a { next = m; pass = 2; pc = Q2 }, None)
 after_at R Q14 a answer = (goes Q1 a, None)
+after_at R A1 a (Found (Number u)) = (record a { t = u; pc = A2 }, None)
+after_at R A2 a (Found (Slot slot)) = swapped_in a slot
+after_at R B1 a (Found (Number g)) = (record a { h = g; pc = B2 }, None)
+after_at R B2 a (Found (Slot slot)) = swapped_out a slot
+after_at R B3 a (Found (Number u)) = checked_array a u
 after_at R _ a _ = (a, None)
 
 -- the actor's next record, and what it replies where its call is over
 abbrev pub after : ℕ → Actor → Act → Answer → Actor × Option OpReply
 after R a (Enq x) answer = (calling E1 (Enqueue x), None)
 after R a Deq answer = (calling Q1 Dequeue, None)
+after R a (AEnq x) answer = (calling A1 (EnqueueInArray x), None)
+after R a ADeq answer = (calling B1 DequeueFromArray, None)
 after R a Go answer = after_at R a.pc a answer
 after R a (Starve b) answer = (goes (if b then E11 else E4) a, None)

@@ -72,7 +72,7 @@ pub enum Pc {
     A2,
     /// Dequeue on the array: fetch-and-add on its head.
     B1,
-    /// Dequeue on the array: swaps the slot out.
+    /// Dequeue on the array: swaps the slot out, and leaves top.
     B2,
     /// Dequeue on the array: reads its tail.
     B3,
@@ -98,6 +98,10 @@ pub enum Act {
     Enq(u64),
     /// The call of a dequeue.
     Deq,
+    /// The call of an enqueue of this value on the array.
+    AEnq(u64),
+    /// The call of a dequeue on the array.
+    ADeq,
     /// The step of the row where it stands.
     Go,
     /// The choice whether an enqueue starves and closes the ring.

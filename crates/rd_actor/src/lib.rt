@@ -6,6 +6,7 @@
 
 pub mod actors;
 pub mod table;
+pub mod words;
 
 pub use actors::{Act, Actor, Op, OpReply, Pc};
 pub use table::{after, need};

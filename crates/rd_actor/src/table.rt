@@ -3,29 +3,31 @@
 //! A row a place, in the table's order. `need` has the column of accesses, `after` those of the words set and of
 //! the next place. The helpers below have the rows that choose between places.
 
-ghost use Rattle.std.specs.Prelude.{◌≡◌, ◌+◌, ◌%◌, ◌^◌, ◌<◌, ◌≤◌, true, false, Some, None};
-ghost use Rattle.rd_cell.specs.declared.places.Place.TheVariants.{Cell as CellAt};
-ghost use Rattle.rd_cell.specs.declared.access.Operation.TheVariants.{CasName, CasTail, Cas2};
-ghost use Rattle.rd_actor.specs.Table.{value_of, cell_of, need, need_at, after, after_at, goes, done, taken, drawn, turned_to_enqueue, turned_to_dequeue, checked_head, checked_room, checked_tail, checked_again};
+ghost use Rattle.std.specs.Prelude.{◌≡◌, ◌+◌, ◌%◌, ◌^◌, ◌<◌, ◌≤◌, true, false, Some, None, IsTrue};
+ghost use Rattle.rd_cell.specs.declared.places.Place.TheVariants.{Cell as CellAt, ArrCell};
+ghost use Rattle.rd_cell.specs.declared.access.Operation.TheVariants.{CasName, CasTail, Cas2, Swap};
+ghost use Rattle.rd_cell.specs.declared.contents.ArrSlot.TheVariants.{Value as Held};
+ghost use Rattle.rd_actor.specs.Table.{value_of, cell_of, need, need_at, after, after_at, goes, done, taken, swapped_in, swapped_out, checked_array, drawn, turned_to_enqueue, turned_to_dequeue, checked_head, checked_room, checked_tail, checked_again};
+ghost use Rattle.rd_actor.specs.Words.{words_fit};
 
 use super::actors::{Act, Actor, Op, OpReply, Pc};
-use rd_cell::{Access, Answer, Cell, Content, Operation, Place, Refusal, SegName};
+use rd_cell::{Access, Answer, ArrSlot, Cell, Content, Operation, Place, Refusal, SegName};
 
 /// The one access that the actor's next step makes, over rings of `R` cells.
 ///
 /// # Errors
 ///
 /// In this order: `NotIdle` for a call by an actor that is in one; `Idle` for a step or a choice by an actor that is
-/// in no call, or that stands at a place without a row; `NeedsChoice` for a step where a choice is due; `NoChoice`
+/// in no call; `NeedsChoice` for a step where a choice is due; `NoChoice`
 /// for a choice where none is.
 pub fn need<const R: usize>(actor: &Actor, act: Act) -> Result<Access, Refusal>
     requires positive { 1 ≤ R }
     requires small { R ≤ 64 }
-    ensures { actor.now.h + R < 2 ^ 64 → result ≡ need R actor.now act }
+    ensures { actor.now.h + R < 2 ^ 64 → IsTrue (words_fit actor.now) → result ≡ need R actor.now act }
 {
     match (act, actor.pc) {
-        (Act::Enq(_) | Act::Deq, Pc::Idle) => Ok(Access::NoPlace),
-        (Act::Enq(_) | Act::Deq, _) => Err(Refusal::NotIdle),
+        (Act::Enq(_) | Act::Deq | Act::AEnq(_) | Act::ADeq, Pc::Idle) => Ok(Access::NoPlace),
+        (Act::Enq(_) | Act::Deq | Act::AEnq(_) | Act::ADeq, _) => Err(Refusal::NotIdle),
         (Act::Go | Act::Starve(_), Pc::Idle) => Err(Refusal::Idle),
         (Act::Go, Pc::E10) => Err(Refusal::NeedsChoice),
         (Act::Starve(_), Pc::E10) => Ok(Access::NoPlace),
@@ -38,7 +40,7 @@ pub fn need<const R: usize>(actor: &Actor, act: Act) -> Result<Access, Refusal>
 fn need_at<const R: usize>(actor: &Actor) -> Result<Access, Refusal>
     requires positive { 1 ≤ R }
     requires small { R ≤ 64 }
-    ensures { actor.now.h + R < 2 ^ 64 → result ≡ need_at R actor.now.pc actor.now }
+    ensures { actor.now.h + R < 2 ^ 64 → IsTrue (words_fit actor.now) → result ≡ need_at R actor.now.pc actor.now }
 {
     let crq = actor.crq;
     match actor.pc {
@@ -65,7 +67,12 @@ fn need_at<const R: usize>(actor: &Actor) -> Result<Access, Refusal>
         Pc::Q8 | Pc::Q9 | Pc::Q11 => Ok(Access::At(Place::Tail(crq), Operation::Read)),
         Pc::Q12 => Ok(Access::At(Place::Tail(crq), move_tail(actor))),
         Pc::Q14 => Ok(Access::At(Place::QHead, cas_name(actor, actor.next))),
-        _ => Err(Refusal::Idle),
+        Pc::A1 => Ok(Access::At(Place::ArrTail, Operation::AddArray)),
+        Pc::A2 => Ok(Access::At(slot_at(actor.t), swap_in(actor))),
+        Pc::B1 => Ok(Access::At(Place::ArrHead, Operation::AddArray)),
+        Pc::B2 => Ok(Access::At(slot_at(actor.h), Operation::Swap(ArrSlot::Top))),
+        Pc::B3 => Ok(Access::At(Place::ArrTail, Operation::Read)),
+        Pc::Idle => Err(Refusal::Idle),
     }
 }
 
@@ -77,6 +84,8 @@ pub fn after<const R: usize>(actor: &Actor, act: Act, answer: Answer) -> (Actor,
     match act {
         Act::Enq(value) => (Actor::calling(Pc::E1, Op::Enq(value)), None),
         Act::Deq => (Actor::calling(Pc::Q1, Op::Deq), None),
+        Act::AEnq(value) => (Actor::calling(Pc::A1, Op::AEnq(value)), None),
+        Act::ADeq => (Actor::calling(Pc::B1, Op::ADeq), None),
         Act::Go => after_at::<R>(actor, answer),
         Act::Starve(starves) => (goes(actor, if starves { Pc::E11 } else { Pc::E4 }), None),
     }
@@ -125,7 +134,12 @@ fn after_at<const R: usize>(actor: &Actor, answer: Answer) -> (Actor, Option<OpR
         ),
         (Pc::Q13, Answer::Found(Content::Next(Some(name)))) => second_pass(actor, name),
         (Pc::Q14, _) => goes(actor, Pc::Q1),
-        (Pc::Idle | Pc::E10 | Pc::A1 | Pc::A2 | Pc::B1 | Pc::B2 | Pc::B3, _) => *actor,
+        (Pc::A1, Answer::Found(Content::Number(tail))) => with_tail(actor, tail),
+        (Pc::A2, Answer::Found(Content::Slot(slot))) => return swapped_in(actor, slot),
+        (Pc::B1, Answer::Found(Content::Number(head))) => with_head(actor, head, Pc::B2),
+        (Pc::B2, Answer::Found(Content::Slot(slot))) => return swapped_out(actor, slot),
+        (Pc::B3, Answer::Found(Content::Number(tail))) => return checked_array(actor, tail),
+        (Pc::Idle | Pc::E10, _) => *actor,
         _ => *actor,
     };
     (next, None)
@@ -346,12 +360,55 @@ fn second_pass(actor: &Actor, name: SegName) -> Actor
     }
 }
 
-/// The value that an enqueue is to put.
+/// A1: the enqueue on the array drew a position.
+fn with_tail(actor: &Actor, tail: u64) -> Actor
+    ensures { result ≡ record actor.now { t = tail; pc = Pc.A2 } }
+{
+    Actor {
+        t: tail,
+        pc: Pc::A2,
+        ..*actor
+    }
+}
+
+/// A2: the enqueue on the array is over where nobody had come to its slot yet, else it draws the next position.
+fn swapped_in(actor: &Actor, slot: ArrSlot) -> (Actor, Option<OpReply>)
+    ensures { result ≡ swapped_in actor.now slot }
+{
+    match slot {
+        ArrSlot::Empty => (Actor::idle(), Some(OpReply::Enqueued)),
+        ArrSlot::Top | ArrSlot::Value(_) => (goes(actor, Pc::A1), None),
+    }
+}
+
+/// B2: the dequeue on the array replies the value that it found, else it looks at the tail.
+fn swapped_out(actor: &Actor, slot: ArrSlot) -> (Actor, Option<OpReply>)
+    ensures { result ≡ swapped_out actor.now slot }
+{
+    match slot {
+        ArrSlot::Value(value) => (Actor::idle(), Some(OpReply::Value(value))),
+        ArrSlot::Empty | ArrSlot::Top => (goes(actor, Pc::B3), None),
+    }
+}
+
+/// B3: the dequeue on the array is over where nothing is enqueued behind its position, else it draws the next one.
+fn checked_array(actor: &Actor, count: u64) -> (Actor, Option<OpReply>)
+    ensures { result ≡ checked_array actor.now count }
+{
+    // The same as `count <= h + 1`, which could pass the end of a word.
+    if count == 0 || count - 1 <= actor.h {
+        (Actor::idle(), Some(OpReply::Empty))
+    } else {
+        (goes(actor, Pc::B1), None)
+    }
+}
+
+/// The value that an enqueue is to put, on either queue.
 fn value_of(op: Option<Op>) -> u64
     ensures { result ≡ value_of op }
 {
     match op {
-        Some(Op::Enq(value)) => value,
+        Some(Op::Enq(value) | Op::AEnq(value)) => value,
         _ => 0,
     }
 }
@@ -363,6 +420,20 @@ fn cell_at<const R: usize>(actor: &Actor, position: u64) -> Place
     ensures { result ≡ CellAt actor.now.crq (position % R) }
 {
     Place::Cell(actor.crq, (position % R as u64) as u8)
+}
+
+/// The slot of the array at this position, 0 to 63 where an actor asks for one.
+fn slot_at(position: u64) -> Place
+    ensures { position ≤ 63 → result ≡ ArrCell position }
+{
+    Place::ArrCell(u8::try_from(position).unwrap_or(u8::MAX))
+}
+
+/// A2: the enqueue's value is put into the slot.
+fn swap_in(actor: &Actor) -> Operation
+    ensures { result ≡ Swap (Held (value_of actor.now.op)) }
+{
+    Operation::Swap(ArrSlot::Value(value_of(actor.op)))
 }
 
 /// A compare-and-swap of a name from the actor's segment.

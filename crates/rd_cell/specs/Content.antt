@@ -3,10 +3,10 @@ use Rattle.std.specs.Prelude.{ℕ, Bool, true, false, ◌==◌, ◌&&◌, ◌^�
 use Rattle.rd_cell.specs.declared.cells.Cell.{Cell}
 use Rattle.rd_cell.specs.declared.places.SegName.{SegName}
 use Rattle.rd_cell.specs.declared.places.Place.{Place}
-use Rattle.rd_cell.specs.declared.places.Place.TheVariants.{QHead, QTail, Head, Tail, Next, Cell as CellAt, Whole as WholeOf}
+use Rattle.rd_cell.specs.declared.places.Place.TheVariants.{QHead, QTail, Head, Tail, Next, Cell as CellAt, Whole as WholeOf, ArrHead, ArrTail, ArrCell}
 use Rattle.rd_cell.specs.declared.contents.Content.{Content}
 use Rattle.rd_cell.specs.Place.{is_of, is_place}
-use Rattle.rd_cell.specs.declared.contents.Content.TheVariants.{Name, Number, Tail as TailIs, Next as NextIs, Cell as CellIs, Whole}
+use Rattle.rd_cell.specs.declared.contents.Content.TheVariants.{Name, Number, Tail as TailIs, Next as NextIs, Cell as CellIs, Whole, Slot}
 
 -- what each place has: nothing where it is not there. The whole of a segment is no place of the map, but a
 -- name for the segment's R + 3 places together
@@ -21,7 +21,8 @@ with_content p c at q = if is_place p q then Some c else at q
 abbrev pub without_segment : SegName → Contents → Contents
 without_segment s at q = if is_of s q then None else at q
 
--- whether a content is of its place's kind, and a counter at most 2^62. The whole of a segment has no content
+-- whether a content is of its place's kind, and a counter at most 2^62, or 64 on the array. The whole of a segment
+-- has no content
 abbrev pub may_have : Place → Content → Bool
 may_have QHead (Name s) = true
 may_have QTail (Name s) = true
@@ -29,6 +30,9 @@ may_have (Head s) (Number n) = nat_le n (2 ^ 62)
 may_have (Tail s) (TailIs closed n) = nat_le n (2 ^ 62)
 may_have (Next s) (NextIs m) = true
 may_have (CellAt s i) (CellIs c) = true
+may_have ArrHead (Number n) = nat_le n 64
+may_have ArrTail (Number n) = nat_le n 64
+may_have (ArrCell i) (Slot slot) = true
 may_have _ _ = false
 
 -- whether a segment is there: its places are, and with them its head

@@ -1,5 +1,6 @@
 -- What each operation does to one content.
 use Rattle.std.specs.Prelude.{ℕ, ◌+◌, ◌^◌, Bool, true, false, not, ◌==◌, ◌&&◌, nat_lt, nat_le, if◌then◌else◌, Option, Some, None, Result, Ok, Err}
+use Rattle.rd_cell.specs.declared.places.Place.{Place}
 use Rattle.rd_cell.specs.declared.contents.Content.{Content}
 use Rattle.rd_cell.specs.declared.contents.Content.TheVariants.{Name, Number, Tail, Next, Cell, Slot}
 use Rattle.rd_cell.specs.declared.access.Operation.{Operation}
@@ -8,7 +9,7 @@ use Rattle.rd_cell.specs.declared.access.Answer.{Answer}
 use Rattle.rd_cell.specs.declared.access.Answer.TheVariants.{Found, Value, Turn, WasClosed, Won, Lost}
 use Rattle.rd_cell.specs.declared.refusal.Refusal.{Refusal}
 use Rattle.rd_cell.specs.declared.refusal.Refusal.TheVariants.{CounterEnd, ArrayEnd, NoSuchPlace}
-use Rattle.rd_cell.specs.Place.{is_name}
+use Rattle.rd_cell.specs.Place.{is_name, is_array}
 use Rattle.rd_cell.specs.Content.{is_cell}
 
 -- what an operation does to one content: what it answers, and the content that it writes, or none where it reads
@@ -75,3 +76,12 @@ abbrev pub suits_segments : Operation → Bool
 suits_segments AddArray = false
 suits_segments (CasTail old new) = nat_le new (2 ^ 62)
 suits_segments _ = true
+
+-- whether an operation is one for the places of the array, whose counters end before a segment's
+abbrev pub suits_array : Operation → Bool
+suits_array Add = false
+suits_array _ = true
+
+-- whether an operation is one for this place, and puts no counter past its end
+abbrev pub suits : Place → Operation → Bool
+suits p op = if is_array p then suits_array op else suits_segments op

@@ -29,6 +29,13 @@ segment_of (Next s) = Some s
 segment_of (Cell s i) = Some s
 segment_of _ = None
 
+-- whether the place is one of the array's
+abbrev pub is_array : Place → Bool
+is_array ArrHead = true
+is_array ArrTail = true
+is_array (ArrCell i) = true
+is_array _ = false
+
 -- whether two places are one
 abbrev pub is_place : Place → Place → Bool
 is_place QHead QHead = true

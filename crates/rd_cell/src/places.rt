@@ -1,7 +1,7 @@
 //! Segment names, the ten kinds of place, and which places overlap.
 
 ghost use Rattle.std.specs.Prelude.{◌≡◌};
-ghost use Rattle.rd_cell.specs.Place.{covers, is_of, overlaps, segment_of};
+ghost use Rattle.rd_cell.specs.Place.{covers, is_array, is_of, overlaps, segment_of};
 
 /// The name of a segment: (maker, n) is the one that this actor made as its n-th, from 0. The root is (0, 0).
 #[derive(Clone, Copy, Debug, PartialEq, Eq)]
@@ -52,6 +52,13 @@ impl Place {
                 Some(name),
             _ => None,
         }
+    }
+
+    /// Whether this is one of the array's places.
+    pub fn is_array(self) -> bool
+        ensures { result ≡ is_array self }
+    {
+        matches!(self, Place::ArrHead | Place::ArrTail | Place::ArrCell(_))
     }
 }
 

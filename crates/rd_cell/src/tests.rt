@@ -33,6 +33,8 @@ fn other_places_overlap_only_themselves(rt: HostRuntime) {
     assert!(rt; !overlaps(Place::ArrHead, Place::ArrTail));
     assert!(rt; !overlaps(Place::Whole(FIRST), Place::QTail));
     assert!(rt; !is_of(SegName::ROOT, Place::ArrCell(0)));
+    assert!(rt; Place::ArrCell(0).is_array());
+    assert!(rt; !Place::QHead.is_array());
 }
 
 #[test]

@@ -4,7 +4,7 @@ ghost use Rattle.std.specs.Prelude.{◌≤◌};
 
 use super::sessions::Session;
 use rd_actor::{Act, Actor, OpReply, Pc};
-use rd_cell::{Answer, Cell, Content, Place, Refusal, SegName};
+use rd_cell::{Answer, ArrSlot, Cell, Content, Place, Refusal, SegName};
 use rd_step::{Event, World};
 use std::alloc::Global;
 use std::test::Fail;
@@ -115,6 +115,14 @@ fn cell(idx: u64, val: Option<u64>) -> Option<Content> {
         idx,
         val,
     }))
+}
+
+/// What is in a slot of the array.
+fn slot<const R: usize>(session: &Session<R>, i: u8) -> Option<ArrSlot> {
+    match at(session, Place::ArrCell(i)) {
+        Some(Content::Slot(slot)) => Some(slot),
+        _ => None,
+    }
 }
 
 /// How many steps are live, and how many undone.
@@ -295,6 +303,68 @@ fn a_making_goes_and_comes_with_its_step(rt: HostRuntime) -> Result<(), Fail> {
     assert_eq!(rt; at(&session, Place::Tail(ROOT)), closed(2));
     assert_eq!(rt; at(&session, Place::Cell(made, 0)), cell(0, Some(8)));
     assert_eq!(rt; lens(&session), (16, 0));
+    Ok(())
+}
+
+#[test]
+fn an_enqueue_on_the_array_draws_again_where_a_dequeue_was_first(rt: HostRuntime) -> Result<(), Fail> {
+    let mut session = fresh::<4>(rt.alloc())?;
+    assert_eq!(rt; act(&mut session, 1, Act::AEnq(7)), Ok((1, None)));
+    assert_eq!(rt; walk(&mut session, 1, &[Pc::A1])?, (2, None));
+    assert_eq!(rt; act(&mut session, 2, Act::ADeq), Ok((3, None)));
+    assert_eq!(rt; walk(&mut session, 2, &[Pc::B1, Pc::B2])?, (5, None));
+    assert_eq!(rt; slot(&session, 0), Some(ArrSlot::Top));
+    assert_eq!(rt; walk(&mut session, 1, &[Pc::A2])?, (6, None));
+    assert_eq!(rt; walk(&mut session, 2, &[Pc::B3])?, (7, Some(OpReply::Empty)));
+    assert_eq!(rt;
+        walk(&mut session, 1, &[Pc::A1, Pc::A2])?,
+        (9, Some(OpReply::Enqueued))
+    );
+    assert_eq!(rt; slot(&session, 0), Some(ArrSlot::Value(7)));
+    assert_eq!(rt; slot(&session, 1), Some(ArrSlot::Value(7)));
+    assert_eq!(rt; at(&session, Place::ArrTail), Some(Content::Number(2)));
+    Ok(())
+}
+
+#[test]
+fn a_run_on_the_array_is_undone_and_redone(rt: HostRuntime) -> Result<(), Fail> {
+    let mut session = fresh::<4>(rt.alloc())?;
+    act(&mut session, 3, Act::AEnq(9))?;
+    assert_eq!(rt;
+        walk(&mut session, 3, &[Pc::A1, Pc::A2])?,
+        (3, Some(OpReply::Enqueued))
+    );
+    act(&mut session, 4, Act::ADeq)?;
+    assert_eq!(rt;
+        walk(&mut session, 4, &[Pc::B1, Pc::B2])?,
+        (6, Some(OpReply::Value(9)))
+    );
+    assert_eq!(rt; slot(&session, 0), Some(ArrSlot::Top));
+    session.undo()?;
+    assert_eq!(rt; slot(&session, 0), Some(ArrSlot::Value(9)));
+    assert_eq!(rt; place_of(&session, 4), Some(Pc::B2));
+    session.back(5)?;
+    assert_eq!(rt; slot(&session, 0), Some(ArrSlot::Empty));
+    assert_eq!(rt; at(&session, Place::ArrTail), Some(Content::Number(0)));
+    assert_eq!(rt; at(&session, Place::ArrHead), Some(Content::Number(0)));
+    session.forward(6)?;
+    assert_eq!(rt; slot(&session, 0), Some(ArrSlot::Top));
+    assert_eq!(rt; session.entry(6)?.reply, Some(OpReply::Value(9)));
+    Ok(())
+}
+
+#[test]
+fn a_walk_that_is_too_long_moves_nothing(rt: HostRuntime) -> Result<(), Fail> {
+    let mut session = fresh::<4>(rt.alloc())?;
+    assert_eq!(rt; session.undo(), Err(Refusal::NothingToUndo(0)));
+    assert_eq!(rt; act(&mut session, 1, Act::Enq(7)), Ok((1, None)));
+    assert_eq!(rt; act(&mut session, 2, Act::Deq), Ok((2, None)));
+    assert_eq!(rt; session.back(3), Err(Refusal::NothingToUndo(2)));
+    session.back(0)?;
+    assert_eq!(rt; lens(&session), (2, 0));
+    session.undo()?;
+    assert_eq!(rt; lens(&session), (1, 1));
+    assert_eq!(rt; place_of(&session, 2), Some(Pc::Idle));
     Ok(())
 }
 

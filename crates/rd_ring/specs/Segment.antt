@@ -1,5 +1,6 @@
 -- What a segment has at each of its places, and what its operations do.
-use Rattle.std.specs.Prelude.{◌≡◌, ℕ, Bool, true, if◌then◌else◌, Option, Some, None, is_some, option_map, slice_get, Result, Ok, Err}
+use Rattle.std.specs.Prelude.{◌≡◌, ℕ, ◌^◌, Bool, true, ◌&&◌, nat_le, if◌then◌else◌, List, Option, Some, None, is_some, option_map, slice_get, Result, Ok, Err}
+use Rattle.rd_cell.specs.declared.cells.Cell.{Cell}
 use Rattle.rd_cell.specs.declared.places.SegName.{SegName}
 use Rattle.rd_cell.specs.declared.places.Place.{Place}
 use Rattle.rd_cell.specs.declared.places.Place.TheVariants.{Head, Tail, Next, Cell as CellAt}
@@ -15,14 +16,27 @@ use Rattle.rd_cell.specs.Content.{Contents}
 use Rattle.rd_cell.specs.Effect.{Effect, effect}
 use Rattle.rd_cell.specs.Access.{put, done_with}
 use Rattle.rd_ring.specs.declared.segments.Segment.{Segment}
+use Rattle.rd_ring.specs.declared.parts.SegmentParts.{SegmentParts}
 
--- the content of a segment's place, whatever the segment is named there
+-- what a segment with these words has at each of its places, whatever it is named there
+abbrev pub part_with : ℕ → ℕ → Bool → Option SegName → List Cell → Contents
+part_with head tail closed next cells (Head name) = Some (Number head)
+part_with head tail closed next cells (Tail name) = Some (TailIs closed tail)
+part_with head tail closed next cells (Next name) = Some (NextIs next)
+part_with head tail closed next cells (CellAt name i) = option_map CellIs (slice_get cells i)
+part_with head tail closed next cells _ = None
+
+-- the content of a segment's place
 abbrev pub part : {R : ℕ} → Segment R → Contents
-part s (Head name) = Some (Number s.head)
-part s (Tail name) = Some (TailIs s.closed s.tail)
-part s (Next name) = Some (NextIs s.next)
-part s (CellAt name i) = option_map CellIs (slice_get s.cells i)
-part s _ = None
+part s = part_with s.head s.tail s.closed s.next s.cells
+
+-- the content that a segment's place is to have
+abbrev pub part_wanted : {R : ℕ} → SegmentParts R → Contents
+part_wanted s = part_with s.head s.tail s.closed s.next s.cells
+
+-- whether both counters are within their end
+abbrev pub counters_fit : {R : ℕ} → SegmentParts R → Bool
+counters_fit s = nat_le s.head (2 ^ 62) && nat_le s.tail (2 ^ 62)
 
 -- the head counter
 abbrev pub head_count : {R : ℕ} → Segment R → ℕ

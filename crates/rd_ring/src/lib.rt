@@ -5,8 +5,10 @@
 #![tactic(auto)]
 
 pub mod operations;
+pub mod parts;
 pub mod segments;
 
+pub use parts::SegmentParts;
 pub use segments::Segment;
 
 #[cfg(test)]

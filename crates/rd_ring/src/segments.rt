@@ -1,6 +1,6 @@
 //! The segment and its operations.
 
-ghost use Rattle.std.specs.Prelude.{◌≡◌, ℕ, ◌+◌, ◌^◌, ◌<◌, ◌≤◌, ◌↔◌, true, false, Some, None, Err, IsSome, IfOk, IfErr, OnErr, option_map, slice_get, length};
+ghost use Rattle.std.specs.Prelude.{◌≡◌, ℕ, ◌+◌, ◌^◌, ◌<◌, ◌≤◌, ◌↔◌, true, false, Some, None, Err, IsSome, IsTrue, IfOk, IfErr, OnErr, option_map, slice_get, length};
 ghost use Rattle.rd_cell.specs.declared.places.SegName.{SegName};
 ghost use Rattle.rd_cell.specs.declared.places.Place.TheVariants.{Head, Tail, Next, Cell as CellAt};
 ghost use Rattle.rd_cell.specs.declared.contents.Content.{Content};
@@ -10,6 +10,7 @@ ghost use Rattle.rd_cell.specs.declared.access.Answer.TheVariants.{WasClosed};
 ghost use Rattle.rd_cell.specs.Place.{root};
 ghost use Rattle.rd_cell.specs.Content.{fresh, holding, new_cell};
 
+use super::parts::SegmentParts;
 use rd_cell::{Cell, Content, Place, Refusal, SegName};
 
 /// A segment: a ring of `R` cells, 1 to 64.
@@ -27,7 +28,7 @@ pub struct Segment<const R: usize> {
 }
 
 impl<const R: usize> Segment<R> {
-    ghost use Rattle.rd_ring.specs.Segment.{part, head_count, tail_count, added, swapped, Puts, Performs, Refuses};
+    ghost use Rattle.rd_ring.specs.Segment.{part, part_wanted, counters_fit, head_count, tail_count, added, swapped, Puts, Performs, Refuses};
 
     /// A fresh segment: both counters are 0, it is open, no segment follows, and cell u is safe at index u and empty.
     pub fn fresh() -> Self
@@ -57,6 +58,20 @@ impl<const R: usize> Segment<R> {
             closed: false,
             next: None,
             cells,
+        }
+    }
+
+    /// The segment with these words.
+    pub fn from_parts(parts: SegmentParts<R>) -> Self
+        requires { IsTrue (counters_fit parts) }
+        ensures { (q : Place) → part result q ≡ part_wanted parts.entry q }
+    {
+        Segment {
+            head: parts.head,
+            tail: parts.tail,
+            closed: parts.closed,
+            next: parts.next,
+            cells: same_cells(&parts.cells[..]),
         }
     }
 
@@ -248,6 +263,23 @@ fn fresh_cells<const R: usize>() -> [Cell; R]
             idx: i as u64,
             val: None,
         };
+    }
+    cells
+}
+
+/// The cells that are handed in, in an array of their own.
+fn same_cells<const R: usize>(given: &[Cell]) -> [Cell; R]
+    requires small { R ≤ 64 }
+    requires sized { length given.now ≡ R }
+    ensures { (u : ℕ) → u < R → slice_get result u ≡ slice_get given.now u }
+{
+    let mut cells = [Cell {
+        safe: true,
+        idx: 0,
+        val: None,
+    }; R];
+    for i in 0..R {
+        cells[i] = given[i];
     }
     cells
 }

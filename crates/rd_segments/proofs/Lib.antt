@@ -1,4 +1,5 @@
 pub mod ListsLemmas
 pub mod EndsLemmas
+pub mod ArrayLemmas
 pub mod FieldsLemmas
 pub mod CountLemmas

@@ -17,13 +17,13 @@ use Rattle.rd_ring.specs.Segment.{part, Operated, IsRestored}
 abbrev pub ListOf : ℕ → Type 0
 ListOf R = Vec (Segment R) Global
 
--- the n-th segment of a maker's list, if there is such a list
-abbrev pub numbered : {R : ℕ} → Option (ListOf R) → ℕ → Option (Segment R)
+-- the n-th element of a maker's list, if there is such a list
+abbrev pub numbered : {X : Type 0} → Option (Vec X Global) → ℕ → Option X
 numbered None n = None
 numbered (Some list) n = slice_get list.items n
 
--- the segment of this name, in the makers' lists
-abbrev pub named : {R : ℕ} → List (ListOf R) → SegName → Option (Segment R)
+-- what is of this name in the makers' lists
+abbrev pub named : {X : Type 0} → List (Vec X Global) → SegName → Option X
 named makers s = numbered (slice_get makers s.maker) s.n
 
 -- what a segment has at a place, if it is there
@@ -32,11 +32,11 @@ part_of None p = None
 part_of (Some s) p = part s p
 
 -- how many segments there are in a maker's list
-abbrev pub count_in : {R : ℕ} → Option (ListOf R) → ℕ
+abbrev pub count_in : {X : Type 0} → Option (Vec X Global) → ℕ
 count_in None = 0
 count_in (Some list) = length list.items
 
-abbrev pub count : {R : ℕ} → List (ListOf R) → ℕ → ℕ
+abbrev pub count : {X : Type 0} → List (Vec X Global) → ℕ → ℕ
 count makers m = count_in (slice_get makers m)
 
 -- how many more segments a maker's list has room for

@@ -9,7 +9,7 @@ use Rattle.rd_segments.specs.Fields.{contents_of}
 
 -- what is at each place
 abbrev pub contents : {R : ℕ} → Space R → Contents
-contents s = contents_of s.makers.items s.qhead s.qtail
+contents s = contents_of s.makers.items s.qhead s.qtail s.array
 
 -- for how many makers there are lists
 abbrev pub lists : {R : ℕ} → Space R → ℕ

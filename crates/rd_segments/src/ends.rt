@@ -3,7 +3,7 @@
 ghost use Rattle.std.specs.Prelude.{◌≡◌, Err, IfOk, IfErr, OnErr};
 ghost use Rattle.rd_cell.specs.declared.contents.Content.TheVariants.{Name};
 ghost use Rattle.rd_cell.specs.Effect.{effect};
-ghost use Rattle.rd_segments.specs.Ends.{OperatesOnName};
+ghost use Rattle.rd_segments.specs.Ends.{OperatesOn};
 
 use rd_cell::{Answer, Content, Done, Operation, Place, Refusal, SegName};
 
@@ -17,7 +17,7 @@ pub fn operate_on_name(
     place: Place,
     operation: Operation,
 ) -> Result<Done, Refusal>
-    ensures ok { IfOk result (λ done. OperatesOnName place operation done name.old name.new) }
+    ensures ok { IfOk result (λ done. OperatesOn place operation done (Name name.old) (Name name.new)) }
     ensures err { IfErr result (λ e. effect operation (Name name.old) ≡ Err e) }
     ensures unchanged { OnErr result (name.new ≡ name.old) }
 {

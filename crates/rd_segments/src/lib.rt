@@ -3,11 +3,14 @@
 //! The crates above see it as one map from places to contents.
 #![tactic(auto)]
 
+pub mod array;
 mod ends;
 mod lists;
 mod makers;
+mod parts;
 pub mod space;
 
+pub use array::ArrayParts;
 pub use space::Space;
 
 #[cfg(test)]

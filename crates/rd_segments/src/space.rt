@@ -1,25 +1,31 @@
 //! The space and what is done to it.
 
-ghost use Rattle.std.specs.Prelude.{◌≡◌, ◌+◌, ◌-◌, ◌<◌, ◌≤◌, ℕ, suc, true, is_ok, is_some, Err, IsTrue, IfOk, IfErr, OnOk, OnErr};
+ghost use Rattle.std.specs.Prelude.{◌≡◌, ◌+◌, ◌-◌, ◌<◌, ◌≤◌, ℕ, suc, true, is_ok, is_some, Err, IsTrue, IfOk, IfErr, OnOk, OnErr, length};
 ghost use Rattle.rd_cell.specs.Content.{shown, with_content, without_segment, may_have};
-ghost use Rattle.rd_cell.specs.Effect.{suits_segments};
+ghost use Rattle.rd_cell.specs.Effect.{suits};
 ghost use Rattle.rd_cell.specs.Access.{operate, Operates, Makes};
 ghost use Rattle.rd_segments.specs.Lists.{named, part_of, count, spare, uses, Changes, OperatesIn, RestoresIn};
 ghost use Rattle.rd_segments.specs.Fields.{contents_of, fresh_space};
+ghost use Rattle.rd_segments.specs.Array.{array_part};
+ghost use Rattle.rd_segments.specs.Parts.{each_segment, contents_of_parts};
+ghost use Rattle.rd_ring.specs.Segment.{counters_fit};
 
+use super::array::ArrayParts;
 use super::ends::operate_on_name;
 use super::lists::{find, make_in, make_room_in, operate_in, restore_in, unmake_in};
 use super::makers::first_lists;
+use super::parts::lists_from_parts;
 use rd_cell::{Content, Done, Operation, Place, Refusal, SegName};
-use rd_ring::Segment;
+use rd_ring::{Segment, SegmentParts};
 use std::alloc::Global;
 
-/// The places of the queue: the segments, by their makers, and the names at the queue's two ends.
+/// The places of both queues: the segments, by their makers, the names at the queue's two ends, and the array.
 #[derive(Drop)]
 pub struct Space<const R: usize> {
     makers: Vec<Vec<Segment<R>>>,
     qhead: SegName,
     qtail: SegName,
+    array: ArrayParts,
     ghost positive: { 1 ≤ R },
     ghost small: { R ≤ 64 },
 }
@@ -27,7 +33,8 @@ pub struct Space<const R: usize> {
 impl<const R: usize> Space<R> {
     ghost use Rattle.rd_segments.specs.Space.{contents, lists, made_by, room, RefusesMake};
 
-    /// A fresh space for so many actors: the root is there, fresh, and the queue's two ends name it.
+    /// A fresh space for so many actors: the root is there, fresh, and the queue's two ends name it, and
+    /// the array is fresh.
     ///
     /// # Errors
     ///
@@ -45,6 +52,37 @@ impl<const R: usize> Space<R> {
                 makers,
                 qhead: SegName::ROOT,
                 qtail: SegName::ROOT,
+                array: ArrayParts::fresh(),
+            }),
+        }
+    }
+
+    /// The space of these parts: element m of `segments` has maker m's segments, in the order of their making.
+    ///
+    /// # Errors
+    ///
+    /// `NoMemory` where the room for the lists was refused.
+    pub fn from_parts(
+        alloc: Global,
+        segments: &Vec<Vec<SegmentParts<R>>>,
+        qhead: SegName,
+        qtail: SegName,
+        array: ArrayParts,
+    ) -> Result<Space<R>, Refusal>
+        requires positive { 1 ≤ R }
+        requires small { R ≤ 64 }
+        requires within { IsTrue (each_segment counters_fit segments.now.items) }
+        ensures ok { IfOk result (λ space. contents space ≡ contents_of_parts segments.now.items qhead qtail array) }
+        ensures number { IfOk result (λ space. lists space ≡ length segments.now.items) }
+        ensures err { IfErr result (λ e. e ≡ Refusal.NoMemory) }
+    {
+        match lists_from_parts(alloc, segments) {
+            Err(refusal) => Err(refusal),
+            Ok(makers) => Ok(Space {
+                makers,
+                qhead,
+                qtail,
+                array,
             }),
         }
     }
@@ -66,7 +104,7 @@ impl<const R: usize> Space<R> {
                     Some(segment) => segment.content(place),
                 }
             }
-            Place::ArrHead | Place::ArrTail | Place::ArrCell(_) => None,
+            Place::ArrHead | Place::ArrTail | Place::ArrCell(_) => self.array.content(place),
         }
     }
 
@@ -74,10 +112,11 @@ impl<const R: usize> Space<R> {
     ///
     /// # Errors
     ///
-    /// `CounterEnd` for a fetch-and-add on a counter that is 2^62; `NoSuchPlace` where there is no such place, or a
-    /// content of another kind, for which no actor asks. The space is then as before.
+    /// `CounterEnd` for a fetch-and-add on a segment's counter that is 2^62, `ArrayEnd` for one on a counter of the array
+    /// that is 64; `NoSuchPlace` where there is no such place, or a content of another kind, for which no actor asks.
+    /// The space is then as before.
     pub fn operate(&mut self, place: Place, operation: Operation) -> Result<Done, Refusal>
-        requires { IsTrue (suits_segments operation) }
+        requires { IsTrue (suits place operation) }
         ensures ok { IfOk result (λ done. Operates place operation (contents self.old) (contents self.new) done) }
         ensures err { IfErr result (λ e. operate place operation (contents self.old place) ≡ Err e) }
         ensures unchanged { OnErr result (contents self.new ≡ contents self.old) }
@@ -91,6 +130,7 @@ impl<const R: usize> Space<R> {
                 }
                 operate_in(&mut self.makers, name, place, operation)
             }
+            None if place.is_array() => self.array.operate(place, operation),
             None => match place {
                 Place::QHead => operate_on_name(&mut self.qhead, place, operation),
                 Place::QTail => operate_on_name(&mut self.qtail, place, operation),
@@ -138,6 +178,7 @@ impl<const R: usize> Space<R> {
             (Some(name), _, _) => restore_in(&mut self.makers, name, place, content),
             (None, Place::QHead, Content::Name(name)) => self.qhead = name,
             (None, Place::QTail, Content::Name(name)) => self.qtail = name,
+            (None, _, _) if place.is_array() => self.array.restore(place, content),
             _ => unreachable!(),
         }
     }

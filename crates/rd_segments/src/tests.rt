@@ -1,7 +1,7 @@
 //! The tests of the space, with the root alone and rings of four cells.
 
 use super::space::Space;
-use rd_cell::{Answer, Cell, Content, Done, Operation, Place, Refusal, SegName};
+use rd_cell::{Answer, ArrSlot, Cell, Content, Done, Operation, Place, Refusal, SegName};
 use std::test::Fail;
 
 /// A segment that nobody has made.
@@ -19,7 +19,13 @@ fn a_fresh_space_has_the_root_alone(rt: HostRuntime) -> Result<(), Fail> {
     assert_eq!(rt; space.content(Place::Cell(root, 4)), None);
     assert_eq!(rt; space.content(Place::Whole(UNMADE)), None);
     assert_eq!(rt; space.content(Place::Tail(UNMADE)), None);
-    assert_eq!(rt; space.content(Place::ArrHead), None);
+    assert_eq!(rt; space.content(Place::ArrHead), Some(Content::Number(0)));
+    assert_eq!(rt; space.content(Place::ArrTail), Some(Content::Number(0)));
+    assert_eq!(rt;
+        space.content(Place::ArrCell(63)),
+        Some(Content::Slot(ArrSlot::Empty))
+    );
+    assert_eq!(rt; space.content(Place::ArrCell(64)), None);
     Ok(())
 }
 

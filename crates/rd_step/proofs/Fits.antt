@@ -1,23 +1,24 @@
 -- Which accesses and answers fit, and that an actor whose record fits asks for an access that fits.
-use Rattle.std.proofs.Common.{◌≡◌, ℕ, ◌+◌, ◌^◌, ◌≤◌, Bool, true, false, ◌&&◌, nat_le, refl, arith, Option, Some, None, IfOk, le-leb, leb-true}
+use Rattle.std.proofs.Common.{◌≡◌, ℕ, ◌+◌, ◌^◌, ◌≤◌, Bool, true, not, ◌&&◌, nat_le, refl, arith, Option, Some, None, IfOk, le-leb, leb-true}
 use Rattle.std.proofs.lemmas.Bool.{and_parts, and_from}
 use Rattle.rd_cell.specs.declared.places.SegName.{SegName}
 use Rattle.rd_cell.specs.declared.places.Place.{Place}
-use Rattle.rd_cell.specs.declared.places.Place.TheVariants.{QHead, QTail, Head, Tail, Next, Cell as CellAt}
+use Rattle.rd_cell.specs.declared.places.Place.TheVariants.{QHead, QTail, Head, Tail, Next, Cell as CellAt, ArrHead, ArrTail, ArrCell}
 use Rattle.rd_cell.specs.declared.contents.Content.{Content}
-use Rattle.rd_cell.specs.declared.contents.Content.TheVariants.{Name, Number, Tail as TailIs, Next as NextIs, Cell as CellIs}
+use Rattle.rd_cell.specs.declared.contents.Content.TheVariants.{Name, Number, Tail as TailIs, Next as NextIs, Cell as CellIs, Slot}
 use Rattle.rd_cell.specs.declared.access.Access.{Access}
 use Rattle.rd_cell.specs.declared.access.Access.TheVariants.{NoPlace, At, Make}
 use Rattle.rd_cell.specs.declared.access.Answer.{Answer}
 use Rattle.rd_cell.specs.declared.access.Answer.TheVariants.{Found, Turn, Made}
 use Rattle.rd_cell.specs.declared.access.Operation.{Operation}
-use Rattle.rd_cell.specs.declared.access.Operation.TheVariants.{AddArray, CasName, CasNext, CasTail, Cas2, Swap}
+use Rattle.rd_cell.specs.declared.access.Operation.TheVariants.{Add, AddArray, CasName, CasNext, CasTail, Cas2}
+use Rattle.rd_cell.specs.Place.{is_array}
 use Rattle.rd_cell.specs.Content.{may_have}
 use Rattle.rd_actor.specs.declared.actors.Act.{Act}
-use Rattle.rd_actor.specs.declared.actors.Act.TheVariants.{Enq, Deq, Go, Starve}
+use Rattle.rd_actor.specs.declared.actors.Act.TheVariants.{Enq, Deq, AEnq, ADeq, Go, Starve}
 use Rattle.rd_actor.specs.declared.actors.Actor.{Actor}
 use Rattle.rd_actor.specs.declared.actors.Pc.{Pc}
-use Rattle.rd_actor.specs.declared.actors.Pc.TheVariants.{Idle, E1, E2, E3, E4, E5, E6, E7, E8, E9, E10, E11, E12, E13, E14, Q1, Q2, Q3, Q4, Q5, Q6, Q7, Q8, Q9, Q10, Q11, Q12, Q13, Q14}
+use Rattle.rd_actor.specs.declared.actors.Pc.TheVariants.{Idle, E1, E2, E3, E4, E5, E6, E7, E8, E9, E10, E11, E12, E13, E14, Q1, Q2, Q3, Q4, Q5, Q6, Q7, Q8, Q9, Q10, Q11, Q12, Q13, Q14, A1, A2, B1, B2, B3}
 use Rattle.rd_actor.specs.Table.{need, need_at, need_call, need_choice}
 use Rattle.rd_actor.specs.Words.{words_fit}
 use Rattle.rd_step.specs.WellFormed.{Presence, content_fits, place_fits, names_fit, numbers_fit, record_fits, actor_fits}
@@ -71,6 +72,9 @@ content_grows R there there' (Tail s) (TailIs closed n) more h = h
 content_grows R there there' (Next s) (NextIs None) more h = h
 content_grows R there there' (Next s) (NextIs (Some m)) more h = more m h
 content_grows R there there' (CellAt s i) (CellIs c) more h = h
+content_grows R there there' ArrHead (Number n) more h = h
+content_grows R there there' ArrTail (Number n) more h = h
+content_grows R there there' (ArrCell i) (Slot slot) more h = h
 content_grows R there there' _ _ more h = cc
 
 pub place_grows : (R : ℕ) (there there' : Presence) (p : Place) (o : Option Content) → Grows there there' → place_fits R there p o ≡ true
@@ -99,24 +103,27 @@ may_fit R there (Head s) (Number n) h = h
 may_fit R there (Tail s) (TailIs closed n) h = h
 may_fit R there (Next s) (NextIs m) h = refl
 may_fit R there (CellAt s i) (CellIs c) h = refl
+may_fit R there ArrHead (Number n) h = h
+may_fit R there ArrTail (Number n) h = h
+may_fit R there (ArrCell i) (Slot slot) h = refl
 may_fit R there _ _ h = cc
 
 -- What an actor asks for
 
--- whether what an operation would put fits; one on the array does not
-abbrev pub op_fits : ℕ → Presence → Operation → Bool
-op_fits R there (CasName old new) = there new
-op_fits R there (CasNext new) = there new
-op_fits R there (CasTail old new) = nat_le new (2 ^ 62)
-op_fits R there (Cas2 old new) = nat_le new.idx (2 ^ 62 + R)
-op_fits R there AddArray = false
-op_fits R there (Swap slot) = false
-op_fits R there _ = true
+-- whether what an operation at this place would put fits
+abbrev pub op_fits : ℕ → Presence → Place → Operation → Bool
+op_fits R there p (CasName old new) = there new
+op_fits R there p (CasNext new) = there new
+op_fits R there p (CasTail old new) = nat_le new (2 ^ 62)
+op_fits R there p (Cas2 old new) = nat_le new.idx (2 ^ 62 + R)
+op_fits R there p Add = not (is_array p)
+op_fits R there p AddArray = is_array p
+op_fits R there p _ = true
 
 -- whether an access fits
 abbrev pub access_fits : ℕ → Presence → Access → Bool
 access_fits R there NoPlace = true
-access_fits R there (At p op) = op_fits R there op
+access_fits R there (At p op) = op_fits R there p op
 access_fits R there (Make x) = true
 
 -- whether an answer fits: the segments that it names are there, and its numbers are within their ends
@@ -128,6 +135,15 @@ answer_fits R there (Found (NextIs (Some m))) = there m
 answer_fits R there (Turn safe idx) = nat_le idx (2 ^ 62 + R)
 answer_fits R there (Made s) = there s
 answer_fits R there _ = true
+
+-- whether the position that a fetch-and-add on the array drew has a slot
+abbrev pub has_slot : Operation → Answer → Bool
+has_slot AddArray (Found (Number g)) = nat_le g 63
+has_slot _ _ = true
+
+abbrev pub drew_slot : Access → Answer → Bool
+drew_slot (At p op) answer = has_slot op answer
+drew_slot _ answer = true
 
 -- a position is an index
 wide : (R n : ℕ) → nat_le n (2 ^ 62) ≡ true → nat_le n (2 ^ 62 + R) ≡ true
@@ -167,6 +183,11 @@ need_at_fits R there Q11 a f = refl
 need_at_fits R there Q12 a f = f.h
 need_at_fits R there Q13 a f = refl
 need_at_fits R there Q14 a f = f.next
+need_at_fits R there A1 a f = refl
+need_at_fits R there A2 a f = refl
+need_at_fits R there B1 a f = refl
+need_at_fits R there B2 a f = refl
+need_at_fits R there B3 a f = refl
 need_at_fits R there _ a f = tt
 
 need_call_fits : (R : ℕ) (there : Presence) (pc : Pc) → IfOk (need_call pc) (λ x. access_fits R there x ≡ true)
@@ -182,5 +203,7 @@ pub need_fits : (R : ℕ) (there : Presence) (a : Actor) (act : Act) → record_
     → IfOk (need R a act) (λ x. access_fits R there x ≡ true)
 need_fits R there a (Enq x) h = need_call_fits R there a.pc
 need_fits R there a Deq h = need_call_fits R there a.pc
+need_fits R there a (AEnq x) h = need_call_fits R there a.pc
+need_fits R there a ADeq h = need_call_fits R there a.pc
 need_fits R there a Go h = need_at_fits R there a.pc a (parts_of R there a h)
 need_fits R there a (Starve b) h = need_choice_fits R there a.pc

@@ -114,33 +114,33 @@ keeps_made R w n x a next formed has below next_fits =
 abbrev Keeps : ℕ → World → Event → Actor → Performed → Type 0
 Keeps R w e a did = IsWellFormed R (finished w e a did (after R a e.act did.done.answer)).world
 
-keeps_done : (R : ℕ) (w : World) (e : Event) (a : Actor) (x : Access) (p : Place) (c : Content) (r : Result Effect Refusal)
-    → IsWellFormed R w → w.actor e.actor ≡ Some a → need R a e.act ≡ Ok x → record_fits R (is_there w.at) a ≡ true → w.at p ≡ Some c
-    → IfOk r (EffectFits R (is_there w.at) p) → IfOk (done_at p c r) (Keeps R w e a)
-keeps_done R w e a x p c (Err refusal) formed has needs fits found good = tt
-keeps_done R w e a x p c (Ok f) formed has needs fits found good =
+keeps_done : (R : ℕ) (w : World) (e : Event) (a : Actor) (p : Place) (op : Operation) (c : Content) (r : Result Effect Refusal)
+    → IsWellFormed R w → w.actor e.actor ≡ Some a → need R a e.act ≡ Ok (At p op) → record_fits R (is_there w.at) a ≡ true → w.at p ≡ Some c
+    → IfOk r (EffectFits R (is_there w.at) p op) → IfOk (done_at p c r) (Keeps R w e a)
+keeps_done R w e a p op c (Err refusal) formed has needs fits found good = tt
+keeps_done R w e a p op c (Ok f) formed has needs fits found good =
     keeps_by R w e.actor a (after R a e.act f.answer).0 p c f.writes formed has found good.0
-    (after_fits R (is_there w.at) a e.act x f.answer formed.made.rooted needs good.1 fits)
+    (after_fits R (is_there w.at) a e.act (At p op) f.answer formed.made.rooted needs good.1 good.2 fits)
 
-keeps_operate : (R : ℕ) (w : World) (e : Event) (a : Actor) (x : Access) (p : Place) (op : Operation) (o : Option Content)
-    → IsWellFormed R w → w.actor e.actor ≡ Some a → need R a e.act ≡ Ok x → record_fits R (is_there w.at) a ≡ true → w.at p ≡ o
-    → op_fits R (is_there w.at) op ≡ true → IfOk (operate p op o) (Keeps R w e a)
-keeps_operate R w e a x p op None formed has needs fits found good = tt
-keeps_operate R w e a x p op (Some c) formed has needs fits found good =
+keeps_operate : (R : ℕ) (w : World) (e : Event) (a : Actor) (p : Place) (op : Operation) (o : Option Content)
+    → IsWellFormed R w → w.actor e.actor ≡ Some a → need R a e.act ≡ Ok (At p op) → record_fits R (is_there w.at) a ≡ true → w.at p ≡ o
+    → op_fits R (is_there w.at) p op ≡ true → IfOk (operate p op o) (Keeps R w e a)
+keeps_operate R w e a p op None formed has needs fits found good = tt
+keeps_operate R w e a p op (Some c) formed has needs fits found good =
     let here : content_fits R (is_there w.at) p c ≡ true = subst (λ (o : Option Content). place_fits R (is_there w.at) p o ≡ true) found (formed.contents p) in
-    keeps_done R w e a x p c (effect op c) formed has needs fits found (effect_fits R (is_there w.at) p op c good here)
+    keeps_done R w e a p op c (effect op c) formed has needs fits found (effect_fits R (is_there w.at) p op c good here)
 
-keeps_make : (R : ℕ) (w : World) (e : Event) (a : Actor) (x : Access) (v : ℕ) → IsWellFormed R w → w.actor e.actor ≡ Some a
-    → need R a e.act ≡ Ok x → record_fits R (is_there w.at) a ≡ true
+keeps_make : (R : ℕ) (w : World) (e : Event) (a : Actor) (v : ℕ) → IsWellFormed R w → w.actor e.actor ≡ Some a
+    → need R a e.act ≡ Ok (Make v) → record_fits R (is_there w.at) a ≡ true
     → IfOk (make R (record { maker = e.actor; n = made w.at e.actor }) v) (Keeps R w e a)
-keeps_make R w e a x v formed has needs fits =
+keeps_make R w e a v formed has needs fits =
     let s : SegName = record { maker = e.actor; n = made w.at e.actor } in
     let at' : Contents = laid R s v w.at in
     let more = laid_grows R s v w.at in
     cond_both (nat_lt s.n 65535) _ _ (λ (r : Result Performed Refusal). IfOk r (Keeps R w e a))
     (λ below.
     keeps_made R w e.actor v a (after R a e.act (Made s)).0 formed has below
-    (after_fits R (is_there at') a e.act x (Made s) (more root formed.made.rooted) needs (laid_new R s v w.at s (is_name-refl s))
+    (after_fits R (is_there at') a e.act (Make v) (Made s) (more root formed.made.rooted) needs (laid_new R s v w.at s (is_name-refl s)) refl
     (record_grows R (is_there w.at) (is_there at') a more fits)))
     (λ e. tt)
 
@@ -149,10 +149,10 @@ keeps_perform : (R : ℕ) (w : World) (e : Event) (a : Actor) (x : Access) → I
     → IfOk (perform R e.actor w.at x) (Keeps R w e a)
 keeps_perform R w e a NoPlace formed has needs fits good =
     keeps_actor R w e.actor a (after R a e.act Nothing).0 formed has
-    (after_fits R (is_there w.at) a e.act NoPlace Nothing formed.made.rooted needs refl fits)
+    (after_fits R (is_there w.at) a e.act NoPlace Nothing formed.made.rooted needs refl refl fits)
 keeps_perform R w e a (At p op) formed has needs fits good =
-    keeps_operate R w e a (At p op) p op (w.at p) formed has needs fits refl good
-keeps_perform R w e a (Make v) formed has needs fits good = keeps_make R w e a (Make v) v formed has needs fits
+    keeps_operate R w e a p op (w.at p) formed has needs fits refl good
+keeps_perform R w e a (Make v) formed has needs fits good = keeps_make R w e a v formed has needs fits
 
 -- a step keeps a world well-formed
 pub keeps : (R : ℕ) (w : World) (e : Event) (s : Stepped) → IsWellFormed R w → step R w e ≡ Ok s → IsWellFormed R s.world

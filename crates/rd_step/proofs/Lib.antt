@@ -12,3 +12,5 @@ pub mod Actors
 pub mod Starts
 pub mod WorldLemmas
 pub mod Room
+pub mod Assembled
+pub mod Accepted

@@ -1,23 +1,31 @@
 -- An actor whose record fits goes on, with an answer that fits, to a record that fits: one clause a row of the table.
-use Rattle.std.proofs.Common.{◌≡◌, ◌≢◌, ℕ, ◌+◌, ◌^◌, ◌<◌, ◌≤◌, Bool, true, false, not, ◌==◌, ◌&&◌, ◌||◌, if◌then◌else◌, nat_lt, nat_le, refl, arith, Option, Some, None, is_some, is_none, Ok, ltb-false, leb-false, le-leb, lt-ltb}
+use Rattle.std.proofs.Common.{◌≡◌, ◌≢◌, ℕ, ◌+◌, ◌^◌, ◌<◌, ◌≤◌, Bool, true, false, not, ◌==◌, ◌&&◌, ◌||◌, if◌then◌else◌, nat_lt, nat_le, refl, subst, arith, Option, Some, None, is_some, is_none, Ok, ltb-false, leb-false, le-leb, lt-ltb}
 use Rattle.std.proofs.lemmas.Bool.{cond_both, and_parts, and_from, or_parts, not_from_false, eqb-false, eqb-true}
-use Rattle.rd_cell.specs.declared.contents.Content.TheVariants.{Name, Number, Tail as TailIs, Next as NextIs}
+use Rattle.rd_cell.specs.declared.places.Place.TheVariants.{ArrHead, ArrTail}
+use Rattle.rd_cell.specs.declared.contents.ArrSlot.{ArrSlot}
+use Rattle.rd_cell.specs.declared.contents.ArrSlot.TheVariants.{Empty as NobodyYet, Top, Value as Held}
+use Rattle.rd_cell.specs.declared.contents.Content.TheVariants.{Name, Number, Tail as TailIs, Next as NextIs, Slot}
 use Rattle.rd_cell.specs.declared.access.Access.{Access}
+use Rattle.rd_cell.specs.declared.access.Access.TheVariants.{At}
+use Rattle.rd_cell.specs.declared.access.Operation.TheVariants.{AddArray}
 use Rattle.rd_cell.specs.declared.access.Answer.{Answer}
 use Rattle.rd_cell.specs.declared.access.Answer.TheVariants.{Found, Value, Turn, Won, Lost, Made}
 use Rattle.rd_cell.specs.Place.{root}
 use Rattle.rd_cell.specs.Content.{is_bit}
 use Rattle.rd_actor.specs.declared.actors.Act.{Act}
-use Rattle.rd_actor.specs.declared.actors.Act.TheVariants.{Enq, Deq, Go, Starve}
+use Rattle.rd_actor.specs.declared.actors.Act.TheVariants.{Enq, Deq, AEnq, ADeq, Go, Starve}
 use Rattle.rd_actor.specs.declared.actors.Actor.{Actor}
-use Rattle.rd_actor.specs.declared.actors.Op.TheVariants.{Enq as Enqueue, Deq as Dequeue}
+use Rattle.rd_actor.specs.declared.actors.Op.{Op}
+use Rattle.rd_actor.specs.declared.actors.Op.TheVariants.{Enq as Enqueue, Deq as Dequeue, AEnq as EnqueueInArray, ADeq as DequeueFromArray}
+use Rattle.rd_actor.specs.declared.actors.OpReply.{OpReply}
+use Rattle.rd_actor.specs.declared.actors.OpReply.TheVariants.{Empty}
 use Rattle.rd_actor.specs.declared.actors.Pc.{Pc}
-use Rattle.rd_actor.specs.declared.actors.Pc.TheVariants.{E1, E2, E3, E4, E5, E6, E7, E8, E9, E10, E11, E12, E13, E14, Q1, Q2, Q3, Q4, Q5, Q6, Q7, Q8, Q9, Q10, Q11, Q12, Q13, Q14}
+use Rattle.rd_actor.specs.declared.actors.Pc.TheVariants.{E1, E2, E3, E4, E5, E6, E7, E8, E9, E10, E11, E12, E13, E14, Q1, Q2, Q3, Q4, Q5, Q6, Q7, Q8, Q9, Q10, Q11, Q12, Q13, Q14, A1, A2, B1, B2, B3}
 use Rattle.rd_actor.specs.Actor.{idle, calling}
-use Rattle.rd_actor.specs.Table.{need, need_choice, goes, done, drawn, turned_to_enqueue, turned_to_dequeue, checked_head, checked_room, checked_tail, checked_again, taken, after_at, after}
-use Rattle.rd_actor.specs.Words.{dequeues, enqueue_fits, pass_fits, words_fit, words_fit_at}
+use Rattle.rd_actor.specs.Table.{need, need_at, need_choice, goes, done, drawn, turned_to_enqueue, turned_to_dequeue, checked_head, checked_room, checked_tail, checked_again, taken, swapped_in, swapped_out, after_at, after}
+use Rattle.rd_actor.specs.Words.{dequeues, array_enqueues, array_dequeues, enqueue_fits, pass_fits, words_fit, words_fit_at}
 use Rattle.rd_step.specs.WellFormed.{Presence, record_fits}
-use Rattle.rd_step.proofs.Fits.{PartsFit, parts_of, words_of, together, answer_fits}
+use Rattle.rd_step.proofs.Fits.{PartsFit, parts_of, words_of, together, answer_fits, drew_slot}
 
 -- Where an actor goes on to one of two places, its words fit if they fit both, each where it is taken
 
@@ -112,15 +120,12 @@ idle_fits R there h = record { crq = h; new = h; next = h; t = refl; h = refl; i
 idle_record : (R : ℕ) (there : Presence) → there root ≡ true → record_fits R there idle ≡ true
 idle_record R there h = together R there idle (idle_fits R there h) refl
 
-calling_enqueue : (R : ℕ) (there : Presence) (x : ℕ) → there root ≡ true → record_fits R there (calling E1 (Enqueue x)) ≡ true
-calling_enqueue R there x h =
+-- a record that begins a call names what the idle one names
+calling_fits : (R : ℕ) (there : Presence) (pc : Pc) (op : Op) → there root ≡ true → words_fit_at pc (calling pc op) ≡ true
+    → record_fits R there (calling pc op) ≡ true
+calling_fits R there pc op h w =
     let f = idle_fits R there h in
-    together R there (calling E1 (Enqueue x)) (record { crq = f.crq; new = f.new; next = f.next; t = f.t; h = f.h; idx = f.idx }) refl
-
-calling_dequeue : (R : ℕ) (there : Presence) → there root ≡ true → record_fits R there (calling Q1 Dequeue) ≡ true
-calling_dequeue R there h =
-    let f = idle_fits R there h in
-    together R there (calling Q1 Dequeue) (record { crq = f.crq; new = f.new; next = f.next; t = f.t; h = f.h; idx = f.idx }) refl
+    together R there (calling pc op) (record { crq = f.crq; new = f.new; next = f.next; t = f.t; h = f.h; idx = f.idx }) w
 
 -- the actor's other words stay
 moved : (R : ℕ) (there : Presence) (a : Actor) (pc : Pc) → PartsFit R there a → words_fit_at pc (goes pc a) ≡ true
@@ -137,83 +142,122 @@ taken_fits R there a None h whole = whole
 left : (x y : Bool) → (x && y) ≡ true → x ≡ true
 left x y h = (and_parts x y h).0
 
+-- on the array: an enqueue whose slot was taken draws again, and a dequeue that found no value looks at the tail
+swapped_in_fits : (R : ℕ) (there : Presence) (a : Actor) (slot : ArrSlot) → there root ≡ true → PartsFit R there a → words_fit_at A1 a ≡ true
+    → record_fits R there (swapped_in a slot).0 ≡ true
+swapped_in_fits R there a NobodyYet r f w = idle_record R there r
+swapped_in_fits R there a Top r f w = moved R there a A1 f w
+swapped_in_fits R there a (Held v) r f w = moved R there a A1 f w
+
+swapped_out_fits : (R : ℕ) (there : Presence) (a : Actor) (slot : ArrSlot) → there root ≡ true → PartsFit R there a → words_fit_at B3 a ≡ true
+    → record_fits R there (swapped_out a slot).0 ≡ true
+swapped_out_fits R there a (Held v) r f w = idle_record R there r
+swapped_out_fits R there a NobodyYet r f w = moved R there a B3 f w
+swapped_out_fits R there a Top r f w = moved R there a B3 f w
+
+-- whether the position has a slot that an actor which stands here drew on the array
+abbrev drew_at : Pc → Answer → Bool
+drew_at A1 (Found (Number u)) = nat_le u 63
+drew_at B1 (Found (Number g)) = nat_le g 63
+drew_at _ _ = true
+
+drew_row : (R : ℕ) (a : Actor) (pc : Pc) (x : Access) (answer : Answer) → need_at R pc a ≡ Ok x → drew_slot x answer ≡ true → drew_at pc answer ≡ true
+drew_row R a A1 x (Found (Number u)) n d =
+    let e : x ≡ At ArrTail AddArray = cc in subst (λ (y : Access). drew_slot y (Found (Number u)) ≡ true) e d
+drew_row R a B1 x (Found (Number g)) n d =
+    let e : x ≡ At ArrHead AddArray = cc in subst (λ (y : Access). drew_slot y (Found (Number g)) ≡ true) e d
+drew_row R a _ x _ n d = refl
+
 -- the rows
 after_at_fits : (R : ℕ) (there : Presence) (a : Actor) (pc : Pc) (answer : Answer) → there root ≡ true
     → answer_fits R there answer ≡ true → record_fits R there a ≡ true → PartsFit R there a → words_fit_at pc a ≡ true
-    → record_fits R there (after_at R pc a answer).0 ≡ true
-after_at_fits R there a E1 (Found (Name s)) r h whole f w =
+    → drew_at pc answer ≡ true → record_fits R there (after_at R pc a answer).0 ≡ true
+after_at_fits R there a E1 (Found (Name s)) r h whole f w d =
     together R there (record a { crq = s; pc = E2 }) (record { crq = h; new = f.new; next = f.next; t = f.t; h = f.h; idx = f.idx }) w
-after_at_fits R there a E2 (Found (NextIs (Some m))) r h whole f w =
+after_at_fits R there a E2 (Found (NextIs (Some m))) r h whole f w d =
     together R there (record a { next = m; pc = E3 }) (record { crq = f.crq; new = f.new; next = h; t = f.t; h = f.h; idx = f.idx }) w
-after_at_fits R there a E2 (Found (NextIs None)) r h whole f w = moved R there a E4 f w
-after_at_fits R there a E3 answer r h whole f w = moved R there a E1 f w
-after_at_fits R there a E4 (Found (TailIs closed count)) r h whole f w =
+after_at_fits R there a E2 (Found (NextIs None)) r h whole f w d = moved R there a E4 f w
+after_at_fits R there a E3 answer r h whole f w d = moved R there a E1 f w
+after_at_fits R there a E4 (Found (TailIs closed count)) r h whole f w d =
     together R there (drawn a closed count) (record { crq = f.crq; new = f.new; next = f.next; t = h; h = f.h; idx = f.idx })
     (drawn_words a closed count w)
-after_at_fits R there a E5 (Value v) r h whole f w =
+after_at_fits R there a E5 (Value v) r h whole f w d =
     together R there (record a { val = v; pc = E6 }) (record { crq = f.crq; new = f.new; next = f.next; t = f.t; h = f.h; idx = f.idx }) w
-after_at_fits R there a E6 (Turn safe idx) r h whole f w =
+after_at_fits R there a E6 (Turn safe idx) r h whole f w d =
     together R there (turned_to_enqueue a safe idx) (record { crq = f.crq; new = f.new; next = f.next; t = f.t; h = f.h; idx = h })
     (turned_words a safe idx w)
-after_at_fits R there a E7 (Found (Number g)) r h whole f w =
+after_at_fits R there a E7 (Found (Number g)) r h whole f w d =
     together R there (checked_head a g) (record { crq = f.crq; new = f.new; next = f.next; t = f.t; h = f.h; idx = f.idx }) (head_words a g w)
-after_at_fits R there a E8 Won r h whole f w = idle_record R there r
-after_at_fits R there a E8 Lost r h whole f w =
+after_at_fits R there a E8 Won r h whole f w d = idle_record R there r
+after_at_fits R there a E8 Lost r h whole f w d =
     moved R there a E9 f (left (enqueue_fits a) (is_none a.val) (left (enqueue_fits a && is_none a.val) (nat_le a.idx a.t) w))
-after_at_fits R there a E9 (Found (Number g)) r h whole f w =
+after_at_fits R there a E9 (Found (Number g)) r h whole f w d =
     together R there (checked_room R a g) (record { crq = f.crq; new = f.new; next = f.next; t = f.t; h = h; idx = f.idx }) (room_words R a g w)
-after_at_fits R there a E11 answer r h whole f w = moved R there a E12 f w
-after_at_fits R there a E12 (Made s) r h whole f w =
+after_at_fits R there a E11 answer r h whole f w d = moved R there a E12 f w
+after_at_fits R there a E12 (Made s) r h whole f w d =
     together R there (record a { new = s; pc = E13 }) (record { crq = f.crq; new = h; next = f.next; t = f.t; h = f.h; idx = f.idx }) w
-after_at_fits R there a E13 Won r h whole f w = moved R there a E14 f w
-after_at_fits R there a E13 Lost r h whole f w = moved R there a E1 f w
-after_at_fits R there a E14 answer r h whole f w = idle_record R there r
-after_at_fits R there a Q1 (Found (Name s)) r h whole f w =
+after_at_fits R there a E13 Won r h whole f w d = moved R there a E14 f w
+after_at_fits R there a E13 Lost r h whole f w d = moved R there a E1 f w
+after_at_fits R there a E14 answer r h whole f w d = idle_record R there r
+after_at_fits R there a Q1 (Found (Name s)) r h whole f w d =
     together R there (record a { crq = s; pass = 1; pc = Q2 }) (record { crq = h; new = f.new; next = f.next; t = f.t; h = f.h; idx = f.idx })
     (and_from (dequeues a.op) true (left (dequeues a.op) (nat_le a.pass 2) w) refl)
-after_at_fits R there a Q2 (Found (Number g)) r h whole f w =
+after_at_fits R there a Q2 (Found (Number g)) r h whole f w d =
     together R there (record a { h = g; pc = Q3 }) (record { crq = f.crq; new = f.new; next = f.next; t = f.t; h = h; idx = f.idx }) w
-after_at_fits R there a Q3 (Value v) r h whole f w =
+after_at_fits R there a Q3 (Value v) r h whole f w d =
     together R there (record a { val = v; pc = Q4 }) (record { crq = f.crq; new = f.new; next = f.next; t = f.t; h = f.h; idx = f.idx }) w
-after_at_fits R there a Q4 (Turn safe idx) r h whole f w =
+after_at_fits R there a Q4 (Turn safe idx) r h whole f w d =
     together R there (turned_to_dequeue a safe idx) (record { crq = f.crq; new = f.new; next = f.next; t = f.t; h = f.h; idx = h })
     (taken_words a safe idx w)
-after_at_fits R there a Q5 Won r h whole f w = taken_fits R there a a.val r whole
-after_at_fits R there a Q5 Lost r h whole f w =
+after_at_fits R there a Q5 Won r h whole f w d = taken_fits R there a a.val r whole
+after_at_fits R there a Q5 Lost r h whole f w d =
     moved R there a Q3 f (left (pass_fits a) (is_some a.val) (left (pass_fits a && is_some a.val) (a.idx == a.h) w))
-after_at_fits R there a Q6 Won r h whole f w =
+after_at_fits R there a Q6 Won r h whole f w d =
     moved R there a Q8 f (left (pass_fits a) (is_some a.val) (left (pass_fits a && is_some a.val) (nat_lt a.idx a.h) w))
-after_at_fits R there a Q6 Lost r h whole f w =
+after_at_fits R there a Q6 Lost r h whole f w d =
     moved R there a Q3 f (left (pass_fits a) (is_some a.val) (left (pass_fits a && is_some a.val) (nat_lt a.idx a.h) w))
-after_at_fits R there a Q7 Won r h whole f w =
+after_at_fits R there a Q7 Won r h whole f w d =
     moved R there a Q8 f (left (pass_fits a) (is_none a.val) (left (pass_fits a && is_none a.val) (nat_le a.idx a.h) w))
-after_at_fits R there a Q7 Lost r h whole f w =
+after_at_fits R there a Q7 Lost r h whole f w d =
     moved R there a Q3 f (left (pass_fits a) (is_none a.val) (left (pass_fits a && is_none a.val) (nat_le a.idx a.h) w))
-after_at_fits R there a Q8 (Found (TailIs closed count)) r h whole f w =
+after_at_fits R there a Q8 (Found (TailIs closed count)) r h whole f w d =
     together R there (checked_tail a count) (record { crq = f.crq; new = f.new; next = f.next; t = h; h = f.h; idx = f.idx }) (tail_words a count w)
-after_at_fits R there a Q9 (Found (TailIs closed count)) r h whole f w =
+after_at_fits R there a Q9 (Found (TailIs closed count)) r h whole f w d =
     together R there (record a { closed = closed; t = count; pc = Q10 }) (record { crq = f.crq; new = f.new; next = f.next; t = h; h = f.h; idx = f.idx }) w
-after_at_fits R there a Q10 (Found (Number g)) r h whole f w =
+after_at_fits R there a Q10 (Found (Number g)) r h whole f w d =
     together R there (record a { h = g; pc = Q11 }) (record { crq = f.crq; new = f.new; next = f.next; t = f.t; h = h; idx = f.idx }) w
-after_at_fits R there a Q11 (Found (TailIs closed count)) r h whole f w =
+after_at_fits R there a Q11 (Found (TailIs closed count)) r h whole f w d =
     together R there (checked_again a closed count) (record { crq = f.crq; new = f.new; next = f.next; t = f.t; h = f.h; idx = f.idx })
     (again_words a closed count w)
-after_at_fits R there a Q12 Won r h whole f w =
+after_at_fits R there a Q12 Won r h whole f w d =
     moved R there a (done a) f
     (pass_done (goes (done a) a) (left (pass_fits a) (not a.closed) (left (pass_fits a && not a.closed) (nat_lt a.t a.h) w)))
-after_at_fits R there a Q12 Lost r h whole f w =
+after_at_fits R there a Q12 Lost r h whole f w d =
     moved R there a Q9 f (left (pass_fits a) (not a.closed) (left (pass_fits a && not a.closed) (nat_lt a.t a.h) w))
-after_at_fits R there a Q13 (Found (NextIs None)) r h whole f w = idle_record R there r
-after_at_fits R there a Q13 (Found (NextIs (Some m))) r h whole f w =
+after_at_fits R there a Q13 (Found (NextIs None)) r h whole f w d = idle_record R there r
+after_at_fits R there a Q13 (Found (NextIs (Some m))) r h whole f w d =
     together R there (record a { next = m; pass = 2; pc = Q2 }) (record { crq = f.crq; new = f.new; next = h; t = f.t; h = f.h; idx = f.idx })
     (and_from (dequeues a.op) true (left (dequeues a.op) (a.pass == 1) w) refl)
-after_at_fits R there a Q14 answer r h whole f w =
+after_at_fits R there a Q14 answer r h whole f w d =
     let parts = and_parts (dequeues a.op) (a.pass == 2) w in
     moved R there a Q1 f (and_from (dequeues a.op) (nat_le a.pass 2) parts.0 (at_most a.pass parts.1))
   where
     at_most : (n : ℕ) → (n == 2) ≡ true → nat_le n 2 ≡ true
     at_most n e = let k : n ≡ 2 = eqb-true n 2 e in le-leb n 2 (omega arith)
-after_at_fits R there a _ _ r h whole f w = whole
+after_at_fits R there a A1 (Found (Number u)) r h whole f w d =
+    together R there (record a { t = u; pc = A2 }) (record { crq = f.crq; new = f.new; next = f.next; t = h; h = f.h; idx = f.idx })
+    (and_from (array_enqueues a.op && (a.pass == 0)) (nat_le u 63) w d)
+after_at_fits R there a A2 (Found (Slot slot)) r h whole f w d =
+    swapped_in_fits R there a slot r f (left (array_enqueues a.op && (a.pass == 0)) (nat_le a.t 63) w)
+after_at_fits R there a B1 (Found (Number g)) r h whole f w d =
+    together R there (record a { h = g; pc = B2 }) (record { crq = f.crq; new = f.new; next = f.next; t = f.t; h = h; idx = f.idx })
+    (and_from (array_dequeues a.op && (a.pass == 0)) (nat_le g 63) w d)
+after_at_fits R there a B2 (Found (Slot slot)) r h whole f w d = swapped_out_fits R there a slot r f w
+after_at_fits R there a B3 (Found (Number u)) r h whole f w d =
+    cond_both (nat_le u (a.h + 1)) (idle, Some Empty) (goes B1 a, None)
+    (λ (next : Actor × Option OpReply). record_fits R there next.0 ≡ true) (λ e. idle_record R there r)
+    (λ e. moved R there a B1 f (left (array_dequeues a.op && (a.pass == 0)) (nat_le a.h 63) w))
+after_at_fits R there a _ _ r h whole f w d = whole
 
 -- a choice: the actor stands where it may choose
 chosen_fits : (R : ℕ) (there : Presence) (a : Actor) (pc : Pc) (b : Bool) (x : Access) → need_choice pc ≡ Ok x → PartsFit R there a
@@ -224,11 +268,13 @@ chosen_fits R there a _ b x h f w = cc
 
 -- an actor whose record fits, and that was not refused, goes on to a record that fits
 pub after_fits : (R : ℕ) (there : Presence) (a : Actor) (act : Act) (x : Access) (answer : Answer) → there root ≡ true
-    → need R a act ≡ Ok x → answer_fits R there answer ≡ true → record_fits R there a ≡ true
+    → need R a act ≡ Ok x → answer_fits R there answer ≡ true → drew_slot x answer ≡ true → record_fits R there a ≡ true
     → record_fits R there (after R a act answer).0 ≡ true
-after_fits R there a (Enq v) x answer r n h whole = calling_enqueue R there v r
-after_fits R there a Deq x answer r n h whole = calling_dequeue R there r
-after_fits R there a Go x answer r n h whole =
-    after_at_fits R there a a.pc answer r h whole (parts_of R there a whole) (words_of R there a whole)
-after_fits R there a (Starve b) x answer r n h whole =
+after_fits R there a (Enq v) x answer r n h d whole = calling_fits R there E1 (Enqueue v) r refl
+after_fits R there a Deq x answer r n h d whole = calling_fits R there Q1 Dequeue r refl
+after_fits R there a (AEnq v) x answer r n h d whole = calling_fits R there A1 (EnqueueInArray v) r refl
+after_fits R there a ADeq x answer r n h d whole = calling_fits R there B1 DequeueFromArray r refl
+after_fits R there a Go x answer r n h d whole =
+    after_at_fits R there a a.pc answer r h whole (parts_of R there a whole) (words_of R there a whole) (drew_row R a a.pc x answer n d)
+after_fits R there a (Starve b) x answer r n h d whole =
     chosen_fits R there a a.pc b x n (parts_of R there a whole) (words_of R there a whole)

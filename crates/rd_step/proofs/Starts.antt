@@ -7,7 +7,8 @@ use Rattle.rd_cell.specs.declared.places.SegName.{SegName}
 use Rattle.rd_cell.specs.declared.places.Place.{Place}
 use Rattle.rd_cell.specs.declared.places.Place.TheVariants.{QHead, QTail, Head, Tail, Next, Cell as CellAt, Whole, ArrHead, ArrTail, ArrCell}
 use Rattle.rd_cell.specs.declared.contents.Content.{Content}
-use Rattle.rd_cell.specs.declared.contents.Content.TheVariants.{Number, Tail as TailIs, Next as NextIs, Cell as CellIs}
+use Rattle.rd_cell.specs.declared.contents.Content.TheVariants.{Number, Tail as TailIs, Next as NextIs, Cell as CellIs, Slot}
+use Rattle.rd_cell.specs.declared.contents.ArrSlot.TheVariants.{Empty as NobodyYet}
 use Rattle.rd_cell.specs.Place.{root, is_name}
 use Rattle.rd_cell.specs.Content.{is_there, new_cell}
 use Rattle.rd_cell.proofs.PlaceLemmas.{is_name-true}
@@ -67,6 +68,10 @@ some_cell true false c d = refl
 some_cell false true c d = refl
 some_cell false false c d = refl
 
+some_if : (b : Bool) (c : Content) → is_some (if b then Some c else None) ≡ b
+some_if true c = refl
+some_if false c = refl
+
 places_first : (R : ℕ) (p : Place) → is_some (fresh_space R p) ≡ belongs R (there_first R) p
 places_first R QHead = refl
 places_first R QTail = refl
@@ -77,7 +82,7 @@ places_first R (CellAt s i) = some_cell (is_name root s) (nat_lt i R) (CellIs (n
 places_first R (Whole s) = none_either (is_name root s)
 places_first R ArrHead = refl
 places_first R ArrTail = refl
-places_first R (ArrCell i) = refl
+places_first R (ArrCell i) = some_if (nat_lt i 64) (Slot NobodyYet)
 
 fits_if : (R : ℕ) (there : Presence) (p : Place) (b : Bool) (o : Option Content) → place_fits R there p o ≡ true
     → place_fits R there p (if b then o else None) ≡ true
@@ -99,7 +104,7 @@ contents_first R (CellAt s i) = fits_if R (there_first R) (CellAt s i) (is_name 
 contents_first R (Whole s) = fits_if R (there_first R) (Whole s) (is_name root s) None refl
 contents_first R ArrHead = refl
 contents_first R ArrTail = refl
-contents_first R (ArrCell i) = refl
+contents_first R (ArrCell i) = fits_if R (there_first R) (ArrCell i) (nat_lt i 64) (Some (Slot NobodyYet)) refl
 
 below_count : (each : ℕ → Actor) (count n : ℕ) → acting (actors_by each count) (suc n) ≡ true → n < count
 below_count each count n h =

@@ -1,6 +1,6 @@
 -- The code's world, as the model's.
-use Rattle.std.proofs.Common.{◌≡◌, ℕ, zero, suc, ◌+◌, ◌-◌, ◌^◌, ◌<◌, ◌≤◌, true, false, nat_lt, ◌⊎◌, inl, inr, refl, sym, ◌∙◌, ap, subst, arith, List, [], ◌∷◌, length, set, slice_get, Option, Some, None, is_some, IsSome, IfOk, OnErr, Result, Ok, Err, lt-ltb, le-ltb, leb-true, ltb-true, ne_eqb}
-use Rattle.std.proofs.lemmas.Bool.{cases_lt, cond-true, cond-false, and_parts}
+use Rattle.std.proofs.Common.{◌≡◌, ℕ, zero, suc, ◌+◌, ◌-◌, ◌^◌, ◌<◌, ◌≤◌, Bool, true, false, not, nat_lt, ◌⊎◌, inl, inr, refl, sym, ◌∙◌, ap, subst, arith, List, [], ◌∷◌, length, set, slice_get, Option, Some, None, is_some, IsSome, IfOk, OnErr, Result, Ok, Err, lt-ltb, le-ltb, leb-true, ltb-true, ne_eqb}
+use Rattle.std.proofs.lemmas.Bool.{cases_lt, cond-true, cond-false, cond_both, both_ways, and_parts}
 use mathlib.Core.Path.{fun_ext}
 use Rattle.rd_cell.specs.declared.places.SegName.{SegName}
 use Rattle.rd_cell.specs.declared.places.Place.{Place}
@@ -9,12 +9,13 @@ use Rattle.rd_cell.specs.declared.access.Access.{Access}
 use Rattle.rd_cell.specs.declared.access.Access.TheVariants.{NoPlace, At, Make}
 use Rattle.rd_cell.specs.declared.access.Answer.TheVariants.{Made}
 use Rattle.rd_cell.specs.declared.access.Operation.{Operation}
-use Rattle.rd_cell.specs.declared.access.Operation.TheVariants.{AddArray, CasTail}
+use Rattle.rd_cell.specs.declared.access.Operation.TheVariants.{Add, AddArray, CasTail}
 use Rattle.rd_cell.specs.declared.access.Done.{Done}
 use Rattle.rd_cell.specs.declared.refusal.Refusal.{Refusal}
 use Rattle.rd_cell.specs.declared.refusal.Refusal.TheVariants.{SegmentsEnd, NoMemory}
 use Rattle.rd_cell.specs.Content.{Contents, is_there, holding, without_segment}
-use Rattle.rd_cell.specs.Effect.{suits_segments}
+use Rattle.rd_cell.specs.Place.{is_array}
+use Rattle.rd_cell.specs.Effect.{suits_array, suits_segments, suits as suits_at}
 use Rattle.rd_cell.specs.Access.{Performed, lay, made, nothing_done, perform, Operates, Makes, Accesses}
 use Rattle.rd_segments.specs.declared.space.Space.{Space}
 use Rattle.rd_segments.specs.Space.{contents, made_by, room, lists, RefusesMake}
@@ -22,6 +23,7 @@ use Rattle.rd_segments.proofs.CountLemmas.{counts, there_below, absent_from}
 use Rattle.rd_actor.specs.declared.actors.Actor.{Actor}
 use Rattle.rd_actor.specs.declared.actors.OpReply.{OpReply}
 use Rattle.rd_actor.specs.Table.{need, after}
+use Rattle.rd_actor.specs.Words.{words_fit}
 use Rattle.rd_actor.specs.World.{World}
 use Rattle.rd_step.specs.declared.entries.Event.{Event}
 use Rattle.rd_step.specs.declared.entries.Entry.{Entry}
@@ -30,7 +32,7 @@ use Rattle.rd_step.specs.Machine.{actor_at, machine_of, suits, makes, needs_maki
 use Rattle.rd_step.specs.WellFormed.{Presence, actor_fits, record_fits, maker_fits, acting, IsWellFormed}
 use Rattle.rd_step.proofs.Steps.{step_of, step_refused}
 use Rattle.rd_step.proofs.Actors.{actor_at-set, actor_at-within}
-use Rattle.rd_step.proofs.Fits.{parts_of, op_fits, access_fits, need_fits}
+use Rattle.rd_step.proofs.Fits.{parts_of, words_of, op_fits, access_fits, need_fits}
 use Rattle.rd_step.proofs.Keeps.{keeps}
 use Rattle.std.proofs.lemmas.Result.{IfOk-at_ok}
 
@@ -63,7 +65,7 @@ making R s x = record {
 }
 
 made_in : {R : ℕ} (space : Space R) (m : ℕ) → made_by space m ≤ 65535 → made (contents space) m ≡ made_by space m
-made_in space m few = counts space.makers.items space.qhead space.qtail m few
+made_in space m few = counts space.makers.items space.qhead space.qtail space.array m few
 
 pub makes_access : {R : ℕ} (old : Space R) (new : Contents) (actor x : ℕ) (name : SegName) (done : Done) → made_by old actor ≤ 65535
     → Makes R actor (made_by old actor) x name (contents old) new
@@ -92,12 +94,12 @@ refuses_access space actor x _ few h = absurd h
 below_count : {R : ℕ} (space : Space R) (s : SegName) → is_there (contents space) s ≡ true → s.n < made_by space s.maker
 below_count space s h =
     elim (cases_lt s.n (made_by space s.maker))
-    [ inl lt ↦ lt | inr past ↦ absurd (cc (absent_from space.makers.items space.qhead space.qtail s.maker s.n past, h)) ]
+    [ inl lt ↦ lt | inr past ↦ absurd (cc (absent_from space.makers.items space.qhead space.qtail space.array s.maker s.n past, h)) ]
 
 at_count : {R : ℕ} (space : Space R) (m n : ℕ) → is_there (contents space) (record { maker = m; n = n }) ≡ false → made_by space m ≤ n
 at_count space m n h =
     elim (cases_lt n (made_by space m))
-    [ inl lt ↦ absurd (cc (there_below space.makers.items space.qhead space.qtail m n lt, h)) | inr past ↦ past ]
+    [ inl lt ↦ absurd (cc (there_below space.makers.items space.qhead space.qtail space.array m n lt, h)) | inr past ↦ past ]
 
 pub last_some : {R : ℕ} (space : Space R) (s : SegName) → IsLast (contents space) s → 0 < made_by space s.maker
 last_some space s h = let k = below_count space s h.here in omega arith
@@ -158,18 +160,28 @@ pub few_made : {R : ℕ} (space : Space R) (xs : List Actor) (n : ℕ) → IsWel
 few_made space xs n formed =
     elim (cases_lt 65535 (made_by space n)) [
       | inl many ↦
-          absurd (no_such space xs n (formed.made.makers (record { maker = n; n = 65535 }) (there_below space.makers.items space.qhead space.qtail n 65535 many)))
+          absurd (no_such space xs n (formed.made.makers (record { maker = n; n = 65535 }) (there_below space.makers.items space.qhead space.qtail space.array n 65535 many)))
       | inr few ↦ few
     ]
 
-op_suits : (R : ℕ) (there : Presence) (op : Operation) → op_fits R there op ≡ true → suits_segments op ≡ true
-op_suits R there AddArray h = cc
-op_suits R there (CasTail old new) h = h
-op_suits R there _ h = refl
+-- an operation that fits its place suits it
+array_suits : (R : ℕ) (there : Presence) (p : Place) (op : Operation) → is_array p ≡ true → op_fits R there p op ≡ true → suits_array op ≡ true
+array_suits R there p Add e h = absurd (cc (ap not e, h))
+array_suits R there p _ e h = refl
+
+segment_suits : (R : ℕ) (there : Presence) (p : Place) (op : Operation) → is_array p ≡ false → op_fits R there p op ≡ true → suits_segments op ≡ true
+segment_suits R there p AddArray e h = absurd (both_ways (is_array p) e h)
+segment_suits R there p (CasTail old new) e h = h
+segment_suits R there p _ e h = refl
+
+op_suits : (R : ℕ) (there : Presence) (p : Place) (op : Operation) → op_fits R there p op ≡ true → suits_at p op ≡ true
+op_suits R there p op h =
+    cond_both (is_array p) (suits_array op) (suits_segments op) (λ (b : Bool). b ≡ true)
+    (λ e. array_suits R there p op e h) (λ e. segment_suits R there p op e h)
 
 access_suits : (R : ℕ) (there : Presence) (x : Access) → access_fits R there x ≡ true → suits x ≡ true
 access_suits R there NoPlace h = refl
-access_suits R there (At p op) h = op_suits R there op h
+access_suits R there (At p op) h = op_suits R there p op h
 access_suits R there (Make x) h = refl
 
 -- what the need of an actor that is there says of its access
@@ -188,6 +200,13 @@ head_small R space xs n a formed small has =
     let fits : record_fits R there a ≡ true = subst (λ (o : Option Actor). actor_fits R there o ≡ true) has (formed.actors n) in
     let h = leb-true a.h (2 ^ 62) (parts_of R there a fits).h in
     omega arith
+
+-- the words of an actor of a well-formed world fit its place
+pub words_here : (R : ℕ) (space : Space R) (xs : List Actor) (n : ℕ) (a : Actor) → IsWellFormed R (machine_of space xs)
+    → actor_at xs n ≡ Some a → words_fit a ≡ true
+words_here R space xs n a formed has =
+    let there = is_there (contents space) in
+    words_of R there a (subst (λ (o : Option Actor). actor_fits R there o ≡ true) has (formed.actors n))
 
 -- whether an actor's event makes a segment, by its access
 pub makes_by : (R : ℕ) (w : World) (e : Event) (a : Actor) (x : Access) → w.actor e.actor ≡ Some a → need R a e.act ≡ Ok x

@@ -6,7 +6,7 @@ use Rattle.rd_cell.specs.declared.contents.Content.{Content}
 use Rattle.rd_cell.specs.declared.access.Access.{Access}
 use Rattle.rd_cell.specs.declared.access.Access.TheVariants.{At, Make}
 use Rattle.rd_cell.specs.declared.refusal.Refusal.{Refusal}
-use Rattle.rd_cell.specs.Effect.{suits_segments}
+use Rattle.rd_cell.specs.Effect.{suits as suits_at}
 use Rattle.rd_actor.specs.declared.actors.Actor.{Actor}
 use Rattle.rd_actor.specs.declared.actors.Act.{Act}
 use Rattle.rd_actor.specs.Table.{need}
@@ -40,9 +40,9 @@ fresh_world R count = record { at = fresh_space R; actor = actors_by (λ n. idle
 abbrev pub poised_world : ℕ → ℕ → World
 poised_world R count = record { at = fresh_space R; actor = actors_by poised count }
 
--- whether an operation of this access is one for segments
+-- whether the operation of this access is one for its place
 abbrev pub suits : Access → Bool
-suits (At p op) = suits_segments op
+suits (At p op) = suits_at p op
 suits _ = true
 
 -- whether the access makes a segment

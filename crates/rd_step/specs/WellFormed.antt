@@ -1,10 +1,10 @@
--- Well-formed worlds, as far as places exist: the queue's two ends, and segments.
+-- Well-formed worlds.
 use Rattle.std.specs.Prelude.{◌≡◌, ℕ, zero, suc, ◌+◌, ◌^◌, ◌≤◌, Bool, true, false, not, ◌==◌, ◌&&◌, nat_lt, nat_le, Option, Some, None, is_some, IsTrue}
 use Rattle.rd_cell.specs.declared.places.SegName.{SegName}
 use Rattle.rd_cell.specs.declared.places.Place.{Place}
-use Rattle.rd_cell.specs.declared.places.Place.TheVariants.{QHead, QTail, Head, Tail, Next, Cell as CellAt}
+use Rattle.rd_cell.specs.declared.places.Place.TheVariants.{QHead, QTail, Head, Tail, Next, Cell as CellAt, ArrHead, ArrTail, ArrCell}
 use Rattle.rd_cell.specs.declared.contents.Content.{Content}
-use Rattle.rd_cell.specs.declared.contents.Content.TheVariants.{Name, Number, Tail as TailIs, Next as NextIs, Cell as CellIs}
+use Rattle.rd_cell.specs.declared.contents.Content.TheVariants.{Name, Number, Tail as TailIs, Next as NextIs, Cell as CellIs, Slot}
 use Rattle.rd_cell.specs.Place.{root}
 use Rattle.rd_cell.specs.Content.{is_there}
 use Rattle.rd_actor.specs.declared.actors.Actor.{Actor}
@@ -15,8 +15,8 @@ use Rattle.rd_actor.specs.World.{World}
 abbrev pub Presence : Type 0
 Presence = SegName → Bool
 
--- which places are there: the queue's ends, and those of each segment that is there. The whole of a segment is a
--- name for its places, and no place of the map
+-- which places are there: the queue's ends, those of each segment that is there, and the array's. The whole of a
+-- segment is a name for its places, and no place of the map
 abbrev pub belongs : ℕ → Presence → Place → Bool
 belongs R there QHead = true
 belongs R there QTail = true
@@ -24,18 +24,28 @@ belongs R there (Head s) = there s
 belongs R there (Tail s) = there s
 belongs R there (Next s) = there s
 belongs R there (CellAt s i) = nat_lt i R && there s
+belongs R there ArrHead = true
+belongs R there ArrTail = true
+belongs R there (ArrCell i) = nat_lt i 64
 belongs R there _ = false
 
--- whether a content fits its place: it is of the place's kind, the segments that it names are there, counters are
--- at most 2^62, and a cell's index is at most 2^62 + R
+-- whether the segment that a next names is there, if it names one
+abbrev pub next_fits : Presence → Option SegName → Bool
+next_fits there None = true
+next_fits there (Some m) = there m
+
+-- whether a content fits its place: it is of the place's kind, the segments that it names are there, a segment's
+-- counters are at most 2^62 and the array's at most 64, and a cell's index is at most 2^62 + R
 abbrev pub content_fits : ℕ → Presence → Place → Content → Bool
 content_fits R there QHead (Name s) = there s
 content_fits R there QTail (Name s) = there s
 content_fits R there (Head s) (Number n) = nat_le n (2 ^ 62)
 content_fits R there (Tail s) (TailIs closed n) = nat_le n (2 ^ 62)
-content_fits R there (Next s) (NextIs None) = true
-content_fits R there (Next s) (NextIs (Some m)) = there m
+content_fits R there (Next s) (NextIs m) = next_fits there m
 content_fits R there (CellAt s i) (CellIs c) = nat_le c.idx (2 ^ 62 + R)
+content_fits R there ArrHead (Number n) = nat_le n 64
+content_fits R there ArrTail (Number n) = nat_le n 64
+content_fits R there (ArrCell i) (Slot slot) = true
 content_fits R there _ _ = false
 
 -- whether what is at a place fits it, if anything is
@@ -47,9 +57,13 @@ place_fits R there p (Some c) = content_fits R there p c
 abbrev pub names_fit : Presence → Actor → Bool
 names_fit there a = there a.crq && there a.new && there a.next
 
+-- whether an actor's positions are at most 2^62, and its index at most this
+abbrev pub numbers_within : ℕ → Actor → Bool
+numbers_within end a = nat_le a.t (2 ^ 62) && nat_le a.h (2 ^ 62) && nat_le a.idx end
+
 -- whether an actor's numbers are within their ends
 abbrev pub numbers_fit : ℕ → Actor → Bool
-numbers_fit R a = nat_le a.t (2 ^ 62) && nat_le a.h (2 ^ 62) && nat_le a.idx (2 ^ 62 + R)
+numbers_fit R = numbers_within (2 ^ 62 + R)
 
 -- whether an actor's record fits: its names, its numbers, and its words as its place wants them
 abbrev pub record_fits : ℕ → Presence → Actor → Bool

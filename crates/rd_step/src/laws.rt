@@ -1,12 +1,14 @@
 //! The laws of the machine, for every world of the model: each is the contract of a function that does nothing.
 
-ghost use Rattle.std.specs.Prelude.{◌≡◌, ℕ, false, List, Ok};
+ghost use Rattle.std.specs.Prelude.{◌≡◌, ◌↔◌, ℕ, suc, false, List, length, None, Ok};
 ghost use Rattle.rd_actor.specs.World.{World as Model};
 ghost use Rattle.rd_step.specs.declared.entries.Event.{Event};
+ghost use Rattle.rd_step.specs.declared.parts.Parts.{Parts};
 ghost use Rattle.rd_step.specs.Step.{Stepped, step, unstepped};
 ghost use Rattle.rd_step.specs.Run.{Ran, run};
 ghost use Rattle.rd_step.specs.Dependence.{depends, IsFree};
 ghost use Rattle.rd_step.specs.WellFormed.{IsWellFormed};
+ghost use Rattle.rd_step.specs.Parts.{world_of, first_flaw};
 ghost use Rattle.rd_step.specs.Laws.{Swapped, Removed};
 
 /// A step that does not depend on the one before it may go first, with the same entries and the same world after
@@ -32,4 +34,11 @@ pub fn a_free_step_may_be_taken_out()
 pub fn steps_keep_worlds_well_formed()
     ensures { (R : ℕ) (w : Model) (e : Event) (s : Stepped) → IsWellFormed R w → step R w e ≡ Ok s
         → IsWellFormed R s.world }
+{}
+
+/// `World::assemble` names a flaw of no well-formed world, and takes no other: parts have no flaw exactly where there is a list of
+/// segments for each maker from 0 to the number of actors, and their world is well-formed.
+pub fn parts_have_no_flaw_exactly_where_their_world_is_well_formed()
+    ensures { (R : ℕ) (p : Parts R) → (first_flaw p ≡ None)
+        ↔ ((length p.segments.items ≡ suc (length p.actors.items)) × IsWellFormed R (world_of p)) }
 {}

@@ -7,11 +7,19 @@
 
 pub mod entries;
 mod fields;
+pub mod flaws;
 pub mod laws;
+pub mod parts;
 pub mod worlds;
 
 pub use entries::{Entry, Event};
+pub use flaws::{Flaw, Unassembled};
+pub use parts::Parts;
+pub use rd_ring::SegmentParts;
+pub use rd_segments::ArrayParts;
 pub use worlds::World;
 
+#[cfg(test)]
+mod assembling;
 #[cfg(test)]
 mod tests;

@@ -119,4 +119,5 @@ fn the_laws_are_functions_that_do_nothing() {
     laws::entries_undo_their_steps();
     laws::a_free_step_may_be_taken_out();
     laws::steps_keep_worlds_well_formed();
+    laws::parts_have_no_flaw_exactly_where_their_world_is_well_formed();
 }

@@ -1,15 +1,18 @@
 //! The world: the space and the actors, and the step.
 
-ghost use Rattle.std.specs.Prelude.{◌≡◌, ◌+◌, ◌<◌, ◌≤◌, ◌↔◌, ◌⊎◌, ℕ, suc, Ok, Err, IsSome, IsTrue, IfOk, IfErr, OnOk, OnErr, length};
+ghost use Rattle.std.specs.Prelude.{◌≡◌, ◌+◌, ◌<◌, ◌≤◌, ◌↔◌, ◌⊎◌, ℕ, suc, None, Ok, Err, IsSome, IsTrue, IfOk, IfErr, OnOk, OnErr, length};
 ghost use Rattle.rd_cell.specs.Content.{shown};
 ghost use Rattle.rd_segments.specs.Lists.{uses};
 ghost use Rattle.rd_segments.specs.Space.{lists};
 ghost use Rattle.rd_step.specs.Step.{step, reverted, CanPutBack};
 ghost use Rattle.rd_step.specs.Machine.{machine_of, fresh_world, poised_world, makes_segment, given};
 ghost use Rattle.rd_step.specs.WellFormed.{IsWellFormed};
+ghost use Rattle.rd_step.specs.Parts.{world_of, first_flaw, Refuses};
 
 use super::entries::{Entry, Event};
 use super::fields::{actor_in, revert_fields, step_fields};
+use super::flaws::{Unassembled, first_flaw};
+use super::parts::Parts;
 use rd_actor::Actor;
 use rd_cell::{Content, Place, Refusal};
 use rd_segments::Space;
@@ -84,6 +87,37 @@ impl<const R: usize> World<R> {
             Ok(space) => Ok(World {
                 space,
                 actors: list,
+            }),
+        }
+    }
+
+    /// The world of these parts.
+    ///
+    /// # Errors
+    ///
+    /// `Flaw` exactly where the parts make no well-formed world, with the first condition that they fail; else `NoMemory`
+    /// where the room for the segments was refused.
+    pub fn assemble(alloc: Global, parts: Parts<R>) -> Result<World<R>, Unassembled>
+        requires positive { 1 ≤ R }
+        requires small { R ≤ 64 }
+        ensures ok { IfOk result (λ world. model world ≡ world_of parts.entry) }
+        ensures flawless { OnOk result (first_flaw parts.entry ≡ None) }
+        ensures err { IfErr result (λ e. Refuses parts.entry e) }
+    {
+        if let Some(flaw) = first_flaw(&parts) {
+            return Err(Unassembled::Flaw(flaw));
+        }
+        match Space::from_parts(
+            alloc,
+            &parts.segments,
+            parts.qhead,
+            parts.qtail,
+            parts.array,
+        ) {
+            Err(_) => Err(Unassembled::NoMemory),
+            Ok(space) => Ok(World {
+                space,
+                actors: parts.actors,
             }),
         }
     }
