@@ -8,8 +8,10 @@ use Rattle.rd_cell.specs.declared.contents.Content.TheVariants.{Tail as TailHas}
 use Rattle.rd_cell.specs.Place.{root}
 use Rattle.rd_actor.specs.declared.actors.Act.TheVariants.{Go as GoOn}
 use Rattle.rd_actor.specs.declared.actors.Actor.{Actor as Record}
+use Rattle.rd_actor.specs.declared.actors.OpReply.{OpReply}
+use Rattle.rd_step.specs.declared.entries.Event.{Event}
 use Rattle.rd_step.specs.Run.{Ran}
-use Rattle.rd_journal.specs.State.{State, run_of, apply, undo, back, redo, forward}
+use Rattle.rd_journal.specs.State.{State, run_of, apply, reply_to, undo, back, redo, forward}
 use Rattle.lcrqdb.specs.declared.commands.Command.{Command}
 use Rattle.lcrqdb.specs.declared.commands.Command.TheVariants.{Go, Undo, Back, Redo, Forward, Len, Actor, ShowTail}
 use Rattle.lcrqdb.specs.declared.commands.LineFault.{LineFault}
@@ -35,10 +37,14 @@ refused s refusal = told s (Refused refusal)
 abbrev pub counts : State → Reply
 counts s = At (length s.live) (length s.undone)
 
--- an event is answered by the number of its step, the last live one
-abbrev pub applied : State → Result State Refusal → Answered
-applied s (Err refusal) = refused s refusal
-applied s (Ok t) = record { reply = Applied (length t.live); state = t }
+-- an event is answered by the number of its step, the last live one, and by the reply of the call that it ends, if it does
+abbrev pub applied : State → Option OpReply → Result State Refusal → Answered
+applied s reply (Err refusal) = refused s refusal
+applied s reply (Ok t) = record { reply = Applied (length t.live) reply; state = t }
+
+-- the step of an actor where it stands
+abbrev pub go_of : ℕ → Event
+go_of actor = record { actor = actor; act = GoOn }
 
 -- a walk up or down the run is answered by the numbers of steps after it
 abbrev pub moved : State → Result State Refusal → Answered
@@ -71,7 +77,7 @@ AnswersOrWants s wanted answered = (answered ≡ wanted) ⊎ (answered ≡ refus
 
 -- what a command may be answered
 abbrev pub IsObeyed : ℕ → State → Command → Answered → Type 0
-IsObeyed R s (Go actor) answered = AnswersOrWants s (applied s (apply R s (record { actor = actor; act = GoOn }))) answered
+IsObeyed R s (Go actor) answered = AnswersOrWants s (applied s (reply_to R s (go_of actor)) (apply R s (go_of actor))) answered
 IsObeyed R s Undo answered = answered ≡ moved s (undo s)
 IsObeyed R s (Back n) answered = answered ≡ moved s (back s n)
 IsObeyed R s Redo answered = answered ≡ moved s (redo s)

@@ -7,6 +7,8 @@ use Rattle.rd_cell.specs.declared.places.SegName.{SegName}
 use Rattle.rd_actor.specs.declared.actors.Actor.{Actor}
 use Rattle.rd_actor.specs.declared.actors.Op.{Op}
 use Rattle.rd_actor.specs.declared.actors.Op.TheVariants.{Enq, Deq, AEnq, ADeq}
+use Rattle.rd_actor.specs.declared.actors.OpReply.{OpReply}
+use Rattle.rd_actor.specs.declared.actors.OpReply.TheVariants.{Enqueued, Value, Empty}
 use Rattle.rd_actor.specs.declared.actors.Pc.{Pc}
 use Rattle.rd_actor.specs.declared.actors.Pc.TheVariants.{Idle as AtIdle, E1, E2, E3, E4, E5, E6, E7, E8, E9, E10, E11, E12, E13, E14, Q1, Q2, Q3, Q4, Q5, Q6, Q7, Q8, Q9, Q10, Q11, Q12, Q13, Q14, A1, A2, B1, B2, B3}
 use Rattle.lcrqdb.specs.declared.commands.LineFault.{LineFault}
@@ -139,9 +141,16 @@ abbrev pub tail_word : Bool → List ℕ
 tail_word false = codes "is open"
 tail_word true = codes "is closed"
 
+-- what a call replied that a step ended
+abbrev pub reply_words : Option OpReply → List ℕ
+reply_words None = []
+reply_words (Some Enqueued) = codes " enqueued"
+reply_words (Some (Value x)) = codes " value" ++ spaced x
+reply_words (Some Empty) = codes " empty"
+
 -- the words of a reply
 abbrev pub words_of : Reply → List ℕ
-words_of (Applied step) = codes "ok" ++ spaced step
+words_of (Applied step reply) = codes "ok" ++ spaced step ++ reply_words reply
 words_of (At live undone) = codes "at" ++ spaced live ++ spaced undone
 words_of (ActorIs words) = actor_words words
 words_of (TailIs closed count) = tail_word closed ++ spaced count

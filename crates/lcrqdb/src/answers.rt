@@ -5,7 +5,7 @@
 ghost use Rattle.std.specs.Prelude.{◌≡◌, ℕ, List, OnOk, IfErr};
 ghost use Rattle.rd_cell.specs.declared.refusal.Refusal.{Refusal};
 ghost use Rattle.rd_journal.specs.Session.{state};
-ghost use Rattle.rd_journal.specs.State.{run_of, apply};
+ghost use Rattle.rd_journal.specs.State.{run_of, apply, reply_to};
 ghost use Rattle.lcrqdb.specs.declared.replies.Reply.{Reply as Said};
 ghost use Rattle.lcrqdb.specs.Session.{applied, counts, actor_told, content_told, tail_told, AnswersOrWants, IsObeyed, AnswersLine};
 ghost use Rattle.lcrqdb.specs.Reading.{Holds};
@@ -63,13 +63,17 @@ fn obey<const R: usize>(session: &mut Session<R>, command: Command) -> Reply
     }
 }
 
-/// Makes an event happen, and answers the number of its step.
+/// Makes an event happen, and answers the number of its step and what a call replied that it ended.
 fn step<const R: usize>(session: &mut Session<R>, event: Event) -> Reply
-    ensures { AnswersOrWants (state session.old) (applied (state session.old) (apply R (state session.old) event))
+    ensures { AnswersOrWants (state session.old)
+        (applied (state session.old) (reply_to R (state session.old) event) (apply R (state session.old) event))
         (record { reply = result; state = state session.new }) }
 {
     match session.apply(event) {
-        Ok((number, _)) => Reply::Applied(number),
+        Ok((number, entry)) => Reply::Applied {
+            step: number,
+            reply: entry.reply,
+        },
         Err(refusal) => Reply::Refused(refusal),
     }
 }

@@ -6,20 +6,25 @@ ghost use Rattle.std.specs.Prelude.{◌≡◌, ◌+◌, ◌<◌, ◌≤◌, ◌+
 ghost use Rattle.std.specs.Io.KnownBytes.{Appends};
 ghost use Rattle.lcrqdb.specs.Device.{TakesBeginning};
 ghost use Rattle.arrayvec.specs.ArrayVec.{array_vec_len};
-ghost use Rattle.lcrqdb.specs.Texts.{refusal_name, refusal_data, fault_name, tail_word, words_of, text_of};
+ghost use Rattle.lcrqdb.specs.Texts.{refusal_name, refusal_data, fault_name, tail_word, reply_words, words_of, text_of};
 
 use super::commands::LineFault;
 use super::device::{Sink, WriteFault, hand_over};
 use super::records::push_actor;
 use super::texts::{Text, push_counted, push_spaced, push_words};
-use rd_actor::Actor;
+use rd_actor::{Actor, OpReply};
 use rd_cell::Refusal;
 
 /// The answer to one line.
 #[derive(Clone, Copy, Debug, PartialEq, Eq)]
 pub enum Reply {
-    /// An event was applied as the live step of this number.
-    Applied(u64),
+    /// An event was applied.
+    Applied {
+        /// The number of its live step.
+        step: u64,
+        /// What the call replied that it ended, if it did.
+        reply: Option<OpReply>,
+    },
     /// How many steps are live and how many are undone.
     At {
         /// The live steps.
@@ -71,7 +76,10 @@ fn push_reply(text: &mut Text, reply: Reply)
     ensures len { array_vec_len text.new ≤ 500 }
 {
     match reply {
-        Reply::Applied(step) => push_counted(text, b"ok", step),
+        Reply::Applied { step, reply } => {
+            push_counted(text, b"ok", step);
+            push_call_reply(text, reply);
+        }
         Reply::At { live, undone } => {
             push_counted(text, b"at", live);
             push_spaced(text, undone);
@@ -86,6 +94,20 @@ fn push_reply(text: &mut Text, reply: Reply)
             push_words(text, b"refused ");
             push_words(text, name_of_fault(fault));
         }
+    }
+}
+
+/// Puts what a call replied, if anything, behind the text.
+fn push_call_reply(text: &mut Text, reply: Option<OpReply>)
+    requires { array_vec_len text.old ≤ 60 }
+    ensures items { text.new.items ≡ text.old.items ++ reply_words reply }
+    ensures len { array_vec_len text.new ≤ array_vec_len text.old + 30 }
+{
+    match reply {
+        None => {}
+        Some(OpReply::Enqueued) => push_words(text, b" enqueued"),
+        Some(OpReply::Value(value)) => push_counted(text, b" value", value),
+        Some(OpReply::Empty) => push_words(text, b" empty"),
     }
 }
 

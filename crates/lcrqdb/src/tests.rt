@@ -5,7 +5,7 @@ use super::device::{ReadSource, WriteSink};
 use super::numbers::number_in;
 use super::program::{ProgramFault, play};
 use super::replies::{Reply, text_of};
-use rd_actor::{Actor, Op, Pc};
+use rd_actor::{Actor, Op, OpReply, Pc};
 use rd_cell::{Refusal, SegName};
 use std::alloc::Global;
 use std::io;
@@ -101,6 +101,27 @@ fn steps_are_done_and_the_last_is_undone(rt: HostRuntime) -> Result<(), Fail> {
     let report = report_of(rt.alloc(), b"go 1\ngo 2\nundo\n")?;
     assert_eq!(rt; report.as_slice(), b"ok 1\nok 2\nat 1 1\n".as_slice());
     Ok(())
+}
+
+#[test]
+fn a_step_that_ends_a_call_says_what_it_replied(rt: HostRuntime) -> Result<(), Fail> {
+    let report = report_of(rt.alloc(), b"go 1\ngo 1\ngo 1\ngo 1\ngo 1\nundo\nredo\n")?;
+    let wanted = b"ok 1\nok 2\nok 3\nok 4 enqueued\nrefused 3 Idle\nat 3 1\nat 4 0\n";
+    assert_eq!(rt; report.as_slice(), wanted.as_slice());
+    Ok(())
+}
+
+#[test]
+fn a_reply_of_a_call_stands_behind_the_steps_number(rt: HostRuntime) {
+    for (reply, wanted) in [
+        (None, b"ok 9\n".as_slice()),
+        (Some(OpReply::Enqueued), b"ok 9 enqueued\n".as_slice()),
+        (Some(OpReply::Value(7)), b"ok 9 value 7\n".as_slice()),
+        (Some(OpReply::Empty), b"ok 9 empty\n".as_slice()),
+    ] {
+        let line = text_of(Reply::Applied { step: 9, reply });
+        assert_eq!(rt; line.as_slice(), wanted);
+    }
 }
 
 #[test]

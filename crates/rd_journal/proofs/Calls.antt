@@ -12,7 +12,7 @@ use Rattle.rd_step.specs.declared.entries.Entry.{Entry}
 use Rattle.rd_step.specs.Step.{Stepped, step}
 use Rattle.rd_step.specs.Run.{Ran, run}
 use Rattle.rd_journal.specs.Journal.{Journal, journal_of, events, rewound, IsRun, entry_of}
-use Rattle.rd_journal.specs.State.{State, state_of, run_of, step_after, lengthened, apply, moved_back, moved_forward, times, back, forward}
+use Rattle.rd_journal.specs.State.{State, state_of, run_of, step_after, reply_in, reply_to, lengthened, apply, moved_back, moved_forward, times, back, forward}
 use Rattle.rd_journal.specs.Moves.{IsMovedBack, IsMovedForward, IsBeforeLast}
 use Rattle.rd_journal.proofs.ListLemmas.{take_before, drop_before, take_behind, drop_behind}
 use Rattle.rd_journal.proofs.Runs.{step_event, start_stays, now_formed, grown}
@@ -169,3 +169,9 @@ pub lists_same : (w v : World) (es fs : List Entry) (l m : ℕ) (r : Result Entr
     → OnErr r ((fs ≡ es) × (m ≡ l))
 lists_same w v es fs l m (Ok x) h = tt
 lists_same w v es fs l m (Err e) h = (h.1, h.2)
+
+-- what an event replies in a session is what its step in the session's world replies
+pub reply_goes : (R : ℕ) (j : Journal) (e : Event) (s : Stepped) → IsRun R j → step R j.world e ≡ Ok s
+    → reply_to R (state_of j) e ≡ s.entry.reply
+reply_goes R j e s runs goes =
+    ap (λ (r : Result Ran Refusal). reply_in (step_after R r e)) runs.live_ran ∙ ap reply_in goes

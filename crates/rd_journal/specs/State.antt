@@ -1,8 +1,9 @@
 -- What a session is to its callers: a start world, the live events and the undone events. No record, no old word and no
 -- place in a run is in it: it knows only the run of a list.
-use Rattle.std.specs.Prelude.{ℕ, zero, suc, ◌-◌, ◌==◌, nat_lt, if◌then◌else◌, List, [], ◌∷◌, ◌++◌, length, take, drop, Result, Ok, Err}
+use Rattle.std.specs.Prelude.{ℕ, zero, suc, ◌-◌, ◌==◌, nat_lt, if◌then◌else◌, List, [], ◌∷◌, ◌++◌, length, take, drop, Option, None, Result, Ok, Err}
 use Rattle.rd_cell.specs.declared.refusal.Refusal.{Refusal}
 use Rattle.rd_cell.specs.declared.refusal.Refusal.TheVariants.{TooLong, NothingToUndo, NothingToRedo}
+use Rattle.rd_actor.specs.declared.actors.OpReply.{OpReply}
 use Rattle.rd_actor.specs.World.{World}
 use Rattle.rd_step.specs.declared.entries.Event.{Event}
 use Rattle.rd_step.specs.Step.{Stepped, step}
@@ -27,6 +28,15 @@ run_of R s = run R s.start s.live
 abbrev pub step_after : ℕ → Result Ran Refusal → Event → Result Stepped Refusal
 step_after R (Err refusal) e = Err refusal
 step_after R (Ok r) e = step R r.world e
+
+-- what a step replies, if it ends a call
+abbrev pub reply_in : Result Stepped Refusal → Option OpReply
+reply_in (Err refusal) = None
+reply_in (Ok stepped) = stepped.entry.reply
+
+-- what the event replies in the last world of the live events
+abbrev pub reply_to : ℕ → State → Event → Option OpReply
+reply_to R s e = reply_in (step_after R (run_of R s) e)
 
 -- the state with the event put last in live and nothing undone, or the refusal of its step
 abbrev pub lengthened : State → Event → Result Stepped Refusal → Result State Refusal

@@ -9,7 +9,7 @@ ghost use Rattle.rd_step.specs.Model.{model, room};
 ghost use Rattle.rd_step.specs.Step.{step};
 ghost use Rattle.rd_journal.specs.Journal.{journal_of, entry_of, IsRun};
 ghost use Rattle.rd_journal.specs.Room.{HasRoom};
-ghost use Rattle.rd_journal.specs.State.{run_of, apply, undo, back, redo, forward};
+ghost use Rattle.rd_journal.specs.State.{run_of, apply, reply_to, undo, back, redo, forward};
 ghost use Rattle.rd_journal.specs.Laws.{IsStepAfter};
 ghost use Rattle.rd_journal.specs.Moves.{IsLengthened, IsMovedBack, IsMovedForward, IsBeforeLast, WantsMemory};
 
@@ -61,6 +61,7 @@ impl<const R: usize> Session<R> {
             ≡ Ok (record { world = (journal self.new).world; entry = done.1 })) }
         ensures records { IfOk result (λ done. IsLengthened done.1 (journal self.old) (journal self.new)) }
         ensures number { IfOk result (λ done. done.0 ≡ length (journal self.new).live) }
+        ensures reply { IfOk result (λ done. reply_to R (state self.old) event ≡ done.1.reply) }
         ensures err { IfErr result (λ refusal. (apply R (state self.old) event ≡ Err refusal)
             ⊎ WantsMemory R (journal self.old) event refusal) }
         ensures unchanged { OnErr result (journal self.new ≡ journal self.old) }

@@ -307,7 +307,9 @@ fn a_making_goes_and_comes_with_its_step(rt: HostRuntime) -> Result<(), Fail> {
 }
 
 #[test]
-fn an_enqueue_on_the_array_draws_again_where_a_dequeue_was_first(rt: HostRuntime) -> Result<(), Fail> {
+fn an_enqueue_on_the_array_draws_again_where_a_dequeue_was_first(
+    rt: HostRuntime,
+) -> Result<(), Fail> {
     let mut session = fresh::<4>(rt.alloc())?;
     assert_eq!(rt; act(&mut session, 1, Act::AEnq(7)), Ok((1, None)));
     assert_eq!(rt; walk(&mut session, 1, &[Pc::A1])?, (2, None));
@@ -315,7 +317,10 @@ fn an_enqueue_on_the_array_draws_again_where_a_dequeue_was_first(rt: HostRuntime
     assert_eq!(rt; walk(&mut session, 2, &[Pc::B1, Pc::B2])?, (5, None));
     assert_eq!(rt; slot(&session, 0), Some(ArrSlot::Top));
     assert_eq!(rt; walk(&mut session, 1, &[Pc::A2])?, (6, None));
-    assert_eq!(rt; walk(&mut session, 2, &[Pc::B3])?, (7, Some(OpReply::Empty)));
+    assert_eq!(rt;
+        walk(&mut session, 2, &[Pc::B3])?,
+        (7, Some(OpReply::Empty))
+    );
     assert_eq!(rt;
         walk(&mut session, 1, &[Pc::A1, Pc::A2])?,
         (9, Some(OpReply::Enqueued))

@@ -1,7 +1,7 @@
 use Rattle.std.proofs.Common.{◌<◌, inl, inr, arith}
 use Rattle.rd_step.specs.Model.{model, room}
 use Rattle.rd_journal.specs.Journal.{journal_of}
-use Rattle.rd_journal.proofs.Calls.{Kept, few_live, none_or_makes, lists_same, still_kept, apply_refused, apply_goes}
+use Rattle.rd_journal.proofs.Calls.{Kept, few_live, none_or_makes, lists_same, still_kept, apply_refused, apply_goes, reply_goes}
 use Rattle.rd_journal.proofs.RoomLemmas.{applied_room}
 use Rattle.rd_journal.proofs.sessions.Session.apply.Goals as goal
 
@@ -48,3 +48,8 @@ returns-clause-ok g c =
     let less : c.args.self.now.live < 65535 = omega (arith, c.args.self.now.within, c.args.self.now.few) in
     apply_goes g.row.R (model c.args.self.now.world) (model c.lengthen.new.world) c.args.self.now.entries.items c.lengthen.new.entries.items
     c.args.self.now.live c.lengthen.new.live c.args.event c.in-Ok.entry kept less c.in-Ok.ensures.ok c.in-Ok.ensures.records c.in-Ok.ensures.border
+
+pub returns-clause-reply : goal.returns-clause-reply
+returns-clause-reply g c =
+    reply_goes g.row.R (journal_of (model c.args.self.now.world) c.args.self.now.entries.items c.args.self.now.live) c.args.event
+    (record { world = model c.lengthen.new.world; entry = c.in-Ok.entry }) c.args.self.now.runs c.in-Ok.ensures.ok
