@@ -1,3 +1,4 @@
+pub mod ResultLemmas
 pub mod NumberLemmas
 pub mod KnownLemmas
 pub mod LineLemmas

@@ -4,7 +4,7 @@ use Rattle.std.proofs.lemmas.List.{append-nil}
 use Rattle.std.specs.Io.KnownBytes.{Consumes, IsAtEnd}
 use Rattle.lcrqdb.specs.declared.lines.Line.{Line}
 use Rattle.lcrqdb.specs.Device.{Gives}
-use Rattle.lcrqdb.specs.Reading.{IsOneLine, Holds, ReadsLine, ReadsLast, ReadsPart}
+use Rattle.lcrqdb.specs.Lines.{IsOneLine, Holds, ReadsLine, ReadsLast, ReadsPart}
 use Rattle.lcrqdb.proofs.KnownLemmas.{Consumes-nil, Consumes-join}
 
 -- these many bytes were given, all of them before the line feed, and are held by the line

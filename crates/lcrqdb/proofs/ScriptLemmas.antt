@@ -5,22 +5,22 @@ use Rattle.std.proofs.lemmas.List.{append-nil}
 use Rattle.std.specs.Io.KnownBytes.{Consumes, Appends, IsAtEnd}
 use Rattle.rd_journal.specs.State.{State}
 use Rattle.lcrqdb.specs.declared.lines.Line.{Line}
-use Rattle.std.specs.Result.{OnOk, OnErr}
+use Rattle.lcrqdb.specs.declared.script.ScriptFault.{ScriptFault}
+use Rattle.std.specs.Result.{OnOk, OnErr, IsErrAnd}
 use Rattle.lcrqdb.specs.declared.device.WriteFault.{WriteFault}
 use Rattle.lcrqdb.specs.declared.replies.Reply.{Reply}
-use Rattle.lcrqdb.specs.Answering.{Wrote}
+use Rattle.lcrqdb.specs.Replies.{WritesReply, text_of}
 use Rattle.lcrqdb.specs.Device.{TakesBeginning}
-use Rattle.lcrqdb.specs.Lines.{begun_with, lines_of, ended_lines_of}
-use Rattle.lcrqdb.specs.Reading.{IsOneLine, ReadsLine, ReadsLast, ReadsPart}
-use Rattle.lcrqdb.specs.Texts.{text_of}
-use Rattle.lcrqdb.specs.Session.{Answered, AnswersLine, Runs}
-use Rattle.lcrqdb.specs.Script.{Devices, DidAll, DidEnded, DidUnreported}
+use Rattle.lcrqdb.specs.Lines.{with_first_byte, lines_of, ended_lines_of, IsOneLine, ReadsLine, ReadsLast, ReadsPart}
+use Rattle.lcrqdb.specs.Answers.{Answered, AnswersLine}
+use Rattle.lcrqdb.specs.Script.{HasReport, Devices, RanToEnd, StoppedAtRead, StoppedAtWrite, RunsScript}
+use Rattle.lcrqdb.proofs.ResultLemmas.{Err-from_error}
 use Rattle.lcrqdb.proofs.KnownLemmas.{Consumes-nil, Consumes-join, Appends-nil, Appends-join}
 
 -- a reply was written, or a beginning of it, by the result
-pub Wrote-from_result : (old new : Option (List ℕ)) (reply : Reply) (r : Result (Unit {0}) WriteFault) → OnOk r (Appends old new (text_of reply)) → OnErr r (TakesBeginning old new (text_of reply)) → Wrote old new reply r
-Wrote-from_result old new reply (Ok x) h k = h
-Wrote-from_result old new reply (Err x) h k = k
+pub WritesReply-from_result : (old new : Option (List ℕ)) (reply : Reply) (r : Result (Unit {0}) WriteFault) → OnOk r (Appends old new (text_of reply)) → OnErr r (TakesBeginning old new (text_of reply)) → WritesReply old new reply r
+WritesReply-from_result old new reply (Ok x) h k = h
+WritesReply-from_result old new reply (Err x) h k = k
 
 -- a line feed ends the first line
 lines-first : (text rest : List ℕ) → IsOneLine text → lines_of (text ++ 10 ∷ rest) ≡ text ∷ lines_of rest
@@ -34,7 +34,7 @@ ended-first (x ∷ xs) rest h = rw (ne_eqb x 10 h.0, ended-first xs rest h.1) re
 -- a text without a line feed is one line, and none that is ended
 lines-only : (x : ℕ) (xs : List ℕ) → IsOneLine (x ∷ xs) → lines_of (x ∷ xs) ≡ (x ∷ xs) ∷ []
 lines-only x [] h = rw (ne_eqb x 10 h.0) refl
-lines-only x (y ∷ ys) h = let rest = lines-only y ys h.1 in rw (ne_eqb x 10 h.0) (ap (begun_with x) rest)
+lines-only x (y ∷ ys) h = let rest = lines-only y ys h.1 in rw (ne_eqb x 10 h.0) (ap (with_first_byte x) rest)
 
 lines-last : (text : List ℕ) → IsOneLine text → text ≢ [] → lines_of text ≡ text ∷ []
 lines-last [] h n = absurd (n refl)
@@ -70,20 +70,20 @@ ended-whole : (given : List ℕ) (lines : List (List ℕ)) → Splits given line
 ended-whole given lines s = ap ended_lines_of (sym (append-nil given)) ∙ (s.ended [] ∙ append-nil lines)
 
 -- one line more, with its reply
-Runs-more : (R : ℕ) (s : State) (lines : List (List ℕ)) (report : List ℕ) (mid : State) (line : List ℕ) (a : Answered) → Runs R s lines report mid → AnswersLine R mid line a → Runs R s (lines ++ line ∷ []) (report ++ text_of a.reply) a.state
-Runs-more R s [] report mid line a h k = (
+HasReport-more : (R : ℕ) (s : State) (lines : List (List ℕ)) (report : List ℕ) (mid : State) (line : List ℕ) (a : Answered) → HasReport R s lines report mid → AnswersLine R mid line a → HasReport R s (lines ++ line ∷ []) (report ++ text_of a.reply) a.state
+HasReport-more R s [] report mid line a h k = (
   a,
   [],
   subst (λ x. AnswersLine R x line a) h.1 k,
   ap (λ t. t ++ text_of a.reply) h.0 ∙ sym (append-nil (text_of a.reply)),
   (refl, refl),
 )
-Runs-more R s (x ∷ xs) report mid line a h k = (
+HasReport-more R s (x ∷ xs) report mid line a h k = (
   h.0,
   h.1 ++ text_of a.reply,
   h.2,
   ap (λ t. t ++ text_of a.reply) h.3 ∙ append_assoc (text_of h.0.reply) h.1 (text_of a.reply),
-  Runs-more R h.0.state xs h.1 mid line a h.4 k,
+  HasReport-more R h.0.state xs h.1 mid line a h.4 k,
 )
 
 -- so many lines were read, obeyed and reported, and both devices work
@@ -98,7 +98,7 @@ pub record Going (R : ℕ) (before now : State) (in_before in_now : Option (List
   pub enough : n ≤ length given
   pub report : List ℕ
   pub wrote : Appends out_before out_now report
-  pub runs : Runs R before lines report now
+  pub reports : HasReport R before lines report now
 
 -- before the first line
 pub starts : (R : ℕ) (s : State) (in_now : Option (List ℕ)) (in_failed : Bool) (out_now : Option (List ℕ)) (out_failed : Bool) → in_failed ≡ false → out_failed ≡ false → Going R s s in_now in_now in_failed out_now out_now out_failed 0
@@ -113,7 +113,7 @@ starts R s in_now in_failed out_now out_failed in_works out_works = record {
   enough = omega arith;
   report = [];
   wrote = Appends-nil out_now;
-  runs = (refl, refl);
+  reports = (refl, refl);
 }
 
 module _ (R : ℕ) (before now : State) (in_before in_now : Option (List ℕ)) (in_failed : Bool) (out_before out_now : Option (List ℕ)) (out_failed : Bool) (n : ℕ) (g : Going R before now in_before in_now in_failed out_before out_now out_failed n) where
@@ -129,39 +129,43 @@ module _ (R : ℕ) (before now : State) (in_before in_now : Option (List ℕ)) (
   }
 
   -- the end
-  pub did_all : (in_new : Option (List ℕ)) (in_failed' out_failed' : Bool) → Consumes in_now in_new [] → IsAtEnd in_new → DidAll R before now (now_at in_new in_failed' out_now out_failed') n
-  did_all in_new in_failed' out_failed' keeps ended = record {
+  pub ran_to_end : (in_new : Option (List ℕ)) (in_failed' : Bool) → Consumes in_now in_new [] → IsAtEnd in_new → in_failed' ≡ false → RanToEnd R before now (now_at in_new in_failed' out_now out_failed) n
+  ran_to_end in_new in_failed' keeps ended in_works = record {
+    in_works = in_works;
+    out_works = g.out_works;
     given = g.given;
     took = subst (λ t. Consumes in_before in_new t) (append-nil g.given) (Consumes-join in_before in_now in_new g.given [] g.took keeps);
     ended = ended;
     counted = ap length (lines-whole g.given g.lines g.splits) ∙ g.counted;
     report = g.report;
     wrote = g.wrote;
-    runs = subst (λ ls. Runs R before ls g.report now) (sym (lines-whole g.given g.lines g.splits)) g.runs;
+    reports = subst (λ ls. HasReport R before ls g.report now) (sym (lines-whole g.given g.lines g.splits)) g.reports;
   }
 
   -- the reader failed
-  pub did_ended : (in_new : Option (List ℕ)) (in_failed' out_failed' : Bool) → ReadsPart in_now in_new in_failed' → DidEnded R before now (now_at in_new in_failed' out_now out_failed')
-  did_ended in_new in_failed' out_failed' part =
+  pub stopped_at_read : (in_new : Option (List ℕ)) (in_failed' : Bool) → ReadsPart in_now in_new in_failed' → StoppedAtRead R before now (now_at in_new in_failed' out_now out_failed)
+  stopped_at_read in_new in_failed' part =
       let whole : ended_lines_of (g.given ++ part.text) ≡ g.lines = g.splits.ended part.text ∙ (ap (λ ls. g.lines ++ ls) (ended-none part.text part.is_one) ∙ append-nil g.lines) in
       record {
+        out_works = g.out_works;
         given = g.given ++ part.text;
         took = Consumes-join in_before in_now in_new g.given part.text g.took part.took;
         cause = elim part.cause [ inl failed ↦ inl failed | inr many ↦ inr (omega (arith, many, length-append g.given part.text)) ];
         report = g.report;
         wrote = g.wrote;
-        runs = subst (λ ls. Runs R before ls g.report now) (sym whole) g.runs;
+        reports = subst (λ ls. HasReport R before ls g.report now) (sym whole) g.reports;
       }
 
   -- 2^64 - 1 lines without an end
-  pub did_endless : n ≡ 2 ^ 64 - 1 → DidEnded R before now (now_at in_now in_failed out_now out_failed)
-  did_endless most = record {
+  pub stopped_endless : n ≡ 2 ^ 64 - 1 → StoppedAtRead R before now (now_at in_now in_failed out_now out_failed)
+  stopped_endless most = record {
+    out_works = g.out_works;
     given = g.given;
     took = g.took;
     cause = inr (omega (arith, g.enough, most));
     report = g.report;
     wrote = g.wrote;
-    runs = subst (λ ls. Runs R before ls g.report now) (sym (ended-whole g.given g.lines g.splits)) g.runs;
+    reports = subst (λ ls. HasReport R before ls g.report now) (sym (ended-whole g.given g.lines g.splits)) g.reports;
   }
 
   -- one more line, ended by a line feed, was obeyed and reported
@@ -177,34 +181,37 @@ module _ (R : ℕ) (before now : State) (in_before in_now : Option (List ℕ)) (
     enough = omega (arith, g.enough, length-append g.given (read.text ++ 10 ∷ []), length-append read.text (10 ∷ []));
     report = g.report ++ text_of a.reply;
     wrote = Appends-join out_before out_now out_new g.report (text_of a.reply) g.wrote wrote;
-    runs = subst (λ x. Runs R before (g.lines ++ read.text ∷ []) (g.report ++ text_of a.reply) x) leaves (Runs-more R before g.lines g.report now read.text a g.runs answers);
+    reports = subst (λ x. HasReport R before (g.lines ++ read.text ∷ []) (g.report ++ text_of a.reply) x) leaves (HasReport-more R before g.lines g.report now read.text a g.reports answers);
   }
 
   -- the last line was obeyed and reported
-  pub did_last : (in_new out_new : Option (List ℕ)) (in_failed' out_failed' : Bool) (line : Line) (r : ReadsLast in_now in_new line) (a : Answered) → AnswersLine R now r.read.text a → (after : State) → a.state ≡ after → Appends out_now out_new (text_of a.reply) → DidAll R before after (now_at in_new in_failed' out_new out_failed') (n + 1)
-  did_last in_new out_new in_failed' out_failed' line r a answers after leaves wrote =
+  pub ran_to_last : (in_new out_new : Option (List ℕ)) (in_failed' out_failed' : Bool) (line : Line) (r : ReadsLast in_now in_new line) (a : Answered) → AnswersLine R now r.read.text a → (after : State) → a.state ≡ after → Appends out_now out_new (text_of a.reply) → in_failed' ≡ false → out_failed' ≡ false → RanToEnd R before after (now_at in_new in_failed' out_new out_failed') (n + 1)
+  ran_to_last in_new out_new in_failed' out_failed' line r a answers after leaves wrote in_works out_works =
       let text = r.read.text in
       let all : lines_of (g.given ++ (text ++ [])) ≡ g.lines ++ text ∷ [] = ap (λ t. lines_of (g.given ++ t)) (append-nil text) ∙ (g.splits.all text ∙ ap (λ ls. g.lines ++ ls) (lines-last text r.read.is_one r.some)) in
       record {
+        in_works = in_works;
+        out_works = out_works;
         given = g.given ++ (text ++ []);
         took = Consumes-join in_before in_now in_new g.given (text ++ []) g.took r.read.took;
         ended = r.ended;
         counted = ap length all ∙ (length-append g.lines (text ∷ []) ∙ ap (λ k. k + 1) g.counted);
         report = g.report ++ text_of a.reply;
         wrote = Appends-join out_before out_now out_new g.report (text_of a.reply) g.wrote wrote;
-        runs =
-            subst (λ ls. Runs R before ls (g.report ++ text_of a.reply) after) (sym all)
-            (subst (λ x. Runs R before (g.lines ++ text ∷ []) (g.report ++ text_of a.reply) x) leaves (Runs-more R before g.lines g.report now text a g.runs answers));
+        reports =
+            subst (λ ls. HasReport R before ls (g.report ++ text_of a.reply) after) (sym all)
+            (subst (λ x. HasReport R before (g.lines ++ text ∷ []) (g.report ++ text_of a.reply) x) leaves (HasReport-more R before g.lines g.report now text a g.reports answers));
       }
 
   -- the writer failed at the reply to a line that a line feed ended
-  pub unreported : (in_new out_new : Option (List ℕ)) (in_failed' out_failed' : Bool) (line : Line) (read : ReadsLine in_now in_new line (10 ∷ [])) (a : Answered) → AnswersLine R now read.text a → (after : State) → a.state ≡ after → TakesBeginning out_now out_new (text_of a.reply) → out_failed' ≡ true → DidUnreported R before after (now_at in_new in_failed' out_new out_failed')
-  unreported in_new out_new in_failed' out_failed' line read a answers after leaves wrote fails =
+  pub stopped_at_write : (in_new out_new : Option (List ℕ)) (in_failed' out_failed' : Bool) (line : Line) (read : ReadsLine in_now in_new line (10 ∷ [])) (a : Answered) → AnswersLine R now read.text a → (after : State) → a.state ≡ after → TakesBeginning out_now out_new (text_of a.reply) → in_failed' ≡ false → out_failed' ≡ true → StoppedAtWrite R before after (now_at in_new in_failed' out_new out_failed')
+  stopped_at_write in_new out_new in_failed' out_failed' line read a answers after leaves wrote in_works fails =
       let given = g.given ++ (read.text ++ 10 ∷ []) in
       let lines = g.lines ++ read.text ∷ [] in
       let splits = Splits-line g.given g.lines read.text g.splits read.is_one in
       record {
-        failed = fails;
+        in_works = in_works;
+        out_failed = fails;
         given = given;
         took = Consumes-join in_before in_now in_new g.given (read.text ++ 10 ∷ []) g.took read.took;
         lines = g.lines;
@@ -213,7 +220,7 @@ module _ (R : ℕ) (before now : State) (in_before in_now : Option (List ℕ)) (
         whole = inl (ended-whole given lines splits ∙ sym (lines-whole given lines splits));
         report = g.report;
         reached = now;
-        runs = g.runs;
+        reports = g.reports;
         answered = a;
         answers = answers;
         leaves = leaves;
@@ -223,11 +230,12 @@ module _ (R : ℕ) (before now : State) (in_before in_now : Option (List ℕ)) (
       }
 
   -- the writer failed at the reply to the last line
-  pub unreported_last : (in_new out_new : Option (List ℕ)) (in_failed' out_failed' : Bool) (line : Line) (r : ReadsLast in_now in_new line) (a : Answered) → AnswersLine R now r.read.text a → (after : State) → a.state ≡ after → TakesBeginning out_now out_new (text_of a.reply) → out_failed' ≡ true → DidUnreported R before after (now_at in_new in_failed' out_new out_failed')
-  unreported_last in_new out_new in_failed' out_failed' line r a answers after leaves wrote fails =
+  pub stopped_at_last_write : (in_new out_new : Option (List ℕ)) (in_failed' out_failed' : Bool) (line : Line) (r : ReadsLast in_now in_new line) (a : Answered) → AnswersLine R now r.read.text a → (after : State) → a.state ≡ after → TakesBeginning out_now out_new (text_of a.reply) → in_failed' ≡ false → out_failed' ≡ true → StoppedAtWrite R before after (now_at in_new in_failed' out_new out_failed')
+  stopped_at_last_write in_new out_new in_failed' out_failed' line r a answers after leaves wrote in_works fails =
       let text = r.read.text in
       record {
-        failed = fails;
+        in_works = in_works;
+        out_failed = fails;
         given = g.given ++ (text ++ []);
         took = Consumes-join in_before in_now in_new g.given (text ++ []) g.took r.read.took;
         lines = g.lines;
@@ -236,7 +244,7 @@ module _ (R : ℕ) (before now : State) (in_before in_now : Option (List ℕ)) (
         whole = inr r.ended;
         report = g.report;
         reached = now;
-        runs = g.runs;
+        reports = g.reports;
         answered = a;
         answers = answers;
         leaves = leaves;
@@ -244,3 +252,7 @@ module _ (R : ℕ) (before now : State) (in_before in_now : Option (List ℕ)) (
         begins = wrote.begins;
         wrote = Appends-join out_before out_now out_new g.report wrote.part g.wrote wrote.took;
       }
+
+-- a script that ended by a fault, of which the result tells
+pub RunsScript-at_fault : (R : ℕ) (before after : State) (d : Devices) (fault : ScriptFault) (r : Result ℕ ScriptFault) → IsErrAnd r (λ e. e ≡ fault) → RunsScript R before after d (Err fault) → RunsScript R before after d r
+RunsScript-at_fault R before after d fault r is runs = subst (λ x. RunsScript R before after d x) (sym (Err-from_error fault r is)) runs

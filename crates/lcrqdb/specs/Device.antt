@@ -1,4 +1,4 @@
--- What a source gives and a sink takes, where they tell their bytes; None tells nothing.
+-- What a source gives and a sink takes, if they tell their bytes; None tells nothing.
 use Rattle.std.specs.Prelude.{◌≡◌, ℕ, List, [], ◌∷◌, ◌++◌, Option, Some, None}
 use Rattle.std.specs.Io.KnownBytes.{Consumes, Appends, IsAtEnd}
 

@@ -1,9 +1,9 @@
 pub mod Device
+pub mod Commands
 pub mod Lines
-pub mod Reading
-pub mod Spelling
 pub mod Texts
-pub mod Session
+pub mod Records
+pub mod Replies
+pub mod Answers
 pub mod Script
-pub mod Answering
 pub mod Program

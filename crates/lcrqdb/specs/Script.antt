@@ -1,13 +1,20 @@
 -- What a run of a script did: which lines it read, obeyed and reported, by how it ended.
-use Rattle.std.specs.Prelude.{◌≡◌, ℕ, ◌+◌, ◌^◌, ◌≤◌, ◌⊎◌, Bool, true, List, [], ◌∷◌, ◌++◌, length, Option, Result, Ok, Err}
+use Rattle.std.specs.Prelude.{◌≡◌, ℕ, ◌+◌, ◌^◌, ◌≤◌, ◌⊎◌, Bool, true, false, List, [], ◌∷◌, ◌++◌, length, Option, Result, Ok, Err}
 use Rattle.std.specs.Io.KnownBytes.{Consumes, Appends, IsAtEnd}
 use Rattle.rd_journal.specs.State.{State}
 use Rattle.lcrqdb.specs.declared.script.ScriptFault.{ScriptFault}
 use Rattle.lcrqdb.specs.declared.script.ScriptFault.TheVariants.{Read, Write}
 use Rattle.lcrqdb.specs.Device.{IsBeginning}
 use Rattle.lcrqdb.specs.Lines.{lines_of, ended_lines_of}
-use Rattle.lcrqdb.specs.Session.{Answered, AnswersLine, Runs}
-use Rattle.lcrqdb.specs.Texts.{text_of}
+use Rattle.lcrqdb.specs.Answers.{Answered, AnswersLine}
+use Rattle.lcrqdb.specs.Replies.{text_of}
+
+-- lines may be answered by this report, each by the text of its reply, and leave this state
+abbrev pub HasReport : ℕ → State → List (List ℕ) → List ℕ → State → Type 0
+HasReport R s [] report after = (report ≡ []) × (after ≡ s)
+HasReport R s (line ∷ lines) report after =
+    (answered : Answered) × (rest : List ℕ) × AnswersLine R s line answered
+    × (report ≡ text_of answered.reply ++ rest) × HasReport R answered.state lines rest after
 
 -- what a reader has left and a writer has, before a run and after it, and whether each has failed then
 pub record Devices : Type 0 where
@@ -18,30 +25,34 @@ pub record Devices : Type 0 where
   pub out_after : Option (List ℕ)
   pub out_failed : Bool
 
--- the run came to the end: the reader gave n lines and then the end, and their report was written
-pub record DidAll (R : ℕ) (before after : State) (d : Devices) (n : ℕ) : Type 0 where
+-- the run came to the end: the reader gave n lines and then the end, and their report was written; neither device failed
+pub record RanToEnd (R : ℕ) (before after : State) (d : Devices) (n : ℕ) : Type 0 where
+  pub in_works : d.in_failed ≡ false
+  pub out_works : d.out_failed ≡ false
   pub given : List ℕ
   pub took : Consumes d.in_before d.in_after given
   pub ended : IsAtEnd d.in_after
   pub counted : length (lines_of given) ≡ n
   pub report : List ℕ
   pub wrote : Appends d.out_before d.out_after report
-  pub runs : Runs R before (lines_of given) report after
+  pub reports : HasReport R before (lines_of given) report after
 
--- the reader failed, or gave 2^64 - 1 bytes without an end: the lines that a line feed ended were obeyed, and their
--- report was written
-pub record DidEnded (R : ℕ) (before after : State) (d : Devices) : Type 0 where
+-- the reader failed, or gave 2^64 - 1 bytes without an end, and the writer has not failed: the lines that a line feed
+-- ended were obeyed, and their report was written
+pub record StoppedAtRead (R : ℕ) (before after : State) (d : Devices) : Type 0 where
+  pub out_works : d.out_failed ≡ false
   pub given : List ℕ
   pub took : Consumes d.in_before d.in_after given
   pub cause : (d.in_failed ≡ true) ⊎ (2 ^ 64 ≤ length given + 1)
   pub report : List ℕ
   pub wrote : Appends d.out_before d.out_after report
-  pub runs : Runs R before (ended_lines_of given) report after
+  pub reports : HasReport R before (ended_lines_of given) report after
 
--- the writer failed at the reply to the last line that was read: all lines were obeyed, and the report of those before
--- it was written, and a beginning of that reply
-pub record DidUnreported (R : ℕ) (before after : State) (d : Devices) : Type 0 where
-  pub failed : d.out_failed ≡ true
+-- the writer failed at the reply to the last line that was read, and the reader has not failed: all lines were obeyed,
+-- and the report of those before the last was written, and a beginning of its reply
+pub record StoppedAtWrite (R : ℕ) (before after : State) (d : Devices) : Type 0 where
+  pub in_works : d.in_failed ≡ false
+  pub out_failed : d.out_failed ≡ true
   pub given : List ℕ
   pub took : Consumes d.in_before d.in_after given
   -- the lines that were read: none is incomplete
@@ -52,7 +63,7 @@ pub record DidUnreported (R : ℕ) (before after : State) (d : Devices) : Type 0
   -- the report of the lines before the last
   pub report : List ℕ
   pub reached : State
-  pub runs : Runs R before lines report reached
+  pub reports : HasReport R before lines report reached
   -- the last line's answer
   pub answered : Answered
   pub answers : AnswersLine R reached last answered
@@ -63,7 +74,7 @@ pub record DidUnreported (R : ℕ) (before after : State) (d : Devices) : Type 0
   pub wrote : Appends d.out_before d.out_after (report ++ part)
 
 -- what a run of a script did, by how it ended
-abbrev pub Did : ℕ → State → State → Devices → Result ℕ ScriptFault → Type 0
-Did R before after d (Ok n) = DidAll R before after d n
-Did R before after d (Err Read) = DidEnded R before after d
-Did R before after d (Err Write) = DidUnreported R before after d
+abbrev pub RunsScript : ℕ → State → State → Devices → Result ℕ ScriptFault → Type 0
+RunsScript R before after d (Ok n) = RanToEnd R before after d n
+RunsScript R before after d (Err Read) = StoppedAtRead R before after d
+RunsScript R before after d (Err Write) = StoppedAtWrite R before after d

@@ -3,12 +3,12 @@
 //! A command that changes the session is answered from what its call says, and a query from the session's world.
 
 ghost use Rattle.std.specs.Prelude.{◌≡◌, ℕ, List, OnOk, IfErr};
-ghost use Rattle.rd_cell.specs.declared.refusal.Refusal.{Refusal};
-ghost use Rattle.rd_journal.specs.Session.{state};
-ghost use Rattle.rd_journal.specs.State.{run_of, apply, reply_to};
+ghost use Rattle.rd_step.specs.Prelude.{Refusal};
+ghost use Rattle.rd_journal.specs.Sessions.{state};
+ghost use Rattle.rd_journal.specs.State.{run_of};
 ghost use Rattle.lcrqdb.specs.declared.replies.Reply.{Reply as Said};
-ghost use Rattle.lcrqdb.specs.Session.{applied, counts, actor_told, content_told, tail_told, AnswersOrWants, IsObeyed, AnswersLine};
-ghost use Rattle.lcrqdb.specs.Reading.{Holds};
+ghost use Rattle.lcrqdb.specs.Answers.{step_counts, actor_reply, content_reply, tail_reply, AnswersEvent, IsObeyed, AnswersLine};
+ghost use Rattle.lcrqdb.specs.Lines.{Holds};
 
 use super::commands::Command;
 use super::lines::Line;
@@ -43,31 +43,29 @@ fn obey<const R: usize>(session: &mut Session<R>, command: Command) -> Reply
         ),
         Command::Undo => {
             let done = session.undo();
-            after_move(session, done)
+            walk_reply(session, done)
         }
         Command::Back(steps) => {
             let done = session.back(steps);
-            after_move(session, done)
+            walk_reply(session, done)
         }
         Command::Redo => {
             let done = session.redo();
-            after_move(session, done)
+            walk_reply(session, done)
         }
         Command::Forward(steps) => {
             let done = session.forward(steps);
-            after_move(session, done)
+            walk_reply(session, done)
         }
-        Command::Len => counts(session),
-        Command::Actor(actor) => actor_words(session, actor),
-        Command::ShowTail => root_tail(session),
+        Command::Len => step_counts(session),
+        Command::Actor(actor) => actor_reply(session, actor),
+        Command::ShowTail => tail_reply(session),
     }
 }
 
 /// Makes an event happen, and answers the number of its step and what a call replied that it ended.
 fn step<const R: usize>(session: &mut Session<R>, event: Event) -> Reply
-    ensures { AnswersOrWants (state session.old)
-        (applied (state session.old) (reply_to R (state session.old) event) (apply R (state session.old) event))
-        (record { reply = result; state = state session.new }) }
+    ensures { AnswersEvent R (state session.old) event (record { reply = result; state = state session.new }) }
 {
     match session.apply(event) {
         Ok((number, entry)) => Reply::Applied {
@@ -79,19 +77,19 @@ fn step<const R: usize>(session: &mut Session<R>, event: Event) -> Reply
 }
 
 /// The answer to a walk up or down the run, which is over.
-fn after_move<const R: usize>(session: &Session<R>, done: Result<(), Refusal>) -> Reply
-    ensures ok { OnOk done (result ≡ counts (state session.now)) }
+fn walk_reply<const R: usize>(session: &Session<R>, done: Result<(), Refusal>) -> Reply
+    ensures ok { OnOk done (result ≡ step_counts (state session.now)) }
     ensures err { IfErr done (λ refusal. result ≡ Reply.Refused refusal) }
 {
     match done {
-        Ok(()) => counts(session),
+        Ok(()) => step_counts(session),
         Err(refusal) => Reply::Refused(refusal),
     }
 }
 
 /// How many steps are live and how many are undone.
-fn counts<const R: usize>(session: &Session<R>) -> Reply
-    ensures { result ≡ counts (state session.now) }
+fn step_counts<const R: usize>(session: &Session<R>) -> Reply
+    ensures { result ≡ step_counts (state session.now) }
 {
     Reply::At {
         live: session.len(),
@@ -100,8 +98,8 @@ fn counts<const R: usize>(session: &Session<R>) -> Reply
 }
 
 /// The words of an actor in the session's world.
-fn actor_words<const R: usize>(session: &Session<R>, actor: u8) -> Reply
-    ensures { result ≡ actor_told actor (run_of R (state session.now)) }
+fn actor_reply<const R: usize>(session: &Session<R>, actor: u8) -> Reply
+    ensures { result ≡ actor_reply actor (run_of R (state session.now)) }
 {
     match session.world().actor(actor) {
         None => Reply::Refused(Refusal::NoActor),
@@ -110,15 +108,15 @@ fn actor_words<const R: usize>(session: &Session<R>, actor: u8) -> Reply
 }
 
 /// What the root's tail has in the session's world.
-fn root_tail<const R: usize>(session: &Session<R>) -> Reply
-    ensures { result ≡ tail_told (run_of R (state session.now)) }
+fn tail_reply<const R: usize>(session: &Session<R>) -> Reply
+    ensures { result ≡ tail_reply (run_of R (state session.now)) }
 {
-    tail_of(session.world().content(Place::Tail(SegName::ROOT)))
+    content_reply(session.world().content(Place::Tail(SegName::ROOT)))
 }
 
 /// What is said of a tail's content.
-fn tail_of(content: Option<Content>) -> Reply
-    ensures { result ≡ content_told content }
+fn content_reply(content: Option<Content>) -> Reply
+    ensures { result ≡ content_reply content }
 {
     match content {
         Some(Content::Tail { closed, count }) => Reply::TailIs { closed, count },

@@ -5,7 +5,7 @@
 ghost use Rattle.std.specs.Prelude.{◌≡◌, ◌≢◌, ℕ, ◌<◌, ◌^◌, ◌++◌, IfSome, IfNone};
 ghost use Rattle.std.specs.Fmt.{decimal};
 ghost use Rattle.lcrqdb.specs.declared.commands.Command.{Command as Spelled};
-ghost use Rattle.lcrqdb.specs.Spelling.{spelling, IsInRange, Spells};
+ghost use Rattle.lcrqdb.specs.Commands.{spelling, IsInRange, Spells};
 
 use super::numbers::number_in;
 

@@ -1,8 +1,8 @@
 //! Where bytes come from and where they go.
 //!
 //! A source gives one byte or the end, and a sink takes one or more bytes of a slice. Each tells contracts its
-//! bytes, where it can, and whether it has failed. `ReadSource` and `WriteSink` make them of std's readers and
-//! writers.
+//! bytes, if it can, and whether it has failed. `ReadSource` and `WriteSink` make them of std's readers and writers: a
+//! call that a signal interrupts is made again, of the one as of the other, and is no fault.
 
 ghost use Rattle.std.specs.Prelude.{◌≡◌, ◌<◌, ◌≤◌, ℕ, Bool, true, false, List, Option, IfOk, OnOk, OnErr, length, take};
 ghost use Rattle.std.specs.Io.KnownBytes.{Keeps, Appends};
@@ -35,7 +35,7 @@ pub trait Source {
         ensures fails { OnErr result (has_failed self.new ≡ true) };
 }
 
-/// Takes bytes.
+/// Takes bytes, one or more of a slice at a time.
 pub trait Sink {
     // The bytes that it was given so far; None tells nothing.
     ghost contents: { Self → Option (List ℕ) };
@@ -43,7 +43,8 @@ pub trait Sink {
     // Whether a call failed.
     ghost has_failed: { Self → Bool };
 
-    /// Takes the first bytes of a slice, one at least, and says how many. After a fault there is no further call.
+    /// Takes the first bytes of a slice, one at least, and says how many: to take none is a fault. After a fault there
+    /// is no further call.
     fn take(&mut self, given: &[u8]) -> Result<usize, WriteFault>
         requires working { has_failed self.old ≡ false }
         requires some { 0 < length given.now }
@@ -64,10 +65,7 @@ pub fn hand_over<K: Sink>(writer: &mut K, text: &[u8]) -> Result<(), WriteFault>
 {
     let mut done = 0;
     while done < text.len() {
-        match writer.take(&text[done..]) {
-            Ok(count) => done += count,
-            Err(fault) => return Err(fault),
-        }
+        done += writer.take(&text[done..])?;
     }
     Ok(())
 }
@@ -98,17 +96,13 @@ impl<R: Read> Source for ReadSource<R> {
     ghost has_failed = { λ s. s.failed };
 
     fn byte(&mut self) -> Result<Option<u8>, ReadFault> {
-        match one_byte(&mut self.inner) {
-            Ok(byte) => Ok(byte),
-            Err(ReadFault) => {
-                self.failed = true;
-                Err(ReadFault)
-            }
-        }
+        let given = one_byte(&mut self.inner);
+        self.failed = given.is_err();
+        given
     }
 }
 
-/// The reader's next byte, or none at the end. A read that a signal interrupts is made again.
+/// The reader's next byte, or none at the end. A read that a signal interrupts is made again, up to 2^64 - 1 times.
 fn one_byte<R: Read>(reader: &mut R) -> Result<Option<u8>, ReadFault>
     ensures ok { IfOk result (Gives (R.remaining reader.old) (R.remaining reader.new)) }
     ensures err { OnErr result (Keeps (R.remaining reader.old) (R.remaining reader.new)) }
@@ -154,12 +148,30 @@ impl<W: Write> Sink for WriteSink<W> {
     ghost has_failed = { λ s. s.failed };
 
     fn take(&mut self, given: &[u8]) -> Result<usize, WriteFault> {
-        match self.inner.write(given) {
-            Ok(0) | Err(_) => {
-                self.failed = true;
-                Err(WriteFault)
+        let taken = some_bytes(&mut self.inner, given);
+        self.failed = taken.is_err();
+        taken
+    }
+}
+
+/// Hands the writer the bytes once, and says how many of the first ones it took: to take none is a fault. A write that
+/// a signal interrupts is made again, up to 2^64 - 1 times.
+fn some_bytes<W: Write>(writer: &mut W, given: &[u8]) -> Result<usize, WriteFault>
+    requires some { 0 < length given.now }
+    ensures count { IfOk result (λ n. (0 < n) × (n ≤ length given.now)) }
+    ensures ok { IfOk result (λ n. Appends (W.contents writer.old) (W.contents writer.new) (take n given.now)) }
+    ensures err { OnErr result (Keeps (W.contents writer.old) (W.contents writer.new)) }
+{
+    for _ in 0..u64::MAX {
+        match writer.write(given) {
+            Ok(0) => return Err(WriteFault),
+            Ok(count) => return Ok(count),
+            Err(error) => {
+                if error.kind() != ErrorKind::Interrupted {
+                    return Err(WriteFault);
+                }
             }
-            Ok(n) => Ok(n),
         }
     }
+    Err(WriteFault)
 }

@@ -1,10 +1,10 @@
 //! Lines of a script, read byte by byte into a buffer of fixed capacity.
 //!
-//! The rest of a line that is too long is read and let go, so that the next one begins where it should.
+//! The rest of a line that is too long is read and discarded, so that the next one begins where it should.
 
 ghost use Rattle.std.specs.Prelude.{◌≡◌, ℕ, List, [], ◌∷◌, ◌++◌, OnOk, false};
-ghost use Rattle.lcrqdb.specs.Spelling.{Says};
-ghost use Rattle.lcrqdb.specs.Reading.{Reads, Holds};
+ghost use Rattle.lcrqdb.specs.Commands.{Says};
+ghost use Rattle.lcrqdb.specs.Lines.{Reads, Holds};
 
 use super::commands::{Command, LineFault, command_in};
 use super::device::{ReadFault, Source};
@@ -41,16 +41,11 @@ pub fn next_line<S: Source>(reader: &mut S) -> Result<Reading, ReadFault>
 {
     let mut line = Line::new();
     for length in 0..u64::MAX {
-        match reader.byte() {
-            Err(fault) => return Err(fault),
-            Ok(None) if length == 0 => return Ok(Reading::End),
-            Ok(None) => return Ok(Reading::Last(line)),
-            Ok(Some(byte)) => {
-                if byte == b'\n' {
-                    return Ok(Reading::Ended(line));
-                }
-                line.push(byte);
-            }
+        match reader.byte()? {
+            None if length == 0 => return Ok(Reading::End),
+            None => return Ok(Reading::Last(line)),
+            Some(b'\n') => return Ok(Reading::Ended(line)),
+            Some(byte) => line.push(byte),
         }
     }
     Err(ReadFault)

@@ -18,14 +18,14 @@ mod tests;
 mod texts;
 
 use device::{ReadSource, WriteSink};
-use program::{ProgramFault, play};
+use program::{ProgramFault, exit_code, play};
 use std::io::BufReader;
 use std::process::ExitCode;
 
 fn main(rt: HostRuntime) -> ExitCode {
     // The reader has a buffer, since it is asked for one byte at a time; the writer has none, so that a reply goes out
     // at once.
-    let answer = match BufReader::new(rt.alloc(), rt.stdin()) {
+    let outcome = match BufReader::new(rt.alloc(), rt.stdin()) {
         Ok(input) => play(
             rt.alloc(),
             &mut ReadSource::new(input),
@@ -33,12 +33,5 @@ fn main(rt: HostRuntime) -> ExitCode {
         ),
         Err(_) => Err(ProgramFault::NoMemory),
     };
-    match answer {
-        Ok(_) => ExitCode::SUCCESS,
-        Err(fault) => {
-            // Where standard error fails too, the status alone tells.
-            let _ = eprintln!(rt; "lcrqdb: {fault}");
-            ExitCode::FAILURE
-        }
-    }
+    exit_code(outcome, &mut rt.stderr())
 }

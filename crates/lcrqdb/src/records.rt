@@ -4,7 +4,7 @@
 
 ghost use Rattle.std.specs.Prelude.{◌≡◌, ◌+◌, ◌≤◌, ◌++◌, length};
 ghost use Rattle.arrayvec.specs.ArrayVec.{array_vec_len};
-ghost use Rattle.lcrqdb.specs.Texts.{label, op_words, name_words, value_words, bit_number, call_words, segment_words, position_words, cell_words, actor_words};
+ghost use Rattle.lcrqdb.specs.Records.{label, dequeue_label, op_words, name_words, value_words, bit_number, call_words, segment_words, position_words, cell_words, actor_words};
 
 use super::numbers::push_number;
 use super::texts::{Text, push_counted, push_words};
@@ -118,7 +118,7 @@ fn bit_number(bit: bool) -> u64
     if bit { 1 } else { 0 }
 }
 
-/// The label of an actor's place.
+/// The label of a control point.
 fn label_of(pc: Pc) -> &'static [u8]
     ensures name { result.now ≡ label pc }
     ensures len { length result.now ≤ 4 }
@@ -139,6 +139,21 @@ fn label_of(pc: Pc) -> &'static [u8]
         Pc::E12 => b"E12",
         Pc::E13 => b"E13",
         Pc::E14 => b"E14",
+        Pc::A1 => b"A1",
+        Pc::A2 => b"A2",
+        Pc::B1 => b"B1",
+        Pc::B2 => b"B2",
+        Pc::B3 => b"B3",
+        _ => dequeue_label_of(pc),
+    }
+}
+
+/// The label of a control point of a dequeue; the others have none here.
+fn dequeue_label_of(pc: Pc) -> &'static [u8]
+    ensures name { result.now ≡ dequeue_label pc }
+    ensures len { length result.now ≤ 4 }
+{
+    match pc {
         Pc::Q1 => b"Q1",
         Pc::Q2 => b"Q2",
         Pc::Q3 => b"Q3",
@@ -153,10 +168,6 @@ fn label_of(pc: Pc) -> &'static [u8]
         Pc::Q12 => b"Q12",
         Pc::Q13 => b"Q13",
         Pc::Q14 => b"Q14",
-        Pc::A1 => b"A1",
-        Pc::A2 => b"A2",
-        Pc::B1 => b"B1",
-        Pc::B2 => b"B2",
-        Pc::B3 => b"B3",
+        _ => b"",
     }
 }

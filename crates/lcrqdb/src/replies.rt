@@ -6,7 +6,7 @@ ghost use Rattle.std.specs.Prelude.{◌≡◌, ◌+◌, ◌<◌, ◌≤◌, ◌+
 ghost use Rattle.std.specs.Io.KnownBytes.{Appends};
 ghost use Rattle.lcrqdb.specs.Device.{TakesBeginning};
 ghost use Rattle.arrayvec.specs.ArrayVec.{array_vec_len};
-ghost use Rattle.lcrqdb.specs.Texts.{refusal_name, refusal_data, fault_name, tail_word, reply_words, words_of, text_of};
+ghost use Rattle.lcrqdb.specs.Replies.{refusal_name, refusal_data, fault_name, tail_word, reply_words, words_of, text_of};
 
 use super::commands::LineFault;
 use super::device::{Sink, WriteFault, hand_over};

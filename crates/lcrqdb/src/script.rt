@@ -1,11 +1,11 @@
 //! A script: each line is read, obeyed and answered before the next one is read.
 
-ghost use Rattle.std.specs.Prelude.{◌≡◌, ℕ, List, true, false, OnOk, OnErr, IfOk};
-ghost use Rattle.rd_journal.specs.Session.{state};
-ghost use Rattle.lcrqdb.specs.Session.{Answered, AnswersLine};
-ghost use Rattle.lcrqdb.specs.Reading.{Holds};
-ghost use Rattle.lcrqdb.specs.Answering.{Wrote};
-ghost use Rattle.lcrqdb.specs.Script.{Did};
+ghost use Rattle.std.specs.Prelude.{◌≡◌, ℕ, List, true, false, OnOk, OnErr};
+ghost use Rattle.rd_journal.specs.Sessions.{state};
+ghost use Rattle.lcrqdb.specs.Answers.{Answered, AnswersLine};
+ghost use Rattle.lcrqdb.specs.Lines.{Holds};
+ghost use Rattle.lcrqdb.specs.Replies.{WritesReply};
+ghost use Rattle.lcrqdb.specs.Script.{RunsScript};
 
 use super::answers::answer;
 use super::device::{ReadFault, Sink, Source, WriteFault};
@@ -22,6 +22,26 @@ pub enum ScriptFault {
     Write,
 }
 
+impl From<ReadFault> for ScriptFault {
+    ghost use Rattle.lcrqdb.specs.declared.script.ScriptFault.TheVariants.{Read};
+
+    ghost from_gives = { λ _ fault. fault ≡ Read };
+
+    fn from(_fault: ReadFault) -> ScriptFault {
+        ScriptFault::Read
+    }
+}
+
+impl From<WriteFault> for ScriptFault {
+    ghost use Rattle.lcrqdb.specs.declared.script.ScriptFault.TheVariants.{Write};
+
+    ghost from_gives = { λ _ fault. fault ≡ Write };
+
+    fn from(_fault: WriteFault) -> ScriptFault {
+        ScriptFault::Write
+    }
+}
+
 /// Runs a script over a session: reads its lines to the end, obeys each when it is complete and writes its reply at
 /// once. The answer is the number of lines.
 pub fn run_lines<S: Source, K: Sink, const R: usize>(
@@ -31,7 +51,7 @@ pub fn run_lines<S: Source, K: Sink, const R: usize>(
 ) -> Result<u64, ScriptFault>
     requires reader_works { S.has_failed reader.old ≡ false }
     requires writer_works { K.has_failed writer.old ≡ false }
-    ensures did { Did R (state session.old) (state session.new) (record {
+    ensures runs { RunsScript R (state session.old) (state session.new) (record {
       in_before = S.bytes reader.old;
       in_after = S.bytes reader.new;
       in_failed = S.has_failed reader.new;
@@ -39,20 +59,15 @@ pub fn run_lines<S: Source, K: Sink, const R: usize>(
       out_after = K.contents writer.new;
       out_failed = K.has_failed writer.new;
     }) result }
-    ensures works { OnOk result ((S.has_failed reader.new ≡ false) × (K.has_failed writer.new ≡ false)) }
 {
     for done in 0..u64::MAX {
-        match next_line(reader) {
-            Err(ReadFault) => return Err(ScriptFault::Read),
-            Ok(Reading::End) => return Ok(done),
-            Ok(Reading::Last(line)) => match do_line(session, &line, writer) {
-                Ok(()) => return Ok(done + 1),
-                Err(WriteFault) => return Err(ScriptFault::Write),
-            },
-            Ok(Reading::Ended(line)) => match do_line(session, &line, writer) {
-                Ok(()) => {}
-                Err(WriteFault) => return Err(ScriptFault::Write),
-            },
+        match next_line(reader)? {
+            Reading::End => return Ok(done),
+            Reading::Last(line) => {
+                do_line(session, &line, writer)?;
+                return Ok(done + 1);
+            }
+            Reading::Ended(line) => do_line(session, &line, writer)?,
         }
     }
     Err(ScriptFault::Read)
@@ -67,7 +82,7 @@ fn do_line<K: Sink, const R: usize>(
     requires { K.has_failed writer.old ≡ false }
     ensures does { (text : List ℕ) → Holds line.now text → (answered : Answered)
         × AnswersLine R (state session.old) text answered × (answered.state ≡ state session.new)
-        × Wrote (K.contents writer.old) (K.contents writer.new) answered.reply result }
+        × WritesReply (K.contents writer.old) (K.contents writer.new) answered.reply result }
     ensures works { OnOk result (K.has_failed writer.new ≡ false) }
     ensures fails { OnErr result (K.has_failed writer.new ≡ true) }
 {

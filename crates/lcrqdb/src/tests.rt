@@ -1,30 +1,59 @@
-//! Whole scripts over the program's world, also with devices that fail or take little, and texts from outside.
+//! Whole scripts over the program's world, also with devices that fail, take little or are interrupted, and texts from
+//! outside.
 
 use super::commands::{Command, LineFault, command_in, spellings_differ};
 use super::device::{ReadSource, WriteSink};
 use super::numbers::number_in;
-use super::program::{ProgramFault, play};
+use super::program::{ProgramFault, exit_code, play};
 use super::replies::{Reply, text_of};
 use rd_actor::{Actor, Op, OpReply, Pc};
 use rd_cell::{Refusal, SegName};
 use std::alloc::Global;
 use std::io;
 use std::io::{Read, Write};
+use std::process::{Abort, ExitCode};
 use std::test::Fail;
 
-/// Gives a byte a call, and fails once its good calls are used up.
-#[derive(Drop)]
-struct FailingReader<'a> {
-    rest: &'a [u8],
-    good_calls: usize,
+/// How the devices of a run work.
+#[derive(Clone, Copy)]
+struct Devices {
+    /// How many reads give a byte or the end; those behind them fail.
+    good_reads: usize,
+    /// How many writes take bytes; those behind them fail.
+    good_writes: usize,
+    /// The most bytes that a write takes.
+    most: usize,
+    /// Whether a signal interrupts each read and each write once, before it is made again.
+    interrupted: bool,
 }
 
-impl<'a> Read for FailingReader<'a> {
+/// Devices that work.
+const WORKING: Devices = Devices {
+    good_reads: 100_000,
+    good_writes: 100_000,
+    most: 100_000,
+    interrupted: false,
+};
+
+/// Gives a byte a read.
+#[derive(Drop)]
+struct TestReader<'a> {
+    rest: &'a [u8],
+    devices: Devices,
+    interrupts_next: bool,
+}
+
+impl<'a> Read for TestReader<'a> {
     fn read(&mut self, buf: &mut [u8]) -> io::Result<usize> {
-        if self.good_calls == 0 {
+        if self.interrupts_next {
+            self.interrupts_next = false;
+            return Err(io::Error::from(io::ErrorKind::Interrupted));
+        }
+        if self.devices.good_reads == 0 {
             return Err(io::Error::from(io::ErrorKind::BrokenPipe));
         }
-        self.good_calls -= 1;
+        self.devices.good_reads -= 1;
+        self.interrupts_next = self.devices.interrupted;
         match (self.rest.split_first(), buf.first_mut()) {
             (Some((byte, rest)), Some(place)) => {
                 *place = *byte;
@@ -36,21 +65,26 @@ impl<'a> Read for FailingReader<'a> {
     }
 }
 
-/// Takes at most so many bytes a call, and fails once its good calls are used up.
+/// Keeps what it takes.
 #[derive(Drop)]
-struct FailingWriter<'a> {
+struct TestWriter<'a> {
     taken: &'a mut Vec<u8>,
-    most: usize,
-    good_calls: usize,
+    devices: Devices,
+    interrupts_next: bool,
 }
 
-impl<'a> Write for FailingWriter<'a> {
+impl<'a> Write for TestWriter<'a> {
     fn write(&mut self, buf: &[u8]) -> io::Result<usize> {
-        if self.good_calls == 0 {
+        if self.interrupts_next {
+            self.interrupts_next = false;
+            return Err(io::Error::from(io::ErrorKind::Interrupted));
+        }
+        if self.devices.good_writes == 0 {
             return Err(io::Error::from(io::ErrorKind::BrokenPipe));
         }
-        self.good_calls -= 1;
-        let count = buf.len().min(self.most);
+        self.devices.good_writes -= 1;
+        self.interrupts_next = self.devices.interrupted;
+        let count = buf.len().min(self.devices.most);
         self.taken.extend_from_slice(&buf[..count])?;
         Ok(count)
     }
@@ -60,397 +94,478 @@ impl<'a> Write for FailingWriter<'a> {
     }
 }
 
-/// More calls than any script here makes.
-const MANY: usize = 100_000;
-
-/// What the program answers and writes, where reads and writes fail after so many good calls.
-fn run_with(
-    alloc: Global,
-    script: &[u8],
-    reads: usize,
-    writes: usize,
-    most: usize,
-) -> (Result<u64, ProgramFault>, Vec<u8>) {
+/// What the program answers and writes.
+fn run_over(alloc: Global, script: &str, devices: Devices) -> (Result<u64, ProgramFault>, Vec<u8>) {
     let mut taken = Vec::new(alloc);
-    let input = FailingReader {
-        rest: script,
-        good_calls: reads,
+    let reader = TestReader {
+        rest: script.as_bytes(),
+        devices,
+        interrupts_next: devices.interrupted,
     };
-    let output = FailingWriter {
+    let writer = TestWriter {
         taken: &mut taken,
-        most,
-        good_calls: writes,
+        devices,
+        interrupts_next: devices.interrupted,
     };
     let answer = play(
         alloc,
-        &mut ReadSource::new(input),
-        &mut WriteSink::new(output),
+        &mut ReadSource::new(reader),
+        &mut WriteSink::new(writer),
     );
     (answer, taken)
 }
 
-/// The report of a script, over devices that work.
-fn report_of(alloc: Global, script: &[u8]) -> Result<Vec<u8>, Fail> {
-    let (answer, report) = run_with(alloc, script, MANY, MANY, MANY);
-    answer.map_err(|_| "a device failed")?;
-    Ok(report)
+/// Runs each script over its devices, and compares what the program answers and writes.
+fn runs_are(
+    rt: &impl Abort,
+    alloc: Global,
+    rows: &[(&str, Devices, Result<u64, ProgramFault>, &str)],
+) {
+    for (script, devices, answer, report) in rows {
+        let (said, written) = run_over(alloc, script, *devices);
+        assert_eq!(rt; said, *answer, "script {script}, report {report}");
+        assert_eq!(rt;
+            written.as_slice(),
+            report.as_bytes(),
+            "script {script}, report {report}"
+        );
+    }
 }
 
-#[test]
-fn steps_are_done_and_the_last_is_undone(rt: HostRuntime) -> Result<(), Fail> {
-    let report = report_of(rt.alloc(), b"go 1\ngo 2\nundo\n")?;
-    assert_eq!(rt; report.as_slice(), b"ok 1\nok 2\nat 1 1\n".as_slice());
-    Ok(())
+/// Runs each script over devices that work, and compares its report.
+fn reports_are(rt: &impl Abort, alloc: Global, rows: &[(&str, &str)]) {
+    for (script, report) in rows {
+        let (answer, written) = run_over(alloc, script, WORKING);
+        assert!(rt; answer.is_ok(), "script {script}");
+        assert_eq!(rt; written.as_slice(), report.as_bytes(), "script {script}");
+    }
 }
 
-#[test]
-fn a_step_that_ends_a_call_says_what_it_replied(rt: HostRuntime) -> Result<(), Fail> {
-    let report = report_of(rt.alloc(), b"go 1\ngo 1\ngo 1\ngo 1\ngo 1\nundo\nredo\n")?;
-    let wanted = b"ok 1\nok 2\nok 3\nok 4 enqueued\nrefused 3 Idle\nat 3 1\nat 4 0\n";
-    assert_eq!(rt; report.as_slice(), wanted.as_slice());
-    Ok(())
-}
-
-#[test]
-fn a_reply_of_a_call_stands_behind_the_steps_number(rt: HostRuntime) {
-    for (reply, wanted) in [
-        (None, b"ok 9\n".as_slice()),
-        (Some(OpReply::Enqueued), b"ok 9 enqueued\n".as_slice()),
-        (Some(OpReply::Value(7)), b"ok 9 value 7\n".as_slice()),
-        (Some(OpReply::Empty), b"ok 9 empty\n".as_slice()),
-    ] {
-        let line = text_of(Reply::Applied { step: 9, reply });
-        assert_eq!(rt; line.as_slice(), wanted);
+/// Writes each reply as its line.
+fn lines_are(rt: &impl Abort, rows: &[(Reply, &str)]) {
+    for (reply, line) in rows {
+        assert_eq!(rt; text_of(*reply).as_slice(), line.as_bytes(), "line {line}");
     }
 }
 
 #[test]
-fn each_refused_line_says_why(rt: HostRuntime) -> Result<(), Fail> {
-    let report = report_of(rt.alloc(), b"undo\ngo 1\ngo 1\ngo 5\nhello\n")?;
-    let wanted = b"refused 10 NothingToUndo 0\nok 1\nok 2\nrefused 1 NoActor\nrefused 22 BadLine\n";
-    assert_eq!(rt; report.as_slice(), wanted.as_slice());
-    Ok(())
+fn steps_are_done_and_undone(rt: HostRuntime) {
+    reports_are(
+        &rt,
+        rt.alloc(),
+        &[
+            ("go 1\ngo 2\nundo\n", "ok 1\nok 2\nat 1 1\n"),
+            (
+                "go 1\ngo 2\nundo\nundo\ngo 2\nundo\nundo\n",
+                "ok 1\nok 2\nat 1 1\nat 0 2\nok 1\nat 0 1\nrefused 10 NothingToUndo 0\n",
+            ),
+            (
+                "go 1\ngo 1\ngo 1\ngo 1\ngo 1\nundo\nredo\n",
+                "ok 1\nok 2\nok 3\nok 4 enqueued\nrefused 3 Idle\nat 3 1\nat 4 0\n",
+            ),
+        ],
+    );
 }
 
 #[test]
-fn an_event_lets_go_what_was_undone(rt: HostRuntime) -> Result<(), Fail> {
-    let report = report_of(rt.alloc(), b"go 1\ngo 2\nundo\nundo\ngo 2\nundo\nundo\n")?;
-    let wanted = b"ok 1\nok 2\nat 1 1\nat 0 2\nok 1\nat 0 1\nrefused 10 NothingToUndo 0\n";
-    assert_eq!(rt; report.as_slice(), wanted.as_slice());
-    Ok(())
+fn each_refused_line_says_why(rt: HostRuntime) {
+    reports_are(
+        &rt,
+        rt.alloc(),
+        &[
+            (
+                "undo\ngo 1\ngo 1\ngo 5\nhello\n",
+                "refused 10 NothingToUndo 0\nok 1\nok 2\nrefused 1 NoActor\nrefused 22 BadLine\n",
+            ),
+            (
+                "actor 0\nactor 5\nactor 255\nlen\n",
+                "refused 1 NoActor\nrefused 1 NoActor\nrefused 1 NoActor\nat 0 0\n",
+            ),
+            (
+                "back 0\nforward 0\nback 18446744073709551615\nforward 18446744073709551615\n",
+                "at 0 0\nat 0 0\nrefused 10 NothingToUndo 0\nrefused 11 NothingToRedo\n",
+            ),
+        ],
+    );
 }
 
 #[test]
-fn a_walk_back_and_forward(rt: HostRuntime) -> Result<(), Fail> {
-    let script =
-        b"go 1\ngo 2\ngo 3\nshow tail 0.0\nactor 2\nback 2\nactor 2\nforward 3\nforward 2\nback 4\nback 1\ngo 4\nredo\nlen\n";
-    let report = report_of(rt.alloc(), script)?;
-    let mut wanted = Vec::new(rt.alloc());
-    for line in [
-        b"ok 1\nok 2\nok 3\nis open 3\n".as_slice(),
-        b"actor E5 enq 2 crq 0.0 new 0.0 next 0.0 t 1 h 0 closed 0 val none safe 0 idx 0 pass 0\n".as_slice(),
-        b"at 1 2\n".as_slice(),
-        b"actor E4 enq 2 crq 0.0 new 0.0 next 0.0 t 0 h 0 closed 0 val none safe 0 idx 0 pass 0\n".as_slice(),
-        b"refused 11 NothingToRedo\nat 3 0\nrefused 10 NothingToUndo 3\n".as_slice(),
-        b"at 2 1\nok 3\nrefused 11 NothingToRedo\nat 3 0\n".as_slice(),
-    ] {
-        wanted.extend_from_slice(line)?;
-    }
-    assert_eq!(rt; report.as_slice(), wanted.as_slice());
-    Ok(())
-}
-
-#[test]
-fn an_actor_that_is_not_there_is_refused(rt: HostRuntime) -> Result<(), Fail> {
-    let report = report_of(rt.alloc(), b"actor 0\nactor 5\nactor 255\nlen\n")?;
-    let wanted = b"refused 1 NoActor\nrefused 1 NoActor\nrefused 1 NoActor\nat 0 0\n";
-    assert_eq!(rt; report.as_slice(), wanted.as_slice());
-    Ok(())
-}
-
-#[test]
-fn a_walk_of_no_step_goes(rt: HostRuntime) -> Result<(), Fail> {
-    let script = b"back 0\nforward 0\nback 18446744073709551615\nforward 18446744073709551615\n";
-    let report = report_of(rt.alloc(), script)?;
-    let wanted = b"at 0 0\nat 0 0\nrefused 10 NothingToUndo 0\nrefused 11 NothingToRedo\n";
-    assert_eq!(rt; report.as_slice(), wanted.as_slice());
-    Ok(())
+fn a_last_line_may_lack_its_line_feed(rt: HostRuntime) {
+    reports_are(
+        &rt,
+        rt.alloc(),
+        &[
+            ("", ""),
+            ("go 4", "ok 1\n"),
+            ("go 4\nundo", "ok 1\nat 0 1\n"),
+            ("\n\n", "refused 22 BadLine\nrefused 22 BadLine\n"),
+        ],
+    );
 }
 
 #[test]
 fn a_line_of_256_bytes_is_bad_and_a_longer_one_too_long(rt: HostRuntime) -> Result<(), Fail> {
-    for (length, wanted) in [
-        (256, b"refused 22 BadLine\nok 1\n".as_slice()),
-        (257, b"refused 23 LineTooLong\nok 1\n".as_slice()),
-        (1000, b"refused 23 LineTooLong\nok 1\n".as_slice()),
+    for (length, report) in [
+        (256, "refused 22 BadLine\nok 1\n"),
+        (257, "refused 23 LineTooLong\nok 1\n"),
+        (1000, "refused 23 LineTooLong\nok 1\n"),
     ] {
-        let mut script = vec![in rt.alloc(); b'x'; length]?;
-        script.extend_from_slice(b"\ngo 3\n")?;
-        let report = report_of(rt.alloc(), script.as_slice())?;
-        assert_eq!(rt; report.as_slice(), wanted, "at {length}");
+        let mut script = String::new(rt.alloc());
+        for _ in 0..length {
+            script.push('x')?;
+        }
+        script.push_str("\ngo 3\n")?;
+        reports_are(&rt, rt.alloc(), &[(script.as_str(), report)]);
     }
     Ok(())
-}
-
-#[test]
-fn a_last_line_may_lack_its_line_feed(rt: HostRuntime) -> Result<(), Fail> {
-    for (script, wanted) in [
-        (b"".as_slice(), b"".as_slice()),
-        (b"go 4".as_slice(), b"ok 1\n".as_slice()),
-        (b"go 4\nundo".as_slice(), b"ok 1\nat 0 1\n".as_slice()),
-    ] {
-        let report = report_of(rt.alloc(), script)?;
-        assert_eq!(rt; report.as_slice(), wanted);
-    }
-    Ok(())
-}
-
-#[test]
-fn an_empty_line_is_bad(rt: HostRuntime) -> Result<(), Fail> {
-    let report = report_of(rt.alloc(), b"\n\n")?;
-    assert_eq!(rt;
-        report.as_slice(),
-        b"refused 22 BadLine\nrefused 22 BadLine\n".as_slice()
-    );
-    Ok(())
-}
-
-#[test]
-fn a_command_has_one_spelling(rt: HostRuntime) {
-    spellings_differ();
-    assert_eq!(rt; command_in(b"go 0"), Some(Command::Go(0)));
-    assert_eq!(rt; command_in(b"go 255"), Some(Command::Go(255)));
-    assert_eq!(rt; command_in(b"undo"), Some(Command::Undo));
-    assert_eq!(rt; command_in(b"back 0"), Some(Command::Back(0)));
-    assert_eq!(rt; command_in(b"redo"), Some(Command::Redo));
-    assert_eq!(rt;
-        command_in(b"forward 18446744073709551615"),
-        Some(Command::Forward(u64::MAX))
-    );
-    assert_eq!(rt; command_in(b"len"), Some(Command::Len));
-    assert_eq!(rt; command_in(b"actor 255"), Some(Command::Actor(255)));
-    assert_eq!(rt; command_in(b"show tail 0.0"), Some(Command::ShowTail));
-    for text in [
-        b"go 256".as_slice(),
-        b"go 01".as_slice(),
-        b"go +1".as_slice(),
-        b"go  1".as_slice(),
-        b"go 1 ".as_slice(),
-        b" go 1".as_slice(),
-        b"Go 1".as_slice(),
-        b"go 1\r".as_slice(),
-        b"go".as_slice(),
-        b"go ".as_slice(),
-        b"undo ".as_slice(),
-        b"undo 1".as_slice(),
-        b"back".as_slice(),
-        b"back 01".as_slice(),
-        b"back 18446744073709551616".as_slice(),
-        b"redo 1".as_slice(),
-        b"forward -1".as_slice(),
-        b"len ".as_slice(),
-        b"actor 256".as_slice(),
-        b"actor  1".as_slice(),
-        b"show tail 0.1".as_slice(),
-        b"show tail 0.0 ".as_slice(),
-        b"show head 0.0".as_slice(),
-    ] {
-        assert_eq!(rt; command_in(text), None);
-    }
-}
-
-#[test]
-fn a_number_ends_at_64_bits(rt: HostRuntime) {
-    assert_eq!(rt; number_in(b"0"), Some(0));
-    assert_eq!(rt;
-        number_in(b"18446744073709551615"),
-        Some(18446744073709551615)
-    );
-    assert_eq!(rt; number_in(b"18446744073709551616"), None);
-    assert_eq!(rt; number_in(b""), None);
-    assert_eq!(rt; number_in(b"00"), None);
 }
 
 #[test]
 fn a_failed_read_leaves_whole_lines_done(rt: HostRuntime) {
-    for (reads, wanted) in [
-        (0, b"".as_slice()),
-        (4, b"".as_slice()),
-        (5, b"ok 1\n".as_slice()),
-        (9, b"ok 1\n".as_slice()),
-        (10, b"ok 1\nok 2\n".as_slice()),
+    for (good_reads, report) in [
+        (0, ""),
+        (4, ""),
+        (5, "ok 1\n"),
+        (9, "ok 1\n"),
+        (10, "ok 1\nok 2\n"),
     ] {
-        let (answer, report) = run_with(rt.alloc(), b"go 1\ngo 2\n", reads, MANY, MANY);
-        assert_eq!(rt; answer, Err(ProgramFault::Read), "after {reads}");
-        assert_eq!(rt; report.as_slice(), wanted, "after {reads}");
+        let devices = Devices {
+            good_reads,
+            ..WORKING
+        };
+        runs_are(
+            &rt,
+            rt.alloc(),
+            &[("go 1\ngo 2\n", devices, Err(ProgramFault::Read), report)],
+        );
     }
 }
 
 #[test]
 fn a_failed_write_leaves_a_beginning_of_the_report(rt: HostRuntime) {
-    for (writes, wanted) in [
-        (0, b"".as_slice()),
-        (1, b"ok".as_slice()),
-        (2, b"ok 1".as_slice()),
-        (3, b"ok 1\n".as_slice()),
-        (4, b"ok 1\nok".as_slice()),
+    for (good_writes, report) in [
+        (0, ""),
+        (1, "ok"),
+        (2, "ok 1"),
+        (3, "ok 1\n"),
+        (4, "ok 1\nok"),
     ] {
-        let (answer, report) = run_with(rt.alloc(), b"go 1\ngo 2\nundo\n", MANY, writes, 2);
-        assert_eq!(rt; answer, Err(ProgramFault::Write), "after {writes}");
-        assert_eq!(rt; report.as_slice(), wanted, "after {writes}");
+        let devices = Devices {
+            good_writes,
+            most: 2,
+            ..WORKING
+        };
+        runs_are(
+            &rt,
+            rt.alloc(),
+            &[(
+                "go 1\ngo 2\nundo\n",
+                devices,
+                Err(ProgramFault::Write),
+                report,
+            )],
+        );
     }
 }
 
 #[test]
 fn a_writer_that_takes_nothing_has_failed(rt: HostRuntime) {
-    let (answer, report) = run_with(rt.alloc(), b"go 1\n", MANY, MANY, 0);
-    assert_eq!(rt; answer, Err(ProgramFault::Write));
-    assert!(rt; report.is_empty());
-}
-
-#[test]
-fn a_writer_may_take_a_byte_a_call(rt: HostRuntime) {
-    let (answer, report) = run_with(rt.alloc(), b"go 1\ngo 2\nundo\n", MANY, MANY, 1);
-    assert_eq!(rt; answer, Ok(3));
-    assert_eq!(rt; report.as_slice(), b"ok 1\nok 2\nat 1 1\n".as_slice());
-}
-
-#[test]
-fn each_reply_is_one_write(rt: HostRuntime) {
-    let (answer, report) = run_with(rt.alloc(), b"go 1\nhello\nundo\n", MANY, 3, MANY);
-    assert_eq!(rt; answer, Ok(3));
-    assert_eq!(rt;
-        report.as_slice(),
-        b"ok 1\nrefused 22 BadLine\nat 0 1\n".as_slice()
+    let devices = Devices { most: 0, ..WORKING };
+    runs_are(
+        &rt,
+        rt.alloc(),
+        &[("go 1\n", devices, Err(ProgramFault::Write), "")],
     );
 }
 
 #[test]
-fn each_refusal_has_its_number_and_name(rt: HostRuntime) {
-    for (refusal, wanted) in [
-        (Refusal::NoActor, b"refused 1 NoActor\n".as_slice()),
-        (Refusal::NotIdle, b"refused 2 NotIdle\n".as_slice()),
-        (Refusal::Idle, b"refused 3 Idle\n".as_slice()),
-        (Refusal::NeedsChoice, b"refused 4 NeedsChoice\n".as_slice()),
-        (Refusal::NoChoice, b"refused 5 NoChoice\n".as_slice()),
-        (Refusal::CounterEnd, b"refused 6 CounterEnd\n".as_slice()),
-        (Refusal::SegmentsEnd, b"refused 7 SegmentsEnd\n".as_slice()),
-        (Refusal::ArrayEnd, b"refused 8 ArrayEnd\n".as_slice()),
-        (Refusal::TooLong, b"refused 9 TooLong\n".as_slice()),
+fn a_writer_may_take_a_byte_a_call(rt: HostRuntime) {
+    let devices = Devices { most: 1, ..WORKING };
+    runs_are(
+        &rt,
+        rt.alloc(),
+        &[("go 1\ngo 2\nundo\n", devices, Ok(3), "ok 1\nok 2\nat 1 1\n")],
+    );
+}
+
+#[test]
+fn each_reply_is_one_write(rt: HostRuntime) {
+    let devices = Devices {
+        good_writes: 3,
+        ..WORKING
+    };
+    runs_are(
+        &rt,
+        rt.alloc(),
+        &[(
+            "go 1\nhello\nundo\n",
+            devices,
+            Ok(3),
+            "ok 1\nrefused 22 BadLine\nat 0 1\n",
+        )],
+    );
+}
+
+#[test]
+fn reads_and_writes_that_a_signal_interrupts_are_made_again(rt: HostRuntime) {
+    let devices = Devices {
+        interrupted: true,
+        ..WORKING
+    };
+    let slow = Devices { most: 1, ..devices };
+    let script = "go 1\ngo 2\nundo\n";
+    let report = "ok 1\nok 2\nat 1 1\n";
+    runs_are(
+        &rt,
+        rt.alloc(),
+        &[
+            (script, devices, Ok(3), report),
+            (script, slow, Ok(3), report),
+            (
+                script,
+                Devices {
+                    good_reads: 5,
+                    ..devices
+                },
+                Err(ProgramFault::Read),
+                "ok 1\n",
+            ),
+            (
+                script,
+                Devices {
+                    good_writes: 1,
+                    ..devices
+                },
+                Err(ProgramFault::Write),
+                "ok 1\n",
+            ),
+        ],
+    );
+}
+
+#[test]
+fn a_fault_ends_with_status_1_and_a_line_on_standard_error(rt: HostRuntime) {
+    for (outcome, status, line) in [
+        (Ok(7), ExitCode::SUCCESS, ""),
         (
-            Refusal::NothingToUndo(2),
-            b"refused 10 NothingToUndo 2\n".as_slice(),
+            Err(ProgramFault::NoMemory),
+            ExitCode::FAILURE,
+            "lcrqdb: refused 20 NoMemory\n",
         ),
         (
-            Refusal::NothingToRedo,
-            b"refused 11 NothingToRedo\n".as_slice(),
+            Err(ProgramFault::Read),
+            ExitCode::FAILURE,
+            "lcrqdb: refused 24 Read\n",
         ),
         (
-            Refusal::NoSuchStep(31),
-            b"refused 12 NoSuchStep 31\n".as_slice(),
+            Err(ProgramFault::Write),
+            ExitCode::FAILURE,
+            "lcrqdb: refused 25 Write\n",
         ),
-        (Refusal::Depended(3), b"refused 13 Depended 3\n".as_slice()),
-        (Refusal::NoMark, b"refused 14 NoMark\n".as_slice()),
-        (Refusal::MarkTaken, b"refused 15 MarkTaken\n".as_slice()),
-        (
-            Refusal::TooManyMarks,
-            b"refused 16 TooManyMarks\n".as_slice(),
-        ),
-        (Refusal::BadName, b"refused 17 BadName\n".as_slice()),
-        (Refusal::NotATake, b"refused 18 NotATake\n".as_slice()),
-        (Refusal::NoSuchPlace, b"refused 19 NoSuchPlace\n".as_slice()),
-        (Refusal::NoMemory, b"refused 20 NoMemory\n".as_slice()),
     ] {
-        assert_eq!(rt; text_of(Reply::Refused(refusal)).as_slice(), wanted);
+        let mut errors = Vec::new(rt.alloc());
+        let code = exit_code(outcome, &mut errors);
+        assert!(rt; code == status, "line {line}");
+        assert_eq!(rt; errors.as_slice(), line.as_bytes());
+    }
+}
+
+#[test]
+fn standard_error_may_fail_too(rt: HostRuntime) {
+    let mut taken = Vec::new(rt.alloc());
+    let mut errors = TestWriter {
+        taken: &mut taken,
+        devices: Devices {
+            good_writes: 0,
+            ..WORKING
+        },
+        interrupts_next: false,
+    };
+    let code = exit_code(Err(ProgramFault::Read), &mut errors);
+    assert!(rt; code == ExitCode::FAILURE);
+}
+
+#[test]
+fn a_command_has_one_spelling(rt: HostRuntime) {
+    spellings_differ();
+    for (text, command) in [
+        ("go 0", Command::Go(0)),
+        ("go 255", Command::Go(255)),
+        ("undo", Command::Undo),
+        ("back 0", Command::Back(0)),
+        ("redo", Command::Redo),
+        ("forward 18446744073709551615", Command::Forward(u64::MAX)),
+        ("len", Command::Len),
+        ("actor 255", Command::Actor(255)),
+        ("show tail 0.0", Command::ShowTail),
+    ] {
+        assert_eq!(rt; command_in(text.as_bytes()), Some(command), "{text}");
+    }
+}
+
+#[test]
+fn other_texts_spell_no_command(rt: HostRuntime) {
+    for text in [
+        "go 256",
+        "go 01",
+        "go +1",
+        "go  1",
+        "go 1 ",
+        " go 1",
+        "Go 1",
+        "go 1\r",
+        "go",
+        "go ",
+        "undo ",
+        "undo 1",
+        "back",
+        "back 01",
+        "back 18446744073709551616",
+        "redo 1",
+        "forward -1",
+        "len ",
+        "actor 256",
+        "actor  1",
+        "show tail 0.1",
+        "show tail 0.0 ",
+        "show head 0.0",
+    ] {
+        assert_eq!(rt; command_in(text.as_bytes()), None, "{text}");
+    }
+}
+
+#[test]
+fn a_number_ends_at_64_bits(rt: HostRuntime) {
+    for (text, number) in [
+        ("0", Some(0)),
+        ("18446744073709551615", Some(u64::MAX)),
+        ("18446744073709551616", None),
+        ("", None),
+        ("00", None),
+    ] {
+        assert_eq!(rt; number_in(text.as_bytes()), number, "{text}");
+    }
+}
+
+#[test]
+fn each_refusal_has_its_number_and_name(rt: HostRuntime) {
+    for (refusal, line) in [
+        (Refusal::NoActor, "refused 1 NoActor\n"),
+        (Refusal::NotIdle, "refused 2 NotIdle\n"),
+        (Refusal::Idle, "refused 3 Idle\n"),
+        (Refusal::NeedsChoice, "refused 4 NeedsChoice\n"),
+        (Refusal::NoChoice, "refused 5 NoChoice\n"),
+        (Refusal::CounterEnd, "refused 6 CounterEnd\n"),
+        (Refusal::SegmentsEnd, "refused 7 SegmentsEnd\n"),
+        (Refusal::ArrayEnd, "refused 8 ArrayEnd\n"),
+        (Refusal::TooLong, "refused 9 TooLong\n"),
+        (Refusal::NothingToUndo(2), "refused 10 NothingToUndo 2\n"),
+        (Refusal::NothingToRedo, "refused 11 NothingToRedo\n"),
+        (Refusal::NoSuchStep(31), "refused 12 NoSuchStep 31\n"),
+        (Refusal::Depended(3), "refused 13 Depended 3\n"),
+        (Refusal::NoMark, "refused 14 NoMark\n"),
+        (Refusal::MarkTaken, "refused 15 MarkTaken\n"),
+        (Refusal::TooManyMarks, "refused 16 TooManyMarks\n"),
+        (Refusal::BadName, "refused 17 BadName\n"),
+        (Refusal::NotATake, "refused 18 NotATake\n"),
+        (Refusal::NoSuchPlace, "refused 19 NoSuchPlace\n"),
+        (Refusal::NoMemory, "refused 20 NoMemory\n"),
+    ] {
+        lines_are(&rt, &[(Reply::Refused(refusal), line)]);
+    }
+}
+
+#[test]
+fn a_reply_of_a_call_stands_behind_the_steps_number(rt: HostRuntime) {
+    for (reply, line) in [
+        (None, "ok 9\n"),
+        (Some(OpReply::Enqueued), "ok 9 enqueued\n"),
+        (Some(OpReply::Value(7)), "ok 9 value 7\n"),
+        (Some(OpReply::Empty), "ok 9 empty\n"),
+    ] {
+        lines_are(&rt, &[(Reply::Applied { step: 9, reply }, line)]);
     }
 }
 
 #[test]
 fn the_longest_replies_fit(rt: HostRuntime) {
     let most = u64::MAX;
-    let at = text_of(Reply::At {
-        live: most,
-        undone: most,
-    });
-    assert_eq!(rt;
-        at.as_slice(),
-        b"at 18446744073709551615 18446744073709551615\n".as_slice()
-    );
-    let tail = text_of(Reply::TailIs {
-        closed: true,
-        count: most,
-    });
-    assert_eq!(rt;
-        tail.as_slice(),
-        b"is closed 18446744073709551615\n".as_slice()
-    );
-    let undo = text_of(Reply::Refused(Refusal::NothingToUndo(most)));
-    assert_eq!(rt;
-        undo.as_slice(),
-        b"refused 10 NothingToUndo 18446744073709551615\n".as_slice()
-    );
-    let long = text_of(Reply::Unread(LineFault::LineTooLong));
-    assert_eq!(rt; long.as_slice(), b"refused 23 LineTooLong\n".as_slice());
-}
-
-#[test]
-fn the_longest_actor_fits(rt: HostRuntime) {
     let name = SegName {
         maker: u8::MAX,
         n: u32::MAX,
     };
-    let words = text_of(Reply::ActorIs(Actor {
+    let words = Actor {
         pc: Pc::Q14,
-        op: Some(Op::AEnq(u64::MAX)),
+        op: Some(Op::AEnq(most)),
         crq: name,
         new: name,
         next: name,
-        t: u64::MAX,
-        h: u64::MAX,
+        t: most,
+        h: most,
         closed: true,
-        val: Some(u64::MAX),
+        val: Some(most),
         safe: true,
-        idx: u64::MAX,
+        idx: most,
         pass: u8::MAX,
-    }));
-    let wanted =
-        b"actor Q14 aenq 18446744073709551615 crq 255.4294967295 new 255.4294967295 next 255.4294967295 t 18446744073709551615 h 18446744073709551615 closed 1 val 18446744073709551615 safe 1 idx 18446744073709551615 pass 255\n";
-    assert_eq!(rt; words.as_slice(), wanted.as_slice());
+    };
+    lines_are(
+        &rt,
+        &[
+            (
+                Reply::At {
+                    live: most,
+                    undone: most,
+                },
+                "at 18446744073709551615 18446744073709551615\n",
+            ),
+            (
+                Reply::TailIs {
+                    closed: true,
+                    count: most,
+                },
+                "is closed 18446744073709551615\n",
+            ),
+            (
+                Reply::Refused(Refusal::NothingToUndo(most)),
+                "refused 10 NothingToUndo 18446744073709551615\n",
+            ),
+            (
+                Reply::Unread(LineFault::LineTooLong),
+                "refused 23 LineTooLong\n",
+            ),
+            (
+                Reply::ActorIs(words),
+                "actor Q14 aenq 18446744073709551615 crq 255.4294967295 new 255.4294967295 next 255.4294967295 t 18446744073709551615 h 18446744073709551615 closed 1 val 18446744073709551615 safe 1 idx 18446744073709551615 pass 255\n",
+            ),
+        ],
+    );
 }
 
 #[test]
 fn each_call_has_its_words(rt: HostRuntime) {
-    for (op, wanted) in [
+    for (op, line) in [
         (
             None,
-            b"actor Idle none crq 0.0 new 0.0 next 0.0 t 0 h 0 closed 0 val none safe 0 idx 0 pass 0\n".as_slice(),
+            "actor Idle none crq 0.0 new 0.0 next 0.0 t 0 h 0 closed 0 val none safe 0 idx 0 pass 0\n",
         ),
         (
             Some(Op::Deq),
-            b"actor Idle deq crq 0.0 new 0.0 next 0.0 t 0 h 0 closed 0 val none safe 0 idx 0 pass 0\n".as_slice(),
+            "actor Idle deq crq 0.0 new 0.0 next 0.0 t 0 h 0 closed 0 val none safe 0 idx 0 pass 0\n",
         ),
         (
             Some(Op::ADeq),
-            b"actor Idle adeq crq 0.0 new 0.0 next 0.0 t 0 h 0 closed 0 val none safe 0 idx 0 pass 0\n".as_slice(),
+            "actor Idle adeq crq 0.0 new 0.0 next 0.0 t 0 h 0 closed 0 val none safe 0 idx 0 pass 0\n",
         ),
     ] {
-        let words = Actor {
-            op,
-            ..Actor::idle()
-        };
-        assert_eq!(rt; text_of(Reply::ActorIs(words)).as_slice(), wanted);
+        lines_are(
+            &rt,
+            &[(
+                Reply::ActorIs(Actor {
+                    op,
+                    ..Actor::idle()
+                }),
+                line,
+            )],
+        );
     }
-}
-
-#[test]
-fn a_fault_of_the_program_has_its_text(rt: HostRuntime) -> Result<(), Fail> {
-    let read = ProgramFault::Read;
-    let write = ProgramFault::Write;
-    let memory = ProgramFault::NoMemory;
-    let text = format!(in rt.alloc(); "{read}, {write}, {memory}")?;
-    assert_eq!(rt;
-        text.as_str(),
-        "refused 24 Read, refused 25 Write, refused 20 NoMemory"
-    );
-    Ok(())
 }

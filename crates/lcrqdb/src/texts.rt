@@ -2,7 +2,7 @@
 
 ghost use Rattle.std.specs.Prelude.{◌≡◌, ◌+◌, ◌<◌, ◌≤◌, ◌++◌, length};
 ghost use Rattle.arrayvec.specs.ArrayVec.{array_vec_len};
-ghost use Rattle.lcrqdb.specs.Texts.{spaced};
+ghost use Rattle.lcrqdb.specs.Texts.{spaced_number};
 
 use super::numbers::push_number;
 use arrayvec::ArrayVec;
@@ -25,7 +25,7 @@ pub fn push_words(text: &mut Text, words: &[u8])
 /// Puts a space and a number behind the text.
 pub fn push_spaced(text: &mut Text, number: u64)
     requires { array_vec_len text.old < 480 }
-    ensures items { text.new.items ≡ text.old.items ++ spaced number }
+    ensures items { text.new.items ≡ text.old.items ++ spaced_number number }
     ensures len { array_vec_len text.new ≤ array_vec_len text.old + 21 }
 {
     text.push(b' ');
@@ -35,7 +35,7 @@ pub fn push_spaced(text: &mut Text, number: u64)
 /// Puts words behind the text, and a number behind them.
 pub fn push_counted(text: &mut Text, words: &[u8], number: u64)
     requires { array_vec_len text.old + length words.now < 480 }
-    ensures items { text.new.items ≡ text.old.items ++ words.now ++ spaced number }
+    ensures items { text.new.items ≡ text.old.items ++ words.now ++ spaced_number number }
     ensures len { array_vec_len text.new ≤ array_vec_len text.old + length words.now + 21 }
 {
     push_words(text, words);

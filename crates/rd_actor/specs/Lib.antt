@@ -1,4 +1,3 @@
-pub mod Actor
+pub mod Actors
 pub mod Table
-pub mod World
 pub mod Words

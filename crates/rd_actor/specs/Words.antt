@@ -1,6 +1,7 @@
--- Which words fit an actor's place, one row a place.
+-- Which words fit an actor's control point, one row a control point.
 use Rattle.std.specs.Prelude.{Bool, true, false, not, ◌==◌, ◌&&◌, ◌||◌, nat_lt, nat_le, Option, Some, is_some, is_none}
-use Rattle.rd_cell.specs.Place.{root, is_name}
+use Rattle.rd_cell.specs.declared.limits.TheConstants.{SLOTS}
+use Rattle.rd_cell.specs.Places.{root, is_name}
 use Rattle.rd_actor.specs.declared.actors.Actor.{Actor}
 use Rattle.rd_actor.specs.declared.actors.Op.{Op}
 use Rattle.rd_actor.specs.declared.actors.Op.TheVariants.{Enq, Deq, AEnq, ADeq}
@@ -27,21 +28,21 @@ abbrev pub array_dequeues : Option Op → Bool
 array_dequeues (Some ADeq) = true
 array_dequeues _ = false
 
--- whether the words, the place apart, are those of the idle record
+-- whether the words, the control point apart, are those of the idle record
 abbrev pub is_idle : Actor → Bool
 is_idle a =
     is_none a.op && is_name a.crq root && is_name a.new root && is_name a.next root && (a.t == 0) && (a.h == 0)
     && not a.closed && is_none a.val && not a.safe && (a.idx == 0) && (a.pass == 0)
 
--- an enqueue, in its pass 0
+-- whether this is an enqueue, which is in no pass
 abbrev pub enqueue_fits : Actor → Bool
 enqueue_fits a = enqueues a.op && (a.pass == 0)
 
--- a dequeue in its first or second pass over a segment
+-- whether this is a dequeue in its first or second pass over a segment
 abbrev pub pass_fits : Actor → Bool
 pass_fits a = dequeues a.op && ((a.pass == 1) || (a.pass == 2))
 
--- whether the words fit this place
+-- whether the words fit this control point
 abbrev pub words_fit_at : Pc → Actor → Bool
 words_fit_at Idle a = is_idle a
 words_fit_at E1 a = enqueue_fits a
@@ -73,11 +74,11 @@ words_fit_at Q12 a = pass_fits a && not a.closed && nat_lt a.t a.h
 words_fit_at Q13 a = dequeues a.op && (a.pass == 1)
 words_fit_at Q14 a = dequeues a.op && (a.pass == 2)
 words_fit_at A1 a = array_enqueues a.op && (a.pass == 0)
-words_fit_at A2 a = array_enqueues a.op && (a.pass == 0) && nat_le a.t 63
+words_fit_at A2 a = array_enqueues a.op && (a.pass == 0) && nat_lt a.t SLOTS
 words_fit_at B1 a = array_dequeues a.op && (a.pass == 0)
-words_fit_at B2 a = array_dequeues a.op && (a.pass == 0) && nat_le a.h 63
-words_fit_at B3 a = array_dequeues a.op && (a.pass == 0) && nat_le a.h 63
+words_fit_at B2 a = array_dequeues a.op && (a.pass == 0) && nat_lt a.h SLOTS
+words_fit_at B3 a = array_dequeues a.op && (a.pass == 0) && nat_lt a.h SLOTS
 
--- whether an actor's words fit the place where it stands
+-- whether an actor's words fit the control point where it stands
 abbrev pub words_fit : Actor → Bool
 words_fit a = words_fit_at a.pc a

@@ -1,11 +1,11 @@
 //! An actor's record, what it may be asked to do, and what its calls reply.
 
 ghost use Rattle.std.specs.Prelude.{◌≡◌};
-ghost use Rattle.rd_actor.specs.Actor.{idle, poised, calling};
+ghost use Rattle.rd_actor.specs.Actors.{idle, poised, calling};
 
 use rd_cell::SegName;
 
-/// Where an actor stands: the label of the row of the place table that it does next.
+/// A control point: the label of the row of the table that an actor does next.
 #[derive(Clone, Copy, Debug, PartialEq, Eq)]
 pub enum Pc {
     /// In no call.
@@ -22,7 +22,7 @@ pub enum Pc {
     E5,
     /// Enqueue: reads the cell's safe bit and index.
     E6,
-    /// Enqueue: reads the segment's head, since the cell is unsafe.
+    /// Enqueue: reads the segment's head, because the cell is unsafe.
     E7,
     /// Enqueue: tries to put the value into the cell.
     E8,
@@ -102,7 +102,7 @@ pub enum Act {
     AEnq(u64),
     /// The call of a dequeue on the array.
     ADeq,
-    /// The step of the row where it stands.
+    /// The step of the row at which it stands.
     Go,
     /// The choice whether an enqueue starves and closes the ring.
     Starve(bool),
@@ -122,7 +122,7 @@ pub enum OpReply {
 /// The words of one actor.
 #[derive(Clone, Copy, Debug, PartialEq, Eq)]
 pub struct Actor {
-    /// Where it stands.
+    /// The control point where it stands.
     pub pc: Pc,
     /// The call that it is in, if any.
     pub op: Option<Op>,
@@ -180,7 +180,7 @@ impl Actor {
         }
     }
 
-    /// The record of an actor that begins this call at this place.
+    /// The record of an actor that begins this call at this control point.
     pub fn calling(pc: Pc, op: Op) -> Actor
         ensures { result ≡ calling pc op }
     {

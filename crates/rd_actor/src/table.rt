@@ -1,29 +1,29 @@
-//! The place table: what an actor asks for where it stands, and how it goes on.
+//! The table of control points: what an actor asks for at each, and how it goes on.
 //!
-//! A row a place, in the table's order. `need` has the column of accesses, `after` those of the words set and of
-//! the next place. The helpers below have the rows that choose between places.
+//! A row a control point, in the table's order. `need` has the column of accesses, `after` those of the words set and
+//! of the next control point. The helpers below have the rows that choose between control points.
 
-ghost use Rattle.std.specs.Prelude.{◌≡◌, ◌+◌, ◌%◌, ◌^◌, ◌<◌, ◌≤◌, true, false, Some, None, IsTrue};
+ghost use Rattle.std.specs.Prelude.{◌≡◌, ◌+◌, ◌%◌, ◌^◌, ◌<◌, ◌≤◌, true, false, Some, None};
+ghost use Rattle.rd_cell.specs.declared.limits.TheConstants.{MOST_CELLS};
 ghost use Rattle.rd_cell.specs.declared.places.Place.TheVariants.{Cell as CellAt, ArrCell};
-ghost use Rattle.rd_cell.specs.declared.access.Operation.TheVariants.{CasName, CasTail, Cas2, Swap};
+ghost use Rattle.rd_cell.specs.declared.operations.Operation.TheVariants.{CasName, CasTail, Cas2, Swap};
 ghost use Rattle.rd_cell.specs.declared.contents.ArrSlot.TheVariants.{Value as Held};
-ghost use Rattle.rd_actor.specs.Table.{value_of, cell_of, need, need_at, after, after_at, goes, done, taken, swapped_in, swapped_out, checked_array, drawn, turned_to_enqueue, turned_to_dequeue, checked_head, checked_room, checked_tail, checked_again};
-ghost use Rattle.rd_actor.specs.Words.{words_fit};
+ghost use Rattle.rd_actor.specs.Table.{value_of, cell_of, need, need_at, IsRepresentable, IsRepresentableAt, after, after_at, with_pc, pc_after_empty_pass, after_take, after_swap_in, after_swap_out, after_array_empty_check, after_tail_add, after_enqueue_reads_index, after_dequeue_reads_index, after_unsafe_check, after_full_check, after_empty_check, after_repair_check};
 
 use super::actors::{Act, Actor, Op, OpReply, Pc};
 use rd_cell::{Access, Answer, ArrSlot, Cell, Content, Operation, Place, Refusal, SegName};
 
-/// The one access that the actor's next step makes, over rings of `R` cells.
+/// The one access that the actor's next step makes, over rings of `R` cells. The actors of a world name only indexes
+/// and slots that fit their words; for others two rows do not (`IsRepresentable`).
 ///
 /// # Errors
 ///
 /// In this order: `NotIdle` for a call by an actor that is in one; `Idle` for a step or a choice by an actor that is
-/// in no call; `NeedsChoice` for a step where a choice is due; `NoChoice`
-/// for a choice where none is.
+/// in no call; `NeedsChoice` for a step if a choice is due; `NoChoice` for a choice if none is.
 pub fn need<const R: usize>(actor: &Actor, act: Act) -> Result<Access, Refusal>
     requires positive { 1 ≤ R }
-    requires small { R ≤ 64 }
-    ensures { actor.now.h + R < 2 ^ 64 → IsTrue (words_fit actor.now) → result ≡ need R actor.now act }
+    requires small { R ≤ MOST_CELLS }
+    ensures { IsRepresentable R actor.now act → result ≡ need R actor.now act }
 {
     match (act, actor.pc) {
         (Act::Enq(_) | Act::Deq | Act::AEnq(_) | Act::ADeq, Pc::Idle) => Ok(Access::NoPlace),
@@ -36,11 +36,11 @@ pub fn need<const R: usize>(actor: &Actor, act: Act) -> Result<Access, Refusal>
     }
 }
 
-/// What an actor that stands at a row asks for.
+/// What an actor asks for at its control point.
 fn need_at<const R: usize>(actor: &Actor) -> Result<Access, Refusal>
     requires positive { 1 ≤ R }
-    requires small { R ≤ 64 }
-    ensures { actor.now.h + R < 2 ^ 64 → IsTrue (words_fit actor.now) → result ≡ need_at R actor.now.pc actor.now }
+    requires small { R ≤ MOST_CELLS }
+    ensures { IsRepresentableAt R actor.now.pc actor.now → result ≡ need_at R actor.now.pc actor.now }
 {
     let crq = actor.crq;
     match actor.pc {
@@ -49,7 +49,7 @@ fn need_at<const R: usize>(actor: &Actor) -> Result<Access, Refusal>
         Pc::E3 => Ok(Access::At(Place::QTail, cas_name(actor, actor.next))),
         Pc::E4 => Ok(Access::At(Place::Tail(crq), Operation::Add)),
         Pc::E5 => Ok(Access::At(cell_at::<R>(actor, actor.t), Operation::ReadValue)),
-        Pc::E6 => Ok(Access::At(cell_at::<R>(actor, actor.t), Operation::ReadTurn)),
+        Pc::E6 => Ok(Access::At(cell_at::<R>(actor, actor.t), Operation::ReadSafeAndIndex)),
         Pc::E7 | Pc::E9 | Pc::Q10 => Ok(Access::At(Place::Head(crq), Operation::Read)),
         Pc::E8 => Ok(Access::At(cell_at::<R>(actor, actor.t), put_value(actor))),
         Pc::E10 => Err(Refusal::NeedsChoice),
@@ -60,7 +60,7 @@ fn need_at<const R: usize>(actor: &Actor) -> Result<Access, Refusal>
         Pc::Q1 => Ok(Access::At(Place::QHead, Operation::Read)),
         Pc::Q2 => Ok(Access::At(Place::Head(crq), Operation::Add)),
         Pc::Q3 => Ok(Access::At(cell_at::<R>(actor, actor.h), Operation::ReadValue)),
-        Pc::Q4 => Ok(Access::At(cell_at::<R>(actor, actor.h), Operation::ReadTurn)),
+        Pc::Q4 => Ok(Access::At(cell_at::<R>(actor, actor.h), Operation::ReadSafeAndIndex)),
         Pc::Q5 => Ok(Access::At(cell_at::<R>(actor, actor.h), move_on::<R>(actor, actor.val))),
         Pc::Q6 => Ok(Access::At(cell_at::<R>(actor, actor.h), mark_unsafe(actor))),
         Pc::Q7 => Ok(Access::At(cell_at::<R>(actor, actor.h), move_on::<R>(actor, None))),
@@ -78,7 +78,7 @@ fn need_at<const R: usize>(actor: &Actor) -> Result<Access, Refusal>
 
 /// The actor's record after a step, by what the access answered, and what the call replies if that ended it.
 pub fn after<const R: usize>(actor: &Actor, act: Act, answer: Answer) -> (Actor, Option<OpReply>)
-    requires { R ≤ 64 }
+    requires { R ≤ MOST_CELLS }
     ensures { result ≡ after R actor.now act answer }
 {
     match act {
@@ -87,67 +87,73 @@ pub fn after<const R: usize>(actor: &Actor, act: Act, answer: Answer) -> (Actor,
         Act::AEnq(value) => (Actor::calling(Pc::A1, Op::AEnq(value)), None),
         Act::ADeq => (Actor::calling(Pc::B1, Op::ADeq), None),
         Act::Go => after_at::<R>(actor, answer),
-        Act::Starve(starves) => (goes(actor, if starves { Pc::E11 } else { Pc::E4 }), None),
+        Act::Starve(starves) => (with_pc(actor, if starves { Pc::E11 } else { Pc::E4 }), None),
     }
 }
 
-/// How an actor that stands at a row goes on. An answer that its row does not give leaves it as it is.
+/// How an actor at its control point goes on. An answer that its row's access never gives leaves it as it is.
 fn after_at<const R: usize>(actor: &Actor, answer: Answer) -> (Actor, Option<OpReply>)
-    requires { R ≤ 64 }
+    requires { R ≤ MOST_CELLS }
     ensures { result ≡ after_at R actor.now.pc actor.now answer }
 {
     let next = match (actor.pc, answer) {
         (Pc::E1, Answer::Found(Content::Name(name))) => at_tail(actor, name),
         (Pc::E2, Answer::Found(Content::Next(Some(name)))) => behind_tail(actor, name),
-        (Pc::E2, Answer::Found(Content::Next(None))) => goes(actor, Pc::E4),
-        (Pc::E3, _) => goes(actor, Pc::E1),
-        (Pc::E4, Answer::Found(Content::Tail { closed, count })) => drawn(actor, closed, count),
+        (Pc::E2, Answer::Found(Content::Next(None))) => with_pc(actor, Pc::E4),
+        (Pc::E3, _) => with_pc(actor, Pc::E1),
+        (Pc::E4, Answer::Found(Content::Tail { closed, count })) => after_tail_add(
+            actor, closed, count,
+        ),
         (Pc::E5, Answer::Value(val)) => with_value(actor, val, Pc::E6),
-        (Pc::E6, Answer::Turn { safe, idx }) => turned_to_enqueue(actor, safe, idx),
-        (Pc::E7, Answer::Found(Content::Number(head))) => checked_head(actor, head),
+        (Pc::E6, Answer::SafeAndIndex { safe, idx }) => after_enqueue_reads_index(actor, safe, idx),
+        (Pc::E7, Answer::Found(Content::Number(head))) => after_unsafe_check(actor, head),
         (Pc::E8, Answer::Won) => return (Actor::idle(), Some(OpReply::Enqueued)),
-        (Pc::E8, Answer::Lost) => goes(actor, Pc::E9),
-        (Pc::E9, Answer::Found(Content::Number(head))) => checked_room::<R>(actor, head),
-        (Pc::E11, _) => goes(actor, Pc::E12),
+        (Pc::E8, Answer::Lost) => with_pc(actor, Pc::E9),
+        (Pc::E9, Answer::Found(Content::Number(head))) => after_full_check::<R>(actor, head),
+        (Pc::E11, _) => with_pc(actor, Pc::E12),
         (Pc::E12, Answer::Made(name)) => with_new(actor, name),
-        (Pc::E13, Answer::Won) => goes(actor, Pc::E14),
-        (Pc::E13, Answer::Lost) => goes(actor, Pc::E1),
+        (Pc::E13, Answer::Won) => with_pc(actor, Pc::E14),
+        (Pc::E13, Answer::Lost) => with_pc(actor, Pc::E1),
         (Pc::E14, _) => return (Actor::idle(), Some(OpReply::Enqueued)),
         (Pc::Q1, Answer::Found(Content::Name(name))) => at_head(actor, name),
         (Pc::Q2, Answer::Found(Content::Number(head))) => with_head(actor, head, Pc::Q3),
         (Pc::Q3, Answer::Value(val)) => with_value(actor, val, Pc::Q4),
-        (Pc::Q4, Answer::Turn { safe, idx }) => turned_to_dequeue(actor, safe, idx),
-        (Pc::Q5, Answer::Won) => return taken(actor),
-        (Pc::Q5 | Pc::Q6 | Pc::Q7, Answer::Lost) => goes(actor, Pc::Q3),
-        (Pc::Q6 | Pc::Q7, Answer::Won) => goes(actor, Pc::Q8),
-        (Pc::Q8, Answer::Found(Content::Tail { count, .. })) => checked_tail(actor, count),
-        (Pc::Q9, Answer::Found(Content::Tail { closed, count })) => repairing(actor, closed, count),
-        (Pc::Q10, Answer::Found(Content::Number(head))) => with_head(actor, head, Pc::Q11),
-        (Pc::Q11, Answer::Found(Content::Tail { closed, count })) => checked_again(
+        (Pc::Q4, Answer::SafeAndIndex { safe, idx }) => after_dequeue_reads_index(actor, safe, idx),
+        (Pc::Q5, Answer::Won) => return after_take(actor),
+        (Pc::Q5 | Pc::Q6 | Pc::Q7, Answer::Lost) => with_pc(actor, Pc::Q3),
+        (Pc::Q6 | Pc::Q7, Answer::Won) => with_pc(actor, Pc::Q8),
+        (Pc::Q8, Answer::Found(Content::Tail { count, .. })) => after_empty_check(actor, count),
+        (Pc::Q9, Answer::Found(Content::Tail { closed, count })) => with_repair_tail(
             actor, closed, count,
         ),
-        (Pc::Q12, Answer::Won) => goes(actor, done(actor)),
-        (Pc::Q12, Answer::Lost) => goes(actor, Pc::Q9),
+        (Pc::Q10, Answer::Found(Content::Number(head))) => with_head(actor, head, Pc::Q11),
+        (Pc::Q11, Answer::Found(Content::Tail { closed, count })) => after_repair_check(
+            actor, closed, count,
+        ),
+        (Pc::Q12, Answer::Won) => with_pc(actor, pc_after_empty_pass(actor)),
+        (Pc::Q12, Answer::Lost) => with_pc(actor, Pc::Q9),
         (Pc::Q13, Answer::Found(Content::Next(None))) => return (
             Actor::idle(),
             Some(OpReply::Empty),
         ),
         (Pc::Q13, Answer::Found(Content::Next(Some(name)))) => second_pass(actor, name),
-        (Pc::Q14, _) => goes(actor, Pc::Q1),
+        (Pc::Q14, _) => with_pc(actor, Pc::Q1),
         (Pc::A1, Answer::Found(Content::Number(tail))) => with_tail(actor, tail),
-        (Pc::A2, Answer::Found(Content::Slot(slot))) => return swapped_in(actor, slot),
+        (Pc::A2, Answer::Found(Content::Slot(slot))) => return after_swap_in(actor, slot),
         (Pc::B1, Answer::Found(Content::Number(head))) => with_head(actor, head, Pc::B2),
-        (Pc::B2, Answer::Found(Content::Slot(slot))) => return swapped_out(actor, slot),
-        (Pc::B3, Answer::Found(Content::Number(tail))) => return checked_array(actor, tail),
+        (Pc::B2, Answer::Found(Content::Slot(slot))) => return after_swap_out(actor, slot),
+        (Pc::B3, Answer::Found(Content::Number(tail))) => return after_array_empty_check(
+            actor, tail,
+        ),
         (Pc::Idle | Pc::E10, _) => *actor,
         _ => *actor,
     };
     (next, None)
 }
 
-/// The actor goes on to this place.
-fn goes(actor: &Actor, pc: Pc) -> Actor
-    ensures { result ≡ goes pc actor.now }
+/// The actor at this control point, its other words as they are.
+fn with_pc(actor: &Actor, pc: Pc) -> Actor
+    ensures { result ≡ with_pc pc actor.now }
 {
     Actor { pc, ..*actor }
 }
@@ -174,9 +180,9 @@ fn behind_tail(actor: &Actor, name: SegName) -> Actor
     }
 }
 
-/// E4: the actor drew a position, and goes to its cell, or to make a segment where the ring is closed.
-fn drawn(actor: &Actor, closed: bool, count: u64) -> Actor
-    ensures { result ≡ drawn actor.now closed count }
+/// E4: the actor drew a position, and goes to its cell, or to make a segment if the ring is closed.
+fn after_tail_add(actor: &Actor, closed: bool, count: u64) -> Actor
+    ensures { result ≡ after_tail_add actor.now closed count }
 {
     Actor {
         t: count,
@@ -192,9 +198,10 @@ fn with_value(actor: &Actor, val: Option<u64>, pc: Pc) -> Actor
     Actor { val, pc, ..*actor }
 }
 
-/// E6: the enqueue tries the cell where it is empty and its turn has not passed; if unsafe, after a look at the head.
-fn turned_to_enqueue(actor: &Actor, safe: bool, idx: u64) -> Actor
-    ensures { result ≡ turned_to_enqueue actor.now safe idx }
+/// E6: the enqueue tries the cell if it is empty and its index is not past the position; an unsafe cell only after a look
+/// at the head.
+fn after_enqueue_reads_index(actor: &Actor, safe: bool, idx: u64) -> Actor
+    ensures { result ≡ after_enqueue_reads_index actor.now safe idx }
 {
     let pc = if actor.val.is_none() && idx <= actor.t {
         if safe { Pc::E8 } else { Pc::E7 }
@@ -210,19 +217,19 @@ fn turned_to_enqueue(actor: &Actor, safe: bool, idx: u64) -> Actor
 }
 
 /// E7: the enqueue tries the unsafe cell if its position is not behind the head.
-fn checked_head(actor: &Actor, head: u64) -> Actor
-    ensures { result ≡ checked_head actor.now head }
+fn after_unsafe_check(actor: &Actor, head: u64) -> Actor
+    ensures { result ≡ after_unsafe_check actor.now head }
 {
     let pc = if head <= actor.t { Pc::E8 } else { Pc::E9 };
     Actor { pc, ..*actor }
 }
 
 /// E9: the enqueue closes the ring if it is full, else it is to choose.
-fn checked_room<const R: usize>(actor: &Actor, head: u64) -> Actor
-    requires { R ≤ 64 }
-    ensures { result ≡ checked_room R actor.now head }
+fn after_full_check<const R: usize>(actor: &Actor, head: u64) -> Actor
+    requires { R ≤ MOST_CELLS }
+    ensures { result ≡ after_full_check R actor.now head }
 {
-    // The same as `head + R <= t`, which could pass the end of a word.
+    // This is `head + R <= t`, whose sum could overflow.
     let full = head <= actor.t && R as u64 <= actor.t - head;
     let pc = if full { Pc::E11 } else { Pc::E10 };
     Actor {
@@ -266,10 +273,10 @@ fn with_head(actor: &Actor, head: u64, pc: Pc) -> Actor
     }
 }
 
-/// Q4: the dequeue takes the value that is there for it, marks the cell where an older one is there, moves an empty
-/// cell on, and passes a cell whose turn is later.
-fn turned_to_dequeue(actor: &Actor, safe: bool, idx: u64) -> Actor
-    ensures { result ≡ turned_to_dequeue actor.now safe idx }
+/// Q4: the dequeue takes the value of its position, marks the cell unsafe if the value is older, moves an empty cell on to
+/// the next round, and passes by a cell whose index is past its position.
+fn after_dequeue_reads_index(actor: &Actor, safe: bool, idx: u64) -> Actor
+    ensures { result ≡ after_dequeue_reads_index actor.now safe idx }
 {
     let pc = if actor.h < idx {
         Pc::Q8
@@ -289,8 +296,8 @@ fn turned_to_dequeue(actor: &Actor, safe: bool, idx: u64) -> Actor
 }
 
 /// Q5: the dequeue took the value that it had read.
-fn taken(actor: &Actor) -> (Actor, Option<OpReply>)
-    ensures { result ≡ taken actor.now.val actor.now }
+fn after_take(actor: &Actor) -> (Actor, Option<OpReply>)
+    ensures { result ≡ after_take actor.now.val actor.now }
 {
     match actor.val {
         Some(value) => (Actor::idle(), Some(OpReply::Value(value))),
@@ -298,11 +305,11 @@ fn taken(actor: &Actor) -> (Actor, Option<OpReply>)
     }
 }
 
-/// Q8: the dequeue goes to repair the tail where nothing is enqueued behind its position, else it draws the next one.
-fn checked_tail(actor: &Actor, count: u64) -> Actor
-    ensures { result ≡ checked_tail actor.now count }
+/// Q8: the dequeue goes to repair the tail if nothing is enqueued behind its position, else it draws the next one.
+fn after_empty_check(actor: &Actor, count: u64) -> Actor
+    ensures { result ≡ after_empty_check actor.now count }
 {
-    // The same as `count <= h + 1`, which could pass the end of a word.
+    // This is `count <= h + 1`, whose sum could overflow.
     let empty = count == 0 || count - 1 <= actor.h;
     let pc = if empty { Pc::Q9 } else { Pc::Q2 };
     Actor {
@@ -313,7 +320,7 @@ fn checked_tail(actor: &Actor, count: u64) -> Actor
 }
 
 /// Q9: the repair read the tail.
-fn repairing(actor: &Actor, closed: bool, count: u64) -> Actor
+fn with_repair_tail(actor: &Actor, closed: bool, count: u64) -> Actor
     ensures { result ≡ record actor.now { closed = closed; t = count; pc = Pc.Q10 } }
 {
     Actor {
@@ -324,14 +331,14 @@ fn repairing(actor: &Actor, closed: bool, count: u64) -> Actor
     }
 }
 
-/// Q11: the repair starts over where the tail changed, ends where it is closed or not behind the head, and else tries
-/// to move it.
-fn checked_again(actor: &Actor, closed: bool, count: u64) -> Actor
-    ensures { result ≡ checked_again actor.now closed count }
+/// Q11: the repair starts over if the tail changed, ends if it is closed or not behind the head, and else tries to move
+/// it.
+fn after_repair_check(actor: &Actor, closed: bool, count: u64) -> Actor
+    ensures { result ≡ after_repair_check actor.now closed count }
 {
     let pc = if closed == actor.closed && count == actor.t {
         if actor.closed || actor.h <= actor.t {
-            done(actor)
+            pc_after_empty_pass(actor)
         } else {
             Pc::Q12
         }
@@ -341,9 +348,10 @@ fn checked_again(actor: &Actor, closed: bool, count: u64) -> Actor
     Actor { pc, ..*actor }
 }
 
-/// Where a pass ends that found its segment empty: the first reads the next one, the second moves the queue's head.
-fn done(actor: &Actor) -> Pc
-    ensures { result ≡ done actor.now }
+/// The control point after a pass that found its segment empty: the first pass reads the next segment, the second moves
+/// the queue's head.
+fn pc_after_empty_pass(actor: &Actor) -> Pc
+    ensures { result ≡ pc_after_empty_pass actor.now }
 {
     if actor.pass == 1 { Pc::Q13 } else { Pc::Q14 }
 }
@@ -371,35 +379,35 @@ fn with_tail(actor: &Actor, tail: u64) -> Actor
     }
 }
 
-/// A2: the enqueue on the array is over where nobody had come to its slot yet, else it draws the next position.
-fn swapped_in(actor: &Actor, slot: ArrSlot) -> (Actor, Option<OpReply>)
-    ensures { result ≡ swapped_in actor.now slot }
+/// A2: the enqueue on the array is over if nobody had come to its slot yet, else it draws the next position.
+fn after_swap_in(actor: &Actor, slot: ArrSlot) -> (Actor, Option<OpReply>)
+    ensures { result ≡ after_swap_in actor.now slot }
 {
     match slot {
         ArrSlot::Empty => (Actor::idle(), Some(OpReply::Enqueued)),
-        ArrSlot::Top | ArrSlot::Value(_) => (goes(actor, Pc::A1), None),
+        ArrSlot::Top | ArrSlot::Value(_) => (with_pc(actor, Pc::A1), None),
     }
 }
 
 /// B2: the dequeue on the array replies the value that it found, else it looks at the tail.
-fn swapped_out(actor: &Actor, slot: ArrSlot) -> (Actor, Option<OpReply>)
-    ensures { result ≡ swapped_out actor.now slot }
+fn after_swap_out(actor: &Actor, slot: ArrSlot) -> (Actor, Option<OpReply>)
+    ensures { result ≡ after_swap_out actor.now slot }
 {
     match slot {
         ArrSlot::Value(value) => (Actor::idle(), Some(OpReply::Value(value))),
-        ArrSlot::Empty | ArrSlot::Top => (goes(actor, Pc::B3), None),
+        ArrSlot::Empty | ArrSlot::Top => (with_pc(actor, Pc::B3), None),
     }
 }
 
-/// B3: the dequeue on the array is over where nothing is enqueued behind its position, else it draws the next one.
-fn checked_array(actor: &Actor, count: u64) -> (Actor, Option<OpReply>)
-    ensures { result ≡ checked_array actor.now count }
+/// B3: the dequeue on the array is over if nothing is enqueued behind its position, else it draws the next one.
+fn after_array_empty_check(actor: &Actor, count: u64) -> (Actor, Option<OpReply>)
+    ensures { result ≡ after_array_empty_check actor.now count }
 {
-    // The same as `count <= h + 1`, which could pass the end of a word.
+    // This is `count <= h + 1`, whose sum could overflow.
     if count == 0 || count - 1 <= actor.h {
         (Actor::idle(), Some(OpReply::Empty))
     } else {
-        (goes(actor, Pc::B1), None)
+        (with_pc(actor, Pc::B1), None)
     }
 }
 
@@ -416,15 +424,15 @@ fn value_of(op: Option<Op>) -> u64
 /// The cell of this position on the actor's segment.
 fn cell_at<const R: usize>(actor: &Actor, position: u64) -> Place
     requires positive { 1 ≤ R }
-    requires small { R ≤ 64 }
+    requires small { R ≤ MOST_CELLS }
     ensures { result ≡ CellAt actor.now.crq (position % R) }
 {
     Place::Cell(actor.crq, (position % R as u64) as u8)
 }
 
-/// The slot of the array at this position, 0 to 63 where an actor asks for one.
+/// The slot of the array at this position, which is 0 to 63 for the actors of a world.
 fn slot_at(position: u64) -> Place
-    ensures { position ≤ 63 → result ≡ ArrCell position }
+    ensures { position < 2 ^ 8 → result ≡ ArrCell position }
 {
     Place::ArrCell(u8::try_from(position).unwrap_or(u8::MAX))
 }
@@ -466,7 +474,7 @@ fn put_value(actor: &Actor) -> Operation
 
 /// Q5, Q7: from the cell that was read, with this value, to an empty one for the next round.
 fn move_on<const R: usize>(actor: &Actor, val: Option<u64>) -> Operation
-    requires { R ≤ 64 }
+    requires { R ≤ MOST_CELLS }
     ensures { actor.now.h + R < 2 ^ 64
         → result ≡ Cas2 (cell_of actor.now.safe actor.now.idx val) (cell_of actor.now.safe (actor.now.h + R) None) }
 {

@@ -1,152 +1,295 @@
-//! The tests of the place table: what its rows for the fetch-and-add of an enqueue and for the array say.
+//! The tests of the table of control points: what each row asks for, which acts are refused, and how rows go on, as the
+//! table of docs/MODEL.md says it.
 
 use super::actors::{Act, Actor, Op, OpReply, Pc};
 use super::table::{after, need};
-use rd_cell::{Access, Answer, ArrSlot, Content, Operation, Place, Refusal, SegName};
+use rd_cell::{Access, Answer, ArrSlot, Cell, Content, Operation, Place, Refusal, SegName};
+
+/// The segments that the actor of these tests names: its own, the one that it made, and the next one.
+const CRQ: SegName = SegName { maker: 2, n: 1 };
+
+const NEW: SegName = SegName { maker: 1, n: 3 };
+
+const NEXT: SegName = SegName { maker: 3, n: 0 };
+
+/// An actor whose words all differ, in an enqueue of 7.
+const ACTOR: Actor = Actor {
+    pc: Pc::Idle,
+    op: Some(Op::Enq(7)),
+    crq: CRQ,
+    new: NEW,
+    next: NEXT,
+    t: 5,
+    h: 6,
+    closed: false,
+    val: Some(8),
+    safe: true,
+    idx: 3,
+    pass: 1,
+};
+
+/// The cells of its positions 5 and 6 in a ring of four.
+const AT_TAIL: Place = Place::Cell(CRQ, 1);
+
+const AT_HEAD: Place = Place::Cell(CRQ, 2);
+
+/// What it read from a cell, with the value and without it, and what it would put there.
+const READ: Cell = Cell {
+    safe: true,
+    idx: 3,
+    val: Some(8),
+};
+
+const READ_EMPTY: Cell = Cell { val: None, ..READ };
+
+const MARKED: Cell = Cell {
+    safe: false,
+    ..READ
+};
+
+const ENQUEUED: Cell = Cell {
+    safe: true,
+    idx: 5,
+    val: Some(7),
+};
+
+const NEXT_ROUND: Cell = Cell {
+    safe: true,
+    idx: 10,
+    val: None,
+};
+
+/// What it asks for at each control point, over rings of four cells.
+const NEEDS: &[(Pc, Access)] = &[
+    (Pc::E1, Access::At(Place::QTail, Operation::Read)),
+    (Pc::E2, Access::At(Place::Next(CRQ), Operation::Read)),
+    (
+        Pc::E3,
+        Access::At(
+            Place::QTail,
+            Operation::CasName {
+                old: CRQ,
+                new: NEXT,
+            },
+        ),
+    ),
+    (Pc::E4, Access::At(Place::Tail(CRQ), Operation::Add)),
+    (Pc::E5, Access::At(AT_TAIL, Operation::ReadValue)),
+    (Pc::E6, Access::At(AT_TAIL, Operation::ReadSafeAndIndex)),
+    (Pc::E7, Access::At(Place::Head(CRQ), Operation::Read)),
+    (
+        Pc::E8,
+        Access::At(
+            AT_TAIL,
+            Operation::Cas2 {
+                old: READ_EMPTY,
+                new: ENQUEUED,
+            },
+        ),
+    ),
+    (Pc::E9, Access::At(Place::Head(CRQ), Operation::Read)),
+    (Pc::E11, Access::At(Place::Tail(CRQ), Operation::Close)),
+    (Pc::E12, Access::Make(7)),
+    (
+        Pc::E13,
+        Access::At(Place::Next(CRQ), Operation::CasNext(NEW)),
+    ),
+    (
+        Pc::E14,
+        Access::At(Place::QTail, Operation::CasName { old: CRQ, new: NEW }),
+    ),
+    (Pc::Q1, Access::At(Place::QHead, Operation::Read)),
+    (Pc::Q2, Access::At(Place::Head(CRQ), Operation::Add)),
+    (Pc::Q3, Access::At(AT_HEAD, Operation::ReadValue)),
+    (Pc::Q4, Access::At(AT_HEAD, Operation::ReadSafeAndIndex)),
+    (
+        Pc::Q5,
+        Access::At(
+            AT_HEAD,
+            Operation::Cas2 {
+                old: READ,
+                new: NEXT_ROUND,
+            },
+        ),
+    ),
+    (
+        Pc::Q6,
+        Access::At(
+            AT_HEAD,
+            Operation::Cas2 {
+                old: READ,
+                new: MARKED,
+            },
+        ),
+    ),
+    (
+        Pc::Q7,
+        Access::At(
+            AT_HEAD,
+            Operation::Cas2 {
+                old: READ_EMPTY,
+                new: NEXT_ROUND,
+            },
+        ),
+    ),
+    (Pc::Q8, Access::At(Place::Tail(CRQ), Operation::Read)),
+    (Pc::Q9, Access::At(Place::Tail(CRQ), Operation::Read)),
+    (Pc::Q10, Access::At(Place::Head(CRQ), Operation::Read)),
+    (Pc::Q11, Access::At(Place::Tail(CRQ), Operation::Read)),
+    (
+        Pc::Q12,
+        Access::At(Place::Tail(CRQ), Operation::CasTail { old: 5, new: 6 }),
+    ),
+    (Pc::Q13, Access::At(Place::Next(CRQ), Operation::Read)),
+    (
+        Pc::Q14,
+        Access::At(
+            Place::QHead,
+            Operation::CasName {
+                old: CRQ,
+                new: NEXT,
+            },
+        ),
+    ),
+    (Pc::A1, Access::At(Place::ArrTail, Operation::AddArray)),
+    (
+        Pc::A2,
+        Access::At(Place::ArrCell(5), Operation::Swap(ArrSlot::Value(7))),
+    ),
+    (Pc::B1, Access::At(Place::ArrHead, Operation::AddArray)),
+    (
+        Pc::B2,
+        Access::At(Place::ArrCell(6), Operation::Swap(ArrSlot::Top)),
+    ),
+    (Pc::B3, Access::At(Place::ArrTail, Operation::Read)),
+];
+
+/// The calls.
+const CALLS: &[Act] = &[Act::Enq(9), Act::Deq, Act::AEnq(9), Act::ADeq];
 
 #[test]
-fn the_idle_record_is_all_zero_and_asks_for_nothing(rt: HostRuntime) {
-    let actor = Actor::idle();
-    assert_eq!(rt; actor.pc, Pc::Idle);
-    assert_eq!(rt; actor.op, None);
-    assert_eq!(rt;
-        (actor.crq, actor.new, actor.next),
-        (SegName::ROOT, SegName::ROOT, SegName::ROOT)
-    );
-    assert_eq!(rt; (actor.t, actor.h, actor.idx, actor.pass), (0, 0, 0, 0));
-    assert_eq!(rt; (actor.closed, actor.val, actor.safe), (false, None, false));
-    assert_eq!(rt; need::<4>(&actor, Act::Go), Err(Refusal::Idle));
-}
-
-#[test]
-fn a_poised_actor_asks_for_an_add_on_the_roots_tail(rt: HostRuntime) {
-    let actor = Actor::poised(7);
-    let poised = Actor {
-        pc: Pc::E4,
-        op: Some(Op::Enq(7)),
-        ..Actor::idle()
-    };
-    assert_eq!(rt; actor, poised);
-    let add = Access::At(Place::Tail(SegName::ROOT), Operation::Add);
-    assert_eq!(rt; need::<4>(&actor, Act::Go), Ok(add));
-}
-
-#[test]
-fn an_add_leads_to_the_cell_or_from_a_closed_ring_to_a_making(rt: HostRuntime) {
-    let actor = Actor::poised(7);
-    for (closed, next) in [(false, Pc::E5), (true, Pc::E12)] {
-        let found = Answer::Found(Content::Tail { closed, count: 9 });
-        let gone_on = Actor {
-            pc: next,
-            t: 9,
-            ..actor
-        };
-        assert_eq!(rt; after::<4>(&actor, Act::Go, found), (gone_on, None));
-    }
-}
-
-/// An actor that enqueues 7 on the array and stands at this place with this position drawn.
-fn enqueuing_at(pc: Pc, t: u64) -> Actor {
-    Actor {
-        t,
-        ..Actor::calling(pc, Op::AEnq(7))
-    }
-}
-
-/// An actor that dequeues from the array and stands at this place with this position drawn.
-fn dequeuing_at(pc: Pc, h: u64) -> Actor {
-    Actor {
-        h,
-        ..Actor::calling(pc, Op::ADeq)
-    }
-}
-
-#[test]
-fn a_call_on_the_array_begins_at_its_first_row(rt: HostRuntime) {
-    let idle = Actor::idle();
-    for (act, begun) in [
-        (Act::AEnq(7), Actor::calling(Pc::A1, Op::AEnq(7))),
-        (Act::ADeq, Actor::calling(Pc::B1, Op::ADeq)),
-    ] {
-        assert_eq!(rt; need::<4>(&idle, act), Ok(Access::NoPlace));
-        assert_eq!(rt; after::<4>(&idle, act, Answer::Nothing), (begun, None));
-        assert_eq!(rt; need::<4>(&begun, act), Err(Refusal::NotIdle));
+fn each_row_asks_for_its_access(rt: HostRuntime) {
+    for &(pc, access) in NEEDS {
+        let actor = Actor { pc, ..ACTOR };
+        assert_eq!(rt; need::<4>(&actor, Act::Go), Ok(access), "{pc:?}");
         assert_eq!(rt;
-            need::<4>(&begun, Act::Starve(true)),
-            Err(Refusal::NoChoice)
+            need::<4>(&actor, Act::Starve(true)),
+            Err(Refusal::NoChoice),
+            "{pc:?}"
+        );
+        for &call in CALLS {
+            assert_eq!(rt; need::<4>(&actor, call), Err(Refusal::NotIdle), "{pc:?}");
+        }
+    }
+}
+
+/// The first row of each call.
+const BEGINS: &[(Act, Pc, Op)] = &[
+    (Act::Enq(9), Pc::E1, Op::Enq(9)),
+    (Act::Deq, Pc::Q1, Op::Deq),
+    (Act::AEnq(9), Pc::A1, Op::AEnq(9)),
+    (Act::ADeq, Pc::B1, Op::ADeq),
+];
+
+#[test]
+fn an_idle_actor_takes_calls_alone(rt: HostRuntime) {
+    let idle = Actor::idle();
+    assert_eq!(rt; (idle.pc, idle.op, idle.val), (Pc::Idle, None, None));
+    assert_eq!(rt; (idle.t, idle.h, idle.idx, idle.pass), (0, 0, 0, 0));
+    assert!(rt; idle.words_fit());
+    assert_eq!(rt; need::<4>(&idle, Act::Go), Err(Refusal::Idle));
+    assert_eq!(rt; need::<4>(&idle, Act::Starve(false)), Err(Refusal::Idle));
+    for &(call, pc, op) in BEGINS {
+        let begun = Actor::calling(pc, op);
+        assert_eq!(rt;
+            begun,
+            Actor {
+                pc,
+                op: Some(op),
+                ..idle
+            },
+            "{call:?}"
+        );
+        assert_eq!(rt; need::<4>(&idle, call), Ok(Access::NoPlace), "{call:?}");
+        assert_eq!(rt;
+            after::<4>(&idle, call, Answer::Nothing),
+            (begun, None),
+            "{call:?}"
         );
     }
 }
 
 #[test]
-fn a_call_on_the_array_draws_its_position_from_its_own_counter(rt: HostRuntime) {
-    let enqueue = enqueuing_at(Pc::A1, 0);
-    let dequeue = dequeuing_at(Pc::B1, 0);
-    let at_tail = Access::At(Place::ArrTail, Operation::AddArray);
-    let at_head = Access::At(Place::ArrHead, Operation::AddArray);
-    let found = Answer::Found(Content::Number(5));
-    assert_eq!(rt; need::<4>(&enqueue, Act::Go), Ok(at_tail));
-    assert_eq!(rt;
-        after::<4>(&enqueue, Act::Go, found),
-        (enqueuing_at(Pc::A2, 5), None)
-    );
-    assert_eq!(rt; need::<4>(&dequeue, Act::Go), Ok(at_head));
-    assert_eq!(rt;
-        after::<4>(&dequeue, Act::Go, found),
-        (dequeuing_at(Pc::B2, 5), None)
-    );
-}
-
-#[test]
-fn an_array_enqueue_swaps_its_value_in_and_is_over_where_the_slot_was_empty(rt: HostRuntime) {
-    // Position 63 is the last one, and past the ring's four cells: the array does not wrap around.
-    for t in [0, 5, 63] {
-        let actor = enqueuing_at(Pc::A2, t);
-        let swap = Access::At(Place::ArrCell(t as u8), Operation::Swap(ArrSlot::Value(7)));
-        assert_eq!(rt; need::<4>(&actor, Act::Go), Ok(swap));
-        for (old, next) in [
-            (ArrSlot::Empty, (Actor::idle(), Some(OpReply::Enqueued))),
-            (ArrSlot::Top, (enqueuing_at(Pc::A1, t), None)),
-            (ArrSlot::Value(3), (enqueuing_at(Pc::A1, t), None)),
-        ] {
-            let found = Answer::Found(Content::Slot(old));
-            assert_eq!(rt; after::<4>(&actor, Act::Go, found), next);
-        }
+fn an_actor_that_is_to_choose_takes_choices_alone(rt: HostRuntime) {
+    let chooses = Actor {
+        pc: Pc::E10,
+        ..ACTOR
+    };
+    assert!(rt; !chooses.words_fit());
+    assert_eq!(rt; need::<4>(&chooses, Act::Go), Err(Refusal::NeedsChoice));
+    assert_eq!(rt; need::<4>(&chooses, Act::Deq), Err(Refusal::NotIdle));
+    for (starves, pc) in [(true, Pc::E11), (false, Pc::E4)] {
+        let act = Act::Starve(starves);
+        assert_eq!(rt; need::<4>(&chooses, act), Ok(Access::NoPlace));
+        let next = Actor { pc, ..chooses };
+        assert_eq!(rt; after::<4>(&chooses, act, Answer::Nothing), (next, None));
     }
 }
 
 #[test]
-fn an_array_dequeue_swaps_top_in_and_is_over_where_the_slot_had_a_value(rt: HostRuntime) {
-    for h in [0, 5, 63] {
-        let actor = dequeuing_at(Pc::B2, h);
-        let swap = Access::At(Place::ArrCell(h as u8), Operation::Swap(ArrSlot::Top));
-        assert_eq!(rt; need::<4>(&actor, Act::Go), Ok(swap));
-        for (old, next) in [
-            (ArrSlot::Value(3), (Actor::idle(), Some(OpReply::Value(3)))),
-            (ArrSlot::Empty, (dequeuing_at(Pc::B3, h), None)),
-            (ArrSlot::Top, (dequeuing_at(Pc::B3, h), None)),
-        ] {
-            let found = Answer::Found(Content::Slot(old));
-            assert_eq!(rt; after::<4>(&actor, Act::Go, found), next);
+fn an_add_leads_to_the_cell_or_from_a_closed_ring_to_a_making(rt: HostRuntime) {
+    let actor = Actor::poised(7);
+    assert_eq!(rt;
+        actor,
+        Actor {
+            pc: Pc::E4,
+            op: Some(Op::Enq(7)),
+            ..Actor::idle()
         }
+    );
+    for (closed, pc) in [(false, Pc::E5), (true, Pc::E12)] {
+        let found = Answer::Found(Content::Tail { closed, count: 9 });
+        let next = Actor { pc, t: 9, ..actor };
+        assert_eq!(rt; after::<4>(&actor, Act::Go, found), (next, None));
     }
 }
 
+/// How a call on the array goes on from a control point, by what was found there: to another, or over with a reply.
+const ARRAY: &[(Pc, Content, Result<Pc, OpReply>)] = &[
+    (
+        Pc::A2,
+        Content::Slot(ArrSlot::Empty),
+        Err(OpReply::Enqueued),
+    ),
+    (Pc::A2, Content::Slot(ArrSlot::Top), Ok(Pc::A1)),
+    (Pc::A2, Content::Slot(ArrSlot::Value(3)), Ok(Pc::A1)),
+    (
+        Pc::B2,
+        Content::Slot(ArrSlot::Value(3)),
+        Err(OpReply::Value(3)),
+    ),
+    (Pc::B2, Content::Slot(ArrSlot::Empty), Ok(Pc::B3)),
+    (Pc::B2, Content::Slot(ArrSlot::Top), Ok(Pc::B3)),
+    (Pc::B3, Content::Number(0), Err(OpReply::Empty)),
+    (Pc::B3, Content::Number(6), Err(OpReply::Empty)),
+    (Pc::B3, Content::Number(7), Err(OpReply::Empty)),
+    (Pc::B3, Content::Number(8), Ok(Pc::B1)),
+    (Pc::B3, Content::Number(64), Ok(Pc::B1)),
+];
+
 #[test]
-fn an_array_dequeue_replies_empty_where_the_tail_is_at_most_one_past_its_position(rt: HostRuntime) {
-    let actor = dequeuing_at(Pc::B3, 5);
-    let read = Access::At(Place::ArrTail, Operation::Read);
-    assert_eq!(rt; need::<4>(&actor, Act::Go), Ok(read));
-    let empty = (Actor::idle(), Some(OpReply::Empty));
-    let draws_on = (dequeuing_at(Pc::B1, 5), None);
-    for (tail, next) in [
-        (0, empty),
-        (5, empty),
-        (6, empty),
-        (7, draws_on),
-        (64, draws_on),
-    ] {
-        let found = Answer::Found(Content::Number(tail));
-        assert_eq!(rt; after::<4>(&actor, Act::Go, found), next);
+fn a_call_on_the_array_goes_on_by_what_it_found(rt: HostRuntime) {
+    for &(pc, content, then) in ARRAY {
+        let actor = Actor { pc, ..ACTOR };
+        let next = match then {
+            Ok(pc) => (Actor { pc, ..actor }, None),
+            Err(reply) => (Actor::idle(), Some(reply)),
+        };
+        let found = Answer::Found(content);
+        assert_eq!(rt;
+            after::<4>(&actor, Act::Go, found),
+            next,
+            "{pc:?} finds {content:?}"
+        );
     }
 }

@@ -1,14 +1,15 @@
-//! Which words fit an actor's place: one row a place, next to the place table. Every step keeps an actor so, and no other
-//! actor comes into a world.
+//! Which words fit an actor's control point, one row a control point. Every step keeps an actor so, and no other actor
+//! comes into a world.
 
 ghost use Rattle.std.specs.Prelude.{◌≡◌};
 ghost use Rattle.rd_actor.specs.Words.{words_fit, is_idle, enqueues, dequeues, array_enqueues, array_dequeues, enqueue_fits, pass_fits};
 
 use super::actors::{Actor, Op, Pc};
 use rd_cell::SegName;
+use rd_cell::limits::SLOTS;
 
 impl Actor {
-    /// Whether the words fit the place where the actor stands.
+    /// Whether the words fit the control point where the actor stands.
     pub fn words_fit(&self) -> bool
         ensures { result ≡ words_fit self.now }
     {
@@ -28,14 +29,14 @@ impl Actor {
             Pc::Q13 => dequeues(self.op) && self.pass == 1,
             Pc::Q14 => dequeues(self.op) && self.pass == 2,
             Pc::A1 => array_enqueues(self.op) && self.pass == 0,
-            Pc::A2 => array_enqueues(self.op) && self.pass == 0 && self.t <= 63,
+            Pc::A2 => array_enqueues(self.op) && self.pass == 0 && self.t < SLOTS as u64,
             Pc::B1 => array_dequeues(self.op) && self.pass == 0,
-            Pc::B2 | Pc::B3 => array_dequeues(self.op) && self.pass == 0 && self.h <= 63,
+            Pc::B2 | Pc::B3 => array_dequeues(self.op) && self.pass == 0 && self.h < SLOTS as u64,
         }
     }
 }
 
-/// Whether the words, the place apart, are those of an actor in no call.
+/// Whether the words, the control point apart, are those of an actor in no call.
 fn is_idle(actor: &Actor) -> bool
     ensures { result ≡ is_idle actor.now }
 {
@@ -52,7 +53,7 @@ fn is_idle(actor: &Actor) -> bool
         && actor.pass == 0
 }
 
-/// Whether this is an enqueue, in its pass 0.
+/// Whether this is an enqueue, which is in no pass.
 fn enqueue_fits(actor: &Actor) -> bool
     ensures { result ≡ enqueue_fits actor.now }
 {

@@ -1,229 +1,274 @@
--- Accesses that do not meet commute.
-use Rattle.std.proofs.Common.{◌≡◌, ℕ, zero, suc, ◌+◌, Bool, true, false, ◌==◌, ◌&&◌, ◌||◌, if◌then◌else◌, nat_lt, inl, inr, refl, sym, ◌∙◌, ap, ap₂, subst, Option, Some, None, is_some, Result, Ok, Err, IfOk}
+-- Accesses that do not interfere commute.
+use Rattle.std.proofs.Common.{◌≡◌, ℕ, zero, suc, ◌+◌, Bool, true, false, ◌==◌, ◌&&◌, ◌||◌, if◌then◌else◌, nat_lt, inl, inr, refl, sym, ◌∙◌, ap, ap₂, subst, Option, Some, None, is_some, option_map, Result, Ok, Err, IfOk}
 use Rattle.std.proofs.lemmas.Bool.{cases_Bool, both_ways, and_left, and_parts, and_from, and_cases, or_cases, or_left, or_right, or_parts, ne_eqb, cond_both, cond-false, false_from_ne_true}
 use Rattle.std.proofs.lemmas.Result.{IfOk-at_ok}
 use mathlib.Core.Path.{fun_ext}
+use Rattle.rd_cell.specs.declared.limits.TheConstants.{MOST_SEGMENTS}
 use Rattle.rd_cell.specs.declared.places.SegName.{SegName}
 use Rattle.rd_cell.specs.declared.places.Place.{Place}
-use Rattle.rd_cell.specs.declared.places.Place.TheVariants.{Head}
+use Rattle.rd_cell.specs.declared.places.Place.TheVariants.{QHead, QTail, Head, Tail, Next, Cell as CellAt, Whole as WholeOf, ArrHead, ArrTail, ArrCell}
 use Rattle.rd_cell.specs.declared.contents.Content.{Content}
-use Rattle.rd_cell.specs.declared.access.Operation.{Operation}
+use Rattle.rd_cell.specs.declared.operations.Operation.{Operation}
 use Rattle.rd_cell.specs.declared.access.Access.{Access}
 use Rattle.rd_cell.specs.declared.access.Access.TheVariants.{NoPlace, At, Make}
 use Rattle.rd_cell.specs.declared.refusal.Refusal.{Refusal}
-use Rattle.rd_cell.specs.Place.{is_name, is_of, is_place, covers}
-use Rattle.rd_cell.specs.Content.{Contents, holding}
-use Rattle.rd_cell.specs.Effect.{Effect, effect}
-use Rattle.rd_cell.specs.Access.{Performed, left_by, put, lay, made_from, made, done_at, operate, make, perform, meet}
-use Rattle.rd_cell.proofs.PlaceLemmas.{is_place-true, covers-refl, covers-other, overlaps-sym, overlaps_of_covers}
+use Rattle.rd_cell.specs.Places.{is_name, is_place, covers, some_covers, some_overlap}
+use Rattle.rd_cell.specs.Contents.{Contents, share, after_write_at, operand, holding}
+use Rattle.rd_cell.specs.Operations.{Effect, effect}
+use Rattle.rd_cell.specs.Access.{Performed, contents_after, number_made_from, number_made, effect_at, perform_effect, operate, make, perform}
+use Rattle.rd_cell.proofs.PlaceLemmas.{is_place-true, covers-refl, overlaps-sym, overlaps_of_covers}
 
--- whether an access at this place may change what is at q
-abbrev pub reaches : Option Place → Place → Bool
-reaches None q = false
-reaches (Some p) q = covers p q
+-- Writes
 
--- what an access did stays within its place, and within nothing where it only read
-pub record IsLocal (did : Performed) : Type 0 where
-  pub outside : (q : Place) (was : Option Content) → reaches did.done.place q ≡ false → did.leaves q was ≡ was
-  pub reading : (q : Place) (was : Option Content) → did.done.wrote ≡ false → did.leaves q was ≡ was
+-- what is no place that is covered has what it had
+pub after_write-outside : (p : Option Place) (given : Option Contents) (at : Contents) (q : Place) → some_covers p q ≡ false
+    → after_write_at p given at q ≡ at q
+after_write-outside None given at q h = refl
+after_write-outside (Some p) None at q h = refl
+after_write-outside (Some p) (Some given) at q h = cond-false (covers p q) (given q) (at q) h
 
-put-outside : (p : Place) (w : Option Content) (q : Place) (was : Option Content) → covers p q ≡ false → put p w q was ≡ was
-put-outside p None q was h = refl
-put-outside p (Some c) q was h = cond-false (is_place p q) (Some c) was (covers-other p q h)
+-- if nothing is written, every place has what it had
+pub after_write-none : (p : Option Place) (given : Option Contents) (at : Contents) (q : Place) → is_some given ≡ false
+    → after_write_at p given at q ≡ at q
+after_write-none None given at q h = refl
+after_write-none (Some p) None at q h = refl
+after_write-none (Some p) (Some given) at q h = cc
 
--- a write of another place leaves what was there
-pub put-other : (p : Place) (w : Option Content) (q : Place) (was : Option Content) → is_place p q ≡ false → put p w q was ≡ was
-put-other p None q was h = refl
-put-other p (Some c) q was h = cond-false (is_place p q) (Some c) was h
+-- what a place has after a write depends on what it had alone
+pub after_write-same : (p : Option Place) (given : Option Contents) (at at' : Contents) (q : Place) → at q ≡ at' q
+    → after_write_at p given at q ≡ after_write_at p given at' q
+after_write-same None given at at' q h = h
+after_write-same (Some p) None at at' q h = h
+after_write-same (Some p) (Some given) at at' q h = ap (λ (o : Option Content). if covers p q then given q else o) h
 
-put-none : (p : Place) (w : Option Content) (q : Place) (was : Option Content) → is_some w ≡ false → put p w q was ≡ was
-put-none p None q was h = refl
-put-none p (Some c) q was h = cc
+-- What an operation works on
 
-local-done_at : (p : Place) (c : Content) (r : Result Effect Refusal) → IfOk (done_at p c r) IsLocal
-local-done_at p c (Err x) = tt
-local-done_at p c (Ok e) = record {
-  outside = λ q was k. put-outside p e.writes q was k;
-  reading = λ q was k. put-none p e.writes q was k;
-}
+-- each place that its place covers has its share of it
+pub operand-covered : (p : Place) (at : Contents) (c : Content) (q : Place) → operand at p ≡ Some c → covers p q ≡ true
+    → at q ≡ share (Some c) q
+operand-covered (WholeOf s) at c q h k = cc
+operand-covered QHead at c q h k = ap at (sym (is_place-true QHead q k)) ∙ h
+operand-covered QTail at c q h k = ap at (sym (is_place-true QTail q k)) ∙ h
+operand-covered (Head s) at c q h k = ap at (sym (is_place-true (Head s) q k)) ∙ h
+operand-covered (Tail s) at c q h k = ap at (sym (is_place-true (Tail s) q k)) ∙ h
+operand-covered (Next s) at c q h k = ap at (sym (is_place-true (Next s) q k)) ∙ h
+operand-covered (CellAt s i) at c q h k = ap at (sym (is_place-true (CellAt s i) q k)) ∙ h
+operand-covered ArrHead at c q h k = ap at (sym (is_place-true ArrHead q k)) ∙ h
+operand-covered ArrTail at c q h k = ap at (sym (is_place-true ArrTail q k)) ∙ h
+operand-covered (ArrCell i) at c q h k = ap at (sym (is_place-true (ArrCell i) q k)) ∙ h
 
-local-operate : (p : Place) (op : Operation) (o : Option Content) → IfOk (operate p op o) IsLocal
-local-operate p op None = tt
-local-operate p op (Some c) = local-done_at p c (effect op c)
+-- its place covers itself alone
+pub operand-plain : (p : Place) (at : Contents) (c : Content) (q : Place) → operand at p ≡ Some c → covers p q ≡ is_place p q
+operand-plain (WholeOf s) at c q h = cc
+operand-plain QHead at c q h = refl
+operand-plain QTail at c q h = refl
+operand-plain (Head s) at c q h = refl
+operand-plain (Tail s) at c q h = refl
+operand-plain (Next s) at c q h = refl
+operand-plain (CellAt s i) at c q h = refl
+operand-plain ArrHead at c q h = refl
+operand-plain ArrTail at c q h = refl
+operand-plain (ArrCell i) at c q h = refl
 
-lay-outside : (s : SegName) (new : Contents) (q : Place) (was : Option Content) → is_of s q ≡ false → lay s new q was ≡ was
-lay-outside s new q was h = cond-false (is_of s q) (new q) was h
+-- it is the same if the places that its place covers have the same
+pub operand-same : (p : Place) (at at' : Contents) → ((q : Place) → covers p q ≡ true → at q ≡ at' q) → operand at p ≡ operand at' p
+operand-same (WholeOf s) at at' same = refl
+operand-same QHead at at' same = same QHead refl
+operand-same QTail at at' same = same QTail refl
+operand-same (Head s) at at' same = same (Head s) (covers-refl (Head s))
+operand-same (Tail s) at at' same = same (Tail s) (covers-refl (Tail s))
+operand-same (Next s) at at' same = same (Next s) (covers-refl (Next s))
+operand-same (CellAt s i) at at' same = same (CellAt s i) (covers-refl (CellAt s i))
+operand-same ArrHead at at' same = same ArrHead refl
+operand-same ArrTail at at' same = same ArrTail refl
+operand-same (ArrCell i) at at' same = same (ArrCell i) (covers-refl (ArrCell i))
 
-local-make : (R : ℕ) (s : SegName) (x : ℕ) → IfOk (make R s x) IsLocal
-local-make R s x =
-    cond_both (nat_lt s.n 65535) _ _ (λ (r : Result Performed Refusal). IfOk r IsLocal)
-    (λ e. record { outside = λ q was k. lay-outside s (holding R x) q was k; reading = λ q was k. cc })
-    (λ e. tt)
+-- a place has no content of its own only if it is not there, or is the whole of a segment
+pub operand-own : (p : Place) (at : Contents) → ((s : SegName) → at (WholeOf s) ≡ None) → operand at p ≡ at p
+operand-own (WholeOf s) at none = sym (none s)
+operand-own QHead at none = refl
+operand-own QTail at none = refl
+operand-own (Head s) at none = refl
+operand-own (Tail s) at none = refl
+operand-own (Next s) at none = refl
+operand-own (CellAt s i) at none = refl
+operand-own ArrHead at none = refl
+operand-own ArrTail at none = refl
+operand-own (ArrCell i) at none = refl
 
--- what an access does is local
-pub local-perform : (R actor : ℕ) (at : Contents) (x : Access) → IfOk (perform R actor at x) IsLocal
-local-perform R actor at NoPlace = record { outside = λ q was k. refl; reading = λ q was k. refl }
-local-perform R actor at (At p op) = local-operate p op (at p)
-local-perform R actor at (Make x) = local-make R (record { maker = actor; n = made at actor }) x
+-- an operation notes the content that it worked on
+old-effect : (p : Place) (c : Content) (r : Result Effect Refusal) → IfOk (perform_effect p c r) (λ did. did.old ≡ Some c)
+old-effect p c (Err x) = tt
+old-effect p c (Ok e) = refl
 
--- of an access that was refused nothing is to be shown, and of one that was not, what holds where it was not
-pub performed_local : (R actor : ℕ) (at : Contents) (x : Access) (did : Performed) → perform R actor at x ≡ Ok did → IsLocal did
-performed_local R actor at x did h = IfOk-at_ok IsLocal h (local-perform R actor at x)
+pub operate-old : (p : Place) (op : Operation) (c : Content) (did : Performed) → operate p op (Some c) ≡ Ok did → did.old ≡ Some c
+operate-old p op c did h = IfOk-at_ok (λ (d : Performed). d.old ≡ Some c) h (old-effect p c (effect op c))
 
--- Two accesses that don't meet, or of which neither wrote
+-- Two accesses that don't interfere: their places don't overlap, or neither wrote
 
--- whether one access interferes with another: they meet, and at least one of them wrote
-abbrev pub clash : Performed → Performed → Bool
-clash d e = meet d.done.place e.done.place && (d.done.wrote || e.done.wrote)
+-- whether one access interferes with another
+abbrev pub interferes : Performed → Performed → Bool
+interferes d e = some_overlap d.place e.place && (is_some d.writes || is_some e.writes)
 
-pub meet-sym : (p q : Option Place) → meet p q ≡ true → meet q p ≡ true
-meet-sym (Some p) (Some q) h = overlaps-sym p q h
-meet-sym None q h = cc
-meet-sym (Some p) None h = cc
+some_overlap-sym : (p q : Option Place) → some_overlap p q ≡ true → some_overlap q p ≡ true
+some_overlap-sym (Some p) (Some q) h = overlaps-sym p q h
+some_overlap-sym None q h = cc
+some_overlap-sym (Some p) None h = cc
 
--- what both reach, both meet at
-reach_meet : (p q : Option Place) (r : Place) → reaches p r ≡ true → reaches q r ≡ true → meet p q ≡ true
-reach_meet (Some p) (Some q) r h k = overlaps_of_covers p q r h k
-reach_meet None q r h k = cc
-reach_meet (Some p) None r h k = cc
+-- two places that cover a third overlap
+both_cover : (p q : Option Place) (r : Place) → some_covers p r ≡ true → some_covers q r ≡ true → some_overlap p q ≡ true
+both_cover (Some p) (Some q) r h k = overlaps_of_covers p q r h k
+both_cover None q r h k = cc
+both_cover (Some p) None r h k = cc
 
 or-swap : (a b : Bool) → (a || b) ≡ true → (b || a) ≡ true
 or-swap a b h = elim (or_cases a b h) [ inl x ↦ or_right b a x | inr y ↦ or_left b a y ]
 
-pub clash-sym : (d e : Performed) → clash d e ≡ false → clash e d ≡ false
-clash-sym d e h =
-    false_from_ne_true (clash e d) (λ k.
-    let both = and_parts (meet e.done.place d.done.place) (e.done.wrote || d.done.wrote) k in
-    both_ways (clash d e) h (and_from (meet d.done.place e.done.place) (d.done.wrote || e.done.wrote) (meet-sym e.done.place d.done.place both.0) (or-swap e.done.wrote d.done.wrote both.1)))
+pub interferes-sym : (d e : Performed) → interferes d e ≡ false → interferes e d ≡ false
+interferes-sym d e h =
+    false_from_ne_true (interferes e d) (λ k.
+    let both = and_parts (some_overlap e.place d.place) (is_some e.writes || is_some d.writes) k in
+    both_ways (interferes d e) h
+    (and_from (some_overlap d.place e.place) (is_some d.writes || is_some e.writes) (some_overlap-sym e.place d.place both.0) (or-swap (is_some e.writes) (is_some d.writes) both.1)))
 
--- where two accesses don't clash and both reach a place, neither wrote
-neither_wrote : (d e : Performed) (r : Place) → clash d e ≡ false → reaches d.done.place r ≡ true → reaches e.done.place r ≡ true
-    → (d.done.wrote ≡ false) × (e.done.wrote ≡ false)
-neither_wrote d e r h k l =
-    elim (and_cases (meet d.done.place e.done.place) (d.done.wrote || e.done.wrote) h) [
-      | inl m ↦ absurd (both_ways (meet d.done.place e.done.place) m (reach_meet d.done.place e.done.place r k l))
-      | inr w ↦ or_parts d.done.wrote e.done.wrote w
+-- if two accesses don't interfere and the places of both cover a third, the first did not write
+first_read : (d e : Performed) (r : Place) → interferes d e ≡ false → some_covers d.place r ≡ true → some_covers e.place r ≡ true
+    → is_some d.writes ≡ false
+first_read d e r h k l =
+    elim (and_cases (some_overlap d.place e.place) (is_some d.writes || is_some e.writes) h) [
+      | inl m ↦ absurd (both_ways (some_overlap d.place e.place) m (both_cover d.place e.place r k l))
+      | inr w ↦ (or_parts (is_some d.writes) (is_some e.writes) w).0
     ]
 
--- where the second reaches, the first leaves what was there
-stays : (d e : Performed) (r : Place) (was : Option Content) → IsLocal d → clash d e ≡ false → reaches e.done.place r ≡ true → d.leaves r was ≡ was
-stays d e r was local h k =
-    elim (cases_Bool (reaches d.done.place r))
-    [ inl m ↦ local.reading r was (neither_wrote d e r h m k).0 | inr m ↦ local.outside r was m ]
+-- if the place of the second covers it, the first leaves what was there
+stays : (d e : Performed) (at : Contents) (r : Place) → interferes d e ≡ false → some_covers e.place r ≡ true
+    → contents_after d at r ≡ at r
+stays d e at r h k =
+    elim (cases_Bool (some_covers d.place r)) [
+      | inl m ↦ after_write-none d.place d.writes at r (first_read d e r h m k)
+      | inr m ↦ after_write-outside d.place d.writes at r m
+    ]
 
 -- at each place, the two orders leave the same
-pub leaves_swap : (d e : Performed) (r : Place) (was : Option Content) → IsLocal d → IsLocal e → clash d e ≡ false
-    → e.leaves r (d.leaves r was) ≡ d.leaves r (e.leaves r was)
-leaves_swap d e r was ld le h =
-    elim (cases_Bool (reaches e.done.place r)) [
-      | inl m ↦ ap (e.leaves r) (stays d e r was ld h m) ∙ sym (stays d e r (e.leaves r was) ld h m)
-      | inr m ↦ le.outside r (d.leaves r was) m ∙ sym (ap (d.leaves r) (le.outside r was m))
+after_swap-at : (d e : Performed) (at : Contents) (r : Place) → interferes d e ≡ false
+    → contents_after e (contents_after d at) r ≡ contents_after d (contents_after e at) r
+after_swap-at d e at r h =
+    elim (cases_Bool (some_covers e.place r)) [
+      | inl m ↦ after_write-same e.place e.writes (contents_after d at) at r (stays d e at r h m) ∙ sym (stays d e (contents_after e at) r h m)
+      | inr m ↦
+          after_write-outside e.place e.writes (contents_after d at) r m
+          ∙ sym (after_write-same d.place d.writes (contents_after e at) at r (after_write-outside e.place e.writes at r m))
     ]
 
 -- the two orders leave the same contents
-pub left_by_swap : (d e : Performed) (at : Contents) → IsLocal d → IsLocal e → clash d e ≡ false
-    → left_by e (left_by d at) ≡ left_by d (left_by e at)
-left_by_swap d e at ld le h = fun_ext (λ r. leaves_swap d e r (at r) ld le h)
+pub after_swap : (d e : Performed) (at : Contents) → interferes d e ≡ false
+    → contents_after e (contents_after d at) ≡ contents_after d (contents_after e at)
+after_swap d e at h = fun_ext (λ r. after_swap-at d e at r h)
 
 -- The makers don't see each other
 
-pub made_from-same : (more : ℕ) (at at' : Contents) (maker n : ℕ)
+pub number_made_from-same : (more : ℕ) (at at' : Contents) (maker n : ℕ)
     → ((k : ℕ) → is_some (at (Head (record { maker = maker; n = k }))) ≡ is_some (at' (Head (record { maker = maker; n = k }))))
-    → made_from more at maker n ≡ made_from more at' maker n
-unfolding made_from
-made_from-same zero at at' maker n same = refl
-made_from-same (suc more) at at' maker n same =
-    ap₂ (λ (t : Bool) (m : ℕ). if t then m else n) (same n) (made_from-same more at at' maker (n + 1) same)
+    → number_made_from more at maker n ≡ number_made_from more at' maker n
+unfolding number_made_from
+number_made_from-same zero at at' maker n same = refl
+number_made_from-same (suc more) at at' maker n same =
+    ap₂ (λ (t : Bool) (m : ℕ). if t then m else n) (same n) (number_made_from-same more at at' maker (n + 1) same)
 
-pub made-same : (at at' : Contents) (maker : ℕ)
+pub number_made-same : (at at' : Contents) (maker : ℕ)
     → ((k : ℕ) → is_some (at (Head (record { maker = maker; n = k }))) ≡ is_some (at' (Head (record { maker = maker; n = k }))))
-    → made at maker ≡ made at' maker
-unfolding made
-made-same at at' maker same = made_from-same 65535 at at' maker 0 same
+    → number_made at maker ≡ number_made at' maker
+unfolding number_made
+number_made-same at at' maker same = number_made_from-same MOST_SEGMENTS at at' maker 0 same
 
--- an access that is no making leaves something where something was, and nothing where nothing was
 -- an operation on a place that is there keeps which places are there
-pub put-is_some : (p : Place) (c : Content) (w : Option Content) (at : Contents) (q : Place) → at p ≡ Some c → is_some (put p w q (at q)) ≡ is_some (at q)
-put-is_some p c None at q h = refl
-put-is_some p c (Some d) at q h =
-    cond_both (is_place p q) (Some d) (at q) (λ (o : Option Content). is_some o ≡ is_some (at q))
-    (λ e. sym (ap is_some (ap at (sym (is_place-true p q e)) ∙ h))) (λ e. refl)
+pub after-is_some : (p : Place) (c : Content) (e : Effect) (at : Contents) (q : Place) → operand at p ≡ Some c
+    → is_some (contents_after (effect_at p c e) at q) ≡ is_some (at q)
+after-is_some p c e at q h =
+    elim e.writes as (λ w. is_some (after_write_at (Some p) (option_map (λ (d : Content). share (Some d)) w) at q) ≡ is_some (at q)) [
+      | None ↦ refl
+      | Some d ↦
+          cond_both (covers p q) (Some d) (at q) (λ (o : Option Content). is_some o ≡ is_some (at q))
+          (λ k. sym (ap is_some (operand-covered p at c q h k))) (λ k. refl)
+    ]
 
-keeps-done_at : (p : Place) (c : Content) (r : Result Effect Refusal) (at : Contents) (q : Place) → at p ≡ Some c
-    → IfOk (done_at p c r) (λ did. is_some (did.leaves q (at q)) ≡ is_some (at q))
-keeps-done_at p c (Err x) at q h = tt
-keeps-done_at p c (Ok e) at q h = put-is_some p c e.writes at q h
+keeps-effect : (p : Place) (c : Content) (r : Result Effect Refusal) (at : Contents) (q : Place) → operand at p ≡ Some c
+    → IfOk (perform_effect p c r) (λ did. is_some (contents_after did at q) ≡ is_some (at q))
+keeps-effect p c (Err x) at q h = tt
+keeps-effect p c (Ok e) at q h = after-is_some p c e at q h
 
-keeps-operate : (p : Place) (op : Operation) (o : Option Content) (at : Contents) (q : Place) → at p ≡ o
-    → IfOk (operate p op o) (λ did. is_some (did.leaves q (at q)) ≡ is_some (at q))
+keeps-operate : (p : Place) (op : Operation) (o : Option Content) (at : Contents) (q : Place) → operand at p ≡ o
+    → IfOk (operate p op o) (λ did. is_some (contents_after did at q) ≡ is_some (at q))
 keeps-operate p op None at q h = tt
-keeps-operate p op (Some c) at q h = keeps-done_at p c (effect op c) at q h
+keeps-operate p op (Some c) at q h = keeps-effect p c (effect op c) at q h
 
 other_maker : (a b m n : ℕ) → (a ≡ b → ⊥) → is_name (record { maker = a; n = m }) (record { maker = b; n = n }) ≡ false
 other_maker a b m n ne = and_left (a == b) (m == n) (ne_eqb a b ne)
 
 keeps-make : (R : ℕ) (actor n : ℕ) (x : ℕ) (at : Contents) (maker k : ℕ) → (actor ≡ maker → ⊥)
-    → IfOk (make R (record { maker = actor; n = n }) x) (λ did. is_some (did.leaves (Head (record { maker = maker; n = k })) (at (Head (record { maker = maker; n = k })))) ≡ is_some (at (Head (record { maker = maker; n = k }))))
+    → IfOk (make R (record { maker = actor; n = n }) x) (λ did. is_some (contents_after did at (Head (record { maker = maker; n = k }))) ≡ is_some (at (Head (record { maker = maker; n = k }))))
 keeps-make R actor n x at maker k ne =
     let h = Head (record { maker = maker; n = k }) in
-    cond_both (nat_lt n 65535) _ _ (λ (r : Result Performed Refusal). IfOk r (λ did. is_some (did.leaves h (at h)) ≡ is_some (at h)))
-    (λ e. ap is_some (lay-outside (record { maker = actor; n = n }) (holding R x) h (at h) (other_maker actor maker n k ne)))
+    cond_both (nat_lt n MOST_SEGMENTS) _ _ (λ (r : Result Performed Refusal). IfOk r (λ did. is_some (contents_after did at h) ≡ is_some (at h)))
+    (λ e. ap is_some (cond-false (is_name (record { maker = actor; n = n }) (record { maker = maker; n = k })) (holding R x h) (at h) (other_maker actor maker n k ne)))
     (λ e. tt)
 
 keeps-perform : (R actor : ℕ) (at : Contents) (x : Access) (maker k : ℕ) → (actor ≡ maker → ⊥)
-    → IfOk (perform R actor at x) (λ did. is_some (did.leaves (Head (record { maker = maker; n = k })) (at (Head (record { maker = maker; n = k })))) ≡ is_some (at (Head (record { maker = maker; n = k }))))
+    → IfOk (perform R actor at x) (λ did. is_some (contents_after did at (Head (record { maker = maker; n = k }))) ≡ is_some (at (Head (record { maker = maker; n = k }))))
 keeps-perform R actor at NoPlace maker k ne = refl
-keeps-perform R actor at (At p op) maker k ne = keeps-operate p op (at p) at (Head (record { maker = maker; n = k })) refl
-keeps-perform R actor at (Make x) maker k ne = keeps-make R actor (made at actor) x at maker k ne
+keeps-perform R actor at (At p op) maker k ne = keeps-operate p op (operand at p) at (Head (record { maker = maker; n = k })) refl
+keeps-perform R actor at (Make x) maker k ne = keeps-make R actor (number_made at actor) x at maker k ne
 
 -- an access by one actor leaves the number of segments that another has made
-pub made_left : (R actor : ℕ) (at : Contents) (x : Access) (did : Performed) (maker : ℕ) → (actor ≡ maker → ⊥)
-    → perform R actor at x ≡ Ok did → made (left_by did at) maker ≡ made at maker
-made_left R actor at x did maker ne h =
-    made-same (left_by did at) at maker (λ k.
+pub number_made-after : (R actor : ℕ) (at : Contents) (x : Access) (did : Performed) (maker : ℕ) → (actor ≡ maker → ⊥)
+    → perform R actor at x ≡ Ok did → number_made (contents_after did at) maker ≡ number_made at maker
+number_made-after R actor at x did maker ne h =
+    number_made-same (contents_after did at) at maker (λ k.
     let q = Head (record { maker = maker; n = k }) in
-    IfOk-at_ok (λ (d : Performed). is_some (d.leaves q (at q)) ≡ is_some (at q)) h (keeps-perform R actor at x maker k ne))
+    IfOk-at_ok (λ (d : Performed). is_some (contents_after d at q) ≡ is_some (at q)) h (keeps-perform R actor at x maker k ne))
 
 -- The law
 
--- the place that an access reads and perhaps writes, where it is one
+-- the place that an access reads and perhaps writes, if there is one
 abbrev pub place_of : Access → Option Place
 place_of NoPlace = None
 place_of (At p op) = Some p
 place_of (Make x) = None
 
--- where an access finds the same content at its place, and its actor has made as many segments, it does the same
+-- if an access finds the same content at its place, and its actor has made as many segments, it does the same
 pub perform_same : (R actor : ℕ) (at at' : Contents) (x : Access)
-    → ((p : Place) → place_of x ≡ Some p → at p ≡ at' p) → made at actor ≡ made at' actor
+    → ((p : Place) → place_of x ≡ Some p → operand at p ≡ operand at' p) → number_made at actor ≡ number_made at' actor
     → perform R actor at x ≡ perform R actor at' x
 perform_same R actor at at' NoPlace same count = refl
 perform_same R actor at at' (At p op) same count = ap (operate p op) (same p refl)
 perform_same R actor at at' (Make x) same count = ap (λ (n : ℕ). make R (record { maker = actor; n = n }) x) count
 
-place-done_at : (p : Place) (c : Content) (r : Result Effect Refusal) → IfOk (done_at p c r) (λ did. did.done.place ≡ Some p)
-place-done_at p c (Err x) = tt
-place-done_at p c (Ok e) = refl
+place-effect : (p : Place) (c : Content) (r : Result Effect Refusal) → IfOk (perform_effect p c r) (λ did. did.place ≡ Some p)
+place-effect p c (Err x) = tt
+place-effect p c (Ok e) = refl
 
-place-operate : (p : Place) (op : Operation) (o : Option Content) → IfOk (operate p op o) (λ did. did.done.place ≡ Some p)
+pub place-operate : (p : Place) (op : Operation) (o : Option Content) → IfOk (operate p op o) (λ did. did.place ≡ Some p)
 place-operate p op None = tt
-place-operate p op (Some c) = place-done_at p c (effect op c)
+place-operate p op (Some c) = place-effect p c (effect op c)
+
+pub place-make : (R : ℕ) (s : SegName) (x : ℕ) → IfOk (make R s x) (λ did. did.place ≡ Some (WholeOf s))
+place-make R s x =
+    cond_both (nat_lt s.n MOST_SEGMENTS) _ _ (λ (r : Result Performed Refusal). IfOk r (λ did. did.place ≡ Some (WholeOf s))) (λ e. refl) (λ e. tt)
 
 -- what an access did was at its place
 pub place_performed : (R actor : ℕ) (at : Contents) (x : Access) (did : Performed) (p : Place) → perform R actor at x ≡ Ok did
-    → place_of x ≡ Some p → did.done.place ≡ Some p
+    → place_of x ≡ Some p → did.place ≡ Some p
 place_performed R actor at NoPlace did p h e = cc
-place_performed R actor at (At q op) did p h e = IfOk-at_ok (λ (d : Performed). d.done.place ≡ Some q) h (place-operate q op (at q)) ∙ e
+place_performed R actor at (At q op) did p h e = IfOk-at_ok (λ (d : Performed). d.place ≡ Some q) h (place-operate q op (operand at q)) ∙ e
 place_performed R actor at (Make x) did p h e = cc
 
-reaches-own : (o : Option Place) (p : Place) → o ≡ Some p → reaches o p ≡ true
-reaches-own o p h = subst (λ (x : Option Place). reaches x p ≡ true) (sym h) (covers-refl p)
-
--- an access finds the same at its place before and after another that doesn't clash with what it did, wherever
+-- an access finds the same at its place before and after another that doesn't interfere with what it did, wherever
 -- it did that
 pub perform_around : (R a b : ℕ) (at there : Contents) (x y : Access) (d e : Performed) → (a ≡ b → ⊥)
-    → perform R a at x ≡ Ok d → perform R b there y ≡ Ok e → clash d e ≡ false
-    → perform R b (left_by d at) y ≡ perform R b at y
+    → perform R a at x ≡ Ok d → perform R b there y ≡ Ok e → interferes d e ≡ false
+    → perform R b (contents_after d at) y ≡ perform R b at y
 perform_around R a b at there x y d e ne h k free =
-    perform_same R b (left_by d at) at y
-    (λ p own. stays d e p (at p) (performed_local R a at x d h) free (reaches-own e.done.place p (place_performed R b there y e p k own)))
-    (made_left R a at x d b ne h)
+    perform_same R b (contents_after d at) at y
+    (λ p own. operand-same p (contents_after d at) at (λ q covered.
+    stays d e at q free (subst (λ (o : Option Place). some_covers o q ≡ true) (sym (place_performed R b there y e p k own)) covered)))
+    (number_made-after R a at x d b ne h)

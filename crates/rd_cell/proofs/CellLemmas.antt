@@ -2,7 +2,7 @@
 use Rattle.std.proofs.Common.{◌≡◌, ℕ, Bool, true, false, ◌==◌, ◌&&◌, Option, Some, None, refl, ap, eqb-true, eq-eqb, subst}
 use Rattle.std.proofs.lemmas.Bool.{and_parts, and_from}
 use Rattle.rd_cell.specs.declared.cells.Cell.{Cell}
-use Rattle.rd_cell.specs.Content.{is_bit, is_value, is_cell}
+use Rattle.rd_cell.specs.Cells.{is_bit, is_value, is_cell}
 
 is_bit-true : (a b : Bool) → is_bit a b ≡ true → a ≡ b
 is_bit-true true true h = refl

@@ -2,3 +2,4 @@ pub mod PlaceLemmas
 pub mod AccessLemmas
 pub mod ListLemmas
 pub mod CellLemmas
+pub mod EffectLemmas

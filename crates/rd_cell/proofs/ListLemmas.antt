@@ -28,7 +28,7 @@ slice_get-push_other [] x (suc k) ne = refl
 slice_get-push_other (y ∷ xs) x zero ne = refl
 slice_get-push_other (y ∷ xs) x (suc k) ne = slice_get-push_other xs x k (λ e. ne (ap suc e))
 
--- the first n elements: no n-th, and no other changed where there is at most one more
+-- the first n elements: no n-th, and no other changed if there is at most one more
 pub slice_get-take_same : {X : Type 0} (xs : List X) (n : ℕ) → slice_get (take n xs) n ≡ None
 slice_get-take_same [] zero = refl
 slice_get-take_same [] (suc n) = refl

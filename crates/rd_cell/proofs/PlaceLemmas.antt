@@ -4,7 +4,7 @@ use Rattle.std.proofs.lemmas.Bool.{and_parts, and_from, or_cases, or_left, or_ri
 use Rattle.rd_cell.specs.declared.places.SegName.{SegName}
 use Rattle.rd_cell.specs.declared.places.Place.{Place}
 use Rattle.rd_cell.specs.declared.places.Place.TheVariants.{QHead, QTail, Head, Tail, Next, Cell, Whole, ArrHead, ArrTail, ArrCell}
-use Rattle.rd_cell.specs.Place.{is_name, is_of, is_place, covers, overlaps}
+use Rattle.rd_cell.specs.Places.{is_name, is_of, is_place, covers, overlaps}
 
 -- the test answers true for one name alone
 pub is_name-true : (s t : SegName) → is_name s t ≡ true → s ≡ t
@@ -48,7 +48,7 @@ is_place-refl (ArrCell i) = eq-eqb i i refl
 one_name : (s t u : SegName) → is_name s u ≡ true → is_name t u ≡ true → is_name s t ≡ true
 one_name s t u h k = subst (λ (x : SegName). is_name s x ≡ true) (sym (is_name-true t u k)) h
 
--- one segment has two names only where they are one
+-- one segment has two names only if they are equal
 pub is_of-name : (s t : SegName) (q : Place) → is_of s q ≡ true → is_of t q ≡ true → is_name s t ≡ true
 is_of-name s t (Head u) h k = one_name s t u h k
 is_of-name s t (Tail u) h k = one_name s t u h k

@@ -1,4 +1,5 @@
-pub mod Place
-pub mod Content
-pub mod Effect
+pub mod Places
+pub mod Cells
+pub mod Contents
+pub mod Operations
 pub mod Access

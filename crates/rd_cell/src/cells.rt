@@ -15,8 +15,8 @@ pub struct Cell {
 }
 
 impl Cell {
-    /// Compare-and-swap of the whole cell (CAS2): where the cell equals `old` it becomes `new` and the answer is
-    /// true, also where `old` and `new` are equal; else it stays and the answer is false.
+    /// Compare-and-swap of the whole cell (CAS2): if the cell equals `old` it becomes `new` and the answer is true, even
+    /// if `old` and `new` are equal; else it stays as it is and the answer is false.
     pub fn cas2(&mut self, old: Cell, new: Cell) -> bool
         ensures won { IsTrue result ↔ (self.old ≡ old) }
         ensures swapped { OnTrue result (self.new ≡ new) }

@@ -1,7 +1,8 @@
 //! Segment names, the ten kinds of place, and which places overlap.
 
 ghost use Rattle.std.specs.Prelude.{◌≡◌};
-ghost use Rattle.rd_cell.specs.Place.{covers, is_array, is_of, overlaps, segment_of};
+ghost use Rattle.rd_cell.specs.declared.places.TheConstants.SegName.{ROOT};
+ghost use Rattle.rd_cell.specs.Places.{covers, is_array, is_of, overlaps, root, segment_of};
 
 /// The name of a segment: (maker, n) is the one that this actor made as its n-th, from 0. The root is (0, 0).
 #[derive(Clone, Copy, Debug, PartialEq, Eq)]
@@ -92,3 +93,8 @@ pub fn is_of(name: SegName, place: Place) -> bool
         Place::QHead | Place::QTail | Place::ArrHead | Place::ArrTail | Place::ArrCell(_) => false,
     }
 }
+
+/// The constant is the root of the definitions: what maker 0 made first.
+pub fn the_root_is_the_first_of_no_maker()
+    ensures { ROOT ≡ root }
+{}

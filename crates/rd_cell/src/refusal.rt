@@ -1,5 +1,9 @@
 //! Why a command is refused.
 
+ghost use Rattle.std.specs.Prelude.{◌≡◌};
+
+use std::alloc::AllocError;
+
 /// The refusals of the machine, the journal and the bookmarks, by their numbers 1 to 20.
 #[derive(Clone, Copy, Debug, PartialEq, Eq)]
 pub enum Refusal {
@@ -41,6 +45,17 @@ pub enum Refusal {
     NotATake,
     /// 19: there is no such place.
     NoSuchPlace,
-    /// 20: a growth was refused for want of memory.
+    /// 20: memory was refused.
     NoMemory,
+}
+
+/// Memory that was refused is a refusal like the others.
+impl From<AllocError> for Refusal {
+    ghost use Rattle.rd_cell.specs.declared.refusal.Refusal.TheVariants.{NoMemory};
+
+    ghost from_gives = { λ _ refusal. refusal ≡ NoMemory };
+
+    fn from(_error: AllocError) -> Refusal {
+        Refusal::NoMemory
+    }
 }

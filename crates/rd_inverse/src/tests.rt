@@ -1,4 +1,4 @@
-//! The test of the inverse: the last of two steps of the poised world is undone whole.
+//! The tests of the inverse: the last of two steps of the poised world is undone whole, and so is each step of a run.
 
 use super::inverse::unstep;
 use rd_actor::{Act, Actor, Pc};
@@ -7,7 +7,7 @@ use rd_step::{Entry, Event, World};
 use std::test::Fail;
 
 /// Makes a step and undoes it.
-fn step_and_unstep(world: &mut World<4>, event: Event) -> Result<Entry, Refusal> {
+fn step_and_unstep(world: &mut World<1>, event: Event) -> Result<Entry, Refusal> {
     match world.step(event) {
         Err(refusal) => Err(refusal),
         Ok(entry) => {
@@ -19,7 +19,7 @@ fn step_and_unstep(world: &mut World<4>, event: Event) -> Result<Entry, Refusal>
 
 #[test]
 fn an_undone_add_gives_the_counter_and_the_actor_back(rt: HostRuntime) -> Result<(), Fail> {
-    let mut world = World::<4>::poised(rt.alloc(), 4)?;
+    let mut world = World::<1>::poised(rt.alloc(), 4)?;
     let first = Event {
         actor: 1,
         act: Act::Go,
@@ -43,5 +43,40 @@ fn an_undone_add_gives_the_counter_and_the_actor_back(rt: HostRuntime) -> Result
         count: 1,
     };
     assert_eq!(rt; world.content(Place::Tail(SegName::ROOT)), Some(tail));
+    Ok(())
+}
+
+/// A run over rings of one cell that reads and writes every kind of place: an actor, an act, and how often it does it.
+const RUN: &[(u8, Act, u8)] = &[
+    (1, Act::Enq(7), 1),
+    (1, Act::Go, 6),
+    (2, Act::Enq(8), 1),
+    (2, Act::Go, 10),
+    (3, Act::Deq, 1),
+    (3, Act::Go, 5),
+    (4, Act::AEnq(5), 1),
+    (4, Act::Go, 2),
+    (1, Act::ADeq, 1),
+    (1, Act::Go, 2),
+];
+
+#[test]
+fn each_step_of_a_run_is_undone_and_made_again(rt: HostRuntime) -> Result<(), Fail> {
+    let mut world = World::<1>::fresh(rt.alloc(), 4)?;
+    for &(actor, act, times) in RUN {
+        for _ in 0..times {
+            let event = Event { actor, act };
+            let before = world.actor(actor);
+            let entry = step_and_unstep(&mut world, event)?;
+            assert_eq!(rt; world.actor(actor), before, "{entry:?}");
+            if let Some(place) = entry.place {
+                assert_eq!(rt; world.content(place), entry.old_content, "{entry:?}");
+            }
+            assert_eq!(rt; world.step(event), Ok(entry));
+        }
+    }
+    for actor in 1..5 {
+        assert_eq!(rt; world.actor(actor), Some(Actor::idle()));
+    }
     Ok(())
 }

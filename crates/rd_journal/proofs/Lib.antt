@@ -5,3 +5,10 @@ pub mod Calls
 pub mod Words
 pub mod There
 pub mod RoomLemmas
+pub mod LoneUndo
+pub mod RedoneLast
+pub mod Switching
+pub mod Gathering
+pub mod RolledBack
+pub mod Closures
+pub mod RolledForward

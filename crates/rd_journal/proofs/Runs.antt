@@ -1,26 +1,24 @@
 -- Runs and their records: two runs joined, the last step of a run, and a journal that gains or loses a step.
 use Rattle.std.proofs.Common.{◌≡◌, ℕ, refl, sym, ◌∙◌, ap, subst, List, [], ◌∷◌, ◌++◌, Result, Ok, Err}
-use Rattle.std.proofs.lemmas.List.{map-append}
-use Rattle.rd_cell.specs.declared.refusal.Refusal.{Refusal}
-use Rattle.rd_actor.specs.World.{World}
+use Rattle.std.proofs.lemmas.List.{append-nil, map-append}
+use Rattle.rd_step.specs.Prelude.{Refusal, World, Stepped, step, unstep, Ran, run, IsFree, IsWellFormed}
 use Rattle.rd_step.specs.declared.entries.Event.{Event}
 use Rattle.rd_step.specs.declared.entries.Entry.{Entry}
-use Rattle.rd_step.specs.Step.{Stepped, step, unstepped}
-use Rattle.rd_step.specs.Run.{Ran, preceded, then_on, run}
-use Rattle.rd_step.specs.Laws.{WasStepped}
-use Rattle.rd_step.specs.WellFormed.{IsWellFormed}
+use Rattle.rd_step.specs.Run.{run_preceded_by, run_from_step}
+use Rattle.rd_step.specs.Laws.{WasStepped, IsTakenOut}
 use Rattle.rd_step.proofs.Steps.{took}
 use Rattle.rd_step.proofs.Inverse.{undoes, ran_on, run-cons}
-use Rattle.rd_step.proofs.Removal.{run_keeps}
-use Rattle.rd_journal.specs.Journal.{Journal, events, rewound, start_of, records_of, IsRun}
+use Rattle.rd_step.proofs.Keeps.{keeps}
+use Rattle.rd_step.proofs.Removal.{run_keeps, taken_out}
+use Rattle.rd_journal.specs.Journal.{Journal, events, world_before, start_of, run_entries, IsRun}
 
 -- an answer that is no refusal
-abbrev pub answered : {X : Type 0} → X → Result X Refusal
-answered x = Ok x
+abbrev pub as_ok : {X : Type 0} → X → Result X Refusal
+as_ok x = Ok x
 
 -- equal answers are of equal values
-pub answered-same : {X : Type 0} (x y : X) → answered x ≡ Ok y → x ≡ y
-answered-same x y h = cc
+pub as_ok-same : {X : Type 0} (x y : X) → as_ok x ≡ Ok y → x ≡ y
+as_ok-same x y h = cc
 
 -- a step's record names its event
 pub step_event : (R : ℕ) (w : World) (e : Event) (s : Stepped) → step R w e ≡ Ok s → s.entry.event ≡ e
@@ -39,6 +37,26 @@ run_joined R s (e ∷ es) fs r q h k =
     run-cons R s e (es ++ fs) ran.one (record { world = q.world; entries = ran.rest.entries ++ q.entries }) ran.goes joined
     ∙ ap (λ (x : Ran). Ok (record { world = q.world; entries = x.entries ++ q.entries })) ran.joins
 
+-- a run that left at least one record, taken apart at its first step
+pub record Beginning (R : ℕ) (s : World) (x : Entry) (xs : List Entry) (w : World) : Type 0 where
+  pub after : World
+  pub goes : step R s x.event ≡ Ok (record { world = after; entry = x })
+  pub rest : run R after (events xs) ≡ Ok (record { world = w; entries = xs })
+
+pub beginning : (R : ℕ) (s : World) (x : Entry) (xs : List Entry) (w : World)
+    → run R s (events (x ∷ xs)) ≡ Ok (record { world = w; entries = x ∷ xs }) → Beginning R s x xs w
+beginning R s x xs w h =
+    let ran = ran_on R s x.event (events xs) (record { world = w; entries = x ∷ xs }) h in
+    let there : ran.rest.world ≡ w = ap (λ (y : Ran). y.world) ran.joins in
+    let all : ran.one.entry ∷ ran.rest.entries ≡ x ∷ xs = ap (λ (y : Ran). y.entries) ran.joins in
+    let its : ran.one.entry ≡ x = cc in
+    let others : ran.rest.entries ≡ xs = cc in
+    record {
+      after = ran.one.world;
+      goes = ran.goes ∙ (λ i. Ok (record { world = ran.one.world; entry = its i }));
+      rest = ran.goes_on ∙ (λ i. Ok (record { world = there i; entries = others i }));
+    }
+
 -- a run taken apart at one of its steps
 pub record Middle (R : ℕ) (s : World) (xs : List Entry) (x : Entry) (ys : List Entry) (w : World) : Type 0 where
   pub before : World
@@ -50,62 +68,41 @@ pub record Middle (R : ℕ) (s : World) (xs : List Entry) (x : Entry) (ys : List
 pub middle : (R : ℕ) (s : World) (xs : List Entry) (x : Entry) (ys : List Entry) (w : World)
     → run R s (events (xs ++ x ∷ ys)) ≡ Ok (record { world = w; entries = xs ++ x ∷ ys }) → Middle R s xs x ys w
 middle R s [] x ys w h =
-    let ran = ran_on R s x.event (events ys) (record { world = w; entries = x ∷ ys }) h in
-    let there : ran.rest.world ≡ w = ap (λ (y : Ran). y.world) ran.joins in
-    let all : ran.one.entry ∷ ran.rest.entries ≡ x ∷ ys = ap (λ (y : Ran). y.entries) ran.joins in
-    let its : ran.one.entry ≡ x = cc in
-    let others : ran.rest.entries ≡ ys = cc in
-    let last : answered ran.rest ≡ Ok (record { world = w; entries = ys }) = λ i. Ok (record { world = there i; entries = others i }) in
-    record {
-      before = s;
-      ran = refl;
-      after = ran.one.world;
-      goes = ran.goes ∙ (λ i. Ok (record { world = ran.one.world; entry = its i }));
-      rest = ran.goes_on ∙ last;
-    }
+    let first = beginning R s x ys w h in
+    record { before = s; ran = refl; after = first.after; goes = first.goes; rest = first.rest }
 middle R s (y ∷ xs) x ys w h =
-    let ran = ran_on R s y.event (events (xs ++ x ∷ ys)) (record { world = w; entries = y ∷ (xs ++ x ∷ ys) }) h in
-    let there : ran.rest.world ≡ w = ap (λ (z : Ran). z.world) ran.joins in
-    let all : ran.one.entry ∷ ran.rest.entries ≡ y ∷ (xs ++ x ∷ ys) = ap (λ (z : Ran). z.entries) ran.joins in
-    let its : ran.one.entry ≡ y = cc in
-    let others : ran.rest.entries ≡ xs ++ x ∷ ys = cc in
-    let last : answered ran.rest ≡ Ok (record { world = w; entries = xs ++ x ∷ ys }) =
-    λ i. answered (record { world = there i; entries = others i }) in
-    let m = middle R ran.one.world xs x ys w (ran.goes_on ∙ last) in
+    let first = beginning R s y (xs ++ x ∷ ys) w h in
+    let m = middle R first.after xs x ys w first.rest in
     record {
       before = m.before;
-      ran =
-          run-cons R s y.event (events xs) ran.one (record { world = m.before; entries = xs }) ran.goes m.ran
-          ∙ ap (λ (z : Entry). answered (record { world = m.before; entries = z ∷ xs })) its;
+      ran = run-cons R s y.event (events xs) (record { world = first.after; entry = y }) (record { world = m.before; entries = xs }) first.goes m.ran;
       after = m.after;
       goes = m.goes;
       rest = m.rest;
     }
 
--- a run of at least one step, taken apart at its last step
-pub record LastStep (R : ℕ) (s : World) (xs : List Entry) (x : Entry) (w : World) : Type 0 where
-  pub before : World
-  pub ran : run R s (events xs) ≡ Ok (record { world = before; entries = xs })
-  pub goes : step R before x.event ≡ Ok (record { world = w; entry = x })
-
-pub last_step : (R : ℕ) (s : World) (xs : List Entry) (x : Entry) (w : World)
-    → run R s (events (xs ++ x ∷ [])) ≡ Ok (record { world = w; entries = xs ++ x ∷ [] }) → LastStep R s xs x w
-last_step R s xs x w h =
-    let m = middle R s xs x [] w h in
-    let ends : record { world = m.after; entries = [] } ≡ record { world = w; entries = [] } = cc (m.rest) in
-    let there : m.after ≡ w = ap (λ (y : Ran). y.world) ends in
-    record { before = m.before; ran = m.ran; goes = m.goes ∙ (λ i. Ok (record { world = there i; entry = x })) }
+-- the loop lemma for runs: putting back the old words of a run's records gives the world that it began in
+pub goes_back : (R : ℕ) (s w : World) (xs : List Entry) → IsWellFormed R s → run R s (events xs) ≡ Ok (record { world = w; entries = xs })
+    → world_before w xs ≡ s
+goes_back R s w [] formed h =
+    let last : as_ok (record { world = s; entries = [] }) ≡ Ok (record { world = w; entries = [] }) = h in
+    sym (ap (λ (y : Ran). y.world) (as_ok-same (record { world = s; entries = [] }) (record { world = w; entries = [] }) last))
+goes_back R s w (x ∷ xs) formed h =
+    let first = beginning R s x xs w h in
+    let one : Stepped = record { world = first.after; entry = x } in
+    ap (λ (u : World). unstep u x) (goes_back R first.after w xs (keeps R s x.event one formed first.goes) first.rest)
+    ∙ undoes R s x.event one formed first.goes
 
 -- putting back begins with the last record
-pub rewound-last : (w : World) (xs : List Entry) (x : Entry) → rewound w (xs ++ x ∷ []) ≡ rewound (unstepped w x) xs
-rewound-last w [] x = refl
-rewound-last w (y ∷ ys) x = ap (λ (v : World). unstepped v y) (rewound-last w ys x)
+pub world_before-last : (w : World) (xs : List Entry) (x : Entry) → world_before w (xs ++ x ∷ []) ≡ world_before (unstep w x) xs
+world_before-last w [] x = refl
+world_before-last w (y ∷ ys) x = ap (λ (v : World). unstep v y) (world_before-last w ys x)
 
 -- a step leaves the start as it was
 pub start_stays : (R : ℕ) (w v : World) (xs : List Entry) (x : Entry) (e : Event) → IsWellFormed R w
-    → step R w e ≡ Ok (record { world = v; entry = x }) → rewound v (xs ++ x ∷ []) ≡ rewound w xs
+    → step R w e ≡ Ok (record { world = v; entry = x }) → world_before v (xs ++ x ∷ []) ≡ world_before w xs
 start_stays R w v xs x e formed h =
-    rewound-last v xs x ∙ ap (λ (u : World). rewound u xs) (undoes R w e (record { world = v; entry = x }) formed h)
+    world_before-last v xs x ∙ ap (λ (u : World). world_before u xs) (undoes R w e (record { world = v; entry = x }) formed h)
 
 -- a journal's world is well-formed
 pub now_formed : (R : ℕ) (j : Journal) → IsRun R j → IsWellFormed R j.world
@@ -113,7 +110,7 @@ now_formed R j runs = run_keeps R (start_of j) (events j.live) (record { world =
 
 -- a step from a journal's world, with its record put last, makes a journal, whatever runs on from there being undone
 pub grown : (R : ℕ) (w v : World) (xs zs ys : List Entry) (x : Entry) (e : Event) → IsRun R (record { world = w; live = xs; undone = zs })
-    → step R w e ≡ Ok (record { world = v; entry = x }) → records_of (run R v (events ys)) ≡ Ok ys
+    → step R w e ≡ Ok (record { world = v; entry = x }) → run_entries (run R v (events ys)) ≡ Ok ys
     → IsRun R (record { world = v; live = xs ++ x ∷ []; undone = ys })
 grown R w v xs zs ys x e runs h rest =
     let formed = now_formed R (record { world = w; live = xs; undone = zs }) runs in
@@ -126,57 +123,106 @@ grown R w v xs zs ys x e runs h rest =
       well_formed = subst (λ (u : World). IsWellFormed R u) (sym same) runs.well_formed;
       live_ran =
           ap (λ (u : World). run R u (events (xs ++ x ∷ []))) same
-          ∙ ap (run R (rewound w xs)) (map-append (λ (y : Entry). y.event) xs (x ∷ []))
-          ∙ run_joined R (rewound w xs) (events xs) (x.event ∷ []) (record { world = w; entries = xs })
+          ∙ ap (run R (world_before w xs)) (map-append (λ (y : Entry). y.event) xs (x ∷ []))
+          ∙ run_joined R (world_before w xs) (events xs) (x.event ∷ []) (record { world = w; entries = xs })
           (record { world = v; entries = x ∷ [] }) runs.live_ran last;
       undone_run_on = rest;
     }
 
 -- records that run on from a step's world run on, after the step's record, from the world before it
-preceded_records : (x : Entry) (r : Result Ran Refusal) (ys : List Entry) → records_of r ≡ Ok ys → records_of (preceded x r) ≡ Ok (x ∷ ys)
-preceded_records x (Err refusal) ys h = cc
-preceded_records x (Ok r) ys h = let e : r.entries ≡ ys = cc in ap (λ (zs : List Entry). Ok (x ∷ zs)) e
+preceded_entries : (x : Entry) (r : Result Ran Refusal) (ys : List Entry) → run_entries r ≡ Ok ys → run_entries (run_preceded_by x r) ≡ Ok (x ∷ ys)
+preceded_entries x (Err refusal) ys h = cc
+preceded_entries x (Ok r) ys h = let e : r.entries ≡ ys = cc in ap (λ (zs : List Entry). Ok (x ∷ zs)) e
+
+-- where a live step on which no later one depends is taken out of a run, what is left is a run of the same start, with
+-- the step's record in front of the undone ones
+pub record MayTakeOut (R : ℕ) (w : World) (xs ys zs : List Entry) (x : Entry) : Type 0 where
+  pub was : WasStepped R w x
+  pub start : (v : World) → IsTakenOut R w v x was → world_before v (xs ++ ys) ≡ world_before w (xs ++ x ∷ ys)
+  pub runs : (v : World) → IsTakenOut R w v x was → IsRun R (record { world = v; live = xs ++ ys; undone = x ∷ zs })
+
+pub may_take_out : (R : ℕ) (w : World) (xs ys zs : List Entry) (x : Entry) → IsRun R (record { world = w; live = xs ++ x ∷ ys; undone = zs })
+    → IsFree x ys → MayTakeOut R w xs ys zs x
+may_take_out R w xs ys zs x runs free = record { was = was; start = start; runs = left }
+  where
+    s : World
+    s = world_before w (xs ++ x ∷ ys)
+
+    m : Middle R s xs x ys w
+    m = middle R s xs x ys w runs.live_ran
+
+    was : WasStepped R w x
+    was = record {
+      start = m.before;
+      well_formed = run_keeps R s (events xs) (record { world = m.before; entries = xs }) runs.well_formed m.ran;
+      event = x.event;
+      stepped = record { world = m.after; entry = x };
+      goes = m.goes;
+      its_entry = refl;
+      later = events ys;
+      ran = record { world = w; entries = ys };
+      went_on = m.rest;
+      here = refl;
+      free = free;
+    }
+
+    others : (v : World) → IsTakenOut R w v x was → run R s (events (xs ++ ys)) ≡ Ok (record { world = v; entries = xs ++ ys })
+    others v out =
+        ap (run R s) (map-append (λ (y : Entry). y.event) xs ys)
+        ∙ run_joined R s (events xs) (events ys) (record { world = m.before; entries = xs }) (record { world = v; entries = ys }) m.ran out.rest
+
+    start : (v : World) → IsTakenOut R w v x was → world_before v (xs ++ ys) ≡ s
+    start v out = goes_back R s v (xs ++ ys) runs.well_formed (others v out)
+
+    left : (v : World) → IsTakenOut R w v x was → IsRun R (record { world = v; live = xs ++ ys; undone = x ∷ zs })
+    left v out = record {
+      well_formed = subst (λ (u : World). IsWellFormed R u) (sym (start v out)) runs.well_formed;
+      live_ran = ap (λ (u : World). run R u (events (xs ++ ys))) (start v out) ∙ others v out;
+      undone_run_on =
+          ap (λ (r : Result Stepped Refusal). run_entries (run_from_step (λ u. run R u (events zs)) r)) out.again
+          ∙ preceded_entries x (run R w (events zs)) zs runs.undone_run_on;
+    }
 
 -- the last live step of a journal may be undone, and the journal that is left, with its record in front of the undone
 -- ones, is one of the same start
 pub record MayUndo (R : ℕ) (w : World) (xs ys : List Entry) (x : Entry) : Type 0 where
   pub was : WasStepped R w x
-  pub runs : IsRun R (record { world = unstepped w x; live = xs; undone = x ∷ ys })
+  pub runs : IsRun R (record { world = unstep w x; live = xs; undone = x ∷ ys })
 
 pub shrunk : (R : ℕ) (w : World) (xs ys : List Entry) (x : Entry) → IsRun R (record { world = w; live = xs ++ x ∷ []; undone = ys })
     → MayUndo R w xs ys x
 shrunk R w xs ys x runs =
-    let start = rewound w (xs ++ x ∷ []) in
-    let last = last_step R start xs x w runs.live_ran in
-    let formed : IsWellFormed R last.before =
-    run_keeps R start (events xs) (record { world = last.before; entries = xs }) runs.well_formed last.ran in
-    let back : unstepped w x ≡ last.before = undoes R last.before x.event (record { world = w; entry = x }) formed last.goes in
-    let same : start ≡ rewound (unstepped w x) xs = rewound-last w xs x in
+    let may = may_take_out R w xs [] ys x runs tt in
     record {
-      was = record {
-        start = last.before;
-        well_formed = formed;
-        event = x.event;
-        stepped = record { world = w; entry = x };
-        goes = last.goes;
-        its_entry = refl;
-        later = [];
-        ran = record { world = w; entries = [] };
-        went_on = refl;
-        here = refl;
-        free = tt;
-      };
-      runs = record {
-        well_formed = subst (λ (u : World). IsWellFormed R u) same runs.well_formed;
-        live_ran =
-            ap (λ (u : World). run R u (events xs)) (sym same) ∙ last.ran
-            ∙ (λ i. Ok (record { world = sym back i; entries = xs }));
-        undone_run_on =
-            ap (λ (u : World). records_of (run R u (x.event ∷ events ys))) back
-            ∙ ap (λ (r : Result Stepped Refusal). records_of (then_on (λ v. run R v (events ys)) r)) last.goes
-            ∙ preceded_records x (run R w (events ys)) ys runs.undone_run_on;
-      };
+      was = may.was;
+      runs =
+          subst (λ (l : List Entry). IsRun R (record { world = unstep w x; live = l; undone = x ∷ ys })) (append-nil xs)
+          (may.runs (unstep w x) (taken_out R w x may.was));
     }
+
+-- the first step of records that run on from a world: it goes, with its record, and the rest run on from there
+pub record FirstStep (R : ℕ) (w : World) (y : Entry) (ys : List Entry) : Type 0 where
+  pub after : World
+  pub goes : step R w y.event ≡ Ok (record { world = after; entry = y })
+  pub rest : run_entries (run R after (events ys)) ≡ Ok ys
+
+first_ran : (R : ℕ) (w : World) (y : Entry) (ys : List Entry) (o : Result Ran Refusal) → run R w (events (y ∷ ys)) ≡ o → run_entries o ≡ Ok (y ∷ ys)
+    → FirstStep R w y ys
+first_ran R w y ys (Err refusal) h k = cc
+first_ran R w y ys (Ok r) h k =
+    let ran = ran_on R w y.event (events ys) r h in
+    let all : ran.one.entry ∷ ran.rest.entries ≡ r.entries = ap (λ (z : Ran). z.entries) ran.joins in
+    let found : r.entries ≡ y ∷ ys = cc (k) in
+    let its : ran.one.entry ≡ y = cc in
+    let others : ran.rest.entries ≡ ys = cc in
+    record {
+      after = ran.one.world;
+      goes = ran.goes ∙ (λ i. Ok (record { world = ran.one.world; entry = its i }));
+      rest = ap run_entries ran.goes_on ∙ ap (λ (zs : List Entry). Ok zs) others;
+    }
+
+pub first_step : (R : ℕ) (w : World) (y : Entry) (ys : List Entry) → run_entries (run R w (events (y ∷ ys))) ≡ Ok (y ∷ ys) → FirstStep R w y ys
+first_step R w y ys h = first_ran R w y ys (run R w (events (y ∷ ys))) refl h
 
 -- the first undone step of a journal: it goes, with its stored record, and the rest run on from there
 pub record MayRedo (R : ℕ) (w : World) (xs ys : List Entry) (y : Entry) : Type 0 where
@@ -184,20 +230,12 @@ pub record MayRedo (R : ℕ) (w : World) (xs ys : List Entry) (y : Entry) : Type
   pub goes : step R w y.event ≡ Ok (record { world = after; entry = y })
   pub runs : IsRun R (record { world = after; live = xs ++ y ∷ []; undone = ys })
 
-ran_first : (R : ℕ) (w : World) (xs ys : List Entry) (y : Entry) → IsRun R (record { world = w; live = xs; undone = y ∷ ys })
-    → (o : Result Ran Refusal) → run R w (events (y ∷ ys)) ≡ o → records_of o ≡ Ok (y ∷ ys) → MayRedo R w xs ys y
-ran_first R w xs ys y runs (Err refusal) h k = cc
-ran_first R w xs ys y runs (Ok r) h k =
-    let ran = ran_on R w y.event (events ys) r h in
-    let all : ran.one.entry ∷ ran.rest.entries ≡ r.entries = ap (λ (z : Ran). z.entries) ran.joins in
-    let found : r.entries ≡ y ∷ ys = cc (k) in
-    let its : ran.one.entry ≡ y = cc in
-    let others : ran.rest.entries ≡ ys = cc in
-    let goes : step R w y.event ≡ Ok (record { world = ran.one.world; entry = y }) =
-    ran.goes ∙ (λ i. Ok (record { world = ran.one.world; entry = its i })) in
-    let rest : records_of (run R ran.one.world (events ys)) ≡ Ok ys = ap records_of ran.goes_on ∙ ap (λ (zs : List Entry). Ok zs) others in
-    record { after = ran.one.world; goes = goes; runs = grown R w ran.one.world xs (y ∷ ys) ys y y.event runs goes rest }
-
 pub may_redo : (R : ℕ) (w : World) (xs ys : List Entry) (y : Entry) → IsRun R (record { world = w; live = xs; undone = y ∷ ys })
     → MayRedo R w xs ys y
-may_redo R w xs ys y runs = ran_first R w xs ys y runs (run R w (events (y ∷ ys))) refl runs.undone_run_on
+may_redo R w xs ys y runs =
+    let first = first_step R w y ys runs.undone_run_on in
+    record {
+      after = first.after;
+      goes = first.goes;
+      runs = grown R w first.after xs (y ∷ ys) ys y y.event runs first.goes first.rest;
+    }

@@ -2,15 +2,13 @@
 use Rattle.std.proofs.Common.{◌≡◌, ℕ, suc, ◌+◌, ◌-◌, ◌<◌, refl, sym, ◌∙◌, ap, subst, List, [], ◌∷◌, ◌++◌, length, take, drop, get_or, Result, Ok, is_ok, IsOk, arith}
 use Rattle.std.proofs.Math.ListN.{set}
 use Rattle.std.proofs.lemmas.List.{map-append}
-use Rattle.rd_cell.specs.declared.refusal.Refusal.{Refusal}
-use Rattle.rd_actor.specs.World.{World}
+use Rattle.rd_step.specs.Prelude.{Refusal, World, Stepped, step, unstep}
 use Rattle.rd_step.specs.declared.entries.Event.{Event}
 use Rattle.rd_step.specs.declared.entries.Entry.{Entry}
-use Rattle.rd_step.specs.Step.{Stepped, step, unstepped}
 use Rattle.rd_journal.specs.Journal.{Journal, journal_of, events, IsRun}
-use Rattle.rd_journal.specs.State.{State, state_of, moved_back, moved_forward, times}
+use Rattle.rd_journal.specs.State.{State, state_of, back_one, forward_one, times}
 use Rattle.rd_journal.proofs.ListLemmas.{front_of, last_of, take_one_more, drop_one_less, set-itself}
-use Rattle.rd_journal.proofs.Runs.{rewound-last, start_stays, now_formed, MayUndo, shrunk, MayRedo, may_redo}
+use Rattle.rd_journal.proofs.Runs.{world_before-last, start_stays, now_formed, MayUndo, shrunk, MayRedo, may_redo}
 
 -- the record x stands at position k of the records
 pub record StandsAt (es : List Entry) (k : ℕ) (x : Entry) : Type 0 where
@@ -37,31 +35,31 @@ may_undo R w es k m x at e runs =
 
 -- what is left after undoing is a run
 pub undone_runs : (R : ℕ) (w v : World) (es : List Entry) (k m : ℕ) (x : Entry) → StandsAt es k x → m ≡ k + 1 → IsRun R (journal_of w es m)
-    → v ≡ unstepped w x → IsRun R (journal_of v es k)
+    → v ≡ unstep w x → IsRun R (journal_of v es k)
 undone_runs R w v es k m x at e runs back =
     subst (λ (u : World). IsRun R (journal_of u es k)) (sym back)
-    (subst (λ (j : Journal). IsRun R j) (sym (before (unstepped w x) es k x at)) (may_undo R w es k m x at e runs).runs)
+    (subst (λ (j : Journal). IsRun R j) (sym (before (unstep w x) es k x at)) (may_undo R w es k m x at e runs).runs)
 
 -- the state of a journal whose last live record moved to the front of the undone ones
 back_state : (w : World) (xs ys : List Entry) (x : Entry)
-    → state_of (record { world = unstepped w x; live = xs; undone = x ∷ ys })
-    ≡ moved_back (state_of (record { world = w; live = xs ++ x ∷ []; undone = ys }))
+    → state_of (record { world = unstep w x; live = xs; undone = x ∷ ys })
+    ≡ back_one (state_of (record { world = w; live = xs ++ x ∷ []; undone = ys }))
 back_state w xs ys x =
     let all : events (xs ++ x ∷ []) ≡ events xs ++ x.event ∷ [] = map-append (λ (y : Entry). y.event) xs (x ∷ []) in
     let live : take (length (events (xs ++ x ∷ [])) - 1) (events (xs ++ x ∷ [])) ≡ events xs =
     ap (λ (l : List Event). take (length l - 1) l) all ∙ front_of (events xs) x.event in
     let last : drop (length (events (xs ++ x ∷ [])) - 1) (events (xs ++ x ∷ [])) ≡ x.event ∷ [] =
     ap (λ (l : List Event). drop (length l - 1) l) all ∙ last_of (events xs) x.event in
-    λ i. record { start = sym (rewound-last w xs x) i; live = sym live i; undone = sym last i ++ events ys }
+    λ i. record { start = sym (world_before-last w xs x) i; live = sym live i; undone = sym last i ++ events ys }
 
-pub undone_state : (w v : World) (es : List Entry) (k m : ℕ) (x : Entry) → StandsAt es k x → m ≡ k + 1 → v ≡ unstepped w x
-    → state_of (journal_of v es k) ≡ moved_back (state_of (journal_of w es m))
+pub undone_state : (w v : World) (es : List Entry) (k m : ℕ) (x : Entry) → StandsAt es k x → m ≡ k + 1 → v ≡ unstep w x
+    → state_of (journal_of v es k) ≡ back_one (state_of (journal_of w es m))
 undone_state w v es k m x at e back =
     ap (λ (u : World). state_of (journal_of u es k)) back
-    ∙ ap state_of (before (unstepped w x) es k x at)
+    ∙ ap state_of (before (unstep w x) es k x at)
     ∙ back_state w (take k es) (drop (k + 1) es) x
-    ∙ ap (λ (j : Journal). moved_back (state_of j)) (sym (behind w es k x at))
-    ∙ ap (λ (n : ℕ). moved_back (state_of (journal_of w es n))) (sym e)
+    ∙ ap (λ (j : Journal). back_one (state_of j)) (sym (behind w es k x at))
+    ∙ ap (λ (n : ℕ). back_one (state_of (journal_of w es n))) (sym e)
 
 -- Redoing
 
@@ -78,13 +76,13 @@ redo_goes R w es k x at runs = ap (λ (r : Result Stepped Refusal). is_ok r) (fi
 pub record Redone (R : ℕ) (w v : World) (es : List Entry) (k : ℕ) (y : Entry) : Type 0 where
   pub records : set es k y ≡ es
   pub runs : IsRun R (journal_of v es (k + 1))
-  pub state : state_of (journal_of v es (k + 1)) ≡ moved_forward (state_of (journal_of w es k))
+  pub state : state_of (journal_of v es (k + 1)) ≡ forward_one (state_of (journal_of w es k))
 
 -- the state of a journal whose first undone record became the last live one
-forward_state : (R : ℕ) (w v : World) (xs ys : List Entry) (x : Entry) → IsRun R (record { world = w; live = xs; undone = x ∷ ys })
+pub forward_state : (R : ℕ) (w v : World) (xs ys : List Entry) (x : Entry) → IsRun R (record { world = w; live = xs; undone = x ∷ ys })
     → step R w x.event ≡ Ok (record { world = v; entry = x })
     → state_of (record { world = v; live = xs ++ x ∷ []; undone = ys })
-    ≡ moved_forward (state_of (record { world = w; live = xs; undone = x ∷ ys }))
+    ≡ forward_one (state_of (record { world = w; live = xs; undone = x ∷ ys }))
 forward_state R w v xs ys x runs h =
     let start = start_stays R w v xs x x.event (now_formed R (record { world = w; live = xs; undone = x ∷ ys }) runs) h in
     let all : events (xs ++ x ∷ []) ≡ events xs ++ x.event ∷ [] = map-append (λ (y : Entry). y.event) xs (x ∷ []) in
@@ -106,14 +104,14 @@ redone R w v es k x y at runs h =
       state =
           ap state_of (behind v es k x at)
           ∙ forward_state R w v (take k es) (drop (k + 1) es) x (subst (λ (j : Journal). IsRun R j) (before w es k x at) runs) goes
-          ∙ ap (λ (j : Journal). moved_forward (state_of j)) (sym (before w es k x at));
+          ∙ ap (λ (j : Journal). forward_one (state_of j)) (sym (before w es k x at));
     }
 
 -- the fields after a redone step, its record written over the stored one
 pub record RedoneFields (R : ℕ) (w v : World) (es fs : List Entry) (k : ℕ) : Type 0 where
   pub records : fs ≡ es
   pub runs : IsRun R (journal_of v fs (k + 1))
-  pub state : state_of (journal_of v fs (k + 1)) ≡ moved_forward (state_of (journal_of w es k))
+  pub state : state_of (journal_of v fs (k + 1)) ≡ forward_one (state_of (journal_of w es k))
 
 pub redone_fields : (R : ℕ) (w v : World) (es : List Entry) (k : ℕ) (x y : Entry) → StandsAt es k x → IsRun R (journal_of w es k)
     → step R w x.event ≡ Ok (record { world = v; entry = y }) → RedoneFields R w v es (set es k y) k

@@ -1,13 +1,8 @@
 -- What a session keeps: its world and the records of its steps, and the run that they are of.
-use Rattle.std.specs.Prelude.{◌≡◌, ℕ, zero, suc, List, [], ◌∷◌, map, length, take, drop, ok_or, slice_get, Result, Ok, Err}
-use Rattle.rd_cell.specs.declared.refusal.Refusal.{Refusal}
-use Rattle.rd_cell.specs.declared.refusal.Refusal.TheVariants.{NoSuchStep}
-use Rattle.rd_actor.specs.World.{World}
-use Rattle.rd_step.specs.declared.entries.Event.{Event}
+use Rattle.std.specs.Prelude.{◌≡◌, ℕ, zero, suc, List, [], ◌∷◌, length, take, drop, ok_or, slice_get, Result, Ok, Err}
+use Rattle.rd_step.specs.Prelude.{Refusal, NoSuchStep, World, unstep, run, IsWellFormed}
+pub use Rattle.rd_step.specs.Run.{events, run_entries, IsRunFrom}
 use Rattle.rd_step.specs.declared.entries.Entry.{Entry}
-use Rattle.rd_step.specs.Step.{unstepped}
-use Rattle.rd_step.specs.Run.{Ran, run}
-use Rattle.rd_step.specs.WellFormed.{IsWellFormed}
 
 -- the world, the records of the live steps in their order, and those of the undone steps, the one undone last in front
 pub record Journal : Type 0 where
@@ -19,30 +14,21 @@ pub record Journal : Type 0 where
 abbrev pub journal_of : World → List Entry → ℕ → Journal
 journal_of world entries border = record { world = world; live = take border entries; undone = drop border entries }
 
--- the events that these records are of
-abbrev pub events : List Entry → List Event
-events entries = map (λ x. x.event) entries
-
 -- the world with the old words of these records put back, those of the last one first
-abbrev pub rewound : World → List Entry → World
-rewound w [] = w
-rewound w (x ∷ xs) = unstepped (rewound w xs) x
+abbrev pub world_before : World → List Entry → World
+world_before w [] = w
+world_before w (x ∷ xs) = unstep (world_before w xs) x
 
 -- the world that the live steps began in: it is stored nowhere, and is what putting back their old words gives
 abbrev pub start_of : Journal → World
-start_of j = rewound j.world j.live
-
--- the records that a run left, or its refusal
-abbrev pub records_of : Result Ran Refusal → Result (List Entry) Refusal
-records_of (Err refusal) = Err refusal
-records_of (Ok r) = Ok r.entries
+start_of j = world_before j.world j.live
 
 -- the journal is a run: the live events run from a well-formed start to its world and leave its live records, and the
 -- undone events run on from there and leave its undone records
 pub record IsRun (R : ℕ) (j : Journal) : Type 0 where
   pub well_formed : IsWellFormed R (start_of j)
   pub live_ran : run R (start_of j) (events j.live) ≡ Ok (record { world = j.world; entries = j.live })
-  pub undone_run_on : records_of (run R j.world (events j.undone)) ≡ Ok j.undone
+  pub undone_run_on : IsRunFrom R j.world j.undone
 
 -- the record of the live step of this number, from 1
 abbrev pub entry_of : Journal → ℕ → Result Entry Refusal

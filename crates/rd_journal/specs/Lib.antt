@@ -1,6 +1,7 @@
 pub mod Journal
 pub mod State
 pub mod Room
+pub mod Border
 pub mod Moves
-pub mod Session
+pub mod Sessions
 pub mod Laws

@@ -1,16 +1,19 @@
 //! Undoing and redoing over the fields of a session: the world, the records, and the border behind the live ones.
 
-ghost use Rattle.std.specs.Prelude.{◌≡◌, ◌⊎◌, ◌++◌, ◌+◌, ◌<◌, ◌≤◌, [], ◌∷◌, ℕ, IsTrue, length, take, drop, vec_capacity, Ok, Err, IsOk, OnOk, OnErr, IfOk, IfErr};
-ghost use Rattle.rd_step.specs.Model.{model, room};
-ghost use Rattle.rd_step.specs.Machine.{makes_segment, uses};
-ghost use Rattle.rd_step.specs.Step.{step};
-ghost use Rattle.rd_journal.specs.Journal.{journal_of, IsRun};
-ghost use Rattle.rd_journal.specs.Room.{HasRoom};
-ghost use Rattle.rd_journal.specs.State.{state_of, moved_back, moved_forward, times};
+ghost use Rattle.std.specs.Prelude.{◌≡◌, ◌⊎◌, ◌++◌, ◌+◌, ◌-◌, ◌<◌, ◌≤◌, [], ◌∷◌, ℕ, IsTrue, length, take, drop, vec_capacity, None, Ok, Err, IsOk, OnOk, OnErr, IfOk, IfErr};
+ghost use Rattle.rd_step.specs.Prelude.{model, room, step, first_dependant};
+ghost use Rattle.rd_step.specs.Room.{makes_segment, room_used};
+ghost use Rattle.rd_journal.specs.Border.{IsSession};
+ghost use Rattle.rd_journal.specs.Journal.{journal_of};
+ghost use Rattle.rd_journal.specs.Moves.{IsTakenOutAt};
+ghost use Rattle.rd_journal.specs.Room.{IsOutOfMemory};
+ghost use Rattle.rd_journal.specs.State.{state_of, back_one, forward_one, times, one_out};
 
 use rd_cell::Refusal;
+use rd_cell::limits::MOST_STEPS;
 use rd_inverse::unstep;
 use rd_step::{Entry, Event, World};
+use std::alloc::AllocError;
 
 /// Undoes the last live step: its old words are put back, and the border moves before its record.
 pub(crate) fn undo_last<const R: usize>(
@@ -19,14 +22,12 @@ pub(crate) fn undo_last<const R: usize>(
     live: &mut usize,
 )
     requires some { 1 ≤ live.old }
-    requires within { live.old ≤ length entries.now.items }
-    requires runs { IsRun R (journal_of (model world.old) entries.now.items live.old) }
-    requires room { HasRoom (drop live.old entries.now.items) (room world.old) }
+    requires session { IsSession R (model world.old) entries.now.items live.old (room world.old) }
     ensures border { live.new + 1 ≡ live.old }
-    ensures runs { IsRun R (journal_of (model world.new) entries.now.items live.new) }
-    ensures room { HasRoom (drop live.new entries.now.items) (room world.new) }
+    ensures session { IsSession R (model world.new) entries.now.items live.new (room world.new) }
     ensures state { state_of (journal_of (model world.new) entries.now.items live.new)
-        ≡ moved_back (state_of (journal_of (model world.old) entries.now.items live.old)) }
+        ≡ back_one (state_of (journal_of (model world.old) entries.now.items live.old)) }
+    ensures room { (m : ℕ) → room world.old m ≤ room world.new m }
 {
     *live -= 1;
     unstep(world, &entries[*live]);
@@ -40,18 +41,54 @@ pub(crate) fn undo_many<const R: usize>(
     n: u64,
 )
     requires enough { n ≤ live.old }
-    requires within { live.old ≤ length entries.now.items }
-    requires runs { IsRun R (journal_of (model world.old) entries.now.items live.old) }
-    requires room { HasRoom (drop live.old entries.now.items) (room world.old) }
+    requires session { IsSession R (model world.old) entries.now.items live.old (room world.old) }
     ensures border { live.new + n ≡ live.old }
-    ensures runs { IsRun R (journal_of (model world.new) entries.now.items live.new) }
-    ensures room { HasRoom (drop live.new entries.now.items) (room world.new) }
+    ensures session { IsSession R (model world.new) entries.now.items live.new (room world.new) }
     ensures state { state_of (journal_of (model world.new) entries.now.items live.new)
-        ≡ times n moved_back (state_of (journal_of (model world.old) entries.now.items live.old)) }
+        ≡ times n back_one (state_of (journal_of (model world.old) entries.now.items live.old)) }
+    ensures room { (m : ℕ) → room world.old m ≤ room world.new m }
 {
     for _ in 0..n {
         undo_last(world, entries, live);
     }
+}
+
+/// Undoes the `k`-th live step alone, on which no later one depends: its old words are put back, its record moves behind
+/// the other live ones, inside the room that they have, and the border moves before it.
+pub(crate) fn undo_alone<const R: usize>(
+    world: &mut World<R>,
+    entries: &mut Vec<Entry>,
+    live: &mut usize,
+    k: u64,
+)
+    requires some { 1 ≤ k }
+    requires position { k ≤ live.old }
+    requires free { first_dependant (take live.old entries.old.items) k ≡ None }
+    requires session { IsSession R (model world.old) entries.old.items live.old (room world.old) }
+    ensures records { IsTakenOutAt k (journal_of (model world.old) entries.old.items live.old)
+        (journal_of (model world.new) entries.new.items live.new) }
+    ensures session { IsSession R (model world.new) entries.new.items live.new (room world.new) }
+    ensures state { state_of (journal_of (model world.new) entries.new.items live.new)
+        ≡ one_out (state_of (journal_of (model world.old) entries.old.items live.old)) k }
+{
+    unstep(world, &entries[k as usize - 1]);
+    move_behind(entries, k as usize, *live);
+    *live -= 1;
+}
+
+/// Moves the `k`-th of the first `live` records behind the others of them, which keep their order.
+fn move_behind(entries: &mut Vec<Entry>, k: usize, live: usize)
+    requires some { 1 ≤ k }
+    requires position { k ≤ live }
+    requires within { live ≤ length entries.old.items }
+    ensures before { take (live - 1) entries.new.items
+        ≡ take (k - 1) (take live entries.old.items) ++ drop k (take live entries.old.items) }
+    ensures behind { drop (live - 1) entries.new.items
+        ≡ take 1 (drop (k - 1) (take live entries.old.items)) ++ drop live entries.old.items }
+    ensures len { length entries.new.items ≡ length entries.old.items }
+{
+    let later = &mut entries[k - 1..live];
+    later.rotate_left(1);
 }
 
 /// Steps the event again that was undone last, writes the step's record over the stored one, and moves the border
@@ -62,14 +99,12 @@ pub(crate) fn redo_first<const R: usize>(
     live: &mut usize,
 )
     requires some { live.old < length entries.old.items }
-    requires runs { IsRun R (journal_of (model world.old) entries.old.items live.old) }
-    requires room { HasRoom (drop live.old entries.old.items) (room world.old) }
+    requires session { IsSession R (model world.old) entries.old.items live.old (room world.old) }
     ensures records { entries.new.items ≡ entries.old.items }
     ensures border { live.new ≡ live.old + 1 }
-    ensures runs { IsRun R (journal_of (model world.new) entries.new.items live.new) }
-    ensures room { HasRoom (drop live.new entries.new.items) (room world.new) }
+    ensures session { IsSession R (model world.new) entries.new.items live.new (room world.new) }
     ensures state { state_of (journal_of (model world.new) entries.new.items live.new)
-        ≡ moved_forward (state_of (journal_of (model world.old) entries.old.items live.old)) }
+        ≡ forward_one (state_of (journal_of (model world.old) entries.old.items live.old)) }
 {
     let entry = step_again(world, entries[*live]);
     entries[*live] = entry;
@@ -82,7 +117,7 @@ fn step_again<const R: usize>(world: &mut World<R>, stored: Entry) -> Entry
     requires room { IsTrue (makes_segment R (model world.old) stored.event) → 1 ≤ room world.old stored.event.actor }
     ensures same { step R (model world.old) stored.event ≡ Ok (record { world = model world.new; entry = result }) }
     ensures room { (m : ℕ) → room world.old m
-        ≤ room world.new m + uses (makes_segment R (model world.old) stored.event) stored.event.actor m }
+        ≤ room world.new m + room_used (makes_segment R (model world.old) stored.event) stored.event.actor m }
 {
     match world.step(stored.event) {
         Err(_) => unreachable!(),
@@ -98,14 +133,12 @@ pub(crate) fn redo_many<const R: usize>(
     n: u64,
 )
     requires enough { live.old + n ≤ length entries.old.items }
-    requires runs { IsRun R (journal_of (model world.old) entries.old.items live.old) }
-    requires room { HasRoom (drop live.old entries.old.items) (room world.old) }
+    requires session { IsSession R (model world.old) entries.old.items live.old (room world.old) }
     ensures records { entries.new.items ≡ entries.old.items }
     ensures border { live.new ≡ live.old + n }
-    ensures runs { IsRun R (journal_of (model world.new) entries.new.items live.new) }
-    ensures room { HasRoom (drop live.new entries.new.items) (room world.new) }
+    ensures session { IsSession R (model world.new) entries.new.items live.new (room world.new) }
     ensures state { state_of (journal_of (model world.new) entries.new.items live.new)
-        ≡ times n moved_forward (state_of (journal_of (model world.old) entries.old.items live.old)) }
+        ≡ times n forward_one (state_of (journal_of (model world.old) entries.old.items live.old)) }
 {
     for _ in 0..n {
         redo_first(world, entries, live);
@@ -116,25 +149,25 @@ pub(crate) fn redo_many<const R: usize>(
 ///
 /// # Errors
 ///
-/// `NoMemory` where the room for one more record was refused; then what the step is refused for.
+/// `NoMemory` if the room for one more record was refused; then what the step is refused for.
 pub(crate) fn lengthen<const R: usize>(
     world: &mut World<R>,
     entries: &mut Vec<Entry>,
     live: &mut usize,
     event: Event,
 ) -> Result<Entry, Refusal>
-    requires { live.old ≤ length entries.old.items }
+    requires few { live.old < MOST_STEPS }
+    requires session { IsSession R (model world.old) entries.old.items live.old (room world.old) }
     ensures ok { IfOk result (λ entry. step R (model world.old) event ≡ Ok (record { world = model world.new; entry = entry })) }
     ensures records { IfOk result (λ entry. entries.new.items ≡ take live.old entries.old.items ++ entry ∷ []) }
     ensures border { OnOk result (live.new ≡ live.old + 1) }
-    ensures err { IfErr result (λ refusal. (step R (model world.old) event ≡ Err refusal)
-        ⊎ ((refusal ≡ Refusal.NoMemory)
-        × ((live.old ≡ length entries.old.items) ⊎ IsTrue (makes_segment R (model world.old) event)))) }
-    ensures room { OnErr result ((m : ℕ) → room world.old m ≤ room world.new m) }
+    ensures session { IsSession R (model world.new) entries.new.items live.new (room world.new) }
+    ensures err { IfErr result (λ refusal. (step R (model world.old) event ≡ Err refusal) ⊎ ((refusal ≡ Refusal.NoMemory)
+        × IsOutOfMemory R (journal_of (model world.old) entries.old.items live.old) (room world.old) event)) }
     ensures unchanged { OnErr result ((model world.new ≡ model world.old) × (entries.new.items ≡ entries.old.items) × (live.new ≡ live.old)) }
 {
-    if let Err(refusal) = make_room(entries, *live) {
-        return Err(refusal);
+    if make_room(entries, *live).is_err() {
+        return Err(Refusal::NoMemory);
     }
     let entry = match world.step(event) {
         Err(refusal) => return Err(refusal),
@@ -146,18 +179,15 @@ pub(crate) fn lengthen<const R: usize>(
     Ok(entry)
 }
 
-/// Makes room for a record behind the first `live` ones: where others stand behind them, it is there.
-fn make_room(entries: &mut Vec<Entry>, live: usize) -> Result<(), Refusal>
+/// Makes room for a record behind the first `live` ones: if others stand behind them, it is there.
+fn make_room(entries: &mut Vec<Entry>, live: usize) -> Result<(), AllocError>
     requires { live ≤ length entries.old.items }
     ensures same { entries.new.items ≡ entries.old.items }
     ensures ok { OnOk result (live < vec_capacity entries.new) }
-    ensures err { IfErr result (λ refusal. (refusal ≡ Refusal.NoMemory) × (live ≡ length entries.old.items)) }
+    ensures err { OnErr result (live ≡ length entries.old.items) }
 {
     if live < entries.len() {
         return Ok(());
     }
-    match entries.reserve(1) {
-        Err(_) => Err(Refusal::NoMemory),
-        Ok(()) => Ok(()),
-    }
+    entries.reserve(1)
 }

@@ -1,4 +1,5 @@
-//! The journal: what was done and what was undone, and walking up and down the run.
+//! The journal: what was done and what was undone, walking up and down the run, undoing any step on which no later one
+//! depends, or a step together with all that depends on it, and going over to another run with the same beginning.
 //!
 //! A session is seen as a start world, the live events and the undone events. It stores one list of records with a
 //! border in it, and undoes from the old words of the records; the start is never stored and never replayed from.
@@ -6,11 +7,11 @@
 
 mod border;
 pub mod laws;
+mod rollback;
 pub mod sessions;
+mod switches;
 
 pub use sessions::Session;
 
 #[cfg(test)]
 mod tests;
-#[cfg(test)]
-mod whole_runs;

@@ -1,25 +1,28 @@
 //! The session: the world and one list of records with a border in it, live ones before it and undone ones behind it,
 //! the one undone last right at it.
 //!
-//! Undoing puts the old words of the last live record back and moves the border before it. Redoing steps again and
-//! moves the border behind the record. So the room that an undo needs was made by the step that it undoes.
+//! Undoing puts the old words of the last live record back and moves the border before it. A lone undo does so with any
+//! live record on which no later one depends, and first moves it behind the other live ones; a rollback with a record
+//! and all that depend on it. Redoing steps again and moves the border behind the record. So the room that an undo needs
+//! was made by the step that it undoes. A switch puts other records behind the border and redoes them.
 
-ghost use Rattle.std.specs.Prelude.{◌≡◌, ◌⊎◌, ◌+◌, ◌≤◌, ◌<◌, ◌-◌, [], length, drop, Ok, Err, OnOk, OnErr, IfOk, IfErr};
-ghost use Rattle.rd_step.specs.Model.{model, room};
-ghost use Rattle.rd_step.specs.Step.{step};
-ghost use Rattle.rd_journal.specs.Journal.{journal_of, entry_of, IsRun};
-ghost use Rattle.rd_journal.specs.Room.{HasRoom};
-ghost use Rattle.rd_journal.specs.State.{run_of, apply, reply_to, undo, back, redo, forward};
+ghost use Rattle.std.specs.Prelude.{◌≡◌, ◌⊎◌, ◌++◌, ◌+◌, ◌≤◌, ◌<◌, ◌-◌, [], length, take, drop, Ok, Err, IsOk, OnOk, OnErr, IfOk, IfErr};
+ghost use Rattle.rd_step.specs.Prelude.{model, room as world_room, step};
+ghost use Rattle.rd_journal.specs.Border.{IsSession};
+ghost use Rattle.rd_journal.specs.Journal.{entry_of, events, start_of, IsRunFrom, IsRun};
+ghost use Rattle.rd_journal.specs.Room.{MayBeOutOfMemory, IsOutOfMemory};
+ghost use Rattle.rd_journal.specs.State.{run_of, apply, reply_to, undo, undo_at, back, redo, forward, roll, switch};
 ghost use Rattle.rd_journal.specs.Laws.{IsStepAfter};
-ghost use Rattle.rd_journal.specs.Moves.{IsLengthened, IsMovedBack, IsMovedForward, IsBeforeLast, WantsMemory};
+ghost use Rattle.rd_journal.specs.Moves.{IsLengthened, IsMovedBack, IsMovedForward, IsBeforeLast, IsTakenOutAt, IsWithout, IsSwitched, IsRolledBack, IsWithoutClosure, answer_at, roll_answer};
 
-use super::border::{lengthen, redo_first, redo_many, undo_last, undo_many};
+use super::border::{lengthen, redo_first, redo_many, undo_alone, undo_last, undo_many};
+use super::rollback::undo_closure;
+use super::switches::switch_fields;
 use rd_cell::Refusal;
+use rd_cell::limits::MOST_STEPS;
+use rd_depend::first_dependant;
 use rd_step::{Entry, Event, World};
 use std::alloc::Global;
-
-/// How many steps may be live.
-const MOST_LIVE: usize = 65535;
 
 /// A world of rings of `R` cells, with the steps that led to it and those that were undone.
 #[derive(Drop)]
@@ -27,14 +30,11 @@ pub struct Session<const R: usize> {
     world: World<R>,
     entries: Vec<Entry>,
     live: usize,
-    ghost within: { live ≤ length entries.items },
-    ghost few: { length entries.items ≤ 65535 },
-    ghost runs: { IsRun R (journal_of (model world) entries.items live) },
-    ghost room: { HasRoom (drop live entries.items) (room world) },
+    ghost kept: { IsSession R (model world) entries.items live (world_room world) },
 }
 
 impl<const R: usize> Session<R> {
-    ghost use Rattle.rd_journal.specs.Session.{journal, state};
+    ghost use Rattle.rd_journal.specs.Sessions.{journal, state, room};
 
     /// Opens a session in a world, which is its start. It takes no memory.
     pub fn open(alloc: Global, world: World<R>) -> Session<R>
@@ -48,13 +48,14 @@ impl<const R: usize> Session<R> {
         }
     }
 
-    /// Makes an event happen as the last live step, and forgets what was undone. Answers the step's number and its
+    /// Makes an event happen as the last live step, and discards what was undone. Answers the step's number and its
     /// record.
     ///
     /// # Errors
     ///
-    /// In this order: `TooLong` where 65,535 steps are live; `NoMemory` where the room for one more record was
-    /// refused, for which none is asked where a step is undone; what the step is refused for. Nothing has changed then.
+    /// In this order: `TooLong` if `MOST_STEPS` steps are live; `NoMemory` if the room for one more record was refused,
+    /// which is asked for only if no step is undone; what the step is refused for, `NoMemory` for a making whose maker
+    /// has no room, so not if an undone step is a making by the same actor. Nothing has changed then.
     pub fn apply(&mut self, event: Event) -> Result<(u64, Entry), Refusal>
         ensures ok { OnOk result (apply R (state self.old) event ≡ Ok (state self.new)) }
         ensures step { IfOk result (λ done. step R (journal self.old).world event
@@ -63,10 +64,12 @@ impl<const R: usize> Session<R> {
         ensures number { IfOk result (λ done. done.0 ≡ length (journal self.new).live) }
         ensures reply { IfOk result (λ done. reply_to R (state self.old) event ≡ done.1.reply) }
         ensures err { IfErr result (λ refusal. (apply R (state self.old) event ≡ Err refusal)
-            ⊎ WantsMemory R (journal self.old) event refusal) }
+            ⊎ ((refusal ≡ Refusal.NoMemory) × MayBeOutOfMemory R (state self.old) event)) }
+        ensures memory { IfErr result (λ refusal. (apply R (state self.old) event ≡ Err refusal)
+            ⊎ ((refusal ≡ Refusal.NoMemory) × IsOutOfMemory R (journal self.old) (room self.old) event)) }
         ensures unchanged { OnErr result (journal self.new ≡ journal self.old) }
     {
-        if self.live == MOST_LIVE {
+        if self.live == MOST_STEPS {
             return Err(Refusal::TooLong);
         }
         let entry = match lengthen(&mut self.world, &mut self.entries, &mut self.live, event) {
@@ -80,10 +83,11 @@ impl<const R: usize> Session<R> {
     ///
     /// # Errors
     ///
-    /// `NothingToUndo(0)` where no step is live. Nothing has changed then.
+    /// `NothingToUndo(0)` if no step is live. Nothing has changed then.
     pub fn undo(&mut self) -> Result<(), Refusal>
         ensures ok { OnOk result (undo (state self.old) ≡ Ok (state self.new)) }
         ensures records { OnOk result (IsMovedBack 1 (journal self.old) (journal self.new)) }
+        ensures succeeds { 1 ≤ length (journal self.old).live → IsOk result }
         ensures err { IfErr result (λ refusal. undo (state self.old) ≡ Err refusal) }
         ensures unchanged { OnErr result (journal self.new ≡ journal self.old) }
     {
@@ -94,15 +98,70 @@ impl<const R: usize> Session<R> {
         Ok(())
     }
 
+    /// Undoes the `k`-th live step alone, counted from 1, if no later live step depends on it. It becomes the front of the
+    /// undone steps, and all other steps stay as they are. It takes no memory and makes no step again; it looks for the
+    /// first later step that depends on it, and moves the records behind it.
+    ///
+    /// # Errors
+    ///
+    /// `NoSuchStep`, with the number of live steps, if `k` is not from 1 to it; `Depended`, with the number of the first
+    /// live step that depends on the `k`-th, if there is one. Nothing has changed then.
+    pub fn undo_at(&mut self, k: u64) -> Result<(), Refusal>
+        ensures ok { OnOk result (undo_at R (state self.old) k ≡ Ok (state self.new)) }
+        ensures records { OnOk result (IsTakenOutAt k (journal self.old) (journal self.new)) }
+        ensures run { OnOk result (IsWithout R k (journal self.old) (journal self.new)) }
+        ensures answer { result ≡ answer_at (journal self.old) k }
+        ensures err { IfErr result (λ refusal. undo_at R (state self.old) k ≡ Err refusal) }
+        ensures unchanged { OnErr result (journal self.new ≡ journal self.old) }
+    {
+        let len = self.len();
+        if len < k || k == 0 {
+            return Err(Refusal::NoSuchStep(len));
+        }
+        let live = self.live;
+        if let Some(dependant) = first_dependant(&self.entries[..live], k) {
+            return Err(Refusal::Depended(dependant));
+        }
+        undo_alone(&mut self.world, &mut self.entries, &mut self.live, k);
+        Ok(())
+    }
+
+    /// Undoes the `k`-th live step, counted from 1, and just the later ones that depend on it, directly or through others.
+    /// In their order they become the front of the undone steps, and all other steps stay as they are. It takes no memory
+    /// and makes no step again.
+    ///
+    /// Its time is one pass over the later live steps for each step that is undone, at most: each later one is compared with
+    /// the steps before it that are undone, and if it stays, moved before them.
+    ///
+    /// # Errors
+    ///
+    /// `NoSuchStep`, with the number of live steps, if `k` is not from 1 to it. Nothing has changed then.
+    pub fn roll(&mut self, k: u64) -> Result<(), Refusal>
+        ensures ok { OnOk result (roll R (state self.old) k ≡ Ok (state self.new)) }
+        ensures records { OnOk result (IsRolledBack k (journal self.old) (journal self.new)) }
+        ensures run { OnOk result (IsWithoutClosure R k (journal self.old) (journal self.new)) }
+        ensures answer { result ≡ roll_answer (journal self.old) k }
+        ensures err { IfErr result (λ refusal. roll R (state self.old) k ≡ Err refusal) }
+        ensures unchanged { OnErr result (journal self.new ≡ journal self.old) }
+    {
+        let len = self.len();
+        if len < k || k == 0 {
+            return Err(Refusal::NoSuchStep(len));
+        }
+        undo_closure(&mut self.world, &mut self.entries, &mut self.live, k);
+        Ok(())
+    }
+
     /// Undoes the last `n` live steps, all or none. It takes no memory, and time that grows with `n` alone.
     ///
     /// # Errors
     ///
-    /// `NothingToUndo`, with the number of live steps, where `n` is above it. Nothing has changed then.
+    /// `NothingToUndo`, with the number of live steps, if `n` is above it. Nothing has changed then.
     pub fn back(&mut self, n: u64) -> Result<(), Refusal>
         ensures ok { OnOk result (back (state self.old) n ≡ Ok (state self.new)) }
         ensures records { OnOk result (IsMovedBack n (journal self.old) (journal self.new)) }
         ensures run { OnOk result (IsBeforeLast R n (journal self.old) (journal self.new)) }
+        ensures succeeds { n ≤ length (journal self.old).live → IsOk result }
         ensures err { IfErr result (λ refusal. back (state self.old) n ≡ Err refusal) }
         ensures unchanged { OnErr result (journal self.new ≡ journal self.old) }
     {
@@ -118,7 +177,7 @@ impl<const R: usize> Session<R> {
     ///
     /// # Errors
     ///
-    /// `NothingToRedo` where no step is undone. Nothing has changed then.
+    /// `NothingToRedo` if no step is undone. Nothing has changed then.
     pub fn redo(&mut self) -> Result<(), Refusal>
         ensures ok { OnOk result (redo (state self.old) ≡ Ok (state self.new)) }
         ensures records { OnOk result (IsMovedForward 1 (journal self.old) (journal self.new)) }
@@ -136,7 +195,7 @@ impl<const R: usize> Session<R> {
     ///
     /// # Errors
     ///
-    /// `NothingToRedo` where fewer than `n` steps are undone. Nothing has changed then.
+    /// `NothingToRedo` if fewer than `n` steps are undone. Nothing has changed then.
     pub fn forward(&mut self, n: u64) -> Result<(), Refusal>
         ensures ok { OnOk result (forward (state self.old) n ≡ Ok (state self.new)) }
         ensures records { OnOk result (IsMovedForward n (journal self.old) (journal self.new)) }
@@ -148,6 +207,32 @@ impl<const R: usize> Session<R> {
         }
         redo_many(&mut self.world, &mut self.entries, &mut self.live, n);
         Ok(())
+    }
+
+    /// Keeps the first `n` live steps, undoes the others, discards what was undone, and makes the steps of the given records
+    /// again, which become the last live ones. All memory that this takes is asked for first: room for the records, and for
+    /// each maker room for the makings among them.
+    ///
+    /// # Errors
+    ///
+    /// `NoMemory` if room was refused, so not if no record is given. Nothing has changed then.
+    pub fn switch(&mut self, n: u64, entries: &[Entry]) -> Result<(), Refusal>
+        requires within { n ≤ length (journal self.old).live }
+        requires few { n + length entries.now ≤ MOST_STEPS }
+        requires run { IsRunFrom R (start_of (journal self.old)) (take n (journal self.old).live ++ entries.now) }
+        ensures ok { OnOk result (state self.new ≡ switch (state self.old) n (events entries.now)) }
+        ensures records { OnOk result (IsSwitched n entries.now (journal self.old) (journal self.new)) }
+        ensures err { IfErr result (λ refusal. refusal ≡ Refusal.NoMemory) }
+        ensures unchanged { OnErr result (journal self.new ≡ journal self.old) }
+        ensures succeeds { entries.now ≡ [] → IsOk result }
+    {
+        switch_fields(
+            &mut self.world,
+            &mut self.entries,
+            &mut self.live,
+            n as usize,
+            entries,
+        )
     }
 
     /// The number of live steps.
@@ -170,7 +255,7 @@ impl<const R: usize> Session<R> {
     ///
     /// # Errors
     ///
-    /// `NoSuchStep`, with the number of live steps, where `k` is not from 1 to it.
+    /// `NoSuchStep`, with the number of live steps, if `k` is not from 1 to it.
     pub fn entry(&self, k: u64) -> Result<Entry, Refusal>
         ensures found { result ≡ entry_of (journal self.now) k }
         ensures step { IfOk result (λ entry. IsStepAfter R (k - 1) (journal self.now) entry) }
@@ -187,7 +272,7 @@ impl<const R: usize> Session<R> {
         ensures value { model result.now ≡ (journal self.now).world }
         ensures run { run_of R (state self.now) ≡ Ok (record { world = model result.now; entries = (journal self.now).live }) }
         ensures runs { IsRun R (journal self.now) }
-        ensures few { length (journal self.now).live + length (journal self.now).undone ≤ 65535 }
+        ensures few { length (journal self.now).live + length (journal self.now).undone ≤ MOST_STEPS }
     {
         &self.world
     }

@@ -1,97 +1,193 @@
-//! A session over the poised world of four actors and a ring of four.
+//! The tests of the journal: runs as data, and the small helper that plays them.
+//!
+//! A run is a list of lines. Most do something to a session that must be accepted, or refused as the line says; the
+//! others say what must be so then.
+
+mod lone_undo;
+mod rollback;
+mod switching;
+mod walks;
+mod whole_runs;
 
 use super::sessions::Session;
-use rd_actor::{Act, Pc};
-use rd_cell::{Content, Place, Refusal, SegName};
-use rd_step::{Event, World};
-use std::test::Fail;
+use rd_actor::{Act, Actor, OpReply, Pc};
+use rd_cell::{Answer, Content, Place, Refusal};
+use rd_step::Event;
+use std::process::Abort;
 
-/// A step of this actor.
-fn go(actor: u8) -> Event {
-    Event {
-        actor,
-        act: Act::Go,
+/// One line of a run.
+#[derive(Clone, Copy)]
+enum Line {
+    /// This actor does this act, which ends no call.
+    Act(u8, Act),
+    /// This actor is refused this act.
+    Refused(u8, Act, Refusal),
+    /// This actor steps along these control points, each of which it stands at before its step there; the last step
+    /// replies this, the others nothing.
+    Walk(u8, &'static [Pc], Option<OpReply>),
+    /// This move through the run is made.
+    Moves(Move),
+    /// This move through the run is refused.
+    Stays(Move, Refusal),
+    /// So many steps are live, and so many undone.
+    At(u64, u64),
+    /// This is at the place.
+    Is(Place, Content),
+    /// The place is not there.
+    Gone(Place),
+    /// This actor's words are these.
+    Actor(u8, Actor),
+    /// This actor stands at this control point.
+    Stands(u8, Pc),
+    /// The live step of this number was made by this actor at this place; it wrote or not, and was answered this.
+    Step(u64, u8, Place, bool, Answer),
+    /// There is no live step of this number, and the refusal says so.
+    NoStep(u64, Refusal),
+}
+
+/// A move through the run.
+#[derive(Clone, Copy)]
+enum Move {
+    Undo,
+    Back(u64),
+    Redo,
+    Forward(u64),
+}
+
+/// Plays a run, line by line. A line that is not so ends the test, with the run's name and the line's index.
+fn play<const R: usize>(rt: &impl Abort, session: &mut Session<R>, run: &str, lines: &[Line]) {
+    for i in 0..lines.len() {
+        play_line(rt, session, run, i, lines[i]);
     }
 }
 
-/// The place where this actor stands, and the position that it drew.
-fn stands(session: &Session<4>, actor: u8) -> Option<(Pc, u64)> {
-    let words = session.world().actor(actor)?;
-    Some((words.pc, words.t))
+/// Plays the line of this index: does what it says, or looks whether it is so.
+fn play_line<const R: usize>(
+    rt: &impl Abort,
+    session: &mut Session<R>,
+    run: &str,
+    i: usize,
+    line: Line,
+) {
+    match line {
+        Line::Act(actor, act) => {
+            let number = session.len() + 1;
+            assert_eq!(rt;
+                applied(session, actor, act),
+                Ok((number, None)),
+                "{run}, line {i}"
+            );
+        }
+        Line::Refused(actor, act, refusal) => {
+            assert_eq!(rt;
+                applied(session, actor, act),
+                Err(refusal),
+                "{run}, line {i}"
+            );
+        }
+        Line::Walk(actor, points, reply) => {
+            assert_eq!(rt;
+                walk(session, actor, points),
+                Some(reply),
+                "{run}, line {i}"
+            );
+        }
+        Line::Moves(to) => assert_eq!(rt; moved(session, to), Ok(()), "{run}, line {i}"),
+        Line::Stays(to, refusal) => assert_eq!(rt;
+            moved(session, to),
+            Err(refusal),
+            "{run}, line {i}"
+        ),
+        Line::At(live, undone) => {
+            assert_eq!(rt;
+                (session.len(), session.undone_len()),
+                (live, undone),
+                "{run}, line {i}"
+            );
+        }
+        Line::Is(place, content) => {
+            assert_eq!(rt;
+                session.world().content(place),
+                Some(content),
+                "{run}, line {i}"
+            );
+        }
+        Line::Gone(place) => assert_eq!(rt;
+            session.world().content(place),
+            None,
+            "{run}, line {i}"
+        ),
+        Line::Actor(actor, words) => {
+            assert_eq!(rt;
+                session.world().actor(actor),
+                Some(words),
+                "{run}, line {i}"
+            );
+        }
+        Line::Stands(actor, pc) => assert_eq!(rt;
+            stands(session, actor),
+            Some(pc),
+            "{run}, line {i}"
+        ),
+        Line::Step(k, actor, place, wrote, answer) => {
+            let step = Some((actor, Some(place), wrote, answer));
+            assert_eq!(rt; step_of(session, k), step, "{run}, line {i}");
+        }
+        Line::NoStep(k, refusal) => assert_eq!(rt;
+            session.entry(k),
+            Err(refusal),
+            "{run}, line {i}"
+        ),
+    }
 }
 
-/// The root's tail.
-fn tail(session: &Session<4>) -> Option<Content> {
-    session.world().content(Place::Tail(SegName::ROOT))
+/// Lets an actor do one act, and answers the step's number and what its call replied.
+fn applied<const R: usize>(
+    session: &mut Session<R>,
+    actor: u8,
+    act: Act,
+) -> Result<(u64, Option<OpReply>), Refusal> {
+    let (number, entry) = session.apply(Event { actor, act })?;
+    Ok((number, entry.reply))
 }
 
-#[test]
-fn a_walk_back_and_forward(rt: HostRuntime) -> Result<(), Fail> {
-    let mut session = Session::open(rt.alloc(), World::<4>::poised(rt.alloc(), 4)?);
-    assert_eq!(rt; session.apply(go(1))?.0, 1);
-    assert_eq!(rt; session.apply(go(2))?.0, 2);
-    assert_eq!(rt; session.apply(go(3))?.0, 3);
-    assert_eq!(rt;
-        tail(&session),
-        Some(Content::Tail {
-            closed: false,
-            count: 3
-        })
-    );
-    assert_eq!(rt; stands(&session, 2), Some((Pc::E5, 1)));
-    session.back(2)?;
-    assert_eq!(rt; (session.len(), session.undone_len()), (1, 2));
-    assert_eq!(rt; stands(&session, 2), Some((Pc::E4, 0)));
-    assert_eq!(rt; session.forward(3), Err(Refusal::NothingToRedo));
-    session.forward(2)?;
-    assert_eq!(rt; (session.len(), session.undone_len()), (3, 0));
-    assert_eq!(rt; stands(&session, 2), Some((Pc::E5, 1)));
-    assert_eq!(rt; session.back(4), Err(Refusal::NothingToUndo(3)));
-    session.back(1)?;
-    assert_eq!(rt; (session.len(), session.undone_len()), (2, 1));
-    assert_eq!(rt; session.apply(go(4))?.0, 3);
-    assert_eq!(rt; session.redo(), Err(Refusal::NothingToRedo));
-    assert_eq!(rt; (session.len(), session.undone_len()), (3, 0));
-    assert_eq!(rt; stands(&session, 4), Some((Pc::E5, 2)));
-    Ok(())
+/// Lets an actor step along these control points. Answers what the last step replied; none if the actor stood at
+/// another control point, was refused, or had a reply before the last step.
+fn walk<const R: usize>(
+    session: &mut Session<R>,
+    actor: u8,
+    points: &[Pc],
+) -> Option<Option<OpReply>> {
+    let mut reply = None;
+    for pc in points {
+        if reply.is_some() || stands(session, actor) != Some(*pc) {
+            return None;
+        }
+        reply = applied(session, actor, Act::Go).ok()?.1;
+    }
+    Some(reply)
 }
 
-#[test]
-fn a_step_undone_and_redone_has_its_record(rt: HostRuntime) -> Result<(), Fail> {
-    let mut session = Session::open(rt.alloc(), World::<4>::poised(rt.alloc(), 4)?);
-    assert_eq!(rt; session.undo(), Err(Refusal::NothingToUndo(0)));
-    let (_, record) = session.apply(go(2))?;
-    session.undo()?;
-    assert_eq!(rt; session.entry(1), Err(Refusal::NoSuchStep(0)));
-    assert_eq!(rt;
-        tail(&session),
-        Some(Content::Tail {
-            closed: false,
-            count: 0
-        })
-    );
-    session.redo()?;
-    assert_eq!(rt; session.entry(1), Ok(record));
-    assert_eq!(rt; record.event, go(2));
-    assert_eq!(rt; session.entry(0), Err(Refusal::NoSuchStep(1)));
-    assert_eq!(rt; session.entry(2), Err(Refusal::NoSuchStep(1)));
-    Ok(())
+/// Makes a move through the run.
+fn moved<const R: usize>(session: &mut Session<R>, to: Move) -> Result<(), Refusal> {
+    match to {
+        Move::Undo => session.undo(),
+        Move::Back(n) => session.back(n),
+        Move::Redo => session.redo(),
+        Move::Forward(n) => session.forward(n),
+    }
 }
 
-#[test]
-fn a_refused_event_keeps_what_was_undone(rt: HostRuntime) -> Result<(), Fail> {
-    let mut session = Session::open(rt.alloc(), World::<4>::poised(rt.alloc(), 4)?);
-    session.apply(go(1))?;
-    session.apply(go(2))?;
-    session.undo()?;
-    assert_eq!(rt; session.apply(go(5)), Err(Refusal::NoActor));
-    let choice = Event {
-        actor: 1,
-        act: Act::Starve(true),
-    };
-    assert_eq!(rt; session.apply(choice), Err(Refusal::NoChoice));
-    assert_eq!(rt; (session.len(), session.undone_len()), (1, 1));
-    session.redo()?;
-    assert_eq!(rt; stands(&session, 2), Some((Pc::E5, 1)));
-    Ok(())
+/// The control point where an actor stands.
+fn stands<const R: usize>(session: &Session<R>, actor: u8) -> Option<Pc> {
+    Some(session.world().actor(actor)?.pc)
+}
+
+/// Whose step this was, at which place, whether it wrote, and what it was answered.
+fn step_of<const R: usize>(
+    session: &Session<R>,
+    k: u64,
+) -> Option<(u8, Option<Place>, bool, Answer)> {
+    let entry = session.entry(k).ok()?;
+    Some((entry.event.actor, entry.place, entry.wrote, entry.answer))
 }

@@ -1,25 +1,25 @@
 //! Any operation at any place of a segment, done by the segment's own operations.
 
-ghost use Rattle.std.specs.Prelude.{◌≡◌, is_some, IsTrue, IfOk, IfErr, OnErr};
-ghost use Rattle.rd_cell.specs.Content.{may_have};
-ghost use Rattle.rd_cell.specs.Effect.{suits_segments};
+ghost use Rattle.std.specs.Prelude.{◌≡◌, Some, is_some, IsTrue, IfOk, IfErr, OnErr, Err};
+ghost use Rattle.rd_ring.specs.Prelude.{is_beside, may_have, operand, operate, Operates, Restores};
+ghost use Rattle.rd_cell.specs.Operations.{suits_segments};
 
 use super::segments::Segment;
 use rd_cell::{Answer, Content, Done, Operation, Place, Refusal};
 
 impl<const R: usize> Segment<R> {
-    ghost use Rattle.rd_ring.specs.Segment.{part, Operated, RefusesAt, IsRestored};
+    ghost use Rattle.rd_ring.specs.Segments.{part};
 
-    /// Does an operation at a place, and answers what the entry of the step keeps of it.
+    /// Does an operation at a place, and answers what the entry of the step records of it.
     ///
     /// # Errors
     ///
-    /// `CounterEnd` for a fetch-and-add on a counter that is 2^62; `NoSuchPlace` where the segment has no such place,
-    /// or a content of another kind there, for which no actor asks. The segment is then as before.
+    /// `CounterEnd` for a fetch-and-add on a counter that is 2^62; `NoSuchPlace` if the segment has no such place,
+    /// or a content of another kind there, which no actor asks for. The segment is then as before.
     pub fn operate(&mut self, place: Place, operation: Operation) -> Result<Done, Refusal>
         requires { IsTrue (suits_segments operation) }
-        ensures ok { IfOk result (λ done. Operated place operation done self.old self.new) }
-        ensures err { IfErr result (λ e. RefusesAt place operation self.old e) }
+        ensures ok { IfOk result (λ done. Operates (is_beside place) place operation done (part self.old) (part self.new)) }
+        ensures err { IfErr result (λ e. operate place operation (operand (part self.old) place) ≡ Err e) }
         ensures unchanged { OnErr result (self.new ≡ self.old) }
     {
         let found = match self.content(place) {
@@ -62,7 +62,7 @@ impl<const R: usize> Segment<R> {
     pub fn restore(&mut self, place: Place, content: Content)
         requires there { IsTrue (is_some (part self.old place)) }
         requires kind { IsTrue (may_have place content) }
-        ensures { IsRestored place content self.old self.new }
+        ensures { Restores (is_beside place) place (Some content) (part self.old) (part self.new) }
     {
         match (place, content) {
             (Place::Head(_), Content::Number(count)) => self.restore_head(count),

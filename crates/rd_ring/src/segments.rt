@@ -1,16 +1,10 @@
 //! The segment and its operations.
 
-ghost use Rattle.std.specs.Prelude.{◌≡◌, ℕ, ◌+◌, ◌^◌, ◌<◌, ◌≤◌, ◌↔◌, true, false, Some, None, Err, IsSome, IsTrue, IfOk, IfErr, OnErr, option_map, slice_get, length};
-ghost use Rattle.rd_cell.specs.declared.places.SegName.{SegName};
-ghost use Rattle.rd_cell.specs.declared.places.Place.TheVariants.{Head, Tail, Next, Cell as CellAt};
-ghost use Rattle.rd_cell.specs.declared.contents.Content.{Content};
-ghost use Rattle.rd_cell.specs.declared.contents.Content.TheVariants.{Number, Tail as TailIs, Next as NextIs, Cell as CellIs};
-ghost use Rattle.rd_cell.specs.declared.access.Operation.TheVariants.{Add, Close, CasTail, CasNext, Cas2};
-ghost use Rattle.rd_cell.specs.declared.access.Answer.TheVariants.{WasClosed};
-ghost use Rattle.rd_cell.specs.Place.{root};
-ghost use Rattle.rd_cell.specs.Content.{fresh, holding, new_cell};
+ghost use Rattle.std.specs.Prelude.{◌≡◌, ℕ, ◌<◌, ◌≤◌, ◌↔◌, true, false, Some, None, Err, IsSome, IsTrue, IfOk, IfErr, OnErr, option_map, slice_get, length};
+ghost use Rattle.rd_ring.specs.Prelude.{COUNTER_END, MOST_CELLS, SegName, Head, Tail, Next, CellAt, Content, Number, TailIs, NextIs, CellIs, Add, Close, CasTail, CasNext, Cas2, Found, WasClosed, root, fresh, holding, new_cell};
 
 use super::parts::SegmentParts;
+use rd_cell::limits::COUNTER_END;
 use rd_cell::{Cell, Content, Place, Refusal, SegName};
 
 /// A segment: a ring of `R` cells, 1 to 64.
@@ -21,18 +15,18 @@ pub struct Segment<const R: usize> {
     closed: bool,
     next: Option<SegName>,
     cells: [Cell; R],
-    ghost small: { R ≤ 64 },
+    ghost small: { R ≤ MOST_CELLS },
     ghost sized: { length cells ≡ R },
-    ghost head_within: { head ≤ 2 ^ 62 },
-    ghost tail_within: { tail ≤ 2 ^ 62 },
+    ghost head_within: { head ≤ COUNTER_END },
+    ghost tail_within: { tail ≤ COUNTER_END },
 }
 
 impl<const R: usize> Segment<R> {
-    ghost use Rattle.rd_ring.specs.Segment.{part, part_wanted, counters_fit, head_count, tail_count, added, swapped, Puts, Performs, Refuses};
+    ghost use Rattle.rd_ring.specs.Segments.{part, part_from, counters_fit, head_count, tail_count, swap_answer, OperatesAt, RefusesAt, RestoresAt};
 
     /// A fresh segment: both counters are 0, it is open, no segment follows, and cell u is safe at index u and empty.
     pub fn fresh() -> Self
-        requires { R ≤ 64 }
+        requires { R ≤ MOST_CELLS }
         ensures { (q : Place) → part result q ≡ fresh R q }
     {
         Segment {
@@ -47,7 +41,7 @@ impl<const R: usize> Segment<R> {
     /// A new segment that holds a value already: the fresh one, but its tail is 1 and the value is in cell 0.
     pub fn holding(value: u64) -> Self
         requires positive { 1 ≤ R }
-        requires small { R ≤ 64 }
+        requires small { R ≤ MOST_CELLS }
         ensures { (q : Place) → part result q ≡ holding R value q }
     {
         let mut cells = fresh_cells();
@@ -64,7 +58,7 @@ impl<const R: usize> Segment<R> {
     /// The segment with these words.
     pub fn from_parts(parts: SegmentParts<R>) -> Self
         requires { IsTrue (counters_fit parts) }
-        ensures { (q : Place) → part result q ≡ part_wanted parts.entry q }
+        ensures { (q : Place) → part result q ≡ part_from parts.entry q }
     {
         Segment {
             head: parts.head,
@@ -75,7 +69,7 @@ impl<const R: usize> Segment<R> {
         }
     }
 
-    /// What is at a place of the segment, whatever the segment is named there; none where it has no such place.
+    /// What is at a place of the segment, whatever the segment is named there; none if it has no such place.
     pub fn content(&self, place: Place) -> Option<Content>
         ensures { result ≡ part self.now place }
     {
@@ -97,7 +91,7 @@ impl<const R: usize> Segment<R> {
     /// The head counter, at most 2^62.
     pub fn head(&self) -> u64
         ensures value { (s : SegName) → part self.now (Head s) ≡ Some (Number result) }
-        ensures within { result ≤ 2 ^ 62 }
+        ensures within { result ≤ COUNTER_END }
     {
         self.head
     }
@@ -105,7 +99,7 @@ impl<const R: usize> Segment<R> {
     /// The closed bit and the tail counter, at most 2^62.
     pub fn tail(&self) -> (bool, u64)
         ensures value { (s : SegName) → part self.now (Tail s) ≡ Some (TailIs result.0 result.1) }
-        ensures within { result.1 ≤ 2 ^ 62 }
+        ensures within { result.1 ≤ COUNTER_END }
     {
         (self.closed, self.tail)
     }
@@ -129,11 +123,11 @@ impl<const R: usize> Segment<R> {
     ///
     /// # Errors
     ///
-    /// `CounterEnd` exactly where the counter is 2^62; the segment is then as before.
+    /// `CounterEnd` exactly if the counter is 2^62; the segment is then as before.
     pub fn add_head(&mut self) -> Result<u64, Refusal>
-        ensures ok { IfOk result (λ n. Performs Add Head (Number n) (added (Number n) (Number (n + 1))) self.old self.new) }
-        ensures err { IfErr result (λ e. Refuses Add Head self.old e) }
-        ensures end { (result ≡ Err Refusal.CounterEnd) ↔ (head_count self.old ≡ 2 ^ 62) }
+        ensures ok { IfOk result (λ n. OperatesAt Head Add (Number n) (Found (Number n)) true self.old self.new) }
+        ensures err { IfErr result (λ e. RefusesAt Head Add self.old e) }
+        ensures end { (result ≡ Err Refusal.CounterEnd) ↔ (head_count self.old ≡ COUNTER_END) }
         ensures unchanged { OnErr result (self.new ≡ self.old) }
     {
         if self.head == COUNTER_END {
@@ -148,12 +142,11 @@ impl<const R: usize> Segment<R> {
     ///
     /// # Errors
     ///
-    /// `CounterEnd` exactly where the counter is 2^62; the segment is then as before.
+    /// `CounterEnd` exactly if the counter is 2^62; the segment is then as before.
     pub fn add_tail(&mut self) -> Result<(bool, u64), Refusal>
-        ensures ok { IfOk result (λ old. Performs Add Tail (TailIs old.0 old.1)
-            (added (TailIs old.0 old.1) (TailIs old.0 (old.1 + 1))) self.old self.new) }
-        ensures err { IfErr result (λ e. Refuses Add Tail self.old e) }
-        ensures end { (result ≡ Err Refusal.CounterEnd) ↔ (tail_count self.old ≡ 2 ^ 62) }
+        ensures ok { IfOk result (λ old. OperatesAt Tail Add (TailIs old.0 old.1) (Found (TailIs old.0 old.1)) true self.old self.new) }
+        ensures err { IfErr result (λ e. RefusesAt Tail Add self.old e) }
+        ensures end { (result ≡ Err Refusal.CounterEnd) ↔ (tail_count self.old ≡ COUNTER_END) }
         ensures unchanged { OnErr result (self.new ≡ self.old) }
     {
         if self.tail == COUNTER_END {
@@ -166,8 +159,7 @@ impl<const R: usize> Segment<R> {
 
     /// Test-and-set of the closed bit: answers the old bit.
     pub fn close(&mut self) -> bool
-        ensures { Performs Close Tail (TailIs result (tail_count self.old))
-            (record { answer = WasClosed result; writes = Some (TailIs true (tail_count self.old)) }) self.old self.new }
+        ensures { OperatesAt Tail Close (TailIs result (tail_count self.old)) (WasClosed result) true self.old self.new }
     {
         let old = self.closed;
         self.closed = true;
@@ -176,9 +168,9 @@ impl<const R: usize> Segment<R> {
 
     /// Compare-and-swap of the tail, from open at one count to open at another: answers whether it won.
     pub fn cas_tail(&mut self, old: u64, new: u64) -> bool
-        requires { new ≤ 2 ^ 62 }
+        requires { new ≤ COUNTER_END }
         ensures { (c : Content) → part self.old (Tail root) ≡ Some c
-            → Performs (CasTail old new) Tail c (swapped result (TailIs false new)) self.old self.new }
+            → OperatesAt Tail (CasTail old new) c (swap_answer result) result self.old self.new }
     {
         let won = !self.closed && self.tail == old;
         if won {
@@ -190,7 +182,7 @@ impl<const R: usize> Segment<R> {
     /// Compare-and-swap of the next, from none: answers whether it won.
     pub fn cas_next(&mut self, new: SegName) -> bool
         ensures { (c : Content) → part self.old (Next root) ≡ Some c
-            → Performs (CasNext new) Next c (swapped result (NextIs (Some new))) self.old self.new }
+            → OperatesAt Next (CasNext new) c (swap_answer result) result self.old self.new }
     {
         let won = self.next.is_none();
         if won {
@@ -203,7 +195,7 @@ impl<const R: usize> Segment<R> {
     pub fn cas2_cell(&mut self, i: u8, old: Cell, new: Cell) -> bool
         requires { i < R }
         ensures { (c : Content) → part self.old (CellAt root i) ≡ Some c
-            → Performs (Cas2 old new) (λ s. CellAt s i) c (swapped result (CellIs new)) self.old self.new }
+            → OperatesAt (λ s. CellAt s i) (Cas2 old new) c (swap_answer result) result self.old self.new }
     {
         let mut cell = self.cells[usize::from(i)];
         let won = cell.cas2(old, new);
@@ -213,16 +205,16 @@ impl<const R: usize> Segment<R> {
 
     /// The inverse of what writes the head: the counter becomes the one from before.
     pub fn restore_head(&mut self, count: u64)
-        requires { count ≤ 2 ^ 62 }
-        ensures { Puts Head (Number count) self.old self.new }
+        requires { count ≤ COUNTER_END }
+        ensures { RestoresAt Head (Number count) self.old self.new }
     {
         self.head = count;
     }
 
     /// The inverse of what writes a tail: the closed bit and the counter become those from before.
     pub fn restore_tail(&mut self, closed: bool, count: u64)
-        requires { count ≤ 2 ^ 62 }
-        ensures { Puts Tail (TailIs closed count) self.old self.new }
+        requires { count ≤ COUNTER_END }
+        ensures { RestoresAt Tail (TailIs closed count) self.old self.new }
     {
         self.closed = closed;
         self.tail = count;
@@ -230,7 +222,7 @@ impl<const R: usize> Segment<R> {
 
     /// The inverse of what writes the next: it becomes the one from before.
     pub fn restore_next(&mut self, next: Option<SegName>)
-        ensures { Puts Next (NextIs next) self.old self.new }
+        ensures { RestoresAt Next (NextIs next) self.old self.new }
     {
         self.next = next;
     }
@@ -238,18 +230,15 @@ impl<const R: usize> Segment<R> {
     /// The inverse of what writes a cell: it becomes the one from before.
     pub fn restore_cell(&mut self, i: u8, cell: Cell)
         requires { i < R }
-        ensures { Puts (λ s. CellAt s i) (CellIs cell) self.old self.new }
+        ensures { RestoresAt (λ s. CellAt s i) (CellIs cell) self.old self.new }
     {
         self.cells[usize::from(i)] = cell;
     }
 }
 
-/// Where a segment's counters end.
-pub const COUNTER_END: u64 = 1 << 62;
-
 /// The cells of a fresh segment.
 fn fresh_cells<const R: usize>() -> [Cell; R]
-    requires { R ≤ 64 }
+    requires { R ≤ MOST_CELLS }
     ensures { (u : ℕ) → u < R → slice_get result u ≡ Some (new_cell u None) }
 {
     let mut cells = [Cell {
@@ -269,7 +258,7 @@ fn fresh_cells<const R: usize>() -> [Cell; R]
 
 /// The cells that are handed in, in an array of their own.
 fn same_cells<const R: usize>(given: &[Cell]) -> [Cell; R]
-    requires small { R ≤ 64 }
+    requires small { R ≤ MOST_CELLS }
     requires sized { length given.now ≡ R }
     ensures { (u : ℕ) → u < R → slice_get result u ≡ slice_get given.now u }
 {

@@ -5,41 +5,28 @@ use Rattle.std.proofs.lemmas.Bool.{cases_lt, cond-true, cond-false, eqb-false}
 use Rattle.std.proofs.lemmas.List.{get_or-replicate}
 use Rattle.std.proofs.lemmas.Option.{slice_get_past, slice_get-get_or}
 use mathlib.Core.Path.{fun_ext}
-use Rattle.rd_cell.specs.declared.places.Place.{Place}
-use Rattle.rd_cell.specs.declared.places.Place.TheVariants.{ArrHead, ArrTail, ArrCell}
-use Rattle.rd_cell.specs.declared.contents.ArrSlot.{ArrSlot}
-use Rattle.rd_cell.specs.declared.contents.ArrSlot.TheVariants.{Empty}
-use Rattle.rd_cell.specs.declared.contents.Content.TheVariants.{Number, Slot}
-use Rattle.rd_cell.specs.declared.access.Operation.{Operation}
-use Rattle.rd_cell.specs.declared.access.Operation.TheVariants.{Read, AddArray, Swap}
-use Rattle.rd_cell.specs.declared.access.Answer.TheVariants.{Found}
-use Rattle.rd_cell.specs.declared.access.Done.{Done}
-use Rattle.rd_cell.specs.declared.refusal.Refusal.{Refusal}
-use Rattle.rd_cell.specs.declared.refusal.Refusal.TheVariants.{ArrayEnd}
-use Rattle.rd_cell.specs.Place.{is_place}
-use Rattle.rd_cell.specs.Effect.{effect, writes}
-use Rattle.rd_cell.specs.Access.{done_with, Operates}
+use Rattle.rd_ring.specs.Prelude.{SLOTS, Place, ArrHead, ArrTail, ArrCell, ArrSlot, Empty, Number, Slot, Operation, Read, AddArray, Swap, Found, Done, Refusal, ArrayEnd, is_place, effect, everywhere, Operates, OperatesOn}
+use Rattle.rd_cell.specs.Operations.{writes}
 use Rattle.rd_cell.proofs.ListLemmas.{slice_get-set_same, slice_get-set_other}
-use Rattle.rd_segments.specs.Ends.{OperatesOn}
+use Rattle.rd_cell.proofs.EffectLemmas.{wrote_on, read_on, place_operates}
 use Rattle.rd_segments.specs.Array.{array_of, fresh_array}
-use Rattle.rd_segments.proofs.EndsLemmas.{place_operates}
 
 -- each slot of a fresh array is empty
-fresh_slot : (i : ℕ) → option_map Slot (slice_get (replicate 64 Empty) i) ≡ fresh_array (ArrCell i)
+fresh_slot : (i : ℕ) → option_map Slot (slice_get (replicate SLOTS Empty) i) ≡ fresh_array (ArrCell i)
 fresh_slot i =
-    elim (cases_lt i 64) [
+    elim (cases_lt i SLOTS) [
       | inl lt ↦
-          ap (option_map Slot) (slice_get-get_or (replicate 64 Empty) i Empty lt ∙ ap Some (get_or-replicate 64 i Empty Empty lt))
-          ∙ sym (cond-true (nat_lt i 64) (Some (Slot Empty)) None (lt-ltb i 64 lt))
+          ap (option_map Slot) (slice_get-get_or (replicate SLOTS Empty) i Empty lt ∙ ap Some (get_or-replicate SLOTS i Empty Empty lt))
+          ∙ sym (cond-true (nat_lt i SLOTS) (Some (Slot Empty)) None (lt-ltb i SLOTS lt))
       | inr past ↦
-          ap (option_map Slot) (slice_get_past (replicate 64 Empty) i past)
-          ∙ sym (cond-false (nat_lt i 64) (Some (Slot Empty)) None (le-ltb i 64 past))
+          ap (option_map Slot) (slice_get_past (replicate SLOTS Empty) i past)
+          ∙ sym (cond-false (nat_lt i SLOTS) (Some (Slot Empty)) None (le-ltb i SLOTS past))
     ]
 
-pub fresh_by : array_of 0 0 (replicate 64 Empty) ≡ fresh_array
+pub fresh_by : array_of 0 0 (replicate SLOTS Empty) ≡ fresh_array
 fresh_by = fun_ext each
   where
-    each : (q : Place) → array_of 0 0 (replicate 64 Empty) q ≡ fresh_array q
+    each : (q : Place) → array_of 0 0 (replicate SLOTS Empty) q ≡ fresh_array q
     each ArrHead = refl
     each ArrTail = refl
     each (ArrCell i) = fresh_slot i
@@ -47,34 +34,21 @@ fresh_by = fun_ext each
 
 -- A counter and a slot
 
-pub reads_counter : (p : Place) (op : Operation) (n : ℕ) (done : Done) → op ≡ Read → done ≡ done_with p (Number n) (Found (Number n)) false
-    → OperatesOn p op done (Number n) (Number n)
-reads_counter p op n done is notes = record {
-  gives = record { answer = Found (Number n); writes = None };
-  does = ap (λ (o : Operation). effect o (Number n)) is;
-  notes = sym notes;
-  leaves = refl;
-}
+pub reads_counter : (p : Place) (op : Operation) (n : ℕ) (done : Done) → op ≡ Read
+    → done ≡ record { place = Some p; old = Some (Number n); answer = Found (Number n); wrote = false } → OperatesOn p op done (Number n) (Number n)
+reads_counter p op n done is notes = read_on p op (Number n) (Found (Number n)) done (ap (λ (o : Operation). effect o (Number n)) is) notes
 
-pub adds_counter : (p : Place) (op : Operation) (n : ℕ) (done : Done) → op ≡ AddArray → n < 64
-    → done ≡ done_with p (Number n) (Found (Number n)) true → OperatesOn p op done (Number n) (Number (n + 1))
-adds_counter p op n done is below notes = record {
-  gives = record { answer = Found (Number n); writes = Some (Number (n + 1)) };
-  does =
-      ap (λ (o : Operation). effect o (Number n)) is
-      ∙ cond-true (nat_lt n 64) (writes (Found (Number n)) (Number (n + 1))) (Err ArrayEnd) (lt-ltb n 64 below);
-  notes = sym notes;
-  leaves = refl;
-}
+pub adds_counter : (p : Place) (op : Operation) (n : ℕ) (done : Done) → op ≡ AddArray → n < SLOTS
+    → done ≡ record { place = Some p; old = Some (Number n); answer = Found (Number n); wrote = true } → OperatesOn p op done (Number n) (Number (n + 1))
+adds_counter p op n done is below notes =
+    wrote_on p op (Number n) (Number (n + 1)) (Found (Number n)) done
+    (ap (λ (o : Operation). effect o (Number n)) is
+    ∙ cond-true (nat_lt n SLOTS) (writes (Found (Number n)) (Number (n + 1))) (Err ArrayEnd) (lt-ltb n SLOTS below)) notes
 
 pub swaps_slot : (p : Place) (op : Operation) (old new : ArrSlot) (done : Done) → op ≡ Swap new
-    → done ≡ done_with p (Slot old) (Found (Slot old)) true → OperatesOn p op done (Slot old) (Slot new)
-swaps_slot p op old new done is notes = record {
-  gives = record { answer = Found (Slot old); writes = Some (Slot new) };
-  does = ap (λ (o : Operation). effect o (Slot old)) is;
-  notes = sym notes;
-  leaves = refl;
-}
+    → done ≡ record { place = Some p; old = Some (Slot old); answer = Found (Slot old); wrote = true } → OperatesOn p op done (Slot old) (Slot new)
+swaps_slot p op old new done is notes =
+    wrote_on p op (Slot old) (Slot new) (Found (Slot old)) done (ap (λ (o : Operation). effect o (Slot old)) is) notes
 
 -- One place of the array
 
@@ -94,35 +68,37 @@ slot_other head tail cells i slot (ArrCell j) h =
 slot_other head tail cells i slot _ h = refl
 
 pub head_does : (m n tail : ℕ) (cells : List ArrSlot) (p : Place) (op : Operation) → p ≡ ArrHead → (r : Result Done Refusal)
-    → IfOk r (λ done. OperatesOn p op done (Number m) (Number n)) → IfOk r (λ done. Operates p op (array_of m tail cells) (array_of n tail cells) done)
-head_does m n tail cells p op at r h =
-    place_operates (array_of m tail cells) (array_of n tail cells) p op (Number m) (Number n)
-    (ap (array_of m tail cells) at) (ap (array_of n tail cells) at)
-    (λ q e. head_other m n tail cells q (ap (λ (x : Place). is_place x q) (sym at) ∙ e)) r h
+    → IfOk r (λ done. OperatesOn p op done (Number m) (Number n)) → IfOk r (λ done. Operates everywhere p op done (array_of m tail cells) (array_of n tail cells))
+head_does m n tail cells p op at r =
+    subst (λ (x : Place). IfOk r (λ done. OperatesOn x op done (Number m) (Number n))
+    → IfOk r (λ done. Operates everywhere x op done (array_of m tail cells) (array_of n tail cells))) (sym at)
+    (place_operates ArrHead op (Number m) (Number n) (array_of m tail cells) (array_of n tail cells) (λ q. refl) refl refl refl
+    (λ q e. head_other m n tail cells q e) r)
 
 pub tail_does : (head m n : ℕ) (cells : List ArrSlot) (p : Place) (op : Operation) → p ≡ ArrTail → (r : Result Done Refusal)
-    → IfOk r (λ done. OperatesOn p op done (Number m) (Number n)) → IfOk r (λ done. Operates p op (array_of head m cells) (array_of head n cells) done)
-tail_does head m n cells p op at r h =
-    place_operates (array_of head m cells) (array_of head n cells) p op (Number m) (Number n)
-    (ap (array_of head m cells) at) (ap (array_of head n cells) at)
-    (λ q e. tail_other head m n cells q (ap (λ (x : Place). is_place x q) (sym at) ∙ e)) r h
+    → IfOk r (λ done. OperatesOn p op done (Number m) (Number n)) → IfOk r (λ done. Operates everywhere p op done (array_of head m cells) (array_of head n cells))
+tail_does head m n cells p op at r =
+    subst (λ (x : Place). IfOk r (λ done. OperatesOn x op done (Number m) (Number n))
+    → IfOk r (λ done. Operates everywhere x op done (array_of head m cells) (array_of head n cells))) (sym at)
+    (place_operates ArrTail op (Number m) (Number n) (array_of head m cells) (array_of head n cells) (λ q. refl) refl refl refl
+    (λ q e. tail_other head m n cells q e) r)
 
 slot_does_at : (head tail : ℕ) (cells : List ArrSlot) (i : ℕ) (old new d : ArrSlot) (op : Operation) → i < length cells → old ≡ get_or cells i d
     → (r : Result Done Refusal) → IfOk r (λ done. OperatesOn (ArrCell i) op done (Slot old) (Slot new))
-    → IfOk r (λ done. Operates (ArrCell i) op (array_of head tail cells) (array_of head tail (set cells i new)) done)
-slot_does_at head tail cells i old new d op within read r h =
+    → IfOk r (λ done. Operates everywhere (ArrCell i) op done (array_of head tail cells) (array_of head tail (set cells i new)))
+slot_does_at head tail cells i old new d op within read r =
     let found : slice_get cells i ≡ Some old = slice_get-get_or cells i d within ∙ ap Some (sym read) in
-    place_operates (array_of head tail cells) (array_of head tail (set cells i new)) (ArrCell i) op (Slot old) (Slot new)
-    (ap (option_map Slot) found) (ap (option_map Slot) (slice_get-set_same cells i new within))
-    (slot_other head tail cells i new) r h
+    place_operates (ArrCell i) op (Slot old) (Slot new) (array_of head tail cells) (array_of head tail (set cells i new)) (λ q. refl)
+    (ap (option_map Slot) found) (ap (option_map Slot) found) (ap (option_map Slot) (slice_get-set_same cells i new within))
+    (slot_other head tail cells i new) r
 
 -- the same at the index of the place
 pub slot_does : (head tail : ℕ) (cells : List ArrSlot) (i j : ℕ) (old new d : ArrSlot) (p : Place) (op : Operation) → p ≡ ArrCell i → j ≡ i
     → j < length cells → old ≡ get_or cells j d → (r : Result Done Refusal)
     → IfOk r (λ done. OperatesOn (ArrCell i) op done (Slot old) (Slot new))
-    → IfOk r (λ done. Operates p op (array_of head tail cells) (array_of head tail (set cells j new)) done)
+    → IfOk r (λ done. Operates everywhere p op done (array_of head tail cells) (array_of head tail (set cells j new)))
 slot_does head tail cells i j old new d p op at same within read r h =
-    subst (λ (x : Place). IfOk r (λ done. Operates x op (array_of head tail cells) (array_of head tail (set cells j new)) done))
+    subst (λ (x : Place). IfOk r (λ done. Operates everywhere x op done (array_of head tail cells) (array_of head tail (set cells j new))))
     (ap ArrCell same ∙ sym at)
     (slot_does_at head tail cells j old new d op within read r
     (subst (λ (k : ℕ). IfOk r (λ done. OperatesOn (ArrCell k) op done (Slot old) (Slot new))) (sym same) h))

@@ -1,5 +1,6 @@
-pub mod ListsLemmas
 pub mod EndsLemmas
 pub mod ArrayLemmas
-pub mod FieldsLemmas
+pub mod ListsLemmas
+pub mod SegmentsLemmas
+pub mod SpaceLemmas
 pub mod CountLemmas

@@ -1,6 +1,6 @@
 pub mod Lists
-pub mod Ends
+pub mod Room
 pub mod Array
-pub mod Fields
+pub mod SpaceFields
 pub mod Parts
 pub mod Space

@@ -1,17 +1,12 @@
 //! The array of the array queue (Morrison and Afek's queue over an infinite array, here of 64 slots): its two counters
 //! and its slots.
 
-ghost use Rattle.std.specs.Prelude.{◌≡◌, is_some, length, Err, IsTrue, IfOk, IfErr, OnErr};
-ghost use Rattle.rd_cell.specs.declared.contents.Content.TheVariants.{Number, Slot};
-ghost use Rattle.rd_cell.specs.Content.{may_have, with_content};
-ghost use Rattle.rd_cell.specs.Effect.{effect, suits_array};
-ghost use Rattle.rd_cell.specs.Access.{operate, Operates};
-ghost use Rattle.rd_segments.specs.Ends.{OperatesOn};
+ghost use Rattle.std.specs.Prelude.{◌≡◌, is_some, length, Some, Err, IsTrue, IfOk, IfErr, OnErr};
+ghost use Rattle.rd_ring.specs.Prelude.{SLOTS, Number, Slot, may_have, operand, operate, restore, everywhere, Operates, OperatesOn};
+ghost use Rattle.rd_cell.specs.Operations.{suits_array};
 
+use rd_cell::limits::SLOTS;
 use rd_cell::{Answer, ArrSlot, Content, Done, Operation, Place, Refusal};
-
-/// How many slots the array has, and where its counters end.
-pub const SLOTS: usize = 64;
 
 /// The words of the array.
 #[derive(Clone, Copy, Debug)]
@@ -21,25 +16,25 @@ pub struct ArrayParts {
     /// The tail counter: the next position that an enqueue draws, 0 to 64 in a well-formed world.
     pub tail: u64,
     /// The slots, by their positions.
-    pub cells: [ArrSlot; 64],
-    ghost sized: { length cells ≡ 64 },
+    pub cells: [ArrSlot; SLOTS],
+    ghost sized: { length cells ≡ SLOTS },
 }
 
 impl ArrayParts {
     ghost use Rattle.rd_segments.specs.Array.{array_part, fresh_array};
 
-    /// A fresh array: both counters are 0, and nobody has come to a slot.
+    /// A fresh array: both counters are 0, and every slot is empty.
     pub fn fresh() -> ArrayParts
         ensures { array_part result ≡ fresh_array }
     {
         ArrayParts {
             head: 0,
             tail: 0,
-            cells: [ArrSlot::Empty; 64],
+            cells: [ArrSlot::Empty; SLOTS],
         }
     }
 
-    /// What is at a place of the array; none where it has no such place.
+    /// What is at a place of the array; none if it has no such place.
     pub fn content(&self, place: Place) -> Option<Content>
         ensures { result ≡ array_part self.now place }
     {
@@ -58,12 +53,12 @@ impl ArrayParts {
     ///
     /// # Errors
     ///
-    /// `ArrayEnd` for a fetch-and-add on a counter that is 64; `NoSuchPlace` where there is no such place, or a content
-    /// of another kind, for which no actor asks. The array is then as before.
+    /// `ArrayEnd` for a fetch-and-add on a counter that is 64; `NoSuchPlace` if there is no such place, or a content
+    /// of another kind, which no actor asks for. The array is then as before.
     pub fn operate(&mut self, place: Place, operation: Operation) -> Result<Done, Refusal>
         requires { IsTrue (suits_array operation) }
-        ensures ok { IfOk result (λ done. Operates place operation (array_part self.old) (array_part self.new) done) }
-        ensures err { IfErr result (λ e. operate place operation (array_part self.old place) ≡ Err e) }
+        ensures ok { IfOk result (λ done. Operates everywhere place operation done (array_part self.old) (array_part self.new)) }
+        ensures err { IfErr result (λ e. operate place operation (operand (array_part self.old) place) ≡ Err e) }
         ensures unchanged { OnErr result (array_part self.new ≡ array_part self.old) }
     {
         match place {
@@ -83,7 +78,7 @@ impl ArrayParts {
     pub fn restore(&mut self, place: Place, content: Content)
         requires there { IsTrue (is_some (array_part self.old place)) }
         requires kind { IsTrue (may_have place content) }
-        ensures { array_part self.new ≡ with_content place content (array_part self.old) }
+        ensures { array_part self.new ≡ restore (Some place) (Some content) (array_part self.old) }
     {
         match (place, content) {
             (Place::ArrHead, Content::Number(count)) => self.head = count,
@@ -102,7 +97,7 @@ fn operate_on_counter(
 ) -> Result<Done, Refusal>
     requires { IsTrue (suits_array operation) }
     ensures ok { IfOk result (λ done. OperatesOn place operation done (Number counter.old) (Number counter.new)) }
-    ensures err { IfErr result (λ e. effect operation (Number counter.old) ≡ Err e) }
+    ensures err { IfErr result (λ e. operate place operation (Some (Number counter.old)) ≡ Err e) }
     ensures unchanged { OnErr result (counter.new ≡ counter.old) }
 {
     let found = Content::Number(*counter);
@@ -122,7 +117,7 @@ fn operate_on_counter(
 /// Does an operation on a slot of the array: a swap.
 fn operate_on_slot(slot: &mut ArrSlot, place: Place, operation: Operation) -> Result<Done, Refusal>
     ensures ok { IfOk result (λ done. OperatesOn place operation done (Slot slot.old) (Slot slot.new)) }
-    ensures err { IfErr result (λ e. effect operation (Slot slot.old) ≡ Err e) }
+    ensures err { IfErr result (λ e. operate place operation (Some (Slot slot.old)) ≡ Err e) }
     ensures unchanged { OnErr result (slot.new ≡ slot.old) }
 {
     let found = Content::Slot(*slot);

@@ -1,9 +1,7 @@
 //! The names at the queue's two ends.
 
-ghost use Rattle.std.specs.Prelude.{◌≡◌, Err, IfOk, IfErr, OnErr};
-ghost use Rattle.rd_cell.specs.declared.contents.Content.TheVariants.{Name};
-ghost use Rattle.rd_cell.specs.Effect.{effect};
-ghost use Rattle.rd_segments.specs.Ends.{OperatesOn};
+ghost use Rattle.std.specs.Prelude.{◌≡◌, Some, Err, IfOk, IfErr, OnErr};
+ghost use Rattle.rd_ring.specs.Prelude.{Name, operate, OperatesOn};
 
 use rd_cell::{Answer, Content, Done, Operation, Place, Refusal, SegName};
 
@@ -11,14 +9,14 @@ use rd_cell::{Answer, Content, Done, Operation, Place, Refusal, SegName};
 ///
 /// # Errors
 ///
-/// `NoSuchPlace` for another operation, for which no actor asks.
+/// `NoSuchPlace` for another operation, which no actor asks for.
 pub fn operate_on_name(
     name: &mut SegName,
     place: Place,
     operation: Operation,
 ) -> Result<Done, Refusal>
     ensures ok { IfOk result (λ done. OperatesOn place operation done (Name name.old) (Name name.new)) }
-    ensures err { IfErr result (λ e. effect operation (Name name.old) ≡ Err e) }
+    ensures err { IfErr result (λ e. operate place operation (Some (Name name.old)) ≡ Err e) }
     ensures unchanged { OnErr result (name.new ≡ name.old) }
 {
     let found = Content::Name(*name);

@@ -1,26 +1,20 @@
 //! The makers' lists of segments: what is done to one segment of one list.
 
 ghost use Rattle.std.specs.Prelude.{◌≡◌, ◌+◌, ◌-◌, ◌<◌, ◌≤◌, ℕ, Some, None, Err, is_some, IsTrue, IfOk, IfErr, OnOk, OnErr, MatchOption, take, true, length, is_ok, vec_len, vec_capacity, if◌then◌else◌};
-ghost use Rattle.rd_cell.specs.declared.places.SegName.{SegName};
-ghost use Rattle.rd_cell.specs.declared.places.Place.{Place};
-ghost use Rattle.rd_cell.specs.Content.{may_have};
-ghost use Rattle.rd_cell.specs.Effect.{suits_segments};
-ghost use Rattle.rd_ring.specs.Segment.{part, effect_at};
-ghost use Rattle.rd_segments.specs.Lists.{named, part_of, count, spare, uses, Changes, OperatesIn, RestoresIn, MakesIn, MakesNext, RefusesMaking, RefusesNext};
+ghost use Rattle.rd_ring.specs.Prelude.{MOST_CELLS, SegName, Place, WholeOf, segment_of, may_have, operand, operate, everywhere, Operates, Makes, Restores, RefusesMaking};
+ghost use Rattle.rd_cell.specs.Operations.{suits_segments};
+ghost use Rattle.rd_segments.specs.Lists.{by_name, part_of, segments_of, count, IsLengthened};
+ghost use Rattle.rd_segments.specs.Room.{spare, room_used};
 
+use rd_cell::limits::MOST_SEGMENTS;
 use rd_cell::{Content, Done, Operation, Place, Refusal, SegName};
 use rd_ring::Segment;
+use std::alloc::AllocError;
 
-/// The segments, by their makers: element m has maker m's, in the order of their making.
-pub type Lists<const R: usize> = Vec<Vec<Segment<R>>>;
-
-/// How many segments one maker may make.
-pub const SEGMENTS: usize = 65_535;
-
-/// The segment of this name, where it is there.
+/// The segment of this name, if it is there.
 pub fn find<const R: usize>(makers: &Vec<Vec<Segment<R>>>, name: SegName) -> Option<&Segment<R>>
-    requires { R ≤ 64 }
-    ensures { MatchOption result (named makers.now.items name ≡ None) (λ s. named makers.now.items name ≡ Some s.now) }
+    requires { R ≤ MOST_CELLS }
+    ensures { MatchOption result (by_name makers.now.items name ≡ None) (λ s. by_name makers.now.items name ≡ Some s.now) }
 {
     match makers.get(usize::from(name.maker)) {
         None => None,
@@ -35,14 +29,16 @@ pub fn operate_in<const R: usize>(
     place: Place,
     operation: Operation,
 ) -> Result<Done, Refusal>
-    requires small { R ≤ 64 }
-    requires there { IsTrue (is_some (named makers.old.items name)) }
+    requires small { R ≤ MOST_CELLS }
+    requires there { IsTrue (is_some (by_name makers.old.items name)) }
+    requires its { segment_of place ≡ Some name }
     requires suits { IsTrue (suits_segments operation) }
-    ensures ok { IfOk result (λ done. OperatesIn name place operation done makers.old.items makers.new.items) }
-    ensures err { IfErr result (λ e. effect_at operation (part_of (named makers.old.items name) place) ≡ Err e) }
-    ensures unchanged { OnErr result ((t : SegName) → named makers.new.items t ≡ named makers.old.items t) }
+    ensures ok { IfOk result (λ done. Operates everywhere place operation done (segments_of makers.old.items) (segments_of makers.new.items)) }
+    ensures err { IfErr result (λ e. operate place operation (operand (segments_of makers.old.items) place) ≡ Err e) }
+    ensures unchanged { OnErr result (segments_of makers.new.items ≡ segments_of makers.old.items) }
     ensures room { (m : ℕ) → spare makers.new.items m ≡ spare makers.old.items m }
     ensures number { length makers.new.items ≡ length makers.old.items }
+    ensures capacity { vec_capacity makers.new ≡ vec_capacity makers.old }
 {
     makers[usize::from(name.maker)][name.n as usize].operate(place, operation)
 }
@@ -54,12 +50,14 @@ pub fn restore_in<const R: usize>(
     place: Place,
     content: Content,
 )
-    requires small { R ≤ 64 }
-    requires there { IsTrue (is_some (part_of (named makers.old.items name) place)) }
+    requires small { R ≤ MOST_CELLS }
+    requires there { IsTrue (is_some (part_of (by_name makers.old.items name) place)) }
+    requires its { segment_of place ≡ Some name }
     requires kind { IsTrue (may_have place content) }
-    ensures done { RestoresIn name place content makers.old.items makers.new.items }
+    ensures done { Restores everywhere place (Some content) (segments_of makers.old.items) (segments_of makers.new.items) }
     ensures room { (m : ℕ) → spare makers.new.items m ≡ spare makers.old.items m }
     ensures number { length makers.new.items ≡ length makers.old.items }
+    ensures capacity { vec_capacity makers.new ≡ vec_capacity makers.old }
 {
     makers[usize::from(name.maker)][name.n as usize].restore(place, content);
 }
@@ -68,20 +66,22 @@ pub fn restore_in<const R: usize>(
 ///
 /// # Errors
 ///
-/// `SegmentsEnd` exactly where the maker has made 65,535; else `NoMemory` where the growth was refused.
+/// `SegmentsEnd` exactly if the maker has made 65,535; else `NoMemory` if memory was refused.
 pub fn make_in<const R: usize>(
     makers: &mut Vec<Vec<Segment<R>>>,
     maker: u8,
     value: u64,
 ) -> Result<SegName, Refusal>
     requires positive { 1 ≤ R }
-    requires small { R ≤ 64 }
+    requires small { R ≤ MOST_CELLS }
     requires maker_there { maker < length makers.old.items }
-    ensures ok { IfOk result (λ name. MakesIn R maker value name makers.old.items makers.new.items) }
-    ensures err { IfErr result (λ e. RefusesMaking maker makers.old.items e) }
-    ensures unchanged { OnErr result ((t : SegName) → named makers.new.items t ≡ named makers.old.items t) }
-    ensures room { (m : ℕ) → spare makers.old.items m ≤ spare makers.new.items m + uses (is_ok result) maker m }
+    ensures name { IfOk result (λ name. name ≡ record { maker = maker; n = count makers.old.items maker }) }
+    ensures ok { IfOk result (λ name. Makes R name value (segments_of makers.old.items) (segments_of makers.new.items)) }
+    ensures err { IfErr result (λ e. RefusesMaking (count makers.old.items maker) (spare makers.old.items maker) e) }
+    ensures unchanged { OnErr result (segments_of makers.new.items ≡ segments_of makers.old.items) }
+    ensures room { (m : ℕ) → spare makers.old.items m ≤ spare makers.new.items m + room_used (is_ok result) maker m }
     ensures number { length makers.new.items ≡ length makers.old.items }
+    ensures capacity { vec_capacity makers.new ≡ vec_capacity makers.old }
 {
     make_next(&mut makers[usize::from(maker)], maker, value)
 }
@@ -93,14 +93,14 @@ fn make_next<const R: usize>(
     value: u64,
 ) -> Result<SegName, Refusal>
     requires positive { 1 ≤ R }
-    requires small { R ≤ 64 }
-    ensures ok { IfOk result (λ name. MakesNext R maker value name list.old list.new) }
-    ensures err { IfErr result (λ e. RefusesNext list.old e) }
+    requires small { R ≤ MOST_CELLS }
+    ensures ok { IfOk result (λ name. IsLengthened R maker value name list.old list.new) }
+    ensures err { IfErr result (λ e. RefusesMaking (length list.old.items) (vec_capacity list.old - vec_len list.old) e) }
     ensures unchanged { OnErr result (list.new.items ≡ list.old.items) }
     ensures room { vec_capacity list.old - vec_len list.old ≤ (vec_capacity list.new - vec_len list.new) + (if is_ok result then 1 else 0) }
 {
     let n = list.len();
-    if n >= SEGMENTS {
+    if n >= MOST_SEGMENTS {
         return Err(Refusal::SegmentsEnd);
     }
     match list.push(Segment::holding(value)) {
@@ -111,18 +111,19 @@ fn make_next<const R: usize>(
 
 /// Takes the maker's last segment away, and gives its room back.
 pub fn unmake_in<const R: usize>(makers: &mut Vec<Vec<Segment<R>>>, maker: u8)
-    requires small { R ≤ 64 }
+    requires small { R ≤ MOST_CELLS }
     requires has_one { 0 < count makers.old.items maker }
-    ensures gone { Changes (record { maker = maker; n = count makers.old.items maker - 1 }) None makers.old.items makers.new.items }
-    ensures room { (m : ℕ) → spare makers.new.items m ≡ spare makers.old.items m + uses true maker m }
+    ensures gone { Restores everywhere (WholeOf (record { maker = maker; n = count makers.old.items maker - 1 })) None (segments_of makers.old.items) (segments_of makers.new.items) }
+    ensures room { (m : ℕ) → spare makers.new.items m ≡ spare makers.old.items m + room_used true maker m }
     ensures number { length makers.new.items ≡ length makers.old.items }
+    ensures capacity { vec_capacity makers.new ≡ vec_capacity makers.old }
 {
     take_last(&mut makers[usize::from(maker)]);
 }
 
 /// Takes the last segment of one maker's list away.
 fn take_last<const R: usize>(list: &mut Vec<Segment<R>>)
-    requires small { R ≤ 64 }
+    requires small { R ≤ MOST_CELLS }
     requires has_one { 0 < length list.old.items }
     ensures items { list.new.items ≡ take (length list.old.items - 1) list.old.items }
     ensures room { vec_capacity list.new - vec_len list.new ≡ (vec_capacity list.old - vec_len list.old) + 1 }
@@ -134,33 +135,31 @@ fn take_last<const R: usize>(list: &mut Vec<Segment<R>>)
 ///
 /// # Errors
 ///
-/// `NoMemory` where the growth was refused. No segment changes.
+/// Only if the growth was refused. No segment changes.
 pub fn make_room_in<const R: usize>(
     makers: &mut Vec<Vec<Segment<R>>>,
     maker: u8,
     more: usize,
-) -> Result<(), Refusal>
-    requires small { R ≤ 64 }
+) -> Result<(), AllocError>
+    requires small { R ≤ MOST_CELLS }
     requires maker_there { maker < length makers.old.items }
     ensures ok { OnOk result (more ≤ spare makers.new.items maker) }
-    ensures err { IfErr result (λ e. (e ≡ Refusal.NoMemory) × (spare makers.old.items maker < more)) }
-    ensures unchanged { (t : SegName) → named makers.new.items t ≡ named makers.old.items t }
+    ensures err { OnErr result (spare makers.old.items maker < more) }
+    ensures unchanged { segments_of makers.new.items ≡ segments_of makers.old.items }
     ensures room { (m : ℕ) → spare makers.old.items m ≤ spare makers.new.items m }
     ensures number { length makers.new.items ≡ length makers.old.items }
+    ensures capacity { vec_capacity makers.new ≡ vec_capacity makers.old }
 {
     reserve(&mut makers[usize::from(maker)], more)
 }
 
 /// Gives one maker's list room for so many segments.
-fn reserve<const R: usize>(list: &mut Vec<Segment<R>>, more: usize) -> Result<(), Refusal>
-    requires { R ≤ 64 }
+fn reserve<const R: usize>(list: &mut Vec<Segment<R>>, more: usize) -> Result<(), AllocError>
+    requires { R ≤ MOST_CELLS }
     ensures ok { OnOk result (more ≤ vec_capacity list.new - vec_len list.new) }
-    ensures err { IfErr result (λ e. (e ≡ Refusal.NoMemory) × (vec_capacity list.old - vec_len list.old < more)) }
+    ensures err { OnErr result (vec_capacity list.old - vec_len list.old < more) }
     ensures unchanged { list.new.items ≡ list.old.items }
     ensures room { vec_capacity list.old - vec_len list.old ≤ vec_capacity list.new - vec_len list.new }
 {
-    match list.reserve(more) {
-        Err(_) => Err(Refusal::NoMemory),
-        Ok(()) => Ok(()),
-    }
+    list.reserve(more)
 }

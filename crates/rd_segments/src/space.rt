@@ -1,14 +1,13 @@
 //! The space and what is done to it.
 
-ghost use Rattle.std.specs.Prelude.{◌≡◌, ◌+◌, ◌-◌, ◌<◌, ◌≤◌, ℕ, suc, true, is_ok, is_some, Err, IsTrue, IfOk, IfErr, OnOk, OnErr, length};
-ghost use Rattle.rd_cell.specs.Content.{shown, with_content, without_segment, may_have};
-ghost use Rattle.rd_cell.specs.Effect.{suits};
-ghost use Rattle.rd_cell.specs.Access.{operate, Operates, Makes};
-ghost use Rattle.rd_segments.specs.Lists.{named, part_of, count, spare, uses, Changes, OperatesIn, RestoresIn};
-ghost use Rattle.rd_segments.specs.Fields.{contents_of, fresh_space};
+ghost use Rattle.std.specs.Prelude.{◌≡◌, ◌+◌, ◌-◌, ◌<◌, ◌≤◌, ℕ, suc, true, Some, None, is_ok, is_some, Err, IsTrue, IfOk, IfErr, OnOk, OnErr, length};
+ghost use Rattle.rd_ring.specs.Prelude.{MOST_CELLS, WholeOf, content_at, may_have, operand, operate, restore, everywhere, Operates, Makes, RefusesMaking};
+ghost use Rattle.rd_cell.specs.Operations.{suits};
+ghost use Rattle.rd_segments.specs.Room.{room_used};
+ghost use Rattle.rd_segments.specs.SpaceFields.{contents_of, fresh_space};
 ghost use Rattle.rd_segments.specs.Array.{array_part};
 ghost use Rattle.rd_segments.specs.Parts.{each_segment, contents_of_parts};
-ghost use Rattle.rd_ring.specs.Segment.{counters_fit};
+ghost use Rattle.rd_ring.specs.Segments.{counters_fit};
 
 use super::array::ArrayParts;
 use super::ends::operate_on_name;
@@ -17,7 +16,7 @@ use super::makers::first_lists;
 use super::parts::lists_from_parts;
 use rd_cell::{Content, Done, Operation, Place, Refusal, SegName};
 use rd_ring::{Segment, SegmentParts};
-use std::alloc::Global;
+use std::alloc::{AllocError, Global};
 
 /// The places of both queues: the segments, by their makers, the names at the queue's two ends, and the array.
 #[derive(Drop)]
@@ -27,69 +26,63 @@ pub struct Space<const R: usize> {
     qtail: SegName,
     array: ArrayParts,
     ghost positive: { 1 ≤ R },
-    ghost small: { R ≤ 64 },
+    ghost small: { R ≤ MOST_CELLS },
 }
 
 impl<const R: usize> Space<R> {
-    ghost use Rattle.rd_segments.specs.Space.{contents, lists, made_by, room, RefusesMake};
+    ghost use Rattle.rd_segments.specs.Space.{contents, lists, making_count, room, capacity};
 
     /// A fresh space for so many actors: the root is there, fresh, and the queue's two ends name it, and
     /// the array is fresh.
     ///
     /// # Errors
     ///
-    /// `NoMemory` where the room for the makers' lists was refused.
-    pub fn fresh(alloc: Global, actors: u8) -> Result<Space<R>, Refusal>
+    /// Only if the room for the makers' lists was refused.
+    pub fn fresh(alloc: Global, actors: u8) -> Result<Space<R>, AllocError>
         requires positive { 1 ≤ R }
-        requires small { R ≤ 64 }
+        requires small { R ≤ MOST_CELLS }
         ensures ok { IfOk result (λ space. contents space ≡ fresh_space R) }
         ensures number { IfOk result (λ space. lists space ≡ suc actors) }
-        ensures err { IfErr result (λ e. e ≡ Refusal.NoMemory) }
     {
-        match first_lists(alloc, actors) {
-            Err(refusal) => Err(refusal),
-            Ok(makers) => Ok(Space {
-                makers,
-                qhead: SegName::ROOT,
-                qtail: SegName::ROOT,
-                array: ArrayParts::fresh(),
-            }),
-        }
+        let makers = first_lists(alloc, actors)?;
+        Ok(Space {
+            makers,
+            qhead: SegName::ROOT,
+            qtail: SegName::ROOT,
+            array: ArrayParts::fresh(),
+        })
     }
 
     /// The space of these parts: element m of `segments` has maker m's segments, in the order of their making.
     ///
     /// # Errors
     ///
-    /// `NoMemory` where the room for the lists was refused.
+    /// Only if the room for the lists was refused.
     pub fn from_parts(
         alloc: Global,
         segments: &Vec<Vec<SegmentParts<R>>>,
         qhead: SegName,
         qtail: SegName,
         array: ArrayParts,
-    ) -> Result<Space<R>, Refusal>
+    ) -> Result<Space<R>, AllocError>
         requires positive { 1 ≤ R }
-        requires small { R ≤ 64 }
+        requires small { R ≤ MOST_CELLS }
         requires within { IsTrue (each_segment counters_fit segments.now.items) }
         ensures ok { IfOk result (λ space. contents space ≡ contents_of_parts segments.now.items qhead qtail array) }
         ensures number { IfOk result (λ space. lists space ≡ length segments.now.items) }
-        ensures err { IfErr result (λ e. e ≡ Refusal.NoMemory) }
     {
-        match lists_from_parts(alloc, segments) {
-            Err(refusal) => Err(refusal),
-            Ok(makers) => Ok(Space {
-                makers,
-                qhead,
-                qtail,
-                array,
-            }),
-        }
+        let makers = lists_from_parts(alloc, segments)?;
+        Ok(Space {
+            makers,
+            qhead,
+            qtail,
+            array,
+        })
     }
 
-    /// What is at a place, or none where it is not there. The whole of a segment that is there has `Whole`.
+    /// What is at a place, or none if it is not there. The whole of a segment that is there has `Whole`.
     pub fn content(&self, place: Place) -> Option<Content>
-        ensures { result ≡ shown (contents self.now) place }
+        ensures { result ≡ content_at (contents self.now) place }
     {
         match place {
             Place::QHead => Some(Content::Name(self.qhead)),
@@ -113,15 +106,16 @@ impl<const R: usize> Space<R> {
     /// # Errors
     ///
     /// `CounterEnd` for a fetch-and-add on a segment's counter that is 2^62, `ArrayEnd` for one on a counter of the array
-    /// that is 64; `NoSuchPlace` where there is no such place, or a content of another kind, for which no actor asks.
+    /// that is 64; `NoSuchPlace` if there is no such place, or a content of another kind, which no actor asks for.
     /// The space is then as before.
     pub fn operate(&mut self, place: Place, operation: Operation) -> Result<Done, Refusal>
         requires { IsTrue (suits place operation) }
-        ensures ok { IfOk result (λ done. Operates place operation (contents self.old) (contents self.new) done) }
-        ensures err { IfErr result (λ e. operate place operation (contents self.old place) ≡ Err e) }
+        ensures ok { IfOk result (λ done. Operates everywhere place operation done (contents self.old) (contents self.new)) }
+        ensures err { IfErr result (λ e. operate place operation (operand (contents self.old) place) ≡ Err e) }
         ensures unchanged { OnErr result (contents self.new ≡ contents self.old) }
         ensures kept { (m : ℕ) → room self.new m ≡ room self.old m }
         ensures number { lists self.new ≡ lists self.old }
+        ensures capacity { capacity self.new ≡ capacity self.old }
     {
         match place.segment() {
             Some(name) => {
@@ -143,25 +137,28 @@ impl<const R: usize> Space<R> {
     ///
     /// # Errors
     ///
-    /// `SegmentsEnd` exactly where the maker has made 65,535; else `NoMemory` where the growth was refused, which it
-    /// is not where the maker has room. The space is then as before.
+    /// `SegmentsEnd` exactly if the maker has made 65,535; else `NoMemory` if memory was refused, which happens only if
+    /// the maker has no room. The space is then as before.
     pub fn make(&mut self, maker: u8, value: u64) -> Result<SegName, Refusal>
         requires { maker < lists self.old }
-        ensures ok { IfOk result (λ name. Makes R maker (made_by self.old maker) value name (contents self.old) (contents self.new)) }
-        ensures err { IfErr result (λ e. RefusesMake self.old maker e) }
+        ensures name { IfOk result (λ name. name ≡ record { maker = maker; n = making_count self.old maker }) }
+        ensures ok { IfOk result (λ name. Makes R name value (contents self.old) (contents self.new)) }
+        ensures err { IfErr result (λ e. RefusesMaking (making_count self.old maker) (room self.old maker) e) }
         ensures unchanged { OnErr result (contents self.new ≡ contents self.old) }
-        ensures used { (m : ℕ) → room self.old m ≤ room self.new m + uses (is_ok result) maker m }
+        ensures used { (m : ℕ) → room self.old m ≤ room self.new m + room_used (is_ok result) maker m }
         ensures number { lists self.new ≡ lists self.old }
+        ensures capacity { capacity self.new ≡ capacity self.old }
     {
         make_in(&mut self.makers, maker, value)
     }
 
     /// Takes the maker's last segment away, and gives its room back.
     pub fn unmake(&mut self, maker: u8)
-        requires { 0 < made_by self.old maker }
-        ensures gone { contents self.new ≡ without_segment (record { maker = maker; n = made_by self.old maker - 1 }) (contents self.old) }
-        ensures given { (m : ℕ) → room self.new m ≡ room self.old m + uses true maker m }
+        requires { 0 < making_count self.old maker }
+        ensures gone { contents self.new ≡ restore (Some (WholeOf (record { maker = maker; n = making_count self.old maker - 1 }))) None (contents self.old) }
+        ensures given { (m : ℕ) → room self.new m ≡ room self.old m + room_used true maker m }
         ensures number { lists self.new ≡ lists self.old }
+        ensures capacity { capacity self.new ≡ capacity self.old }
     {
         unmake_in(&mut self.makers, maker);
     }
@@ -170,9 +167,10 @@ impl<const R: usize> Space<R> {
     pub fn restore(&mut self, place: Place, content: Content)
         requires there { IsTrue (is_some (contents self.old place)) }
         requires kind { IsTrue (may_have place content) }
-        ensures done { contents self.new ≡ with_content place content (contents self.old) }
+        ensures done { contents self.new ≡ restore (Some place) (Some content) (contents self.old) }
         ensures kept { (m : ℕ) → room self.new m ≡ room self.old m }
         ensures number { lists self.new ≡ lists self.old }
+        ensures capacity { capacity self.new ≡ capacity self.old }
     {
         match (place.segment(), place, content) {
             (Some(name), _, _) => restore_in(&mut self.makers, name, place, content),
@@ -187,14 +185,15 @@ impl<const R: usize> Space<R> {
     ///
     /// # Errors
     ///
-    /// `NoMemory` where the growth was refused. No place changes.
-    pub fn make_room(&mut self, maker: u8, more: usize) -> Result<(), Refusal>
+    /// Only if the growth was refused. No place changes.
+    pub fn make_room(&mut self, maker: u8, more: usize) -> Result<(), AllocError>
         requires { maker < lists self.old }
         ensures ok { OnOk result (more ≤ room self.new maker) }
-        ensures err { IfErr result (λ e. (e ≡ Refusal.NoMemory) × (room self.old maker < more)) }
+        ensures err { OnErr result (room self.old maker < more) }
         ensures unchanged { contents self.new ≡ contents self.old }
         ensures kept { (m : ℕ) → room self.old m ≤ room self.new m }
         ensures number { lists self.new ≡ lists self.old }
+        ensures capacity { capacity self.new ≡ capacity self.old }
     {
         make_room_in(&mut self.makers, maker, more)
     }

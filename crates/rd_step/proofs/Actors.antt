@@ -6,7 +6,7 @@ use mathlib.Core.Path.{fun_ext}
 use Rattle.rd_cell.proofs.ListLemmas.{slice_get-set_same, slice_get-set_other}
 use Rattle.rd_actor.specs.declared.actors.Actor.{Actor}
 use Rattle.rd_step.specs.Step.{with_actor}
-use Rattle.rd_step.specs.Machine.{actor_at}
+use Rattle.rd_step.specs.Fields.{actor_at}
 
 -- a list with one record written has that record for the actor, and the others' as they were
 pub actor_at-set : (xs : List Actor) (n : ℕ) (a : Actor) → n < length xs

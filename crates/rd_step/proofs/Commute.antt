@@ -2,16 +2,15 @@
 use Rattle.std.proofs.Common.{◌≡◌, ◌≢◌, ℕ, false, ◌==◌, if◌then◌else◌, inl, inr, refl, sym, ◌∙◌, ap, subst, Option, Some, Ok}
 use Rattle.std.proofs.lemmas.Bool.{cases_eq, eqb-false, or_parts}
 use mathlib.Core.Path.{fun_ext}
-use Rattle.rd_cell.specs.declared.access.Access.{Access}
-use Rattle.rd_cell.specs.Access.{Performed, left_by, perform}
-use Rattle.rd_cell.proofs.AccessLemmas.{clash, clash-sym, performed_local, perform_around, left_by_swap}
+use Rattle.rd_ring.specs.Prelude.{Access, Performed, contents_after, perform}
+use Rattle.rd_cell.proofs.AccessLemmas.{interferes, interferes-sym, perform_around, after_swap}
 use Rattle.rd_actor.specs.declared.actors.Actor.{Actor}
 use Rattle.rd_actor.specs.Table.{need, after}
-use Rattle.rd_actor.specs.World.{World}
+use Rattle.rd_step.specs.World.{World}
 use Rattle.rd_step.specs.declared.entries.Event.{Event}
-use Rattle.rd_step.specs.Step.{Stepped, with_actor, finished, step}
+use Rattle.rd_step.specs.Step.{Stepped, with_actor, step_outcome, step}
 use Rattle.rd_step.specs.Dependence.{depends}
-use Rattle.rd_step.specs.Laws.{Swapped}
+use Rattle.rd_step.specs.Laws.{CommutingSquare}
 use Rattle.rd_step.proofs.Steps.{Took, took, step_of, with_actor-same, with_actor-other}
 
 -- the records of two actors may be set in either order
@@ -35,22 +34,22 @@ with_actor-swap m n a b actors ne = fun_ext each
 -- the law, for two steps taken apart
 swapped : (R : ℕ) (w : World) (e f : Event) (a b : Actor) (x y : Access) (d k : Performed)
     → w.actor e.actor ≡ Some a → need R a e.act ≡ Ok x → perform R e.actor w.at x ≡ Ok d
-    → (finished w e a d (after R a e.act d.done.answer)).world.actor f.actor ≡ Some b → need R b f.act ≡ Ok y
-    → perform R f.actor (left_by d w.at) y ≡ Ok k → e.actor ≢ f.actor → clash d k ≡ false
-    → let v = finished w e a d (after R a e.act d.done.answer) in
-    Swapped R w e f v (finished v.world f b k (after R b f.act k.done.answer))
+    → (step_outcome w e a d (after R a e.act d.answer)).world.actor f.actor ≡ Some b → need R b f.act ≡ Ok y
+    → perform R f.actor (contents_after d w.at) y ≡ Ok k → e.actor ≢ f.actor → interferes d k ≡ false
+    → let v = step_outcome w e a d (after R a e.act d.answer) in
+    CommutingSquare R w e f v (step_outcome v.world f b k (after R b f.act k.answer))
 swapped R w e f a b x y d k has_a needs_a does_a has_b needs_b does_b ne free =
-    let na = after R a e.act d.done.answer in
-    let nb = after R b f.act k.done.answer in
+    let na = after R a e.act d.answer in
+    let nb = after R b f.act k.answer in
     let ne' : f.actor ≢ e.actor = λ h. ne (sym h) in
     let had_b : w.actor f.actor ≡ Some b = sym (with_actor-other e.actor na.0 w.actor f.actor ne') ∙ has_b in
-    let did_b : perform R f.actor w.at y ≡ Ok k = sym (perform_around R e.actor f.actor w.at (left_by d w.at) x y d k ne does_a does_b free) ∙ does_b in
+    let did_b : perform R f.actor w.at y ≡ Ok k = sym (perform_around R e.actor f.actor w.at (contents_after d w.at) x y d k ne does_a does_b free) ∙ does_b in
     let has_a' : with_actor f.actor nb.0 w.actor e.actor ≡ Some a = with_actor-other f.actor nb.0 w.actor e.actor ne ∙ has_a in
-    let did_a : perform R e.actor (left_by k w.at) x ≡ Ok d = perform_around R f.actor e.actor w.at w.at y x k d ne' did_b does_a (clash-sym d k free) ∙ does_a in
-    let v' = finished w f b k nb in
-    let u' = finished v'.world e a d na in
-    let contents : left_by d (left_by k w.at) ≡ left_by k (left_by d w.at) =
-    sym (left_by_swap d k w.at (performed_local R e.actor w.at x d does_a) (performed_local R f.actor w.at y k did_b) free) in
+    let did_a : perform R e.actor (contents_after k w.at) x ≡ Ok d = perform_around R f.actor e.actor w.at w.at y x k d ne' did_b does_a (interferes-sym d k free) ∙ does_a in
+    let v' = step_outcome w f b k nb in
+    let u' = step_outcome v'.world e a d na in
+    let contents : contents_after d (contents_after k w.at) ≡ contents_after k (contents_after d w.at) =
+    sym (after_swap d k w.at free) in
     let actors = with_actor-swap e.actor f.actor na.0 nb.0 w.actor ne in
     record {
       first = v';
@@ -64,16 +63,16 @@ swapped R w e f a b x y d k has_a needs_a does_a has_b needs_b does_b ne free =
 
 -- a step that does not depend on the one before it may go first
 pub commutes : (R : ℕ) (w : World) (e f : Event) (v u : Stepped) → step R w e ≡ Ok v → step R v.world f ≡ Ok u
-    → depends v.entry u.entry ≡ false → Swapped R w e f v u
+    → depends v.entry u.entry ≡ false → CommutingSquare R w e f v u
 commutes R w e f v u h k free =
     let tv = took R w e v h in
-    let v' = finished w e tv.a tv.did (after R tv.a e.act tv.did.done.answer) in
-    subst (λ (s : Stepped). Took R s.world f u → depends s.entry u.entry ≡ false → Swapped R w e f s u) tv.ends
+    let v' = step_outcome w e tv.a tv.did (after R tv.a e.act tv.did.answer) in
+    subst (λ (s : Stepped). Took R s.world f u → depends s.entry u.entry ≡ false → CommutingSquare R w e f s u) tv.ends
     (λ tu free'.
-    let u' = finished v'.world f tu.a tu.did (after R tu.a f.act tu.did.done.answer) in
-    subst (λ (t : Stepped). depends v'.entry t.entry ≡ false → Swapped R w e f v' t) tu.ends
+    let u' = step_outcome v'.world f tu.a tu.did (after R tu.a f.act tu.did.answer) in
+    subst (λ (t : Stepped). depends v'.entry t.entry ≡ false → CommutingSquare R w e f v' t) tu.ends
     (λ free''.
-    let parts = or_parts (e.actor == f.actor) (clash tv.did tu.did) free'' in
+    let parts = or_parts (e.actor == f.actor) (interferes tv.did tu.did) free'' in
     swapped R w e f tv.a tu.a tv.access tu.access tv.did tu.did tv.has tv.needs tv.does tu.has tu.needs tu.does
     (eqb-false e.actor f.actor parts.0) parts.1)
     free')

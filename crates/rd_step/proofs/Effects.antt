@@ -1,22 +1,8 @@
 -- An operation that fits, on a content that fits its place, writes one that fits there, and answers what fits.
-use Rattle.std.proofs.Common.{◌≡◌, ℕ, ◌+◌, ◌^◌, ◌<◌, ◌≤◌, Bool, true, false, not, ◌==◌, ◌&&◌, nat_lt, nat_le, refl, arith, Some, None, IfSome, Result, IfOk, ltb-true, leb-true, le-leb}
+use Rattle.std.proofs.Common.{◌≡◌, ℕ, ◌+◌, ◌<◌, ◌≤◌, Bool, true, false, not, ◌==◌, ◌&&◌, nat_lt, nat_le, refl, arith, Some, None, IfSome, Result, IfOk, lt-ltb, ltb-true, leb-true, le-leb}
 use Rattle.std.proofs.lemmas.Bool.{cond_both}
-use Rattle.rd_cell.specs.declared.cells.Cell.{Cell}
-use Rattle.rd_cell.specs.declared.places.SegName.{SegName}
-use Rattle.rd_cell.specs.declared.places.Place.{Place}
-use Rattle.rd_cell.specs.declared.places.Place.TheVariants.{QHead, QTail, Head, Tail, Next, Cell as CellAt, ArrHead, ArrTail, ArrCell}
-use Rattle.rd_cell.specs.declared.contents.ArrSlot.{ArrSlot}
-use Rattle.rd_cell.specs.declared.contents.Content.{Content}
-use Rattle.rd_cell.specs.declared.contents.Content.TheVariants.{Name, Number, Tail as TailIs, Next as NextIs, Cell as CellIs, Slot}
-use Rattle.rd_cell.specs.declared.access.Answer.TheVariants.{Found, Won, Lost}
-use Rattle.rd_cell.specs.declared.access.Answer.{Answer}
-use Rattle.rd_cell.specs.declared.access.Operation.{Operation}
-use Rattle.rd_cell.specs.declared.access.Operation.TheVariants.{Read, ReadValue, ReadTurn, Add, AddArray, Close, CasName, CasNext, CasTail, Cas2, Swap}
-use Rattle.rd_cell.specs.declared.refusal.Refusal.{Refusal}
-use Rattle.rd_cell.specs.declared.refusal.Refusal.TheVariants.{CounterEnd, ArrayEnd}
-use Rattle.rd_cell.specs.Place.{is_name}
-use Rattle.rd_cell.specs.Content.{is_cell}
-use Rattle.rd_cell.specs.Effect.{Effect, swaps, adds, effect}
+use Rattle.rd_ring.specs.Prelude.{SLOTS, COUNTER_END, Cell, SegName, Place, QHead, QTail, Head, Tail, Next, CellAt, ArrHead, ArrTail, ArrCell, ArrSlot, Content, Name, Number, TailIs, NextIs, CellIs, Slot, Found, Won, Lost, Answer, Operation, Read, ReadValue, ReadSafeAndIndex, Add, AddArray, Close, CasName, CasNext, CasTail, Cas2, Swap, Refusal, CounterEnd, ArrayEnd, is_name, is_cell, Effect, effect}
+use Rattle.rd_cell.specs.Operations.{swaps, adds}
 use Rattle.rd_step.specs.WellFormed.{Presence, content_fits}
 use Rattle.rd_step.proofs.Fits.{op_fits, answer_fits, has_slot}
 
@@ -53,17 +39,17 @@ on_tail R there Read s f h = (tt, h, refl)
 on_tail R there (CasName old new) s f h = swaps_fit R there QTail (CasName old new) (is_name s old) (Name new) f (λ a. refl)
 on_tail R there _ s f h = tt
 
-on_number : (R : ℕ) (there : Presence) (op : Operation) (s : SegName) (n : ℕ) → op_fits R there (Head s) op ≡ true → nat_le n (2 ^ 62) ≡ true
+on_number : (R : ℕ) (there : Presence) (op : Operation) (s : SegName) (n : ℕ) → op_fits R there (Head s) op ≡ true → nat_le n COUNTER_END ≡ true
     → IfOk (effect op (Number n)) (EffectFits R there (Head s) op)
 on_number R there Read s n f h = (tt, h, refl)
-on_number R there Add s n f h = adds_fit R there (Head s) Add (2 ^ 62) n CounterEnd (Number n) (Number (n + 1)) (one_more n (2 ^ 62)) h (λ l. refl)
+on_number R there Add s n f h = adds_fit R there (Head s) Add COUNTER_END n CounterEnd (Number n) (Number (n + 1)) (one_more n COUNTER_END) h (λ l. refl)
 on_number R there AddArray s n f h = cc
 on_number R there _ s n f h = tt
 
 on_count : (R : ℕ) (there : Presence) (op : Operation) (s : SegName) (c : Bool) (n : ℕ) → op_fits R there (Tail s) op ≡ true
-    → nat_le n (2 ^ 62) ≡ true → IfOk (effect op (TailIs c n)) (EffectFits R there (Tail s) op)
+    → nat_le n COUNTER_END ≡ true → IfOk (effect op (TailIs c n)) (EffectFits R there (Tail s) op)
 on_count R there Read s c n f h = (tt, h, refl)
-on_count R there Add s c n f h = adds_fit R there (Tail s) Add (2 ^ 62) n CounterEnd (TailIs c n) (TailIs c (n + 1)) (one_more n (2 ^ 62)) h (λ l. refl)
+on_count R there Add s c n f h = adds_fit R there (Tail s) Add COUNTER_END n CounterEnd (TailIs c n) (TailIs c (n + 1)) (one_more n COUNTER_END) h (λ l. refl)
 on_count R there Close s c n f h = (h, refl, refl)
 on_count R there (CasTail old new) s c n f h = swaps_fit R there (Tail s) (CasTail old new) (not c && (n == old)) (TailIs false new) f (λ a. refl)
 on_count R there _ s c n f h = tt
@@ -81,33 +67,33 @@ on_next R there (CasNext new) s m f h = swaps_fit R there (Next s) (CasNext new)
 on_next R there _ s m f h = tt
 
 on_cell : (R : ℕ) (there : Presence) (op : Operation) (s : SegName) (i : ℕ) (c : Cell) → op_fits R there (CellAt s i) op ≡ true
-    → nat_le c.idx (2 ^ 62 + R) ≡ true → IfOk (effect op (CellIs c)) (EffectFits R there (CellAt s i) op)
+    → nat_le c.idx (COUNTER_END + R) ≡ true → IfOk (effect op (CellIs c)) (EffectFits R there (CellAt s i) op)
 on_cell R there ReadValue s i c f h = (tt, refl, refl)
-on_cell R there ReadTurn s i c f h = (tt, h, refl)
+on_cell R there ReadSafeAndIndex s i c f h = (tt, h, refl)
 on_cell R there (Cas2 old new) s i c f h = swaps_fit R there (CellAt s i) (Cas2 old new) (is_cell c old) (CellIs new) f (λ a. refl)
 on_cell R there _ s i c f h = tt
 
--- a position of the array is one that a counter may have, and has a slot where it is below the end
-small_position : (n : ℕ) → nat_le n 64 ≡ true → nat_le n (2 ^ 62) ≡ true
-small_position n h = let k : n ≤ 64 = leb-true n 64 h in le-leb n (2 ^ 62) (omega arith)
+-- a position of the array is one that a counter may have, and has a slot if it is below the end
+small_position : (n : ℕ) → nat_le n SLOTS ≡ true → nat_le n COUNTER_END ≡ true
+small_position n h = let k : n ≤ SLOTS = leb-true n SLOTS h in le-leb n COUNTER_END (omega arith)
 
-slot_below : (n : ℕ) → n < 64 → nat_le n 63 ≡ true
-slot_below n h = le-leb n 63 (omega arith)
+slot_below : (n : ℕ) → n < SLOTS → nat_lt n SLOTS ≡ true
+slot_below n h = lt-ltb n SLOTS h
 
-on_array_head : (R : ℕ) (there : Presence) (op : Operation) (n : ℕ) → op_fits R there ArrHead op ≡ true → nat_le n 64 ≡ true
+on_array_head : (R : ℕ) (there : Presence) (op : Operation) (n : ℕ) → op_fits R there ArrHead op ≡ true → nat_le n SLOTS ≡ true
     → IfOk (effect op (Number n)) (EffectFits R there ArrHead op)
 on_array_head R there Read n f h = (tt, small_position n h, refl)
 on_array_head R there Add n f h = cc
 on_array_head R there AddArray n f h =
-    adds_fit R there ArrHead AddArray 64 n ArrayEnd (Number n) (Number (n + 1)) (one_more n 64) (small_position n h) (slot_below n)
+    adds_fit R there ArrHead AddArray SLOTS n ArrayEnd (Number n) (Number (n + 1)) (one_more n SLOTS) (small_position n h) (slot_below n)
 on_array_head R there _ n f h = tt
 
-on_array_tail : (R : ℕ) (there : Presence) (op : Operation) (n : ℕ) → op_fits R there ArrTail op ≡ true → nat_le n 64 ≡ true
+on_array_tail : (R : ℕ) (there : Presence) (op : Operation) (n : ℕ) → op_fits R there ArrTail op ≡ true → nat_le n SLOTS ≡ true
     → IfOk (effect op (Number n)) (EffectFits R there ArrTail op)
 on_array_tail R there Read n f h = (tt, small_position n h, refl)
 on_array_tail R there Add n f h = cc
 on_array_tail R there AddArray n f h =
-    adds_fit R there ArrTail AddArray 64 n ArrayEnd (Number n) (Number (n + 1)) (one_more n 64) (small_position n h) (slot_below n)
+    adds_fit R there ArrTail AddArray SLOTS n ArrayEnd (Number n) (Number (n + 1)) (one_more n SLOTS) (small_position n h) (slot_below n)
 on_array_tail R there _ n f h = tt
 
 on_slot : (R : ℕ) (there : Presence) (op : Operation) (i : ℕ) (slot : ArrSlot)

@@ -1,19 +1,7 @@
 -- Which accesses and answers fit, and that an actor whose record fits asks for an access that fits.
-use Rattle.std.proofs.Common.{◌≡◌, ℕ, ◌+◌, ◌^◌, ◌≤◌, Bool, true, not, ◌&&◌, nat_le, refl, arith, Option, Some, None, IfOk, le-leb, leb-true}
+use Rattle.std.proofs.Common.{nat_lt, ◌≡◌, ℕ, ◌+◌, ◌≤◌, Bool, true, not, ◌&&◌, nat_le, refl, arith, Option, Some, None, IfOk, le-leb, leb-true}
 use Rattle.std.proofs.lemmas.Bool.{and_parts, and_from}
-use Rattle.rd_cell.specs.declared.places.SegName.{SegName}
-use Rattle.rd_cell.specs.declared.places.Place.{Place}
-use Rattle.rd_cell.specs.declared.places.Place.TheVariants.{QHead, QTail, Head, Tail, Next, Cell as CellAt, ArrHead, ArrTail, ArrCell}
-use Rattle.rd_cell.specs.declared.contents.Content.{Content}
-use Rattle.rd_cell.specs.declared.contents.Content.TheVariants.{Name, Number, Tail as TailIs, Next as NextIs, Cell as CellIs, Slot}
-use Rattle.rd_cell.specs.declared.access.Access.{Access}
-use Rattle.rd_cell.specs.declared.access.Access.TheVariants.{NoPlace, At, Make}
-use Rattle.rd_cell.specs.declared.access.Answer.{Answer}
-use Rattle.rd_cell.specs.declared.access.Answer.TheVariants.{Found, Turn, Made}
-use Rattle.rd_cell.specs.declared.access.Operation.{Operation}
-use Rattle.rd_cell.specs.declared.access.Operation.TheVariants.{Add, AddArray, CasName, CasNext, CasTail, Cas2}
-use Rattle.rd_cell.specs.Place.{is_array}
-use Rattle.rd_cell.specs.Content.{may_have}
+use Rattle.rd_ring.specs.Prelude.{SLOTS, COUNTER_END, SegName, Place, QHead, QTail, Head, Tail, Next, CellAt, ArrHead, ArrTail, ArrCell, Content, Name, Number, TailIs, NextIs, CellIs, Slot, Access, NoPlace, At, Make, Answer, Found, SafeAndIndex, Made, Operation, Add, AddArray, CasName, CasNext, CasTail, Cas2, is_array, may_have}
 use Rattle.rd_actor.specs.declared.actors.Act.{Act}
 use Rattle.rd_actor.specs.declared.actors.Act.TheVariants.{Enq, Deq, AEnq, ADeq, Go, Starve}
 use Rattle.rd_actor.specs.declared.actors.Actor.{Actor}
@@ -30,9 +18,9 @@ pub record PartsFit (R : ℕ) (there : Presence) (a : Actor) : Type 0 where
   pub crq : there a.crq ≡ true
   pub new : there a.new ≡ true
   pub next : there a.next ≡ true
-  pub t : nat_le a.t (2 ^ 62) ≡ true
-  pub h : nat_le a.h (2 ^ 62) ≡ true
-  pub idx : nat_le a.idx (2 ^ 62 + R) ≡ true
+  pub t : nat_le a.t COUNTER_END ≡ true
+  pub h : nat_le a.h COUNTER_END ≡ true
+  pub idx : nat_le a.idx (COUNTER_END + R) ≡ true
 
 pub parts_of : (R : ℕ) (there : Presence) (a : Actor) → record_fits R there a ≡ true → PartsFit R there a
 parts_of R there a fits =
@@ -40,8 +28,8 @@ parts_of R there a fits =
     let named = and_parts (names_fit there a) (numbers_fit R a) parts.0 in
     let names = and_parts (there a.crq && there a.new) (there a.next) named.0 in
     let first = and_parts (there a.crq) (there a.new) names.0 in
-    let numbers = and_parts (nat_le a.t (2 ^ 62) && nat_le a.h (2 ^ 62)) (nat_le a.idx (2 ^ 62 + R)) named.1 in
-    let positions = and_parts (nat_le a.t (2 ^ 62)) (nat_le a.h (2 ^ 62)) numbers.0 in
+    let numbers = and_parts (nat_le a.t COUNTER_END && nat_le a.h COUNTER_END) (nat_le a.idx (COUNTER_END + R)) named.1 in
+    let positions = and_parts (nat_le a.t COUNTER_END) (nat_le a.h COUNTER_END) numbers.0 in
     record { crq = first.0; new = first.1; next = names.1; t = positions.0; h = positions.1; idx = numbers.1 }
 
 pub words_of : (R : ℕ) (there : Presence) (a : Actor) → record_fits R there a ≡ true → words_fit a ≡ true
@@ -53,11 +41,11 @@ together R there a f words =
     and_from (names_fit there a && numbers_fit R a) (words_fit a)
     (and_from (names_fit there a) (numbers_fit R a)
     (and_from (there a.crq && there a.new) (there a.next) (and_from (there a.crq) (there a.new) f.crq f.new) f.next)
-    (and_from (nat_le a.t (2 ^ 62) && nat_le a.h (2 ^ 62)) (nat_le a.idx (2 ^ 62 + R))
-    (and_from (nat_le a.t (2 ^ 62)) (nat_le a.h (2 ^ 62)) f.t f.h) f.idx))
+    (and_from (nat_le a.t COUNTER_END && nat_le a.h COUNTER_END) (nat_le a.idx (COUNTER_END + R))
+    (and_from (nat_le a.t COUNTER_END) (nat_le a.h COUNTER_END) f.t f.h) f.idx))
     words
 
--- What fits goes on to fit where more segments are there
+-- What fits goes on to fit if more segments are there
 
 -- each segment that is there in the first is there in the second
 abbrev pub Grows : Presence → Presence → Type 0
@@ -114,8 +102,8 @@ may_fit R there _ _ h = cc
 abbrev pub op_fits : ℕ → Presence → Place → Operation → Bool
 op_fits R there p (CasName old new) = there new
 op_fits R there p (CasNext new) = there new
-op_fits R there p (CasTail old new) = nat_le new (2 ^ 62)
-op_fits R there p (Cas2 old new) = nat_le new.idx (2 ^ 62 + R)
+op_fits R there p (CasTail old new) = nat_le new COUNTER_END
+op_fits R there p (Cas2 old new) = nat_le new.idx (COUNTER_END + R)
 op_fits R there p Add = not (is_array p)
 op_fits R there p AddArray = is_array p
 op_fits R there p _ = true
@@ -129,16 +117,16 @@ access_fits R there (Make x) = true
 -- whether an answer fits: the segments that it names are there, and its numbers are within their ends
 abbrev pub answer_fits : ℕ → Presence → Answer → Bool
 answer_fits R there (Found (Name s)) = there s
-answer_fits R there (Found (Number g)) = nat_le g (2 ^ 62)
-answer_fits R there (Found (TailIs closed count)) = nat_le count (2 ^ 62)
+answer_fits R there (Found (Number g)) = nat_le g COUNTER_END
+answer_fits R there (Found (TailIs closed count)) = nat_le count COUNTER_END
 answer_fits R there (Found (NextIs (Some m))) = there m
-answer_fits R there (Turn safe idx) = nat_le idx (2 ^ 62 + R)
+answer_fits R there (SafeAndIndex safe idx) = nat_le idx (COUNTER_END + R)
 answer_fits R there (Made s) = there s
 answer_fits R there _ = true
 
 -- whether the position that a fetch-and-add on the array drew has a slot
 abbrev pub has_slot : Operation → Answer → Bool
-has_slot AddArray (Found (Number g)) = nat_le g 63
+has_slot AddArray (Found (Number g)) = nat_lt g SLOTS
 has_slot _ _ = true
 
 abbrev pub drew_slot : Access → Answer → Bool
@@ -146,12 +134,12 @@ drew_slot (At p op) answer = has_slot op answer
 drew_slot _ answer = true
 
 -- a position is an index
-wide : (R n : ℕ) → nat_le n (2 ^ 62) ≡ true → nat_le n (2 ^ 62 + R) ≡ true
-wide R n h = let k : n ≤ 2 ^ 62 = leb-true n (2 ^ 62) h in le-leb n (2 ^ 62 + R) (omega arith)
+wide : (R n : ℕ) → nat_le n COUNTER_END ≡ true → nat_le n (COUNTER_END + R) ≡ true
+wide R n h = let k : n ≤ COUNTER_END = leb-true n COUNTER_END h in le-leb n (COUNTER_END + R) (omega arith)
 
 -- and a position moved on by one round is one
-wider : (R n : ℕ) → nat_le n (2 ^ 62) ≡ true → nat_le (n + R) (2 ^ 62 + R) ≡ true
-wider R n h = let k : n ≤ 2 ^ 62 = leb-true n (2 ^ 62) h in le-leb (n + R) (2 ^ 62 + R) (omega arith)
+wider : (R n : ℕ) → nat_le n COUNTER_END ≡ true → nat_le (n + R) (COUNTER_END + R) ≡ true
+wider R n h = let k : n ≤ COUNTER_END = leb-true n COUNTER_END h in le-leb (n + R) (COUNTER_END + R) (omega arith)
 
 need_at_fits : (R : ℕ) (there : Presence) (pc : Pc) (a : Actor) → PartsFit R there a
     → IfOk (need_at R pc a) (λ x. access_fits R there x ≡ true)

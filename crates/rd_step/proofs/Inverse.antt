@@ -1,68 +1,57 @@
 -- The words that an entry keeps give the world before its step back, and a step on which no later one depends may
 -- be taken out of a run.
-use Rattle.std.proofs.Common.{◌≡◌, ℕ, zero, suc, ◌+◌, ◌<◌, true, false, if◌then◌else◌, nat_lt, inl, inr, refl, sym, ◌∙◌, ap, subst, arith, List, ◌∷◌, Option, Some, None, is_some, Result, Ok, Err, IfOk, ltb-true}
+use Rattle.std.proofs.Common.{◌≡◌, ℕ, zero, suc, ◌+◌, ◌<◌, true, false, nat_lt, inl, inr, refl, sym, ◌∙◌, ap, subst, arith, List, ◌∷◌, Option, Some, None, is_some, Result, Ok, Err, IfOk, ltb-true}
 use Rattle.std.proofs.lemmas.Bool.{cases_eq, cases_Bool, cond-true, cond-false, cond_both, and_right}
 use Rattle.std.proofs.lemmas.Result.{IfOk-at_ok}
 use mathlib.Core.Path.{fun_ext}
-use Rattle.rd_cell.specs.declared.places.SegName.{SegName}
-use Rattle.rd_cell.specs.declared.places.Place.{Place}
-use Rattle.rd_cell.specs.declared.places.Place.TheVariants.{Head, Tail, Next, Cell as CellAt, Whole}
-use Rattle.rd_cell.specs.declared.contents.Content.{Content}
-use Rattle.rd_cell.specs.declared.access.Access.{Access}
-use Rattle.rd_cell.specs.declared.access.Access.TheVariants.{NoPlace, At, Make}
-use Rattle.rd_cell.specs.declared.access.Operation.{Operation}
-use Rattle.rd_cell.specs.declared.refusal.Refusal.{Refusal}
-use Rattle.rd_cell.specs.Place.{is_of, is_place}
-use Rattle.rd_cell.specs.Content.{Contents, is_there, holding}
-use Rattle.rd_cell.specs.Effect.{Effect, effect}
-use Rattle.rd_cell.specs.Access.{Performed, left_by, put, lay, made_from, made, operate, done_at, make, perform}
-use Rattle.rd_cell.proofs.PlaceLemmas.{is_place-true, is_name-true}
-use Rattle.rd_cell.proofs.AccessLemmas.{put-other}
+use Rattle.rd_ring.specs.Prelude.{MOST_SEGMENTS, SegName, Place, Head, Tail, Next, CellAt, WholeOf, Content, Access, NoPlace, At, Make, Operation, Refusal, is_of, covers, Contents, after_write, operand, restore, is_there, holding, Effect, effect, Performed, contents_after, operate, make, perform}
+use Rattle.rd_cell.specs.Access.{effect_at, number_made_from, number_made, perform_effect}
+use Rattle.rd_cell.proofs.PlaceLemmas.{is_name-true}
+use Rattle.rd_cell.proofs.AccessLemmas.{after_write-outside, operand-covered}
 use Rattle.rd_actor.specs.declared.actors.Actor.{Actor}
 use Rattle.rd_actor.specs.Table.{after}
-use Rattle.rd_actor.specs.World.{World}
+use Rattle.rd_step.specs.World.{World}
 use Rattle.rd_step.specs.declared.entries.Event.{Event}
-use Rattle.rd_step.specs.Step.{Stepped, with_actor, step, put_back, unstepped}
-use Rattle.rd_step.specs.Run.{Ran, preceded, then_on, run}
+use Rattle.rd_step.specs.Step.{Stepped, with_actor, step, unstep}
+use Rattle.rd_step.specs.Run.{Ran, run_preceded_by, run_from_step, run}
 use Rattle.rd_step.specs.WellFormed.{Presence, belongs, IsWellFormed}
 use Rattle.rd_step.proofs.Steps.{took, with_actor-same, with_actor-other}
 
 -- the contents that an access left, with what was at its place put back, are those from before it
 abbrev PutsBack : Contents → Performed → Type 0
-PutsBack at did = (q : Place) → put_back did.done.place did.done.old (left_by did at) q ≡ at q
+PutsBack at did = (q : Place) → restore did.place did.old (contents_after did at) q ≡ at q
 
-back-put : (p : Place) (c : Content) (writes : Option Content) (at : Contents) (q : Place) → at p ≡ Some c
-    → (if is_place p q then Some c else put p writes q (at q)) ≡ at q
-back-put p c writes at q h =
-    cond_both (is_place p q) (Some c) (put p writes q (at q)) (λ (o : Option Content). o ≡ at q)
-    (λ e. sym h ∙ ap at (is_place-true p q e)) (λ e. put-other p writes q (at q) e)
+back-effect : (p : Place) (c : Content) (e : Effect) (at : Contents) → operand at p ≡ Some c → PutsBack at (effect_at p c e)
+back-effect p c e at h q =
+    cond_both (covers p q) (Some c) (contents_after (effect_at p c e) at q) (λ (o : Option Content). o ≡ at q)
+    (λ k. sym (operand-covered p at c q h k)) (λ k. after_write-outside (Some p) (effect_at p c e).writes at q k)
 
-back-done_at : (p : Place) (c : Content) (r : Result Effect Refusal) (at : Contents) → at p ≡ Some c → IfOk (done_at p c r) (PutsBack at)
-back-done_at p c (Err x) at h = tt
-back-done_at p c (Ok e) at h = λ q. back-put p c e.writes at q h
+back-result : (p : Place) (c : Content) (r : Result Effect Refusal) (at : Contents) → operand at p ≡ Some c → IfOk (perform_effect p c r) (PutsBack at)
+back-result p c (Err x) at h = tt
+back-result p c (Ok e) at h = back-effect p c e at h
 
-back-operate : (p : Place) (op : Operation) (o : Option Content) (at : Contents) → at p ≡ o → IfOk (operate p op o) (PutsBack at)
+back-operate : (p : Place) (op : Operation) (o : Option Content) (at : Contents) → operand at p ≡ o → IfOk (operate p op o) (PutsBack at)
 back-operate p op None at h = tt
-back-operate p op (Some c) at h = back-done_at p c (effect op c) at h
+back-operate p op (Some c) at h = back-result p c (effect op c) at h
 
 -- below the bound, the number that counting ends at names no segment that is there
-made_from-absent : (more : ℕ) (at : Contents) (m n : ℕ) → made_from more at m n < n + more
-    → is_there at (record { maker = m; n = made_from more at m n }) ≡ false
-unfolding made_from
-made_from-absent zero at m n h = absurd (omega arith)
-made_from-absent (suc more) at m n h =
+number_made_from-absent : (more : ℕ) (at : Contents) (m n : ℕ) → number_made_from more at m n < n + more
+    → is_there at (record { maker = m; n = number_made_from more at m n }) ≡ false
+unfolding number_made_from
+number_made_from-absent zero at m n h = absurd (omega arith)
+number_made_from-absent (suc more) at m n h =
     elim (cases_Bool (is_there at (record { maker = m; n = n }))) [
       | inl e ↦
-          let k : made_from (suc more) at m n ≡ made_from more at m (n + 1) = cond-true (is_there at (record { maker = m; n = n })) (made_from more at m (n + 1)) n e in
-          ap (λ (j : ℕ). is_there at (record { maker = m; n = j })) k ∙ made_from-absent more at m (n + 1) (omega arith)
+          let k : number_made_from (suc more) at m n ≡ number_made_from more at m (n + 1) = cond-true (is_there at (record { maker = m; n = n })) (number_made_from more at m (n + 1)) n e in
+          ap (λ (j : ℕ). is_there at (record { maker = m; n = j })) k ∙ number_made_from-absent more at m (n + 1) (omega arith)
       | inr e ↦
-          let k : made_from (suc more) at m n ≡ n = cond-false (is_there at (record { maker = m; n = n })) (made_from more at m (n + 1)) n e in
+          let k : number_made_from (suc more) at m n ≡ n = cond-false (is_there at (record { maker = m; n = n })) (number_made_from more at m (n + 1)) n e in
           ap (λ (j : ℕ). is_there at (record { maker = m; n = j })) k ∙ e
     ]
 
-pub made-absent : (at : Contents) (m : ℕ) → made at m < 65535 → is_there at (record { maker = m; n = made at m }) ≡ false
-unfolding made
-made-absent at m h = made_from-absent 65535 at m 0 h
+pub number_made-absent : (at : Contents) (m : ℕ) → number_made at m < MOST_SEGMENTS → is_there at (record { maker = m; n = number_made at m }) ≡ false
+unfolding number_made
+number_made-absent at m h = number_made_from-absent MOST_SEGMENTS at m 0 h
 
 -- a place of a segment that is not there has nothing
 pub absent_place : (R : ℕ) (there : Presence) (s : SegName) (q : Place) → there s ≡ false → is_of s q ≡ true → belongs R there q ≡ false
@@ -70,28 +59,28 @@ absent_place R there s (Head t) h e = subst (λ (x : SegName). there x ≡ false
 absent_place R there s (Tail t) h e = subst (λ (x : SegName). there x ≡ false) (is_name-true s t e) h
 absent_place R there s (Next t) h e = subst (λ (x : SegName). there x ≡ false) (is_name-true s t e) h
 absent_place R there s (CellAt t i) h e = and_right (nat_lt i R) (there t) (subst (λ (x : SegName). there x ≡ false) (is_name-true s t e) h)
-absent_place R there s (Whole t) h e = refl
+absent_place R there s (WholeOf t) h e = refl
 absent_place R there s _ h e = cc
 
 nothing_there : (o : Option Content) → is_some o ≡ false → o ≡ None
 nothing_there None h = refl
 nothing_there (Some c) h = cc
 
-back-make : (R actor n x : ℕ) (w : World) → IsWellFormed R w → (n < 65535 → is_there w.at (record { maker = actor; n = n }) ≡ false)
+back-make : (R actor n x : ℕ) (w : World) → IsWellFormed R w → (n < MOST_SEGMENTS → is_there w.at (record { maker = actor; n = n }) ≡ false)
     → IfOk (make R (record { maker = actor; n = n }) x) (PutsBack w.at)
 back-make R actor n x w formed absent =
     let s : SegName = record { maker = actor; n = n } in
-    cond_both (nat_lt n 65535) _ _ (λ (r : Result Performed Refusal). IfOk r (PutsBack w.at))
+    cond_both (nat_lt n MOST_SEGMENTS) _ _ (λ (r : Result Performed Refusal). IfOk r (PutsBack w.at))
     (λ below q.
-    cond_both (is_of s q) None (lay s (holding R x) q (w.at q)) (λ (o : Option Content). o ≡ w.at q)
-    (λ e. sym (nothing_there (w.at q) (formed.places q ∙ absent_place R (is_there w.at) s q (absent (ltb-true n 65535 below)) e)))
+    cond_both (is_of s q) None (after_write (WholeOf s) (holding R x) w.at q) (λ (o : Option Content). o ≡ w.at q)
+    (λ e. sym (nothing_there (w.at q) (formed.places q ∙ absent_place R (is_there w.at) s q (absent (ltb-true n MOST_SEGMENTS below)) e)))
     (λ e. cond-false (is_of s q) (holding R x q) (w.at q) e))
     (λ e. tt)
 
 back-perform : (R actor : ℕ) (w : World) (x : Access) → IsWellFormed R w → IfOk (perform R actor w.at x) (PutsBack w.at)
 back-perform R actor w NoPlace formed = λ q. refl
-back-perform R actor w (At p op) formed = back-operate p op (w.at p) w.at refl
-back-perform R actor w (Make x) formed = back-make R actor (made w.at actor) x w formed (made-absent w.at actor)
+back-perform R actor w (At p op) formed = back-operate p op (operand w.at p) w.at refl
+back-perform R actor w (Make x) formed = back-make R actor (number_made w.at actor) x w formed (number_made-absent w.at actor)
 
 -- the actors with one's old record put back are those from before
 actor_back : (n : ℕ) (a b : Actor) (actors : ℕ → Option Actor) → actors n ≡ Some a → with_actor n a (with_actor n b actors) ≡ actors
@@ -105,14 +94,14 @@ actor_back n a b actors has = fun_ext each
         ]
 
 -- the words that an entry keeps give back the world before its step
-pub undoes : (R : ℕ) (w : World) (e : Event) (s : Stepped) → IsWellFormed R w → step R w e ≡ Ok s → unstepped s.world s.entry ≡ w
+pub undoes : (R : ℕ) (w : World) (e : Event) (s : Stepped) → IsWellFormed R w → step R w e ≡ Ok s → unstep s.world s.entry ≡ w
 undoes R w e s formed h =
     let t = took R w e s h in
     let contents : PutsBack w.at t.did = IfOk-at_ok (PutsBack w.at) t.does (back-perform R e.actor w t.access formed) in
-    let next = after R t.a e.act t.did.done.answer in
+    let next = after R t.a e.act t.did.answer in
     let all = fun_ext contents in
     let actors = actor_back e.actor t.a next.0 w.actor t.has in
-    subst (λ (x : Stepped). unstepped x.world x.entry ≡ w) t.ends (λ i. record { at = all i; actor = actors i })
+    subst (λ (x : Stepped). unstep x.world x.entry ≡ w) t.ends (λ i. record { at = all i; actor = actors i })
 
 -- a run of at least one step, taken apart
 pub record RanOn (R : ℕ) (w : World) (e : Event) (es : List Event) (r : Ran) : Type 0 where
@@ -123,12 +112,12 @@ pub record RanOn (R : ℕ) (w : World) (e : Event) (es : List Event) (r : Ran) :
   pub joins : record { world = rest.world; entries = one.entry ∷ rest.entries } ≡ r
 
 ran_rest : (R : ℕ) (w : World) (e : Event) (es : List Event) (r : Ran) (s : Stepped) (o : Result Ran Refusal) → step R w e ≡ Ok s
-    → run R s.world es ≡ o → preceded s.entry o ≡ Ok r → RanOn R w e es r
+    → run R s.world es ≡ o → run_preceded_by s.entry o ≡ Ok r → RanOn R w e es r
 ran_rest R w e es r s (Err x) h k l = cc
 ran_rest R w e es r s (Ok rest) h k l = record { one = s; goes = h; rest = rest; goes_on = k; joins = cc }
 
 ran_step : (R : ℕ) (w : World) (e : Event) (es : List Event) (r : Ran) (o : Result Stepped Refusal) → step R w e ≡ o
-    → then_on (λ v. run R v es) o ≡ Ok r → RanOn R w e es r
+    → run_from_step (λ v. run R v es) o ≡ Ok r → RanOn R w e es r
 ran_step R w e es r (Err x) h k = cc
 ran_step R w e es r (Ok s) h k = ran_rest R w e es r s (run R s.world es) h refl k
 
@@ -138,4 +127,4 @@ ran_on R w e es r h = ran_step R w e es r (step R w e) refl h
 -- a step and a run after it make a run
 pub run-cons : (R : ℕ) (w : World) (e : Event) (es : List Event) (s : Stepped) (r : Ran) → step R w e ≡ Ok s → run R s.world es ≡ Ok r
     → run R w (e ∷ es) ≡ Ok (record { world = r.world; entries = s.entry ∷ r.entries })
-run-cons R w e es s r h k = ap (then_on (λ v. run R v es)) h ∙ ap (preceded s.entry) k
+run-cons R w e es s r h k = ap (run_from_step (λ v. run R v es)) h ∙ ap (run_preceded_by s.entry) k

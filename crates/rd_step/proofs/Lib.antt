@@ -14,3 +14,7 @@ pub mod WorldLemmas
 pub mod Room
 pub mod Assembled
 pub mod Accepted
+pub mod Progress
+pub mod OldWords
+pub mod Symmetry
+pub mod Equivalence

@@ -2,63 +2,53 @@
 use Rattle.std.proofs.Common.{◌≡◌, ◌≢◌, ℕ, zero, suc, ◌+◌, ◌<◌, ◌≤◌, Bool, true, false, not, ◌==◌, nat_lt, refl, sym, ◌∙◌, ap, subst, arith, Option, Some, None, is_some, Result, Ok, Err, IfOk, ltb-true}
 use Rattle.std.proofs.lemmas.Bool.{cond_both, cond-false, and_left, and_right, ne_eqb, eqb-false, both_ways, false_from_ne_true, not-true}
 use Rattle.std.proofs.lemmas.Result.{IfOk-at_ok}
-use Rattle.rd_cell.specs.declared.places.SegName.{SegName}
-use Rattle.rd_cell.specs.declared.places.Place.{Place}
-use Rattle.rd_cell.specs.declared.places.Place.TheVariants.{Head}
-use Rattle.rd_cell.specs.declared.contents.Content.{Content}
-use Rattle.rd_cell.specs.declared.access.Access.{Access}
-use Rattle.rd_cell.specs.declared.access.Access.TheVariants.{NoPlace, At, Make}
-use Rattle.rd_cell.specs.declared.access.Operation.{Operation}
-use Rattle.rd_cell.specs.declared.refusal.Refusal.{Refusal}
-use Rattle.rd_cell.specs.Place.{is_of}
-use Rattle.rd_cell.specs.Content.{Contents, is_there, holding}
-use Rattle.rd_cell.specs.Effect.{Effect, effect}
-use Rattle.rd_cell.specs.Access.{Performed, left_by, made, operate, done_at, make, perform}
-use Rattle.rd_cell.proofs.PlaceLemmas.{is_name-refl}
-use Rattle.rd_cell.proofs.AccessLemmas.{put-is_some}
+use Rattle.rd_ring.specs.Prelude.{MOST_SEGMENTS, operand, SegName, Place, Head, Content, Access, NoPlace, At, Make, Operation, Refusal, is_of, Contents, is_there, holding, Effect, effect, Performed, contents_after, number_made, operate, make, perform}
+use Rattle.rd_cell.specs.Access.{perform_effect}
+use Rattle.rd_cell.proofs.PlaceLemmas.{is_name-refl, covers-refl}
+use Rattle.rd_cell.proofs.AccessLemmas.{after-is_some, operand-covered}
 use Rattle.rd_actor.specs.declared.actors.Actor.{Actor}
-use Rattle.rd_actor.specs.World.{World}
+use Rattle.rd_step.specs.World.{World}
 use Rattle.rd_step.specs.declared.entries.Event.{Event}
 use Rattle.rd_step.specs.Step.{Stepped, step, CanPutBack}
 use Rattle.rd_step.specs.WellFormed.{content_fits, place_fits, IsWellFormed}
 use Rattle.rd_step.proofs.Steps.{took}
 use Rattle.rd_step.proofs.Fits.{may_fit}
 use Rattle.rd_step.proofs.Making.{laid_new, laid_other}
-use Rattle.rd_step.proofs.Inverse.{made-absent, absent_place}
+use Rattle.rd_step.proofs.Inverse.{number_made-absent, absent_place}
 
 -- Which places are there
 
 -- whether a place is there stays
 abbrev StaysAt : Contents → Place → Performed → Type 0
-StaysAt at q did = is_some (left_by did at q) ≡ is_some (at q)
+StaysAt at q did = is_some (contents_after did at q) ≡ is_some (at q)
 
-stays-done_at : (at : Contents) (q p : Place) (c : Content) (r : Result Effect Refusal) → at p ≡ Some c → IfOk (done_at p c r) (StaysAt at q)
-stays-done_at at q p c (Err x) h = tt
-stays-done_at at q p c (Ok e) h = put-is_some p c e.writes at q h
+stays-effect : (at : Contents) (q p : Place) (c : Content) (r : Result Effect Refusal) → operand at p ≡ Some c → IfOk (perform_effect p c r) (StaysAt at q)
+stays-effect at q p c (Err x) h = tt
+stays-effect at q p c (Ok e) h = after-is_some p c e at q h
 
-stays-operate : (at : Contents) (q p : Place) (op : Operation) (o : Option Content) → at p ≡ o → IfOk (operate p op o) (StaysAt at q)
+stays-operate : (at : Contents) (q p : Place) (op : Operation) (o : Option Content) → operand at p ≡ o → IfOk (operate p op o) (StaysAt at q)
 stays-operate at q p op None h = tt
-stays-operate at q p op (Some c) h = stays-done_at at q p c (effect op c) h
+stays-operate at q p op (Some c) h = stays-effect at q p c (effect op c) h
 
-stays-make : (R : ℕ) (s : SegName) (x : ℕ) (at : Contents) (q : Place) → (s.n < 65535 → is_of s q ≡ false)
+stays-make : (R : ℕ) (s : SegName) (x : ℕ) (at : Contents) (q : Place) → (s.n < MOST_SEGMENTS → is_of s q ≡ false)
     → IfOk (make R s x) (StaysAt at q)
 stays-make R s x at q other =
-    cond_both (nat_lt s.n 65535) _ _ (λ (r : Result Performed Refusal). IfOk r (StaysAt at q))
-    (λ e. ap is_some (cond-false (is_of s q) (holding R x q) (at q) (other (ltb-true s.n 65535 e)))) (λ e. tt)
+    cond_both (nat_lt s.n MOST_SEGMENTS) _ _ (λ (r : Result Performed Refusal). IfOk r (StaysAt at q))
+    (λ e. ap is_some (cond-false (is_of s q) (holding R x q) (at q) (other (ltb-true s.n MOST_SEGMENTS e)))) (λ e. tt)
 
 -- an access keeps which places are there that are none of its actor's next segment
 stays-perform : (R actor : ℕ) (at : Contents) (x : Access) (q : Place)
-    → (made at actor < 65535 → is_of (record { maker = actor; n = made at actor }) q ≡ false) → IfOk (perform R actor at x) (StaysAt at q)
+    → (number_made at actor < MOST_SEGMENTS → is_of (record { maker = actor; n = number_made at actor }) q ≡ false) → IfOk (perform R actor at x) (StaysAt at q)
 stays-perform R actor at NoPlace q other = refl
-stays-perform R actor at (At p op) q other = stays-operate at q p op (at p) refl
-stays-perform R actor at (Make x) q other = stays-make R (record { maker = actor; n = made at actor }) x at q other
+stays-perform R actor at (At p op) q other = stays-operate at q p op (operand at p) refl
+stays-perform R actor at (Make x) q other = stays-make R (record { maker = actor; n = number_made at actor }) x at q other
 
 -- a place that is there is none of a segment that an actor may make next
-not_next : (R : ℕ) (w : World) (n : ℕ) (q : Place) → IsWellFormed R w → is_some (w.at q) ≡ true → made w.at n < 65535
-    → is_of (record { maker = n; n = made w.at n }) q ≡ false
+not_next : (R : ℕ) (w : World) (n : ℕ) (q : Place) → IsWellFormed R w → is_some (w.at q) ≡ true → number_made w.at n < MOST_SEGMENTS
+    → is_of (record { maker = n; n = number_made w.at n }) q ≡ false
 not_next R w n q formed there below =
-    let s : SegName = record { maker = n; n = made w.at n } in
-    false_from_ne_true (is_of s q) (λ e. both_ways (is_some (w.at q)) (formed.places q ∙ absent_place R (is_there w.at) s q (made-absent w.at n below) e) there)
+    let s : SegName = record { maker = n; n = number_made w.at n } in
+    false_from_ne_true (is_of s q) (λ e. both_ways (is_some (w.at q)) (formed.places q ∙ absent_place R (is_there w.at) s q (number_made-absent w.at n below) e) there)
 
 -- a step takes nothing away
 pub stays_at : (R : ℕ) (w : World) (e : Event) (s : Stepped) (q : Place) → IsWellFormed R w → step R w e ≡ Ok s → is_some (w.at q) ≡ true
@@ -78,7 +68,7 @@ others_stay R w e s n k h other =
     (λ ne.
     let apart : n ≢ e.actor = eqb-false n e.actor ne in
     IfOk-at_ok (StaysAt w.at q) t.does
-    (stays-perform R e.actor w.at t.access q (λ below. and_left (e.actor == n) (made w.at e.actor == k) (ne_eqb e.actor n (λ same. apart (sym same))))))
+    (stays-perform R e.actor w.at t.access q (λ below. and_left (e.actor == n) (number_made w.at e.actor == k) (ne_eqb e.actor n (λ same. apart (sym same))))))
     other
 
 -- What may be put back
@@ -89,35 +79,35 @@ record GoesOn (n : ℕ) (after at : Contents) : Type 0 where
   pub made : (k : ℕ) → is_there at (record { maker = n; n = k }) ≡ is_there after (record { maker = n; n = k })
 
 abbrev CanGoBack : ℕ → Contents → Contents → Performed → Type 0
-CanGoBack n before at did = GoesOn n (left_by did before) at → CanPutBack at did.done.place did.done.old
+CanGoBack n before at did = GoesOn n (contents_after did before) at → CanPutBack at did.place did.old
 
-can-done_at : (R n : ℕ) (w : World) (at : Contents) (p : Place) (c : Content) (r : Result Effect Refusal) → w.at p ≡ Some c
-    → content_fits R (is_there w.at) p c ≡ true → IfOk (done_at p c r) (CanGoBack n w.at at)
-can-done_at R n w at p c (Err x) found fits = tt
-can-done_at R n w at p c (Ok e) found fits = λ on.
-    (on.stays p (put-is_some p c e.writes w.at p found ∙ ap is_some found), may_fit R (is_there w.at) p c fits)
+can-effect : (R n : ℕ) (w : World) (at : Contents) (p : Place) (c : Content) (r : Result Effect Refusal) → operand w.at p ≡ Some c
+    → content_fits R (is_there w.at) p c ≡ true → IfOk (perform_effect p c r) (CanGoBack n w.at at)
+can-effect R n w at p c (Err x) found fits = tt
+can-effect R n w at p c (Ok e) found fits = λ on.
+    (on.stays p (after-is_some p c e w.at p found ∙ ap is_some (operand-covered p w.at c p found (covers-refl p))), may_fit R (is_there w.at) p c fits)
 
-can-operate : (R n : ℕ) (w : World) (at : Contents) (p : Place) (op : Operation) (o : Option Content) → IsWellFormed R w → w.at p ≡ o
+can-operate : (R n : ℕ) (w : World) (at : Contents) (p : Place) (op : Operation) (o : Option Content) → IsWellFormed R w → operand w.at p ≡ o
     → IfOk (operate p op o) (CanGoBack n w.at at)
 can-operate R n w at p op None formed found = tt
 can-operate R n w at p op (Some c) formed found =
-    can-done_at R n w at p c (effect op c) found
-    (subst (λ (o : Option Content). place_fits R (is_there w.at) p o ≡ true) found (formed.contents p))
+    can-effect R n w at p c (effect op c) found
+    (subst (λ (o : Option Content). place_fits R (is_there w.at) p o ≡ true) (operand-covered p w.at c p found (covers-refl p)) (formed.contents p))
 
 -- an actor's number is not 0
-numbered : (acting : ℕ → Bool) (n : ℕ) → not (acting 0) ≡ true → acting n ≡ true → 1 ≤ n
-numbered acting zero h k = absurd (both_ways (acting 0) (not-true (acting 0) h) k)
-numbered acting (suc n) h k = omega arith
+numbered : (is_actor : ℕ → Bool) (n : ℕ) → not (is_actor 0) ≡ true → is_actor n ≡ true → 1 ≤ n
+numbered is_actor zero h k = absurd (both_ways (is_actor 0) (not-true (is_actor 0) h) k)
+numbered is_actor (suc n) h k = omega arith
 
 can-make : (R : ℕ) (w : World) (n : ℕ) (a : Actor) (at : Contents) (x : ℕ) → IsWellFormed R w → w.actor n ≡ Some a
-    → IfOk (make R (record { maker = n; n = made w.at n }) x) (CanGoBack n w.at at)
+    → IfOk (make R (record { maker = n; n = number_made w.at n }) x) (CanGoBack n w.at at)
 can-make R w n a at x formed has =
-    let m : ℕ = made w.at n in
+    let m : ℕ = number_made w.at n in
     let s : SegName = record { maker = n; n = m } in
     let next : SegName = record { maker = n; n = m + 1 } in
-    cond_both (nat_lt m 65535) _ _ (λ (r : Result Performed Refusal). IfOk r (CanGoBack n w.at at))
+    cond_both (nat_lt m MOST_SEGMENTS) _ _ (λ (r : Result Performed Refusal). IfOk r (CanGoBack n w.at at))
     (λ below on.
-    let absent : is_there w.at s ≡ false = made-absent w.at n (ltb-true m 65535 below) in
+    let absent : is_there w.at s ≡ false = number_made-absent w.at n (ltb-true m MOST_SEGMENTS below) in
     let not_next : is_there w.at next ≡ false = false_from_ne_true (is_there w.at next) (λ there.
     let more : m + 1 ≡ suc m = omega arith in
     both_ways (is_there w.at s) absent
@@ -133,7 +123,7 @@ can-make R w n a at x formed has =
 can-perform : (R : ℕ) (w : World) (n : ℕ) (a : Actor) (at : Contents) (x : Access) → IsWellFormed R w → w.actor n ≡ Some a
     → IfOk (perform R n w.at x) (CanGoBack n w.at at)
 can-perform R w n a at NoPlace formed has = λ on. tt
-can-perform R w n a at (At p op) formed has = can-operate R n w at p op (w.at p) formed refl
+can-perform R w n a at (At p op) formed has = can-operate R n w at p op (operand w.at p) formed refl
 can-perform R w n a at (Make x) formed has = can-make R w n a at x formed has
 
 -- what a step's entry keeps may be put back wherever the places are there that were there after it, and its actor

@@ -1,18 +1,16 @@
 -- A step on which no later one depends may be taken out of a run, and go last.
 use Rattle.std.proofs.Common.{◌≡◌, ℕ, true, ◌==◌, ◌&&◌, ◌||◌, refl, sym, ◌∙◌, ap, subst, List, [], ◌∷◌, Option, Some, is_some, Ok}
 use Rattle.std.proofs.lemmas.Bool.{cond_both, or_parts}
-use Rattle.rd_cell.specs.declared.places.Place.{Place}
-use Rattle.rd_cell.specs.Content.{is_there}
-use Rattle.rd_cell.specs.Access.{meet}
+use Rattle.rd_ring.specs.Prelude.{Place, is_there, some_overlap}
 use Rattle.rd_actor.specs.declared.actors.Actor.{Actor}
 use Rattle.rd_actor.specs.Table.{after}
-use Rattle.rd_actor.specs.World.{World}
+use Rattle.rd_step.specs.World.{World}
 use Rattle.rd_step.specs.declared.entries.Event.{Event}
 use Rattle.rd_step.specs.declared.entries.Entry.{Entry}
-use Rattle.rd_step.specs.Step.{Stepped, step, unstepped, CanPutBack}
+use Rattle.rd_step.specs.Step.{Stepped, step, unstep, CanPutBack}
 use Rattle.rd_step.specs.Run.{Ran, run}
 use Rattle.rd_step.specs.Dependence.{IsFree}
-use Rattle.rd_step.specs.Laws.{Swapped, Removed, WasStepped, IsTakenOut}
+use Rattle.rd_step.specs.Laws.{CommutingSquare, IsRemovable, WasStepped, IsTakenOut}
 use Rattle.rd_step.specs.WellFormed.{IsWellFormed}
 use Rattle.rd_step.proofs.Steps.{took, with_actor-same}
 use Rattle.rd_step.proofs.Commute.{commutes}
@@ -22,7 +20,7 @@ use Rattle.rd_step.proofs.PutBack.{stays_at, others_stay, entry_can}
 
 -- the last step of a run taken out
 last_removed : (R : ℕ) (w : World) (e : Event) (s : Stepped) → IsWellFormed R w → step R w e ≡ Ok s
-    → Removed R w e s [] (record { world = s.world; entries = [] })
+    → IsRemovable R w e s [] (record { world = s.world; entries = [] })
 last_removed R w e s formed h =
     let back = undoes R w e s formed h in
     record {
@@ -32,33 +30,33 @@ last_removed R w e s formed h =
     }
 
 -- a step that the next one doesn't depend on, taken out before it
-removed_before : (R : ℕ) (w : World) (e f : Event) (s u : Stepped) (fs : List Event) (rest : Ran) (sw : Swapped R w e f s u)
-    → Removed R sw.first.world e sw.second fs rest
-    → Removed R w e s (f ∷ fs) (record { world = rest.world; entries = u.entry ∷ rest.entries })
+removed_before : (R : ℕ) (w : World) (e f : Event) (s u : Stepped) (fs : List Event) (rest : Ran) (sw : CommutingSquare R w e f s u)
+    → IsRemovable R sw.first.world e sw.second fs rest
+    → IsRemovable R w e s (f ∷ fs) (record { world = rest.world; entries = u.entry ∷ rest.entries })
 removed_before R w e f s u fs rest sw r =
-    let same : unstepped rest.world sw.second.entry ≡ unstepped rest.world s.entry = ap (unstepped rest.world) sw.entry_unchanged in
+    let same : unstep rest.world sw.second.entry ≡ unstep rest.world s.entry = ap (unstep rest.world) sw.entry_unchanged in
     record {
       rest =
-          run-cons R w f fs sw.first (record { world = unstepped rest.world sw.second.entry; entries = rest.entries }) sw.goes_first r.rest
+          run-cons R w f fs sw.first (record { world = unstep rest.world sw.second.entry; entries = rest.entries }) sw.goes_first r.rest
           ∙ (λ i. Ok (record { world = same i; entries = sw.same_entry i ∷ rest.entries }));
       again =
-          subst (λ (x : Entry). step R (unstepped rest.world x) e ≡ Ok (record { world = rest.world; entry = x })) sw.entry_unchanged r.again;
+          subst (λ (x : Entry). step R (unstep rest.world x) e ≡ Ok (record { world = rest.world; entry = x })) sw.entry_unchanged r.again;
       well_formed = subst (λ (v : World). IsWellFormed R v) same r.well_formed;
     }
 
 -- the law
 pub removes : (R : ℕ) (w : World) (e : Event) (s : Stepped) (es : List Event) (r : Ran) → IsWellFormed R w → step R w e ≡ Ok s
-    → run R s.world es ≡ Ok r → IsFree s.entry r.entries → Removed R w e s es r
+    → run R s.world es ≡ Ok r → IsFree s.entry r.entries → IsRemovable R w e s es r
 removes R w e s [] r formed h k free =
     let p : record { world = s.world; entries = [] } ≡ r = cc in
-    subst (λ (x : Ran). Removed R w e s [] x) p (last_removed R w e s formed h)
+    subst (λ (x : Ran). IsRemovable R w e s [] x) p (last_removed R w e s formed h)
 removes R w e s (f ∷ fs) r formed h k free =
     let ran = ran_on R s.world f fs r k in
     let parts : IsFree s.entry (ran.one.entry ∷ ran.rest.entries) = subst (λ (x : Ran). IsFree s.entry x.entries) (sym ran.joins) free in
     let sw = commutes R w e f s ran.one h ran.goes parts.0 in
     let goes_on : run R sw.second.world fs ≡ Ok ran.rest = ap (λ (v : World). run R v fs) sw.same_world ∙ ran.goes_on in
     let free_on : IsFree sw.second.entry ran.rest.entries = subst (λ (x : Entry). IsFree x ran.rest.entries) (sym sw.entry_unchanged) parts.1 in
-    subst (λ (x : Ran). Removed R w e s (f ∷ fs) x) ran.joins
+    subst (λ (x : Ran). IsRemovable R w e s (f ∷ fs) x) ran.joins
     (removed_before R w e f s ran.one fs ran.rest sw
     (removes R sw.first.world e sw.second fs ran.rest (keeps R w f sw.first formed sw.goes_first) sw.goes_second goes_on free_on))
 
@@ -76,7 +74,7 @@ stays_actor : (R : ℕ) (w : World) (e : Event) (s : Stepped) (n : ℕ) → step
     → is_some (s.world.actor n) ≡ true
 stays_actor R w e s n h there =
     let t = took R w e s h in
-    let next = after R t.a e.act t.did.done.answer in
+    let next = after R t.a e.act t.did.answer in
     subst (λ (x : Stepped). is_some (x.world.actor n) ≡ true) t.ends
     (cond_both (n == e.actor) (Some next.0) (w.actor n) (λ (o : Option Actor). is_some o ≡ true) (λ k. refl) (λ k. there))
 
@@ -108,7 +106,7 @@ run_others R w (e ∷ es) r x k h free =
     let ran = ran_on R w e es r h in
     let p : ran.rest.world ≡ r.world = ap (λ (y : Ran). y.world) ran.joins in
     let parts : IsFree x (ran.one.entry ∷ ran.rest.entries) = subst (λ (y : Ran). IsFree x y.entries) (sym ran.joins) free in
-    let other = or_parts (x.event.actor == ran.one.entry.event.actor) (meet x.place ran.one.entry.place && (x.wrote || ran.one.entry.wrote)) parts.0 in
+    let other = or_parts (x.event.actor == ran.one.entry.event.actor) (some_overlap x.place ran.one.entry.place && (x.wrote || ran.one.entry.wrote)) parts.0 in
     ap (λ (v : World). is_there v.at (record { maker = x.event.actor; n = k })) (sym p)
     ∙ run_others R ran.one.world es ran.rest x k ran.goes_on parts.1
     ∙ others_stay R w e ran.one x.event.actor k ran.goes other.0
@@ -119,15 +117,15 @@ run_others R w (e ∷ es) r x k h free =
 entry_actor : (R : ℕ) (w : World) (e : Event) (s : Stepped) → step R w e ≡ Ok s → is_some (s.world.actor s.entry.event.actor) ≡ true
 entry_actor R w e s h =
     let t = took R w e s h in
-    let next = after R t.a e.act t.did.done.answer in
+    let next = after R t.a e.act t.did.answer in
     subst (λ (x : Stepped). is_some (x.world.actor x.entry.event.actor) ≡ true) t.ends
     (ap is_some (with_actor-same e.actor next.0 w.actor))
 
--- what `revert` asks for holds where an entry's step may be undone, and what is left is the run of the later steps
+-- what `revert` asks for holds if an entry's step may be undone, and what is left is the run of the later steps
 pub record CanUndo (R : ℕ) (now : World) (x : Entry) : Type 0 where
   pub actor_there : is_some (now.actor x.event.actor) ≡ true
   pub place_there : CanPutBack now.at x.place x.old_content
-  pub formed : IsWellFormed R (unstepped now x)
+  pub formed : IsWellFormed R (unstep now x)
 
 can_undo_ran : (R : ℕ) (w : World) (e : Event) (s : Stepped) (es : List Event) (r : Ran) → IsWellFormed R w → step R w e ≡ Ok s
     → run R s.world es ≡ Ok r → IsFree s.entry r.entries → CanUndo R r.world s.entry
@@ -148,11 +146,11 @@ can_undo R now x was =
     (subst (λ (y : Entry). CanUndo R was.ran.world y) was.its_entry
     (can_undo_ran R was.start was.event was.stepped was.later was.ran was.well_formed was.goes was.went_on free))
 
-pub taken_out : (R : ℕ) (now : World) (x : Entry) (was : WasStepped R now x) → IsTakenOut R now (unstepped now x) x was
+pub taken_out : (R : ℕ) (now : World) (x : Entry) (was : WasStepped R now x) → IsTakenOut R now (unstep now x) x was
 taken_out R now x was =
     let free : IsFree was.stepped.entry was.ran.entries = subst (λ (y : Entry). IsFree y was.ran.entries) (sym was.its_entry) was.free in
     let r = removes R was.start was.event was.stepped was.later was.ran was.well_formed was.goes was.went_on free in
-    let same : unstepped was.ran.world was.stepped.entry ≡ unstepped now x = λ i. unstepped (was.here i) (was.its_entry i) in
+    let same : unstep was.ran.world was.stepped.entry ≡ unstep now x = λ i. unstep (was.here i) (was.its_entry i) in
     record {
       rest = r.rest ∙ ap (λ (v : World). Ok (record { world = v; entries = was.ran.entries })) same;
       again =

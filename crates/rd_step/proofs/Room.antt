@@ -2,47 +2,40 @@
 use Rattle.std.proofs.Common.{◌≡◌, ℕ, nat_lt, Bool, true, refl, ◌∙◌, ap, subst, Option, Some, None, Result, Ok, Err, IfOk}
 use Rattle.std.proofs.lemmas.Bool.{cond_both}
 use Rattle.std.proofs.lemmas.Result.{IfOk-at_ok}
-use Rattle.rd_cell.specs.declared.places.Place.{Place}
-use Rattle.rd_cell.specs.declared.contents.Content.{Content}
-use Rattle.rd_cell.specs.declared.access.Access.{Access}
-use Rattle.rd_cell.specs.declared.access.Access.TheVariants.{NoPlace, At, Make}
-use Rattle.rd_cell.specs.declared.access.Operation.{Operation}
-use Rattle.rd_cell.specs.declared.refusal.Refusal.{Refusal}
-use Rattle.rd_cell.specs.Content.{Contents}
-use Rattle.rd_cell.specs.Effect.{Effect, effect}
-use Rattle.rd_cell.specs.Access.{Performed, made, operate, done_at, make, perform}
-use Rattle.rd_segments.specs.Lists.{uses}
-use Rattle.rd_actor.specs.World.{World}
+use Rattle.rd_ring.specs.Prelude.{MOST_SEGMENTS, Place, Content, Access, NoPlace, At, Make, Operation, Refusal, Contents, operand, Effect, effect, Performed, number_made, operate, make, perform}
+use Rattle.rd_cell.specs.Access.{perform_effect}
+use Rattle.rd_segments.specs.Room.{room_used, room_returned}
+use Rattle.rd_step.specs.World.{World}
 use Rattle.rd_step.specs.declared.entries.Event.{Event}
 use Rattle.rd_step.specs.Step.{Stepped, step}
-use Rattle.rd_step.specs.Machine.{makes, actor_makes, needs_making, makes_segment, given}
+use Rattle.rd_step.specs.Room.{makes, actor_makes, needs_making, makes_segment}
 use Rattle.rd_step.proofs.Steps.{took}
 
-given-done_at : (p : Place) (c : Content) (r : Result Effect Refusal) (m : ℕ) → IfOk (done_at p c r) (λ did. 0 ≡ given did.done.place did.done.old m)
-given-done_at p c (Err x) m = tt
-given-done_at p c (Ok e) m = refl
+returned-effect : (p : Place) (c : Content) (r : Result Effect Refusal) (m : ℕ) → IfOk (perform_effect p c r) (λ did. 0 ≡ room_returned did.place did.old m)
+returned-effect p c (Err x) m = tt
+returned-effect p c (Ok e) m = refl
 
-given-operate : (p : Place) (op : Operation) (o : Option Content) (m : ℕ) → IfOk (operate p op o) (λ did. 0 ≡ given did.done.place did.done.old m)
-given-operate p op None m = tt
-given-operate p op (Some c) m = given-done_at p c (effect op c) m
+returned-operate : (p : Place) (op : Operation) (o : Option Content) (m : ℕ) → IfOk (operate p op o) (λ did. 0 ≡ room_returned did.place did.old m)
+returned-operate p op None m = tt
+returned-operate p op (Some c) m = returned-effect p c (effect op c) m
 
-given-make : (R actor n x m : ℕ) → IfOk (make R (record { maker = actor; n = n }) x) (λ did. uses true actor m ≡ given did.done.place did.done.old m)
-given-make R actor n x m =
-    cond_both (nat_lt n 65535) _ _ (λ (r : Result Performed Refusal). IfOk r (λ did. uses true actor m ≡ given did.done.place did.done.old m))
+returned-make : (R actor n x m : ℕ) → IfOk (make R (record { maker = actor; n = n }) x) (λ did. room_used true actor m ≡ room_returned did.place did.old m)
+returned-make R actor n x m =
+    cond_both (nat_lt n MOST_SEGMENTS) _ _ (λ (r : Result Performed Refusal). IfOk r (λ did. room_used true actor m ≡ room_returned did.place did.old m))
     (λ e. refl) (λ e. tt)
 
-given-perform : (R actor : ℕ) (at : Contents) (x : Access) (m : ℕ) → IfOk (perform R actor at x) (λ did. uses (makes x) actor m ≡ given did.done.place did.done.old m)
-given-perform R actor at NoPlace m = refl
-given-perform R actor at (At p op) m = given-operate p op (at p) m
-given-perform R actor at (Make x) m = given-make R actor (made at actor) x m
+returned-perform : (R actor : ℕ) (at : Contents) (x : Access) (m : ℕ) → IfOk (perform R actor at x) (λ did. room_used (makes x) actor m ≡ room_returned did.place did.old m)
+returned-perform R actor at NoPlace m = refl
+returned-perform R actor at (At p op) m = returned-operate p op (operand at p) m
+returned-perform R actor at (Make x) m = returned-make R actor (number_made at actor) x m
 
 -- the room that a step uses is what undoing it gives back
-pub uses_given : (R : ℕ) (w : World) (e : Event) (s : Stepped) (m : ℕ) → step R w e ≡ Ok s
-    → uses (makes_segment R w e) e.actor m ≡ given s.entry.place s.entry.old_content m
-uses_given R w e s m h =
+pub room_used_returned : (R : ℕ) (w : World) (e : Event) (s : Stepped) (m : ℕ) → step R w e ≡ Ok s
+    → room_used (makes_segment R w e) e.actor m ≡ room_returned s.entry.place s.entry.old_content m
+room_used_returned R w e s m h =
     let t = took R w e s h in
     let by : makes_segment R w e ≡ makes t.access = ap (actor_makes R e.act) t.has ∙ ap needs_making t.needs in
-    let did : uses (makes t.access) e.actor m ≡ given t.did.done.place t.did.done.old m =
-    IfOk-at_ok (λ (d : Performed). uses (makes t.access) e.actor m ≡ given d.done.place d.done.old m) t.does (given-perform R e.actor w.at t.access m) in
-    subst (λ (x : Stepped). uses (makes_segment R w e) e.actor m ≡ given x.entry.place x.entry.old_content m) t.ends
-    (ap (λ (b : Bool). uses b e.actor m) by ∙ did)
+    let did : room_used (makes t.access) e.actor m ≡ room_returned t.did.place t.did.old m =
+    IfOk-at_ok (λ (d : Performed). room_used (makes t.access) e.actor m ≡ room_returned d.place d.old m) t.does (returned-perform R e.actor w.at t.access m) in
+    subst (λ (x : Stepped). room_used (makes_segment R w e) e.actor m ≡ room_returned x.entry.place x.entry.old_content m) t.ends
+    (ap (λ (b : Bool). room_used b e.actor m) by ∙ did)

@@ -1,8 +1,13 @@
+pub mod World
 pub mod Step
 pub mod Run
 pub mod Dependence
 pub mod WellFormed
-pub mod Machine
+pub mod Starts
+pub mod Fields
+pub mod Room
+pub mod Worlds
 pub mod Parts
-pub mod Model
 pub mod Laws
+pub mod Equivalence
+pub mod Prelude

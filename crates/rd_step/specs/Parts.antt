@@ -1,36 +1,37 @@
 -- A world, as it is put together from parts, and the first of its flaws.
-use Rattle.std.specs.Prelude.{◌≡◌, ℕ, suc, ◌+◌, ◌^◌, Bool, not, ◌==◌, ◌&&◌, nat_le, if◌then◌else◌, length, Option, Some, None, is_some}
+use Rattle.std.specs.Prelude.{◌≡◌, ℕ, suc, ◌+◌, Bool, not, ◌==◌, ◌&&◌, nat_le, if◌then◌else◌, length, Option, Some, None, is_some}
 use Rattle.std.specs.List.{list_all}
+use Rattle.rd_ring.specs.Prelude.{COUNTER_END, MOST_SEGMENTS, SLOTS, MOST_ACTORS}
 use Rattle.rd_ring.specs.declared.parts.SegmentParts.{SegmentParts}
-use Rattle.rd_ring.specs.Segment.{counters_fit}
+use Rattle.rd_ring.specs.Segments.{counters_fit}
 use Rattle.rd_segments.specs.declared.array.ArrayParts.{ArrayParts}
-use Rattle.rd_segments.specs.Lists.{named, count}
+use Rattle.rd_segments.specs.Lists.{by_name, count}
 use Rattle.rd_segments.specs.Parts.{contents_of_parts, each_segment}
 use Rattle.rd_actor.specs.Words.{words_fit}
-use Rattle.rd_actor.specs.World.{World}
+use Rattle.rd_step.specs.World.{World}
 use Rattle.rd_step.specs.declared.parts.Parts.{Parts}
 use Rattle.rd_step.specs.declared.flaws.Flaw.{Flaw}
 use Rattle.rd_step.specs.declared.flaws.Flaw.TheVariants.{Makers, PlaceNames, ActorNames, Counters, Indexes, ArrayCounters, ActorNumbers, ActorWords}
 use Rattle.rd_step.specs.declared.flaws.Unassembled.{Unassembled}
 use Rattle.rd_step.specs.declared.flaws.Unassembled.TheVariants.{Flaw as HasFlaw, NoMemory}
-use Rattle.rd_step.specs.Machine.{actor_at}
+use Rattle.rd_step.specs.Fields.{actor_at}
 use Rattle.rd_step.specs.WellFormed.{Presence, next_fits, names_fit, numbers_fit}
 
 -- the world that the parts are
-abbrev pub world_of : {R : ℕ} → Parts R → World
-world_of p = record { at = contents_of_parts p.segments.items p.qhead p.qtail p.array; actor = actor_at p.actors.items }
+abbrev pub world_of_parts : {R : ℕ} → Parts R → World
+world_of_parts p = record { at = contents_of_parts p.segments.items p.qhead p.qtail p.array; actor = actor_at p.actors.items }
 
 -- which segments are there
 abbrev pub has : {R : ℕ} → Parts R → Presence
-has p s = is_some (named p.segments.items s)
+has p s = is_some (by_name p.segments.items s)
 
 -- 1: there are 1 to 16 actors, and a list of segments for each maker from 0 to their number; that of maker 0 has one,
 -- the root, and each other at most 65,535
 abbrev pub makers_fit : {R : ℕ} → Parts R → Bool
 makers_fit p =
-    nat_le 1 (length p.actors.items) && nat_le (length p.actors.items) 16
+    nat_le 1 (length p.actors.items) && nat_le (length p.actors.items) MOST_ACTORS
     && (length p.segments.items == suc (length p.actors.items)) && (count p.segments.items 0 == 1)
-    && list_all (λ list. nat_le (length list.items) 65535) p.segments.items
+    && list_all (λ list. nat_le (length list.items) MOST_SEGMENTS) p.segments.items
 
 -- 2: the queue's ends, and each next that is set, name a segment that is there
 abbrev pub place_names_fit : {R : ℕ} → Parts R → Bool
@@ -46,7 +47,7 @@ indexes_fit end s = list_all (λ c. nat_le c.idx end) s.cells
 
 -- 6: the array's counters are at most 64
 abbrev pub array_fits : ArrayParts → Bool
-array_fits a = nat_le a.head 64 && nat_le a.tail 64
+array_fits a = nat_le a.head SLOTS && nat_le a.tail SLOTS
 
 -- the first condition that fails, in this order
 abbrev pub first_flaw : {R : ℕ} → Parts R → Option Flaw
@@ -55,7 +56,7 @@ first_flaw {R} p =
     else if not (place_names_fit p) then Some PlaceNames
     else if not (actor_names_fit p) then Some ActorNames
     else if not (each_segment counters_fit p.segments.items) then Some Counters
-    else if not (each_segment (indexes_fit (2 ^ 62 + R)) p.segments.items) then Some Indexes
+    else if not (each_segment (indexes_fit (COUNTER_END + R)) p.segments.items) then Some Indexes
     else if not (array_fits p.array) then Some ArrayCounters
     else if not (list_all (numbers_fit R) p.actors.items) then Some ActorNumbers
     else if not (list_all words_fit p.actors.items) then Some ActorWords

@@ -1,15 +1,9 @@
 -- Well-formed worlds.
-use Rattle.std.specs.Prelude.{◌≡◌, ℕ, zero, suc, ◌+◌, ◌^◌, ◌≤◌, Bool, true, false, not, ◌==◌, ◌&&◌, nat_lt, nat_le, Option, Some, None, is_some, IsTrue}
-use Rattle.rd_cell.specs.declared.places.SegName.{SegName}
-use Rattle.rd_cell.specs.declared.places.Place.{Place}
-use Rattle.rd_cell.specs.declared.places.Place.TheVariants.{QHead, QTail, Head, Tail, Next, Cell as CellAt, ArrHead, ArrTail, ArrCell}
-use Rattle.rd_cell.specs.declared.contents.Content.{Content}
-use Rattle.rd_cell.specs.declared.contents.Content.TheVariants.{Name, Number, Tail as TailIs, Next as NextIs, Cell as CellIs, Slot}
-use Rattle.rd_cell.specs.Place.{root}
-use Rattle.rd_cell.specs.Content.{is_there}
+use Rattle.std.specs.Prelude.{◌≡◌, ℕ, zero, suc, ◌+◌, ◌≤◌, Bool, true, false, not, ◌==◌, ◌&&◌, nat_lt, nat_le, Option, Some, None, is_some, IsTrue}
+use Rattle.rd_ring.specs.Prelude.{COUNTER_END, MOST_SEGMENTS, SLOTS, MOST_ACTORS, SegName, Place, QHead, QTail, Head, Tail, Next, CellAt, ArrHead, ArrTail, ArrCell, Content, Name, Number, TailIs, NextIs, CellIs, Slot, root, is_there}
 use Rattle.rd_actor.specs.declared.actors.Actor.{Actor}
 use Rattle.rd_actor.specs.Words.{words_fit}
-use Rattle.rd_actor.specs.World.{World}
+use Rattle.rd_step.specs.World.{World}
 
 -- which segments are there, by name
 abbrev pub Presence : Type 0
@@ -26,7 +20,7 @@ belongs R there (Next s) = there s
 belongs R there (CellAt s i) = nat_lt i R && there s
 belongs R there ArrHead = true
 belongs R there ArrTail = true
-belongs R there (ArrCell i) = nat_lt i 64
+belongs R there (ArrCell i) = nat_lt i SLOTS
 belongs R there _ = false
 
 -- whether the segment that a next names is there, if it names one
@@ -39,12 +33,12 @@ next_fits there (Some m) = there m
 abbrev pub content_fits : ℕ → Presence → Place → Content → Bool
 content_fits R there QHead (Name s) = there s
 content_fits R there QTail (Name s) = there s
-content_fits R there (Head s) (Number n) = nat_le n (2 ^ 62)
-content_fits R there (Tail s) (TailIs closed n) = nat_le n (2 ^ 62)
+content_fits R there (Head s) (Number n) = nat_le n COUNTER_END
+content_fits R there (Tail s) (TailIs closed n) = nat_le n COUNTER_END
 content_fits R there (Next s) (NextIs m) = next_fits there m
-content_fits R there (CellAt s i) (CellIs c) = nat_le c.idx (2 ^ 62 + R)
-content_fits R there ArrHead (Number n) = nat_le n 64
-content_fits R there ArrTail (Number n) = nat_le n 64
+content_fits R there (CellAt s i) (CellIs c) = nat_le c.idx (COUNTER_END + R)
+content_fits R there ArrHead (Number n) = nat_le n SLOTS
+content_fits R there ArrTail (Number n) = nat_le n SLOTS
 content_fits R there (ArrCell i) (Slot slot) = true
 content_fits R there _ _ = false
 
@@ -59,13 +53,13 @@ names_fit there a = there a.crq && there a.new && there a.next
 
 -- whether an actor's positions are at most 2^62, and its index at most this
 abbrev pub numbers_within : ℕ → Actor → Bool
-numbers_within end a = nat_le a.t (2 ^ 62) && nat_le a.h (2 ^ 62) && nat_le a.idx end
+numbers_within end a = nat_le a.t COUNTER_END && nat_le a.h COUNTER_END && nat_le a.idx end
 
 -- whether an actor's numbers are within their ends
 abbrev pub numbers_fit : ℕ → Actor → Bool
-numbers_fit R = numbers_within (2 ^ 62 + R)
+numbers_fit R = numbers_within (COUNTER_END + R)
 
--- whether an actor's record fits: its names, its numbers, and its words as its place wants them
+-- whether an actor's record fits: its names, its numbers, and its words as its control point wants them
 abbrev pub record_fits : ℕ → Presence → Actor → Bool
 record_fits R there a = names_fit there a && numbers_fit R a && words_fit a
 
@@ -75,31 +69,31 @@ actor_fits R there None = true
 actor_fits R there (Some a) = record_fits R there a
 
 -- there are 1 to 16 actors, numbered from 1 without a gap
-pub record IsNumbered (acting : ℕ → Bool) : Type 0 where
-  pub first : IsTrue (acting 1)
-  pub from_one : IsTrue (not (acting 0))
-  pub to_sixteen : (n : ℕ) → IsTrue (acting n) → n ≤ 16
-  pub no_gap : (n : ℕ) → IsTrue (acting (suc (suc n))) → IsTrue (acting (suc n))
+pub record IsNumbered (is_actor : ℕ → Bool) : Type 0 where
+  pub first : IsTrue (is_actor 1)
+  pub from_one : IsTrue (not (is_actor 0))
+  pub to_most : (n : ℕ) → IsTrue (is_actor n) → n ≤ MOST_ACTORS
+  pub no_gap : (n : ℕ) → IsTrue (is_actor (suc (suc n))) → IsTrue (is_actor (suc n))
 
 -- whether a segment of this maker and number may be there: the root alone has no maker, and a maker is an actor
 abbrev pub maker_fits : (ℕ → Bool) → ℕ → ℕ → Bool
-maker_fits acting zero n = n == 0
-maker_fits acting (suc m) n = acting (suc m) && nat_lt n 65535
+maker_fits is_actor zero n = n == 0
+maker_fits is_actor (suc m) n = is_actor (suc m) && nat_lt n MOST_SEGMENTS
 
 -- the root is there, each other segment is one that an actor made, and a maker's segments are numbered without a gap
-pub record AreMade (acting : ℕ → Bool) (there : Presence) : Type 0 where
+pub record AreMade (is_actor : ℕ → Bool) (there : Presence) : Type 0 where
   pub rooted : IsTrue (there root)
-  pub makers : (s : SegName) → IsTrue (there s) → IsTrue (maker_fits acting s.maker s.n)
+  pub makers : (s : SegName) → IsTrue (there s) → IsTrue (maker_fits is_actor s.maker s.n)
   pub no_gap : (m n : ℕ) → IsTrue (there (record { maker = m; n = suc n })) → IsTrue (there (record { maker = m; n = n }))
 
 -- whether there is an actor of this number
-abbrev pub acting : (ℕ → Option Actor) → ℕ → Bool
-acting actors n = is_some (actors n)
+abbrev pub is_actor : (ℕ → Option Actor) → ℕ → Bool
+is_actor actors n = is_some (actors n)
 
 -- a world of rings of R cells is well-formed
 pub record IsWellFormed (R : ℕ) (w : World) : Type 0 where
-  pub numbered : IsNumbered (acting w.actor)
-  pub made : AreMade (acting w.actor) (is_there w.at)
+  pub numbered : IsNumbered (is_actor w.actor)
+  pub made : AreMade (is_actor w.actor) (is_there w.at)
   -- just the places are there that belong there
   pub places : (p : Place) → is_some (w.at p) ≡ belongs R (is_there w.at) p
   -- each place's content and each actor's record fit

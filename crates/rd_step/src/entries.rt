@@ -23,10 +23,10 @@ pub struct Entry {
     pub wrote: bool,
     /// What the access answered.
     pub answer: Answer,
-    /// What the actor's call replied, where the step ended it.
+    /// What the actor's call replied, if the step ended it.
     pub reply: Option<OpReply>,
     /// The actor's words before the step.
     pub old_actor: Actor,
-    /// The content of the place before the step; none for a making and where there is no place.
+    /// The content of the place before the step; none for a making, or if there is no place.
     pub old_content: Option<Content>,
 }

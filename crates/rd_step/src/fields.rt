@@ -1,13 +1,12 @@
 //! The step and its undoing, over the fields of a world.
 
-ghost use Rattle.std.specs.Prelude.{◌≡◌, ◌+◌, ◌<◌, ◌≤◌, ◌⊎◌, ℕ, suc, true, false, Some, None, Ok, Err, IsSome, IsTrue, IfOk, IfErr, OnErr, length};
-ghost use Rattle.rd_cell.specs.declared.access.Access.TheVariants.{Make};
-ghost use Rattle.rd_cell.specs.declared.access.Answer.TheVariants.{Nothing};
-ghost use Rattle.rd_cell.specs.Access.{perform, Accesses};
-ghost use Rattle.rd_segments.specs.Lists.{uses};
-ghost use Rattle.rd_segments.specs.Space.{contents, lists, made_by, room};
-ghost use Rattle.rd_step.specs.Step.{step, put_back, reverted, with_actor, CanPutBack};
-ghost use Rattle.rd_step.specs.Machine.{machine_of, actor_at, suits, makes, makes_segment, given};
+ghost use Rattle.std.specs.Prelude.{◌≡◌, ◌+◌, ◌<◌, ◌≤◌, ◌⊎◌, ℕ, suc, true, false, Some, None, Ok, Err, IsSome, IsOk, IsTrue, IfOk, IfErr, OnErr, length, vec_capacity};
+ghost use Rattle.rd_ring.specs.Prelude.{MOST_CELLS, MOST_SEGMENTS, Make, Nothing, perform, restore, everywhere, HasEffect};
+ghost use Rattle.rd_segments.specs.Room.{room_used, room_returned};
+ghost use Rattle.rd_segments.specs.Space.{contents, lists, making_count, room, capacity};
+ghost use Rattle.rd_step.specs.Step.{step, revert, with_actor, CanPutBack};
+ghost use Rattle.rd_step.specs.Fields.{world_of_fields, actor_at, access_suits};
+ghost use Rattle.rd_step.specs.Room.{makes, makes_segment};
 ghost use Rattle.rd_step.specs.WellFormed.{IsWellFormed};
 
 use super::entries::{Entry, Event};
@@ -21,19 +20,19 @@ pub fn step_fields<const R: usize>(
     actors: &mut Vec<Actor>,
     event: Event,
 ) -> Result<Entry, Refusal>
-    requires well_formed { IsWellFormed R (machine_of space.old actors.old.items) }
+    requires well_formed { IsWellFormed R (world_of_fields space.old actors.old.items) }
     requires makers { lists space.old ≡ suc (length actors.old.items) }
     requires positive { 1 ≤ R }
-    requires small { R ≤ 64 }
-    ensures ok { IfOk result (λ entry. step R (machine_of space.old actors.old.items) event
-        ≡ Ok (record { world = machine_of space.new actors.new.items; entry = entry })) }
-    ensures err { IfErr result (λ refusal. (step R (machine_of space.old actors.old.items) event ≡ Err refusal)
-        ⊎ ((refusal ≡ Refusal.NoMemory) × IsTrue (makes_segment R (machine_of space.old actors.old.items) event)
-        × (room space.old event.actor ≡ 0))) }
+    requires small { R ≤ MOST_CELLS }
+    ensures ok { IfOk result (λ entry. step R (world_of_fields space.old actors.old.items) event
+        ≡ Ok (record { world = world_of_fields space.new actors.new.items; entry = entry })) }
+    ensures err { IfErr result (λ refusal. (step R (world_of_fields space.old actors.old.items) event ≡ Err refusal)
+        ⊎ ((refusal ≡ Refusal.NoMemory) × IsOk (step R (world_of_fields space.old actors.old.items) event)
+        × IsTrue (makes_segment R (world_of_fields space.old actors.old.items) event) × (room space.old event.actor ≡ 0))) }
     ensures unchanged { OnErr result ((contents space.new ≡ contents space.old) × (actors.new.items ≡ actors.old.items)) }
     ensures makers { lists space.new ≡ suc (length actors.new.items) }
     ensures room { (m : ℕ) → room space.old m
-        ≤ room space.new m + uses (makes_segment R (machine_of space.old actors.old.items) event) event.actor m }
+        ≤ room space.new m + room_used (makes_segment R (world_of_fields space.old actors.old.items) event) event.actor m }
     ensures kept { OnErr result ((m : ℕ) → room space.old m ≤ room space.new m) }
 {
     let actor = match actor_in(actors, event.actor) {
@@ -72,11 +71,13 @@ pub fn revert_fields<const R: usize>(
 )
     requires actor_there { IsSome (actor_at actors.old.items actor) }
     requires place_there { CanPutBack (contents space.old) place content }
-    requires small { R ≤ 64 }
-    ensures done { machine_of space.new actors.new.items ≡ reverted (machine_of space.old actors.old.items) actor words place content }
+    requires small { R ≤ MOST_CELLS }
+    ensures done { world_of_fields space.new actors.new.items ≡ revert (world_of_fields space.old actors.old.items) actor words place content }
     ensures number { lists space.new ≡ lists space.old }
+    ensures capacity { capacity space.new ≡ capacity space.old }
     ensures actors { length actors.new.items ≡ length actors.old.items }
-    ensures room { (m : ℕ) → room space.new m ≡ room space.old m + given place content m }
+    ensures actor_capacity { vec_capacity actors.new ≡ vec_capacity actors.old }
+    ensures room { (m : ℕ) → room space.new m ≡ room space.old m + room_returned place content m }
 {
     put_back(space, place, content);
     set_actor(actors, actor, words);
@@ -85,10 +86,11 @@ pub fn revert_fields<const R: usize>(
 /// Puts back the content of a place, if one is named, or takes a segment away.
 fn put_back<const R: usize>(space: &mut Space<R>, place: Option<Place>, content: Option<Content>)
     requires can { CanPutBack (contents space.old) place content }
-    requires small { R ≤ 64 }
-    ensures done { contents space.new ≡ put_back place content (contents space.old) }
+    requires small { R ≤ MOST_CELLS }
+    ensures done { contents space.new ≡ restore place content (contents space.old) }
     ensures number { lists space.new ≡ lists space.old }
-    ensures room { (m : ℕ) → room space.new m ≡ room space.old m + given place content m }
+    ensures capacity { capacity space.new ≡ capacity space.old }
+    ensures room { (m : ℕ) → room space.new m ≡ room space.old m + room_returned place content m }
 {
     match (place, content) {
         (Some(place), Some(content)) => space.restore(place, content),
@@ -100,10 +102,11 @@ fn put_back<const R: usize>(space: &mut Space<R>, place: Option<Place>, content:
 /// Takes a segment away, the last one of its maker.
 fn take_away<const R: usize>(space: &mut Space<R>, place: Place)
     requires can { CanPutBack (contents space.old) (Some place) None }
-    requires small { R ≤ 64 }
-    ensures done { contents space.new ≡ put_back (Some place) None (contents space.old) }
+    requires small { R ≤ MOST_CELLS }
+    ensures done { contents space.new ≡ restore (Some place) None (contents space.old) }
     ensures number { lists space.new ≡ lists space.old }
-    ensures room { (m : ℕ) → room space.new m ≡ room space.old m + given (Some place) None m }
+    ensures capacity { capacity space.new ≡ capacity space.old }
+    ensures room { (m : ℕ) → room space.new m ≡ room space.old m + room_returned (Some place) None m }
 {
     match place {
         Place::Whole(name) => space.unmake(name.maker),
@@ -126,22 +129,24 @@ fn set_actor(actors: &mut Vec<Actor>, number: u8, words: Actor)
     requires { IsSome (actor_at actors.old.items number) }
     ensures done { actor_at actors.new.items ≡ with_actor number words (actor_at actors.old.items) }
     ensures number { length actors.new.items ≡ length actors.old.items }
+    ensures capacity { vec_capacity actors.new ≡ vec_capacity actors.old }
 {
     actors[usize::from(number) - 1] = words;
 }
 
 /// Makes an access, for this actor.
 fn perform<const R: usize>(space: &mut Space<R>, actor: u8, access: Access) -> Result<Done, Refusal>
-    requires small { R ≤ 64 }
+    requires small { R ≤ MOST_CELLS }
     requires maker_there { actor < lists space.old }
-    requires counted { made_by space.old actor ≤ 65535 }
-    requires suits { IsTrue (suits access) }
-    ensures ok { IfOk result (λ done. Accesses R actor access (contents space.old) (contents space.new) done) }
+    requires counted { making_count space.old actor ≤ MOST_SEGMENTS }
+    requires access_suits { IsTrue (access_suits access) }
+    ensures ok { IfOk result (λ done. HasEffect everywhere (perform R actor (contents space.old) access) done (contents space.old) (contents space.new)) }
     ensures err { IfErr result (λ e. (perform R actor (contents space.old) access ≡ Err e)
-        ⊎ ((e ≡ Refusal.NoMemory) × IsTrue (makes access) × (room space.old actor ≡ 0))) }
+        ⊎ ((e ≡ Refusal.NoMemory) × IsOk (perform R actor (contents space.old) access) × IsTrue (makes access)
+        × (room space.old actor ≡ 0))) }
     ensures unchanged { OnErr result (contents space.new ≡ contents space.old) }
     ensures number { lists space.new ≡ lists space.old }
-    ensures room { (m : ℕ) → room space.old m ≤ room space.new m + uses (makes access) actor m }
+    ensures room { (m : ℕ) → room space.old m ≤ room space.new m + room_used (makes access) actor m }
     ensures kept { OnErr result ((m : ℕ) → room space.old m ≤ room space.new m) }
 {
     match access {
@@ -151,7 +156,7 @@ fn perform<const R: usize>(space: &mut Space<R>, actor: u8, access: Access) -> R
     }
 }
 
-/// What no access did.
+/// What a step without an access did.
 fn nothing_done() -> Done
     ensures { result ≡ record { place = None; old = None; answer = Nothing; wrote = false } }
 {
@@ -165,15 +170,15 @@ fn nothing_done() -> Done
 
 /// Makes the actor's next segment, which holds this value.
 fn make<const R: usize>(space: &mut Space<R>, actor: u8, value: u64) -> Result<Done, Refusal>
-    requires small { R ≤ 64 }
+    requires small { R ≤ MOST_CELLS }
     requires maker_there { actor < lists space.old }
-    requires counted { made_by space.old actor ≤ 65535 }
-    ensures ok { IfOk result (λ done. Accesses R actor (Make value) (contents space.old) (contents space.new) done) }
+    requires counted { making_count space.old actor ≤ MOST_SEGMENTS }
+    ensures ok { IfOk result (λ done. HasEffect everywhere (perform R actor (contents space.old) (Make value)) done (contents space.old) (contents space.new)) }
     ensures err { IfErr result (λ e. (perform R actor (contents space.old) (Make value) ≡ Err e)
-        ⊎ ((e ≡ Refusal.NoMemory) × (room space.old actor ≡ 0))) }
+        ⊎ ((e ≡ Refusal.NoMemory) × IsOk (perform R actor (contents space.old) (Make value)) × (room space.old actor ≡ 0))) }
     ensures unchanged { OnErr result (contents space.new ≡ contents space.old) }
     ensures number { lists space.new ≡ lists space.old }
-    ensures room { (m : ℕ) → room space.old m ≤ room space.new m + uses true actor m }
+    ensures room { (m : ℕ) → room space.old m ≤ room space.new m + room_used true actor m }
     ensures kept { OnErr result ((m : ℕ) → room space.old m ≤ room space.new m) }
 {
     match space.make(actor, value) {

@@ -2,7 +2,8 @@
 
 ghost use Rattle.std.specs.Prelude.{◌≡◌, ◌≤◌, nat_le, length};
 ghost use Rattle.std.specs.List.{list_all};
-ghost use Rattle.rd_ring.specs.Segment.{counters_fit};
+ghost use Rattle.rd_ring.specs.Prelude.{MOST_CELLS};
+ghost use Rattle.rd_ring.specs.Segments.{counters_fit};
 ghost use Rattle.rd_segments.specs.Parts.{each_segment};
 ghost use Rattle.rd_actor.specs.Words.{words_fit};
 ghost use Rattle.rd_step.specs.WellFormed.{names_fit, next_fits, numbers_within};
@@ -11,6 +12,7 @@ ghost use Rattle.rd_step.specs.Parts.{has, makers_fit, place_names_fit, actor_na
 use super::parts::Parts;
 use rd_actor::Actor;
 use rd_cell::SegName;
+use rd_cell::limits::{COUNTER_END, MOST_ACTORS, MOST_SEGMENTS, SLOTS};
 use rd_ring::SegmentParts;
 use rd_segments::ArrayParts;
 
@@ -32,7 +34,7 @@ pub enum Flaw {
     ArrayCounters,
     /// 7: an actor's t or h is above 2^62, or its idx above 2^62 + `R`.
     ActorNumbers,
-    /// 8: an actor's words do not fit its place.
+    /// 8: an actor's words do not fit its control point.
     ActorWords,
 }
 
@@ -61,13 +63,13 @@ impl Flaw {
 pub enum Unassembled {
     /// The parts make no well-formed world.
     Flaw(Flaw),
-    /// A growth was refused for want of memory.
+    /// Memory was refused.
     NoMemory,
 }
 
-/// The first flaw of these parts; none where they make a well-formed world.
+/// The first flaw of these parts; none if they make a well-formed world.
 pub fn first_flaw<const R: usize>(parts: &Parts<R>) -> Option<Flaw>
-    requires { R ≤ 64 }
+    requires { R ≤ MOST_CELLS }
     ensures { result ≡ first_flaw parts.now }
 {
     let index_end = COUNTER_END + R as u64;
@@ -92,23 +94,14 @@ pub fn first_flaw<const R: usize>(parts: &Parts<R>) -> Option<Flaw>
     }
 }
 
-/// How many segments one maker may have made.
-const SEGMENTS: usize = 65_535;
-
-/// Where a segment's counters end.
-const COUNTER_END: u64 = 1 << 62;
-
-/// Where the array's counters end.
-const ARRAY_END: u64 = 64;
-
 /// Whether there are 1 to 16 actors, and a list of so many segments as may be for each maker.
 fn makers_fit<const R: usize>(parts: &Parts<R>) -> bool
-    requires { R ≤ 64 }
+    requires { R ≤ MOST_CELLS }
     ensures { result ≡ makers_fit parts.now }
 {
     let actors = parts.actors.len();
     1 <= actors
-        && actors <= 16
+        && actors <= MOST_ACTORS
         && parts.segments.len() == actors + 1
         && parts.segments[0].len() == 1
         && lists_fit(&parts.segments)
@@ -116,26 +109,26 @@ fn makers_fit<const R: usize>(parts: &Parts<R>) -> bool
 
 /// Whether each list has so many segments as a maker may have made.
 fn lists_fit<const R: usize>(makers: &[Vec<SegmentParts<R>>]) -> bool
-    requires { R ≤ 64 }
-    ensures { result ≡ list_all (λ list. nat_le (length list.items) 65535) makers.now }
+    requires { R ≤ MOST_CELLS }
+    ensures { result ≡ list_all (λ list. nat_le (length list.items) MOST_SEGMENTS) makers.now }
 {
     makers.iter().all(
         |list| -> bool
-            ensures { result ≡ nat_le (length list.now.items) 65535 }
+            ensures { result ≡ nat_le (length list.now.items) MOST_SEGMENTS }
         { few_segments(list) },
     )
 }
 
 /// Whether a list has so many segments as a maker may have made.
 fn few_segments<const R: usize>(list: &Vec<SegmentParts<R>>) -> bool
-    ensures { result ≡ nat_le (length list.now.items) 65535 }
+    ensures { result ≡ nat_le (length list.now.items) MOST_SEGMENTS }
 {
-    list.len() <= SEGMENTS
+    list.len() <= MOST_SEGMENTS
 }
 
 /// Whether the queue's ends and each next that is set name a segment that is there.
 fn place_names_fit<const R: usize>(parts: &Parts<R>) -> bool
-    requires { R ≤ 64 }
+    requires { R ≤ MOST_CELLS }
     ensures { result ≡ place_names_fit parts.now }
 {
     has(parts, parts.qhead) && has(parts, parts.qtail) && all_nexts_fit(parts)
@@ -143,7 +136,7 @@ fn place_names_fit<const R: usize>(parts: &Parts<R>) -> bool
 
 /// Whether each next that is set names a segment that is there.
 fn all_nexts_fit<const R: usize>(parts: &Parts<R>) -> bool
-    requires { R ≤ 64 }
+    requires { R ≤ MOST_CELLS }
     ensures { result ≡ each_segment (λ s. next_fits (has parts.now) s.next) parts.now.segments.items }
 {
     parts.segments.iter().all(
@@ -186,7 +179,7 @@ fn next_fits<const R: usize>(parts: &Parts<R>, next: Option<SegName>) -> bool
 
 /// Whether the segments are there that the actors' words name.
 fn actor_names_fit<const R: usize>(parts: &Parts<R>) -> bool
-    requires { R ≤ 64 }
+    requires { R ≤ MOST_CELLS }
     ensures { result ≡ actor_names_fit parts.now }
 {
     parts.actors.iter().all(
@@ -205,7 +198,7 @@ fn names_fit<const R: usize>(parts: &Parts<R>, actor: &Actor) -> bool
 
 /// Whether each segment's counters are at most 2^62.
 fn all_counters_fit<const R: usize>(parts: &Parts<R>) -> bool
-    requires { R ≤ 64 }
+    requires { R ≤ MOST_CELLS }
     ensures { result ≡ each_segment counters_fit parts.now.segments.items }
 {
     parts.segments.iter().all(
@@ -235,7 +228,7 @@ fn segment_counters_fit<const R: usize>(segment: &SegmentParts<R>) -> bool
 
 /// Whether each cell's index is at most this.
 fn all_indexes_fit<const R: usize>(parts: &Parts<R>, end: u64) -> bool
-    requires { R ≤ 64 }
+    requires { R ≤ MOST_CELLS }
     ensures { result ≡ each_segment (indexes_fit end) parts.now.segments.items }
 {
     parts.segments.iter().all(
@@ -267,7 +260,7 @@ fn indexes_fit<const R: usize>(segment: &SegmentParts<R>, end: u64) -> bool
 fn array_fits(array: &ArrayParts) -> bool
     ensures { result ≡ array_fits array.now }
 {
-    array.head <= ARRAY_END && array.tail <= ARRAY_END
+    array.head <= SLOTS as u64 && array.tail <= SLOTS as u64
 }
 
 /// Whether each actor's t and h are at most 2^62, and its idx at most this.
@@ -284,7 +277,7 @@ fn numbers_fit(actor: &Actor, end: u64) -> bool
     actor.t <= COUNTER_END && actor.h <= COUNTER_END && actor.idx <= end
 }
 
-/// Whether each actor's words fit its place.
+/// Whether each actor's words fit its control point.
 fn actor_words_fit(actors: &[Actor]) -> bool
     ensures { result ≡ list_all words_fit actors.now }
 {

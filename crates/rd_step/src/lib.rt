@@ -20,6 +20,4 @@ pub use rd_segments::ArrayParts;
 pub use worlds::World;
 
 #[cfg(test)]
-mod assembling;
-#[cfg(test)]
 mod tests;

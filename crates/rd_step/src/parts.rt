@@ -1,6 +1,7 @@
 //! What a world is put together from.
 
 ghost use Rattle.std.specs.Prelude.{◌≤◌};
+ghost use Rattle.rd_ring.specs.Prelude.{MOST_CELLS};
 
 use rd_actor::Actor;
 use rd_cell::SegName;
@@ -20,5 +21,5 @@ pub struct Parts<const R: usize> {
     pub qtail: SegName,
     /// The array.
     pub array: ArrayParts,
-    ghost small: { R ≤ 64 },
+    ghost small: { R ≤ MOST_CELLS },
 }

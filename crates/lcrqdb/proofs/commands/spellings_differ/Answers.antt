@@ -4,7 +4,7 @@ use Rattle.std.proofs.lemmas.Fmt.{decimal_injective}
 use Rattle.std.proofs.lemmas.List.{append_cancel_left}
 use Rattle.lcrqdb.specs.declared.commands.Command.{Command}
 use Rattle.lcrqdb.specs.declared.commands.Command.TheVariants.{Go, Undo, Back, Redo, Forward, Len, Actor, ShowTail}
-use Rattle.lcrqdb.specs.Spelling.{spelling, IsInRange}
+use Rattle.lcrqdb.specs.Commands.{spelling, IsInRange}
 use Rattle.lcrqdb.proofs.commands.spellings_differ.Goals as goal
 
 -- by cases: the first letters differ, or the numbers do

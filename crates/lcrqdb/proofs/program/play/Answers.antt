@@ -1,25 +1,40 @@
 use Rattle.std.proofs.Common.{ap, ◌∙◌, []}
-use Rattle.rd_actor.specs.World.{World}
+use Rattle.rd_step.specs.Prelude.{World}
 use Rattle.rd_journal.specs.State.{State}
-use Rattle.rd_journal.specs.Session.{state}
-use Rattle.lcrqdb.proofs.ProgramLemmas.{all_at, ended_at, unreported_at}
+use Rattle.rd_journal.specs.Sessions.{state}
+use Rattle.lcrqdb.proofs.ProgramLemmas.{PlaysScript-at_end, PlaysScript-at_fault}
 use Rattle.lcrqdb.proofs.program.play.Goals as goal
 
--- nothing was done in this world
+-- no step was made in this world
 abbrev fresh : World → State
 fresh world = record { start = world; live = []; undone = [] }
 
-pub returns-in-Ok-run_lines : goal.returns-in-Ok-run_lines
-returns-in-Ok-run_lines g c =
-    let after = state c.run_lines.new.session in
-    (after, all_at _ (state c.open-session.result) _ after (c.open-session.ensures.state ∙ ap fresh c.in-Ok.ensures.ok) c.in-Ok-run_lines.lines c.in-Ok-run_lines.ensures.did)
-
-pub returns-in-Err-Read : goal.returns-in-Err-Read
-returns-in-Err-Read g c =
-    let after = state c.run_lines.new.session in
-    (after, ended_at _ (state c.open-session.result) _ after (c.open-session.ensures.state ∙ ap fresh c.in-Ok.ensures.ok) c.in-Err-Read.field-0 c.in-Err-Read.field-0-is c.in-Err-Read.ensures.did)
+pub returns-in_err-run_lines : goal.returns-in_err-run_lines
+returns-in_err-run_lines g c =
+    let first = c.open-session.ensures.state ∙ ap fresh c.in-Ok.ensures.ok in
+    record {
+      plays = PlaysScript-at_fault (record {
+        in_before = g.S.Source.bytes c.args.reader.now;
+        in_after = g.S.Source.bytes c.run_lines.new.reader;
+        in_failed = g.S.Source.has_failed c.run_lines.new.reader;
+        out_before = g.K.Sink.contents c.args.writer.now;
+        out_after = g.K.Sink.contents c.run_lines.new.writer;
+        out_failed = g.K.Sink.has_failed c.run_lines.new.writer;
+      }) (state c.open-session.result) (state c.run_lines.new.session) c.in_err-run_lines.field-0.0
+          c.from_residual.result c.from_residual.ensures.1 first c.in_err-run_lines.ensures.runs;
+    }
 
 pub returns : goal.returns
 returns g c =
-    let after = state c.run_lines.new.session in
-    (after, unreported_at _ (state c.open-session.result) _ after (c.open-session.ensures.state ∙ ap fresh c.in-Ok.ensures.ok) c.in-Err-Write.field-0 c.in-Err-Write.field-0-is c.in-Err-Write.ensures.did)
+    let first = c.open-session.ensures.state ∙ ap fresh c.in-Ok.ensures.ok in
+    record {
+      plays = PlaysScript-at_end (record {
+        in_before = g.S.Source.bytes c.args.reader.now;
+        in_after = g.S.Source.bytes c.run_lines.new.reader;
+        in_failed = g.S.Source.has_failed c.run_lines.new.reader;
+        out_before = g.K.Sink.contents c.args.writer.now;
+        out_after = g.K.Sink.contents c.run_lines.new.writer;
+        out_failed = g.K.Sink.has_failed c.run_lines.new.writer;
+      }) (state c.open-session.result) (state c.run_lines.new.session) c.in_ok-run_lines.field-0 first
+          c.in_ok-run_lines.ensures.runs;
+    }

@@ -1,6 +1,6 @@
 use Rattle.std.proofs.Common.{refl}
-use Rattle.rd_journal.specs.Session.{state}
-use Rattle.lcrqdb.proofs.ScriptLemmas.{Wrote-from_result}
+use Rattle.rd_journal.specs.Sessions.{state}
+use Rattle.lcrqdb.proofs.ScriptLemmas.{WritesReply-from_result}
 use Rattle.lcrqdb.proofs.script.do_line.Goals as goal
 
 pub returns-clause-does : goal.returns-clause-does
@@ -8,6 +8,6 @@ returns-clause-does g c text is = (
   record { reply = c.answer-reply.result; state = state c.answer-reply.new.session },
   c.answer-reply.ensures text is,
   refl,
-  Wrote-from_result (g.K.Sink.contents c.args.writer.now) (g.K.Sink.contents c.write_reply.new.writer) c.answer-reply.result c.write_reply.result
+  WritesReply-from_result (g.K.Sink.contents c.args.writer.now) (g.K.Sink.contents c.write_reply.new.writer) c.answer-reply.result c.write_reply.result
       c.write_reply.ensures.ok c.write_reply.ensures.err,
 )

@@ -1,4 +1,4 @@
-use Rattle.rd_journal.specs.Session.{state}
+use Rattle.rd_journal.specs.Sessions.{state}
 use Rattle.lcrqdb.proofs.ScriptLemmas.{Going}
 use Rattle.lcrqdb.proofs.script.run_lines.Given as goal
 

@@ -1,7 +1,7 @@
 use Rattle.std.proofs.Common.{sym, subst, arith}
-use Rattle.rd_actor.specs.World.{World}
+use Rattle.rd_step.specs.World.{World}
 use Rattle.rd_step.specs.Laws.{IsTakenOut}
-use Rattle.rd_step.specs.Model.{model}
+use Rattle.rd_step.specs.Prelude.{model}
 use Rattle.rd_step.proofs.Removal.{can_undo, taken_out}
 use Rattle.rd_inverse.proofs.inverse.unstep.Goals as goal
 

@@ -1,6 +1,6 @@
 use Rattle.std.proofs.Common.{◌≡◌, ◌∙◌, sym, ap, if◌then◌else◌}
 use Rattle.std.proofs.lemmas.Bool.{cond-true, cond-false}
-use Rattle.rd_cell.specs.Place.{is_name}
+use Rattle.rd_ring.specs.Prelude.{is_name}
 use Rattle.rd_cell.proofs.PlaceLemmas.{is_name-true, is_name-refl}
 use Rattle.rd_segments.proofs.EndsLemmas.{reads_name, swaps_name}
 use Rattle.rd_segments.proofs.ends.operate_on_name.Goals as goal

@@ -1,4 +1,5 @@
 use Rattle.rd_segments.proofs.ListsLemmas.{room_made, room_refused, list_same, spare_kept}
+use Rattle.rd_segments.proofs.SegmentsLemmas.{segments_same}
 use Rattle.rd_segments.proofs.lists.make_room_in.Goals as goal
 
 pub returns-clause-ok : goal.returns-clause-ok
@@ -12,8 +13,9 @@ returns-clause-err g c =
 
 pub returns-clause-unchanged : goal.returns-clause-unchanged
 returns-clause-unchanged g c =
-    list_same c.args.makers.now.items c.args.maker c.from.result c.index_mut.result.now c.reserve.new.list c.from.ensures c.requires.maker_there
-    c.index_mut.ensures.value c.reserve.ensures.unchanged
+    segments_same c.args.makers.now.items _
+    (list_same c.args.makers.now.items c.args.maker c.from.result c.index_mut.result.now c.reserve.new.list c.from.ensures c.requires.maker_there
+    c.index_mut.ensures.value c.reserve.ensures.unchanged)
 
 pub returns-clause-room : goal.returns-clause-room
 returns-clause-room g c =

@@ -8,4 +8,4 @@ returns-in-Err-clause-err g c = refuses_access c.args.space.now c.args.actor c.a
 
 pub returns-in-Ok-clause-ok : goal.returns-in-Ok-clause-ok
 returns-in-Ok-clause-ok g c =
-    makes_access c.args.space.now (contents c.make.new.self) c.args.actor c.args.value c.in-Ok.name _ c.requires.counted c.in-Ok.ensures.ok refl
+    makes_access c.args.space.now (contents c.make.new.self) c.args.actor c.args.value c.in-Ok.name _ c.requires.counted c.in-Ok.ensures.name c.in-Ok.ensures.ok refl

@@ -1,6 +1,6 @@
 use Rattle.std.proofs.Common.{refl, [], arith}
 use Rattle.rd_step.specs.Laws.{WasStepped}
-use Rattle.rd_step.specs.Model.{model}
+use Rattle.rd_step.specs.Worlds.{model}
 use Rattle.rd_step.proofs.Removal.{can_undo}
 use Rattle.rd_step.proofs.tests.step_and_revert.Goals as goal
 

@@ -1,6 +1,6 @@
 use Rattle.std.proofs.Common.{◌≡◌, ◌+◌, ◌-◌, ◌<◌, ◌≤◌, inl, inr, arith}
 use Rattle.std.proofs.lemmas.List.{length-take-le}
-use Rattle.rd_step.specs.Model.{model}
+use Rattle.rd_step.specs.Prelude.{model}
 use Rattle.rd_journal.proofs.Calls.{entry_missing, entry_found}
 use Rattle.rd_journal.proofs.Words.{step_after}
 use Rattle.rd_journal.proofs.sessions.Session.entry.Goals as goal
@@ -14,12 +14,12 @@ returns-then-k-eq0-clause-found g c =
 pub returns-clause-found : goal.returns-clause-found
 returns-clause-found g c =
     let one : c.args.k ≡ (c.args.k - 1) + 1 = omega arith in
-    let within : c.args.k ≤ c.args.self.now.live = omega (arith, length-take-le c.args.self.now.live c.args.self.now.entries.items c.args.self.now.within) in
+    let within : c.args.k ≤ c.args.self.now.live = omega (arith, length-take-le c.args.self.now.live c.args.self.now.entries.items c.args.self.now.kept.within) in
     entry_found (model c.args.self.now.world) c.args.self.now.entries.items c.args.self.now.live c.args.k (c.args.k - 1) c.index.result.now
-    c.args.self.now.within one within c.index.ensures
+    c.args.self.now.kept.within one within c.index.ensures
 
 pub returns-clause-step : goal.returns-clause-step
 returns-clause-step g c =
-    let below : c.args.k - 1 < c.args.self.now.live = omega (arith, length-take-le c.args.self.now.live c.args.self.now.entries.items c.args.self.now.within) in
+    let below : c.args.k - 1 < c.args.self.now.live = omega (arith, length-take-le c.args.self.now.live c.args.self.now.entries.items c.args.self.now.kept.within) in
     step_after g.row.R (model c.args.self.now.world) c.args.self.now.entries.items c.args.self.now.live (c.args.k - 1) c.index.result.now
-    c.args.self.now.runs below c.args.self.now.within c.index.ensures
+    c.args.self.now.kept.runs below c.args.self.now.kept.within c.index.ensures

@@ -1,8 +1,8 @@
 use Rattle.std.proofs.Common.{◌≤◌, length, arith}
-use Rattle.rd_step.specs.Model.{model}
+use Rattle.rd_step.specs.Prelude.{model}
 use Rattle.rd_journal.specs.Journal.{journal_of}
 use Rattle.rd_journal.specs.State.{state_of}
-use Rattle.rd_journal.proofs.Calls.{undone_len, forward_goes, moved_forward_records}
+use Rattle.rd_journal.proofs.Calls.{undone_len, forward_goes, forward_records}
 use Rattle.rd_journal.proofs.sessions.Session.forward.Goals as goal
 
 pub returns-clause-ok : goal.returns-clause-ok
@@ -15,5 +15,5 @@ returns-clause-ok g c =
 
 pub returns-clause-records : goal.returns-clause-records
 returns-clause-records g c =
-    moved_forward_records (model c.args.self.now.world) (model c.redo_many.new.world) c.args.self.now.entries.items c.redo_many.new.entries.items
+    forward_records (model c.args.self.now.world) (model c.redo_many.new.world) c.args.self.now.entries.items c.redo_many.new.entries.items
     c.args.self.now.live c.redo_many.new.live c.args.n c.redo_many.ensures.records c.redo_many.ensures.border

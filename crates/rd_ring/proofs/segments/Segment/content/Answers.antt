@@ -1,5 +1,5 @@
 use Rattle.std.proofs.Common.{◌∙◌, sym, ap}
-use Rattle.rd_ring.specs.Segment.{part}
+use Rattle.rd_ring.specs.Segments.{part}
 use Rattle.rd_ring.proofs.segments.Segment.content.Goals as goal
 
 pub returns-in-Some : goal.returns-in-Some

@@ -1,5 +1,5 @@
 use Rattle.std.proofs.Common.{sym, ◌∙◌}
-use Rattle.rd_segments.proofs.FieldsLemmas.{space_restored, array_restored}
+use Rattle.rd_segments.proofs.SpaceLemmas.{space_restored, array_restored}
 use Rattle.rd_segments.proofs.space.Space.restore.Goals as goal
 
 pub returns-in-Some-default-default-clause-done : goal.returns-in-Some-default-default-clause-done

@@ -1,6 +1,6 @@
 use Rattle.std.proofs.Common.{◌≡◌, ◌∙◌, ℕ, suc, ap, subst, sym, length, arith}
-use Rattle.rd_actor.specs.Actor.{idle}
-use Rattle.rd_actor.specs.World.{World}
+use Rattle.rd_actor.specs.Actors.{idle}
+use Rattle.rd_step.specs.World.{World}
 use Rattle.rd_step.specs.WellFormed.{IsWellFormed}
 use Rattle.rd_step.proofs.Starts.{fields_make, fresh_formed}
 use Rattle.rd_step.proofs.worlds.World.fresh.Goals as goal
@@ -11,14 +11,14 @@ invariant_of-result g c =
     record {
       positive = c.requires.positive;
       small = c.requires.small;
-      makers = c.in-Ok-fresh.ensures.number ∙ ap (λ (n : ℕ). suc n) (sym len);
+      makers = c.in_ok-space.ensures.number ∙ ap (λ (n : ℕ). suc n) (sym len);
       well_formed =
           subst (λ (w : World). IsWellFormed g.row.R w)
-          (sym (fields_make c.in-Ok-fresh.space c.loop.list.items (λ n. idle) c.args.actors c.in-Ok-fresh.ensures.ok len (λ n h. c.loop.invariant.2 n (omega arith))))
+          (sym (fields_make c.in_ok-space.space c.loop.list.items (λ n. idle) c.args.actors c.in_ok-space.ensures.ok len (λ n h. c.loop.invariant.2 n (omega arith))))
           (fresh_formed g.row.R c.args.actors c.requires.some c.requires.few);
     }
 
-pub returns-in-Ok-fresh-clause-ok : goal.returns-in-Ok-fresh-clause-ok
-returns-in-Ok-fresh-clause-ok g c =
+pub returns-clause-ok : goal.returns-clause-ok
+returns-clause-ok g c =
     let len : length c.loop.list.items ≡ c.args.actors = omega arith in
-    fields_make c.in-Ok-fresh.space c.loop.list.items (λ n. idle) c.args.actors c.in-Ok-fresh.ensures.ok len (λ n h. c.loop.invariant.2 n (omega arith))
+    fields_make c.in_ok-space.space c.loop.list.items (λ n. idle) c.args.actors c.in_ok-space.ensures.ok len (λ n h. c.loop.invariant.2 n (omega arith))

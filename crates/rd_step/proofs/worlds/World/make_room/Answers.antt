@@ -1,5 +1,5 @@
 use Rattle.std.proofs.Common.{◌∙◌, sym, subst, arith}
-use Rattle.rd_actor.specs.World.{World}
+use Rattle.rd_step.specs.World.{World}
 use Rattle.rd_step.specs.WellFormed.{IsWellFormed}
 use Rattle.rd_step.proofs.WorldLemmas.{some_maker, same_world}
 use Rattle.rd_step.proofs.worlds.World.make_room.Goals as goal
@@ -20,3 +20,7 @@ invariant_of-self g c = record {
 
 pub returns-clause-unchanged : goal.returns-clause-unchanged
 returns-clause-unchanged g c = same_world c.args.self.now.space c.make_room.new.self c.args.self.now.actors.items c.make_room.ensures.unchanged
+
+pub returns-in_err-make_room-clause-unchanged : goal.returns-in_err-make_room-clause-unchanged
+returns-in_err-make_room-clause-unchanged g c =
+    same_world c.args.self.now.space c.make_room.new.self c.args.self.now.actors.items c.make_room.ensures.unchanged

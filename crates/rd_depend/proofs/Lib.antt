@@ -1,0 +1,4 @@
+pub mod Search
+pub mod Reaching
+pub mod Exactness
+pub mod Converse

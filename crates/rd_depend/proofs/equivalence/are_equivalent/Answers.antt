@@ -1,0 +1,11 @@
+use Rattle.std.proofs.lemmas.Result.{IfOk-weaker}
+use Rattle.rd_depend.specs.Equivalence.{DecidesEquivalence}
+use Rattle.rd_depend.proofs.Exactness.{right_behind}
+use Rattle.rd_depend.proofs.equivalence.are_equivalent.Goals as goal
+
+pub returns-clause-answer : goal.returns-clause-answer
+returns-clause-answer c =
+    let common = c.common_beginning-common.ensures in
+    IfOk-weaker c.compare.result _ (DecidesEquivalence c.args.a.now c.args.b.now)
+    (λ same right. right_behind c.args.a.now c.args.b.now c.common_beginning-common.result same common.in_first common.in_second common.same right)
+    c.compare.ensures.answer

@@ -1,0 +1,7 @@
+use Rattle.std.proofs.Common.{drop}
+use Rattle.rd_depend.specs.Equivalence.{records}
+use Rattle.rd_depend.proofs.Exactness.{Compares}
+use Rattle.rd_depend.proofs.equivalence.compare.Given as goal
+
+abbrev pub invariant-loop-entry : goal.invariant-loop-entry
+invariant-loop-entry l = Compares l.a l.b (drop l.entry-index l.a) (records l.remaining)

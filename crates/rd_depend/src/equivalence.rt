@@ -1,0 +1,153 @@
+//! Whether two lists of records are of causally equivalent events.
+//!
+//! The records of the first list are looked for one after another in the second one, and taken out of it. Only the first
+//! record by the same actor can be of an event that depends on no earlier one, so there is nothing to try twice. Records by
+//! other actors that were passed over on the way are kept aside, in their order.
+
+ghost use Rattle.std.specs.Prelude.{◌≡◌, ◌↔◌, ◌<◌, ◌≤◌, ℕ, false, true, [], length, take, IsTrue, Ok, IfOk, OnOk, OnErr, MatchOption, not, slice_index_or};
+ghost use Rattle.std.specs.List.{list_all};
+ghost use Rattle.rd_step.specs.declared.entries.Entry.{Entry as Record};
+ghost use Rattle.rd_step.specs.Prelude.{depends, IsFree};
+ghost use Rattle.rd_step.specs.Run.{events};
+ghost use Rattle.rd_depend.specs.Equivalence.{DecidesEquivalence, records, HasNoneBy, IsFirstBy, MayComeFirst, CannotComeFirst};
+
+use super::dependence::depends;
+use rd_step::{Entry, Event};
+use std::alloc::{AllocError, Global};
+
+/// Whether the events of two runs from one start are causally equivalent: one list is the other up to the order of steps that
+/// do not depend on each other. A common beginning takes time that grows with its length, and no memory. Of what is behind
+/// it, each record is looked for among those of the other list that were passed over: at worst, with each record far from its
+/// place in the other list, the time grows with the square of the length.
+///
+/// # Errors
+///
+/// If memory was refused for records that stand in another order; not for lists of the same events.
+pub fn are_equivalent(alloc: Global, a: &[Entry], b: &[Entry]) -> Result<bool, AllocError>
+    ensures answer { IfOk result (DecidesEquivalence a.now b.now) }
+    ensures memory { OnErr result (events a.now ≡ events b.now → ⊥) }
+{
+    let common = common_beginning(a, b);
+    compare(alloc, &a[common..], &b[common..])
+}
+
+/// The number of events that the lists have in common at their beginning.
+fn common_beginning(a: &[Entry], b: &[Entry]) -> usize
+    ensures in_first { result ≤ length a.now }
+    ensures in_second { result ≤ length b.now }
+    ensures same { events (take result a.now) ≡ events (take result b.now) }
+    ensures whole { events a.now ≡ events b.now → result ≡ length a.now }
+{
+    let shorter = a.len().min(b.len());
+    for index in 0..shorter {
+        if !is_same(&a[index].event, &b[index].event) {
+            return index;
+        }
+    }
+    shorter
+}
+
+/// Whether the lists are equivalent, by taking the records of the first one out of the second one after another.
+fn compare(alloc: Global, a: &[Entry], b: &[Entry]) -> Result<bool, AllocError>
+    ensures answer { IfOk result (DecidesEquivalence a.now b.now) }
+    ensures memory { OnErr result (1 ≤ length a.now) }
+{
+    let mut remaining = Remaining {
+        passed: Vec::new(alloc),
+        ahead: b,
+    };
+    for entry in a {
+        if !remaining.take_first(entry)? {
+            return Ok(false);
+        }
+    }
+    Ok(remaining.is_empty())
+}
+
+/// The records of the second list that were not taken out yet.
+#[derive(Drop)]
+struct Remaining<'a> {
+    /// Those that were passed over, in their order.
+    passed: Vec<Entry>,
+    /// Those that were not looked at yet; they come after the others.
+    ahead: &'a [Entry],
+}
+
+impl<'a> Remaining<'a> {
+    /// Takes out the first record by the entry's actor if it is of the entry's event and depends on no earlier one.
+    fn take_first(&mut self, entry: &Entry) -> Result<bool, AllocError>
+        ensures taken { IfOk result (λ taken. taken ≡ true → MayComeFirst entry.now.event (records self.old) (records self.new)) }
+        ensures refused { IfOk result (λ taken. taken ≡ false → CannotComeFirst entry.now.event (records self.old)) }
+    {
+        let Some(index) = self.reach(entry.event.actor)? else {
+            return Ok(false);
+        };
+        if !may_come_first(&self.passed, index, &entry.event) {
+            return Ok(false);
+        }
+        self.passed.remove(index);
+        Ok(true)
+    }
+
+    /// The index of the first record by the actor, which is among those passed over then.
+    fn reach(&mut self, actor: u8) -> Result<Option<usize>, AllocError>
+        ensures unchanged { OnOk result (records self.new ≡ records self.old) }
+        ensures first { IfOk result (λ found. MatchOption found (HasNoneBy actor (records self.new))
+            (λ index. (index < length self.new.passed.items) × IsFirstBy actor self.new.passed.items index)) }
+    {
+        if let Some(index) = first_by(&self.passed, actor) {
+            return Ok(Some(index));
+        }
+        while let [entry, rest @ ..] = self.ahead {
+            self.passed.push(*entry)?;
+            self.ahead = rest;
+            if actor == entry.event.actor {
+                return Ok(Some(self.passed.len() - 1));
+            }
+        }
+        Ok(None)
+    }
+
+    /// Whether no record is left.
+    fn is_empty(&self) -> bool
+        ensures { IsTrue result ↔ (records self.now ≡ []) }
+    {
+        self.passed.is_empty() && self.ahead.is_empty()
+    }
+}
+
+/// The index of the first record by the actor.
+fn first_by(entries: &[Entry], actor: u8) -> Option<usize>
+    ensures { MatchOption result (HasNoneBy actor entries.now) (λ index. (index < length entries.now) × IsFirstBy actor entries.now index) }
+{
+    for (index, entry) in entries.iter().enumerate() {
+        if actor == entry.event.actor {
+            return Some(index);
+        }
+    }
+    None
+}
+
+/// Whether the record at the index is of the event and depends on no earlier one.
+fn may_come_first(entries: &[Entry], index: usize, event: &Event) -> bool
+    requires { index < length entries.now }
+    ensures { (x : Record) → x ≡ slice_index_or entries.now index x
+        → (IsTrue result ↔ ((x.event ≡ event.now) × IsFree x (take index entries.now))) }
+{
+    let entry = entries[index];
+    is_same(&entry.event, event) && is_free(&entry, &entries[..index])
+}
+
+/// Whether the two are one event.
+fn is_same(a: &Event, b: &Event) -> bool
+    ensures { IsTrue result ↔ (a.now ≡ b.now) }
+{
+    a == b
+}
+
+/// Whether the entry depends on none of these.
+fn is_free(entry: &Entry, earlier: &[Entry]) -> bool
+    ensures { result ≡ list_all (λ x. not (depends entry.now x)) earlier.now }
+{
+    earlier.iter().all(|x| !depends(entry, x))
+}

@@ -1,0 +1,7 @@
+pub mod NameBytes
+pub mod Names
+pub mod Books
+pub mod Marks
+pub mod Layout
+pub mod BookViews
+pub mod Commands

@@ -1,0 +1,223 @@
+//! A book: a session with bookmarks, in the order in which they were set.
+//!
+//! A mark keeps the records of the steps that were live when it was set, which are those of a run from the session's start.
+//! Nothing outside this crate may know that.
+
+ghost use Rattle.std.specs.Prelude.{◌≡◌, ◌⊎◌, [], length, Ok, Err, OnOk, OnErr, IfOk, IfErr, IsOk};
+ghost use Rattle.rd_cell.specs.declared.refusal.Refusal.TheVariants.{NoMemory};
+ghost use Rattle.rd_journal.specs.Sessions.{state, journal};
+ghost use Rattle.rd_marks.specs.Layout.{KeepsMarks};
+
+use super::marks::{is_marked, put_mark, switch_to};
+use super::names::MarkName;
+use super::queries::counts_after;
+use super::replies::Reply;
+use indexmap::IndexMap;
+use rd_cell::Refusal;
+use rd_cell::limits::MOST_MARKS;
+use rd_depend::are_equivalent;
+use rd_journal::Session;
+use rd_step::{Entry, Event};
+use std::alloc::Global;
+
+/// A session with bookmarks.
+#[derive(Drop)]
+pub struct Book<const R: usize> {
+    session: Session<R>,
+    marks: IndexMap<MarkName, Vec<Entry>>,
+    alloc: Global,
+    ghost kept: { KeepsMarks R (state session).start marks.entries },
+}
+
+impl<const R: usize> Book<R> {
+    ghost use Rattle.rd_journal.specs.State.{undo, undo_at, roll, back, redo, forward};
+    ghost use Rattle.rd_marks.specs.BookViews.{book_state};
+    ghost use Rattle.rd_marks.specs.Books.{marked_events, mark, drop_mark, goto_mark, mark_at, AnswersSame};
+    ghost use Rattle.rd_marks.specs.Commands.{Happened, move_answer};
+
+    /// A book over a session, with no marks. It takes no memory.
+    pub fn open(alloc: Global, session: Session<R>) -> Book<R>
+        ensures session { (book_state result).session ≡ state session.entry }
+        ensures marks { (book_state result).marks ≡ [] }
+    {
+        Book {
+            session,
+            marks: IndexMap::new(alloc),
+            alloc,
+        }
+    }
+
+    /// The session.
+    pub fn session(&self) -> &Session<R>
+        ensures state { state result.now ≡ (book_state self.now).session }
+    {
+        &self.session
+    }
+
+    /// Sets a bookmark of this name at the live steps. It is the last one.
+    ///
+    /// # Errors
+    ///
+    /// In this order: `MarkTaken` if there is one of that name; `TooManyMarks` if there are `MOST_MARKS`; `NoMemory` if the
+    /// room for its records or for itself was refused. Nothing has changed then.
+    pub fn mark(&mut self, name: MarkName) -> Result<(), Refusal>
+        ensures ok { OnOk result (mark (book_state self.old) name ≡ Ok (book_state self.new)) }
+        ensures err { IfErr result (λ refusal. (mark (book_state self.old) name ≡ Err refusal)
+            ⊎ ((refusal ≡ Refusal.NoMemory) × IsOk (mark (book_state self.old) name))) }
+        ensures unchanged { OnErr result (book_state self.new ≡ book_state self.old) }
+    {
+        if is_marked(&self.marks, &name) {
+            return Err(Refusal::MarkTaken);
+        }
+        if self.marks.len() == MOST_MARKS {
+            return Err(Refusal::TooManyMarks);
+        }
+        let alloc = self.alloc;
+        put_mark(&mut self.marks, &self.session, alloc, name)
+    }
+
+    /// Drops the bookmark of this name. The others keep their order. It takes no memory.
+    ///
+    /// # Errors
+    ///
+    /// `NoMark` if there is none of that name. Nothing has changed then.
+    pub fn drop_mark(&mut self, name: MarkName) -> Result<(), Refusal>
+        ensures ok { OnOk result (drop_mark (book_state self.old) name ≡ Ok (book_state self.new)) }
+        ensures err { IfErr result (λ refusal. drop_mark (book_state self.old) name ≡ Err refusal) }
+        ensures unchanged { OnErr result (book_state self.new ≡ book_state self.old) }
+    {
+        if !is_marked(&self.marks, &name) {
+            return Err(Refusal::NoMark);
+        }
+        let _records = self.marks.shift_remove(&name);
+        Ok(())
+    }
+
+    /// Goes to the bookmark of this name: its steps are live, and none is undone. The steps that the live ones begin with in
+    /// common with it stay; the others are undone, and the rest of the bookmark's steps are made again.
+    ///
+    /// # Errors
+    ///
+    /// In this order: `NoMark` if there is none of that name; `NoMemory` if room for the steps that are made again was refused,
+    /// which is asked for before the first step is undone. Nothing has changed then.
+    pub fn goto_mark(&mut self, name: MarkName) -> Result<(), Refusal>
+        ensures ok { OnOk result (goto_mark (book_state self.old) name ≡ Ok (book_state self.new)) }
+        ensures err { IfErr result (λ refusal. (goto_mark (book_state self.old) name ≡ Err refusal)
+            ⊎ ((refusal ≡ Refusal.NoMemory) × IsOk (goto_mark (book_state self.old) name))) }
+        ensures unchanged { OnErr result (book_state self.new ≡ book_state self.old) }
+    {
+        match self.marks.get(&name) {
+            None => Err(Refusal::NoMark),
+            Some(records) => switch_to(&mut self.session, records.as_slice()),
+        }
+    }
+
+    /// Whether the steps of two bookmarks are causally equivalent: one list is the other up to the order of steps that do not
+    /// depend on each other. Equivalent lists lead to the same world.
+    ///
+    /// # Errors
+    ///
+    /// `NoMark` if one of the bookmarks is not there; `NoMemory` if memory was refused for the comparison, which lists of the
+    /// same events do not ask for.
+    pub fn same(&self, one: MarkName, other: MarkName) -> Result<bool, Refusal>
+        ensures { AnswersSame R (book_state self.now).session.start (marked_events (book_state self.now).marks one)
+            (marked_events (book_state self.now).marks other) result }
+    {
+        let Some(ones) = self.marks.get(&one) else {
+            return Err(Refusal::NoMark);
+        };
+        let Some(others) = self.marks.get(&other) else {
+            return Err(Refusal::NoMark);
+        };
+        match are_equivalent(self.alloc, ones.as_slice(), others.as_slice()) {
+            Err(_) => Err(Refusal::NoMemory),
+            Ok(same) => Ok(same),
+        }
+    }
+
+    /// How many bookmarks there are.
+    pub fn marks(&self) -> u64
+        ensures { result ≡ length (book_state self.now).marks }
+    {
+        self.marks.len() as u64
+    }
+
+    /// The name of the bookmark of this number, from 1, and how many steps were live when it was set.
+    ///
+    /// # Errors
+    ///
+    /// `NoMark` if `i` is not from 1 to the number of bookmarks.
+    pub fn mark_at(&self, i: u64) -> Result<(MarkName, u64), Refusal>
+        ensures { result ≡ mark_at (book_state self.now) i }
+    {
+        if i == 0 {
+            return Err(Refusal::NoMark);
+        }
+        match self.marks.get_index(i as usize - 1) {
+            None => Err(Refusal::NoMark),
+            Some((name, records)) => Ok((*name, records.len() as u64)),
+        }
+    }
+
+    /// Makes an event happen, and answers the number of its step and the reply of the call that it ends.
+    pub(crate) fn apply(&mut self, event: Event) -> Result<Reply, Refusal>
+        ensures { Happened R (book_state self.old) event (record { answer = result; state = book_state self.new }) }
+    {
+        match self.session.apply(event) {
+            Err(refusal) => Err(refusal),
+            Ok((number, entry)) => Ok(Reply::Applied {
+                step: number,
+                reply: entry.reply,
+            }),
+        }
+    }
+
+    /// Undoes the last live step. Answers how many steps are live and undone then.
+    pub(crate) fn undo(&mut self) -> Result<Reply, Refusal>
+        ensures { record { answer = result; state = book_state self.new } ≡ move_answer (book_state self.old) (undo (book_state self.old).session) }
+    {
+        let done = self.session.undo();
+        counts_after(&self.session, done)
+    }
+
+    /// Undoes the live step of this number alone. Answers how many steps are live and undone then.
+    pub(crate) fn undo_at(&mut self, k: u64) -> Result<Reply, Refusal>
+        ensures { record { answer = result; state = book_state self.new } ≡ move_answer (book_state self.old) (undo_at R (book_state self.old).session k) }
+    {
+        let done = self.session.undo_at(k);
+        counts_after(&self.session, done)
+    }
+
+    /// Undoes the live step of this number and just the later ones that depend on it. Answers how many steps are live and
+    /// undone then.
+    pub(crate) fn roll(&mut self, k: u64) -> Result<Reply, Refusal>
+        ensures { record { answer = result; state = book_state self.new } ≡ move_answer (book_state self.old) (roll R (book_state self.old).session k) }
+    {
+        let done = self.session.roll(k);
+        counts_after(&self.session, done)
+    }
+
+    /// Undoes the last `n` live steps, all or none. Answers how many steps are live and undone then.
+    pub(crate) fn back(&mut self, n: u64) -> Result<Reply, Refusal>
+        ensures { record { answer = result; state = book_state self.new } ≡ move_answer (book_state self.old) (back (book_state self.old).session n) }
+    {
+        let done = self.session.back(n);
+        counts_after(&self.session, done)
+    }
+
+    /// Makes the step again that was undone last. Answers how many steps are live and undone then.
+    pub(crate) fn redo(&mut self) -> Result<Reply, Refusal>
+        ensures { record { answer = result; state = book_state self.new } ≡ move_answer (book_state self.old) (redo (book_state self.old).session) }
+    {
+        let done = self.session.redo();
+        counts_after(&self.session, done)
+    }
+
+    /// Makes the `n` steps again that were undone last, all or none. Answers how many steps are live and undone then.
+    pub(crate) fn forward(&mut self, n: u64) -> Result<Reply, Refusal>
+        ensures { record { answer = result; state = book_state self.new } ≡ move_answer (book_state self.old) (forward (book_state self.old).session n) }
+    {
+        let done = self.session.forward(n);
+        counts_after(&self.session, done)
+    }
+}
