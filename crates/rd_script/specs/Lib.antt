@@ -1,0 +1,11 @@
+pub mod Device
+pub mod Puts
+pub mod Texts
+pub mod Contents
+pub mod Events
+pub mod Actors
+pub mod Steps
+pub mod Refusals
+pub mod Replies
+pub mod Spelling
+pub mod Words

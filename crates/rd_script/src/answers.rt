@@ -1,0 +1,117 @@
+//! The answer to one line, and the line that it is written as.
+
+ghost use Rattle.std.specs.Prelude.{◌≡◌, ◌≤◌, ◌++◌, length};
+ghost use Rattle.rd_script.specs.Puts.{Puts};
+ghost use Rattle.rd_script.specs.Replies.{trace_step_words, busy_words, fault_words, words_of, text_of};
+
+use super::faults::{LineFault, ScriptFault};
+use super::numbers::put_counted;
+use super::refusals::{name_of_fault, name_of_stop, put_refusal};
+use super::replies::put_reply;
+use super::texts::{Text, put};
+use rd_cell::Refusal;
+use rd_marks::Reply;
+use rd_step::Flaw;
+
+/// The answer to one line: a reply, or any refusal that there is.
+#[derive(Clone, Copy, Debug, PartialEq, Eq)]
+pub enum LineAnswer {
+    /// The command was obeyed.
+    Reply(Reply),
+    /// 1 to 20: the command was refused.
+    Refused(Refusal),
+    /// 17, 22 or 23: the line spells no command.
+    Unread(LineFault),
+    /// 24 or 25: a device failed, and the run stopped.
+    Stopped(ScriptFault),
+    /// 26: parts make no world.
+    Flawed(Flaw),
+    /// 21: the history takes no more.
+    HistoryFull,
+    /// 27: a text is no trace.
+    BadTrace,
+    /// 28: an event of a trace was refused.
+    TraceStep {
+        /// The event's number in the trace, from 1.
+        step: u64,
+        /// Why it was refused.
+        cause: Refusal,
+    },
+    /// 29: no more tickets can be drawn.
+    TicketsEnded,
+    /// 30: another one holds the desk, or waits for it.
+    Busy {
+        /// The ticket that is drawn next.
+        next: u64,
+        /// The ticket that is served.
+        served: u64,
+    },
+    /// 31: the history was refused its memory, and the command was not obeyed.
+    NotRecorded,
+}
+
+/// The line of an answer, with its line feed.
+pub fn text_of(answer: &LineAnswer) -> Text
+    ensures { result.items ≡ text_of answer.now }
+{
+    let mut text = Text::new();
+    put_answer(&mut text, *answer);
+    put(&mut text, b"\n");
+    text
+}
+
+/// Puts the words of an answer behind the text.
+fn put_answer(text: &mut Text, answer: LineAnswer)
+    ensures words { Puts text.old.items text.new.items (words_of answer) }
+    ensures len { length (words_of answer) ≤ 500 }
+{
+    match answer {
+        LineAnswer::Reply(reply) => put_reply(text, reply),
+        refused => {
+            put(text, b"refused ");
+            put_fault(text, refused);
+        }
+    }
+}
+
+/// Puts the number, the name and the data of a refusal behind the text; a reply has none.
+fn put_fault(text: &mut Text, answer: LineAnswer)
+    ensures words { Puts text.old.items text.new.items (fault_words answer) }
+    ensures len { length (fault_words answer) ≤ 100 }
+{
+    match answer {
+        LineAnswer::Reply(_) => {}
+        LineAnswer::Refused(refusal) => put_refusal(text, refusal),
+        LineAnswer::Unread(fault) => put(text, name_of_fault(fault)),
+        LineAnswer::Stopped(fault) => put(text, name_of_stop(fault)),
+        LineAnswer::Flawed(flaw) => put_counted(text, b"26 Flaw", u64::from(flaw.number())),
+        LineAnswer::HistoryFull => put(text, b"21 HistoryFull"),
+        LineAnswer::BadTrace => put(text, b"27 BadTrace"),
+        LineAnswer::TraceStep { step, cause } => put_trace_step(text, step, cause),
+        LineAnswer::TicketsEnded => put(text, b"29 TicketsEnded"),
+        LineAnswer::Busy { next, served } => {
+            put(text, b"30 Busy");
+            put_busy(text, next, served);
+        }
+        LineAnswer::NotRecorded => put(text, b"31 NotRecorded"),
+    }
+}
+
+/// Puts which event of a trace was refused, and why, behind the text.
+fn put_trace_step(text: &mut Text, step: u64, cause: Refusal)
+    ensures words { Puts text.old.items text.new.items (trace_step_words step cause) }
+    ensures len { length (trace_step_words step cause) ≤ 78 }
+{
+    put_counted(text, b"28 TraceStep", step);
+    put(text, b" cause ");
+    put_refusal(text, cause);
+}
+
+/// Puts the ticket that is drawn next and the one that is served behind the text.
+fn put_busy(text: &mut Text, next: u64, served: u64)
+    ensures words { Puts text.old.items text.new.items (busy_words next served) }
+    ensures len { length (busy_words next served) ≤ 54 }
+{
+    put_counted(text, b" next", next);
+    put_counted(text, b" served", served);
+}

@@ -1,0 +1,177 @@
+//! Where bytes come from and where they go.
+//!
+//! A source gives one byte or the end, and a sink takes one or more bytes of a slice. Each tells contracts its
+//! bytes, if it can, and whether it has failed. `ReadSource` and `WriteSink` make them of std's readers and writers: a
+//! call that a signal interrupts is made again, of the one as of the other, and is no fault.
+
+ghost use Rattle.std.specs.Prelude.{◌≡◌, ◌<◌, ◌≤◌, ℕ, Bool, true, false, List, Option, IfOk, OnOk, OnErr, length, take};
+ghost use Rattle.std.specs.Io.KnownBytes.{Keeps, Appends};
+ghost use Rattle.rd_script.specs.Device.{Gives, TakesBeginning};
+
+use std::io::{ErrorKind, Read, Write};
+
+/// A source failed.
+#[derive(Clone, Copy, Debug, PartialEq, Eq)]
+pub struct ReadFault;
+
+/// A sink failed, or took nothing.
+#[derive(Clone, Copy, Debug, PartialEq, Eq)]
+pub struct WriteFault;
+
+/// Gives bytes, one at a time.
+pub trait Source {
+    // The bytes that it has still to give; None tells nothing.
+    ghost bytes: { Self → Option (List ℕ) };
+
+    // Whether a call failed.
+    ghost has_failed: { Self → Bool };
+
+    /// The next byte, or none at the end. After a fault there is no further call.
+    fn byte(&mut self) -> Result<Option<u8>, ReadFault>
+        requires { has_failed self.old ≡ false }
+        ensures gives { IfOk result (Gives (bytes self.old) (bytes self.new)) }
+        ensures keeps { OnErr result (Keeps (bytes self.old) (bytes self.new)) }
+        ensures works { OnOk result (has_failed self.new ≡ false) }
+        ensures fails { OnErr result (has_failed self.new ≡ true) };
+}
+
+/// Takes bytes, one or more of a slice at a time.
+pub trait Sink {
+    // The bytes that it was given so far; None tells nothing.
+    ghost contents: { Self → Option (List ℕ) };
+
+    // Whether a call failed.
+    ghost has_failed: { Self → Bool };
+
+    /// Takes the first bytes of a slice, one at least, and says how many: to take none is a fault. After a fault there
+    /// is no further call.
+    fn take(&mut self, given: &[u8]) -> Result<usize, WriteFault>
+        requires working { has_failed self.old ≡ false }
+        requires some { 0 < length given.now }
+        ensures count { IfOk result (λ n. (0 < n) × (n ≤ length given.now)) }
+        ensures takes { IfOk result (λ n. Appends (contents self.old) (contents self.new) (take n given.now)) }
+        ensures keeps { OnErr result (Keeps (contents self.old) (contents self.new)) }
+        ensures works { OnOk result (has_failed self.new ≡ false) }
+        ensures fails { OnErr result (has_failed self.new ≡ true) };
+}
+
+/// Hands the whole of a text to a sink, in as few calls as it takes.
+pub fn hand_over<K: Sink>(writer: &mut K, text: &[u8]) -> Result<(), WriteFault>
+    requires { K.has_failed writer.old ≡ false }
+    ensures ok { OnOk result (Appends (K.contents writer.old) (K.contents writer.new) text.now) }
+    ensures err { OnErr result (TakesBeginning (K.contents writer.old) (K.contents writer.new) text.now) }
+    ensures works { OnOk result (K.has_failed writer.new ≡ false) }
+    ensures fails { OnErr result (K.has_failed writer.new ≡ true) }
+{
+    let mut done = 0;
+    while done < text.len() {
+        done += writer.take(&text[done..])?;
+    }
+    Ok(())
+}
+
+/// The bytes of a reader, which is asked for one at a time: for speed it should have a buffer of its own.
+#[derive(Drop)]
+pub struct ReadSource<R> {
+    inner: R,
+    failed: bool,
+}
+
+impl<R: Read> ReadSource<R> {
+    /// A source of what the reader gives.
+    pub fn new(inner: R) -> Self
+        ensures bytes { ⟦<ReadSource<R> as Source>⟧.bytes result ≡ R.remaining inner }
+        ensures works { ⟦<ReadSource<R> as Source>⟧.has_failed result ≡ false }
+    {
+        ReadSource {
+            inner,
+            failed: false,
+        }
+    }
+}
+
+impl<R: Read> Source for ReadSource<R> {
+    ghost bytes = { λ s. R.remaining s.inner };
+
+    ghost has_failed = { λ s. s.failed };
+
+    fn byte(&mut self) -> Result<Option<u8>, ReadFault> {
+        let given = one_byte(&mut self.inner);
+        self.failed = given.is_err();
+        given
+    }
+}
+
+/// The reader's next byte, or none at the end. A read that a signal interrupts is made again, up to 2^64 - 1 times.
+fn one_byte<R: Read>(reader: &mut R) -> Result<Option<u8>, ReadFault>
+    ensures ok { IfOk result (Gives (R.remaining reader.old) (R.remaining reader.new)) }
+    ensures err { OnErr result (Keeps (R.remaining reader.old) (R.remaining reader.new)) }
+{
+    let mut one = [0u8];
+    for _ in 0..u64::MAX {
+        match reader.read(&mut one) {
+            Ok(0) => return Ok(None),
+            Ok(_) => return Ok(Some(one[0])),
+            Err(error) => {
+                if error.kind() != ErrorKind::Interrupted {
+                    return Err(ReadFault);
+                }
+            }
+        }
+    }
+    Err(ReadFault)
+}
+
+/// A writer that takes what it is given at once: it should have no buffer that is flushed later.
+#[derive(Drop)]
+pub struct WriteSink<W> {
+    inner: W,
+    failed: bool,
+}
+
+impl<W: Write> WriteSink<W> {
+    /// A sink that hands everything to the writer.
+    pub fn new(inner: W) -> Self
+        ensures contents { ⟦<WriteSink<W> as Sink>⟧.contents result ≡ W.contents inner }
+        ensures works { ⟦<WriteSink<W> as Sink>⟧.has_failed result ≡ false }
+    {
+        WriteSink {
+            inner,
+            failed: false,
+        }
+    }
+}
+
+impl<W: Write> Sink for WriteSink<W> {
+    ghost contents = { λ s. W.contents s.inner };
+
+    ghost has_failed = { λ s. s.failed };
+
+    fn take(&mut self, given: &[u8]) -> Result<usize, WriteFault> {
+        let taken = some_bytes(&mut self.inner, given);
+        self.failed = taken.is_err();
+        taken
+    }
+}
+
+/// Hands the writer the bytes once, and says how many of the first ones it took: to take none is a fault. A write that
+/// a signal interrupts is made again, up to 2^64 - 1 times.
+fn some_bytes<W: Write>(writer: &mut W, given: &[u8]) -> Result<usize, WriteFault>
+    requires some { 0 < length given.now }
+    ensures count { IfOk result (λ n. (0 < n) × (n ≤ length given.now)) }
+    ensures ok { IfOk result (λ n. Appends (W.contents writer.old) (W.contents writer.new) (take n given.now)) }
+    ensures err { OnErr result (Keeps (W.contents writer.old) (W.contents writer.new)) }
+{
+    for _ in 0..u64::MAX {
+        match writer.write(given) {
+            Ok(0) => return Err(WriteFault),
+            Ok(count) => return Ok(count),
+            Err(error) => {
+                if error.kind() != ErrorKind::Interrupted {
+                    return Err(WriteFault);
+                }
+            }
+        }
+    }
+    Err(WriteFault)
+}

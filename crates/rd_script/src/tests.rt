@@ -1,0 +1,232 @@
+//! The line of each kind of answer, and of the longest ones: rows of an answer and its text.
+
+mod refusals;
+mod steps;
+
+use super::answers::{LineAnswer, text_of};
+use rd_actor::{Actor, Op, OpReply, Pc};
+use rd_cell::{ArrSlot, Cell, Content, SegName};
+use rd_marks::{MarkName, Reply};
+use std::process::Abort;
+use std::test::Fail;
+
+/// The longest name of a segment.
+const LONGEST: SegName = SegName {
+    maker: u8::MAX,
+    n: u32::MAX,
+};
+
+/// Compares the line of each answer with its text.
+fn lines_are(rt: &impl Abort, rows: &[(LineAnswer, &str)]) {
+    for (answer, line) in rows {
+        assert_eq!(rt; text_of(answer).as_slice(), line.as_bytes(), "line {line}");
+    }
+}
+
+/// Compares the line of each reply with its text.
+fn replies_are(rt: &impl Abort, rows: &[(Reply, &str)]) {
+    for (reply, line) in rows {
+        lines_are(rt, &[(LineAnswer::Reply(*reply), *line)]);
+    }
+}
+
+/// Compares the line that shows each content with its text.
+fn contents_are(rt: &impl Abort, rows: &[(Content, &str)]) {
+    for (content, line) in rows {
+        replies_are(rt, &[(Reply::Content(*content), *line)]);
+    }
+}
+
+/// Compares the line of each actor with its text.
+fn actors_are(rt: &impl Abort, rows: &[(Actor, &str)]) {
+    for (actor, line) in rows {
+        replies_are(rt, &[(Reply::Actor(*actor), *line)]);
+    }
+}
+
+#[test]
+fn a_reply_of_a_call_stands_behind_the_steps_number(rt: HostRuntime) {
+    for (reply, line) in [
+        (None, "ok 9\n"),
+        (Some(OpReply::Enqueued), "ok 9 enqueued\n"),
+        (Some(OpReply::Value(7)), "ok 9 value 7\n"),
+        (Some(OpReply::Empty), "ok 9 empty\n"),
+    ] {
+        replies_are(&rt, &[(Reply::Applied { step: 9, reply }, line)]);
+    }
+}
+
+#[test]
+fn each_reply_has_its_line(rt: HostRuntime) {
+    replies_are(
+        &rt,
+        &[
+            (
+                Reply::At {
+                    live: 3,
+                    undone: 10,
+                },
+                "at 3 10\n",
+            ),
+            (Reply::Marked(12), "marked 12\n"),
+            (Reply::Dropped, "dropped\n"),
+            (Reply::Marks(0), "marks 0\n"),
+            (Reply::Same(true), "same yes\n"),
+            (Reply::Same(false), "same no\n"),
+        ],
+    );
+}
+
+#[test]
+fn a_mark_shows_its_name_and_its_length(rt: HostRuntime) -> Result<(), Fail> {
+    for (text, len, line) in [
+        ("a", 0, "mark a 0\n"),
+        ("before-e12", 31, "mark before-e12 31\n"),
+        (
+            "0123456789abcdef",
+            u64::MAX,
+            "mark 0123456789abcdef 18446744073709551615\n",
+        ),
+    ] {
+        let name = MarkName::new(text.as_bytes())?;
+        replies_are(&rt, &[(Reply::Mark { name, len }, line)]);
+    }
+    Ok(())
+}
+
+#[test]
+fn each_content_has_its_words(rt: HostRuntime) {
+    let name = SegName { maker: 2, n: 41 };
+    contents_are(
+        &rt,
+        &[
+            (Content::Name(SegName::ROOT), "is 0.0\n"),
+            (Content::Name(name), "is 2.41\n"),
+            (Content::Number(10), "is 10\n"),
+            (
+                Content::Tail {
+                    closed: false,
+                    count: 4,
+                },
+                "is open 4\n",
+            ),
+            (
+                Content::Tail {
+                    closed: true,
+                    count: 5,
+                },
+                "is closed 5\n",
+            ),
+            (Content::Next(None), "is none\n"),
+            (Content::Next(Some(name)), "is 2.41\n"),
+            (Content::Whole, "is exists\n"),
+            (Content::Slot(ArrSlot::Empty), "is empty\n"),
+            (Content::Slot(ArrSlot::Top), "is top\n"),
+            (Content::Slot(ArrSlot::Value(0)), "is value 0\n"),
+        ],
+    );
+}
+
+#[test]
+fn a_cell_is_its_safe_bit_its_index_and_its_value(rt: HostRuntime) {
+    for (safe, idx, val, line) in [
+        (true, 4, None, "is 1 4 none\n"),
+        (false, 0, Some(7), "is 0 0 7\n"),
+        (
+            true,
+            u64::MAX,
+            Some(u64::MAX),
+            "is 1 18446744073709551615 18446744073709551615\n",
+        ),
+    ] {
+        contents_are(&rt, &[(Content::Cell(Cell { safe, idx, val }), line)]);
+    }
+}
+
+#[test]
+fn each_call_of_an_actor_has_its_words(rt: HostRuntime) {
+    for (pc, op, line) in [
+        (
+            Pc::Idle,
+            None,
+            "actor Idle none crq 0.0 new 0.0 next 0.0 t 0 h 0 closed 0 val none safe 0 idx 0 pass 0\n",
+        ),
+        (
+            Pc::E10,
+            Some(Op::Enq(5)),
+            "actor E10 enq 5 crq 0.0 new 0.0 next 0.0 t 0 h 0 closed 0 val none safe 0 idx 0 pass 0\n",
+        ),
+        (
+            Pc::Q8,
+            Some(Op::Deq),
+            "actor Q8 deq crq 0.0 new 0.0 next 0.0 t 0 h 0 closed 0 val none safe 0 idx 0 pass 0\n",
+        ),
+        (
+            Pc::A2,
+            Some(Op::AEnq(0)),
+            "actor A2 aenq 0 crq 0.0 new 0.0 next 0.0 t 0 h 0 closed 0 val none safe 0 idx 0 pass 0\n",
+        ),
+        (
+            Pc::B1,
+            Some(Op::ADeq),
+            "actor B1 adeq crq 0.0 new 0.0 next 0.0 t 0 h 0 closed 0 val none safe 0 idx 0 pass 0\n",
+        ),
+    ] {
+        actors_are(
+            &rt,
+            &[(
+                Actor {
+                    pc,
+                    op,
+                    ..Actor::idle()
+                },
+                line,
+            )],
+        );
+    }
+}
+
+#[test]
+fn each_word_of_an_actor_stands_in_its_place(rt: HostRuntime) {
+    let words = Actor {
+        pc: Pc::Q12,
+        op: Some(Op::Deq),
+        crq: SegName { maker: 1, n: 2 },
+        new: SegName { maker: 3, n: 4 },
+        next: SegName { maker: 5, n: 6 },
+        t: 7,
+        h: 8,
+        closed: true,
+        val: Some(9),
+        safe: true,
+        idx: 10,
+        pass: 2,
+    };
+    let longest = Actor {
+        pc: Pc::Idle,
+        op: Some(Op::AEnq(u64::MAX)),
+        crq: LONGEST,
+        new: LONGEST,
+        next: LONGEST,
+        t: u64::MAX,
+        h: u64::MAX,
+        closed: true,
+        val: Some(u64::MAX),
+        safe: true,
+        idx: u64::MAX,
+        pass: u8::MAX,
+    };
+    actors_are(
+        &rt,
+        &[
+            (
+                words,
+                "actor Q12 deq crq 1.2 new 3.4 next 5.6 t 7 h 8 closed 1 val 9 safe 1 idx 10 pass 2\n",
+            ),
+            (
+                longest,
+                "actor Idle aenq 18446744073709551615 crq 255.4294967295 new 255.4294967295 next 255.4294967295 t 18446744073709551615 h 18446744073709551615 closed 1 val 18446744073709551615 safe 1 idx 18446744073709551615 pass 255\n",
+            ),
+        ],
+    );
+}
