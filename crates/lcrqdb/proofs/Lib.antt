@@ -1,7 +1,3 @@
-pub mod ResultLemmas
-pub mod NumberLemmas
-pub mod KnownLemmas
-pub mod LineLemmas
-pub mod SpellLemmas
-pub mod ScriptLemmas
+pub mod OptionLemmas
+pub mod ToldLemmas
 pub mod ProgramLemmas

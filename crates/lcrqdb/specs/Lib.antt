@@ -1,9 +1,4 @@
-pub mod Device
-pub mod Commands
-pub mod Lines
-pub mod Texts
-pub mod Records
-pub mod Replies
-pub mod Answers
-pub mod Script
+pub mod Options
+pub mod CommandLine
+pub mod Outcome
 pub mod Program

@@ -1,36 +1,22 @@
--- What the program does, and what it writes to standard error.
-use Rattle.std.specs.Prelude.{◌≡◌, ℕ, false, List, [], codes, Result, Ok, Err}
+-- What the program does with a script, by how it ended.
+use Rattle.std.specs.Prelude.{◌≡◌, ℕ, false, [], Result, Ok, Err}
 use Rattle.std.specs.Io.KnownBytes.{Keeps}
-use Rattle.rd_step.specs.Starts.{poised_world}
-use Rattle.rd_journal.specs.State.{State}
-use Rattle.lcrqdb.specs.declared.program.ProgramFault.{ProgramFault}
-use Rattle.lcrqdb.specs.declared.program.ProgramFault.TheVariants.{NoMemory, Read, Write}
-use Rattle.lcrqdb.specs.declared.script.ScriptFault.{ScriptFault}
-use Rattle.lcrqdb.specs.declared.script.ScriptFault.TheVariants.{Read as AtRead, Write as AtWrite}
-use Rattle.lcrqdb.specs.Script.{Devices, RanToEnd, StoppedAtRead, StoppedAtWrite}
-
--- how many actors the program's world has
-abbrev pub actor_count : ℕ
-actor_count = 4
-
--- how many cells each ring of the program's world has
-abbrev pub ring_length : ℕ
-ring_length = 4
-
--- the text of the refusal that ends the program
-abbrev pub fault_words : ProgramFault → List ℕ
-fault_words NoMemory = codes "refused 20 NoMemory"
-fault_words Read = codes "refused 24 Read"
-fault_words Write = codes "refused 25 Write"
+use Rattle.rd_step.specs.Starts.{fresh_world}
+use Rattle.rd_marks.specs.Books.{BookState}
+use Rattle.rd_script.specs.declared.faults.ScriptFault.{ScriptFault}
+use Rattle.rd_script.specs.declared.faults.ScriptFault.TheVariants.{Read as AtRead, Write as AtWrite}
+use Rattle.rd_script.specs.Script.{Devices, RanToEnd, StoppedAtRead, StoppedAtWrite}
+use Rattle.lcrqdb.specs.declared.outcome.ProgramFault.{ProgramFault}
+use Rattle.lcrqdb.specs.declared.outcome.ProgramFault.TheVariants.{NoMemory, Read, Write, Shown, Refused}
 
 -- the program's fault if a script's run ended by this one
 abbrev pub program_fault : ScriptFault → ProgramFault
 program_fault AtRead = Read
 program_fault AtWrite = Write
 
--- the state that the program begins with: no step was made in the poised world
-abbrev pub first_state : State
-first_state = record { start = poised_world ring_length actor_count; live = []; undone = [] }
+-- the state that the program begins with: no step was made in the fresh world, and there is no bookmark
+abbrev pub first_state : ℕ → ℕ → BookState
+first_state R actors = record { session = record { start = fresh_world R actors; live = []; undone = [] }; marks = [] }
 
 -- without memory for its world the program touched neither device
 pub record TouchesNothing (d : Devices) : Type 0 where
@@ -39,9 +25,11 @@ pub record TouchesNothing (d : Devices) : Type 0 where
   pub in_works : d.in_failed ≡ false
   pub out_works : d.out_failed ≡ false
 
--- what the program did, by how it ended
-abbrev pub PlaysScript : Devices → Result ℕ ProgramFault → Type 0
-PlaysScript d (Ok n) = (after : State) × RanToEnd ring_length first_state after d n
-PlaysScript d (Err NoMemory) = TouchesNothing d
-PlaysScript d (Err Read) = (after : State) × StoppedAtRead ring_length first_state after d
-PlaysScript d (Err Write) = (after : State) × StoppedAtWrite ring_length first_state after d
+-- what a script's run did; it shows no help and refuses no command line
+abbrev pub PlaysScript : ℕ → ℕ → Devices → Result ℕ ProgramFault → Type 0
+PlaysScript R actors d (Ok n) = (after : BookState) × RanToEnd R (first_state R actors) after d n
+PlaysScript R actors d (Err NoMemory) = TouchesNothing d
+PlaysScript R actors d (Err Read) = (after : BookState) × StoppedAtRead R (first_state R actors) after d
+PlaysScript R actors d (Err Write) = (after : BookState) × StoppedAtWrite R (first_state R actors) after d
+PlaysScript R actors d (Err (Shown error)) = ⊥
+PlaysScript R actors d (Err (Refused error)) = ⊥

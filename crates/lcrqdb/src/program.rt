@@ -1,47 +1,17 @@
-//! The program, over the devices that it is given.
+//! A script's run over a fresh world, over the devices that it is given.
 
-ghost use Rattle.std.specs.Prelude.{◌≡◌, Some, false, OnOk, OnErr};
-ghost use Rattle.std.specs.Process.{exit_status};
-ghost use Rattle.lcrqdb.specs.Program.{fault_words, program_fault, PlaysScript};
+ghost use Rattle.std.specs.Prelude.{◌≡◌, ◌≤◌, false};
+ghost use Rattle.rd_step.specs.Prelude.{MOST_CELLS};
+ghost use Rattle.lcrqdb.specs.Options.{ring_length};
+ghost use Rattle.lcrqdb.specs.Program.{program_fault, PlaysScript};
 
-use super::device::{Sink, Source};
-use super::script::{ScriptFault, run_lines};
+use super::options::Ring;
+use super::outcome::ProgramFault;
 use rd_journal::Session;
+use rd_marks::Book;
+use rd_script::{ScriptFault, Sink, Source, run};
 use rd_step::World;
 use std::alloc::Global;
-use std::fmt;
-use std::io::Write;
-use std::process::ExitCode;
-
-/// How many actors the program's world has.
-const ACTORS: u8 = 4;
-
-/// How many cells its rings have.
-const RING: usize = 4;
-
-/// Why the program ends with status 1.
-#[derive(Clone, Copy, Debug, PartialEq, Eq)]
-pub enum ProgramFault {
-    /// The world or the reader's buffer was refused its memory.
-    NoMemory,
-    /// The reader failed, or gave 2^64 - 1 bytes without an end.
-    Read,
-    /// The writer failed or took nothing.
-    Write,
-}
-
-/// The text of the refusal, with its number.
-impl fmt::Display for ProgramFault {
-    ghost output = { λ fault. Some (fault_words fault) };
-
-    fn fmt<W: fmt::Write>(&self, f: &mut fmt::Formatter<W>) -> fmt::Result {
-        match self {
-            ProgramFault::NoMemory => write!(f, "refused 20 NoMemory"),
-            ProgramFault::Read => write!(f, "refused 24 Read"),
-            ProgramFault::Write => write!(f, "refused 25 Write"),
-        }
-    }
-}
 
 impl From<ScriptFault> for ProgramFault {
     ghost from_gives = { λ fault e. e ≡ program_fault fault };
@@ -54,16 +24,24 @@ impl From<ScriptFault> for ProgramFault {
     }
 }
 
-/// Runs a script over the poised world of 4 actors and rings of 4 cells, and writes its report. Answers the number of
-/// its lines.
+/// Runs a script over the fresh world of so many actors, 1 to 16, and rings of this length, and writes its report. Answers
+/// the number of its lines.
+///
+/// # Errors
+///
+/// `NoMemory` if the world was refused its memory: neither device was touched. `Read` and `Write` as the run of a script.
 pub fn play<S: Source, K: Sink>(
     alloc: Global,
     reader: &mut S,
     writer: &mut K,
+    actors: u8,
+    ring: Ring,
 ) -> Result<u64, ProgramFault>
     requires reader_works { S.has_failed reader.old ≡ false }
     requires writer_works { K.has_failed writer.old ≡ false }
-    ensures plays { PlaysScript (record {
+    requires some { 1 ≤ actors }
+    requires few { actors ≤ 16 }
+    ensures plays { PlaysScript (ring_length ring) actors (record {
       in_before = S.bytes reader.old;
       in_after = S.bytes reader.new;
       in_failed = S.has_failed reader.new;
@@ -72,26 +50,41 @@ pub fn play<S: Source, K: Sink>(
       out_failed = K.has_failed writer.new;
     }) result }
 {
-    let Ok(world) = World::<RING>::poised(alloc, ACTORS) else {
-        return Err(ProgramFault::NoMemory);
-    };
-    let mut session = Session::open(alloc, world);
-    Ok(run_lines(reader, writer, &mut session)?)
+    match ring {
+        Ring::Two => play_over::<S, K, 2>(alloc, reader, writer, actors),
+        Ring::Four => play_over::<S, K, 4>(alloc, reader, writer, actors),
+        Ring::Eight => play_over::<S, K, 8>(alloc, reader, writer, actors),
+    }
 }
 
-/// The exit status of the program: 0 after a whole script. After a fault it is 1, and one line on standard error says
-/// which fault it was.
-pub fn exit_code<E: Write>(outcome: Result<u64, ProgramFault>, errors: &mut E) -> ExitCode
-    ensures ok { OnOk outcome (exit_status result ≡ 0) }
-    ensures err { OnErr outcome (exit_status result ≡ 1) }
-    ensures silent { OnOk outcome (E.contents errors.new ≡ E.contents errors.old) }
+/// Runs a script over the fresh world of so many actors and rings of `R` cells.
+fn play_over<S: Source, K: Sink, const R: usize>(
+    alloc: Global,
+    reader: &mut S,
+    writer: &mut K,
+    actors: u8,
+) -> Result<u64, ProgramFault>
+    requires reader_works { S.has_failed reader.old ≡ false }
+    requires writer_works { K.has_failed writer.old ≡ false }
+    requires some { 1 ≤ actors }
+    requires few { actors ≤ 16 }
+    requires positive { 1 ≤ R }
+    requires small { R ≤ MOST_CELLS }
+    ensures plays { PlaysScript R actors (record {
+      in_before = S.bytes reader.old;
+      in_after = S.bytes reader.new;
+      in_failed = S.has_failed reader.new;
+      out_before = K.contents writer.old;
+      out_after = K.contents writer.new;
+      out_failed = K.has_failed writer.new;
+    }) result }
 {
-    match outcome {
-        Ok(_) => ExitCode::SUCCESS,
-        Err(fault) => {
-            // If standard error fails too, the status alone tells.
-            let _ = writeln!(errors, "lcrqdb: {fault}");
-            ExitCode::FAILURE
-        }
+    let Ok(world) = World::<R>::fresh(alloc, actors) else {
+        return Err(ProgramFault::NoMemory);
+    };
+    let mut book = Book::open(alloc, Session::open(alloc, world));
+    match run(reader, writer, &mut book) {
+        Err(fault) => Err(ProgramFault::from(fault)),
+        Ok(lines) => Ok(lines),
     }
 }

@@ -1,5 +1,8 @@
 pub mod ResultLemmas
 pub mod KnownLemmas
+pub mod LineLemmas
+pub mod ScriptLemmas
+pub mod TextLemmas
 pub mod PutLemmas
 pub mod NumberLemmas
 pub mod NameLemmas

@@ -1,11 +1,10 @@
 -- Two commands of the same words are one.
-use Rattle.std.proofs.Common.{◌≡◌, ℕ, ◌<◌, ◌^◌, Bool, true, false, true≢false, List, [], ◌∷◌, ◌++◌, length, codes, Option, Some, None, if◌then◌else◌, nat_eq, refl, sym, ◌∙◌, ap, subst, arith, inl, inr, slice_index_or, ◌==◌, ◌⊎◌, drop}
+use Rattle.std.proofs.Common.{◌≡◌, ℕ, ◌<◌, ◌^◌, Bool, true, false, List, [], ◌∷◌, length, Option, Some, None, if◌then◌else◌, nat_eq, refl, sym, ◌∙◌, ap, subst, arith, inl, inr, slice_index_or, ◌==◌, ◌⊎◌, drop}
 use Rattle.std.specs.Cmp.Lexicographic.{pointwise}
 use Rattle.std.specs.Fmt.{decimal}
 use Rattle.std.specs.List.{slice_split}
 use Rattle.std.proofs.lemmas.Fmt.{decimal_injective}
 use Rattle.rd_step.specs.Prelude.{SegName, Place, QHead, QTail, Head, Tail, Next, CellAt, WholeOf, ArrHead, ArrTail, ArrCell}
-use Rattle.rd_marks.specs.Names.{bytes_of}
 use Rattle.rd_marks.specs.declared.names.MarkName.{MarkName}
 use Rattle.rd_marks.specs.declared.commands.Command.{Command}
 use Rattle.rd_marks.specs.declared.commands.Command.TheVariants.{Enq, Deq, ArrayEnq, ArrayDeq, Go, Starve, Undo, UndoAt, Roll, Back, Redo, Forward, Mark, DropMark, GotoMark, Marks, MarkAt, Same, Show, Actor, Step, Len}

@@ -1,5 +1,5 @@
 -- What the words of a line say, the line says; and what is said of a line that spells a command.
-use Rattle.std.proofs.Common.{◌≡◌, ◌≢◌, ℕ, ◌+◌, ◌<◌, ◌≤◌, ◌==◌, ◌&&◌, Bool, true, false, List, [], ◌∷◌, ◌++◌, length, codes, drop, Result, Ok, Err, refl, sym, ◌∙◌, ap, subst, arith, append_assoc, inl, inr, ◌⊎◌, slice_index_or}
+use Rattle.std.proofs.Common.{◌≡◌, ◌≢◌, ℕ, ◌<◌, ◌≤◌, ◌==◌, ◌&&◌, true, false, List, [], ◌∷◌, ◌++◌, length, codes, drop, Result, Ok, Err, refl, sym, ◌∙◌, ap, subst, arith, append_assoc, inl, inr, slice_index_or}
 use Rattle.std.specs.List.{slice_split, join_with_byte}
 use Rattle.std.specs.Result.{IsOkAnd}
 use Rattle.rd_marks.specs.NameBytes.{is_mark_name}
@@ -72,8 +72,15 @@ misnamed_line line Drop words e bad = let n = one_bad_name words bad in inl (n.0
 misnamed_line line Goto words e bad = let n = one_bad_name words bad in inl (n.0, n.1, n.2, inr (inr (join_of_parts 32 line (codes "goto" ∷ n.0 ∷ []) (ap (λ w. codes "goto" ∷ w) (sym n.3) ∙ e))))
 misnamed_line line Same words e bad =
     let n = two_bad_names words bad in
-    inr (n.0, n.1, n.2, n.3, n.4, join_of_parts 32 line (codes "same" ∷ n.0 ∷ n.1 ∷ []) (ap (λ w. codes "same" ∷ w) (sym n.5) ∙ e)
-        ∙ ap (λ rest. codes "same " ++ rest) (sym (append_assoc n.0 (32 ∷ []) n.1)))
+    inr (
+      n.0,
+      n.1,
+      n.2,
+      n.3,
+      n.4,
+      join_of_parts 32 line (codes "same" ∷ n.0 ∷ n.1 ∷ []) (ap (λ w. codes "same" ∷ w) (sym n.5) ∙ e)
+          ∙ ap (λ rest. codes "same " ++ rest) (sym (append_assoc n.0 (32 ∷ []) n.1)),
+    )
 misnamed_line line Enq words e bad = absurd bad
 misnamed_line line Deq words e bad = absurd bad
 misnamed_line line ArrayEnq words e bad = absurd bad
@@ -112,7 +119,7 @@ says_words line k words (Ok c) few is reads =
 says_words line k words (Err BadLine) few is reads =
     bad_line line few (λ c small e. let same = is ∙ e in reads.0 c small (sym (one_keyword k (keyword_of c) (ap first_word same))) (ap (drop 1) same))
     (λ bad. let same = is ∙ bad.whole in
-        reads.1 (subst (λ word. NamesBadly word words) (sym (one_keyword k bad.keyword (ap first_word same))) (subst (NamesBadly bad.keyword) (sym (ap (drop 1) same)) bad.bad)))
+    reads.1 (subst (λ word. NamesBadly word words) (sym (one_keyword k bad.keyword (ap first_word same))) (subst (NamesBadly bad.keyword) (sym (ap (drop 1) same)) bad.bad)))
 says_words line k words (Err BadName) few is bad = (few, misnamed_line line k words is bad)
 says_words line k words (Err LineTooLong) few is never = absurd never
 

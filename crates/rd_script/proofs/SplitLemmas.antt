@@ -1,5 +1,5 @@
 -- Parts that are joined by a byte that is in none of them, and cut there again.
-use Rattle.std.proofs.Common.{◌≡◌, ℕ, ◌+◌, ◌/◌, ◌%◌, ◌<◌, ◌≤◌, ◌^◌, ◌==◌, Bool, true, false, true≢false, ◌&&◌, not, eqb, ne_eqb, eq-eqb, List, [], ◌∷◌, ◌++◌, refl, sym, ◌∙◌, ap, arith}
+use Rattle.std.proofs.Common.{◌≡◌, ℕ, ◌+◌, ◌%◌, ◌<◌, ◌^◌, ◌==◌, Bool, true, false, true≢false, ◌&&◌, not, ne_eqb, eq-eqb, List, [], ◌∷◌, ◌++◌, refl, sym, ◌∙◌, ap, arith}
 use Rattle.std.specs.List.{list_all, slice_split, onto_first, join_with_byte}
 use Rattle.std.specs.Fmt.{decimal}
 use Rattle.std.proofs.lemmas.Fmt.{decimal_by_steps}
@@ -55,8 +55,10 @@ is_free_decimal c n low high = decimal_by_steps (λ m digits. is_free c digits �
   where
     other : (d : ℕ) → (48 + d == c) ≡ false
     other d = ne_eqb (48 + d) c (λ e. absurd (omega (arith, e, low)))
+
     digit : (d : ℕ) → is_free c ((48 + d) ∷ []) ≡ true
     digit d = rw (other d) refl
+
     rest : (digits : List ℕ) (m : ℕ) → is_free c digits ≡ true → (is_free c digits && is_free c ((48 + m % 10) ∷ [])) ≡ true
     rest digits m free = rw (free, digit (m % 10)) refl
 

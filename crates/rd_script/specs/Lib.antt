@@ -9,3 +9,6 @@ pub mod Refusals
 pub mod Replies
 pub mod Spelling
 pub mod Words
+pub mod Lines
+pub mod Answers
+pub mod Script

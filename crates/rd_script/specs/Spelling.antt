@@ -1,8 +1,8 @@
 -- Commands and their one spelling, and what a line says.
-use Rattle.std.specs.Prelude.{◌≡◌, ◌≢◌, ℕ, ◌<◌, ◌≤◌, ◌^◌, ◌⊎◌, Bool, true, false, ◌&&◌, not, ◌==◌, List, ◌++◌, length, codes, Option, Some, None, Result, Ok, Err}
+use Rattle.std.specs.Prelude.{◌≡◌, ◌≢◌, ℕ, ◌<◌, ◌≤◌, ◌^◌, ◌⊎◌, Bool, true, false, ◌&&◌, not, ◌==◌, List, ◌++◌, length, codes, Result, Ok, Err}
 use Rattle.std.specs.List.{list_all}
 use Rattle.std.specs.Char.{is_ascii_graphic}
-use Rattle.rd_step.specs.Prelude.{SegName, Place, QHead, QTail, Head, Tail, Next, CellAt, WholeOf, ArrHead, ArrTail, ArrCell}
+use Rattle.rd_step.specs.Prelude.{SegName, Place, Head, Tail, Next, CellAt, WholeOf, ArrCell}
 use Rattle.rd_actor.specs.declared.actors.Act.TheVariants.{Enq as CallsEnq, Deq as CallsDeq, AEnq as CallsArrayEnq, ADeq as CallsArrayDeq, Go as GoesOn, Starve as Starves}
 use Rattle.rd_marks.specs.NameBytes.{is_mark_name}
 use Rattle.rd_marks.specs.Names.{bytes_of}
@@ -95,9 +95,9 @@ is_word text = not (length text == 0) && list_all is_ascii_graphic text
 abbrev pub IsMisnamed : List ℕ → Type 0
 IsMisnamed line =
     ((name : List ℕ) × (is_word name ≡ true) × (is_mark_name name ≡ false)
-        × ((line ≡ codes "mark " ++ name) ⊎ (line ≡ codes "drop " ++ name) ⊎ (line ≡ codes "goto " ++ name)))
+    × ((line ≡ codes "mark " ++ name) ⊎ (line ≡ codes "drop " ++ name) ⊎ (line ≡ codes "goto " ++ name)))
     ⊎ ((one : List ℕ) × (other : List ℕ) × (is_word one ≡ true) × (is_word other ≡ true)
-        × (is_mark_name one && is_mark_name other ≡ false) × (line ≡ codes "same " ++ one ++ codes " " ++ other))
+    × (is_mark_name one && is_mark_name other ≡ false) × (line ≡ codes "same " ++ one ++ codes " " ++ other))
 
 -- what a line says: a command that it spells, or its fault
 abbrev pub Says : List ℕ → Result Command LineFault → Type 0

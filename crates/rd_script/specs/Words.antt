@@ -1,6 +1,6 @@
 -- The words of each command: its keyword and those behind it. No public clause cites them: they stand between the code, which reads
 -- word by word, and the spelling of a whole line.
-use Rattle.std.specs.Prelude.{◌≡◌, ◌≢◌, ℕ, Bool, true, false, ◌&&◌, List, [], ◌∷◌, codes, Option, Some, None, Result, Ok, Err}
+use Rattle.std.specs.Prelude.{◌≡◌, ◌≢◌, ℕ, true, false, ◌&&◌, List, [], ◌∷◌, codes, Option, Some, None, Result, Ok, Err}
 use Rattle.std.specs.Fmt.{decimal}
 use Rattle.rd_step.specs.Prelude.{Place, QHead, QTail, Head, Tail, Next, CellAt, WholeOf, ArrHead, ArrTail, ArrCell}
 use Rattle.rd_marks.specs.NameBytes.{is_mark_name}

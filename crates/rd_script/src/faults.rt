@@ -1,5 +1,9 @@
 //! What a script meets besides refusals: lines that spell no command, and devices that fail.
 
+ghost use Rattle.std.specs.Prelude.{◌≡◌};
+
+use super::device::{ReadFault, WriteFault};
+
 /// Why a line spells no command.
 #[derive(Clone, Copy, Debug, PartialEq, Eq)]
 pub enum LineFault {
@@ -18,4 +22,24 @@ pub enum ScriptFault {
     Read,
     /// 25: an answer could not be written.
     Write,
+}
+
+impl From<ReadFault> for ScriptFault {
+    ghost use Rattle.rd_script.specs.declared.faults.ScriptFault.TheVariants.{Read};
+
+    ghost from_gives = { λ _ fault. fault ≡ Read };
+
+    fn from(_fault: ReadFault) -> ScriptFault {
+        ScriptFault::Read
+    }
+}
+
+impl From<WriteFault> for ScriptFault {
+    ghost use Rattle.rd_script.specs.declared.faults.ScriptFault.TheVariants.{Write};
+
+    ghost from_gives = { λ _ fault. fault ≡ Write };
+
+    fn from(_fault: WriteFault) -> ScriptFault {
+        ScriptFault::Write
+    }
 }

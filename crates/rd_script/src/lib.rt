@@ -2,7 +2,8 @@
 //!
 //! A script is read one byte at a time into a buffer of fixed capacity; each line is obeyed when it is complete, and its
 //! reply is written at once. No memory is taken but by the commands themselves. A text is put together in a buffer of fixed
-//! capacity too: each function that puts words behind a text says which, and how long they are at most.
+//! capacity too: each function that puts words behind a text says which, and how long they are at most. What the lines of a
+//! whole text say is given as a list, which takes memory.
 #![tactic(auto)]
 
 mod actors;
@@ -16,20 +17,25 @@ pub mod faults;
 mod keywords;
 mod kinds;
 mod labels;
+pub mod line_buffer;
 mod numbers;
 mod numerals;
 mod places;
 mod refusals;
 mod replies;
+pub mod script;
 mod steps;
 mod texts;
+pub mod whole_texts;
 mod words;
 
 pub use answers::{LineAnswer, text_of};
 pub use commands::command_in;
 pub use device::{ReadFault, ReadSource, Sink, Source, WriteFault, WriteSink};
 pub use faults::{LineFault, ScriptFault};
+pub use script::{run, write_answer};
 pub use texts::{MOST_BYTES, Text};
+pub use whole_texts::lines;
 
 #[cfg(test)]
 mod tests;

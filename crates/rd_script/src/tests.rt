@@ -1,7 +1,12 @@
-//! The line of each kind of answer, and of the longest ones: rows of an answer and its text.
+//! The line of each kind of answer, and of the longest ones: rows of an answer and its text. And scripts beside their reports.
 
+mod devices;
+mod queues;
 mod refusals;
+mod runs;
 mod steps;
+mod texts;
+mod undoing;
 
 use super::answers::{LineAnswer, text_of};
 use rd_actor::{Actor, Op, OpReply, Pc};

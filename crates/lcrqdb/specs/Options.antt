@@ -1,0 +1,45 @@
+-- What the command line may ask for.
+use Rattle.std.specs.Prelude.{◌≡◌, ℕ, ⊤, List, codes}
+use Rattle.clap.specs.Words.{kind_of}
+use Rattle.clap.specs.declared.error.Error.{Error}
+use Rattle.clap.specs.declared.error.kind.ErrorKind.{ErrorKind}
+use Rattle.clap.specs.declared.error.kind.ErrorKind.TheVariants.{DisplayHelp, DisplayVersion, OutOfMemory}
+use Rattle.lcrqdb.specs.declared.options.Ring.{Ring}
+use Rattle.lcrqdb.specs.declared.options.Ring.TheVariants.{Two, Four, Eight}
+use Rattle.lcrqdb.specs.declared.options.Options.{Options}
+use Rattle.lcrqdb.specs.declared.options.Options.TheVariants.{Run}
+use Rattle.lcrqdb.specs.declared.options.OptionsFault.{OptionsFault}
+use Rattle.lcrqdb.specs.declared.options.OptionsFault.TheVariants.{Shown, Refused, NoMemory}
+
+-- how the command line spells a ring
+abbrev pub ring_text : Ring → List ℕ
+ring_text Two = codes "2"
+ring_text Four = codes "4"
+ring_text Eight = codes "8"
+
+-- how many cells a ring of this length has
+abbrev pub ring_length : Ring → ℕ
+ring_length Two = 2
+ring_length Four = 4
+ring_length Eight = 8
+
+-- how many actors the options ask for
+abbrev pub actors_of : Options → ℕ
+actors_of (Run file actors ring) = actors
+
+-- the fault of a command line at which clap fails by an error of this kind
+abbrev pub fault_by : ErrorKind → Error → OptionsFault
+fault_by DisplayHelp error = Shown error
+fault_by DisplayVersion error = Shown error
+fault_by OutOfMemory error = NoMemory
+fault_by _ error = Refused error
+
+-- the fault of a command line at which clap fails by this error
+abbrev pub options_fault : Error → OptionsFault
+options_fault error = fault_by (kind_of error) error
+
+-- the command line is refused by a mistake of this kind, or for want of memory
+abbrev pub IsMistake : ErrorKind → OptionsFault → Type 0
+IsMistake kind (Refused error) = kind_of error ≡ kind
+IsMistake kind (Shown error) = ⊥
+IsMistake kind NoMemory = ⊤

@@ -1,0 +1,80 @@
+//! What a command line asks for, or why it asks for nothing that the program does.
+
+ghost use Rattle.std.specs.Prelude.{◌≡◌, ◌≢◌, IfSome, IsNone};
+ghost use Rattle.lcrqdb.specs.declared.options.OptionsFault.TheVariants.{NoMemory};
+ghost use Rattle.lcrqdb.specs.Options.{ring_text, options_fault};
+
+use clap::Error;
+use clap::error::ErrorKind;
+use std::alloc::AllocError;
+
+/// How many cells each ring has.
+#[derive(Clone, Copy, Debug, PartialEq, Eq)]
+pub enum Ring {
+    /// `--ring 2`
+    Two,
+    /// `--ring 4`
+    Four,
+    /// `--ring 8`
+    Eight,
+}
+
+impl Ring {
+    /// The ring that this text spells.
+    pub fn of(text: &str) -> Option<Ring>
+        ensures some { IfSome result (λ ring. text.now ≡ ring_text ring) }
+        ensures none { IsNone result → (ring : Ring) → text.now ≢ ring_text ring }
+    {
+        match text {
+            "2" => Some(Ring::Two),
+            "4" => Some(Ring::Four),
+            "8" => Some(Ring::Eight),
+            _ => None,
+        }
+    }
+}
+
+/// What the command line asks for.
+#[derive(Clone, Copy, Debug, PartialEq, Eq)]
+pub enum Options<'a> {
+    /// `run FILE`: does the lines of one script.
+    Run {
+        /// The script's file; `-` is standard input.
+        file: &'a str,
+        /// How many actors the world has, 1 to 16.
+        actors: u8,
+        /// How many cells its rings have.
+        ring: Ring,
+    },
+}
+
+/// Why the command line gives no options.
+#[derive(Debug, Drop)]
+pub enum OptionsFault {
+    /// It asks for help or for the version: the text of `clap`.
+    Shown(Error),
+    /// It is not one that the program takes: the text of `clap` on the mistake.
+    Refused(Error),
+    /// There was no memory to read it.
+    NoMemory,
+}
+
+impl From<Error> for OptionsFault {
+    ghost from_gives = { λ error fault. fault ≡ options_fault error };
+
+    fn from(error: Error) -> OptionsFault {
+        match error.kind() {
+            ErrorKind::DisplayHelp | ErrorKind::DisplayVersion => OptionsFault::Shown(error),
+            ErrorKind::OutOfMemory => OptionsFault::NoMemory,
+            _ => OptionsFault::Refused(error),
+        }
+    }
+}
+
+impl From<AllocError> for OptionsFault {
+    ghost from_gives = { λ _ fault. fault ≡ NoMemory };
+
+    fn from(_error: AllocError) -> OptionsFault {
+        OptionsFault::NoMemory
+    }
+}

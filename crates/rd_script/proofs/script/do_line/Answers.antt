@@ -1,0 +1,13 @@
+use Rattle.std.proofs.Common.{refl}
+use Rattle.rd_marks.specs.BookViews.{book_state}
+use Rattle.rd_script.proofs.ScriptLemmas.{WritesAnswer-from_result}
+use Rattle.rd_script.proofs.script.do_line.Goals as goal
+
+pub returns-clause-does : goal.returns-clause-does
+returns-clause-does g c text is = (
+  record { answer = c.obey_line-answer.result; state = book_state c.obey_line-answer.new.book },
+  c.obey_line-answer.ensures.answers text is,
+  refl,
+  WritesAnswer-from_result (g.K.Sink.contents c.args.writer.now) (g.K.Sink.contents c.write_answer.new.writer) c.obey_line-answer.result c.write_answer.result
+      c.write_answer.ensures.ok c.write_answer.ensures.err,
+)
