@@ -3,6 +3,8 @@
 //! A page has its script beside the replies in a table of its own. One line for each lesson says whether they are the same.
 #![tactic(auto)]
 
+ghost use Rattle.std.specs.Prelude.{◌≤◌};
+
 use anyhow::{Result, bail, ensure};
 use rd_journal::Session;
 use rd_marks::Book;
@@ -62,7 +64,10 @@ fn is_as_its_page_says(rt: &HostRuntime, alloc: Global, name: &str) -> Result<bo
 }
 
 /// The replies to a script over a fresh world.
-fn replies_to<const R: usize>(alloc: Global, script: &str) -> Result<String> {
+fn replies_to<const R: usize>(alloc: Global, script: &str) -> Result<String>
+    requires positive { 1 ≤ R }
+    requires small { R ≤ 64 }
+{
     let Ok(world) = World::<R>::fresh(alloc, ACTORS) else {
         bail!("out of memory");
     };
