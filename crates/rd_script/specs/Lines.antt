@@ -67,9 +67,10 @@ pub record ReadsPart (old new : Option (List ℕ)) (failed : Bool) : Type 0 wher
   pub took : Consumes old new text
   pub cause : (failed ≡ true) ⊎ (2 ^ 64 ≤ length text + 1)
 
--- what the reading of a line says of the bytes that were left before and are left after, and of the source's failing
-abbrev pub Reads : Option (List ℕ) → Option (List ℕ) → Bool → Result Reading ReadFault → Type 0
-Reads old new failed (Ok (Ended line)) = ReadsLine old new line (10 ∷ [])
-Reads old new failed (Ok (Last line)) = ReadsLast old new line
-Reads old new failed (Ok End) = Consumes old new [] × IsAtEnd new
-Reads old new failed (Err _) = ReadsPart old new failed
+-- what the reading of a line says of the bytes that were left before and are left after, of the source's failing, and of
+-- the line that was read
+abbrev pub Reads : Option (List ℕ) → Option (List ℕ) → Bool → Line → Result Reading ReadFault → Type 0
+Reads old new failed line (Ok Ended) = ReadsLine old new line (10 ∷ [])
+Reads old new failed line (Ok Last) = ReadsLast old new line
+Reads old new failed line (Ok End) = Consumes old new [] × IsAtEnd new
+Reads old new failed line (Err _) = ReadsPart old new failed

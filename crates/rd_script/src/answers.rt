@@ -1,4 +1,6 @@
 //! The answer to one line, and the line that it is written as.
+//!
+//! A run puts all of its answers together in one buffer, so that none is made anew for each.
 
 ghost use Rattle.std.specs.Prelude.{◌≡◌, ◌≤◌, ◌++◌, length};
 ghost use Rattle.rd_script.specs.Puts.{Puts};
@@ -50,20 +52,19 @@ pub enum LineAnswer {
     NotRecorded,
 }
 
-/// The line of an answer, with its line feed.
-pub fn text_of(answer: &LineAnswer) -> Text
-    ensures { result.items ≡ text_of answer.now }
+/// Makes the text the line of an answer, with its line feed, whatever it was before.
+pub fn set_text(text: &mut Text, answer: &LineAnswer)
+    ensures { text.new.items ≡ text_of answer.now }
 {
-    let mut text = Text::new();
-    put_answer(&mut text, *answer);
-    put(&mut text, b"\n");
-    text
+    text.clear();
+    put_answer(text, answer);
+    put(text, b"\n");
 }
 
 /// Puts the words of an answer behind the text.
-fn put_answer(text: &mut Text, answer: LineAnswer)
-    ensures words { Puts text.old.items text.new.items (words_of answer) }
-    ensures len { length (words_of answer) ≤ 500 }
+fn put_answer(text: &mut Text, answer: &LineAnswer)
+    ensures words { Puts text.old.items text.new.items (words_of answer.now) }
+    ensures len { length (words_of answer.now) ≤ 500 }
 {
     match answer {
         LineAnswer::Reply(reply) => put_reply(text, reply),
@@ -75,11 +76,11 @@ fn put_answer(text: &mut Text, answer: LineAnswer)
 }
 
 /// Puts the number, the name and the data of a refusal behind the text; a reply has none.
-fn put_fault(text: &mut Text, answer: LineAnswer)
-    ensures words { Puts text.old.items text.new.items (fault_words answer) }
-    ensures len { length (fault_words answer) ≤ 100 }
+fn put_fault(text: &mut Text, answer: &LineAnswer)
+    ensures words { Puts text.old.items text.new.items (fault_words answer.now) }
+    ensures len { length (fault_words answer.now) ≤ 100 }
 {
-    match answer {
+    match *answer {
         LineAnswer::Reply(_) => {}
         LineAnswer::Refused(refusal) => put_refusal(text, refusal),
         LineAnswer::Unread(fault) => put(text, name_of_fault(fault)),

@@ -1,6 +1,7 @@
 //! Lines of a script, read byte by byte into a buffer of fixed capacity.
 //!
-//! The rest of a line that is too long is read and discarded, so that the next one begins where it should.
+//! A run reads all of its lines into one buffer, so that none is made anew for each. The rest of a line that is too long is
+//! read and discarded, so that the next one begins where it should.
 
 ghost use Rattle.std.specs.Prelude.{◌≡◌, ℕ, List, [], ◌∷◌, ◌++◌, OnOk, false};
 ghost use Rattle.rd_script.specs.Spelling.{Says};
@@ -22,32 +23,32 @@ pub struct Line {
 }
 
 /// What a source gives where a line may begin.
-#[derive(Drop)]
+#[derive(Clone, Copy, Debug, PartialEq, Eq)]
 pub enum Reading {
     /// A line that a line feed ended.
-    Ended(Line),
+    Ended,
     /// A line with a byte at least, ended by the end alone.
-    Last(Line),
+    Last,
     /// The end.
     End,
 }
 
-/// Reads the next line.
+/// Reads the next line into the buffer, whatever that held before.
 ///
 /// # Errors
 ///
 /// If the source failed, or gave 2^64 - 1 bytes without an end.
-pub fn next_line<S: Source>(reader: &mut S) -> Result<Reading, ReadFault>
+pub fn next_line<S: Source>(reader: &mut S, line: &mut Line) -> Result<Reading, ReadFault>
     requires { S.has_failed reader.old ≡ false }
-    ensures reads { Reads (S.bytes reader.old) (S.bytes reader.new) (S.has_failed reader.new) result }
+    ensures reads { Reads (S.bytes reader.old) (S.bytes reader.new) (S.has_failed reader.new) line.new result }
     ensures works { OnOk result (S.has_failed reader.new ≡ false) }
 {
-    let mut line = Line::new();
+    line.clear();
     for length in 0..u64::MAX {
         match reader.byte()? {
             None if length == 0 => return Ok(Reading::End),
-            None => return Ok(Reading::Last(line)),
-            Some(b'\n') => return Ok(Reading::Ended(line)),
+            None => return Ok(Reading::Last),
+            Some(b'\n') => return Ok(Reading::Ended),
             Some(byte) => line.push(byte),
         }
     }
@@ -56,13 +57,21 @@ pub fn next_line<S: Source>(reader: &mut S) -> Result<Reading, ReadFault>
 
 impl Line {
     /// The line with no byte yet.
-    fn new() -> Self
+    pub fn new() -> Self
         ensures { Holds result [] }
     {
         Line {
             kept: ArrayVec::new(),
             is_too_long: false,
         }
+    }
+
+    /// Takes all bytes away.
+    fn clear(&mut self)
+        ensures { Holds self.new [] }
+    {
+        self.kept.clear();
+        self.is_too_long = false;
     }
 
     /// Puts a byte at the end.

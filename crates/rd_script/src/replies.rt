@@ -14,11 +14,11 @@ use rd_actor::OpReply;
 use rd_marks::{MarkName, Reply};
 
 /// Puts the words of a reply behind the text.
-pub fn put_reply(text: &mut Text, reply: Reply)
-    ensures words { Puts text.old.items text.new.items (reply_words reply) }
-    ensures len { length (reply_words reply) ≤ 400 }
+pub fn put_reply(text: &mut Text, reply: &Reply)
+    ensures words { Puts text.old.items text.new.items (reply_words reply.now) }
+    ensures len { length (reply_words reply.now) ≤ 400 }
 {
-    match reply {
+    match *reply {
         Reply::Applied { step, reply } => {
             put_counted(text, b"ok", step);
             put_event_reply(text, reply);
@@ -43,8 +43,8 @@ pub fn put_reply(text: &mut Text, reply: Reply)
             put(text, b"is ");
             put_content(text, content);
         }
-        Reply::Actor(actor) => put_actor(text, &actor),
-        Reply::Step { number, entry } => put_step(text, number, &entry),
+        Reply::Actor(ref actor) => put_actor(text, actor),
+        Reply::Step { number, ref entry } => put_step(text, number, entry),
     }
 }
 

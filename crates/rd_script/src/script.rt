@@ -9,10 +9,11 @@ ghost use Rattle.rd_script.specs.Replies.{text_of};
 ghost use Rattle.rd_script.specs.Answers.{Answered, AnswersLine};
 ghost use Rattle.rd_script.specs.Script.{WritesAnswer, RunsScript};
 
-use super::answers::{LineAnswer, text_of};
+use super::answers::{LineAnswer, set_text};
 use super::device::{Sink, Source, WriteFault, hand_over};
 use super::faults::ScriptFault;
 use super::line_buffer::{Line, Reading, next_line};
+use super::texts::Text;
 use rd_marks::Book;
 
 /// Runs a script over a book: reads its lines to the end, obeys each when it is complete and writes its answer at once.
@@ -39,23 +40,26 @@ pub fn run<S: Source, K: Sink, const R: usize>(
     }) result }
     ensures start { (book_state book.new).session.start ≡ (book_state book.old).session.start }
 {
+    let mut line = Line::new();
+    let mut text = Text::new();
     for done in 0..u64::MAX {
-        match next_line(reader)? {
+        match next_line(reader, &mut line)? {
             Reading::End => return Ok(done),
-            Reading::Last(line) => {
-                do_line(book, &line, writer)?;
+            Reading::Last => {
+                do_line(book, &line, &mut text, writer)?;
                 return Ok(done + 1);
             }
-            Reading::Ended(line) => do_line(book, &line, writer)?,
+            Reading::Ended => do_line(book, &line, &mut text, writer)?,
         }
     }
     Err(ScriptFault::Read)
 }
 
-/// Does what a line says, and writes its answer.
+/// Does what a line says, and writes its answer by way of the text.
 fn do_line<K: Sink, const R: usize>(
     book: &mut Book<R>,
     line: &Line,
+    text: &mut Text,
     writer: &mut K,
 ) -> Result<(), WriteFault>
     requires { K.has_failed writer.old ≡ false }
@@ -67,7 +71,7 @@ fn do_line<K: Sink, const R: usize>(
     ensures fails { OnErr result (K.has_failed writer.new ≡ true) }
 {
     let answer = obey_line(book, line);
-    write_answer(writer, &answer)
+    write_through(writer, text, &answer)
 }
 
 /// Does what a line says, and answers it.
@@ -97,6 +101,21 @@ pub fn write_answer<K: Sink>(writer: &mut K, answer: &LineAnswer) -> Result<(), 
     ensures works { OnOk result (K.has_failed writer.new ≡ false) }
     ensures fails { OnErr result (K.has_failed writer.new ≡ true) }
 {
-    let text = text_of(answer);
+    write_through(writer, &mut Text::new(), answer)
+}
+
+/// Writes the line of an answer, which is put together in the text's buffer.
+fn write_through<K: Sink>(
+    writer: &mut K,
+    text: &mut Text,
+    answer: &LineAnswer,
+) -> Result<(), WriteFault>
+    requires { K.has_failed writer.old ≡ false }
+    ensures ok { OnOk result (Appends (K.contents writer.old) (K.contents writer.new) (text_of answer.now)) }
+    ensures err { OnErr result (TakesBeginning (K.contents writer.old) (K.contents writer.new) (text_of answer.now)) }
+    ensures works { OnOk result (K.has_failed writer.new ≡ false) }
+    ensures fails { OnErr result (K.has_failed writer.new ≡ true) }
+{
+    set_text(text, answer);
     hand_over(writer, text.as_slice())
 }

@@ -8,7 +8,8 @@ mod steps;
 mod texts;
 mod undoing;
 
-use super::answers::{LineAnswer, text_of};
+use super::answers::{LineAnswer, set_text};
+use super::texts::Text;
 use rd_actor::{Actor, Op, OpReply, Pc};
 use rd_cell::{ArrSlot, Cell, Content, SegName};
 use rd_marks::{MarkName, Reply};
@@ -23,8 +24,10 @@ const LONGEST: SegName = SegName {
 
 /// Compares the line of each answer with its text.
 fn lines_are(rt: &impl Abort, rows: &[(LineAnswer, &str)]) {
+    let mut text = Text::new();
     for (answer, line) in rows {
-        assert_eq!(rt; text_of(answer).as_slice(), line.as_bytes(), "line {line}");
+        set_text(&mut text, answer);
+        assert_eq!(rt; text.as_slice(), line.as_bytes(), "line {line}");
     }
 }
 

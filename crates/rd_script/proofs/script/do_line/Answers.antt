@@ -8,6 +8,6 @@ returns-clause-does g c text is = (
   record { answer = c.obey_line-answer.result; state = book_state c.obey_line-answer.new.book },
   c.obey_line-answer.ensures.answers text is,
   refl,
-  WritesAnswer-from_result (g.K.Sink.contents c.args.writer.now) (g.K.Sink.contents c.write_answer.new.writer) c.obey_line-answer.result c.write_answer.result
-      c.write_answer.ensures.ok c.write_answer.ensures.err,
+  WritesAnswer-from_result (g.K.Sink.contents c.args.writer.now) (g.K.Sink.contents c.write_through.new.writer) c.obey_line-answer.result c.write_through.result
+      c.write_through.ensures.ok c.write_through.ensures.err,
 )

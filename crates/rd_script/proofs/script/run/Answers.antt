@@ -24,7 +24,7 @@ returns-in-End g c =
     let failed = g.S.Source.has_failed c.next_line.new.reader in
     let old = g.S.Source.bytes c.loop-done.reader in
     let new = g.S.Source.bytes c.next_line.new.reader in
-    let read = subst (λ r. Reads old new failed (Ok r)) c.in-End.is c.in_ok-next_line.ensures.reads in
+    let read = subst (λ r. Reads old new failed c.next_line.new.line (Ok r)) c.in-End.is c.in_ok-next_line.ensures.reads in
     record { runs = ran_to_end _ _ _ _ _ _ _ _ _ _ c.loop-done.invariant new failed read.0 read.1 c.in_ok-next_line.ensures.works; start = c.loop-done.invariant.start }
 
 pub returns : goal.returns
@@ -35,10 +35,10 @@ loop-done-preserved g c =
     let failed = g.S.Source.has_failed c.next_line.new.reader in
     let old = g.S.Source.bytes c.loop-done.reader in
     let new = g.S.Source.bytes c.next_line.new.reader in
-    let read = subst (λ r. Reads old new failed (Ok r)) c.in-Ended.is c.in_ok-next_line.ensures.reads in
+    let read = subst (λ r. Reads old new failed c.next_line.new.line (Ok r)) c.in-Ended.is c.in_ok-next_line.ensures.reads in
     let did = c.in_ok-do_line-in-Ended.ensures.does read.text read.held in
     goes_on _ _ _ _ _ _ _ _ _ _ c.loop-done.invariant new (g.K.Sink.contents c.do_line-in-Ended.new.writer)
-    failed (g.K.Sink.has_failed c.do_line-in-Ended.new.writer) c.in-Ended.line read did.0 did.1
+    failed (g.K.Sink.has_failed c.do_line-in-Ended.new.writer) c.next_line.new.line read did.0 did.1
     (book_state c.do_line-in-Ended.new.book)
     did.2 did.3 c.in_ok-next_line.ensures.works c.in_ok-do_line-in-Ended.ensures.works c.in_ok-do_line-in-Ended.ensures.start
 
@@ -47,11 +47,11 @@ returns-in-Last g c =
     let failed = g.S.Source.has_failed c.next_line.new.reader in
     let old = g.S.Source.bytes c.loop-done.reader in
     let new = g.S.Source.bytes c.next_line.new.reader in
-    let last = subst (λ r. Reads old new failed (Ok r)) c.in-Last.is c.in_ok-next_line.ensures.reads in
+    let last = subst (λ r. Reads old new failed c.next_line.new.line (Ok r)) c.in-Last.is c.in_ok-next_line.ensures.reads in
     let did = c.in_ok-do_line-in-Last.ensures.does last.read.text last.read.held in
     record {
       runs = ran_to_last _ _ _ _ _ _ _ _ _ _ c.loop-done.invariant new (g.K.Sink.contents c.do_line.new.writer)
-          failed (g.K.Sink.has_failed c.do_line.new.writer) c.in-Last.line last did.0 did.1
+          failed (g.K.Sink.has_failed c.do_line.new.writer) c.next_line.new.line last did.0 did.1
           (book_state c.do_line.new.book) did.2 did.3 c.in_ok-next_line.ensures.works c.in_ok-do_line-in-Last.ensures.works;
       start = c.in_ok-do_line-in-Last.ensures.start ∙ c.loop-done.invariant.start;
     }
@@ -61,11 +61,11 @@ returns-in_err-do_line-in-Last g c =
     let failed = g.S.Source.has_failed c.next_line.new.reader in
     let old = g.S.Source.bytes c.loop-done.reader in
     let new = g.S.Source.bytes c.next_line.new.reader in
-    let last = subst (λ r. Reads old new failed (Ok r)) c.in-Last.is c.in_ok-next_line.ensures.reads in
+    let last = subst (λ r. Reads old new failed c.next_line.new.line (Ok r)) c.in-Last.is c.in_ok-next_line.ensures.reads in
     let did = c.in_err-do_line-in-Last.ensures.does last.read.text last.read.held in
     let stopped =
     stopped_at_last_write _ _ _ _ _ _ _ _ _ _ c.loop-done.invariant new (g.K.Sink.contents c.do_line.new.writer)
-    failed (g.K.Sink.has_failed c.do_line.new.writer) c.in-Last.line last did.0 did.1
+    failed (g.K.Sink.has_failed c.do_line.new.writer) c.next_line.new.line last did.0 did.1
     (book_state c.do_line.new.book) did.2 did.3 c.in_ok-next_line.ensures.works c.in_err-do_line-in-Last.ensures.fails in
     record { runs = RunsScript-at_fault _ _ _ _ Write c.from_residual-in_err-do_line-in-Last.result c.from_residual-in_err-do_line-in-Last.ensures.1 stopped; start = c.in_err-do_line-in-Last.ensures.start ∙ c.loop-done.invariant.start }
 
@@ -74,10 +74,10 @@ returns-in_err-do_line-in-Ended g c =
     let failed = g.S.Source.has_failed c.next_line.new.reader in
     let old = g.S.Source.bytes c.loop-done.reader in
     let new = g.S.Source.bytes c.next_line.new.reader in
-    let read = subst (λ r. Reads old new failed (Ok r)) c.in-Ended.is c.in_ok-next_line.ensures.reads in
+    let read = subst (λ r. Reads old new failed c.next_line.new.line (Ok r)) c.in-Ended.is c.in_ok-next_line.ensures.reads in
     let did = c.in_err-do_line-in-Ended.ensures.does read.text read.held in
     let stopped =
     stopped_at_write _ _ _ _ _ _ _ _ _ _ c.loop-done.invariant new (g.K.Sink.contents c.do_line-in-Ended.new.writer)
-    failed (g.K.Sink.has_failed c.do_line-in-Ended.new.writer) c.in-Ended.line read did.0 did.1
+    failed (g.K.Sink.has_failed c.do_line-in-Ended.new.writer) c.next_line.new.line read did.0 did.1
     (book_state c.do_line-in-Ended.new.book) did.2 did.3 c.in_ok-next_line.ensures.works c.in_err-do_line-in-Ended.ensures.fails in
     record { runs = RunsScript-at_fault _ _ _ _ Write c.from_residual-in_err-do_line-in-Ended.result c.from_residual-in_err-do_line-in-Ended.ensures.1 stopped; start = c.in_err-do_line-in-Ended.ensures.start ∙ c.loop-done.invariant.start }
