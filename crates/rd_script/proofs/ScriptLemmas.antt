@@ -17,10 +17,10 @@ use Rattle.rd_script.specs.Script.{WritesAnswer, HasReport, Devices, RanToEnd, S
 use Rattle.rd_script.proofs.ResultLemmas.{Err-from_error}
 use Rattle.rd_script.proofs.KnownLemmas.{Consumes-nil, Consumes-join, Appends-nil, Appends-join}
 
--- an answer was written, or a beginning of it, by the result
-pub WritesAnswer-from_result : (old new : Option (List ℕ)) (answer : LineAnswer) (r : Result (Unit {0}) WriteFault) → OnOk r (Appends old new (text_of answer)) → OnErr r (TakesBeginning old new (text_of answer)) → WritesAnswer old new answer r
-WritesAnswer-from_result old new answer (Ok x) h k = h
-WritesAnswer-from_result old new answer (Err x) h k = k
+-- the text of an answer was written, or a beginning of it, by the result
+pub WritesAnswer-from_text : (old new : Option (List ℕ)) (answer : LineAnswer) (text : List ℕ) (r : Result (Unit {0}) WriteFault) → text ≡ text_of answer → OnOk r (Appends old new text) → OnErr r (TakesBeginning old new text) → WritesAnswer old new answer r
+WritesAnswer-from_text old new answer text (Ok x) is h k = subst (λ t. Appends old new t) is h
+WritesAnswer-from_text old new answer text (Err x) is h k = subst (λ t. TakesBeginning old new t) is k
 
 -- a line feed ends the first line
 lines-first : (text rest : List ℕ) → IsOneLine text → lines_of (text ++ 10 ∷ rest) ≡ text ∷ lines_of rest

@@ -2,7 +2,8 @@
 //!
 //! A run puts all of its answers together in one buffer, so that none is made anew for each.
 
-ghost use Rattle.std.specs.Prelude.{◌≡◌, ◌≤◌, ◌++◌, length};
+ghost use Rattle.std.specs.Prelude.{◌≡◌, ◌≤◌, [], ◌∷◌, ◌++◌, length};
+ghost use Rattle.rd_script.specs.declared.answers.LineAnswer.TheVariants.{Reply as Replied};
 ghost use Rattle.rd_script.specs.Puts.{Puts};
 ghost use Rattle.rd_script.specs.Replies.{trace_step_words, busy_words, fault_words, words_of, text_of};
 
@@ -58,6 +59,22 @@ pub fn set_text(text: &mut Text, answer: &LineAnswer)
 {
     text.clear();
     put_answer(text, answer);
+    end_line(text);
+}
+
+/// Makes the text the line of a reply, with its line feed, whatever it was before.
+pub fn set_reply(text: &mut Text, reply: &Reply)
+    ensures { text.new.items ≡ text_of (Replied reply.now) }
+{
+    text.clear();
+    put_reply(text, reply);
+    end_line(text);
+}
+
+/// Puts the line feed behind the text.
+fn end_line(text: &mut Text)
+    ensures { Puts text.old.items text.new.items (10 ∷ []) }
+{
     put(text, b"\n");
 }
 

@@ -9,7 +9,7 @@ ghost use Rattle.rd_script.specs.Replies.{text_of};
 ghost use Rattle.rd_script.specs.Answers.{Answered, AnswersLine};
 ghost use Rattle.rd_script.specs.Script.{WritesAnswer, RunsScript};
 
-use super::answers::{LineAnswer, set_text};
+use super::answers::{LineAnswer, set_reply, set_text};
 use super::device::{Sink, Source, WriteFault, hand_over};
 use super::faults::ScriptFault;
 use super::line_buffer::{Line, Reading, next_line};
@@ -70,21 +70,22 @@ fn do_line<K: Sink, const R: usize>(
     ensures works { OnOk result (K.has_failed writer.new ≡ false) }
     ensures fails { OnErr result (K.has_failed writer.new ≡ true) }
 {
-    let answer = obey_line(book, line);
-    write_through(writer, text, &answer)
+    answer_line(book, line, text);
+    hand_over(writer, text.as_slice())
 }
 
-/// Does what a line says, and answers it.
-pub fn obey_line<const R: usize>(book: &mut Book<R>, line: &Line) -> LineAnswer
-    ensures answers { (text : List ℕ) → Holds line.now text →
-        AnswersLine R (book_state book.old) text (record { answer = result; state = book_state book.new }) }
+/// Does what a line says, and makes the text the line of its answer.
+fn answer_line<const R: usize>(book: &mut Book<R>, line: &Line, text: &mut Text)
+    ensures answers { (said : List ℕ) → Holds line.now said → (answered : Answered)
+        × AnswersLine R (book_state book.old) said answered × (answered.state ≡ book_state book.new)
+        × (text.new.items ≡ text_of answered.answer) }
     ensures start { (book_state book.new).session.start ≡ (book_state book.old).session.start }
 {
     match line.command() {
-        Err(fault) => LineAnswer::Unread(fault),
+        Err(fault) => set_text(text, &LineAnswer::Unread(fault)),
         Ok(command) => match book.obey(command) {
-            Err(refusal) => LineAnswer::Refused(refusal),
-            Ok(reply) => LineAnswer::Reply(reply),
+            Err(refusal) => set_text(text, &LineAnswer::Refused(refusal)),
+            Ok(reply) => set_reply(text, &reply),
         },
     }
 }
@@ -101,21 +102,7 @@ pub fn write_answer<K: Sink>(writer: &mut K, answer: &LineAnswer) -> Result<(), 
     ensures works { OnOk result (K.has_failed writer.new ≡ false) }
     ensures fails { OnErr result (K.has_failed writer.new ≡ true) }
 {
-    write_through(writer, &mut Text::new(), answer)
-}
-
-/// Writes the line of an answer, which is put together in the text's buffer.
-fn write_through<K: Sink>(
-    writer: &mut K,
-    text: &mut Text,
-    answer: &LineAnswer,
-) -> Result<(), WriteFault>
-    requires { K.has_failed writer.old ≡ false }
-    ensures ok { OnOk result (Appends (K.contents writer.old) (K.contents writer.new) (text_of answer.now)) }
-    ensures err { OnErr result (TakesBeginning (K.contents writer.old) (K.contents writer.new) (text_of answer.now)) }
-    ensures works { OnOk result (K.has_failed writer.new ≡ false) }
-    ensures fails { OnErr result (K.has_failed writer.new ≡ true) }
-{
-    set_text(text, answer);
+    let mut text = Text::new();
+    set_text(&mut text, answer);
     hand_over(writer, text.as_slice())
 }
