@@ -106,18 +106,18 @@ pub(crate) fn redo_first<const R: usize>(
     ensures state { state_of (journal_of (model world.new) entries.new.items live.new)
         ≡ forward_one (state_of (journal_of (model world.old) entries.old.items live.old)) }
 {
-    let entry = step_again(world, entries[*live]);
+    let entry = step_again(world, &entries[*live]);
     entries[*live] = entry;
     *live += 1;
 }
 
 /// Makes the step of a record again, which is known not to be refused, and answers the record that it leaves now.
-fn step_again<const R: usize>(world: &mut World<R>, stored: Entry) -> Entry
-    requires goes { IsOk (step R (model world.old) stored.event) }
-    requires room { IsTrue (makes_segment R (model world.old) stored.event) → 1 ≤ room world.old stored.event.actor }
-    ensures same { step R (model world.old) stored.event ≡ Ok (record { world = model world.new; entry = result }) }
+fn step_again<const R: usize>(world: &mut World<R>, stored: &Entry) -> Entry
+    requires goes { IsOk (step R (model world.old) stored.now.event) }
+    requires room { IsTrue (makes_segment R (model world.old) stored.now.event) → 1 ≤ room world.old stored.now.event.actor }
+    ensures same { step R (model world.old) stored.now.event ≡ Ok (record { world = model world.new; entry = result }) }
     ensures room { (m : ℕ) → room world.old m
-        ≤ room world.new m + room_used (makes_segment R (model world.old) stored.event) stored.event.actor m }
+        ≤ room world.new m + room_used (makes_segment R (model world.old) stored.now.event) stored.now.event.actor m }
 {
     match world.step(stored.event) {
         Err(_) => unreachable!(),
