@@ -3,7 +3,7 @@
 //! A run puts all of its answers together in one buffer, so that none is made anew for each.
 
 ghost use Rattle.std.specs.Prelude.{◌≡◌, ◌≤◌, [], ◌∷◌, ◌++◌, length};
-ghost use Rattle.rd_script.specs.declared.answers.LineAnswer.TheVariants.{Reply as Replied};
+ghost use Rattle.rd_script.specs.declared.answers.LineAnswer.TheVariants.{Reply as Replied, Refused, Unread};
 ghost use Rattle.rd_script.specs.Puts.{Puts};
 ghost use Rattle.rd_script.specs.Replies.{trace_step_words, busy_words, fault_words, words_of, text_of};
 
@@ -68,6 +68,26 @@ pub fn set_reply(text: &mut Text, reply: &Reply)
 {
     text.clear();
     put_reply(text, reply);
+    end_line(text);
+}
+
+/// Makes the text the line of a command's refusal, with its line feed, whatever it was before.
+pub fn set_refused(text: &mut Text, refusal: Refusal)
+    ensures { text.new.items ≡ text_of (Refused refusal) }
+{
+    text.clear();
+    put(text, b"refused ");
+    put_refusal(text, refusal);
+    end_line(text);
+}
+
+/// Makes the text the line of a line's fault, with its line feed, whatever it was before.
+pub fn set_unread(text: &mut Text, fault: LineFault)
+    ensures { text.new.items ≡ text_of (Unread fault) }
+{
+    text.clear();
+    put(text, b"refused ");
+    put(text, name_of_fault(fault));
     end_line(text);
 }
 

@@ -9,7 +9,7 @@ ghost use Rattle.rd_script.specs.Replies.{text_of};
 ghost use Rattle.rd_script.specs.Answers.{Answered, AnswersLine};
 ghost use Rattle.rd_script.specs.Script.{WritesAnswer, RunsScript};
 
-use super::answers::{LineAnswer, set_reply, set_text};
+use super::answers::{LineAnswer, set_refused, set_reply, set_text, set_unread};
 use super::device::{Sink, Source, WriteFault, hand_over};
 use super::faults::ScriptFault;
 use super::line_buffer::{Line, Reading, next_line};
@@ -82,9 +82,9 @@ fn answer_line<const R: usize>(book: &mut Book<R>, line: &Line, text: &mut Text)
     ensures start { (book_state book.new).session.start ≡ (book_state book.old).session.start }
 {
     match line.command() {
-        Err(fault) => set_text(text, &LineAnswer::Unread(fault)),
+        Err(fault) => set_unread(text, fault),
         Ok(command) => match book.obey(command) {
-            Err(refusal) => set_text(text, &LineAnswer::Refused(refusal)),
+            Err(refusal) => set_refused(text, refusal),
             Ok(reply) => set_reply(text, &reply),
         },
     }

@@ -8,7 +8,7 @@ returns-in-Err-clause-answers g c said held = (
   record { answer = Unread c.in-Err.fault; state = book_state c.args.book.now },
   record { said = Err c.in-Err.fault; says = c.in-Err.ensures said held; answers = refl },
   refl,
-  c.set_text.ensures,
+  c.set_unread.ensures,
 )
 
 pub returns-in-Err-obey-clause-answers : goal.returns-in-Err-obey-clause-answers
@@ -16,7 +16,7 @@ returns-in-Err-obey-clause-answers g c said held = (
   record { answer = Refused c.in-Err-obey.refusal; state = book_state c.obey.new.self },
   record { said = Ok c.in-Ok.command; says = c.in-Ok.ensures said held; answers = (Err c.in-Err-obey.refusal, c.in-Err-obey.ensures.answer, refl) },
   refl,
-  c.set_text-in-Err-obey.ensures,
+  c.set_refused.ensures,
 )
 
 pub returns-in-Ok-obey-clause-answers : goal.returns-in-Ok-obey-clause-answers
