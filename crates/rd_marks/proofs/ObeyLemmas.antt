@@ -4,7 +4,7 @@ use Rattle.rd_step.specs.Prelude.{Refusal, NoMark, MarkTaken, TooManyMarks, OpRe
 use Rattle.rd_step.specs.declared.entries.Event.{Event}
 use Rattle.rd_journal.specs.State.{State, apply, reply_to, undo, undo_at, roll, back, redo, forward}
 use Rattle.rd_marks.specs.declared.commands.Command.{Command}
-use Rattle.rd_marks.specs.declared.commands.Command.TheVariants.{Enq, Deq, ArrayEnq, ArrayDeq, Go, Starve, Undo, UndoAt, Roll, Back, Redo, Forward, Mark as MarkAs, DropMark, GotoMark, Marks, MarkAt, Same, Show, Actor, Step, Len}
+use Rattle.rd_marks.specs.declared.commands.Command.TheVariants.{Enq, Deq, ArrayEnq, ArrayDeq, Go, Starve, Undo, UndoAt, Roll, Back, Redo, Forward, Mark as MarkAs, DropMark, GotoMark, Marks, MarkAt, Same, Origin, Writer, Show, Actor, Step, Len}
 use Rattle.rd_marks.specs.declared.replies.Reply.{Reply}
 use Rattle.rd_marks.specs.Books.{Mark, BookState, with_marks, mark, drop_mark, at_events, goto_mark, marked_events, without_mark}
 use Rattle.rd_marks.specs.NameBytes.{MOST_MARKS}
@@ -95,6 +95,8 @@ obeyed_leaves R b (GotoMark name) a h = made_leaves b _ (goto_mark b name) a (go
 obeyed_leaves R b Marks a h = as_this b a _ (query_leaves b _) h
 obeyed_leaves R b (MarkAt i) a h = as_this b a _ (query_leaves b _) h
 obeyed_leaves R b (Same one other) a h = as_this b a _ (query_leaves b _) h.answers
+obeyed_leaves R b (Origin k) a h = as_this b a _ (query_leaves b _) h
+obeyed_leaves R b (Writer place) a h = as_this b a _ (query_leaves b _) h
 obeyed_leaves R b (Show place) a h = as_this b a _ (query_leaves b _) h
 obeyed_leaves R b (Actor n) a h = as_this b a _ (query_leaves b _) h
 obeyed_leaves R b (Step k) a h = as_this b a _ (query_leaves b _) h

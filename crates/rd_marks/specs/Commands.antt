@@ -7,11 +7,13 @@ use Rattle.rd_step.specs.declared.entries.Event.{Event}
 use Rattle.rd_step.specs.declared.entries.Entry.{Entry}
 use Rattle.rd_journal.specs.Room.{MayBeOutOfMemory}
 use Rattle.rd_journal.specs.State.{State, run_of, apply, reply_to, undo, undo_at, roll, back, redo, forward}
+use Rattle.rd_origin.specs.Origins.{origin_in}
+use Rattle.rd_origin.specs.Writers.{last_writer_in}
 use Rattle.rd_marks.specs.declared.names.MarkName.{MarkName}
 use Rattle.rd_marks.specs.declared.commands.Command.{Command}
-use Rattle.rd_marks.specs.declared.commands.Command.TheVariants.{Enq, Deq, ArrayEnq, ArrayDeq, Go, Starve, Undo, UndoAt, Roll, Back, Redo, Forward, Mark, DropMark, GotoMark, Marks, MarkAt, Same, Show, Actor, Step, Len}
+use Rattle.rd_marks.specs.declared.commands.Command.TheVariants.{Enq, Deq, ArrayEnq, ArrayDeq, Go, Starve, Undo, UndoAt, Roll, Back, Redo, Forward, Mark, DropMark, GotoMark, Marks, MarkAt, Same, Origin, Writer, Show, Actor, Step, Len}
 use Rattle.rd_marks.specs.declared.replies.Reply.{Reply}
-use Rattle.rd_marks.specs.declared.replies.Reply.TheVariants.{Applied, At, Marked, Dropped, Marks as MarksAre, Mark as MarkIs, Same as SameIs, Content as ContentIs, Actor as ActorIs, Step as StepIs}
+use Rattle.rd_marks.specs.declared.replies.Reply.TheVariants.{Applied, At, Marked, Dropped, Marks as MarksAre, Mark as MarkIs, Same as SameIs, Origin as OriginIs, Writer as WriterIs, Content as ContentIs, Actor as ActorIs, Step as StepIs}
 use Rattle.rd_marks.specs.Books.{BookState, with_session, marked_events, mark, drop_mark, goto_mark, mark_at, AnswersSame}
 
 -- what a command answers, and the state after it
@@ -114,6 +116,8 @@ IsObeyed R b (GotoMark name) answered = IsMade b (λ c. step_counts c.session) (
 IsObeyed R b Marks answered = answered ≡ query_answer b (Ok (MarksAre (length b.marks)))
 IsObeyed R b (MarkAt i) answered = answered ≡ query_answer b (reply_with (λ m. MarkIs m.0 m.1) (mark_at b i))
 IsObeyed R b (Same one other) answered = IsCompared R b one other answered
+IsObeyed R b (Origin k) answered = answered ≡ query_answer b (reply_with (λ found. OriginIs found) (origin_in k (run_of R b.session)))
+IsObeyed R b (Writer place) answered = answered ≡ query_answer b (reply_with (λ writer. WriterIs writer) (last_writer_in place (run_of R b.session)))
 IsObeyed R b (Show place) answered = answered ≡ query_answer b (reply_with (λ content. ContentIs content) (content_in place (run_of R b.session)))
 IsObeyed R b (Actor n) answered = answered ≡ query_answer b (reply_with (λ words. ActorIs words) (words_in n (run_of R b.session)))
 IsObeyed R b (Step k) answered = answered ≡ query_answer b (reply_with (λ entry. StepIs k entry) (record_in k (run_of R b.session)))

@@ -42,6 +42,10 @@ pub enum Command {
     MarkAt(u64),
     /// `same NAME NAME`: whether the steps of two bookmarks are causally equivalent.
     Same(MarkName, MarkName),
+    /// `origin K`: where the value came from that the live step of this number took.
+    Origin(u64),
+    /// `writer PLACE`: the live step that last wrote the place, or one that overlaps it.
+    Writer(Place),
     /// `show PLACE`: what is at the place.
     Show(Place),
     /// `actor A`: the words of the actor.

@@ -5,7 +5,7 @@ ghost use Rattle.std.specs.Prelude.{◌≡◌, ◌⊎◌, length, take, Ok, IsOk
 use super::books::Book;
 use super::commands::Command;
 use super::names::MarkName;
-use super::queries::{content, record, step_counts, words};
+use super::queries::{content, origin_shown, record, step_counts, words, writer_shown};
 use super::replies::Reply;
 use rd_actor::Act;
 use rd_cell::Refusal;
@@ -79,6 +79,8 @@ impl<const R: usize> Book<R> {
             Command::Marks => Ok(Reply::Marks(self.marks())),
             Command::MarkAt(i) => self.mark_shown(i),
             Command::Same(one, other) => self.compared(one, other),
+            Command::Origin(k) => origin_shown(self.session(), k),
+            Command::Writer(place) => writer_shown(self.session(), place),
             Command::Show(place) => content(self.session(), place),
             Command::Actor(actor) => words(self.session(), actor),
             Command::Step(number) => record(self.session(), number),

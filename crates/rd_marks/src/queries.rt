@@ -3,12 +3,15 @@
 ghost use Rattle.std.specs.Prelude.{◌≡◌, Ok, Err, OnOk, IfErr};
 ghost use Rattle.rd_journal.specs.Sessions.{state};
 ghost use Rattle.rd_journal.specs.State.{run_of};
+ghost use Rattle.rd_origin.specs.Origins.{origin_in};
+ghost use Rattle.rd_origin.specs.Writers.{last_writer_in};
 ghost use Rattle.rd_marks.specs.Commands.{step_counts, reply_with, content_in, words_in, record_in};
-ghost use Rattle.rd_marks.specs.declared.replies.Reply.TheVariants.{Content as ContentIs, Actor as ActorIs, Step as StepIs};
+ghost use Rattle.rd_marks.specs.declared.replies.Reply.TheVariants.{Origin as OriginIs, Writer as WriterIs, Content as ContentIs, Actor as ActorIs, Step as StepIs};
 
 use super::replies::Reply;
 use rd_cell::{Place, Refusal};
 use rd_journal::Session;
+use rd_origin::{last_writer, origin};
 
 /// How many steps are live and how many are undone.
 pub(crate) fn step_counts<const R: usize>(session: &Session<R>) -> Reply
@@ -31,6 +34,29 @@ pub(crate) fn counts_after<const R: usize>(
     match done {
         Ok(()) => Ok(step_counts(session)),
         Err(refusal) => Err(refusal),
+    }
+}
+
+/// Where the value came from that the live step of this number took.
+pub(crate) fn origin_shown<const R: usize>(session: &Session<R>, k: u64) -> Result<Reply, Refusal>
+    ensures { result ≡ reply_with (λ found. OriginIs found) (origin_in k (run_of R (state session.now))) }
+{
+    match origin(session, k) {
+        Err(refusal) => Err(refusal),
+        Ok(found) => Ok(Reply::Origin(found)),
+    }
+}
+
+/// The live step that last wrote a place.
+pub(crate) fn writer_shown<const R: usize>(
+    session: &Session<R>,
+    place: Place,
+) -> Result<Reply, Refusal>
+    ensures { result ≡ reply_with (λ writer. WriterIs writer) (last_writer_in place (run_of R (state session.now))) }
+{
+    match last_writer(session, place) {
+        Err(refusal) => Err(refusal),
+        Ok(writer) => Ok(Reply::Writer(writer)),
     }
 }
 

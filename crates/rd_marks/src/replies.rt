@@ -3,6 +3,7 @@
 use super::names::MarkName;
 use rd_actor::{Actor, OpReply};
 use rd_cell::Content;
+use rd_origin::Origin;
 use rd_step::Entry;
 
 /// A reply. It is plain data: copying it takes no memory.
@@ -37,6 +38,10 @@ pub enum Reply {
     },
     /// Whether the steps of two bookmarks are causally equivalent.
     Same(bool),
+    /// Where a value that was taken came from.
+    Origin(Origin),
+    /// The number of the live step that last wrote a place, or none.
+    Writer(Option<u64>),
     /// What is at a place.
     Content(Content),
     /// The words of an actor.

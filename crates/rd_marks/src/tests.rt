@@ -2,6 +2,7 @@
 
 mod limits;
 mod lists;
+mod origins;
 
 use super::books::Book;
 use super::commands::Command;

@@ -1,17 +1,17 @@
 -- The keywords and the kinds of places, one by one.
 use Rattle.std.proofs.Common.{◌≢◌, ℕ, ◌<◌, lit<, List, [], ◌∷◌, slice_index_or}
 use Rattle.rd_script.specs.declared.keywords.Keyword.{Keyword}
-use Rattle.rd_script.specs.declared.keywords.Keyword.TheVariants.{Go, Len, Enq, Deq, Undo, Redo, Back, Forward, Roll, Step, Show, Actor, Starve, Mark, Goto, Drop, Same, Marks, MarkAt, ArrayEnq, ArrayDeq}
+use Rattle.rd_script.specs.declared.keywords.Keyword.TheVariants.{Go, Len, Enq, Deq, Undo, Redo, Back, Forward, Roll, Step, Show, Actor, Starve, Mark, Goto, Drop, Same, Origin, Writer, Marks, MarkAt, ArrayEnq, ArrayDeq}
 use Rattle.rd_script.specs.declared.kinds.PlaceKind.{PlaceKind}
 use Rattle.rd_script.specs.declared.kinds.PlaceKind.TheVariants.{QHead as QHeadWord, QTail as QTailWord, Head as HeadOf, Tail as TailOf, Next as NextOf, Cell as CellWord, Whole as WholeWord, ArrHead as ArrHeadWord, ArrTail as ArrTailWord, ArrCell as ArrCellWord}
 use Rattle.rd_script.specs.Words.{keyword_text, kind_text}
 
 -- all keywords, in the order in which they are tried
 abbrev pub keywords : List Keyword
-keywords = Go ∷ Len ∷ Enq ∷ Deq ∷ Undo ∷ Redo ∷ Back ∷ Forward ∷ Roll ∷ Step ∷ Show ∷ Actor ∷ Starve ∷ Mark ∷ Goto ∷ Drop ∷ Same ∷ Marks ∷ MarkAt ∷ ArrayEnq ∷ ArrayDeq ∷ []
+keywords = Go ∷ Len ∷ Enq ∷ Deq ∷ Undo ∷ Redo ∷ Back ∷ Forward ∷ Roll ∷ Step ∷ Show ∷ Actor ∷ Starve ∷ Mark ∷ Goto ∷ Drop ∷ Same ∷ Origin ∷ Writer ∷ Marks ∷ MarkAt ∷ ArrayEnq ∷ ArrayDeq ∷ []
 
 -- a word that is none of them is no keyword
-pub none_of_all : (word : List ℕ) → ((k : ℕ) → k < 21 → word ≢ keyword_text (slice_index_or keywords k Go)) → (keyword : Keyword) → word ≢ keyword_text keyword
+pub none_of_all : (word : List ℕ) → ((k : ℕ) → k < 23 → word ≢ keyword_text (slice_index_or keywords k Go)) → (keyword : Keyword) → word ≢ keyword_text keyword
 none_of_all word none Go = none 0 (lit< tt)
 none_of_all word none Len = none 1 (lit< tt)
 none_of_all word none Enq = none 2 (lit< tt)
@@ -29,10 +29,12 @@ none_of_all word none Mark = none 13 (lit< tt)
 none_of_all word none Goto = none 14 (lit< tt)
 none_of_all word none Drop = none 15 (lit< tt)
 none_of_all word none Same = none 16 (lit< tt)
-none_of_all word none Marks = none 17 (lit< tt)
-none_of_all word none MarkAt = none 18 (lit< tt)
-none_of_all word none ArrayEnq = none 19 (lit< tt)
-none_of_all word none ArrayDeq = none 20 (lit< tt)
+none_of_all word none Origin = none 17 (lit< tt)
+none_of_all word none Writer = none 18 (lit< tt)
+none_of_all word none Marks = none 19 (lit< tt)
+none_of_all word none MarkAt = none 20 (lit< tt)
+none_of_all word none ArrayEnq = none 21 (lit< tt)
+none_of_all word none ArrayDeq = none 22 (lit< tt)
 
 -- all kinds of places, in the order in which they are tried
 abbrev pub kinds : List PlaceKind

@@ -3,11 +3,11 @@ use Rattle.std.proofs.Common.{◌≡◌, ℕ, true, true≢false, List, [], ◌�
 use Rattle.rd_marks.specs.NameBytes.{is_mark_name}
 use Rattle.rd_marks.specs.Names.{bytes_of}
 use Rattle.rd_marks.specs.declared.commands.Command.{Command}
-use Rattle.rd_marks.specs.declared.commands.Command.TheVariants.{Enq, Deq, ArrayEnq, ArrayDeq, Go, Starve, Undo, UndoAt, Roll, Back, Redo, Forward, Mark, DropMark, GotoMark, Marks, MarkAt, Same, Show, Actor, Step, Len}
+use Rattle.rd_marks.specs.declared.commands.Command.TheVariants.{Enq, Deq, ArrayEnq, ArrayDeq, Go, Starve, Undo, UndoAt, Roll, Back, Redo, Forward, Mark, DropMark, GotoMark, Marks, MarkAt, Same, Origin, Writer, Show, Actor, Step, Len}
 use Rattle.rd_script.specs.declared.faults.LineFault.{LineFault}
 use Rattle.rd_script.specs.declared.faults.LineFault.TheVariants.{BadLine, LineTooLong, BadName}
 use Rattle.rd_script.specs.declared.keywords.Keyword.{Keyword}
-use Rattle.rd_script.specs.declared.keywords.Keyword.TheVariants.{Enq as EnqWord, Deq as DeqWord, ArrayEnq as ArrayEnqWord, ArrayDeq as ArrayDeqWord, Go as GoWord, Starve as StarveWord, Undo as UndoWord, Roll as RollWord, Back as BackWord, Redo as RedoWord, Forward as ForwardWord, Mark as MarkWord, Drop as DropWord, Goto as GotoWord, Marks as MarksWord, MarkAt as MarkAtWord, Same as SameWord, Show as ShowWord, Actor as ActorWord, Step as StepWord, Len as LenWord}
+use Rattle.rd_script.specs.declared.keywords.Keyword.TheVariants.{Enq as EnqWord, Deq as DeqWord, ArrayEnq as ArrayEnqWord, ArrayDeq as ArrayDeqWord, Go as GoWord, Starve as StarveWord, Undo as UndoWord, Roll as RollWord, Back as BackWord, Redo as RedoWord, Forward as ForwardWord, Mark as MarkWord, Drop as DropWord, Goto as GotoWord, Marks as MarksWord, MarkAt as MarkAtWord, Same as SameWord, Origin as OriginWord, Writer as WriterWord, Show as ShowWord, Actor as ActorWord, Step as StepWord, Len as LenWord}
 use Rattle.rd_script.specs.Spelling.{IsInRange}
 use Rattle.rd_script.specs.Words.{keyword_of, arguments_of, IsBadName, AreBadNames, NamesBadly, NamesAlone, NamesTwo, ReadsCommand}
 use Rattle.rd_script.proofs.SpellingLemmas.{is_word_of_name}
@@ -40,6 +40,8 @@ names_of (GotoMark name) small = (bytes_of name, small, refl)
 names_of Marks small = tt
 names_of (MarkAt i) small = tt
 names_of (Same one other) small = (bytes_of one, bytes_of other, small.0, small.1, refl)
+names_of (Origin k) small = tt
+names_of (Writer place) small = tt
 names_of (Show place) small = tt
 names_of (Actor actor) small = tt
 names_of (Step k) small = tt
@@ -114,6 +116,8 @@ names_are_good RedoWord words bad names = bad
 names_are_good ForwardWord words bad names = bad
 names_are_good MarksWord words bad names = bad
 names_are_good MarkAtWord words bad names = bad
+names_are_good OriginWord words bad names = bad
+names_are_good WriterWord words bad names = bad
 names_are_good ShowWord words bad names = bad
 names_are_good ActorWord words bad names = bad
 names_are_good StepWord words bad names = bad

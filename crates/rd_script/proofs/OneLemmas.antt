@@ -7,9 +7,9 @@ use Rattle.std.proofs.lemmas.Fmt.{decimal_injective}
 use Rattle.rd_step.specs.Prelude.{SegName, Place, QHead, QTail, Head, Tail, Next, CellAt, WholeOf, ArrHead, ArrTail, ArrCell}
 use Rattle.rd_marks.specs.declared.names.MarkName.{MarkName}
 use Rattle.rd_marks.specs.declared.commands.Command.{Command}
-use Rattle.rd_marks.specs.declared.commands.Command.TheVariants.{Enq, Deq, ArrayEnq, ArrayDeq, Go, Starve, Undo, UndoAt, Roll, Back, Redo, Forward, Mark, DropMark, GotoMark, Marks, MarkAt, Same, Show, Actor, Step, Len}
+use Rattle.rd_marks.specs.declared.commands.Command.TheVariants.{Enq, Deq, ArrayEnq, ArrayDeq, Go, Starve, Undo, UndoAt, Roll, Back, Redo, Forward, Mark, DropMark, GotoMark, Marks, MarkAt, Same, Origin, Writer, Show, Actor, Step, Len}
 use Rattle.rd_script.specs.declared.keywords.Keyword.{Keyword}
-use Rattle.rd_script.specs.declared.keywords.Keyword.TheVariants.{Enq as EnqWord, Deq as DeqWord, ArrayEnq as ArrayEnqWord, ArrayDeq as ArrayDeqWord, Go as GoWord, Starve as StarveWord, Undo as UndoWord, Roll as RollWord, Back as BackWord, Redo as RedoWord, Forward as ForwardWord, Mark as MarkWord, Drop as DropWord, Goto as GotoWord, Marks as MarksWord, MarkAt as MarkAtWord, Same as SameWord, Show as ShowWord, Actor as ActorWord, Step as StepWord, Len as LenWord}
+use Rattle.rd_script.specs.declared.keywords.Keyword.TheVariants.{Enq as EnqWord, Deq as DeqWord, ArrayEnq as ArrayEnqWord, ArrayDeq as ArrayDeqWord, Go as GoWord, Starve as StarveWord, Undo as UndoWord, Roll as RollWord, Back as BackWord, Redo as RedoWord, Forward as ForwardWord, Mark as MarkWord, Drop as DropWord, Goto as GotoWord, Marks as MarksWord, MarkAt as MarkAtWord, Same as SameWord, Origin as OriginWord, Writer as WriterWord, Show as ShowWord, Actor as ActorWord, Step as StepWord, Len as LenWord}
 use Rattle.rd_script.specs.Contents.{name_words}
 use Rattle.rd_script.specs.Spelling.{IsInRange, IsPlaceInRange, IsSegmentInRange, AreOne}
 use Rattle.rd_script.specs.Texts.{yes_or_no}
@@ -43,6 +43,8 @@ found_itself GotoWord = refl
 found_itself MarksWord = refl
 found_itself MarkAtWord = refl
 found_itself SameWord = refl
+found_itself OriginWord = refl
+found_itself WriterWord = refl
 found_itself ShowWord = refl
 found_itself ActorWord = refl
 found_itself StepWord = refl
@@ -76,6 +78,8 @@ IsOf GotoWord c = (a : MarkName) × (c ≡ GotoMark a)
 IsOf MarksWord c = c ≡ Marks
 IsOf MarkAtWord c = (a : ℕ) × (c ≡ MarkAt a)
 IsOf SameWord c = (a : MarkName) × (b : MarkName) × (c ≡ Same a b)
+IsOf OriginWord c = (a : ℕ) × (c ≡ Origin a)
+IsOf WriterWord c = (a : Place) × (c ≡ Writer a)
 IsOf ShowWord c = (a : Place) × (c ≡ Show a)
 IsOf ActorWord c = (a : ℕ) × (c ≡ Actor a)
 IsOf StepWord c = (a : ℕ) × (c ≡ Step a)
@@ -101,6 +105,8 @@ own (GotoMark name) = (name, refl)
 own Marks = refl
 own (MarkAt i) = (i, refl)
 own (Same one other) = (one, other, refl)
+own (Origin k) = (k, refl)
+own (Writer place) = (place, refl)
 own (Show place) = (place, refl)
 own (Actor actor) = (actor, refl)
 own (Step k) = (k, refl)
@@ -277,6 +283,13 @@ one_command c (Same one other) small below k e =
     let o = of SameWord c k in
     let words = sym (ap arguments_of o.2) ∙ e in
     subst (λ z. AreOne z (Same one other)) (sym o.2) (ap (word_at 0) words, ap (word_at 1) words)
+one_command c (Origin m) small below k e =
+    let o = of OriginWord c k in
+    subst (λ z. AreOne z (Origin m)) (sym o.1) (ap Origin (same_number o.0 m (subst IsInRange o.1 small) below (ap (word_at 0) (sym (ap arguments_of o.1) ∙ e))))
+one_command c (Writer q) small below k e =
+    let o = of WriterWord c k in
+    let words = sym (ap arguments_of o.1) ∙ e in
+    subst (λ z. AreOne z (Writer q)) (sym o.1) (ap Writer (same_place o.0 q (subst IsInRange o.1 small) below (one_kind (kind_of o.0) (kind_of q) (ap (word_at 0) words)) (ap (drop 1) words)))
 one_command c (Show q) small below k e =
     let o = of ShowWord c k in
     let words = sym (ap arguments_of o.1) ∙ e in

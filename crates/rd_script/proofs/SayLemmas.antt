@@ -7,7 +7,7 @@ use Rattle.rd_marks.specs.declared.commands.Command.{Command}
 use Rattle.rd_script.specs.declared.faults.LineFault.{LineFault}
 use Rattle.rd_script.specs.declared.faults.LineFault.TheVariants.{BadLine, LineTooLong, BadName}
 use Rattle.rd_script.specs.declared.keywords.Keyword.{Keyword}
-use Rattle.rd_script.specs.declared.keywords.Keyword.TheVariants.{Enq, Deq, ArrayEnq, ArrayDeq, Go, Starve, Undo, Roll, Back, Redo, Forward, Mark, Drop, Goto, Marks, MarkAt, Same, Show, Actor, Step, Len}
+use Rattle.rd_script.specs.declared.keywords.Keyword.TheVariants.{Enq, Deq, ArrayEnq, ArrayDeq, Go, Starve, Undo, Roll, Back, Redo, Forward, Mark, Drop, Goto, Marks, MarkAt, Same, Origin, Writer, Show, Actor, Step, Len}
 use Rattle.rd_script.specs.Spelling.{most_line_bytes, spelling, IsInRange, AreOne, is_word, IsMisnamed, Says}
 use Rattle.rd_script.specs.Words.{keyword_text, keyword_of, arguments_of, IsBadName, AreBadNames, NamesBadly, ReadsCommand}
 use Rattle.rd_script.proofs.NameReadLemmas.{not_badly_named}
@@ -94,6 +94,8 @@ misnamed_line line Redo words e bad = absurd bad
 misnamed_line line Forward words e bad = absurd bad
 misnamed_line line Marks words e bad = absurd bad
 misnamed_line line MarkAt words e bad = absurd bad
+misnamed_line line Origin words e bad = absurd bad
+misnamed_line line Writer words e bad = absurd bad
 misnamed_line line Show words e bad = absurd bad
 misnamed_line line Actor words e bad = absurd bad
 misnamed_line line Step words e bad = absurd bad

@@ -7,8 +7,8 @@ use Rattle.rd_step.specs.Prelude.{SegName, Place, QHead, QTail, Head, Tail, Next
 use Rattle.rd_marks.specs.NameBytes.{is_mark_name, is_name_byte, MOST_NAME_BYTES}
 use Rattle.rd_marks.specs.Names.{bytes_of}
 use Rattle.rd_marks.specs.declared.commands.Command.{Command}
-use Rattle.rd_marks.specs.declared.commands.Command.TheVariants.{Enq, Deq, ArrayEnq, ArrayDeq, Go, Starve, Undo, UndoAt, Roll, Back, Redo, Forward, Mark, DropMark, GotoMark, Marks, MarkAt, Same, Show, Actor, Step, Len}
-use Rattle.rd_script.specs.Contents.{name_words}
+use Rattle.rd_marks.specs.declared.commands.Command.TheVariants.{Enq, Deq, ArrayEnq, ArrayDeq, Go, Starve, Undo, UndoAt, Roll, Back, Redo, Forward, Mark, DropMark, GotoMark, Marks, MarkAt, Same, Origin, Writer, Show, Actor, Step, Len}
+use Rattle.rd_script.specs.Contents.{name_words, place_words}
 use Rattle.rd_script.specs.Texts.{yes_or_no}
 use Rattle.rd_script.specs.Spelling.{spelling, IsInRange, IsPlaceInRange, IsSegmentInRange, is_word}
 use Rattle.rd_script.specs.Words.{keyword_text, keyword_of, kind_text, kind_of, place_arguments, arguments_of}
@@ -19,17 +19,17 @@ abbrev pub words_of : Command → List (List ℕ)
 words_of c = keyword_text (keyword_of c) ∷ arguments_of c
 
 -- a place is its words, joined by spaces
-show_join : (p : Place) → spelling (Show p) ≡ join_with_byte 32 (words_of (Show p))
-show_join QHead = refl
-show_join QTail = refl
-show_join (Head s) = refl
-show_join (Tail s) = refl
-show_join (Next s) = refl
-show_join (CellAt s i) = refl
-show_join (WholeOf s) = refl
-show_join ArrHead = refl
-show_join ArrTail = refl
-show_join (ArrCell i) = refl
+place_join : (p : Place) → place_words p ≡ join_with_byte 32 (kind_text (kind_of p) ∷ place_arguments p)
+place_join QHead = refl
+place_join QTail = refl
+place_join (Head s) = refl
+place_join (Tail s) = refl
+place_join (Next s) = refl
+place_join (CellAt s i) = refl
+place_join (WholeOf s) = refl
+place_join ArrHead = refl
+place_join ArrTail = refl
+place_join (ArrCell i) = refl
 
 -- a command is its words, joined by spaces
 pub spelling_join : (c : Command) → spelling c ≡ join_with_byte 32 (words_of c)
@@ -51,7 +51,9 @@ spelling_join (GotoMark name) = refl
 spelling_join Marks = refl
 spelling_join (MarkAt i) = refl
 spelling_join (Same one other) = ap (λ rest. codes "same " ++ rest) (append_assoc (bytes_of one) (32 ∷ []) (bytes_of other))
-spelling_join (Show place) = show_join place
+spelling_join (Origin k) = refl
+spelling_join (Writer place) = ap (λ rest. codes "writer " ++ rest) (place_join place)
+spelling_join (Show place) = ap (λ rest. codes "show " ++ rest) (place_join place)
 spelling_join (Actor actor) = refl
 spelling_join (Step k) = refl
 spelling_join Len = refl
@@ -133,6 +135,8 @@ free_words (GotoMark name) small = (refl, (free_name (bytes_of name) small, tt))
 free_words Marks small = (refl, tt)
 free_words (MarkAt i) small = (refl, (free_number i small, tt))
 free_words (Same one other) small = (refl, (free_name (bytes_of one) small.0, (free_name (bytes_of other) small.1, tt)))
+free_words (Origin k) small = (refl, (free_number k small, tt))
+free_words (Writer place) small = (refl, free_place place small)
 free_words (Show place) small = (refl, free_place place small)
 free_words (Actor actor) small = (refl, (free_byte actor small, tt))
 free_words (Step k) small = (refl, (free_number k small, tt))
@@ -179,6 +183,8 @@ few_arguments (GotoMark name) = omega arith
 few_arguments Marks = omega arith
 few_arguments (MarkAt i) = omega arith
 few_arguments (Same one other) = omega arith
+few_arguments (Origin k) = omega arith
+few_arguments (Writer place) = omega (arith, few_place_words place)
 few_arguments (Show place) = omega (arith, few_place_words place)
 few_arguments (Actor actor) = omega arith
 few_arguments (Step k) = omega arith

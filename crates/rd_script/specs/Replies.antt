@@ -1,10 +1,12 @@
 -- The text of each answer: one line, ended by a line feed.
 use Rattle.std.specs.Prelude.{ℕ, List, [], ◌∷◌, ◌++◌, codes, Option, Some, None}
+use Rattle.std.specs.Fmt.{decimal}
 use Rattle.rd_step.specs.Prelude.{OpReply, Refusal}
 use Rattle.rd_step.specs.Parts.{flaw_number}
+use Rattle.rd_origin.specs.declared.origins.Origin.{Origin as OriginOf}
 use Rattle.rd_marks.specs.Names.{bytes_of}
 use Rattle.rd_marks.specs.declared.replies.Reply.{Reply}
-use Rattle.rd_marks.specs.declared.replies.Reply.TheVariants.{Applied, At, Marked, Dropped, Marks, Mark, Same, Content, Actor, Step}
+use Rattle.rd_marks.specs.declared.replies.Reply.TheVariants.{Applied, At, Marked, Dropped, Marks, Mark, Same, Origin, Writer, Content, Actor, Step}
 use Rattle.rd_script.specs.declared.answers.LineAnswer.{LineAnswer}
 use Rattle.rd_script.specs.declared.answers.LineAnswer.TheVariants.{Reply as Replied, Refused, Unread, Stopped, Flawed, HistoryFull, BadTrace, TraceStep, TicketsEnded, Busy, NotRecorded}
 use Rattle.rd_script.specs.Texts.{spaced_number, yes_or_no}
@@ -18,6 +20,21 @@ abbrev pub event_reply : Option OpReply → List ℕ
 event_reply None = []
 event_reply (Some reply) = codes " " ++ reply_word reply
 
+-- the number of a step, or a hyphen if there is none
+abbrev pub step_number : Option ℕ → List ℕ
+step_number None = codes "-"
+step_number (Some k) = decimal k
+
+-- the steps that a taken value came by
+abbrev pub origin_words : OriginOf → List ℕ
+origin_words origin =
+    codes "origin call " ++ step_number origin.call ++ codes " put " ++ step_number origin.put ++ codes " take" ++ spaced_number origin.take
+
+-- the step that last wrote a place, if one did
+abbrev pub writer_words : Option ℕ → List ℕ
+writer_words None = codes "writer none"
+writer_words (Some k) = codes "writer" ++ spaced_number k
+
 -- the words of a reply
 abbrev pub reply_words : Reply → List ℕ
 reply_words (Applied step reply) = codes "ok" ++ spaced_number step ++ event_reply reply
@@ -27,6 +44,8 @@ reply_words Dropped = codes "dropped"
 reply_words (Marks count) = codes "marks" ++ spaced_number count
 reply_words (Mark name len) = codes "mark " ++ bytes_of name ++ spaced_number len
 reply_words (Same same) = codes "same " ++ yes_or_no same
+reply_words (Origin origin) = origin_words origin
+reply_words (Writer writer) = writer_words writer
 reply_words (Content content) = codes "is " ++ content_words content
 reply_words (Actor actor) = actor_words actor
 reply_words (Step number entry) = step_words number entry

@@ -7,7 +7,7 @@ use Rattle.rd_actor.specs.declared.actors.Act.TheVariants.{Enq as CallsEnq, Deq 
 use Rattle.rd_marks.specs.NameBytes.{is_mark_name}
 use Rattle.rd_marks.specs.Names.{bytes_of}
 use Rattle.rd_marks.specs.declared.commands.Command.{Command}
-use Rattle.rd_marks.specs.declared.commands.Command.TheVariants.{Enq, Deq, ArrayEnq, ArrayDeq, Go, Starve, Undo, UndoAt, Roll, Back, Redo, Forward, Mark, DropMark, GotoMark, Marks, MarkAt, Same, Show, Actor, Step, Len}
+use Rattle.rd_marks.specs.declared.commands.Command.TheVariants.{Enq, Deq, ArrayEnq, ArrayDeq, Go, Starve, Undo, UndoAt, Roll, Back, Redo, Forward, Mark, DropMark, GotoMark, Marks, MarkAt, Same, Origin, Writer, Show, Actor, Step, Len}
 use Rattle.rd_script.specs.declared.faults.LineFault.{LineFault}
 use Rattle.rd_script.specs.declared.faults.LineFault.TheVariants.{BadLine, LineTooLong, BadName}
 use Rattle.rd_script.specs.Texts.{spaced_number}
@@ -38,6 +38,8 @@ spelling (GotoMark name) = codes "goto " ++ bytes_of name
 spelling Marks = codes "marks"
 spelling (MarkAt i) = codes "markat" ++ spaced_number i
 spelling (Same one other) = codes "same " ++ bytes_of one ++ codes " " ++ bytes_of other
+spelling (Origin k) = codes "origin" ++ spaced_number k
+spelling (Writer place) = codes "writer " ++ place_words place
 spelling (Show place) = codes "show " ++ place_words place
 spelling (Actor actor) = codes "actor" ++ spaced_number actor
 spelling (Step k) = codes "step" ++ spaced_number k
@@ -74,6 +76,8 @@ IsInRange (DropMark name) = is_mark_name (bytes_of name) ≡ true
 IsInRange (GotoMark name) = is_mark_name (bytes_of name) ≡ true
 IsInRange (MarkAt i) = i < 2 ^ 64
 IsInRange (Same one other) = (is_mark_name (bytes_of one) ≡ true) × (is_mark_name (bytes_of other) ≡ true)
+IsInRange (Origin k) = k < 2 ^ 64
+IsInRange (Writer place) = IsPlaceInRange place
 IsInRange (Show place) = IsPlaceInRange place
 IsInRange (Actor actor) = actor < 256
 IsInRange (Step k) = k < 2 ^ 64

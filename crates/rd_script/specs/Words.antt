@@ -7,11 +7,11 @@ use Rattle.rd_marks.specs.NameBytes.{is_mark_name}
 use Rattle.rd_marks.specs.Names.{bytes_of}
 use Rattle.rd_marks.specs.declared.names.MarkName.{MarkName}
 use Rattle.rd_marks.specs.declared.commands.Command.{Command}
-use Rattle.rd_marks.specs.declared.commands.Command.TheVariants.{Enq, Deq, ArrayEnq, ArrayDeq, Go, Starve, Undo, UndoAt, Roll, Back, Redo, Forward, Mark, DropMark, GotoMark, Marks, MarkAt, Same, Show, Actor, Step, Len}
+use Rattle.rd_marks.specs.declared.commands.Command.TheVariants.{Enq, Deq, ArrayEnq, ArrayDeq, Go, Starve, Undo, UndoAt, Roll, Back, Redo, Forward, Mark, DropMark, GotoMark, Marks, MarkAt, Same, Origin, Writer, Show, Actor, Step, Len}
 use Rattle.rd_script.specs.declared.faults.LineFault.{LineFault}
 use Rattle.rd_script.specs.declared.faults.LineFault.TheVariants.{BadLine, LineTooLong, BadName}
 use Rattle.rd_script.specs.declared.keywords.Keyword.{Keyword}
-use Rattle.rd_script.specs.declared.keywords.Keyword.TheVariants.{Enq as EnqWord, Deq as DeqWord, ArrayEnq as ArrayEnqWord, ArrayDeq as ArrayDeqWord, Go as GoWord, Starve as StarveWord, Undo as UndoWord, Roll as RollWord, Back as BackWord, Redo as RedoWord, Forward as ForwardWord, Mark as MarkWord, Drop as DropWord, Goto as GotoWord, Marks as MarksWord, MarkAt as MarkAtWord, Same as SameWord, Show as ShowWord, Actor as ActorWord, Step as StepWord, Len as LenWord}
+use Rattle.rd_script.specs.declared.keywords.Keyword.TheVariants.{Enq as EnqWord, Deq as DeqWord, ArrayEnq as ArrayEnqWord, ArrayDeq as ArrayDeqWord, Go as GoWord, Starve as StarveWord, Undo as UndoWord, Roll as RollWord, Back as BackWord, Redo as RedoWord, Forward as ForwardWord, Mark as MarkWord, Drop as DropWord, Goto as GotoWord, Marks as MarksWord, MarkAt as MarkAtWord, Same as SameWord, Origin as OriginWord, Writer as WriterWord, Show as ShowWord, Actor as ActorWord, Step as StepWord, Len as LenWord}
 use Rattle.rd_script.specs.declared.kinds.PlaceKind.{PlaceKind}
 use Rattle.rd_script.specs.declared.kinds.PlaceKind.TheVariants.{QHead as QHeadWord, QTail as QTailWord, Head as HeadOf, Tail as TailOf, Next as NextOf, Cell as CellWord, Whole as WholeWord, ArrHead as ArrHeadWord, ArrTail as ArrTailWord, ArrCell as ArrCellWord}
 use Rattle.rd_script.specs.Texts.{yes_or_no}
@@ -37,6 +37,8 @@ keyword_text GotoWord = codes "goto"
 keyword_text MarksWord = codes "marks"
 keyword_text MarkAtWord = codes "markat"
 keyword_text SameWord = codes "same"
+keyword_text OriginWord = codes "origin"
+keyword_text WriterWord = codes "writer"
 keyword_text ShowWord = codes "show"
 keyword_text ActorWord = codes "actor"
 keyword_text StepWord = codes "step"
@@ -62,6 +64,8 @@ keyword_of (GotoMark name) = GotoWord
 keyword_of Marks = MarksWord
 keyword_of (MarkAt i) = MarkAtWord
 keyword_of (Same one other) = SameWord
+keyword_of (Origin k) = OriginWord
+keyword_of (Writer place) = WriterWord
 keyword_of (Show place) = ShowWord
 keyword_of (Actor actor) = ActorWord
 keyword_of (Step k) = StepWord
@@ -120,6 +124,8 @@ arguments_of (DropMark name) = bytes_of name ∷ []
 arguments_of (GotoMark name) = bytes_of name ∷ []
 arguments_of (MarkAt i) = decimal i ∷ []
 arguments_of (Same one other) = bytes_of one ∷ bytes_of other ∷ []
+arguments_of (Origin k) = decimal k ∷ []
+arguments_of (Writer place) = kind_text (kind_of place) ∷ place_arguments place
 arguments_of (Show place) = kind_text (kind_of place) ∷ place_arguments place
 arguments_of (Actor actor) = decimal actor ∷ []
 arguments_of (Step k) = decimal k ∷ []

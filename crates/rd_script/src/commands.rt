@@ -102,6 +102,8 @@ fn nameless(keyword: Keyword, words: &[&[u8]]) -> Option<Command>
         Keyword::Forward => Command::Forward(number_alone(words)?),
         Keyword::Marks => bare(words, Command::Marks)?,
         Keyword::MarkAt => Command::MarkAt(number_alone(words)?),
+        Keyword::Origin => Command::Origin(number_alone(words)?),
+        Keyword::Writer => Command::Writer(place_in(words)?),
         Keyword::Show => Command::Show(place_in(words)?),
         Keyword::Actor => Command::Actor(byte_alone(words)?),
         Keyword::Step => Command::Step(number_alone(words)?),

@@ -41,6 +41,10 @@ pub enum Keyword {
     MarkAt,
     /// `same`
     Same,
+    /// `origin`
+    Origin,
+    /// `writer`
+    Writer,
     /// `show`
     Show,
     /// `actor`
@@ -53,7 +57,7 @@ pub enum Keyword {
 
 impl Keyword {
     /// All keywords; those that scripts have most come first.
-    const ALL: [Keyword; 21] = [
+    const ALL: [Keyword; 23] = [
         Keyword::Go,
         Keyword::Len,
         Keyword::Enq,
@@ -71,6 +75,8 @@ impl Keyword {
         Keyword::Goto,
         Keyword::Drop,
         Keyword::Same,
+        Keyword::Origin,
+        Keyword::Writer,
         Keyword::Marks,
         Keyword::MarkAt,
         Keyword::ArrayEnq,
@@ -112,6 +118,8 @@ impl Keyword {
             Keyword::Marks => b"marks",
             Keyword::MarkAt => b"markat",
             Keyword::Same => b"same",
+            Keyword::Origin => b"origin",
+            Keyword::Writer => b"writer",
             Keyword::Show => b"show",
             Keyword::Actor => b"actor",
             Keyword::Step => b"step",

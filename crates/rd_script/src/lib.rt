@@ -29,11 +29,12 @@ mod texts;
 pub mod whole_texts;
 mod words;
 
-pub use answers::LineAnswer;
+pub use answers::{LineAnswer, set_text};
 pub use commands::command_in;
 pub use device::{ReadFault, ReadSource, Sink, Source, WriteFault, WriteSink};
 pub use faults::{LineFault, ScriptFault};
 pub use script::{run, write_answer};
+pub use texts::{MOST_BYTES, Text};
 pub use whole_texts::lines;
 
 #[cfg(test)]

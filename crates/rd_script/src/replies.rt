@@ -3,15 +3,16 @@
 ghost use Rattle.std.specs.Prelude.{◌≡◌, ◌≤◌, ◌++◌, length};
 ghost use Rattle.rd_marks.specs.Names.{bytes_of};
 ghost use Rattle.rd_script.specs.Puts.{Puts};
-ghost use Rattle.rd_script.specs.Replies.{event_reply, reply_words};
+ghost use Rattle.rd_script.specs.Replies.{event_reply, step_number, origin_words, writer_words, reply_words};
 
 use super::actors::put_actor;
 use super::contents::put_content;
-use super::numbers::{put_counted, put_spaced, yes_or_no};
+use super::numbers::{put_counted, put_number, put_spaced, yes_or_no};
 use super::steps::{put_call_reply, put_step};
 use super::texts::{Text, put};
 use rd_actor::OpReply;
 use rd_marks::{MarkName, Reply};
+use rd_origin::Origin;
 
 /// Puts the words of a reply behind the text.
 pub fn put_reply(text: &mut Text, reply: &Reply)
@@ -39,6 +40,8 @@ pub fn put_reply(text: &mut Text, reply: &Reply)
             put(text, b"same ");
             put(text, yes_or_no(same));
         }
+        Reply::Origin(origin) => put_origin(text, origin),
+        Reply::Writer(writer) => put_writer(text, writer),
         Reply::Content(content) => {
             put(text, b"is ");
             put_content(text, content);
@@ -59,6 +62,40 @@ fn put_event_reply(text: &mut Text, reply: Option<OpReply>)
             put(text, b" ");
             put_call_reply(text, reply);
         }
+    }
+}
+
+/// Puts the steps of an origin behind the text.
+fn put_origin(text: &mut Text, origin: Origin)
+    ensures words { Puts text.old.items text.new.items (origin_words origin) }
+    ensures len { length (origin_words origin) ≤ 90 }
+{
+    put(text, b"origin call ");
+    put_step_number(text, origin.call);
+    put(text, b" put ");
+    put_step_number(text, origin.put);
+    put_counted(text, b" take", origin.take);
+}
+
+/// Puts the number of a step, or a hyphen for none, behind the text.
+fn put_step_number(text: &mut Text, step: Option<u64>)
+    ensures words { Puts text.old.items text.new.items (step_number step) }
+    ensures len { length (step_number step) ≤ 20 }
+{
+    match step {
+        None => put(text, b"-"),
+        Some(number) => put_number(text, number),
+    }
+}
+
+/// Puts the last writer of a place behind the text.
+fn put_writer(text: &mut Text, writer: Option<u64>)
+    ensures words { Puts text.old.items text.new.items (writer_words writer) }
+    ensures len { length (writer_words writer) ≤ 27 }
+{
+    match writer {
+        None => put(text, b"writer none"),
+        Some(step) => put_counted(text, b"writer", step),
     }
 }
 

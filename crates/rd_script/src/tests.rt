@@ -1,6 +1,7 @@
 //! The line of each kind of answer, and of the longest ones: rows of an answer and its text. And scripts beside their reports.
 
 mod devices;
+mod origins;
 mod queues;
 mod refusals;
 mod runs;

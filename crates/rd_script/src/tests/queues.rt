@@ -134,6 +134,10 @@ fn a_dequeue_that_waited_takes_its_value_in_a_second_pass(rt: HostRuntime) -> Re
                 "ok 37\nok 38\nok 39\nok 40\nok 41 value 7\n",
             ),
             ("show qhead\n", "is 0.0\n"),
+            ("origin 41\n", "origin call 12 put 18 take 41\n"),
+            ("writer next 1.0\n", "writer 34\n"),
+            ("writer whole 2.0\n", "refused 19 NoSuchPlace\n"),
+            ("writer qhead\n", "writer none\n"),
         ],
     );
     Ok(())
@@ -160,7 +164,15 @@ fn a_dequeue_marks_a_cell_unsafe_that_holds_an_earlier_value(rt: HostRuntime) ->
                 "deq 3\ngo 3\ngo 3\ngo 3\ngo 3\ngo 3\n",
                 "ok 23\nok 24\nok 25\nok 26\nok 27\nok 28\n",
             ),
-            ("go 2\ngo 2\ngo 2\n", "ok 29\nok 30\nok 31 value 7\n"),
+            (
+                "go 2\ngo 2\nwriter cell 0.0 0\n",
+                "ok 29\nok 30\nwriter 28\n",
+            ),
+            ("go 2\n", "ok 31 value 7\n"),
+            ("origin 31\n", "origin call 1 put 7 take 31\n"),
+            ("origin 30\n", "refused 18 NotATake\n"),
+            ("origin 32\n", "refused 12 NoSuchStep 31\n"),
+            ("writer cell 0.0 0\n", "writer 31\n"),
             ("show cell 0.0 0\n", "is 0 2 none\n"),
             ("undo 28\n", "refused 13 Depended 29\n"),
         ],
