@@ -1,5 +1,5 @@
 #!/usr/bin/env python3
-"""Runs the built program itself: its options, exit statuses, standard error, and the script of each lesson.
+"""Runs the built program itself: its options, exit statuses, standard error, traces, and the script of each lesson.
 
     python3 bench/statuses.py --program PATH
 
@@ -11,6 +11,7 @@ import argparse
 import os
 import subprocess
 import sys
+import tempfile
 from pathlib import Path
 
 LESSONS = Path(__file__).resolve().parent.parent / "crates" / "lessons" / "data"
@@ -34,6 +35,34 @@ ROWS = [
     ("no file", ["run"], "", 2, "", "error: "),
     ("a file that is not there", ["run", "/nowhere/script"], "", 1, "", "lcrqdb: refused 24 Read\n"),
     ("a folder for a file", ["run", "/"], "", 1, "", "lcrqdb: refused 24 Read\n"),
+    ("a trace behind the report", ["run", "-", "--trace"], "deq 1\n", 0, 'ok 1\n{"actors":4,"events":[["deq",1]],"ring":4,', ""),
+    ("a trace that is not there", ["load", "/nowhere/trace"], "len\n", 1, "", "lcrqdb: refused 24 Read\n"),
+    ("no trace", ["load"], "", 2, "", "error: "),
+    ("a trace with a ring", ["load", "a", "--ring", "2"], "", 2, "", "error: "),
+]
+
+# A name, the text of a trace, standard input, the status, standard output and standard error.
+TRACES = [
+    ("a trace", '{"actors":4,"events":[["enq",1,7],["go",1]],"ring":4,"version":1}\n', "len\n", 0, "at 2 0\n", ""),
+    ("a trace in another order", '{"version":1, "ring":2, "events":[], "actors":1}', "deq 2\n", 0, "refused 1 NoActor\n", ""),
+    ("half a trace", '{"actors":4,"ev', "len\n", 1, "", "lcrqdb: refused 27 BadTrace\n"),
+    ("a float in a trace", '{"actors":4,"events":[],"ring":4,"version":1.0}', "len\n", 1, "", "lcrqdb: refused 27 BadTrace\n"),
+    (
+        "a refused event",
+        '{"actors":4,"events":[["enq",1,7],["go",1],["starve",1,true]],"ring":4,"version":1}',
+        "len\n",
+        1,
+        "",
+        "lcrqdb: refused 28 TraceStep 3 cause 5 NoChoice\n",
+    ),
+    (
+        "65,536 events",
+        '{"actors":4,"events":[' + ",".join(((['["deq",1]'] + ['["go",1]'] * 11) * 5462)[:65_536]) + '],"ring":4,"version":1}',
+        "len\n",
+        1,
+        "",
+        "lcrqdb: refused 28 TraceStep 65536 cause 9 TooLong\n",
+    ),
 ]
 
 
@@ -47,6 +76,17 @@ def run_row(program: str, row) -> bool:
     _, words, given, status, output, errors = row
     ended = subprocess.run([program, *words], input=given, capture_output=True, text=True, check=False)
     return ended.returncode == status and begins(ended.stdout, output) and begins(ended.stderr, errors)
+
+
+def run_trace(program: str, row) -> bool:
+    """Loads one trace and compares."""
+    _, trace, given, status, output, errors = row
+    with tempfile.NamedTemporaryFile("w", encoding="ascii") as file:
+        file.write(trace)
+        file.flush()
+        words = [program, "load", file.name]
+        ended = subprocess.run(words, input=given, capture_output=True, text=True, check=False)
+    return (ended.returncode, ended.stdout, ended.stderr) == (status, output, errors)
 
 
 def fails_to_write(program: str, output) -> bool:
@@ -77,9 +117,13 @@ def lesson_is_as_its_page_says(program: str, page: Path) -> bool:
     """Whether the replies to a lesson's script are those beside it on its page."""
     text = page.read_text(encoding="utf-8")
     script = page.with_suffix(".script")
-    options = ["--ring", "2"] if "\nRun with: --ring 2\n" in text else []
-    ended = subprocess.run([program, "run", str(script), *options], capture_output=True, text=True, check=False)
-    pairs = zip(script.read_text(encoding="ascii").splitlines(), ended.stdout.splitlines(), strict=True)
+    lines = script.read_text(encoding="ascii")
+    if "\nRun over: " in text:
+        words = ["load", str(page.with_suffix(".trace"))]
+    else:
+        words = ["run", "-", "--ring", "2" if "\nRun with: --ring 2\n" in text else "4"]
+    ended = subprocess.run([program, *words], input=lines, capture_output=True, text=True, check=False)
+    pairs = zip(lines.splitlines(), ended.stdout.splitlines(), strict=True)
     table = "".join(f"| `{line}` | `{reply}` |\n" for line, reply in pairs)
     return ended.returncode == 0 and f"\n| Line | Reply |\n|---|---|\n{table}\n" in text
 
@@ -89,6 +133,7 @@ def main() -> int:
     parser.add_argument("--program", required=True)
     program = parser.parse_args().program
     checks = [(row[0], run_row(program, row)) for row in ROWS]
+    checks += [(row[0], run_trace(program, row)) for row in TRACES]
     checks.append(("a closed pipe", closed_pipe(program)))
     checks.append(("a full device", full_device(program)))
     for script in sorted(LESSONS.glob("*.script")):

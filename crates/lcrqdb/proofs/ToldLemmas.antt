@@ -1,15 +1,15 @@
 -- What the getters of clap's matches of `run` say of the rows.
-use Rattle.std.proofs.Common.{◌≡◌, ◌∙◌, ℕ, ◌<◌, ◌≤◌, Option, None, Some, refl, sym, ap, subst, codes, arith}
+use Rattle.std.proofs.Common.{◌≡◌, ◌∙◌, ℕ, Bool, ◌<◌, ◌≤◌, Option, None, Some, refl, sym, ap, subst, codes, arith}
 use Rattle.std.specs.Prelude.{◌^◌, MatchOption, unwrap_or, ⊤}
 use Rattle.std.specs.Str.Parse.{IsNumeral, digits_value, without_leading_plus}
 use Rattle.clap.specs.Words.{first_of, first_value, found_of, one_of, one_text, rows_of, Text}
 use Rattle.clap.specs.declared.parser.matches.ArgMatches.{ArgMatches}
 use Rattle.clap.proofs.WalkLemmas.{first_value-rows, one_text-rows}
 use Rattle.lcrqdb.specs.declared.options.Options.{Options}
-use Rattle.lcrqdb.specs.declared.options.Options.TheVariants.{Run}
+use Rattle.lcrqdb.specs.declared.options.Options.TheVariants.{Run, Load}
 use Rattle.lcrqdb.specs.declared.options.Ring.{Ring}
-use Rattle.lcrqdb.specs.Options.{ring_text}
-use Rattle.lcrqdb.specs.CommandLine.{IsNumber, TellsRun}
+use Rattle.lcrqdb.specs.Options.{ring_text, choice_text}
+use Rattle.lcrqdb.specs.CommandLine.{IsNumber, TellsRun, TellsLoad}
 
 -- what is nothing is not something
 pub none_some : {X : Type 0} (o : Option X) (x : X) → o ≡ None → o ≡ Some x → ⊥
@@ -41,34 +41,55 @@ same_value m id v w given some = some_same (first_of id (rows_of (found_of m))) 
 
 -- options that rows tell have a file
 pub no_file : (m : ArgMatches) → None ≡ first_value (found_of m) (codes "file") → (o : Options) → TellsRun (rows_of (found_of m)) o → ⊥
-no_file m none (Run file actors ring) tells = no_value m (codes "file") file.now none tells.0
+no_file m none (Run file actors ring trace) tells = no_value m (codes "file") file.now none tells.0
+no_file m none (Load file) tells = tells
 
 -- and a ring
 pub no_ring : (m : ArgMatches) → None ≡ first_value (found_of m) (codes "ring") → (o : Options) → TellsRun (rows_of (found_of m)) o → ⊥
-no_ring m none (Run file actors ring) tells = no_value m (codes "ring") (ring_text ring) none tells.4
+no_ring m none (Run file actors ring trace) tells = no_value m (codes "ring") (ring_text ring) none tells.4
+no_ring m none (Load file) tells = tells
 
 -- of one of the spellings
 pub no_spelling : (m : ArgMatches) (v : Text) → Some v ≡ first_value (found_of m) (codes "ring")
     → ((ring : Ring) → v ≡ ring_text ring → ⊥) → (o : Options) → TellsRun (rows_of (found_of m)) o → ⊥
-no_spelling m v given none (Run file actors ring) tells = none ring (same_value m (codes "ring") v (ring_text ring) given tells.4)
+no_spelling m v given none (Run file actors ring trace) tells = none ring (same_value m (codes "ring") v (ring_text ring) given tells.4)
+no_spelling m v given none (Load file) tells = tells
+
+-- and a choice of the trace
+pub no_trace : (m : ArgMatches) → None ≡ first_value (found_of m) (codes "trace") → (o : Options) → TellsRun (rows_of (found_of m)) o → ⊥
+no_trace m none (Run file actors ring trace) tells = no_value m (codes "trace") (choice_text trace) none tells.5
+no_trace m none (Load file) tells = tells
+
+-- by one of its texts
+pub no_choice : (m : ArgMatches) (v : Text) → Some v ≡ first_value (found_of m) (codes "trace")
+    → ((choice : Bool) → v ≡ choice_text choice → ⊥) → (o : Options) → TellsRun (rows_of (found_of m)) o → ⊥
+no_choice m v given none (Run file actors ring trace) tells = none trace (same_value m (codes "trace") v (choice_text trace) given tells.5)
+no_choice m v given none (Load file) tells = tells
 
 -- and a number of actors
 pub no_number : (m : ArgMatches)
     → ((t : Text) → one_text (found_of m) (codes "actors") ≡ Some t → IsNumeral 10 (without_leading_plus t) × (digits_value 10 (without_leading_plus t) < 2 ^ 8) → ⊥)
     → (o : Options) → TellsRun (rows_of (found_of m)) o → ⊥
-no_number m none (Run file actors ring) tells =
+no_number m none (Run file actors ring trace) tells =
     let text = tells.1.0 in
     let few : digits_value 10 (without_leading_plus text) ≤ 16 = subst (λ n. n ≤ 16) (sym tells.1.2.1) tells.3 in
     none text (one_text-rows (found_of m) (codes "actors") ∙ tells.1.1) (tells.1.2.0, omega (arith, few))
+no_number m none (Load file) tells = tells
 
 -- that is from 1 to 16
 pub out_of_range : (m : ArgMatches) (n : ℕ)
     → ((t : Text) → one_text (found_of m) (codes "actors") ≡ Some t → n ≡ digits_value 10 (without_leading_plus t))
     → ((1 ≤ n) → (n ≤ 16) → ⊥) → (o : Options) → TellsRun (rows_of (found_of m)) o → ⊥
-out_of_range m n read out (Run file actors ring) tells =
+out_of_range m n read out (Run file actors ring trace) tells =
     let is : n ≡ actors = read tells.1.0 (one_text-rows (found_of m) (codes "actors") ∙ tells.1.1) ∙ tells.1.2.1 in
     out (subst (λ k. 1 ≤ k) (sym is) tells.2) (subst (λ k. k ≤ 16) (sym is) tells.3)
+out_of_range m n read out (Load file) tells = tells
 
 -- a text that a getter gives is in the rows
 pub first_value_is : (m : ArgMatches) (id v : Text) → Some v ≡ first_value (found_of m) id → first_of id (rows_of (found_of m)) ≡ Some v
 first_value_is m id v given = sym (first_value-rows (found_of m) id) ∙ sym given
+
+-- options that the rows of `load` tell have a file
+pub no_load_file : (m : ArgMatches) → None ≡ first_value (found_of m) (codes "file") → (o : Options) → TellsLoad (rows_of (found_of m)) o → ⊥
+no_load_file m none (Run file actors ring trace) tells = tells
+no_load_file m none (Load file) tells = no_value m (codes "file") file.now none tells

@@ -5,14 +5,15 @@ use Rattle.std.specs.Str.Parse.{IsNumeral, digits_value, without_leading_plus}
 use Rattle.clap.specs.Walk.{Row, Rule, Text, first_of, one_of}
 use Rattle.clap.specs.Simple.{App, new_app, new_rule, on_top, subcommand_of, with_rule, with_subcommand}
 use Rattle.clap.specs.Words.{IsAmong, fault_of, kind_of}
+use Rattle.clap.specs.declared.builder.action.ArgAction.TheVariants.{SetTrue}
 use Rattle.clap.specs.declared.builder.value_parser.ValueParser.TheVariants.{Signed, Names}
 use Rattle.clap.specs.declared.error.kind.ErrorKind.{ErrorKind}
 use Rattle.clap.specs.declared.error.kind.ErrorKind.TheVariants.{DisplayHelp, DisplayVersion}
 use Rattle.lcrqdb.specs.declared.options.Options.{Options}
-use Rattle.lcrqdb.specs.declared.options.Options.TheVariants.{Run}
+use Rattle.lcrqdb.specs.declared.options.Options.TheVariants.{Run, Load}
 use Rattle.lcrqdb.specs.declared.options.OptionsFault.{OptionsFault}
 use Rattle.lcrqdb.specs.declared.options.OptionsFault.TheVariants.{Shown, Refused, NoMemory}
-use Rattle.lcrqdb.specs.Options.{ring_text}
+use Rattle.lcrqdb.specs.Options.{ring_text, choice_text}
 
 -- names of values, as clap is given them
 abbrev pub ValueNames : Type 0
@@ -22,7 +23,7 @@ ValueNames = Bor (List (Bor Text))
 abbrev pub IsRings : ValueNames → Type 0
 IsRings names = map (λ name. name.now) names.now ≡ codes "2" ∷ codes "4" ∷ codes "8" ∷ []
 
--- FILE, which has to be there
+-- the file, which has to be there
 abbrev pub file_rule : Rule
 file_rule = record (new_rule (codes "file")) { value_names = 1; required = true }
 
@@ -44,15 +45,29 @@ ring_rule names = record (new_rule (codes "ring")) {
   defaults = codes "4" ∷ [];
 }
 
+-- `--trace`, which takes no value
+abbrev pub trace_rule : Rule
+trace_rule = record (new_rule (codes "trace")) { long = Some (codes "trace"); action = Some SetTrue }
+
+-- the subcommand `run` but for `--trace`: what is run, and over which world
+abbrev pub run_over_app : ValueNames → App
+run_over_app names = with_rule (with_rule (with_rule (new_app (codes "run")) file_rule) actors_rule) (ring_rule names)
+
 -- the subcommand `run`
 abbrev pub run_app : ValueNames → App
-run_app names = with_rule (with_rule (with_rule (new_app (codes "run")) file_rule) actors_rule) (ring_rule names)
+run_app names = with_rule (run_over_app names) trace_rule
+
+-- the subcommand `load`
+abbrev pub load_app : App
+load_app = with_rule (new_app (codes "load")) file_rule
 
 -- the program's command: it has a version, and does nothing without a subcommand
 abbrev pub program_app : ValueNames → App
 program_app names = with_subcommand
+    (with_subcommand
     (on_top (λ s. record s { has_version = true; subcommand_required = true }) (new_app (codes "lcrqdb")))
-    (run_app names).top
+    (run_app names).top)
+    load_app.top
 
 -- the number in decimal digits, which a plus may precede
 abbrev pub IsNumber : Text → ℕ → Type 0
@@ -60,16 +75,23 @@ IsNumber text n = IsNumeral 10 (without_leading_plus text) × (digits_value 10 (
 
 -- what was found for the arguments of `run` tells these options
 abbrev pub TellsRun : List Row → Options → Type 0
-TellsRun rows (Run file actors ring) =
+TellsRun rows (Run file actors ring trace) =
     (first_of (codes "file") rows ≡ Some file.now)
     × ((text : Text) × (one_of (codes "actors") rows ≡ Some text) × IsNumber text actors)
     × (1 ≤ actors) × (actors ≤ 16)
     × (first_of (codes "ring") rows ≡ Some (ring_text ring))
+    × (first_of (codes "trace") rows ≡ Some (choice_text trace))
+TellsRun rows (Load file) = ⊥
+
+-- what was found for the argument of `load` tells these options
+abbrev pub TellsLoad : List Row → Options → Type 0
+TellsLoad rows (Run file actors ring trace) = ⊥
+TellsLoad rows (Load file) = first_of (codes "file") rows ≡ Some file.now
 
 -- the subcommand that was found, with what was found for its arguments, tells these options
 abbrev pub Tells : Option (Text × List Row) → Options → Type 0
 Tells None options = ⊥
-Tells (Some met) options = (met.0 ≡ codes "run") × TellsRun met.1 options
+Tells (Some met) options = ((met.0 ≡ codes "run") × TellsRun met.1 options) ⊎ ((met.0 ≡ codes "load") × TellsLoad met.1 options)
 
 -- the words give these options: clap finds no fault in them, and what it finds tells the options
 pub record Reads (words : List Text) (options : Options) : Type 0 where

@@ -1,5 +1,5 @@
 -- What the command line may ask for.
-use Rattle.std.specs.Prelude.{◌≡◌, ℕ, ⊤, List, codes}
+use Rattle.std.specs.Prelude.{◌≡◌, ◌≤◌, ℕ, ⊤, Bool, true, false, List, codes}
 use Rattle.clap.specs.Words.{kind_of}
 use Rattle.clap.specs.declared.error.Error.{Error}
 use Rattle.clap.specs.declared.error.kind.ErrorKind.{ErrorKind}
@@ -7,7 +7,7 @@ use Rattle.clap.specs.declared.error.kind.ErrorKind.TheVariants.{DisplayHelp, Di
 use Rattle.lcrqdb.specs.declared.options.Ring.{Ring}
 use Rattle.lcrqdb.specs.declared.options.Ring.TheVariants.{Two, Four, Eight}
 use Rattle.lcrqdb.specs.declared.options.Options.{Options}
-use Rattle.lcrqdb.specs.declared.options.Options.TheVariants.{Run}
+use Rattle.lcrqdb.specs.declared.options.Options.TheVariants.{Run, Load}
 use Rattle.lcrqdb.specs.declared.options.OptionsFault.{OptionsFault}
 use Rattle.lcrqdb.specs.declared.options.OptionsFault.TheVariants.{Shown, Refused, NoMemory}
 
@@ -23,9 +23,15 @@ ring_length Two = 2
 ring_length Four = 4
 ring_length Eight = 8
 
--- how many actors the options ask for
-abbrev pub actors_of : Options → ℕ
-actors_of (Run file actors ring) = actors
+-- the text that clap keeps of a flag
+abbrev pub choice_text : Bool → List ℕ
+choice_text true = codes "true"
+choice_text false = codes "false"
+
+-- the number of actors that is asked for is one that a world may have
+abbrev pub AreInRange : Options → Type 0
+AreInRange (Run file actors ring trace) = (1 ≤ actors) × (actors ≤ 16)
+AreInRange (Load file) = ⊤
 
 -- the fault of a command line at which clap fails by an error of this kind
 abbrev pub fault_by : ErrorKind → Error → OptionsFault

@@ -3,16 +3,16 @@
 //! The contracts speak of the command that `clap` is told as a value of its specification (`program_app`), and of what
 //! `clap` makes of that command and the words: the rows of matches, or the kinds of fault that it may name.
 
-ghost use Rattle.std.specs.Prelude.{◌≡◌, ◌≤◌, IfOk, IfErr, IfSome, IsNone, map, false};
+ghost use Rattle.std.specs.Prelude.{◌≡◌, ◌≢◌, IfOk, IfErr, IfSome, IsNone, Bool, map, false};
 ghost use Rattle.clap.specs.Words.{app_of, found_of, kind_of, rows_of, rule_of, subcommand_rows_of};
 ghost use Rattle.clap.specs.declared.builder.command.Command.TheViews.{out-Command};
 ghost use Rattle.clap.specs.declared.error.kind.ErrorKind.TheVariants.{InvalidValue};
-ghost use Rattle.lcrqdb.specs.Options.{IsMistake, actors_of};
-ghost use Rattle.lcrqdb.specs.CommandLine.{IsRings, Tells, TellsRun, Reads, EndsFor, file_rule, actors_rule, ring_rule, run_app, program_app};
+ghost use Rattle.lcrqdb.specs.Options.{IsMistake, AreInRange, choice_text};
+ghost use Rattle.lcrqdb.specs.CommandLine.{IsRings, Tells, TellsRun, TellsLoad, Reads, EndsFor, file_rule, actors_rule, ring_rule, trace_rule, run_over_app, run_app, load_app, program_app};
 
 use super::options::{Options, OptionsFault, Ring};
 use clap::error::ErrorKind;
-use clap::{Arg, ArgMatches, Command, Error, value_parser};
+use clap::{Arg, ArgAction, ArgMatches, Command, Error, value_parser};
 use std::alloc::{AllocError, Global};
 use std::convert::AsStr;
 
@@ -26,7 +26,7 @@ static RINGS: [&str; 3] = ["2", "4", "8"];
 pub fn options<'a, S: AsStr>(alloc: Global, words: &'a [S]) -> Result<Options<'a>, OptionsFault>
     ensures ok { IfOk result (Reads (map S.text words.entry.now)) }
     ensures err { IfErr result (EndsFor (map S.text words.entry.now)) }
-    ensures actors { IfOk result (λ o. (1 ≤ actors_of o) × (actors_of o ≤ 16)) }
+    ensures actors { IfOk result AreInRange }
 {
     let mut command = program(alloc)?;
     let matches = command.try_get_matches_from_mut(words)?;
@@ -65,7 +65,10 @@ fn told<'a>(matches: &ArgMatches<'a>) -> Option<Options<'a>>
     ensures some { IfSome result (Tells (subcommand_rows_of matches.now)) }
     ensures none { IsNone result → (o : Options) → Tells (subcommand_rows_of matches.now) o → ⊥ }
 {
-    told_by_run(matches.subcommand_matches("run")?)
+    match matches.subcommand_matches("run") {
+        Some(run) => told_by_run(run),
+        None => told_by_load(matches.subcommand_matches("load")?),
+    }
 }
 
 /// The options that the matches of `run` tell.
@@ -76,10 +79,37 @@ fn told_by_run<'a>(run: &ArgMatches<'a>) -> Option<Options<'a>>
     let file = run.get_str("file")?;
     let actors = run.get_one::<u8>("actors")?;
     let ring = Ring::of(run.get_str("ring")?)?;
+    let trace = choice_of(run.get_str("trace")?)?;
     if 1 <= actors && actors <= 16 {
-        Some(Options::Run { file, actors, ring })
+        Some(Options::Run {
+            file,
+            actors,
+            ring,
+            trace,
+        })
     } else {
         None
+    }
+}
+
+/// The options that the matches of `load` tell.
+fn told_by_load<'a>(load: &ArgMatches<'a>) -> Option<Options<'a>>
+    ensures some { IfSome result (TellsLoad (rows_of (found_of load.now))) }
+    ensures none { IsNone result → (o : Options) → TellsLoad (rows_of (found_of load.now)) o → ⊥ }
+{
+    let file = load.get_str("file")?;
+    Some(Options::Load { file })
+}
+
+/// The choice that the text of a flag spells.
+fn choice_of(text: &str) -> Option<bool>
+    ensures some { IfSome result (λ choice. text.now ≡ choice_text choice) }
+    ensures none { IsNone result → (choice : Bool) → text.now ≢ choice_text choice }
+{
+    match text {
+        "true" => Some(true),
+        "false" => Some(false),
+        _ => None,
     }
 }
 
@@ -91,7 +121,8 @@ fn program<'a>(alloc: Global) -> Result<Command<'a>, AllocError>
         .version(VERSION)
         .about("A causal reversible debugger for LCRQ")
         .subcommand_required(true)
-        .subcommand(run(alloc)?)
+        .subcommand(run(alloc)?)?
+        .subcommand(load(alloc)?)
 }
 
 /// The subcommand `run`.
@@ -99,21 +130,46 @@ fn run<'a>(alloc: Global) -> Result<Command<'a>, AllocError>
     ensures app { IfOk result (λ c. (names : _) × IsRings names × (app_of c ≡ run_app names)) }
     ensures local { IfOk result (λ c. (out-Command c).has_globals ≡ false) }
 {
+    run_over(alloc)?.arg(trace(alloc))
+}
+
+/// The subcommand `run` but for `--trace`.
+fn run_over<'a>(alloc: Global) -> Result<Command<'a>, AllocError>
+    ensures app { IfOk result (λ c. (names : _) × IsRings names × (app_of c ≡ run_over_app names)) }
+    ensures local { IfOk result (λ c. (out-Command c).has_globals ≡ false) }
+{
     Command::new(alloc, "run")
         .about("Does the lines of a script and writes a reply to each")
-        .arg(file(alloc))?
+        .arg(file(alloc, "FILE").help("The script; - is standard input"))?
         .arg(actors(alloc))?
         .arg(ring(alloc))
 }
 
-/// The argument FILE.
-fn file<'a>(alloc: Global) -> Arg<'a>
+/// The subcommand `load`.
+fn load<'a>(alloc: Global) -> Result<Command<'a>, AllocError>
+    ensures app { IfOk result (λ c. app_of c ≡ load_app) }
+    ensures local { IfOk result (λ c. (out-Command c).has_globals ≡ false) }
+{
+    Command::new(alloc, "load")
+        .about("Does the lines of standard input over the run of a trace")
+        .arg(file(alloc, "TRACE").help("A trace, as run --trace writes it"))
+}
+
+/// The argument that names a file.
+fn file<'a>(alloc: Global, name: &'a str) -> Arg<'a>
     ensures { (rule_of result ≡ file_rule) × (result.global ≡ false) }
 {
-    Arg::new(alloc, "file")
-        .value_name("FILE")
-        .required(true)
-        .help("The script; - is standard input")
+    Arg::new(alloc, "file").value_name(name).required(true)
+}
+
+/// The option `--trace`.
+fn trace<'a>(alloc: Global) -> Arg<'a>
+    ensures { (rule_of result ≡ trace_rule) × (result.global ≡ false) }
+{
+    Arg::new(alloc, "trace")
+        .long("trace")
+        .action(ArgAction::SetTrue)
+        .help("Writes the trace of the run behind its report")
 }
 
 /// The option `--actors`.

@@ -1,7 +1,7 @@
 //! A causal reversible debugger for LCRQ.
 //!
 //! `lcrqdb run FILE` runs a script over a fresh world: one command a line is read, and one reply a line is written to
-//! standard output before the next line is read.
+//! standard output before the next line is read. `lcrqdb load TRACE` runs the script on standard input over the run of a trace.
 #![tactic(auto)]
 
 ghost use Rattle.std.specs.Prelude.{◌≤◌};
@@ -15,29 +15,37 @@ mod tests;
 
 use command_line::{not_text, options};
 use options::{Options, Ring};
-use outcome::{Ending, ProgramFault};
-use program::play;
+use outcome::{ProgramFault, end};
+use program::{play, resume, whole_text};
 use rd_script::{ReadSource, WriteSink};
 use std::alloc::Global;
+use std::fs::File;
 use std::io::{BufReader, ErrorKind, Read};
 use std::process::ExitCode;
 use std::{env, fs};
 
 fn main(rt: HostRuntime) -> ExitCode {
     let outcome = outcome_of(&rt, rt.alloc());
-    Ending::of(&outcome).leave(&mut rt.stdout(), &mut rt.stderr())
+    end(&outcome, &mut rt.stdout(), &mut rt.stderr())
 }
 
 /// Reads the command line and does what it asks for.
 fn outcome_of(rt: &HostRuntime, alloc: Global) -> Result<u64, ProgramFault> {
     let words = words_of(rt, alloc)?;
-    let Options::Run { file, actors, ring } = options(alloc, words.as_slice())?;
-    if file == "-" {
-        return run_reader(rt, alloc, rt.stdin(), actors, ring);
-    }
-    match fs::open(rt, file) {
-        Ok(script) => run_reader(rt, alloc, script, actors, ring),
-        Err(_) => Err(ProgramFault::Read),
+    match options(alloc, words.as_slice())? {
+        Options::Run {
+            file: "-",
+            actors,
+            ring,
+            trace,
+        } => play_reader(rt, alloc, rt.stdin(), actors, ring, trace),
+        Options::Run {
+            file,
+            actors,
+            ring,
+            trace,
+        } => play_reader(rt, alloc, opened(rt, file)?, actors, ring, trace),
+        Options::Load { file } => load_reader(rt, alloc, opened(rt, file)?),
     }
 }
 
@@ -50,26 +58,57 @@ fn words_of(rt: &HostRuntime, alloc: Global) -> Result<Vec<String>, ProgramFault
     }
 }
 
-/// Runs the script that a reader gives. The reader has a buffer, since it is asked for one byte at a time; standard
-/// output has none, so that a reply goes out at once.
-fn run_reader<R: Read + Drop>(
+/// The file of this name, opened for reading.
+fn opened(rt: &HostRuntime, name: &str) -> Result<File, ProgramFault> {
+    match fs::open(rt, name) {
+        Ok(file) => Ok(file),
+        Err(_) => Err(ProgramFault::Read),
+    }
+}
+
+/// Runs the script that a reader gives. Standard output has no buffer, so that a reply goes out at once.
+fn play_reader<R: Read + Drop>(
     rt: &HostRuntime,
     alloc: Global,
     script: R,
     actors: u8,
     ring: Ring,
+    trace: bool,
 ) -> Result<u64, ProgramFault>
     requires some { 1 ≤ actors }
     requires few { actors ≤ 16 }
 {
-    let Ok(input) = BufReader::new(alloc, script) else {
-        return Err(ProgramFault::NoMemory);
-    };
+    let input = buffered(alloc, script)?;
     play(
         alloc,
         &mut ReadSource::new(input),
         &mut WriteSink::new(rt.stdout()),
         actors,
         ring,
+        trace,
     )
+}
+
+/// Loads the trace that a reader gives, and runs the script on standard input over it.
+fn load_reader<R: Read + Drop>(
+    rt: &HostRuntime,
+    alloc: Global,
+    mut trace: R,
+) -> Result<u64, ProgramFault> {
+    let text = whole_text(alloc, &mut trace)?;
+    let input = buffered(alloc, rt.stdin())?;
+    resume(
+        alloc,
+        text.as_slice(),
+        &mut ReadSource::new(input),
+        &mut WriteSink::new(rt.stdout()),
+    )
+}
+
+/// The reader with a buffer before it, since it is asked for one byte at a time.
+fn buffered<R: Read + Drop>(alloc: Global, reader: R) -> Result<BufReader<R>, ProgramFault> {
+    match BufReader::new(alloc, reader) {
+        Ok(input) => Ok(input),
+        Err(_) => Err(ProgramFault::NoMemory),
+    }
 }

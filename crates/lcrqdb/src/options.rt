@@ -45,6 +45,13 @@ pub enum Options<'a> {
         actors: u8,
         /// How many cells its rings have.
         ring: Ring,
+        /// `--trace`: whether the trace of the run follows its report.
+        trace: bool,
+    },
+    /// `load TRACE`: does the lines of standard input over the run of a trace.
+    Load {
+        /// The trace's file.
+        file: &'a str,
     },
 }
 

@@ -4,10 +4,12 @@ ghost use Rattle.std.specs.Prelude.{◌≡◌, OnOk, Err};
 ghost use Rattle.std.specs.Io.KnownBytes.{Appends};
 ghost use Rattle.std.specs.Process.{exit_status};
 ghost use Rattle.lcrqdb.specs.declared.outcome.Message.TheVariants.{Nothing};
-ghost use Rattle.lcrqdb.specs.Outcome.{EndsAs, FailsBy, IsQuiet, IsRefused, IsShown, IsText, program_fault_of};
+ghost use Rattle.lcrqdb.specs.Outcome.{EndsAs, Leaves, FailsBy, IsQuiet, IsRefused, IsShown, IsText, error_line, program_fault_of};
 
 use super::options::OptionsFault;
 use clap::Error as Mistake;
+use rd_cell::Refusal;
+use rd_script::{LineAnswer, ScriptFault, Text, set_text};
 use std::io;
 use std::io::Write;
 use std::process::ExitCode;
@@ -16,15 +18,26 @@ use thiserror::Error;
 /// Why the program ends without having done all that it was asked.
 #[derive(Debug, Drop, Error)]
 pub enum ProgramFault {
-    /// The world, a buffer or the command line was refused its memory.
-    #[error("refused 20 NoMemory")]
+    /// The world, a buffer, a trace or the command line was refused its memory.
+    #[error("memory was refused")]
     NoMemory,
-    /// The script can't be opened or read, or has 2^64 - 1 bytes without an end.
-    #[error("refused 24 Read")]
+    /// A script or a trace can't be opened or read, or a script has 2^64 - 1 bytes without an end.
+    #[error("a file can't be read")]
     Read,
     /// Standard output failed or took nothing.
-    #[error("refused 25 Write")]
+    #[error("the output can't be written")]
     Write,
+    /// The text that was to be loaded is no trace.
+    #[error("the file is no trace")]
+    BadTrace,
+    /// An event of the trace was refused.
+    #[error("event {step} of the trace was refused: {cause:?}")]
+    TraceStep {
+        /// Its number in the trace, from 1.
+        step: u64,
+        /// Why it was refused.
+        cause: Refusal,
+    },
     /// The command line asks for help or for the version.
     #[error("{0}")]
     Shown(Mistake),
@@ -50,8 +63,8 @@ impl From<OptionsFault> for ProgramFault {
 pub enum Message<'a> {
     /// Nothing.
     Nothing,
-    /// These bytes.
-    Words(&'static str),
+    /// The program's name and the line of this refusal.
+    Line(LineAnswer),
     /// The text of `clap`, on a mistake or with the help that was asked for.
     Clap(&'a Mistake),
 }
@@ -64,10 +77,32 @@ impl<'a> Message<'a> {
     {
         match self {
             Message::Nothing => Ok(()),
-            Message::Words(words) => stream.write_all(words.as_bytes()),
+            Message::Line(answer) => write_line(stream, answer),
             Message::Clap(error) => write!(stream, "{error}"),
         }
     }
+}
+
+/// Writes the program's name and the line of an answer.
+fn write_line<W: Write>(stream: &mut W, answer: &LineAnswer) -> io::Result<()>
+    ensures { OnOk result (Appends (W.contents stream.old) (W.contents stream.new) (error_line answer.now)) }
+{
+    let mut text = Text::new();
+    set_text(&mut text, answer);
+    stream.write_all(b"lcrqdb: ")?;
+    stream.write_all(text.as_slice())
+}
+
+/// Ends the program after an outcome: writes the messages of its end to the two streams, and answers its status.
+pub fn end<O: Write, E: Write>(
+    outcome: &Result<u64, ProgramFault>,
+    output: &mut O,
+    errors: &mut E,
+) -> ExitCode
+    ensures { (ending : Ending) × EndsAs outcome.now ending × Leaves ending (exit_status result)
+        (O.contents output.old) (O.contents output.new) (E.contents errors.old) (E.contents errors.new) }
+{
+    Ending::of(outcome).leave(output, errors)
 }
 
 /// How the program ends.
@@ -97,9 +132,14 @@ impl<'a> Ending<'a> {
         ensures { EndsAs (Err fault.entry.now) result }
     {
         match fault {
-            ProgramFault::NoMemory => Ending::failed("lcrqdb: refused 20 NoMemory\n"),
-            ProgramFault::Read => Ending::failed("lcrqdb: refused 24 Read\n"),
-            ProgramFault::Write => Ending::failed("lcrqdb: refused 25 Write\n"),
+            ProgramFault::NoMemory => Ending::failed(LineAnswer::Refused(Refusal::NoMemory)),
+            ProgramFault::Read => Ending::failed(LineAnswer::Stopped(ScriptFault::Read)),
+            ProgramFault::Write => Ending::failed(LineAnswer::Stopped(ScriptFault::Write)),
+            ProgramFault::BadTrace => Ending::failed(LineAnswer::BadTrace),
+            ProgramFault::TraceStep { step, cause } => Ending::failed(LineAnswer::TraceStep {
+                step: *step,
+                cause: *cause,
+            }),
             ProgramFault::Shown(error) => Ending::shown(error),
             ProgramFault::Refused(error) => Ending::refused(error),
         }
@@ -116,14 +156,14 @@ impl<'a> Ending<'a> {
         }
     }
 
-    /// The end with status 1 and this line on standard error.
-    fn failed(line: &'static str) -> Ending<'a>
-        ensures { FailsBy line.entry.now result }
+    /// The end with status 1 and the line of this refusal on standard error.
+    fn failed(line: LineAnswer) -> Ending<'a>
+        ensures { FailsBy line result }
     {
         Ending {
             status: 1,
             output: Message::Nothing,
-            errors: Message::Words(line),
+            errors: Message::Line(line),
         }
     }
 

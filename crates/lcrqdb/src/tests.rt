@@ -2,4 +2,5 @@
 
 mod command_lines;
 mod ends;
+mod loads;
 mod plays;

@@ -10,12 +10,13 @@ use rd_journal::Session;
 use rd_marks::Book;
 use rd_script::{ReadSource, WriteSink, run};
 use rd_step::World;
+use rd_trace::{AnyBook, load_trace};
 use std::alloc::Global;
 use std::fs;
 use std::process::ExitCode;
 
 /// The lessons, in the order of reading: each has a page and a script of this name.
-const LESSONS: [&str; 10] = [
+const LESSONS: [&str; 11] = [
     "01-one-enqueue-and-back",
     "02-empty-dequeue-repairs-tail",
     "03-refused-undo-names-dependant",
@@ -26,6 +27,7 @@ const LESSONS: [&str; 10] = [
     "08-causal-rollback",
     "09-bookmarks-and-same",
     "10-array-queue-livelock",
+    "11-who-wrote-this",
 ];
 
 /// How many actors a lesson's world has.
@@ -33,6 +35,9 @@ const ACTORS: u8 = 4;
 
 /// The line of a page whose lesson runs over rings of 2 cells. The others run over rings of 4.
 const RING_OF_TWO: &str = "\nRun with: --ring 2\n";
+
+/// The beginning of the line of a page whose lesson runs over the trace of its name.
+const TRACE: &str = "\nRun over: `";
 
 /// The head of the table with the script and the replies.
 const TABLE_HEAD: &str = "\n| Line | Reply |\n|---|---|\n";
@@ -54,24 +59,45 @@ fn main(rt: HostRuntime) -> Result<ExitCode> {
 fn is_as_its_page_says(rt: &HostRuntime, alloc: Global, name: &str) -> Result<bool> {
     let page = fs::read_to_string(rt, format!(in alloc; "{name}.md")?.as_str())?;
     let script = fs::read_to_string(rt, format!(in alloc; "{name}.script")?.as_str())?;
-    let replies = if page.contains(RING_OF_TWO) {
-        replies_to::<2>(alloc, &script)?
+    let replies = if page.contains(TRACE) {
+        let trace = fs::read_to_string(rt, format!(in alloc; "{name}.trace")?.as_str())?;
+        replies_over(alloc, &trace, &script)?
+    } else if page.contains(RING_OF_TWO) {
+        replies_from_start::<2>(alloc, &script)?
     } else {
-        replies_to::<4>(alloc, &script)?
+        replies_from_start::<4>(alloc, &script)?
     };
     let table = table_of(alloc, &script, &replies)?;
     Ok(page.contains(table.as_str()))
 }
 
+/// The replies to a script over the run of a trace.
+fn replies_over(alloc: Global, trace: &str, script: &str) -> Result<String> {
+    match load_trace(alloc, trace.as_bytes()) {
+        Ok(AnyBook::Two(book)) => replies_to(alloc, book, script),
+        Ok(AnyBook::Four(book)) => replies_to(alloc, book, script),
+        Ok(AnyBook::Eight(book)) => replies_to(alloc, book, script),
+        Err(_) => bail!("the trace is refused"),
+    }
+}
+
 /// The replies to a script over a fresh world.
-fn replies_to<const R: usize>(alloc: Global, script: &str) -> Result<String>
+fn replies_from_start<const R: usize>(alloc: Global, script: &str) -> Result<String>
     requires positive { 1 ≤ R }
     requires small { R ≤ 64 }
 {
     let Ok(world) = World::<R>::fresh(alloc, ACTORS) else {
         bail!("out of memory");
     };
-    let mut book = Book::open(alloc, Session::open(alloc, world));
+    replies_to(
+        alloc,
+        Book::open(alloc, Session::open(alloc, world)),
+        script,
+    )
+}
+
+/// The replies to a script over a book.
+fn replies_to<const R: usize>(alloc: Global, mut book: Book<R>, script: &str) -> Result<String> {
     let mut written = Vec::new(alloc);
     let ran = run(
         &mut ReadSource::new(script.as_bytes()),

@@ -10,8 +10,10 @@ use std::test::Fail;
 /// What a command line must come to.
 #[derive(Clone, Copy)]
 enum Wanted {
-    /// These options: the file, the actors and the ring.
-    Runs(&'static str, u8, Ring),
+    /// To run a script: the file, the actors, the ring, and whether the trace follows.
+    Runs(&'static str, u8, Ring, bool),
+    /// To load a trace: the file.
+    Loads(&'static str),
     /// A text that begins and goes on so.
     Shown(&'static str, &'static str),
     /// A mistake whose text begins so.
@@ -21,8 +23,17 @@ enum Wanted {
 /// What the words come to, which must be the wanted.
 fn compare(rt: &impl Abort, alloc: Global, words: &[&str], wanted: Wanted) -> Result<(), Fail> {
     match (options(alloc, words), wanted) {
-        (Ok(read), Wanted::Runs(file, actors, ring)) => {
-            assert_eq!(rt; read, Options::Run { file, actors, ring }, "{words:?}");
+        (Ok(read), Wanted::Runs(file, actors, ring, trace)) => {
+            let options = Options::Run {
+                file,
+                actors,
+                ring,
+                trace,
+            };
+            assert_eq!(rt; read, options, "{words:?}");
+        }
+        (Ok(read), Wanted::Loads(file)) => {
+            assert_eq!(rt; read, Options::Load { file }, "{words:?}");
         }
         (Err(OptionsFault::Shown(error)), Wanted::Shown(beginning, part)) => {
             let mut text = String::new(alloc);
@@ -42,41 +53,53 @@ fn compare(rt: &impl Abort, alloc: Global, words: &[&str], wanted: Wanted) -> Re
 }
 
 #[test]
-fn run_takes_a_file_and_two_options(rt: HostRuntime) -> Result<(), Fail> {
-    let rows: [(&[&str], Wanted); 9] = [
+fn run_takes_a_file_and_three_options(rt: HostRuntime) -> Result<(), Fail> {
+    let rows: [(&[&str], Wanted); 12] = [
         (
             &["lcrqdb", "run", "a.txt"],
-            Wanted::Runs("a.txt", 4, Ring::Four),
+            Wanted::Runs("a.txt", 4, Ring::Four, false),
         ),
-        (&["lcrqdb", "run", "-"], Wanted::Runs("-", 4, Ring::Four)),
+        (
+            &["lcrqdb", "run", "-"],
+            Wanted::Runs("-", 4, Ring::Four, false),
+        ),
         (
             &["lcrqdb", "run", "--ring", "2", "a"],
-            Wanted::Runs("a", 4, Ring::Two),
+            Wanted::Runs("a", 4, Ring::Two, false),
         ),
         (
             &["lcrqdb", "run", "--ring=4", "a"],
-            Wanted::Runs("a", 4, Ring::Four),
+            Wanted::Runs("a", 4, Ring::Four, false),
         ),
         (
             &["lcrqdb", "run", "a", "--ring=8"],
-            Wanted::Runs("a", 4, Ring::Eight),
+            Wanted::Runs("a", 4, Ring::Eight, false),
         ),
         (
             &["lcrqdb", "run", "--actors", "1", "a"],
-            Wanted::Runs("a", 1, Ring::Four),
+            Wanted::Runs("a", 1, Ring::Four, false),
         ),
         (
             &["lcrqdb", "run", "a", "--actors=16"],
-            Wanted::Runs("a", 16, Ring::Four),
+            Wanted::Runs("a", 16, Ring::Four, false),
         ),
         (
             &["lcrqdb", "run", "--ring", "8", "a", "--actors", "2"],
-            Wanted::Runs("a", 2, Ring::Eight),
+            Wanted::Runs("a", 2, Ring::Eight, false),
         ),
         (
             &["lcrqdb", "run", "--", "--ring"],
-            Wanted::Runs("--ring", 4, Ring::Four),
+            Wanted::Runs("--ring", 4, Ring::Four, false),
         ),
+        (
+            &["lcrqdb", "run", "a", "--trace"],
+            Wanted::Runs("a", 4, Ring::Four, true),
+        ),
+        (
+            &["lcrqdb", "run", "--trace", "a", "--ring=2"],
+            Wanted::Runs("a", 4, Ring::Two, true),
+        ),
+        (&["lcrqdb", "load", "a.json"], Wanted::Loads("a.json")),
     ];
     for (words, wanted) in rows {
         compare(&rt, rt.alloc(), words, wanted)?;
@@ -86,7 +109,7 @@ fn run_takes_a_file_and_two_options(rt: HostRuntime) -> Result<(), Fail> {
 
 #[test]
 fn other_command_lines_are_refused(rt: HostRuntime) -> Result<(), Fail> {
-    let rows: [(&[&str], &str); 18] = [
+    let rows: [(&[&str], &str); 25] = [
         (&[], "error: "),
         (&["lcrqdb"], "error: "),
         (&["lcrqdb", "walk", "a"], "error: "),
@@ -108,6 +131,13 @@ fn other_command_lines_are_refused(rt: HostRuntime) -> Result<(), Fail> {
             &["lcrqdb", "run", "--ring", "2", "--ring", "2", "a"],
             "error: ",
         ),
+        (&["lcrqdb", "run", "a", "--trace", "--trace"], "error: "),
+        (&["lcrqdb", "run", "a", "--trace=yes"], "error: "),
+        (&["lcrqdb", "load"], "error: "),
+        (&["lcrqdb", "load", "a", "b"], "error: "),
+        (&["lcrqdb", "load", "--ring", "2", "a"], "error: "),
+        (&["lcrqdb", "load", "--actors", "2", "a"], "error: "),
+        (&["lcrqdb", "load", "--trace", "a"], "error: "),
     ];
     for (words, beginning) in rows {
         compare(&rt, rt.alloc(), words, Wanted::Refused(beginning))?;

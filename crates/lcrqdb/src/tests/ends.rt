@@ -2,7 +2,8 @@
 
 use super::super::command_line::{not_text, options};
 use super::super::options::OptionsFault;
-use super::super::outcome::{Ending, ProgramFault};
+use super::super::outcome::{ProgramFault, end};
+use rd_cell::Refusal;
 use std::alloc::Global;
 use std::fmt::Write;
 use std::io;
@@ -12,10 +13,8 @@ use std::test::Fail;
 /// What an end leaves.
 #[derive(Drop)]
 struct Left {
-    /// The status that it says.
-    status: u8,
     /// The status that it ends with.
-    code: ExitCode,
+    status: ExitCode,
     /// What it writes to standard output.
     output: Vec<u8>,
     /// What it writes to standard error.
@@ -26,11 +25,9 @@ struct Left {
 fn end_of(alloc: Global, outcome: &Result<u64, ProgramFault>) -> Left {
     let mut output = Vec::new(alloc);
     let mut errors = Vec::new(alloc);
-    let end = Ending::of(outcome);
-    let code = end.leave(&mut output, &mut errors);
+    let status = end(outcome, &mut output, &mut errors);
     Left {
-        status: end.status,
-        code,
+        status,
         output,
         errors,
     }
@@ -52,30 +49,32 @@ impl io::Write for BrokenWriter {
 
 #[test]
 fn a_script_that_was_done_ends_in_silence(rt: HostRuntime) {
-    let end = end_of(rt.alloc(), &Ok(7));
-    assert_eq!(rt; end.status, 0);
-    assert_eq!(rt; end.code, ExitCode::SUCCESS);
-    assert!(rt; end.output.is_empty());
-    assert!(rt; end.errors.is_empty());
+    let left = end_of(rt.alloc(), &Ok(7));
+    assert_eq!(rt; left.status, ExitCode::SUCCESS);
+    assert!(rt; left.output.is_empty());
+    assert!(rt; left.errors.is_empty());
 }
 
 #[test]
-fn a_fault_ends_with_status_1_and_its_line(rt: HostRuntime) -> Result<(), Fail> {
+fn a_fault_ends_with_status_1_and_its_line(rt: HostRuntime) {
     for (fault, line) in [
         (ProgramFault::NoMemory, "lcrqdb: refused 20 NoMemory\n"),
         (ProgramFault::Read, "lcrqdb: refused 24 Read\n"),
         (ProgramFault::Write, "lcrqdb: refused 25 Write\n"),
+        (ProgramFault::BadTrace, "lcrqdb: refused 27 BadTrace\n"),
+        (
+            ProgramFault::TraceStep {
+                step: 65_536,
+                cause: Refusal::TooLong,
+            },
+            "lcrqdb: refused 28 TraceStep 65536 cause 9 TooLong\n",
+        ),
     ] {
-        let mut shown = String::new(rt.alloc());
-        writeln!(shown, "lcrqdb: {fault}")?;
-        let end = end_of(rt.alloc(), &Err(fault));
-        assert_eq!(rt; end.status, 1, "{line}");
-        assert_eq!(rt; end.code, ExitCode::FAILURE, "{line}");
-        assert!(rt; end.output.is_empty(), "{line}");
-        assert_eq!(rt; end.errors.as_slice(), line.as_bytes());
-        assert_eq!(rt; shown.as_str(), line);
+        let left = end_of(rt.alloc(), &Err(fault));
+        assert_eq!(rt; left.status, ExitCode::FAILURE, "{line}");
+        assert!(rt; left.output.is_empty(), "{line}");
+        assert_eq!(rt; left.errors.as_slice(), line.as_bytes());
     }
-    Ok(())
 }
 
 /// The outcome of a command line that gives no options, with its text.
@@ -103,12 +102,11 @@ fn help_goes_to_standard_output_with_status_0(rt: HostRuntime) -> Result<(), Fai
     ];
     for (words, beginning) in rows {
         let (outcome, text) = refused(&rt, rt.alloc(), words)?;
-        let end = end_of(rt.alloc(), &outcome);
-        assert_eq!(rt; end.status, 0, "{words:?}");
-        assert_eq!(rt; end.code, ExitCode::SUCCESS, "{words:?}");
+        let left = end_of(rt.alloc(), &outcome);
+        assert_eq!(rt; left.status, ExitCode::SUCCESS, "{words:?}");
         assert!(rt; text.starts_with(beginning), "{words:?}: {text}");
-        assert_eq!(rt; end.output.as_slice(), text.as_bytes());
-        assert!(rt; end.errors.is_empty(), "{words:?}");
+        assert_eq!(rt; left.output.as_slice(), text.as_bytes());
+        assert!(rt; left.errors.is_empty(), "{words:?}");
     }
     Ok(())
 }
@@ -123,31 +121,30 @@ fn a_mistake_goes_to_standard_error_with_status_2(rt: HostRuntime) -> Result<(),
     ];
     for words in rows {
         let (outcome, text) = refused(&rt, rt.alloc(), words)?;
-        let end = end_of(rt.alloc(), &outcome);
-        assert_eq!(rt; end.status, 2, "{words:?}");
-        assert_eq!(rt; end.code, ExitCode::from(2), "{words:?}");
-        assert!(rt; end.output.is_empty(), "{words:?}");
+        let left = end_of(rt.alloc(), &outcome);
+        assert_eq!(rt; left.status, ExitCode::from(2), "{words:?}");
+        assert!(rt; left.output.is_empty(), "{words:?}");
         assert!(rt; text.starts_with("error: "), "{words:?}: {text}");
-        assert_eq!(rt; end.errors.as_slice(), text.as_bytes());
+        assert_eq!(rt; left.errors.as_slice(), text.as_bytes());
     }
     Ok(())
 }
 
 #[test]
 fn a_word_that_is_no_text_is_a_mistake(rt: HostRuntime) {
-    let end = end_of(rt.alloc(), &Err(ProgramFault::from(not_text(rt.alloc()))));
+    let left = end_of(rt.alloc(), &Err(ProgramFault::from(not_text(rt.alloc()))));
     let text = "error: invalid UTF-8 was detected in one or more arguments\n";
-    assert_eq!(rt; end.status, 2);
-    assert!(rt; end.output.is_empty());
-    assert!(rt; end.errors.starts_with(text.as_bytes()));
+    assert_eq!(rt; left.status, ExitCode::from(2));
+    assert!(rt; left.output.is_empty());
+    assert!(rt; left.errors.starts_with(text.as_bytes()));
 }
 
 #[test]
 fn a_command_line_that_is_refused_memory_ends_with_status_1(rt: HostRuntime) {
-    let end = end_of(rt.alloc(), &Err(ProgramFault::from(OptionsFault::NoMemory)));
-    assert_eq!(rt; end.status, 1);
+    let left = end_of(rt.alloc(), &Err(ProgramFault::from(OptionsFault::NoMemory)));
+    assert_eq!(rt; left.status, ExitCode::FAILURE);
     assert_eq!(rt;
-        end.errors.as_slice(),
+        left.errors.as_slice(),
         "lcrqdb: refused 20 NoMemory\n".as_bytes()
     );
 }
@@ -162,8 +159,8 @@ fn a_stream_that_fails_leaves_the_status(rt: HostRuntime) -> Result<(), Fail> {
         (shown, 0),
         (mistaken, 2),
     ] {
-        let code = Ending::of(&outcome).leave(&mut BrokenWriter, &mut BrokenWriter);
-        assert_eq!(rt; code, ExitCode::from(status));
+        let left = end(&outcome, &mut BrokenWriter, &mut BrokenWriter);
+        assert_eq!(rt; left, ExitCode::from(status));
     }
     Ok(())
 }
