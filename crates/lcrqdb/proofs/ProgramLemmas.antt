@@ -1,5 +1,5 @@
 -- A script's run from the program's first state, the trace behind its report, and a script's run over the run of a trace.
-use Rattle.std.proofs.Common.{◌≡◌, ℕ, Bool, true, false, List, [], Option, Result, Ok, Err, refl, ap, sym, ◌∙◌, subst, inl, inr}
+use Rattle.std.proofs.Common.{◌≡◌, ℕ, Bool, true, false, List, [], Option, Result, Ok, Err, ap, sym, ◌∙◌, subst, inl, inr}
 use Rattle.std.specs.Io.KnownBytes.{Appends}
 use Rattle.rd_step.specs.Prelude.{World}
 use Rattle.rd_step.specs.Starts.{fresh_world}
@@ -16,7 +16,7 @@ use Rattle.rd_trace.specs.Form.{IsTraceText}
 use Rattle.rd_trace.specs.Text.{trace_text}
 use Rattle.lcrqdb.specs.declared.outcome.ProgramFault.{ProgramFault}
 use Rattle.lcrqdb.specs.declared.outcome.ProgramFault.TheVariants.{NoMemory, Read, Write, BadTrace, TraceStep, Shown, Refused}
-use Rattle.lcrqdb.specs.Program.{first_state, program_fault, write_fault, RunsOver, AppendsIf, WritesIf, RanToTrace, PlaysScript, RunsOverTrace, ResumesTrace}
+use Rattle.lcrqdb.specs.Program.{first_state, program_fault, write_fault, RunsOver, AppendsIf, WritesIf, RanToTrace, PlaysScript, ResumesTrace}
 
 -- a fresh book over the fresh world is in the program's first state
 pub starts_first : (R actors : ℕ) (b : BookState) (s : State) (w : World) → b.session ≡ s → b.marks ≡ [] → s ≡ record { start = w; live = []; undone = [] } → w ≡ fresh_world R actors → b ≡ first_state R actors

@@ -1,4 +1,4 @@
-use Rattle.std.proofs.Common.{Ok, Err, sym, subst}
+use Rattle.std.proofs.Common.{Err, sym, subst}
 use Rattle.rd_marks.specs.BookViews.{book_state}
 use Rattle.rd_trace.specs.Traces.{trace_of_state}
 use Rattle.rd_trace.specs.Text.{trace_text}
