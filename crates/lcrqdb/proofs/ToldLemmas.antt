@@ -8,7 +8,7 @@ use Rattle.clap.proofs.WalkLemmas.{first_value-rows, one_text-rows}
 use Rattle.lcrqdb.specs.declared.options.Options.{Options}
 use Rattle.lcrqdb.specs.declared.options.Options.TheVariants.{Run, Load}
 use Rattle.lcrqdb.specs.declared.options.Ring.{Ring}
-use Rattle.lcrqdb.specs.Options.{ring_text, choice_text}
+use Rattle.lcrqdb.specs.Options.{ring_text, flag_text}
 use Rattle.lcrqdb.specs.CommandLine.{IsNumber, TellsRun, TellsLoad}
 
 -- what is nothing is not something
@@ -57,13 +57,13 @@ no_spelling m v given none (Load file) tells = tells
 
 -- and a choice of the trace
 pub no_trace : (m : ArgMatches) → None ≡ first_value (found_of m) (codes "trace") → (o : Options) → TellsRun (rows_of (found_of m)) o → ⊥
-no_trace m none (Run file actors ring trace) tells = no_value m (codes "trace") (choice_text trace) none tells.5
+no_trace m none (Run file actors ring trace) tells = no_value m (codes "trace") (flag_text trace) none tells.5
 no_trace m none (Load file) tells = tells
 
 -- by one of its texts
 pub no_choice : (m : ArgMatches) (v : Text) → Some v ≡ first_value (found_of m) (codes "trace")
-    → ((choice : Bool) → v ≡ choice_text choice → ⊥) → (o : Options) → TellsRun (rows_of (found_of m)) o → ⊥
-no_choice m v given none (Run file actors ring trace) tells = none trace (same_value m (codes "trace") v (choice_text trace) given tells.5)
+    → ((choice : Bool) → v ≡ flag_text choice → ⊥) → (o : Options) → TellsRun (rows_of (found_of m)) o → ⊥
+no_choice m v given none (Run file actors ring trace) tells = none trace (same_value m (codes "trace") v (flag_text trace) given tells.5)
 no_choice m v given none (Load file) tells = tells
 
 -- and a number of actors

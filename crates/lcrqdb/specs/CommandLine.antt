@@ -13,7 +13,7 @@ use Rattle.lcrqdb.specs.declared.options.Options.{Options}
 use Rattle.lcrqdb.specs.declared.options.Options.TheVariants.{Run, Load}
 use Rattle.lcrqdb.specs.declared.options.OptionsFault.{OptionsFault}
 use Rattle.lcrqdb.specs.declared.options.OptionsFault.TheVariants.{Shown, Refused, NoMemory}
-use Rattle.lcrqdb.specs.Options.{ring_text, choice_text}
+use Rattle.lcrqdb.specs.Options.{ring_text, flag_text}
 
 -- names of values, as clap is given them
 abbrev pub ValueNames : Type 0
@@ -80,7 +80,7 @@ TellsRun rows (Run file actors ring trace) =
     × ((text : Text) × (one_of (codes "actors") rows ≡ Some text) × IsNumber text actors)
     × (1 ≤ actors) × (actors ≤ 16)
     × (first_of (codes "ring") rows ≡ Some (ring_text ring))
-    × (first_of (codes "trace") rows ≡ Some (choice_text trace))
+    × (first_of (codes "trace") rows ≡ Some (flag_text trace))
 TellsRun rows (Load file) = ⊥
 
 -- what was found for the argument of `load` tells these options

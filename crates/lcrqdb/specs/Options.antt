@@ -24,9 +24,9 @@ ring_length Four = 4
 ring_length Eight = 8
 
 -- the text that clap keeps of a flag
-abbrev pub choice_text : Bool → List ℕ
-choice_text true = codes "true"
-choice_text false = codes "false"
+abbrev pub flag_text : Bool → List ℕ
+flag_text true = codes "true"
+flag_text false = codes "false"
 
 -- the number of actors that is asked for is one that a world may have
 abbrev pub AreInRange : Options → Type 0

@@ -16,7 +16,7 @@ use Rattle.rd_trace.specs.Traces.{Trace, trace_of_state, loaded_state, IsRefused
 use Rattle.rd_trace.specs.Form.{IsTraceText}
 use Rattle.rd_trace.specs.Text.{trace_text}
 use Rattle.lcrqdb.specs.declared.outcome.ProgramFault.{ProgramFault}
-use Rattle.lcrqdb.specs.declared.outcome.ProgramFault.TheVariants.{NoMemory, Read, Write, BadTrace, TraceStep, Shown, Refused}
+use Rattle.lcrqdb.specs.declared.outcome.ProgramFault.TheVariants.{NoMemory, Read, Write, BadTrace, TraceStep}
 
 -- the program's fault if a script's run ended by this one
 abbrev pub program_fault : ScriptFault → ProgramFault
@@ -54,11 +54,7 @@ abbrev pub RunsOver : ℕ → BookState → Devices → Result ℕ ProgramFault 
 RunsOver R before d (Ok n) = (after : BookState) × RanToEnd R before after d n
 RunsOver R before d (Err Read) = (after : BookState) × StoppedAtRead R before after d
 RunsOver R before d (Err Write) = (after : BookState) × StoppedAtWrite R before after d
-RunsOver R before d (Err NoMemory) = ⊥
-RunsOver R before d (Err BadTrace) = ⊥
-RunsOver R before d (Err (TraceStep step cause)) = ⊥
-RunsOver R before d (Err (Shown error)) = ⊥
-RunsOver R before d (Err (Refused error)) = ⊥
+RunsOver R before d (Err _) = ⊥
 
 -- what a writer has behind what it had, if the text was asked for
 abbrev pub AppendsIf : Bool → Option (List ℕ) → Option (List ℕ) → List ℕ → Type 0
@@ -71,11 +67,7 @@ abbrev pub WritesIf : Bool → List ℕ → Option (List ℕ) → Option (List �
 WritesIf asked text old new failed (Ok _) = AppendsIf asked old new text × (failed ≡ false)
 WritesIf asked text old new failed (Err NoMemory) = (asked ≡ true) × Keeps old new × (failed ≡ false)
 WritesIf asked text old new failed (Err Write) = (asked ≡ true) × TakesBeginning old new text × (failed ≡ true)
-WritesIf asked text old new failed (Err Read) = ⊥
-WritesIf asked text old new failed (Err BadTrace) = ⊥
-WritesIf asked text old new failed (Err (TraceStep step cause)) = ⊥
-WritesIf asked text old new failed (Err (Shown error)) = ⊥
-WritesIf asked text old new failed (Err (Refused error)) = ⊥
+WritesIf asked text old new failed (Err _) = ⊥
 
 -- a script ran to its end over the fresh world, and this became of the trace of its run
 pub record RanToTrace (R actors : ℕ) (traced : Bool) (d : Devices) (n : ℕ) (written : Result (Unit {0}) ProgramFault) : Type 0 where
@@ -91,10 +83,7 @@ PlaysScript R actors traced d (Ok n) = RanToTrace R actors traced d n (Ok tt)
 PlaysScript R actors traced d (Err NoMemory) = TouchesNothing d ⊎ ((n : ℕ) × RanToTrace R actors traced d n (Err NoMemory))
 PlaysScript R actors traced d (Err Read) = RunsOver R (first_state R actors) d (Err Read)
 PlaysScript R actors traced d (Err Write) = RunsOver R (first_state R actors) d (Err Write) ⊎ ((n : ℕ) × RanToTrace R actors traced d n (Err Write))
-PlaysScript R actors traced d (Err BadTrace) = ⊥
-PlaysScript R actors traced d (Err (TraceStep step cause)) = ⊥
-PlaysScript R actors traced d (Err (Shown error)) = ⊥
-PlaysScript R actors traced d (Err (Refused error)) = ⊥
+PlaysScript R actors traced d (Err _) = ⊥
 
 -- the text is a trace, and a script ran over the book that it is loaded as
 pub record RunsOverTrace (text : List ℕ) (d : Devices) (result : Result ℕ ProgramFault) : Type 0 where
@@ -110,5 +99,4 @@ ResumesTrace text d (Err Write) = RunsOverTrace text d (Err Write)
 ResumesTrace text d (Err NoMemory) = TouchesNothing d
 ResumesTrace text d (Err BadTrace) = TouchesNothing d × ((t : Trace) → IsTraceText text t → ⊥)
 ResumesTrace text d (Err (TraceStep step cause)) = TouchesNothing d × ((t : Trace) × IsTraceText text t × IsRefusedAt t step cause)
-ResumesTrace text d (Err (Shown error)) = ⊥
-ResumesTrace text d (Err (Refused error)) = ⊥
+ResumesTrace text d (Err _) = ⊥

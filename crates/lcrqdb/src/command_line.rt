@@ -7,7 +7,7 @@ ghost use Rattle.std.specs.Prelude.{◌≡◌, ◌≢◌, IfOk, IfErr, IfSome, I
 ghost use Rattle.clap.specs.Words.{app_of, found_of, kind_of, rows_of, rule_of, subcommand_rows_of};
 ghost use Rattle.clap.specs.declared.builder.command.Command.TheViews.{out-Command};
 ghost use Rattle.clap.specs.declared.error.kind.ErrorKind.TheVariants.{InvalidValue};
-ghost use Rattle.lcrqdb.specs.Options.{IsMistake, AreInRange, choice_text};
+ghost use Rattle.lcrqdb.specs.Options.{IsMistake, AreInRange, flag_text};
 ghost use Rattle.lcrqdb.specs.CommandLine.{IsRings, Tells, TellsRun, TellsLoad, Reads, EndsFor, file_rule, actors_rule, ring_rule, trace_rule, run_over_app, run_app, load_app, program_app};
 
 use super::options::{Options, OptionsFault, Ring};
@@ -103,8 +103,8 @@ fn told_by_load<'a>(load: &ArgMatches<'a>) -> Option<Options<'a>>
 
 /// The choice that the text of a flag spells.
 fn choice_of(text: &str) -> Option<bool>
-    ensures some { IfSome result (λ choice. text.now ≡ choice_text choice) }
-    ensures none { IsNone result → (choice : Bool) → text.now ≢ choice_text choice }
+    ensures some { IfSome result (λ choice. text.now ≡ flag_text choice) }
+    ensures none { IsNone result → (choice : Bool) → text.now ≢ flag_text choice }
 {
     match text {
         "true" => Some(true),
