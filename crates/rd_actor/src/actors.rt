@@ -119,33 +119,34 @@ pub enum OpReply {
     Empty,
 }
 
-/// The words of one actor.
+/// The words of one actor. The small ones stand together, so that the record is short: every step copies it, and every entry
+/// of a journal keeps one.
 #[derive(Clone, Copy, Debug, PartialEq, Eq)]
 pub struct Actor {
     /// The control point where it stands.
     pub pc: Pc,
-    /// The call that it is in, if any.
-    pub op: Option<Op>,
+    /// The pass of a dequeue over its segment: 0 before the first, then 1 or 2.
+    pub pass: u8,
+    /// The closed bit that its repair read.
+    pub closed: bool,
+    /// The safe bit that it read from a cell.
+    pub safe: bool,
     /// The segment on which it works.
     pub crq: SegName,
     /// The segment that it made last in this call.
     pub new: SegName,
     /// The next segment that it read last.
     pub next: SegName,
+    /// The call that it is in, if any.
+    pub op: Option<Op>,
     /// The tail position that it read or drew last, at most 2^62.
     pub t: u64,
     /// The head position that it read or drew last, at most 2^62.
     pub h: u64,
-    /// The closed bit that its repair read.
-    pub closed: bool,
     /// The value that it read from a cell.
     pub val: Option<u64>,
-    /// The safe bit that it read from a cell.
-    pub safe: bool,
     /// The index that it read from a cell, at most 2^62 plus the ring's size.
     pub idx: u64,
-    /// The pass of a dequeue over its segment: 0 before the first, then 1 or 2.
-    pub pass: u8,
 }
 
 impl Actor {
@@ -155,17 +156,17 @@ impl Actor {
     {
         Actor {
             pc: Pc::Idle,
-            op: None,
+            pass: 0,
+            closed: false,
+            safe: false,
             crq: SegName::ROOT,
             new: SegName::ROOT,
             next: SegName::ROOT,
+            op: None,
             t: 0,
             h: 0,
-            closed: false,
             val: None,
-            safe: false,
             idx: 0,
-            pass: 0,
         }
     }
 

@@ -40,10 +40,10 @@ forward_goes s t n h k =
 pub back_records : (w v : World) (es : List Entry) (l m n : ℕ) → m ≤ length es → l + n ≡ m → IsMovedBack n (journal_of w es m) (journal_of v es l)
 back_records w v es l m n h e = record { live = take_before es l m n h e; undone = drop_before es l m n h e }
 
-pub forward_records : (w v : World) (es fs : List Entry) (l m n : ℕ) → fs ≡ es → m ≡ l + n → IsMovedForward n (journal_of w es l) (journal_of v fs m)
-forward_records w v es fs l m n same e = record {
-  live = ap (take m) same ∙ take_behind es l m n e;
-  undone = ap (drop m) same ∙ drop_behind es l m n e;
+pub forward_records : (w v : World) (es : List Entry) (l m n : ℕ) → m ≡ l + n → IsMovedForward n (journal_of w es l) (journal_of v es m)
+forward_records w v es l m n e = record {
+  live = take_behind es l m n e;
+  undone = drop_behind es l m n e;
 }
 
 -- undoing leaves the start

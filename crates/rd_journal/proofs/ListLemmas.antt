@@ -1,9 +1,9 @@
 -- Lists cut in two, the last element of a list, and one moved behind others.
 use Rattle.std.proofs.Common.{◌≡◌, ℕ, zero, suc, ◌+◌, ◌-◌, ◌<◌, ◌≤◌, List, [], ◌∷◌, ◌++◌, length, get_or, take, drop, refl, sym, ◌∙◌, ap, arith, length-append, length-drop}
 use borrow.Rule.Slice.PartMut.{put_mid, mid_of}
-use Rattle.std.proofs.Math.ListN.{set, drop_of_length-le}
+use Rattle.std.proofs.Math.ListN.{drop_of_length-le}
 use Rattle.std.proofs.Math.Seq.{take-suc, drop-cons, take-append_seam, drop-append_seam, take-add}
-use Rattle.std.proofs.lemmas.List.{append-nil, append_assoc, take-append-drop, length-take-le, take_all, take-take, drop-take, drop-append-le, drop-drop, set-get_or}
+use Rattle.std.proofs.lemmas.List.{append-nil, append_assoc, take-append-drop, length-take-le, take_all, take-take, drop-take, drop-append-le, drop-drop}
 
 -- all but the last
 pub front_of : {X : Type 0} (l : List X) (x : X) → take (length (l ++ x ∷ []) - 1) (l ++ x ∷ []) ≡ l
@@ -34,10 +34,6 @@ pub drop_one_less : {X : Type 0} (l : List X) (k : ℕ) (x : X) → k < length l
 drop_one_less {X} l k x h e =
     let n : suc k ≡ k + 1 = omega arith in
     drop-cons l k x h ∙ (λ i. sym e i ∷ drop (n i) l)
-
--- an element written over itself
-pub set-itself : {X : Type 0} (l : List X) (k : ℕ) (x y : X) → y ≡ get_or l k y → x ≡ y → set l k x ≡ l
-set-itself {X} l k x y e h = ap (set l k) (h ∙ e) ∙ set-get_or l k y
 
 -- a cut moved back within what stands before it
 pub take_before : {X : Type 0} (l : List X) (k m n : ℕ) → m ≤ length l → k + n ≡ m → take k l ≡ take (length (take m l) - n) (take m l)

@@ -44,16 +44,16 @@ redo_room R w es k x room at runs has makes =
     omega arith
 
 -- and what is left is enough for the others
-pub redone_room : (R : ℕ) (w : World) (es fs : List Entry) (k n : ℕ) (x : Entry) (before after : ℕ → ℕ) → StandsAt es k x → IsRun R (journal_of w es k)
+pub redone_room : (R : ℕ) (w : World) (es : List Entry) (k n : ℕ) (x : Entry) (before after : ℕ → ℕ) → StandsAt es k x → IsRun R (journal_of w es k)
     → HasRoom (drop k es) before → ((m : ℕ) → before m ≤ after m + room_used (makes_segment R w x.event) x.event.actor m)
-    → fs ≡ es → n ≡ k + 1 → HasRoom (drop n fs) after
-redone_room R w es fs k n x before after at runs has left same is = record {
+    → n ≡ k + 1 → HasRoom (drop n es) after
+redone_room R w es k n x before after at runs has left is = record {
   at = λ m.
       let used = room_used_returned R w x.event _ m (first_redone R w es k x at runs).goes in
       let a = given_from es k m x at in
       let b = has.at m in
       let c = left m in
-      let d : room_returned_by (drop n fs) m ≡ room_returned_by (drop (k + 1) es) m = λ i. room_returned_by (drop (is i) (same i)) m in
+      let d : room_returned_by (drop n es) m ≡ room_returned_by (drop (k + 1) es) m = λ i. room_returned_by (drop (is i) es) m in
       omega arith;
 }
 

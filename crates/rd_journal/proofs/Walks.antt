@@ -1,13 +1,12 @@
 -- Undoing and redoing over a world, one list of records and a border in it, and how the state changes.
-use Rattle.std.proofs.Common.{◌≡◌, ℕ, suc, ◌+◌, ◌-◌, ◌<◌, refl, sym, ◌∙◌, ap, subst, List, [], ◌∷◌, ◌++◌, length, take, drop, get_or, Result, Ok, is_ok, IsOk, arith}
-use Rattle.std.proofs.Math.ListN.{set}
+use Rattle.std.proofs.Common.{◌≡◌, ℕ, suc, ◌+◌, ◌-◌, ◌<◌, sym, ◌∙◌, ap, subst, List, [], ◌∷◌, ◌++◌, length, take, drop, get_or, Result, Ok, is_ok, IsOk, arith}
 use Rattle.std.proofs.lemmas.List.{map-append}
 use Rattle.rd_step.specs.Prelude.{Refusal, World, Stepped, step, unstep}
 use Rattle.rd_step.specs.declared.entries.Event.{Event}
 use Rattle.rd_step.specs.declared.entries.Entry.{Entry}
 use Rattle.rd_journal.specs.Journal.{Journal, journal_of, events, IsRun}
 use Rattle.rd_journal.specs.State.{State, state_of, back_one, forward_one, times}
-use Rattle.rd_journal.proofs.ListLemmas.{front_of, last_of, take_one_more, drop_one_less, set-itself}
+use Rattle.rd_journal.proofs.ListLemmas.{front_of, last_of, take_one_more, drop_one_less}
 use Rattle.rd_journal.proofs.Runs.{world_before-last, start_stays, now_formed, MayUndo, shrunk, MayRedo, may_redo}
 
 -- the record x stands at position k of the records
@@ -72,9 +71,8 @@ first_redone R w es k x at runs =
 pub redo_goes : (R : ℕ) (w : World) (es : List Entry) (k : ℕ) (x : Entry) → StandsAt es k x → IsRun R (journal_of w es k) → IsOk (step R w x.event)
 redo_goes R w es k x at runs = ap (λ (r : Result Stepped Refusal). is_ok r) (first_redone R w es k x at runs).goes
 
--- what a redone step leaves: its record is the stored one, and the journal with the border behind it is a run
-pub record Redone (R : ℕ) (w v : World) (es : List Entry) (k : ℕ) (y : Entry) : Type 0 where
-  pub records : set es k y ≡ es
+-- what a redone step leaves: the journal with the border behind its record is a run
+pub record Redone (R : ℕ) (w v : World) (es : List Entry) (k : ℕ) : Type 0 where
   pub runs : IsRun R (journal_of v es (k + 1))
   pub state : state_of (journal_of v es (k + 1)) ≡ forward_one (state_of (journal_of w es k))
 
@@ -89,35 +87,21 @@ forward_state R w v xs ys x runs h =
     λ i. record { start = start i; live = all i; undone = events ys }
 
 pub redone : (R : ℕ) (w v : World) (es : List Entry) (k : ℕ) (x y : Entry) → StandsAt es k x → IsRun R (journal_of w es k)
-    → step R w x.event ≡ Ok (record { world = v; entry = y }) → Redone R w v es k y
+    → step R w x.event ≡ Ok (record { world = v; entry = y }) → Redone R w v es k
 redone R w v es k x y at runs h =
     let may = first_redone R w es k x at runs in
     let both : record { world = v; entry = y } ≡ record { world = may.after; entry = x } = cc (h, may.goes) in
-    let its : y ≡ x = ap (λ (s : Stepped). s.entry) both in
     let there : may.after ≡ v = sym (ap (λ (s : Stepped). s.world) both) in
     let goes : step R w x.event ≡ Ok (record { world = v; entry = x }) = may.goes ∙ (λ i. Ok (record { world = there i; entry = x })) in
     let parts : IsRun R (record { world = v; live = take k es ++ x ∷ []; undone = drop (k + 1) es }) =
     subst (λ (u : World). IsRun R (record { world = u; live = take k es ++ x ∷ []; undone = drop (k + 1) es })) there may.runs in
     record {
-      records = set-itself es k y x at.here its;
       runs = subst (λ (j : Journal). IsRun R j) (sym (behind v es k x at)) parts;
       state =
           ap state_of (behind v es k x at)
           ∙ forward_state R w v (take k es) (drop (k + 1) es) x (subst (λ (j : Journal). IsRun R j) (before w es k x at) runs) goes
           ∙ ap (λ (j : Journal). forward_one (state_of j)) (sym (before w es k x at));
     }
-
--- the fields after a redone step, its record written over the stored one
-pub record RedoneFields (R : ℕ) (w v : World) (es fs : List Entry) (k : ℕ) : Type 0 where
-  pub records : fs ≡ es
-  pub runs : IsRun R (journal_of v fs (k + 1))
-  pub state : state_of (journal_of v fs (k + 1)) ≡ forward_one (state_of (journal_of w es k))
-
-pub redone_fields : (R : ℕ) (w v : World) (es : List Entry) (k : ℕ) (x y : Entry) → StandsAt es k x → IsRun R (journal_of w es k)
-    → step R w x.event ≡ Ok (record { world = v; entry = y }) → RedoneFields R w v es (set es k y) k
-redone_fields R w v es k x y at runs h =
-    let r = redone R w v es k x y at runs h in
-    subst (λ (fs : List Entry). RedoneFields R w v es fs k) (sym r.records) (record { records = refl; runs = r.runs; state = r.state })
 
 -- one more time
 pub once_more : (n : ℕ) (f : State → State) (s t u : State) → t ≡ times n f s → u ≡ f t → u ≡ times (n + 1) f s

@@ -91,54 +91,51 @@ fn move_behind(entries: &mut Vec<Entry>, k: usize, live: usize)
     later.rotate_left(1);
 }
 
-/// Steps the event again that was undone last, writes the step's record over the stored one, and moves the border
-/// behind it. The undone records are those of the run of their events from here, so it is never refused.
+/// Steps the event again that was undone last, and moves the border behind its record. The undone records are those of the
+/// run of their events from here, so it is never refused, and leaves the record that stands there.
 pub(crate) fn redo_first<const R: usize>(
     world: &mut World<R>,
-    entries: &mut Vec<Entry>,
+    entries: &Vec<Entry>,
     live: &mut usize,
 )
-    requires some { live.old < length entries.old.items }
-    requires session { IsSession R (model world.old) entries.old.items live.old (room world.old) }
-    ensures records { entries.new.items ≡ entries.old.items }
+    requires some { live.old < length entries.now.items }
+    requires session { IsSession R (model world.old) entries.now.items live.old (room world.old) }
     ensures border { live.new ≡ live.old + 1 }
-    ensures session { IsSession R (model world.new) entries.new.items live.new (room world.new) }
-    ensures state { state_of (journal_of (model world.new) entries.new.items live.new)
-        ≡ forward_one (state_of (journal_of (model world.old) entries.old.items live.old)) }
+    ensures session { IsSession R (model world.new) entries.now.items live.new (room world.new) }
+    ensures state { state_of (journal_of (model world.new) entries.now.items live.new)
+        ≡ forward_one (state_of (journal_of (model world.old) entries.now.items live.old)) }
 {
-    let entry = step_again(world, &entries[*live]);
-    entries[*live] = entry;
+    step_again(world, entries[*live].event);
     *live += 1;
 }
 
-/// Makes the step of a record again, which is known not to be refused, and answers the record that it leaves now.
-fn step_again<const R: usize>(world: &mut World<R>, stored: &Entry) -> Entry
-    requires goes { IsOk (step R (model world.old) stored.now.event) }
-    requires room { IsTrue (makes_segment R (model world.old) stored.now.event) → 1 ≤ room world.old stored.now.event.actor }
-    ensures same { step R (model world.old) stored.now.event ≡ Ok (record { world = model world.new; entry = result }) }
+/// Makes an event happen again, which is known not to be refused.
+fn step_again<const R: usize>(world: &mut World<R>, event: Event)
+    requires goes { IsOk (step R (model world.old) event) }
+    requires room { IsTrue (makes_segment R (model world.old) event) → 1 ≤ room world.old event.actor }
+    ensures done { (entry : Entry) × (step R (model world.old) event ≡ Ok (record { world = model world.new; entry = entry })) }
     ensures room { (m : ℕ) → room world.old m
-        ≤ room world.new m + room_used (makes_segment R (model world.old) stored.now.event) stored.now.event.actor m }
+        ≤ room world.new m + room_used (makes_segment R (model world.old) event) event.actor m }
 {
-    match world.step(stored.event) {
+    match world.step(event) {
         Err(_) => unreachable!(),
-        Ok(again) => again,
+        Ok(_) => {}
     }
 }
 
 /// Redoes the `n` steps that were undone last, one after another.
 pub(crate) fn redo_many<const R: usize>(
     world: &mut World<R>,
-    entries: &mut Vec<Entry>,
+    entries: &Vec<Entry>,
     live: &mut usize,
     n: u64,
 )
-    requires enough { live.old + n ≤ length entries.old.items }
-    requires session { IsSession R (model world.old) entries.old.items live.old (room world.old) }
-    ensures records { entries.new.items ≡ entries.old.items }
+    requires enough { live.old + n ≤ length entries.now.items }
+    requires session { IsSession R (model world.old) entries.now.items live.old (room world.old) }
     ensures border { live.new ≡ live.old + n }
-    ensures session { IsSession R (model world.new) entries.new.items live.new (room world.new) }
-    ensures state { state_of (journal_of (model world.new) entries.new.items live.new)
-        ≡ times n forward_one (state_of (journal_of (model world.old) entries.old.items live.old)) }
+    ensures session { IsSession R (model world.new) entries.now.items live.new (room world.new) }
+    ensures state { state_of (journal_of (model world.new) entries.now.items live.new)
+        ≡ times n forward_one (state_of (journal_of (model world.old) entries.now.items live.old)) }
 {
     for _ in 0..n {
         redo_first(world, entries, live);

@@ -187,7 +187,7 @@ impl<const R: usize> Session<R> {
         if self.undone_len() == 0 {
             return Err(Refusal::NothingToRedo);
         }
-        redo_first(&mut self.world, &mut self.entries, &mut self.live);
+        redo_first(&mut self.world, &self.entries, &mut self.live);
         Ok(())
     }
 
@@ -205,7 +205,7 @@ impl<const R: usize> Session<R> {
         if n > self.undone_len() {
             return Err(Refusal::NothingToRedo);
         }
-        redo_many(&mut self.world, &mut self.entries, &mut self.live, n);
+        redo_many(&mut self.world, &self.entries, &mut self.live, n);
         Ok(())
     }
 

@@ -7,8 +7,7 @@ use Rattle.rd_journal.proofs.border.redo_many.Given as goal
 
 abbrev pub invariant-loop : goal.invariant-loop
 invariant-loop g l = record {
-  records : l.entries.items ≡ l.fn.entries.items;
   border : l.live ≡ l.fn.live + l.counter;
   session : IsSession g.row.R (model l.world) l.entries.items l.live (room l.world);
-  state : state_of (journal_of (model l.world) l.entries.items l.live) ≡ times l.counter forward_one (state_of (journal_of (model l.fn.world) l.fn.entries.items l.fn.live));
+  state : state_of (journal_of (model l.world) l.entries.items l.live) ≡ times l.counter forward_one (state_of (journal_of (model l.fn.world) l.entries.items l.fn.live));
 }

@@ -37,9 +37,9 @@ redo_many-requires g c =
 pub returns-clause-state : goal.returns-clause-state
 returns-clause-state g c =
     let es = c.args.entries.now.items in
-    let fs = c.redo_many.new.entries.items in
+    let fs = c.replace_behind.new.entries.items in
     let border : c.undo_many.new.live ≡ c.args.kept = omega (arith, c.undo_many.ensures.border, c.requires.within) in
-    let is : fs ≡ take c.args.kept es ++ c.args.given.now = c.redo_many.ensures.records ∙ c.replace_behind.ensures in
+    let is : fs ≡ take c.args.kept es ++ c.args.given.now = c.replace_behind.ensures in
     let within = c.requires.session.within in
     let len : length (take c.args.kept es) ≡ c.args.kept = length-take-le c.args.kept es (omega (arith, within, c.requires.within)) in
     let front : take c.undo_many.new.live c.replace_behind.new.entries.items ≡ take c.undo_many.new.live es =
@@ -47,7 +47,7 @@ returns-clause-state g c =
     switched_state c.args.given.now c.args.kept (journal_of (model c.args.world.now) es c.args.live.now)
     (journal_of (model c.redo_many.new.world) fs c.redo_many.new.live)
     (switched_start (c.args.live.now - c.args.kept) (length c.args.given.now) c.undo_many.new.live c.args.live.now c.redo_many.new.live
-    (model c.args.world.now) (model c.undo_many.new.world) (model c.redo_many.new.world) es c.replace_behind.new.entries.items fs front
+    (model c.args.world.now) (model c.undo_many.new.world) (model c.redo_many.new.world) es fs fs front
     c.undo_many.ensures.state c.redo_many.ensures.state)
     (switched_records (model c.args.world.now) (model c.redo_many.new.world) es fs c.args.given.now c.args.kept c.args.live.now c.redo_many.new.live
     c.requires.within within is (omega (arith, c.redo_many.ensures.border)))

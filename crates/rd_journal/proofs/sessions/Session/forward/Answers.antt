@@ -11,9 +11,9 @@ returns-clause-ok g c =
     let enough : c.args.n ≤ length (state_of (journal_of (model c.args.self.now.world) c.args.self.now.entries.items c.args.self.now.live)).undone =
     omega (arith, len) in
     forward_goes (state_of (journal_of (model c.args.self.now.world) c.args.self.now.entries.items c.args.self.now.live))
-    (state_of (journal_of (model c.redo_many.new.world) c.redo_many.new.entries.items c.redo_many.new.live)) c.args.n enough c.redo_many.ensures.state
+    (state_of (journal_of (model c.redo_many.new.world) c.args.self.now.entries.items c.redo_many.new.live)) c.args.n enough c.redo_many.ensures.state
 
 pub returns-clause-records : goal.returns-clause-records
 returns-clause-records g c =
-    forward_records (model c.args.self.now.world) (model c.redo_many.new.world) c.args.self.now.entries.items c.redo_many.new.entries.items
-    c.args.self.now.live c.redo_many.new.live c.args.n c.redo_many.ensures.records c.redo_many.ensures.border
+    forward_records (model c.args.self.now.world) (model c.redo_many.new.world) c.args.self.now.entries.items c.args.self.now.live
+    c.redo_many.new.live c.args.n c.redo_many.ensures.border
