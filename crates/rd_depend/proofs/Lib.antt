@@ -1,3 +1,4 @@
+pub mod Moving
 pub mod Search
 pub mod Reaching
 pub mod Exactness

@@ -3,7 +3,7 @@ use Rattle.std.proofs.Common.{◌≡◌, ◌≢◌, ◌↔◌, ℕ, zero, suc, B
 use Rattle.std.proofs.lemmas.Bool.{eqb-false, not-true, not_from_false, and_parts, and_from, or_parts}
 use Rattle.std.specs.List.{list_all, remove}
 use Rattle.std.proofs.Math.Seq.{drop-cons, take-append_seam}
-use Rattle.std.proofs.lemmas.List.{take_more, take-append-drop, length-take-le, take_all, get_or_at, get_or_default}
+use Rattle.std.proofs.lemmas.List.{take_more, take-append-drop, drop-append-le, length-take-le, take_all, get_or_at, get_or_default}
 use Rattle.rd_step.specs.Prelude.{some_overlap, depends, IsFree}
 use Rattle.rd_step.specs.declared.entries.Event.{Event}
 use Rattle.rd_step.specs.declared.entries.Entry.{Entry}
@@ -50,6 +50,18 @@ moved_over passed more ahead d some h =
     let all : take (length ahead - 1) (drop 1 ahead) ≡ drop 1 ahead = take_all (length ahead - 1) (drop 1 ahead) (omega (arith, length-drop 1 ahead)) in
     (λ i. h i ++ all i) ∙ append_assoc passed (get_or ahead 0 d ∷ []) (drop 1 ahead)
     ∙ ap (λ (l : List Entry). passed ++ l) (sym (parted ahead 0 d some))
+
+-- one more behind those that are left of a list
+pub left_more : (xs more : List Entry) (x : Entry) (t : ℕ) → t ≤ length xs → more ≡ xs ++ x ∷ [] → drop t more ≡ drop t xs ++ x ∷ []
+left_more xs more x t within h = ap (drop t) h ∙ drop-append-le t xs (x ∷ []) within
+
+-- what is left of a list, cut out of it as a slice is
+pub left_all : (ds es : List Entry) (t : ℕ) → ds ≡ es → take (length ds - t) (drop t ds) ≡ drop t es
+left_all ds es t h = take_all (length ds - t) (drop t ds) (omega (arith, length-drop t ds)) ∙ ap (drop t) h
+
+-- nothing is left of a list of which as many are gone as it has, and of no other
+pub left_gone : (xs : List Entry) (t : ℕ) → t ≤ length xs → drop t xs ≡ [] → length xs ≡ t
+left_gone xs t within h = omega (arith, length-drop t xs, ap length h)
 
 -- two lists that make an empty one
 pub none_left : (xs ys : List Entry) → xs ≡ [] → ys ≡ [] → xs ++ ys ≡ []

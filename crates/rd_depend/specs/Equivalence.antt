@@ -1,20 +1,14 @@
--- What an answer about equivalence says; and what the search speaks of: the records that are left, and which of them may come
--- first.
+-- What an answer about equivalence says; and what the search speaks of: which of some records may come first.
 use Rattle.std.specs.Prelude.{◌≡◌, ◌↔◌, ℕ, Bool, IsTrue, List, [], ◌∷◌, ◌++◌, length}
 use Rattle.rd_step.specs.Prelude.{World, IsFree}
 use Rattle.rd_step.specs.Equivalence.{IsEquivalent}
 use Rattle.rd_step.specs.Run.{events, IsRunFrom}
 use Rattle.rd_step.specs.declared.entries.Event.{Event}
 use Rattle.rd_step.specs.declared.entries.Entry.{Entry}
-use Rattle.rd_depend.specs.declared.equivalence.Remaining.{Remaining}
 
 -- the answer says whether the events of two runs are equivalent, whichever start it is from which both run
 abbrev pub DecidesEquivalence : List Entry → List Entry → Bool → Type 0
 DecidesEquivalence a b same = (R : ℕ) (w : World) → IsRunFrom R w a → IsRunFrom R w b → IsTrue same ↔ IsEquivalent R w (events a) (events b)
-
--- the records that are left, in their order
-abbrev pub records : Remaining → List Entry
-records r = r.passed.items ++ r.ahead.now
 
 -- none of these records is by this actor
 abbrev pub HasNoneBy : ℕ → List Entry → Type 0

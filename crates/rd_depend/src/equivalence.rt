@@ -2,23 +2,25 @@
 //!
 //! The records of the first list are looked for one after another in the second one, and taken out of it. Only the first
 //! record by the same actor can be of an event that depends on no earlier one, so there is nothing to try twice. Records by
-//! other actors that were passed over on the way are kept aside, in their order.
+//! other actors that were passed over on the way are kept aside, in their order. To be taken out of those, a record moves
+//! before the ones that it was looked for among: so it costs what looking for it did.
 
 ghost use Rattle.std.specs.Prelude.{◌≡◌, ◌↔◌, ◌<◌, ◌≤◌, ℕ, false, true, [], length, take, IsTrue, Ok, IfOk, OnOk, OnErr, MatchOption, not, slice_index_or};
 ghost use Rattle.std.specs.List.{list_all};
 ghost use Rattle.rd_step.specs.declared.entries.Entry.{Entry as Record};
 ghost use Rattle.rd_step.specs.Prelude.{depends, IsFree};
 ghost use Rattle.rd_step.specs.Run.{events};
-ghost use Rattle.rd_depend.specs.Equivalence.{DecidesEquivalence, records, HasNoneBy, IsFirstBy, MayComeFirst, CannotComeFirst};
+ghost use Rattle.rd_depend.specs.Equivalence.{DecidesEquivalence, HasNoneBy, IsFirstBy, MayComeFirst, CannotComeFirst};
 
 use super::dependence::depends;
+use super::moves::move_before;
 use rd_step::{Entry, Event};
 use std::alloc::{AllocError, Global};
 
 /// Whether the events of two runs from one start are causally equivalent: one list is the other up to the order of steps that
 /// do not depend on each other. A common beginning takes time that grows with its length, and no memory. Of what is behind
-/// it, each record is looked for among those of the other list that were passed over: at worst, with each record far from its
-/// place in the other list, the time grows with the square of the length.
+/// it, each record is looked for among those of the other list that were passed over and are left: at worst, with many of these
+/// for each record, the time grows with the square of the length.
 ///
 /// # Errors
 ///
@@ -54,6 +56,7 @@ fn compare(alloc: Global, a: &[Entry], b: &[Entry]) -> Result<bool, AllocError>
 {
     let mut remaining = Remaining {
         passed: Vec::new(alloc),
+        taken: 0,
         ahead: b,
     };
     for entry in a {
@@ -67,13 +70,18 @@ fn compare(alloc: Global, a: &[Entry], b: &[Entry]) -> Result<bool, AllocError>
 /// The records of the second list that were not taken out yet.
 #[derive(Drop)]
 struct Remaining<'a> {
-    /// Those that were passed over, in their order.
+    /// Those that were passed over, in their order, behind those of them that were taken out.
     passed: Vec<Entry>,
+    /// How many of those passed over were taken out.
+    taken: usize,
     /// Those that were not looked at yet; they come after the others.
     ahead: &'a [Entry],
+    ghost within: { taken ≤ length passed.items },
 }
 
 impl<'a> Remaining<'a> {
+    ghost use Rattle.rd_depend.specs.Remaining.{passed_over, records};
+
     /// Takes out the first record by the entry's actor if it is of the entry's event and depends on no earlier one.
     fn take_first(&mut self, entry: &Entry) -> Result<bool, AllocError>
         ensures taken { IfOk result (λ taken. taken ≡ true → MayComeFirst entry.now.event (records self.old) (records self.new)) }
@@ -82,27 +90,29 @@ impl<'a> Remaining<'a> {
         let Some(index) = self.reach(entry.event.actor)? else {
             return Ok(false);
         };
-        if !may_come_first(&self.passed, index, &entry.event) {
+        if !may_come_first(&self.passed[self.taken..], index, &entry.event) {
             return Ok(false);
         }
-        self.passed.remove(index);
+        let taken = self.taken;
+        move_before(&mut self.passed, taken, taken + index);
+        self.taken += 1;
         Ok(true)
     }
 
-    /// The index of the first record by the actor, which is among those passed over then.
+    /// The index of the first record by the actor, among those that are left of those passed over, to which it belongs then.
     fn reach(&mut self, actor: u8) -> Result<Option<usize>, AllocError>
         ensures unchanged { OnOk result (records self.new ≡ records self.old) }
         ensures first { IfOk result (λ found. MatchOption found (HasNoneBy actor (records self.new))
-            (λ index. (index < length self.new.passed.items) × IsFirstBy actor self.new.passed.items index)) }
+            (λ index. (index < length (passed_over self.new)) × IsFirstBy actor (passed_over self.new) index)) }
     {
-        if let Some(index) = first_by(&self.passed, actor) {
+        if let Some(index) = first_by(&self.passed[self.taken..], actor) {
             return Ok(Some(index));
         }
         while let [entry, rest @ ..] = self.ahead {
             self.passed.push(*entry)?;
             self.ahead = rest;
             if actor == entry.event.actor {
-                return Ok(Some(self.passed.len() - 1));
+                return Ok(Some(self.passed.len() - self.taken - 1));
             }
         }
         Ok(None)
@@ -112,7 +122,7 @@ impl<'a> Remaining<'a> {
     fn is_empty(&self) -> bool
         ensures { IsTrue result ↔ (records self.now ≡ []) }
     {
-        self.passed.is_empty() && self.ahead.is_empty()
+        self.passed.len() == self.taken && self.ahead.is_empty()
     }
 }
 

@@ -8,9 +8,11 @@
 pub mod dependence;
 pub mod equivalence;
 pub mod laws;
+pub mod moves;
 
 pub use dependence::{depends, depends_on_one, first_dependant};
 pub use equivalence::are_equivalent;
+pub use moves::move_before;
 
 #[cfg(test)]
 mod tests;

@@ -12,3 +12,4 @@ pub mod Gathering
 pub mod RolledBack
 pub mod Closures
 pub mod RolledForward
+pub mod ReadAgain

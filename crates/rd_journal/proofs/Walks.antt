@@ -1,7 +1,7 @@
 -- Undoing and redoing over a world, one list of records and a border in it, and how the state changes.
-use Rattle.std.proofs.Common.{◌≡◌, ℕ, suc, ◌+◌, ◌-◌, ◌<◌, sym, ◌∙◌, ap, subst, List, [], ◌∷◌, ◌++◌, length, take, drop, get_or, Result, Ok, is_ok, IsOk, arith}
+use Rattle.std.proofs.Common.{◌≡◌, ℕ, suc, ◌+◌, ◌-◌, ◌<◌, sym, ◌∙◌, ap, subst, List, [], ◌∷◌, ◌++◌, length, take, drop, get_or, Ok, arith}
 use Rattle.std.proofs.lemmas.List.{map-append}
-use Rattle.rd_step.specs.Prelude.{Refusal, World, Stepped, step, unstep}
+use Rattle.rd_step.specs.Prelude.{World, Stepped, step, unstep}
 use Rattle.rd_step.specs.declared.entries.Event.{Event}
 use Rattle.rd_step.specs.declared.entries.Entry.{Entry}
 use Rattle.rd_journal.specs.Journal.{Journal, journal_of, events, IsRun}
@@ -67,10 +67,6 @@ pub first_redone : (R : ℕ) (w : World) (es : List Entry) (k : ℕ) (x : Entry)
 first_redone R w es k x at runs =
     may_redo R w (take k es) (drop (k + 1) es) x (subst (λ (j : Journal). IsRun R j) (before w es k x at) runs)
 
--- the front of undone is not refused
-pub redo_goes : (R : ℕ) (w : World) (es : List Entry) (k : ℕ) (x : Entry) → StandsAt es k x → IsRun R (journal_of w es k) → IsOk (step R w x.event)
-redo_goes R w es k x at runs = ap (λ (r : Result Stepped Refusal). is_ok r) (first_redone R w es k x at runs).goes
-
 -- what a redone step leaves: the journal with the border behind its record is a run
 pub record Redone (R : ℕ) (w v : World) (es : List Entry) (k : ℕ) : Type 0 where
   pub runs : IsRun R (journal_of v es (k + 1))
@@ -86,13 +82,12 @@ forward_state R w v xs ys x runs h =
     let all : events (xs ++ x ∷ []) ≡ events xs ++ x.event ∷ [] = map-append (λ (y : Entry). y.event) xs (x ∷ []) in
     λ i. record { start = start i; live = all i; undone = events ys }
 
-pub redone : (R : ℕ) (w v : World) (es : List Entry) (k : ℕ) (x y : Entry) → StandsAt es k x → IsRun R (journal_of w es k)
-    → step R w x.event ≡ Ok (record { world = v; entry = y }) → Redone R w v es k
-redone R w v es k x y at runs h =
+pub redone : (R : ℕ) (w v : World) (es : List Entry) (k : ℕ) (x : Entry) → StandsAt es k x → IsRun R (journal_of w es k)
+    → step R w x.event ≡ Ok (record { world = v; entry = x }) → Redone R w v es k
+redone R w v es k x at runs goes =
     let may = first_redone R w es k x at runs in
-    let both : record { world = v; entry = y } ≡ record { world = may.after; entry = x } = cc (h, may.goes) in
+    let both : record { world = v; entry = x } ≡ record { world = may.after; entry = x } = cc (goes, may.goes) in
     let there : may.after ≡ v = sym (ap (λ (s : Stepped). s.world) both) in
-    let goes : step R w x.event ≡ Ok (record { world = v; entry = x }) = may.goes ∙ (λ i. Ok (record { world = there i; entry = x })) in
     let parts : IsRun R (record { world = v; live = take k es ++ x ∷ []; undone = drop (k + 1) es }) =
     subst (λ (u : World). IsRun R (record { world = u; live = take k es ++ x ∷ []; undone = drop (k + 1) es })) there may.runs in
     record {

@@ -5,10 +5,12 @@ ghost use Rattle.rd_step.specs.Prelude.{model, room, step, first_dependant};
 ghost use Rattle.rd_step.specs.Room.{makes_segment, room_used};
 ghost use Rattle.rd_journal.specs.Border.{IsSession};
 ghost use Rattle.rd_journal.specs.Journal.{journal_of};
+ghost use Rattle.rd_step.specs.World.{World as Model};
 ghost use Rattle.rd_journal.specs.Moves.{IsTakenOutAt};
 ghost use Rattle.rd_journal.specs.Room.{IsOutOfMemory};
 ghost use Rattle.rd_journal.specs.State.{state_of, back_one, forward_one, times, one_out};
 
+use rd_actor::after;
 use rd_cell::Refusal;
 use rd_cell::limits::MOST_STEPS;
 use rd_inverse::unstep;
@@ -105,21 +107,27 @@ pub(crate) fn redo_first<const R: usize>(
     ensures state { state_of (journal_of (model world.new) entries.now.items live.new)
         ≡ forward_one (state_of (journal_of (model world.old) entries.now.items live.old)) }
 {
-    step_again(world, entries[*live].event);
+    step_again(world, &entries[*live]);
     *live += 1;
 }
 
-/// Makes an event happen again, which is known not to be refused.
-fn step_again<const R: usize>(world: &mut World<R>, event: Event)
-    requires goes { IsOk (step R (model world.old) event) }
-    requires room { IsTrue (makes_segment R (model world.old) event) → 1 ≤ room world.old event.actor }
-    ensures done { (entry : Entry) × (step R (model world.old) event ≡ Ok (record { world = model world.new; entry = entry })) }
+/// Makes the step of a record again, which is known to leave that record. One that only read changes its actor alone, by the
+/// answer that the record keeps.
+fn step_again<const R: usize>(world: &mut World<R>, entry: &Entry)
+    requires goes { (after : Model) × (step R (model world.old) entry.now.event ≡ Ok (record { world = after; entry = entry.now })) }
+    requires room { IsTrue (makes_segment R (model world.old) entry.now.event) → 1 ≤ room world.old entry.now.event.actor }
+    ensures done { step R (model world.old) entry.now.event ≡ Ok (record { world = model world.new; entry = entry.now }) }
     ensures room { (m : ℕ) → room world.old m
-        ≤ room world.new m + room_used (makes_segment R (model world.old) event) event.actor m }
+        ≤ room world.new m + room_used (makes_segment R (model world.old) entry.now.event) entry.now.event.actor m }
 {
-    match world.step(event) {
-        Err(_) => unreachable!(),
-        Ok(_) => {}
+    if entry.wrote {
+        match world.step(entry.event) {
+            Err(_) => unreachable!(),
+            Ok(_) => {}
+        }
+    } else {
+        let (words, _) = after::<R>(&entry.old_actor, entry.event.act, entry.answer);
+        world.revert(entry.event.actor, words, None, None);
     }
 }
 

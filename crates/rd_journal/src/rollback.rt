@@ -8,7 +8,7 @@ ghost use Rattle.rd_journal.specs.Journal.{journal_of, start_of};
 ghost use Rattle.rd_journal.specs.Moves.{IsRolledBack};
 
 use super::border::undo_many;
-use rd_depend::depends_on_one;
+use rd_depend::{depends_on_one, move_before};
 use rd_step::{Entry, World};
 
 /// Undoes the `k`-th live step and all later ones that depend on it, directly or through others.
@@ -55,15 +55,4 @@ fn move_closure_last(entries: &mut Vec<Entry>, k: usize, live: usize) -> usize
         }
     }
     live - front
-}
-
-/// Moves the record at position `next` before those from `front` on, which keep their order.
-fn move_before(entries: &mut Vec<Entry>, front: usize, next: usize)
-    requires order { front ≤ next }
-    requires within { next + 1 ≤ length entries.old.items }
-    ensures { entries.new.items ≡ take front entries.old.items
-        ++ (take 1 (drop next entries.old.items) ++ (drop front (take next entries.old.items) ++ drop (next + 1) entries.old.items)) }
-{
-    let block = &mut entries[front..next + 1];
-    block.rotate_right(1);
 }

@@ -1,5 +1,5 @@
 -- The room that a step uses is the room that its undoing gives back.
-use Rattle.std.proofs.Common.{◌≡◌, ℕ, nat_lt, Bool, true, refl, ◌∙◌, ap, subst, Option, Some, None, Result, Ok, Err, IfOk}
+use Rattle.std.proofs.Common.{◌≡◌, ℕ, nat_lt, Bool, true, false, refl, ◌∙◌, ap, subst, Option, Some, None, is_some, Result, Ok, Err, IfOk}
 use Rattle.std.proofs.lemmas.Bool.{cond_both}
 use Rattle.std.proofs.lemmas.Result.{IfOk-at_ok}
 use Rattle.rd_ring.specs.Prelude.{MOST_SEGMENTS, Place, Content, Access, NoPlace, At, Make, Operation, Refusal, Contents, operand, Effect, effect, Performed, number_made, operate, make, perform}
@@ -39,3 +39,32 @@ room_used_returned R w e s m h =
     IfOk-at_ok (λ (d : Performed). room_used (makes t.access) e.actor m ≡ room_returned d.place d.old m) t.does (returned-perform R e.actor w.at t.access m) in
     subst (λ (x : Stepped). room_used (makes_segment R w e) e.actor m ≡ room_returned x.entry.place x.entry.old_content m) t.ends
     (ap (λ (b : Bool). room_used b e.actor m) by ∙ did)
+
+-- an access that did this returns no room if it only read
+abbrev ReturnsNone : ℕ → Performed → Type 0
+ReturnsNone m did = is_some did.writes ≡ false → room_returned did.place did.old m ≡ 0
+
+none-effect : (p : Place) (c : Content) (r : Result Effect Refusal) (m : ℕ) → IfOk (perform_effect p c r) (ReturnsNone m)
+none-effect p c (Err x) m = tt
+none-effect p c (Ok e) m = λ k. refl
+
+none-operate : (p : Place) (op : Operation) (o : Option Content) (m : ℕ) → IfOk (operate p op o) (ReturnsNone m)
+none-operate p op None m = tt
+none-operate p op (Some c) m = none-effect p c (effect op c) m
+
+none-make : (R actor n x m : ℕ) → IfOk (make R (record { maker = actor; n = n }) x) (ReturnsNone m)
+none-make R actor n x m =
+    cond_both (nat_lt n MOST_SEGMENTS) _ _ (λ (r : Result Performed Refusal). IfOk r (ReturnsNone m)) (λ e. λ k. cc) (λ e. tt)
+
+none-perform : (R actor : ℕ) (at : Contents) (x : Access) (m : ℕ) → IfOk (perform R actor at x) (ReturnsNone m)
+none-perform R actor at NoPlace m = λ k. refl
+none-perform R actor at (At p op) m = none-operate p op (operand at p) m
+none-perform R actor at (Make x) m = none-make R actor (number_made at actor) x m
+
+-- undoing a step that only read gives no room back
+pub read_returns_none : (R : ℕ) (w : World) (e : Event) (s : Stepped) (m : ℕ) → step R w e ≡ Ok s → s.entry.wrote ≡ false
+    → room_returned s.entry.place s.entry.old_content m ≡ 0
+read_returns_none R w e s m h =
+    let t = took R w e s h in
+    subst (λ (x : Stepped). x.entry.wrote ≡ false → room_returned x.entry.place x.entry.old_content m ≡ 0) t.ends
+    (IfOk-at_ok (ReturnsNone m) t.does (none-perform R e.actor w.at t.access m))

@@ -1,4 +1,4 @@
-use Rattle.rd_depend.specs.Equivalence.{records}
+use Rattle.rd_depend.specs.Remaining.{records}
 use Rattle.rd_depend.proofs.Exactness.{found_at, missing_at, all_found}
 use Rattle.rd_depend.proofs.equivalence.compare.Goals as goal
 

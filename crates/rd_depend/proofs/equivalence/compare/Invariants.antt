@@ -1,5 +1,5 @@
 use Rattle.std.proofs.Common.{drop}
-use Rattle.rd_depend.specs.Equivalence.{records}
+use Rattle.rd_depend.specs.Remaining.{records}
 use Rattle.rd_depend.proofs.Exactness.{Compares}
 use Rattle.rd_depend.proofs.equivalence.compare.Given as goal
 

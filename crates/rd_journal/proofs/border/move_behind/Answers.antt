@@ -1,7 +1,8 @@
 use Rattle.std.proofs.Common.{◌≡◌, ◌∙◌, ℕ, ◌-◌, ◌≤◌, List, ◌++◌, length, take, drop, ap, rules}
 use borrow.Rule.Slice.PartMut.{put_mid, mid_of}
 use Rattle.rd_step.specs.declared.entries.Entry.{Entry}
-use Rattle.rd_journal.proofs.ListLemmas.{moved_behind, moved_behind-length, turned, overwritten, behind_before, behind_from}
+use Rattle.rd_depend.proofs.Moving.{overwritten}
+use Rattle.rd_journal.proofs.ListLemmas.{moved_behind, moved_behind-length, turned, behind_before, behind_from}
 use Rattle.rd_journal.proofs.border.move_behind.Goals as goal
 
 -- what the vector holds after its part was turned by one

@@ -2,7 +2,8 @@ use Rattle.std.proofs.Common.{◌≡◌, ◌-◌, ◌+◌, ◌∙◌, List, take
 use Rattle.rd_step.specs.Prelude.{depends_on_one}
 use Rattle.rd_step.specs.declared.entries.Entry.{Entry}
 use Rattle.rd_journal.proofs.Gathering.{gathering_first, joins, moves, same_gathering, gathered}
-use Rattle.rd_journal.proofs.ListLemmas.{part_of, moved_to, moved_to-length}
+use Rattle.rd_depend.specs.Moved.{moved_to}
+use Rattle.rd_depend.proofs.Moving.{part_of, moved_to-length}
 use Rattle.rd_journal.proofs.rollback.move_closure_last.Goals as goal
 use Rattle.rd_journal.proofs.rollback.move_closure_last.Goals.{then-not-depends_on_one, else-not-depends_on_one}
 

@@ -1,8 +1,9 @@
 use Rattle.std.proofs.Common.{◌≡◌, ◌∙◌, ℕ, ◌-◌, ◌+◌, ◌≤◌, List, ◌++◌, length, take, drop, ap, rules}
 use borrow.Rule.Slice.PartMut.{put_mid, mid_of}
 use Rattle.rd_step.specs.declared.entries.Entry.{Entry}
-use Rattle.rd_journal.proofs.ListLemmas.{moved_to, moved_to-length, turned_right, overwritten}
-use Rattle.rd_journal.proofs.rollback.move_before.Goals as goal
+use Rattle.rd_depend.specs.Moved.{moved_to}
+use Rattle.rd_depend.proofs.Moving.{moved_to-length, turned_right, overwritten}
+use Rattle.rd_depend.proofs.moves.move_before.Goals as goal
 
 -- what the vector holds after its part was turned by one
 whole : (n f k : ℕ) (es ds turned : List Entry) → n ≡ length es → ds ≡ es → f ≤ k → k + 1 ≤ length es

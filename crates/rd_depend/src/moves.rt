@@ -1,0 +1,17 @@
+//! Moving one record before others, inside the room that they have.
+
+ghost use Rattle.std.specs.Prelude.{◌≡◌, ◌≤◌, ◌+◌, length};
+ghost use Rattle.rd_depend.specs.Moved.{moved_to};
+
+use rd_step::Entry;
+
+/// Moves the record at position `next` before those from position `front` on, which keep their order. Positions are counted
+/// from 0. It takes no memory, and time that grows with the number of records between the two.
+pub fn move_before(entries: &mut Vec<Entry>, front: usize, next: usize)
+    requires order { front ≤ next }
+    requires within { next + 1 ≤ length entries.old.items }
+    ensures { entries.new.items ≡ moved_to entries.old.items front next }
+{
+    let block = &mut entries[front..next + 1];
+    block.rotate_right(1);
+}
