@@ -5,7 +5,7 @@
 //! other actors that were passed over on the way are kept aside, in their order. To be taken out of those, a record moves
 //! before the ones that it was looked for among: so it costs what looking for it did.
 
-ghost use Rattle.std.specs.Prelude.{◌≡◌, ◌↔◌, ◌<◌, ◌≤◌, ℕ, false, true, [], length, take, IsTrue, Ok, IfOk, OnOk, OnErr, MatchOption, not, slice_index_or};
+ghost use Rattle.std.specs.Prelude.{◌≡◌, ◌↔◌, ◌<◌, ◌≤◌, false, true, [], length, take, IsTrue, Ok, IfOk, OnOk, OnErr, MatchOption, not, slice_index_or};
 ghost use Rattle.std.specs.List.{list_all};
 ghost use Rattle.rd_step.specs.declared.entries.Entry.{Entry as Record};
 ghost use Rattle.rd_step.specs.Prelude.{depends, IsFree};

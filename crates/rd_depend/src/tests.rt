@@ -3,6 +3,7 @@
 mod equivalence;
 
 use super::dependence::{depends, depends_on_one, first_dependant};
+use super::moves::move_before;
 use rd_actor::{Act, Actor};
 use rd_cell::{Answer, Place, SegName};
 use rd_step::{Entry, Event};
@@ -113,5 +114,19 @@ fn the_first_dependant_is_the_least_later_step(rt: HostRuntime) -> Result<(), Fa
     for (k, wanted) in FIRST {
         compare(&rt, &entries, k, wanted);
     }
+    Ok(())
+}
+
+#[test]
+fn a_record_moves_before_others_which_keep_their_order(rt: HostRuntime) -> Result<(), Fail> {
+    let mut entries = Vec::new(rt.alloc());
+    for access in RUN {
+        entries.push(record(access))?;
+    }
+    if entries.len() == RUN.len() {
+        move_before(&mut entries, 1, 3);
+    }
+    let moved = [RUN[0], RUN[3], RUN[1], RUN[2], RUN[4]].map(record);
+    assert_eq!(rt; entries.as_slice(), moved.as_slice());
     Ok(())
 }

@@ -1,6 +1,6 @@
 //! Undoing and redoing over the fields of a session: the world, the records, and the border behind the live ones.
 
-ghost use Rattle.std.specs.Prelude.{◌≡◌, ◌⊎◌, ◌++◌, ◌+◌, ◌-◌, ◌<◌, ◌≤◌, [], ◌∷◌, ℕ, IsTrue, length, take, drop, vec_capacity, None, Ok, Err, IsOk, OnOk, OnErr, IfOk, IfErr};
+ghost use Rattle.std.specs.Prelude.{◌≡◌, ◌⊎◌, ◌++◌, ◌+◌, ◌-◌, ◌<◌, ◌≤◌, [], ◌∷◌, ℕ, IsTrue, length, take, drop, vec_capacity, None, Ok, Err, OnOk, OnErr, IfOk, IfErr};
 ghost use Rattle.rd_step.specs.Prelude.{model, room, step, first_dependant};
 ghost use Rattle.rd_step.specs.Room.{makes_segment, room_used};
 ghost use Rattle.rd_journal.specs.Border.{IsSession};

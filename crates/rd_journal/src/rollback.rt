@@ -1,7 +1,7 @@
 //! Undoing a step together with all that depends on it: these records are moved behind the other live ones, which no step
 //! among them minds, and are then the last ones.
 
-ghost use Rattle.std.specs.Prelude.{◌≡◌, ◌++◌, ◌+◌, ◌≤◌, length, take, drop};
+ghost use Rattle.std.specs.Prelude.{◌≡◌, ◌++◌, ◌≤◌, length, take, drop};
 ghost use Rattle.rd_step.specs.Prelude.{model, room, closure_of, without_closure};
 ghost use Rattle.rd_journal.specs.Border.{IsSession};
 ghost use Rattle.rd_journal.specs.Journal.{journal_of, start_of};

@@ -94,6 +94,26 @@ const READ_THEN_MARKED: Schedule = &[
     (2, Act::Go),
 ];
 
+/// Three dequeues begin, and each reads the queue's head.
+const THREE_CALLS: Schedule = &[
+    (1, Act::Deq),
+    (2, Act::Deq),
+    (3, Act::Deq),
+    (1, Act::Go),
+    (2, Act::Go),
+    (3, Act::Go),
+];
+
+/// The same in another order: what is looked for first stands behind what is looked for last.
+const LAST_CALL_FIRST: Schedule = &[
+    (3, Act::Deq),
+    (2, Act::Deq),
+    (3, Act::Go),
+    (1, Act::Deq),
+    (2, Act::Go),
+    (1, Act::Go),
+];
+
 /// Two enqueues of one value on the array, the first actor's whole before the second's.
 const FIRST_THEN_SECOND: Schedule = &[
     (1, Act::AEnq(5)),
@@ -115,7 +135,7 @@ const SECOND_THEN_FIRST: Schedule = &[
 ];
 
 /// Pairs of schedules, and whether they are equivalent.
-const PAIRS: [(Schedule, Schedule, bool); 13] = [
+const PAIRS: [(Schedule, Schedule, bool); 15] = [
     (&[], &[], true),
     (&[], ONE_READ, false),
     (TWO_CALLS, TWO_CALLS, true),
@@ -129,6 +149,8 @@ const PAIRS: [(Schedule, Schedule, bool); 13] = [
     (TWO_ADDS, ADDS_SWAPPED, false),
     (MARKED_THEN_READ, READ_THEN_MARKED, false),
     (FIRST_THEN_SECOND, SECOND_THEN_FIRST, false),
+    (THREE_CALLS, LAST_CALL_FIRST, true),
+    (THREE_CALLS, SECOND_ACTOR_FIRST, false),
 ];
 
 /// The records of a schedule from the fresh world.
