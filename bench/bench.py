@@ -1,12 +1,13 @@
 #!/usr/bin/env python3
 """How fast the program answers, how much memory it takes, and how both grow with the length of the run.
 
-    python3 bench/bench.py --program PATH [--quick] [--runs N] [--lengths N,N,..] [--marks N] [--seconds N] [--only TEXT]
+    python3 bench/bench.py --program PATH [--quick] [--runs N] [--lengths N,N,..] [--marks N] [--seconds N] [--rest N] [--only TEXT]
 
 PATH is the built program; it is called as `PATH run FILE --actors A --ring R`. Standard output gets one Markdown table, standard
 error what is being measured. Only Python's standard library is used. All scripts are written into a temporary folder.
 
-Each row is the median of several runs. The replies go through a pipe that is read all the time, and they are checked: a row whose
+Each row is the median of several runs. The replies go through a pipe that is read all the time, or with `--rest` by a reader that
+rests after each read; a reader that does not is woken by nearly every reply, which costs the program time. They are checked: a row whose
 replies are not those that it is meant to time says `wrong`, and the status is 1 then.
 
 Columns. Steps: how many steps are live when the timed lines begin. Lines: how many lines are timed. Seconds: time from start to
@@ -215,8 +216,8 @@ def peak_now(process):
     return 0
 
 
-def read_replies(pipe, process, seconds):
-    """All that the process writes, the greatest peak seen, and whether it ended in time."""
+def read_replies(pipe, process, seconds, rest):
+    """All that the process writes, the greatest peak seen, and whether it ended in time. The reader rests so long after each read."""
     chunks, peak, looked = [], 0, 0.0
     end = time.perf_counter() + seconds
     while True:
@@ -231,6 +232,8 @@ def read_replies(pipe, process, seconds):
         if not chunk:
             return b"".join(chunks), peak, True
         chunks.append(chunk)
+        if rest:
+            time.sleep(rest)
 
 
 def fault_in(job, replies, status, in_time):
@@ -255,7 +258,7 @@ def one_run(options, job, script):
     words = [options.program, "run", script, "--actors", str(job.actors), "--ring", str(job.ring)]
     begin = time.perf_counter()
     child = subprocess.Popen(words, stdin=subprocess.DEVNULL, stdout=subprocess.PIPE)
-    replies, peak, in_time = read_replies(child.stdout.fileno(), child.pid, options.seconds)
+    replies, peak, in_time = read_replies(child.stdout.fileno(), child.pid, options.seconds, options.rest)
     if not in_time:
         child.kill()
     _, status, usage = os.wait4(child.pid, 0)
@@ -350,6 +353,7 @@ def read_options():
     parser.add_argument("--lengths", help="steps of the runs, rising (1000,8000,65000, quick: 1000,8000)")
     parser.add_argument("--marks", type=int, help="bookmarks of the run with many (64, quick: 8)")
     parser.add_argument("--seconds", type=float, default=120.0, help="the longest time of one run (120)")
+    parser.add_argument("--rest", type=float, default=0.0, help="seconds that the reader rests after each read (0)")
     parser.add_argument("--only", default="", help="only the rows whose name has this text")
     options = parser.parse_args()
     quick = options.quick
