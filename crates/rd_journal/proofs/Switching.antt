@@ -199,8 +199,8 @@ switched_records w v es fs given k l m below within is border =
     }
 
 -- undoing, putting other records behind the border and redoing them leave the start
-pub switched_start : (a b k l m : ℕ) (w u v : World) (es fs gs : List Entry) → take k fs ≡ take k es
-    → state_of (journal_of u es k) ≡ times a back_one (state_of (journal_of w es l)) → state_of (journal_of v gs m) ≡ times b forward_one (state_of (journal_of u fs k))
-    → world_before v (take m gs) ≡ world_before w (take l es)
-switched_start a b k l m w u v es fs gs front undone redone =
+pub switched_start : (a b k l m : ℕ) (w u v : World) (es fs : List Entry) → take k fs ≡ take k es
+    → state_of (journal_of u es k) ≡ times a back_one (state_of (journal_of w es l)) → state_of (journal_of v fs m) ≡ times b forward_one (state_of (journal_of u fs k))
+    → world_before v (take m fs) ≡ world_before w (take l es)
+switched_start a b k l m w u v es fs front undone redone =
     ap (λ (s : State). s.start) redone ∙ forward_start b (state_of (journal_of u fs k)) ∙ ap (world_before u) front ∙ kept_start a k l w u es undone

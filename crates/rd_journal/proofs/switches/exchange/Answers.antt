@@ -47,7 +47,7 @@ returns-clause-state g c =
     switched_state c.args.given.now c.args.kept (journal_of (model c.args.world.now) es c.args.live.now)
     (journal_of (model c.redo_many.new.world) fs c.redo_many.new.live)
     (switched_start (c.args.live.now - c.args.kept) (length c.args.given.now) c.undo_many.new.live c.args.live.now c.redo_many.new.live
-    (model c.args.world.now) (model c.undo_many.new.world) (model c.redo_many.new.world) es fs fs front
+    (model c.args.world.now) (model c.undo_many.new.world) (model c.redo_many.new.world) es fs front
     c.undo_many.ensures.state c.redo_many.ensures.state)
     (switched_records (model c.args.world.now) (model c.redo_many.new.world) es fs c.args.given.now c.args.kept c.args.live.now c.redo_many.new.live
     c.requires.within within is (omega (arith, c.redo_many.ensures.border)))
