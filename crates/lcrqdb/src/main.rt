@@ -20,7 +20,7 @@ use program::{play, resume, whole_text};
 use rd_script::{ReadSource, WriteSink};
 use std::alloc::Global;
 use std::fs::File;
-use std::io::{BufReader, ErrorKind, Read};
+use std::io::{ErrorKind, Read};
 use std::process::ExitCode;
 use std::{env, fs};
 
@@ -78,10 +78,9 @@ fn play_reader<R: Read + Drop>(
     requires some { 1 ≤ actors }
     requires few { actors ≤ 16 }
 {
-    let input = buffered(alloc, script)?;
     play(
         alloc,
-        &mut ReadSource::new(input),
+        &mut ReadSource::new(script),
         &mut WriteSink::new(rt.stdout()),
         actors,
         ring,
@@ -96,19 +95,10 @@ fn load_reader<R: Read + Drop>(
     mut trace: R,
 ) -> Result<u64, ProgramFault> {
     let text = whole_text(alloc, &mut trace)?;
-    let input = buffered(alloc, rt.stdin())?;
     resume(
         alloc,
         text.as_slice(),
-        &mut ReadSource::new(input),
+        &mut ReadSource::new(rt.stdin()),
         &mut WriteSink::new(rt.stdout()),
     )
-}
-
-/// The reader with a buffer before it, since it is asked for one byte at a time.
-fn buffered<R: Read + Drop>(alloc: Global, reader: R) -> Result<BufReader<R>, ProgramFault> {
-    match BufReader::new(alloc, reader) {
-        Ok(input) => Ok(input),
-        Err(_) => Err(ProgramFault::NoMemory),
-    }
 }

@@ -18,7 +18,7 @@ use thiserror::Error;
 /// Why the program ends without having done all that it was asked.
 #[derive(Debug, Drop, Error)]
 pub enum ProgramFault {
-    /// The world, a buffer, a trace or the command line was refused its memory.
+    /// The world, a trace or the command line was refused its memory.
     #[error("memory was refused")]
     NoMemory,
     /// A script or a trace can't be opened or read, or a script has 2^64 - 1 bytes without an end.

@@ -163,13 +163,11 @@ impl<const R: usize> Book<R> {
     pub(crate) fn apply(&mut self, event: Event) -> Result<Reply, Refusal>
         ensures { Happened R (book_state self.old) event (record { answer = result; state = book_state self.new }) }
     {
-        match self.session.apply(event) {
-            Err(refusal) => Err(refusal),
-            Ok((number, entry)) => Ok(Reply::Applied {
-                step: number,
-                reply: entry.reply,
-            }),
-        }
+        let (step, entry) = self.session.apply(event)?;
+        Ok(Reply::Applied {
+            step,
+            reply: entry.reply,
+        })
     }
 
     /// Undoes the last live step. Answers how many steps are live and undone then.

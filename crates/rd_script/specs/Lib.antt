@@ -1,4 +1,5 @@
 pub mod Device
+pub mod Portions
 pub mod Puts
 pub mod Texts
 pub mod Contents

@@ -5,9 +5,11 @@
 //! call that a signal interrupts is made again, of the one as of the other, and is no fault.
 
 ghost use Rattle.std.specs.Prelude.{◌≡◌, ◌<◌, ◌≤◌, ℕ, Bool, true, false, List, Option, IfOk, OnOk, OnErr, length, take};
-ghost use Rattle.std.specs.Io.KnownBytes.{Keeps, Appends};
+ghost use Rattle.std.specs.Io.KnownBytes.{Keeps, Appends, prepend_known};
 ghost use Rattle.rd_script.specs.Device.{Gives, TakesBeginning};
+ghost use Rattle.rd_script.specs.Portions.{left};
 
+use super::portions::Portion;
 use std::io::{ErrorKind, Read, Write};
 
 /// A source failed.
@@ -70,10 +72,11 @@ pub fn hand_over<K: Sink>(writer: &mut K, text: &[u8]) -> Result<(), WriteFault>
     Ok(())
 }
 
-/// The bytes of a reader, which is asked for one at a time: for speed it should have a buffer of its own.
+/// The bytes of a reader, which is asked for them in portions.
 #[derive(Drop)]
 pub struct ReadSource<R> {
     inner: R,
+    portion: Portion,
     failed: bool,
 }
 
@@ -85,41 +88,25 @@ impl<R: Read> ReadSource<R> {
     {
         ReadSource {
             inner,
+            portion: Portion::new(),
             failed: false,
         }
     }
 }
 
 impl<R: Read> Source for ReadSource<R> {
-    ghost bytes = { λ s. R.remaining s.inner };
+    ghost bytes = { λ s. prepend_known (left s.portion) (R.remaining s.inner) };
 
     ghost has_failed = { λ s. s.failed };
 
     fn byte(&mut self) -> Result<Option<u8>, ReadFault> {
-        let given = one_byte(&mut self.inner);
-        self.failed = given.is_err();
-        given
-    }
-}
-
-/// The reader's next byte, or none at the end. A read that a signal interrupts is made again, up to 2^64 - 1 times.
-fn one_byte<R: Read>(reader: &mut R) -> Result<Option<u8>, ReadFault>
-    ensures ok { IfOk result (Gives (R.remaining reader.old) (R.remaining reader.new)) }
-    ensures err { OnErr result (Keeps (R.remaining reader.old) (R.remaining reader.new)) }
-{
-    let mut one = [0u8];
-    for _ in 0..u64::MAX {
-        match reader.read(&mut one) {
-            Ok(0) => return Ok(None),
-            Ok(_) => return Ok(Some(one[0])),
-            Err(error) => {
-                if error.kind() != ErrorKind::Interrupted {
-                    return Err(ReadFault);
-                }
-            }
+        if self.portion.is_empty() {
+            let filled = self.portion.fill(&mut self.inner);
+            self.failed = filled.is_err();
+            filled?;
         }
+        Ok(self.portion.next())
     }
-    Err(ReadFault)
 }
 
 /// A writer that takes what it is given at once: it should have no buffer that is flushed later.

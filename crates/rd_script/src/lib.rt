@@ -21,6 +21,7 @@ pub mod line_buffer;
 mod numbers;
 mod numerals;
 mod places;
+mod portions;
 mod refusals;
 mod replies;
 pub mod script;

@@ -14,25 +14,28 @@ use std::test::Fail;
 /// How the devices of a run work.
 #[derive(Clone, Copy)]
 struct Devices {
-    /// How many reads give a byte or the end; those behind them fail.
+    /// How many reads give bytes or the end; those behind them fail.
     good_reads: usize,
     /// How many writes take bytes; those behind them fail.
     good_writes: usize,
+    /// The most bytes that a read gives.
+    most_given: usize,
     /// The most bytes that a write takes.
-    most: usize,
+    most_taken: usize,
     /// Whether a signal interrupts each read and each write once, before it is made again.
     interrupted: bool,
 }
 
-/// Devices that work.
+/// Devices that work. A read gives one byte.
 const WORKING: Devices = Devices {
     good_reads: 100_000,
     good_writes: 100_000,
-    most: 100_000,
+    most_given: 1,
+    most_taken: 100_000,
     interrupted: false,
 };
 
-/// Gives a byte a read.
+/// Gives what is left of a text.
 #[derive(Drop)]
 struct TestReader<'a> {
     rest: &'a [u8],
@@ -51,14 +54,11 @@ impl<'a> Read for TestReader<'a> {
         }
         self.devices.good_reads -= 1;
         self.interrupts_next = self.devices.interrupted;
-        match (self.rest.split_first(), buf.first_mut()) {
-            (Some((byte, rest)), Some(place)) => {
-                *place = *byte;
-                self.rest = rest;
-                Ok(1)
-            }
-            _ => Ok(0),
-        }
+        let count = self.rest.len().min(buf.len()).min(self.devices.most_given);
+        let (given, rest) = self.rest.split_at(count);
+        buf[..count].copy_from_slice(given);
+        self.rest = rest;
+        Ok(count)
     }
 }
 
@@ -81,7 +81,7 @@ impl<'a> Write for TestWriter<'a> {
         }
         self.devices.good_writes -= 1;
         self.interrupts_next = self.devices.interrupted;
-        let count = buf.len().min(self.devices.most);
+        let count = buf.len().min(self.devices.most_taken);
         self.taken.extend_from_slice(&buf[..count])?;
         Ok(count)
     }
@@ -158,6 +158,51 @@ fn a_failed_read_leaves_whole_lines_done(rt: HostRuntime) -> Result<(), Fail> {
 }
 
 #[test]
+fn a_read_may_give_any_number_of_bytes(rt: HostRuntime) -> Result<(), Fail> {
+    for most_given in [1, 2, 3, 7, 4096, 100_000] {
+        let devices = Devices {
+            most_given,
+            ..WORKING
+        };
+        runs_are(
+            &rt,
+            rt.alloc(),
+            &[
+                ("", devices, Ok(0), ""),
+                (
+                    "go 1\n\nundo\nlen",
+                    devices,
+                    Ok(4),
+                    "ok 1\nrefused 22 BadLine\nat 0 1\nat 0 1\n",
+                ),
+            ],
+        )?;
+    }
+    Ok(())
+}
+
+#[test]
+fn a_read_that_fails_behind_others_leaves_what_they_gave_done(rt: HostRuntime) -> Result<(), Fail> {
+    let alloc = rt.alloc();
+    let script = "len\n".repeat(alloc, 3000)?;
+    for (good_reads, lines, answer) in [
+        (0, 0, Err(ScriptFault::Read)),
+        (1, 1024, Err(ScriptFault::Read)),
+        (2, 2048, Err(ScriptFault::Read)),
+        (4, 3000, Ok(3000)),
+    ] {
+        let devices = Devices {
+            good_reads,
+            most_given: 100_000,
+            ..WORKING
+        };
+        let report = "at 0 0\n".repeat(alloc, lines)?;
+        runs_are(&rt, alloc, &[(&script, devices, answer, &report)])?;
+    }
+    Ok(())
+}
+
+#[test]
 fn a_failed_write_leaves_a_beginning_of_the_report(rt: HostRuntime) -> Result<(), Fail> {
     for (good_writes, report) in [
         (0, ""),
@@ -168,7 +213,7 @@ fn a_failed_write_leaves_a_beginning_of_the_report(rt: HostRuntime) -> Result<()
     ] {
         let devices = Devices {
             good_writes,
-            most: 2,
+            most_taken: 2,
             ..WORKING
         };
         runs_are(
@@ -187,7 +232,10 @@ fn a_failed_write_leaves_a_beginning_of_the_report(rt: HostRuntime) -> Result<()
 
 #[test]
 fn a_writer_that_takes_nothing_has_failed(rt: HostRuntime) -> Result<(), Fail> {
-    let devices = Devices { most: 0, ..WORKING };
+    let devices = Devices {
+        most_taken: 0,
+        ..WORKING
+    };
     runs_are(
         &rt,
         rt.alloc(),
@@ -197,7 +245,10 @@ fn a_writer_that_takes_nothing_has_failed(rt: HostRuntime) -> Result<(), Fail> {
 
 #[test]
 fn a_writer_may_take_a_byte_a_call(rt: HostRuntime) -> Result<(), Fail> {
-    let devices = Devices { most: 1, ..WORKING };
+    let devices = Devices {
+        most_taken: 1,
+        ..WORKING
+    };
     runs_are(
         &rt,
         rt.alloc(),
@@ -229,7 +280,10 @@ fn reads_and_writes_that_a_signal_interrupts_are_made_again(rt: HostRuntime) -> 
         interrupted: true,
         ..WORKING
     };
-    let slow = Devices { most: 1, ..devices };
+    let slow = Devices {
+        most_taken: 1,
+        ..devices
+    };
     let few_reads = Devices {
         good_reads: 5,
         ..devices
