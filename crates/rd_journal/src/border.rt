@@ -174,10 +174,7 @@ pub(crate) fn lengthen<const R: usize>(
     if make_room(entries, *live).is_err() {
         return Err(Refusal::NoMemory);
     }
-    let entry = match world.step(event) {
-        Err(refusal) => return Err(refusal),
-        Ok(entry) => entry,
-    };
+    let entry = world.step(event)?;
     entries.truncate(*live);
     entries.push_reserved(entry);
     *live += 1;

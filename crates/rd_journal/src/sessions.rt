@@ -72,10 +72,7 @@ impl<const R: usize> Session<R> {
         if self.live == MOST_STEPS {
             return Err(Refusal::TooLong);
         }
-        let entry = match lengthen(&mut self.world, &mut self.entries, &mut self.live, event) {
-            Err(refusal) => return Err(refusal),
-            Ok(entry) => entry,
-        };
+        let entry = lengthen(&mut self.world, &mut self.entries, &mut self.live, event)?;
         Ok((self.len(), entry))
     }
 

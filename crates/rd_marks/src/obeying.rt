@@ -9,13 +9,12 @@ use super::queries::{content, origin_shown, record, step_counts, words, writer_s
 use super::replies::Reply;
 use rd_actor::Act;
 use rd_cell::Refusal;
-use rd_step::Event;
 use std::alloc::Global;
 
 impl<const R: usize> Book<R> {
     ghost use Rattle.rd_marks.specs.BookViews.{book_state};
     ghost use Rattle.rd_marks.specs.Books.{mark, drop_mark, goto_mark, mark_at};
-    ghost use Rattle.rd_marks.specs.Commands.{IsObeyed, AreObeyed, IsMade, IsCompared, Happened, event, step_counts, mark_answer, reply_with};
+    ghost use Rattle.rd_marks.specs.Commands.{IsObeyed, AreObeyed, IsMade, IsCompared, step_counts, mark_answer, reply_with};
     ghost use Rattle.rd_marks.specs.declared.replies.Reply.TheVariants.{Marked, Dropped, Mark as MarkIs};
 
     /// Does what a command says, and answers it.
@@ -86,13 +85,6 @@ impl<const R: usize> Book<R> {
             Command::Step(number) => record(self.session(), number),
             Command::Len => Ok(step_counts(self.session())),
         }
-    }
-
-    /// Makes this actor do this, and answers the number of its step and the reply of the call that it ends.
-    fn act(&mut self, actor: u8, act: Act) -> Result<Reply, Refusal>
-        ensures { Happened R (book_state self.old) (event actor act) (record { answer = result; state = book_state self.new }) }
-    {
-        self.apply(Event { actor, act })
     }
 
     /// Sets a bookmark, and answers how many steps are live.

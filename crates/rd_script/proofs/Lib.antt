@@ -4,7 +4,6 @@ pub mod LineLemmas
 pub mod ScriptLemmas
 pub mod TextLemmas
 pub mod PutLemmas
-pub mod NumberLemmas
 pub mod NameLemmas
 pub mod NumeralLemmas
 pub mod PartLemmas

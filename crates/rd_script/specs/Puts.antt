@@ -2,10 +2,6 @@
 use Rattle.std.specs.Prelude.{◌≡◌, ℕ, ◌+◌, ◌≤◌, List, ◌++◌, length}
 use Rattle.rd_script.specs.declared.texts.TheConstants.{MOST_BYTES}
 
--- the words stand behind the old text, if there is room for so many bytes
-abbrev pub PutsWithin : ℕ → List ℕ → List ℕ → List ℕ → Type 0
-PutsWithin room old new words = length old + length words ≤ room → new ≡ old ++ words
-
 -- the words stand behind the old text of a line, if there is room for both
 abbrev pub Puts : List ℕ → List ℕ → List ℕ → Type 0
-Puts = PutsWithin MOST_BYTES
+Puts old new words = length old + length words ≤ MOST_BYTES → new ≡ old ++ words

@@ -2,27 +2,19 @@
 
 ghost use Rattle.std.specs.Prelude.{◌≡◌, ◌≤◌, ◌++◌, length};
 ghost use Rattle.std.specs.Fmt.{decimal};
-ghost use Rattle.rd_script.specs.Puts.{Puts, PutsWithin};
+ghost use Rattle.rd_script.specs.Puts.{Puts};
 ghost use Rattle.rd_script.specs.Texts.{spaced_number, bit_number, yes_or_no};
 
 use super::texts::{Text, put};
-use arrayvec::ArrayVec;
-
-/// How many digits a number has at most.
-pub const MOST_DIGITS: usize = 20;
+use itoa::Buffer;
 
 /// Puts the digits of a number behind the text, the higher ones first.
-#[tactic(auto, using(crate::proofs::NumberLemmas::length_decimal_le))]
-pub fn put_number<const N: usize>(text: &mut ArrayVec<u8, N>, number: u64)
-    ensures words { PutsWithin N text.old.items text.new.items (decimal number) }
+pub fn put_number(text: &mut Text, number: u64)
+    ensures words { Puts text.old.items text.new.items (decimal number) }
     ensures len { length (decimal number) ≤ 20 }
 {
-    if number < 10 {
-        put(text, &[b'0' + number as u8]);
-    } else {
-        put_number(text, number / 10);
-        put(text, &[b'0' + (number % 10) as u8]);
-    }
+    let mut digits = Buffer::new();
+    put(text, digits.format(number).as_bytes());
 }
 
 /// Puts a space and a number behind the text.

@@ -8,9 +8,8 @@ ghost use Rattle.rd_step.specs.Prelude.{SegName as Segment};
 ghost use Rattle.rd_script.specs.Contents.{name_words};
 ghost use Rattle.rd_script.specs.Spelling.{IsSegmentInRange};
 
-use super::numbers::{MOST_DIGITS, put_number};
 use super::words::parts_of;
-use arrayvec::ArrayVec;
+use itoa::Buffer;
 use rd_cell::SegName;
 
 /// The number from 0 to 2^64 - 1 that a word spells.
@@ -19,9 +18,8 @@ pub fn number_in(word: &[u8]) -> Option<u64>
     ensures unspelled { IfNone result ((n : ℕ) → n < 2 ^ 64 → word.now ≢ decimal n) }
 {
     let number = loosely_in(word)?;
-    let mut digits = ArrayVec::<u8, MOST_DIGITS>::new();
-    put_number(&mut digits, number);
-    if digits.as_slice() == word {
+    let mut digits = Buffer::new();
+    if digits.format(number).as_bytes() == word {
         Some(number)
     } else {
         None

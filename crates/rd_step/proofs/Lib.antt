@@ -1,3 +1,4 @@
+pub mod PassedUp
 pub mod Steps
 pub mod Commute
 pub mod Fits

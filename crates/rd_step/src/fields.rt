@@ -39,14 +39,8 @@ pub fn step_fields<const R: usize>(
         None => return Err(Refusal::NoActor),
         Some(actor) => actor,
     };
-    let access = match need::<R>(&actor, event.act) {
-        Err(refusal) => return Err(refusal),
-        Ok(access) => access,
-    };
-    let done = match perform(space, event.actor, access) {
-        Err(refusal) => return Err(refusal),
-        Ok(done) => done,
-    };
+    let access = need::<R>(&actor, event.act)?;
+    let done = perform(space, event.actor, access)?;
     let (next, reply) = after::<R>(&actor, event.act, done.answer);
     set_actor(actors, event.actor, next);
     Ok(Entry {
