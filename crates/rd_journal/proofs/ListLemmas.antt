@@ -114,3 +114,8 @@ behind_from {X} es k l some below within =
     let xs = take (k - 1) (take l es) ++ drop k (take l es) in
     let ys = take 1 (drop (k - 1) (take l es)) ++ drop l es in
     ap (λ (n : ℕ). drop n (xs ++ ys)) (sym (others_length es k l some below within)) ∙ drop-append_seam xs ys
+
+-- an element that is put behind the first ones of the same list
+pub put_behind : {A : Type 0} (n : ℕ) (xs same cut longer : List A) (x : A) → same ≡ xs → cut ≡ take n same → longer ≡ cut ++ x ∷ []
+    → longer ≡ take n xs ++ x ∷ []
+put_behind n xs same cut longer x h k put = put ∙ ap (λ ys. ys ++ x ∷ []) (k ∙ ap (λ ys. take n ys) h)

@@ -150,39 +150,8 @@ pub(crate) fn redo_many<const R: usize>(
     }
 }
 
-/// Makes one more step: room first, then the step, then what was undone is cut off and the record put last.
-///
-/// # Errors
-///
-/// `NoMemory` if the room for one more record was refused; then what the step is refused for.
-pub(crate) fn lengthen<const R: usize>(
-    world: &mut World<R>,
-    entries: &mut Vec<Entry>,
-    live: &mut usize,
-    event: Event,
-) -> Result<Entry, Refusal>
-    requires few { live.old < MOST_STEPS }
-    requires session { IsSession R (model world.old) entries.old.items live.old (room world.old) }
-    ensures ok { IfOk result (λ entry. step R (model world.old) event ≡ Ok (record { world = model world.new; entry = entry })) }
-    ensures records { IfOk result (λ entry. entries.new.items ≡ take live.old entries.old.items ++ entry ∷ []) }
-    ensures border { OnOk result (live.new ≡ live.old + 1) }
-    ensures session { IsSession R (model world.new) entries.new.items live.new (room world.new) }
-    ensures err { IfErr result (λ refusal. (step R (model world.old) event ≡ Err refusal) ⊎ ((refusal ≡ Refusal.NoMemory)
-        × IsOutOfMemory R (journal_of (model world.old) entries.old.items live.old) (room world.old) event)) }
-    ensures unchanged { OnErr result ((model world.new ≡ model world.old) × (entries.new.items ≡ entries.old.items) × (live.new ≡ live.old)) }
-{
-    if make_room(entries, *live).is_err() {
-        return Err(Refusal::NoMemory);
-    }
-    let entry = world.step(event)?;
-    entries.truncate(*live);
-    entries.push_reserved(entry);
-    *live += 1;
-    Ok(entry)
-}
-
 /// Makes room for a record behind the first `live` ones: if others stand behind them, it is there.
-fn make_room(entries: &mut Vec<Entry>, live: usize) -> Result<(), AllocError>
+pub(crate) fn make_room(entries: &mut Vec<Entry>, live: usize) -> Result<(), AllocError>
     requires { live ≤ length entries.old.items }
     ensures same { entries.new.items ≡ entries.old.items }
     ensures ok { OnOk result (live < vec_capacity entries.new) }

@@ -15,7 +15,7 @@ ghost use Rattle.rd_journal.specs.State.{run_of, apply, reply_to, undo, undo_at,
 ghost use Rattle.rd_journal.specs.Laws.{IsStepAfter};
 ghost use Rattle.rd_journal.specs.Moves.{IsLengthened, IsMovedBack, IsMovedForward, IsBeforeLast, IsTakenOutAt, IsWithout, IsSwitched, IsRolledBack, IsWithoutClosure, answer_at, roll_answer};
 
-use super::border::{lengthen, redo_first, redo_many, undo_alone, undo_last, undo_many};
+use super::border::{make_room, redo_first, redo_many, undo_alone, undo_last, undo_many};
 use super::rollback::undo_closure;
 use super::switches::switch_fields;
 use rd_cell::Refusal;
@@ -72,7 +72,13 @@ impl<const R: usize> Session<R> {
         if self.live == MOST_STEPS {
             return Err(Refusal::TooLong);
         }
-        let entry = lengthen(&mut self.world, &mut self.entries, &mut self.live, event)?;
+        if make_room(&mut self.entries, self.live).is_err() {
+            return Err(Refusal::NoMemory);
+        }
+        let entry = self.world.step(event)?;
+        self.entries.truncate(self.live);
+        self.entries.push_reserved(entry);
+        self.live += 1;
         Ok((self.len(), entry))
     }
 
