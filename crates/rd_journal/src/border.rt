@@ -1,20 +1,17 @@
 //! Undoing and redoing over the fields of a session: the world, the records, and the border behind the live ones.
 
-ghost use Rattle.std.specs.Prelude.{◌≡◌, ◌⊎◌, ◌++◌, ◌+◌, ◌-◌, ◌<◌, ◌≤◌, [], ◌∷◌, ℕ, IsTrue, length, take, drop, vec_capacity, None, Ok, Err, OnOk, OnErr, IfOk, IfErr};
+ghost use Rattle.std.specs.Prelude.{◌≡◌, ◌++◌, ◌+◌, ◌-◌, ◌<◌, ◌≤◌, ℕ, IsTrue, length, take, drop, vec_capacity, None, Ok, OnOk, OnErr};
 ghost use Rattle.rd_step.specs.Prelude.{model, room, step, first_dependant};
 ghost use Rattle.rd_step.specs.Room.{makes_segment, room_used};
 ghost use Rattle.rd_journal.specs.Border.{IsSession};
 ghost use Rattle.rd_journal.specs.Journal.{journal_of};
 ghost use Rattle.rd_step.specs.World.{World as Model};
 ghost use Rattle.rd_journal.specs.Moves.{IsTakenOutAt};
-ghost use Rattle.rd_journal.specs.Room.{IsOutOfMemory};
 ghost use Rattle.rd_journal.specs.State.{state_of, back_one, forward_one, times, one_out};
 
 use rd_actor::after;
-use rd_cell::Refusal;
-use rd_cell::limits::MOST_STEPS;
 use rd_inverse::unstep;
-use rd_step::{Entry, Event, World};
+use rd_step::{Entry, World};
 use std::alloc::AllocError;
 
 /// Undoes the last live step: its old words are put back, and the border moves before its record.

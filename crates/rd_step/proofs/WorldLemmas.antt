@@ -10,7 +10,8 @@ use Rattle.rd_segments.specs.Space.{contents, making_count, room, lists}
 use Rattle.rd_segments.proofs.CountLemmas.{counts, there_below, absent_from}
 use Rattle.rd_actor.specs.declared.actors.Actor.{Actor}
 use Rattle.rd_actor.specs.declared.actors.OpReply.{OpReply}
-use Rattle.rd_actor.specs.Table.{need, after}
+use Rattle.rd_actor.specs.Table.{need, after, IsRepresentable}
+use Rattle.rd_actor.proofs.Representable.{representable}
 use Rattle.rd_actor.specs.Words.{words_fit}
 use Rattle.rd_step.specs.World.{World}
 use Rattle.rd_step.specs.declared.entries.Event.{Event}
@@ -174,21 +175,15 @@ need_suits R space xs e a x formed has needs =
     let fits : record_fits R there a ≡ true = subst (λ (o : Option Actor). actor_fits R there o ≡ true) has (formed.actors e.actor) in
     access_suited R there x (IfOk-at_ok (λ (y : Access). access_fits R there y ≡ true) needs (need_fits R there a e.act fits))
 
--- an actor that is there has a head position with room for the ring's size behind it
-pub head_small : (R : ℕ) (space : Space R) (xs : List Actor) (n : ℕ) (a : Actor) → IsWellFormed R (world_of_fields space xs) → R ≤ MOST_CELLS
-    → actor_at xs n ≡ Some a → a.h + R < 2 ^ 64
-head_small R space xs n a formed small has =
+-- what an actor of a well-formed world asks for is representable: its head position has room for the ring's size behind it, and
+-- its words fit its place
+pub representable_here : (R : ℕ) (space : Space R) (xs : List Actor) (e : Event) (a : Actor) → IsWellFormed R (world_of_fields space xs) → R ≤ MOST_CELLS
+    → actor_at xs e.actor ≡ Some a → IsRepresentable R a e.act
+representable_here R space xs e a formed small has =
     let there = is_there (contents space) in
-    let fits : record_fits R there a ≡ true = subst (λ (o : Option Actor). actor_fits R there o ≡ true) has (formed.actors n) in
+    let fits : record_fits R there a ≡ true = subst (λ (o : Option Actor). actor_fits R there o ≡ true) has (formed.actors e.actor) in
     let h = leb-true a.h COUNTER_END (parts_of R there a fits).h in
-    omega arith
-
--- the words of an actor of a well-formed world fit its place
-pub words_here : (R : ℕ) (space : Space R) (xs : List Actor) (n : ℕ) (a : Actor) → IsWellFormed R (world_of_fields space xs)
-    → actor_at xs n ≡ Some a → words_fit a ≡ true
-words_here R space xs n a formed has =
-    let there = is_there (contents space) in
-    words_of R there a (subst (λ (o : Option Actor). actor_fits R there o ≡ true) has (formed.actors n))
+    representable R a e.act (omega arith) (words_of R there a fits)
 
 -- whether an actor's event makes a segment, by its access
 pub makes_by : (R : ℕ) (w : World) (e : Event) (a : Actor) (x : Access) → w.actor e.actor ≡ Some a → need R a e.act ≡ Ok x

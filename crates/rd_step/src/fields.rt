@@ -1,58 +1,16 @@
-//! The step and its undoing, over the fields of a world.
+//! What a step and its undoing do to the fields of a world: an access, an actor's words, and what is put back.
 
-ghost use Rattle.std.specs.Prelude.{◌≡◌, ◌+◌, ◌<◌, ◌≤◌, ◌⊎◌, ℕ, suc, true, false, Some, None, Ok, Err, IsSome, IsOk, IsTrue, IfOk, IfErr, OnErr, length, vec_capacity};
+ghost use Rattle.std.specs.Prelude.{◌≡◌, ◌+◌, ◌<◌, ◌≤◌, ◌⊎◌, ℕ, true, false, Some, None, Ok, Err, IsSome, IsOk, IsTrue, IfOk, IfErr, OnErr, length, vec_capacity};
 ghost use Rattle.rd_ring.specs.Prelude.{MOST_CELLS, MOST_SEGMENTS, Make, Nothing, perform, restore, everywhere, HasEffect};
 ghost use Rattle.rd_segments.specs.Room.{room_used, room_returned};
 ghost use Rattle.rd_segments.specs.Space.{contents, lists, making_count, room, capacity};
-ghost use Rattle.rd_step.specs.Step.{step, revert, with_actor, CanPutBack};
+ghost use Rattle.rd_step.specs.Step.{revert, with_actor, CanPutBack};
 ghost use Rattle.rd_step.specs.Fields.{world_of_fields, actor_at, access_suits};
-ghost use Rattle.rd_step.specs.Room.{makes, makes_segment};
-ghost use Rattle.rd_step.specs.WellFormed.{IsWellFormed};
+ghost use Rattle.rd_step.specs.Room.{makes};
 
-use super::entries::{Entry, Event};
-use rd_actor::{Actor, after, need};
+use rd_actor::Actor;
 use rd_cell::{Access, Answer, Content, Done, Place, Refusal};
 use rd_segments::Space;
-
-/// The step of one actor.
-pub fn step_fields<const R: usize>(
-    space: &mut Space<R>,
-    actors: &mut Vec<Actor>,
-    event: Event,
-) -> Result<Entry, Refusal>
-    requires well_formed { IsWellFormed R (world_of_fields space.old actors.old.items) }
-    requires makers { lists space.old ≡ suc (length actors.old.items) }
-    requires positive { 1 ≤ R }
-    requires small { R ≤ MOST_CELLS }
-    ensures ok { IfOk result (λ entry. step R (world_of_fields space.old actors.old.items) event
-        ≡ Ok (record { world = world_of_fields space.new actors.new.items; entry = entry })) }
-    ensures err { IfErr result (λ refusal. (step R (world_of_fields space.old actors.old.items) event ≡ Err refusal)
-        ⊎ ((refusal ≡ Refusal.NoMemory) × IsOk (step R (world_of_fields space.old actors.old.items) event)
-        × IsTrue (makes_segment R (world_of_fields space.old actors.old.items) event) × (room space.old event.actor ≡ 0))) }
-    ensures unchanged { OnErr result ((contents space.new ≡ contents space.old) × (actors.new.items ≡ actors.old.items)) }
-    ensures makers { lists space.new ≡ suc (length actors.new.items) }
-    ensures room { (m : ℕ) → room space.old m
-        ≤ room space.new m + room_used (makes_segment R (world_of_fields space.old actors.old.items) event) event.actor m }
-    ensures kept { OnErr result ((m : ℕ) → room space.old m ≤ room space.new m) }
-{
-    let actor = match actor_in(actors, event.actor) {
-        None => return Err(Refusal::NoActor),
-        Some(actor) => actor,
-    };
-    let access = need::<R>(&actor, event.act)?;
-    let done = perform(space, event.actor, access)?;
-    let (next, reply) = after::<R>(&actor, event.act, done.answer);
-    set_actor(actors, event.actor, next);
-    Ok(Entry {
-        event,
-        place: done.place,
-        wrote: done.wrote,
-        answer: done.answer,
-        reply,
-        old_actor: actor,
-        old_content: done.old,
-    })
-}
 
 /// Puts back the words of one actor and the content of one place, if one is named.
 pub fn revert_fields<const R: usize>(
@@ -119,7 +77,7 @@ pub fn actor_in(actors: &Vec<Actor>, number: u8) -> Option<Actor>
 }
 
 /// Gives the actor of this number another record.
-fn set_actor(actors: &mut Vec<Actor>, number: u8, words: Actor)
+pub fn set_actor(actors: &mut Vec<Actor>, number: u8, words: Actor)
     requires { IsSome (actor_at actors.old.items number) }
     ensures done { actor_at actors.new.items ≡ with_actor number words (actor_at actors.old.items) }
     ensures number { length actors.new.items ≡ length actors.old.items }
@@ -129,7 +87,7 @@ fn set_actor(actors: &mut Vec<Actor>, number: u8, words: Actor)
 }
 
 /// Makes an access, for this actor.
-fn perform<const R: usize>(space: &mut Space<R>, actor: u8, access: Access) -> Result<Done, Refusal>
+pub fn perform<const R: usize>(space: &mut Space<R>, actor: u8, access: Access) -> Result<Done, Refusal>
     requires small { R ≤ MOST_CELLS }
     requires maker_there { actor < lists space.old }
     requires counted { making_count space.old actor ≤ MOST_SEGMENTS }

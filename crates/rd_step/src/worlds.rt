@@ -12,10 +12,10 @@ ghost use Rattle.rd_step.specs.WellFormed.{IsWellFormed};
 ghost use Rattle.rd_step.specs.Parts.{world_of_parts, first_flaw, Refuses};
 
 use super::entries::{Entry, Event};
-use super::fields::{actor_in, revert_fields, step_fields};
+use super::fields::{actor_in, perform, revert_fields, set_actor};
 use super::flaws::{Unassembled, first_flaw};
 use super::parts::Parts;
-use rd_actor::Actor;
+use rd_actor::{Actor, after, need};
 use rd_cell::{Content, Place, Refusal};
 use rd_segments::Space;
 use std::alloc::Global;
@@ -153,7 +153,23 @@ impl<const R: usize> World<R> {
         ensures room { (m : ℕ) → room self.old m ≤ room self.new m + room_used (makes_segment R (model self.old) event) event.actor m }
         ensures kept { OnErr result ((m : ℕ) → room self.old m ≤ room self.new m) }
     {
-        step_fields(&mut self.space, &mut self.actors, event)
+        let actor = match actor_in(&self.actors, event.actor) {
+            None => return Err(Refusal::NoActor),
+            Some(actor) => actor,
+        };
+        let access = need::<R>(&actor, event.act)?;
+        let done = perform(&mut self.space, event.actor, access)?;
+        let (next, reply) = after::<R>(&actor, event.act, done.answer);
+        set_actor(&mut self.actors, event.actor, next);
+        Ok(Entry {
+            event,
+            place: done.place,
+            wrote: done.wrote,
+            answer: done.answer,
+            reply,
+            old_actor: actor,
+            old_content: done.old,
+        })
     }
 
     /// Sets the words of one actor and the content of one place, if one is named, and changes nothing else.
