@@ -65,7 +65,7 @@ query_leaves b (Err e) = record { start = refl; unchanged = refl }
 as_this : (b : BookState) (a c : Answered) → LeavesStart b c → a ≡ c → LeavesStart b a
 as_this b a c leaves h = subst (λ (x : Answered). LeavesStart b x) (sym h) leaves
 
-happened_leaves : (R : ℕ) (b : BookState) (e : Event) (a : Answered) → Happened R b e a → LeavesStart b a
+pub happened_leaves : (R : ℕ) (b : BookState) (e : Event) (a : Answered) → Happened R b e a → LeavesStart b a
 happened_leaves R b e a (inl h) = as_this b a _ (happens_leaves R b e) h
 happened_leaves R b e a (inr h) = as_this b a _ (record { start = refl; unchanged = refl }) h.1
 

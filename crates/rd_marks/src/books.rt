@@ -13,7 +13,6 @@ use super::names::MarkName;
 use super::queries::counts_after;
 use super::replies::Reply;
 use indexmap::IndexMap;
-use rd_actor::Act;
 use rd_cell::Refusal;
 use rd_cell::limits::MOST_MARKS;
 use rd_depend::are_equivalent;
@@ -34,7 +33,7 @@ impl<const R: usize> Book<R> {
     ghost use Rattle.rd_journal.specs.State.{undo, undo_at, roll, back, redo, forward};
     ghost use Rattle.rd_marks.specs.BookViews.{book_state};
     ghost use Rattle.rd_marks.specs.Books.{marked_events, mark, drop_mark, goto_mark, mark_at, AnswersSame};
-    ghost use Rattle.rd_marks.specs.Commands.{Happened, event, move_answer};
+    ghost use Rattle.rd_marks.specs.Commands.{Happened, move_answer};
 
     /// A book over a session, with no marks. It takes no memory.
     pub fn open(alloc: Global, session: Session<R>) -> Book<R>
@@ -160,11 +159,11 @@ impl<const R: usize> Book<R> {
         }
     }
 
-    /// Makes this actor do this, and answers the number of its step and the reply of the call that it ends.
-    pub(crate) fn act(&mut self, actor: u8, act: Act) -> Result<Reply, Refusal>
-        ensures { Happened R (book_state self.old) (event actor act) (record { answer = result; state = book_state self.new }) }
+    /// Makes an event happen, and answers the number of its step and the reply of the call that it ends.
+    pub(crate) fn happen(&mut self, event: Event) -> Result<Reply, Refusal>
+        ensures { Happened R (book_state self.old) event (record { answer = result; state = book_state self.new }) }
     {
-        let (step, entry) = self.session.apply(Event { actor, act })?;
+        let (step, entry) = self.session.apply(event)?;
         Ok(Reply::Applied {
             step,
             reply: entry.reply,

@@ -1,7 +1,12 @@
 //! The commands of a book, as values.
 
+ghost use Rattle.std.specs.Prelude.{◌≡◌};
+ghost use Rattle.rd_marks.specs.Commands.{event_of};
+
 use super::names::MarkName;
+use rd_actor::Act;
 use rd_cell::Place;
+use rd_step::Event;
 
 /// One command. It is plain data: copying it takes no memory.
 #[derive(Clone, Copy, Debug, PartialEq, Eq)]
@@ -54,4 +59,22 @@ pub enum Command {
     Step(u64),
     /// `len`: how many steps are live and how many are undone.
     Len,
+}
+
+impl Command {
+    /// The event that it is, if it is one.
+    pub(crate) fn event(&self) -> Option<Event>
+        ensures { result ≡ event_of self.now }
+    {
+        let (actor, act) = match *self {
+            Command::Enq(actor, value) => (actor, Act::Enq(value)),
+            Command::Deq(actor) => (actor, Act::Deq),
+            Command::ArrayEnq(actor, value) => (actor, Act::AEnq(value)),
+            Command::ArrayDeq(actor) => (actor, Act::ADeq),
+            Command::Go(actor) => (actor, Act::Go),
+            Command::Starve(actor, choice) => (actor, Act::Starve(choice)),
+            _ => return None,
+        };
+        Some(Event { actor, act })
+    }
 }

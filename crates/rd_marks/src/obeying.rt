@@ -1,20 +1,19 @@
 //! A book obeys commands: each call of a book and of its session as one value, and lists of them.
 
-ghost use Rattle.std.specs.Prelude.{◌≡◌, ◌⊎◌, length, take, Ok, IsOk, OnErr, IfOk, IfErr, List, Result};
+ghost use Rattle.std.specs.Prelude.{◌≡◌, ◌⊎◌, length, take, None, Ok, IsOk, OnErr, IfOk, IfErr, List, Result};
 
 use super::books::Book;
 use super::commands::Command;
 use super::names::MarkName;
 use super::queries::{content, origin_shown, record, step_counts, words, writer_shown};
 use super::replies::Reply;
-use rd_actor::Act;
 use rd_cell::Refusal;
 use std::alloc::Global;
 
 impl<const R: usize> Book<R> {
     ghost use Rattle.rd_marks.specs.BookViews.{book_state};
     ghost use Rattle.rd_marks.specs.Books.{mark, drop_mark, goto_mark, mark_at};
-    ghost use Rattle.rd_marks.specs.Commands.{IsObeyed, AreObeyed, IsMade, IsCompared, step_counts, mark_answer, reply_with};
+    ghost use Rattle.rd_marks.specs.Commands.{IsObeyed, AreObeyed, IsMade, IsCompared, event_of, step_counts, mark_answer, reply_with};
     ghost use Rattle.rd_marks.specs.declared.replies.Reply.TheVariants.{Marked, Dropped, Mark as MarkIs};
 
     /// Does what a command says, and answers it.
@@ -27,7 +26,10 @@ impl<const R: usize> Book<R> {
         ensures start { (book_state self.new).session.start ≡ (book_state self.old).session.start }
         ensures unchanged { OnErr result (book_state self.new ≡ book_state self.old) }
     {
-        self.answer_to(command)
+        match command.event() {
+            Some(event) => self.happen(event),
+            None => self.answer_to(command),
+        }
     }
 
     /// Obeys commands one after another, and answers each. A refused command changes nothing, and the next one is obeyed.
@@ -55,17 +57,12 @@ impl<const R: usize> Book<R> {
         Ok(answers)
     }
 
-    /// Does what a command says, and answers it.
+    /// Does what a command says that is no event, and answers it.
     fn answer_to(&mut self, command: Command) -> Result<Reply, Refusal>
+        requires no_event { event_of command ≡ None }
         ensures { IsObeyed R (book_state self.old) command (record { answer = result; state = book_state self.new }) }
     {
         match command {
-            Command::Enq(actor, value) => self.act(actor, Act::Enq(value)),
-            Command::Deq(actor) => self.act(actor, Act::Deq),
-            Command::ArrayEnq(actor, value) => self.act(actor, Act::AEnq(value)),
-            Command::ArrayDeq(actor) => self.act(actor, Act::ADeq),
-            Command::Go(actor) => self.act(actor, Act::Go),
-            Command::Starve(actor, choice) => self.act(actor, Act::Starve(choice)),
             Command::Undo => self.undo(),
             Command::UndoAt(k) => self.undo_at(k),
             Command::Roll(k) => self.roll(k),
@@ -84,6 +81,7 @@ impl<const R: usize> Book<R> {
             Command::Actor(actor) => words(self.session(), actor),
             Command::Step(number) => record(self.session(), number),
             Command::Len => Ok(step_counts(self.session())),
+            _ => unreachable!(),
         }
     }
 

@@ -1,9 +1,15 @@
 use Rattle.rd_marks.specs.BookViews.{book_state}
-use Rattle.rd_marks.proofs.ObeyLemmas.{obeyed_leaves}
+use Rattle.rd_marks.proofs.ObeyLemmas.{happened_leaves, obeyed_leaves}
 use Rattle.rd_marks.proofs.books.Book.obey.Goals as goal
 
-pub returns-clause-start : goal.returns-clause-start
-returns-clause-start g c = (obeyed_leaves g.row.R (book_state c.args.self.now) c.args.command _ c.answer_to.ensures).start
+pub returns-in-Some-clause-start : goal.returns-in-Some-clause-start
+returns-in-Some-clause-start g c = (happened_leaves g.row.R (book_state c.args.self.now) c.in-Some.event _ c.happen.ensures).start
 
-pub returns-clause-unchanged : goal.returns-clause-unchanged
-returns-clause-unchanged g c = (obeyed_leaves g.row.R (book_state c.args.self.now) c.args.command _ c.answer_to.ensures).unchanged
+pub returns-in-Some-clause-unchanged : goal.returns-in-Some-clause-unchanged
+returns-in-Some-clause-unchanged g c = (happened_leaves g.row.R (book_state c.args.self.now) c.in-Some.event _ c.happen.ensures).unchanged
+
+pub returns-in-None-clause-start : goal.returns-in-None-clause-start
+returns-in-None-clause-start g c = (obeyed_leaves g.row.R (book_state c.args.self.now) c.args.command _ c.answer_to.ensures).start
+
+pub returns-in-None-clause-unchanged : goal.returns-in-None-clause-unchanged
+returns-in-None-clause-unchanged g c = (obeyed_leaves g.row.R (book_state c.args.self.now) c.args.command _ c.answer_to.ensures).unchanged
