@@ -87,7 +87,11 @@ pub fn set_actor(actors: &mut Vec<Actor>, number: u8, words: Actor)
 }
 
 /// Makes an access, for this actor.
-pub fn perform<const R: usize>(space: &mut Space<R>, actor: u8, access: Access) -> Result<Done, Refusal>
+pub fn perform<const R: usize>(
+    space: &mut Space<R>,
+    actor: u8,
+    access: Access,
+) -> Result<Done, Refusal>
     requires small { R ≤ MOST_CELLS }
     requires maker_there { actor < lists space.old }
     requires counted { making_count space.old actor ≤ MOST_SEGMENTS }

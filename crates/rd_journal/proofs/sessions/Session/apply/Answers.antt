@@ -15,15 +15,17 @@ returns-then-is_err-clause-unchanged g c =
 pub invariant_of-self-in-Break-1 : goal.invariant_of-self-in-Break-1
 invariant_of-self-in-Break-1 g c =
     let self = c.args.self.now in
-    record { kept = same_session g.row.R (model self.world) (model c.step.new.self) self.entries.items c.make_room.new.entries.items self.live
-    (room self.world) (room c.step.new.self) self.kept c.in_err-entry.ensures.unchanged c.make_room.ensures.same c.in_err-entry.ensures.kept }
+    record {
+      kept = same_session g.row.R (model self.world) (model c.step.new.self) self.entries.items c.make_room.new.entries.items self.live
+          (room self.world) (room c.step.new.self) self.kept c.in_err-entry.ensures.unchanged c.make_room.ensures.same c.in_err-entry.ensures.kept;
+    }
 
 pub returns-in_err-entry-clause-err : goal.returns-in_err-entry-clause-err
 returns-in_err-entry-clause-err g c =
     let self = c.args.self.now in
     let less : self.live < MOST_STEPS = omega (arith, self.kept.within, self.kept.few) in
     error_passed_up _ c.in_err-entry.field-0.0 c.from_residual.result c.from_residual.ensures.1 (
-      elim c.in_err-entry.ensures.err [
+    elim c.in_err-entry.ensures.err [
       | inl h ↦ inl (apply_refused g.row.R (model self.world) self.entries.items self.live c.args.event c.in_err-entry.field-0.0
           self.kept.runs self.kept.within less h)
       | inr h ↦ inr (
@@ -38,7 +40,7 @@ returns-in_err-entry-clause-memory g c =
     let self = c.args.self.now in
     let less : self.live < MOST_STEPS = omega (arith, self.kept.within, self.kept.few) in
     error_passed_up _ c.in_err-entry.field-0.0 c.from_residual.result c.from_residual.ensures.1 (
-      elim c.in_err-entry.ensures.err [
+    elim c.in_err-entry.ensures.err [
       | inl h ↦ inl (apply_refused g.row.R (model self.world) self.entries.items self.live c.args.event c.in_err-entry.field-0.0
           self.kept.runs self.kept.within less h)
       | inr h ↦ inr (
@@ -56,10 +58,12 @@ pub invariant_of-self-2 : goal.invariant_of-self-2
 invariant_of-self-2 g c =
     let self = c.args.self.now in
     let less : self.live < MOST_STEPS = omega (arith, self.kept.within, self.kept.few) in
-    record { kept = longer_session g.row.R (model self.world) (model c.step.new.self) self.entries.items c.push_reserved.new.self.items self.live
-    (self.live + 1) c.args.event c.in_ok-entry.entry (room self.world) (room c.step.new.self) self.kept less c.in_ok-entry.ensures.ok
-    (put_behind self.live self.entries.items c.make_room.new.entries.items c.truncate.new.self.items c.push_reserved.new.self.items c.in_ok-entry.entry
-    c.make_room.ensures.same c.truncate.ensures.items c.push_reserved.ensures.items) refl }
+    record {
+      kept = longer_session g.row.R (model self.world) (model c.step.new.self) self.entries.items c.push_reserved.new.self.items self.live
+          (self.live + 1) c.args.event c.in_ok-entry.entry (room self.world) (room c.step.new.self) self.kept less c.in_ok-entry.ensures.ok
+          (put_behind self.live self.entries.items c.make_room.new.entries.items c.truncate.new.self.items c.push_reserved.new.self.items c.in_ok-entry.entry
+          c.make_room.ensures.same c.truncate.ensures.items c.push_reserved.ensures.items) refl;
+    }
 
 pub returns-clause-ok : goal.returns-clause-ok
 returns-clause-ok g c =

@@ -1,4 +1,4 @@
-use Rattle.std.proofs.Common.{Bool, suc, length, ◌∙◌, ◌≤◌, ◌+◌, refl, sym, ap, subst, inl, arith, Ok, Err}
+use Rattle.std.proofs.Common.{Bool, suc, ◌∙◌, ◌≤◌, ◌+◌, refl, sym, ap, subst, inl, arith, Ok, Err}
 use Rattle.rd_segments.specs.Room.{room_used}
 use Rattle.rd_segments.specs.Space.{room}
 use Rattle.rd_step.specs.Fields.{world_of_fields}
