@@ -1,6 +1,6 @@
 -- What each command answers and leaves, by the state of the book alone. The queries look at the run of the live events; there
 -- is no inverse and no old content here.
-use Rattle.std.specs.Prelude.{◌≡◌, ℕ, zero, suc, ◌⊎◌, Bool, List, [], ◌∷◌, length, slice_get, ok_or, Option, Some, None, Result, Ok, Err, IsOk}
+use Rattle.std.specs.Prelude.{◌≡◌, ℕ, zero, suc, ◌⊎◌, Bool, List, [], ◌∷◌, length, slice_get, ok_or, Option, Result, Ok, Err, IsOk}
 use Rattle.rd_step.specs.Prelude.{Refusal, NoActor, NoSuchPlace, NoSuchStep, NoMemory, Place, Content, content_at, Actor as Words, OpReply, Act, Ran}
 use Rattle.rd_actor.specs.declared.actors.Act.TheVariants.{Enq as CallsEnq, Deq as CallsDeq, AEnq as CallsArrayEnq, ADeq as CallsArrayDeq, Go as GoesOn, Starve as Starves}
 use Rattle.rd_step.specs.declared.entries.Event.{Event}
@@ -32,16 +32,6 @@ refused b refusal = query_answer b (Err refusal)
 -- this event of this actor
 abbrev pub event : ℕ → Act → Event
 event actor act = record { actor = actor; act = act }
-
--- the event that a command is, if it is one
-abbrev pub event_of : Command → Option Event
-event_of (Enq actor value) = Some (event actor (CallsEnq value))
-event_of (Deq actor) = Some (event actor CallsDeq)
-event_of (ArrayEnq actor value) = Some (event actor (CallsArrayEnq value))
-event_of (ArrayDeq actor) = Some (event actor CallsArrayDeq)
-event_of (Go actor) = Some (event actor GoesOn)
-event_of (Starve actor choice) = Some (event actor (Starves choice))
-event_of _ = None
 
 -- how many steps are live and how many are undone
 abbrev pub step_counts : State → Reply

@@ -5,3 +5,4 @@ pub mod Marks
 pub mod Layout
 pub mod BookViews
 pub mod Commands
+pub mod Events

@@ -1,7 +1,7 @@
 //! The commands of a book, as values.
 
 ghost use Rattle.std.specs.Prelude.{◌≡◌};
-ghost use Rattle.rd_marks.specs.Commands.{event_of};
+ghost use Rattle.rd_marks.specs.Events.{event_of};
 
 use super::names::MarkName;
 use rd_actor::Act;

@@ -13,7 +13,8 @@ use std::alloc::Global;
 impl<const R: usize> Book<R> {
     ghost use Rattle.rd_marks.specs.BookViews.{book_state};
     ghost use Rattle.rd_marks.specs.Books.{mark, drop_mark, goto_mark, mark_at};
-    ghost use Rattle.rd_marks.specs.Commands.{IsObeyed, AreObeyed, IsMade, IsCompared, event_of, step_counts, mark_answer, reply_with};
+    ghost use Rattle.rd_marks.specs.Commands.{IsObeyed, AreObeyed, IsMade, IsCompared, step_counts, mark_answer, reply_with};
+    ghost use Rattle.rd_marks.specs.Events.{event_of};
     ghost use Rattle.rd_marks.specs.declared.replies.Reply.TheVariants.{Marked, Dropped, Mark as MarkIs};
 
     /// Does what a command says, and answers it.
