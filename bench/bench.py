@@ -14,7 +14,9 @@ Columns. Steps: how many steps are live when the timed lines begin. Lines: how m
 end of the process, without that of the same script that lacks the timed lines; with < before it, no more than that is left, for
 the runs differ by as much. Peak MiB: the most memory that the whole process held, looked at every few milliseconds (`VmHWM` of
 /proc); with < before it, what the system says after the end (`ru_maxrss`), which counts the process that started it. Time x and
-Memory x: the row divided by the same measure at the next smaller length.
+Memory x: the row divided by the same measure at the next smaller length. Stolen: of the time in which the processors had work
+while the row was measured, the share that the machine's host gave to others (`steal` of /proc/stat); where that is much, the row
+says little of the program.
 """
 
 import argparse
@@ -63,6 +65,7 @@ class Measure:
     sure: bool  # whether the peak was seen in the process itself
     fault: str = ""
     spread: float = 0.0  # twice the median distance of a run from the median
+    stolen: float = 0.0  # of the time with work, the share that the machine's host gave to others
 
 
 # ---- Scripts ---------------------------------------------------------------------------------------------------------
@@ -216,6 +219,16 @@ def peak_now(process):
     return 0
 
 
+def processor_ticks():
+    """How long the processors have worked, and how long their host gave them to others when they had work; zeros if it isn't told."""
+    try:
+        with open("/proc/stat", encoding="ascii") as stat:
+            user, nice, system, _, _, irq, softirq, steal = map(int, stat.readline().split()[1:9])
+    except (OSError, ValueError):
+        return 0, 0
+    return user + nice + system + irq + softirq, steal
+
+
 def read_replies(pipe, process, seconds, rest):
     """All that the process writes, the greatest peak seen, and whether it ended in time. The reader rests so long after each read."""
     chunks, peak, looked = [], 0, 0.0
@@ -273,7 +286,7 @@ def measure(options, job, folder):
     script = os.path.join(folder, "script")
     with open(script, "w", encoding="ascii") as file:
         file.writelines(line + "\n" for line in job.lines)
-    runs = []
+    runs, (worked, stolen) = [], processor_ticks()
     for _ in range(options.runs * job.often):
         runs.append(one_run(options, job, script))
         if runs[-1].fault:
@@ -281,7 +294,9 @@ def measure(options, job, folder):
     seconds = statistics.median(run.seconds for run in runs)
     spread = 2 * statistics.median(abs(run.seconds - seconds) for run in runs)
     peak = statistics.median(run.peak_kib for run in runs)
-    return Measure(seconds, peak, all(run.sure for run in runs), spread=spread)
+    worked, stolen = (after - before for after, before in zip(processor_ticks(), (worked, stolen)))
+    share = stolen / (worked + stolen) if stolen else 0.0
+    return Measure(seconds, peak, all(run.sure for run in runs), spread=spread, stolen=share)
 
 
 # ---- The table -------------------------------------------------------------------------------------------------------
@@ -303,11 +318,11 @@ def row(job, seconds, done, shorter):
     """A row of the table. Seconds that are none are within the spread; `shorter` has those of the next smaller length."""
     name = f"| {job.name} | {job.steps:,} | {job.timed:,} |"
     if done.fault:
-        return f"{name} {done.fault} | | | | |"
+        return f"{name} {done.fault} | | | | | |"
     shown = f"{seconds:.4f}" if seconds else f"<{done.spread:.4f}"
     peak = f"{'' if done.sure else '<'}{done.peak_kib / 1024:.1f}"
     growth = f"{ratio(seconds, shorter[0])} | {ratio(done.peak_kib, shorter[1])}"
-    return f"{name} {shown} | {rate(job.timed, seconds)} | {peak} | {growth} |"
+    return f"{name} {shown} | {rate(job.timed, seconds)} | {peak} | {growth} | {done.stolen:.0%} |"
 
 
 class Table:
@@ -316,8 +331,8 @@ class Table:
     def __init__(self, options, folder):
         self.options, self.folder = options, folder
         self.whole, self.shorter, self.failed = {}, {}, False
-        print("| What | Steps | Lines | Seconds | Lines a second | Peak MiB | Time x | Memory x |")
-        print("|---|---|---|---|---|---|---|---|", flush=True)
+        print("| What | Steps | Lines | Seconds | Lines a second | Peak MiB | Time x | Memory x | Stolen |")
+        print("|---|---|---|---|---|---|---|---|---|", flush=True)
 
     def measured(self, job):
         """The job's measure, taken once."""
@@ -334,7 +349,7 @@ class Table:
         seconds = done.seconds - base.seconds
         spread = max(done.spread + base.spread, -seconds)
         left = seconds if seconds > spread or not job.base else None
-        return Measure(seconds, done.peak_kib, done.sure, base.fault or done.fault, spread), left
+        return Measure(seconds, done.peak_kib, done.sure, base.fault or done.fault, spread, done.stolen), left
 
     def add(self, job):
         """Measures a job and prints its row."""
