@@ -1,11 +1,6 @@
 -- Results that are known to be errors.
 use Rattle.std.proofs.Common.{◌≡◌, Result, Ok, Err, ap}
-use Rattle.std.specs.Result.{OnErr, IsErrAnd}
-
--- a fact holds in case of an error too
-pub OnErr-from_fact : {T E P : Type 0} (r : Result T E) → P → OnErr r P
-OnErr-from_fact (Ok x) p = tt
-OnErr-from_fact (Err x) p = p
+use Rattle.std.specs.Result.{IsErrAnd}
 
 -- a result whose error is known
 pub Err-from_error : {T E : Type 0} (x : E) (r : Result T E) → IsErrAnd r (λ e. e ≡ x) → r ≡ Err x

@@ -4,7 +4,7 @@ use Rattle.std.proofs.lemmas.List.{take-append-drop, take_rest, append-nil}
 use Rattle.std.proofs.Math.Seq.{take-add}
 use Rattle.rd_script.proofs.KnownLemmas.{Appends-join, Appends-from_keeps}
 use Rattle.rd_script.specs.Device.{TakesBeginning}
-use Rattle.rd_script.proofs.ResultLemmas.{OnErr-from_fact}
+use Rattle.rd_step.proofs.PassedUp.{fact_passed_up}
 use Rattle.rd_script.proofs.device.hand_over.Goals as goal
 
 pub loop-done-preserved : goal.loop-done-preserved
@@ -31,7 +31,7 @@ returns-in_err-done-clause-err g c =
     let after = g.K.Sink.contents c.take.new.self in
     let part = take c.loop-done.done c.args.text.now in
     let kept = Appends-from_keeps between after c.in_err-done.ensures.keeps in
-    OnErr-from_fact {P = TakesBeginning before after c.args.text.now} c.from_residual.result (record {
+    fact_passed_up {F = TakesBeginning before after c.args.text.now} c.from_residual.result (record {
       part = part;
       took = subst (λ taken. Appends before after taken) (append-nil part) (Appends-join before between after part [] c.loop-done.invariant.took kept);
       begins = (drop c.loop-done.done c.args.text.now, sym (take-append-drop c.loop-done.done c.args.text.now));
