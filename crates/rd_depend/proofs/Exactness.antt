@@ -243,14 +243,6 @@ all_found a b rest k same before all exactly R w runs_a runs_b =
 
 -- A common beginning
 
--- where the events differ, the lists are not of the same events
-pub differ_there : (a b : List Entry) (n : ℕ) (c d : Entry) → n < length a → n < length b → ((get_or a n c).event ≡ (get_or b n d).event → ⊥)
-    → events a ≡ events b → ⊥
-differ_there [] b n c d within_a within_b other h = omega arith
-differ_there (x ∷ xs) [] n c d within_a within_b other h = omega arith
-differ_there (x ∷ xs) (y ∷ ys) zero c d within_a within_b other h = other cc
-differ_there (x ∷ xs) (y ∷ ys) (suc n) c d within_a within_b other h = differ_there xs ys n c d (omega arith) (omega arith) other cc
-
 at_front : (x y : Entry) (ys : List Entry) → y.event ≡ x.event → MayComeFirst x.event (y ∷ ys) ys
 at_front x y ys h = record { earlier = []; entry = y; later = ys; stands = refl; its_event = h; free = tt; leaves = refl }
 

@@ -1,3 +1,4 @@
+mod CommonBeginning
 pub mod Moving
 pub mod Search
 pub mod Reaching

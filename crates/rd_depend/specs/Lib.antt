@@ -1,3 +1,4 @@
+pub mod Beginnings
 pub mod Moved
 pub mod Equivalence
 pub mod Remaining

@@ -10,8 +10,10 @@ ghost use Rattle.std.specs.List.{list_all};
 ghost use Rattle.rd_step.specs.declared.entries.Entry.{Entry as Record};
 ghost use Rattle.rd_step.specs.Prelude.{depends, IsFree};
 ghost use Rattle.rd_step.specs.Run.{events};
+ghost use Rattle.rd_depend.specs.Beginnings.{IsBegunByNeither};
 ghost use Rattle.rd_depend.specs.Equivalence.{DecidesEquivalence, HasNoneBy, IsFirstBy, MayComeFirst, CannotComeFirst};
 
+use super::beginnings::{common_beginning, is_same};
 use super::dependence::depends;
 use super::moves::move_before;
 use rd_step::{Entry, Event};
@@ -24,35 +26,19 @@ use std::alloc::{AllocError, Global};
 ///
 /// # Errors
 ///
-/// If memory was refused for records that stand in another order; not for lists of the same events.
+/// If memory was refused for records that were passed over; not for lists of which one begins the other.
 pub fn are_equivalent(alloc: Global, a: &[Entry], b: &[Entry]) -> Result<bool, AllocError>
     ensures answer { IfOk result (DecidesEquivalence a.now b.now) }
-    ensures memory { OnErr result (events a.now ≡ events b.now → ⊥) }
+    ensures memory { OnErr result (IsBegunByNeither (events a.now) (events b.now)) }
 {
     let common = common_beginning(a, b);
     compare(alloc, &a[common..], &b[common..])
 }
 
-/// The number of events that the lists have in common at their beginning.
-fn common_beginning(a: &[Entry], b: &[Entry]) -> usize
-    ensures in_first { result ≤ length a.now }
-    ensures in_second { result ≤ length b.now }
-    ensures same { events (take result a.now) ≡ events (take result b.now) }
-    ensures whole { events a.now ≡ events b.now → result ≡ length a.now }
-{
-    let shorter = a.len().min(b.len());
-    for index in 0..shorter {
-        if !is_same(&a[index].event, &b[index].event) {
-            return index;
-        }
-    }
-    shorter
-}
-
 /// Whether the lists are equivalent, by taking the records of the first one out of the second one after another.
 fn compare(alloc: Global, a: &[Entry], b: &[Entry]) -> Result<bool, AllocError>
     ensures answer { IfOk result (DecidesEquivalence a.now b.now) }
-    ensures memory { OnErr result (1 ≤ length a.now) }
+    ensures memory { OnErr result ((1 ≤ length a.now) × (1 ≤ length b.now)) }
 {
     let mut remaining = Remaining {
         passed: Vec::new(alloc),
@@ -86,6 +72,8 @@ impl<'a> Remaining<'a> {
     fn take_first(&mut self, entry: &Entry) -> Result<bool, AllocError>
         ensures taken { IfOk result (λ taken. taken ≡ true → MayComeFirst entry.now.event (records self.old) (records self.new)) }
         ensures refused { IfOk result (λ taken. taken ≡ false → CannotComeFirst entry.now.event (records self.old)) }
+        ensures ahead { length self.new.ahead.now ≤ length self.old.ahead.now }
+        ensures memory { OnErr result (1 ≤ length self.old.ahead.now) }
     {
         let Some(index) = self.reach(entry.event.actor)? else {
             return Ok(false);
@@ -104,6 +92,8 @@ impl<'a> Remaining<'a> {
         ensures unchanged { OnOk result (records self.new ≡ records self.old) }
         ensures first { IfOk result (λ found. MatchOption found (HasNoneBy actor (records self.new))
             (λ index. (index < length (passed_over self.new)) × IsFirstBy actor (passed_over self.new) index)) }
+        ensures ahead { length self.new.ahead.now ≤ length self.old.ahead.now }
+        ensures memory { OnErr result (1 ≤ length self.old.ahead.now) }
     {
         if let Some(index) = first_by(&self.passed[self.taken..], actor) {
             return Ok(Some(index));
@@ -146,13 +136,6 @@ fn may_come_first(entries: &[Entry], index: usize, event: &Event) -> bool
 {
     let entry = entries[index];
     is_same(&entry.event, event) && is_free(&entry, &entries[..index])
-}
-
-/// Whether the two are one event.
-fn is_same(a: &Event, b: &Event) -> bool
-    ensures { IsTrue result ↔ (a.now ≡ b.now) }
-{
-    a == b
 }
 
 /// Whether the entry depends on none of these.

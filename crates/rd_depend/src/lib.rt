@@ -5,11 +5,13 @@
 //! scan from the step on; it takes no memory.
 #![tactic(auto)]
 
+pub mod beginnings;
 pub mod dependence;
 pub mod equivalence;
 pub mod laws;
 pub mod moves;
 
+pub use beginnings::common_beginning;
 pub use dependence::{depends, depends_on_one, first_dependant};
 pub use equivalence::are_equivalent;
 pub use moves::move_before;

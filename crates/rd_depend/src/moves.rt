@@ -1,6 +1,6 @@
 //! Moving one record before others, inside the room that they have.
 
-ghost use Rattle.std.specs.Prelude.{◌≡◌, ◌≤◌, ◌+◌, length};
+ghost use Rattle.std.specs.Prelude.{◌≡◌, ◌≤◌, ◌+◌, length, vec_capacity};
 ghost use Rattle.rd_depend.specs.Moved.{moved_to};
 
 use rd_step::Entry;
@@ -10,7 +10,8 @@ use rd_step::Entry;
 pub fn move_before(entries: &mut Vec<Entry>, front: usize, next: usize)
     requires order { front ≤ next }
     requires within { next + 1 ≤ length entries.old.items }
-    ensures { entries.new.items ≡ moved_to entries.old.items front next }
+    ensures moved { entries.new.items ≡ moved_to entries.old.items front next }
+    ensures capacity { vec_capacity entries.new ≡ vec_capacity entries.old }
 {
     let block = &mut entries[front..next + 1];
     block.rotate_right(1);

@@ -69,15 +69,15 @@ makings_given R m w (y ∷ ys) h =
     λ i. one i + rest i
 
 -- an event that is out of memory in a session asks for room that its state doesn't promise
-pub may_be_out : (R : ℕ) (w : World) (es : List Entry) (l : ℕ) (room : ℕ → ℕ) (e : Event) → IsSession R w es l room
-    → IsOutOfMemory R (journal_of w es l) room e → MayBeOutOfMemory R (state_of (journal_of w es l)) e
-may_be_out R w es l room e session out =
+pub may_be_out : (R : ℕ) (w : World) (es : List Entry) (l capacity : ℕ) (room : ℕ → ℕ) (e : Event) → IsSession R w es l room
+    → IsOutOfMemory R (journal_of w es l) capacity room e → MayBeOutOfMemory R (state_of (journal_of w es l)) e
+may_be_out R w es l capacity room e session out =
     let ran = session.runs.live_ran in
     record {
       not_full = omega (arith, length-map (take l es) (λ (x : Entry). x.event), out.not_full);
       asks =
           elim out.asked [
-            | inl none ↦ inl (ap events none)
+            | inl none ↦ inl (ap events none.0)
             | inr h ↦ inr (record {
               goes = ap (λ (o : Result Ran Refusal). is_ok (step_after R o e)) ran ∙ h.0;
               makes = ap (makes_after R e) ran ∙ h.1;

@@ -1,6 +1,6 @@
 -- The room that redoing asks for, which is what undoing gave back, and when an event may be out of memory.
 use Rattle.std.specs.Prelude.{◌≡◌, ℕ, ◌+◌, ◌≤◌, ◌<◌, ◌⊎◌, Bool, false, IsOk, IsSome, IsTrue, List, [], ◌∷◌, length, Result, Ok, Err}
-use Rattle.rd_step.specs.Prelude.{Refusal, World, Stepped, step, Ran, MOST_STEPS}
+use Rattle.rd_step.specs.Prelude.{Refusal, TooLong, NoMemory, World, Stepped, step, Ran, MOST_STEPS}
 use Rattle.rd_step.specs.declared.entries.Event.{Event}
 use Rattle.rd_step.specs.declared.entries.Entry.{Entry}
 use Rattle.rd_step.specs.Room.{makes_segment, room_used, room_returned}
@@ -53,8 +53,20 @@ pub record MayBeOutOfMemory (R : ℕ) (s : State) (e : Event) : Type 0 where
   pub not_full : length s.live < MOST_STEPS
   pub asks : (s.undone ≡ []) ⊎ NeedsRoom R s e
 
--- memory was refused to the event: for one more record, where none is undone, or for a segment that nothing else refuses,
--- where the maker has no room
-pub record IsOutOfMemory (R : ℕ) (j : Journal) (room : ℕ → ℕ) (e : Event) : Type 0 where
+-- memory was refused to the event: for one more record, where none is undone and the live ones fill the room that there is, or
+-- for a segment that nothing else refuses, where the maker has no room
+pub record IsOutOfMemory (R : ℕ) (j : Journal) (capacity : ℕ) (room : ℕ → ℕ) (e : Event) : Type 0 where
   pub not_full : length j.live < MOST_STEPS
-  pub asked : (j.undone ≡ []) ⊎ (IsOk (step R j.world e) × IsTrue (makes_segment R j.world e) × (room e.actor ≡ 0))
+  pub asked : ((j.undone ≡ []) × (capacity ≡ length j.live)) ⊎ (IsOk (step R j.world e) × IsTrue (makes_segment R j.world e) × (room e.actor ≡ 0))
+
+-- what the step itself is refused for is answered only where there is room for its record
+abbrev pub ComesAfterRoom : ℕ → ℕ → Refusal → Type 0
+ComesAfterRoom live capacity refusal = (refusal ≡ TooLong) ⊎ (refusal ≡ NoMemory) ⊎ (live < capacity)
+
+-- some maker has no room for the makings among these records
+abbrev pub LacksRoomForMakings : List Entry → (ℕ → ℕ) → Type 0
+LacksRoomForMakings given room = (m : ℕ) × (room m < room_returned_by given m)
+
+-- behind so many records there is no room for these, or some maker has none for the makings among them
+abbrev pub LacksRoom : ℕ → List Entry → ℕ → (ℕ → ℕ) → Type 0
+LacksRoom n given capacity room = (capacity < n + length given) ⊎ LacksRoomForMakings given room

@@ -1,5 +1,5 @@
 -- The code's session, as its journal, as its state, and with its room: what public clauses cite.
-use Rattle.std.specs.Prelude.{ℕ}
+use Rattle.std.specs.Prelude.{ℕ, vec_capacity}
 use Rattle.rd_step.specs.Prelude.{model, room as world_room}
 use Rattle.rd_journal.specs.declared.sessions.Session.{Session}
 use Rattle.rd_journal.specs.Journal.{Journal, journal_of}
@@ -16,3 +16,7 @@ state s = state_of (journal s)
 -- how many makings of an actor can't be refused for memory
 abbrev pub room : {R : ℕ} → Session R → ℕ → ℕ
 room s m = world_room s.world m
+
+-- for how many records, live and undone ones, there is room
+abbrev pub capacity : {R : ℕ} → Session R → ℕ
+capacity s = vec_capacity s.entries

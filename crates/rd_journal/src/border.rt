@@ -69,6 +69,7 @@ pub(crate) fn undo_alone<const R: usize>(
     ensures session { IsSession R (model world.new) entries.new.items live.new (room world.new) }
     ensures state { state_of (journal_of (model world.new) entries.new.items live.new)
         ≡ one_out (state_of (journal_of (model world.old) entries.old.items live.old)) k }
+    ensures capacity { vec_capacity entries.new ≡ vec_capacity entries.old }
 {
     unstep(world, &entries[k as usize - 1]);
     move_behind(entries, k as usize, *live);
@@ -85,6 +86,7 @@ fn move_behind(entries: &mut Vec<Entry>, k: usize, live: usize)
     ensures behind { drop (live - 1) entries.new.items
         ≡ take 1 (drop (k - 1) (take live entries.old.items)) ++ drop live entries.old.items }
     ensures len { length entries.new.items ≡ length entries.old.items }
+    ensures capacity { vec_capacity entries.new ≡ vec_capacity entries.old }
 {
     let later = &mut entries[k - 1..live];
     later.rotate_left(1);
@@ -147,12 +149,13 @@ pub(crate) fn redo_many<const R: usize>(
     }
 }
 
-/// Makes room for a record behind the first `live` ones: if others stand behind them, it is there.
+/// Makes room for a record behind the first `live` ones: if others stand behind them, or the room is there, it asks for none.
 pub(crate) fn make_room(entries: &mut Vec<Entry>, live: usize) -> Result<(), AllocError>
     requires { live ≤ length entries.old.items }
     ensures same { entries.new.items ≡ entries.old.items }
     ensures ok { OnOk result (live < vec_capacity entries.new) }
     ensures err { OnErr result (live ≡ length entries.old.items) }
+    ensures full { OnErr result (vec_capacity entries.old ≡ live) }
 {
     if live < entries.len() {
         return Ok(());

@@ -1,7 +1,7 @@
 //! Undoing a step together with all that depends on it: these records are moved behind the other live ones, which no step
 //! among them minds, and are then the last ones.
 
-ghost use Rattle.std.specs.Prelude.{◌≡◌, ◌++◌, ◌≤◌, length, take, drop};
+ghost use Rattle.std.specs.Prelude.{◌≡◌, ◌++◌, ◌≤◌, length, take, drop, vec_capacity};
 ghost use Rattle.rd_step.specs.Prelude.{model, room, closure_of, without_closure};
 ghost use Rattle.rd_journal.specs.Border.{IsSession};
 ghost use Rattle.rd_journal.specs.Journal.{journal_of, start_of};
@@ -26,6 +26,7 @@ pub(crate) fn undo_closure<const R: usize>(
     ensures session { IsSession R (model world.new) entries.new.items live.new (room world.new) }
     ensures start { start_of (journal_of (model world.new) entries.new.items live.new)
         ≡ start_of (journal_of (model world.old) entries.old.items live.old) }
+    ensures capacity { vec_capacity entries.new ≡ vec_capacity entries.old }
 {
     let count = move_closure_last(entries, k as usize, *live);
     undo_many(world, entries, live, count as u64);
@@ -45,6 +46,7 @@ fn move_closure_last(entries: &mut Vec<Entry>, k: usize, live: usize) -> usize
         ≡ without_closure (take live entries.old.items) k ++ closure_of (take live entries.old.items) k }
     ensures behind { drop live entries.new.items ≡ drop live entries.old.items }
     ensures len { length entries.new.items ≡ length entries.old.items }
+    ensures capacity { vec_capacity entries.new ≡ vec_capacity entries.old }
 {
     let mut front = k - 1;
     for next in k..live {

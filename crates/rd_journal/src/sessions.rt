@@ -10,7 +10,7 @@ ghost use Rattle.std.specs.Prelude.{◌≡◌, ◌⊎◌, ◌++◌, ◌+◌, ◌
 ghost use Rattle.rd_step.specs.Prelude.{model, room as world_room, step};
 ghost use Rattle.rd_journal.specs.Border.{IsSession};
 ghost use Rattle.rd_journal.specs.Journal.{entry_of, events, start_of, IsRunFrom, IsRun};
-ghost use Rattle.rd_journal.specs.Room.{MayBeOutOfMemory, IsOutOfMemory};
+ghost use Rattle.rd_journal.specs.Room.{MayBeOutOfMemory, IsOutOfMemory, ComesAfterRoom, LacksRoom};
 ghost use Rattle.rd_journal.specs.State.{run_of, apply, reply_to, undo, undo_at, back, redo, forward, roll, switch};
 ghost use Rattle.rd_journal.specs.Laws.{IsStepAfter};
 ghost use Rattle.rd_journal.specs.Moves.{IsLengthened, IsMovedBack, IsMovedForward, IsBeforeLast, IsTakenOutAt, IsWithout, IsSwitched, IsRolledBack, IsWithoutClosure, answer_at, roll_answer};
@@ -34,12 +34,13 @@ pub struct Session<const R: usize> {
 }
 
 impl<const R: usize> Session<R> {
-    ghost use Rattle.rd_journal.specs.Sessions.{journal, state, room};
+    ghost use Rattle.rd_journal.specs.Sessions.{journal, state, room, capacity};
 
     /// Opens a session in a world, which is its start. It takes no memory.
     pub fn open(alloc: Global, world: World<R>) -> Session<R>
         ensures state { state result ≡ record { start = model world.entry; live = []; undone = [] } }
         ensures journal { journal result ≡ record { world = model world.entry; live = []; undone = [] } }
+        ensures capacity { capacity result ≡ 0 }
     {
         Session {
             world,
@@ -54,7 +55,7 @@ impl<const R: usize> Session<R> {
     /// # Errors
     ///
     /// In this order: `TooLong` if `MOST_STEPS` steps are live; `NoMemory` if the room for one more record was refused,
-    /// which is asked for only if no step is undone; what the step is refused for, `NoMemory` for a making whose maker
+    /// which is asked for only if no step is undone and the records fill their room; what the step is refused for, `NoMemory` for a making whose maker
     /// has no room, so not if an undone step is a making by the same actor. Nothing has changed then.
     pub fn apply(&mut self, event: Event) -> Result<(u64, Entry), Refusal>
         ensures ok { OnOk result (apply R (state self.old) event ≡ Ok (state self.new)) }
@@ -66,7 +67,8 @@ impl<const R: usize> Session<R> {
         ensures err { IfErr result (λ refusal. (apply R (state self.old) event ≡ Err refusal)
             ⊎ ((refusal ≡ Refusal.NoMemory) × MayBeOutOfMemory R (state self.old) event)) }
         ensures memory { IfErr result (λ refusal. (apply R (state self.old) event ≡ Err refusal)
-            ⊎ ((refusal ≡ Refusal.NoMemory) × IsOutOfMemory R (journal self.old) (room self.old) event)) }
+            ⊎ ((refusal ≡ Refusal.NoMemory) × IsOutOfMemory R (journal self.old) (capacity self.old) (room self.old) event)) }
+        ensures order { IfErr result (λ refusal. ComesAfterRoom (length (journal self.new).live) (capacity self.new) refusal) }
         ensures unchanged { OnErr result (journal self.new ≡ journal self.old) }
     {
         if self.live == MOST_STEPS {
@@ -93,6 +95,7 @@ impl<const R: usize> Session<R> {
         ensures succeeds { 1 ≤ length (journal self.old).live → IsOk result }
         ensures err { IfErr result (λ refusal. undo (state self.old) ≡ Err refusal) }
         ensures unchanged { OnErr result (journal self.new ≡ journal self.old) }
+        ensures capacity { capacity self.new ≡ capacity self.old }
     {
         if self.live == 0 {
             return Err(Refusal::NothingToUndo(0));
@@ -116,6 +119,7 @@ impl<const R: usize> Session<R> {
         ensures answer { result ≡ answer_at (journal self.old) k }
         ensures err { IfErr result (λ refusal. undo_at R (state self.old) k ≡ Err refusal) }
         ensures unchanged { OnErr result (journal self.new ≡ journal self.old) }
+        ensures capacity { capacity self.new ≡ capacity self.old }
     {
         let len = self.len();
         if len < k || k == 0 {
@@ -146,6 +150,7 @@ impl<const R: usize> Session<R> {
         ensures answer { result ≡ roll_answer (journal self.old) k }
         ensures err { IfErr result (λ refusal. roll R (state self.old) k ≡ Err refusal) }
         ensures unchanged { OnErr result (journal self.new ≡ journal self.old) }
+        ensures capacity { capacity self.new ≡ capacity self.old }
     {
         let len = self.len();
         if len < k || k == 0 {
@@ -167,6 +172,7 @@ impl<const R: usize> Session<R> {
         ensures succeeds { n ≤ length (journal self.old).live → IsOk result }
         ensures err { IfErr result (λ refusal. back (state self.old) n ≡ Err refusal) }
         ensures unchanged { OnErr result (journal self.new ≡ journal self.old) }
+        ensures capacity { capacity self.new ≡ capacity self.old }
     {
         let len = self.len();
         if n > len {
@@ -186,6 +192,7 @@ impl<const R: usize> Session<R> {
         ensures records { OnOk result (IsMovedForward 1 (journal self.old) (journal self.new)) }
         ensures err { IfErr result (λ refusal. redo (state self.old) ≡ Err refusal) }
         ensures unchanged { OnErr result (journal self.new ≡ journal self.old) }
+        ensures capacity { capacity self.new ≡ capacity self.old }
     {
         if self.undone_len() == 0 {
             return Err(Refusal::NothingToRedo);
@@ -204,6 +211,7 @@ impl<const R: usize> Session<R> {
         ensures records { OnOk result (IsMovedForward n (journal self.old) (journal self.new)) }
         ensures err { IfErr result (λ refusal. forward (state self.old) n ≡ Err refusal) }
         ensures unchanged { OnErr result (journal self.new ≡ journal self.old) }
+        ensures capacity { capacity self.new ≡ capacity self.old }
     {
         if n > self.undone_len() {
             return Err(Refusal::NothingToRedo);
@@ -218,16 +226,18 @@ impl<const R: usize> Session<R> {
     ///
     /// # Errors
     ///
-    /// `NoMemory` if room was refused, so not if no record is given. Nothing has changed then.
+    /// `NoMemory` if room was refused, which is asked for only where it is missing; so not if no record is given. Nothing has
+    /// changed then.
     pub fn switch(&mut self, n: u64, entries: &[Entry]) -> Result<(), Refusal>
         requires within { n ≤ length (journal self.old).live }
         requires few { n + length entries.now ≤ MOST_STEPS }
         requires run { IsRunFrom R (start_of (journal self.old)) (take n (journal self.old).live ++ entries.now) }
         ensures ok { OnOk result (state self.new ≡ switch (state self.old) n (events entries.now)) }
         ensures records { OnOk result (IsSwitched n entries.now (journal self.old) (journal self.new)) }
-        ensures err { IfErr result (λ refusal. refusal ≡ Refusal.NoMemory) }
+        ensures err { IfErr result (λ refusal. (refusal ≡ Refusal.NoMemory) × LacksRoom n entries.now (capacity self.old) (room self.old)) }
         ensures unchanged { OnErr result (journal self.new ≡ journal self.old) }
         ensures succeeds { entries.now ≡ [] → IsOk result }
+        ensures capacity { n + length entries.now ≤ capacity self.old → capacity self.new ≡ capacity self.old }
     {
         switch_fields(
             &mut self.world,
@@ -252,6 +262,16 @@ impl<const R: usize> Session<R> {
         ensures records { result ≡ length (journal self.now).undone }
     {
         (self.entries.len() - self.live) as u64
+    }
+
+    /// The records of the live steps, in their order. They are those of a run from the start.
+    pub fn live(&self) -> &[Entry]
+        ensures records { result.now ≡ (journal self.now).live }
+        ensures run { IsRunFrom R (state self.now).start result.now }
+        ensures events { events result.now ≡ (state self.now).live }
+        ensures few { length result.now ≤ MOST_STEPS }
+    {
+        &self.entries[..self.live]
     }
 
     /// The record of the live step of this number, from 1.

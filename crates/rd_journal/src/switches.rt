@@ -6,7 +6,7 @@ ghost use Rattle.rd_step.specs.Room.{room_returned};
 ghost use Rattle.rd_journal.specs.Border.{IsSession};
 ghost use Rattle.rd_journal.specs.Journal.{journal_of, events, start_of, IsRunFrom};
 ghost use Rattle.rd_journal.specs.Moves.{IsSwitched};
-ghost use Rattle.rd_journal.specs.Room.{room_returned_by, HasRoomForAll};
+ghost use Rattle.rd_journal.specs.Room.{room_returned_by, HasRoomForAll, LacksRoom, LacksRoomForMakings};
 ghost use Rattle.rd_journal.specs.State.{state_of, switch};
 
 use super::border::{redo_many, undo_many};
@@ -37,8 +37,9 @@ pub(crate) fn switch_fields<const R: usize>(
     ensures session { IsSession R (model world.new) entries.new.items live.new (room world.new) }
     ensures state { OnOk result (state_of (journal_of (model world.new) entries.new.items live.new)
         ≡ switch (state_of (journal_of (model world.old) entries.old.items live.old)) kept (events given.now)) }
-    ensures err { IfErr result (λ refusal. refusal ≡ Refusal.NoMemory) }
+    ensures err { IfErr result (λ refusal. (refusal ≡ Refusal.NoMemory) × LacksRoom kept given.now (vec_capacity entries.old) (room world.old)) }
     ensures succeeds { given.now ≡ [] → IsOk result }
+    ensures capacity { kept + length given.now ≤ vec_capacity entries.old → vec_capacity entries.new ≡ vec_capacity entries.old }
     ensures unchanged { OnErr result ((model world.new ≡ model world.old) × (entries.new.items ≡ entries.old.items) × (live.new ≡ live.old)) }
 {
     match make_room(world, entries, kept, given) {
@@ -50,7 +51,8 @@ pub(crate) fn switch_fields<const R: usize>(
     }
 }
 
-/// Makes room for the given records behind the first `kept` ones, and for the makings that they are of.
+/// Makes room for the given records behind the first `kept` ones, and for the makings that they are of. Room that is there is not
+/// asked for.
 ///
 /// # Errors
 ///
@@ -62,19 +64,39 @@ fn make_room<const R: usize>(
     given: &[Entry],
 ) -> Result<(), Refusal>
     requires within { kept ≤ length entries.old.items }
+    requires few { kept + length given.now ≤ MOST_STEPS }
     ensures ok { OnOk result (kept + length given.now ≤ vec_capacity entries.new) }
     ensures makings { OnOk result (HasRoomForAll (model world.new) given.now (room world.new)) }
-    ensures err { IfErr result (λ refusal. refusal ≡ Refusal.NoMemory) }
+    ensures err { IfErr result (λ refusal. (refusal ≡ Refusal.NoMemory) × LacksRoom kept given.now (vec_capacity entries.old) (room world.old)) }
     ensures succeeds { given.now ≡ [] → IsOk result }
+    ensures capacity { kept + length given.now ≤ vec_capacity entries.old → vec_capacity entries.new ≡ vec_capacity entries.old }
     ensures unchanged { model world.new ≡ model world.old }
     ensures records { entries.new.items ≡ entries.old.items }
     ensures room { (m : ℕ) → room world.old m ≤ room world.new m }
 {
-    let behind = entries.len() - kept;
-    if entries.reserve(given.len().saturating_sub(behind)).is_err() {
-        return Err(Refusal::NoMemory);
-    }
+    make_room_for_records(entries, kept + given.len())?;
     make_room_for_makings(world, given)
+}
+
+/// Makes room for so many records.
+///
+/// # Errors
+///
+/// `NoMemory` if room was refused.
+fn make_room_for_records(entries: &mut Vec<Entry>, needed: usize) -> Result<(), Refusal>
+    ensures ok { OnOk result (needed ≤ vec_capacity entries.new) }
+    ensures err { IfErr result (λ refusal. (refusal ≡ Refusal.NoMemory) × (vec_capacity entries.old < needed)) }
+    ensures capacity { needed ≤ vec_capacity entries.old → vec_capacity entries.new ≡ vec_capacity entries.old }
+    ensures records { entries.new.items ≡ entries.old.items }
+{
+    if needed <= entries.capacity() {
+        return Ok(());
+    }
+    let more = needed - entries.len();
+    match entries.reserve(more) {
+        Err(_) => Err(Refusal::NoMemory),
+        Ok(()) => Ok(()),
+    }
 }
 
 /// Makes room for each actor's makings among these records.
@@ -87,7 +109,7 @@ fn make_room_for_makings<const R: usize>(
     given: &[Entry],
 ) -> Result<(), Refusal>
     ensures ok { OnOk result (HasRoomForAll (model world.new) given.now (room world.new)) }
-    ensures err { IfErr result (λ refusal. refusal ≡ Refusal.NoMemory) }
+    ensures err { IfErr result (λ refusal. (refusal ≡ Refusal.NoMemory) × LacksRoomForMakings given.now (room world.old)) }
     ensures succeeds { given.now ≡ [] → IsOk result }
     ensures unchanged { model world.new ≡ model world.old }
     ensures room { (m : ℕ) → room world.old m ≤ room world.new m }
@@ -142,6 +164,7 @@ fn exchange<const R: usize>(
     ensures session { IsSession R (model world.new) entries.new.items live.new (room world.new) }
     ensures state { state_of (journal_of (model world.new) entries.new.items live.new)
         ≡ switch (state_of (journal_of (model world.old) entries.old.items live.old)) kept (events given.now) }
+    ensures capacity { vec_capacity entries.new ≡ vec_capacity entries.old }
 {
     let undone = *live - kept;
     undo_many(world, entries, live, undone as u64);
@@ -153,11 +176,11 @@ fn exchange<const R: usize>(
 fn replace_behind(entries: &mut Vec<Entry>, kept: usize, given: &[Entry])
     requires within { kept ≤ length entries.old.items }
     requires capacity { kept + length given.now ≤ vec_capacity entries.old }
-    ensures { entries.new.items ≡ take kept entries.old.items ++ given.now }
+    ensures replaced { entries.new.items ≡ take kept entries.old.items ++ given.now }
+    ensures capacity { vec_capacity entries.new ≡ vec_capacity entries.old }
 {
     entries.truncate(kept);
-    match entries.extend_from_slice(given) {
-        Err(_) => unreachable!(),
-        Ok(()) => {}
+    for entry in given {
+        entries.push_reserved(*entry);
     }
 }

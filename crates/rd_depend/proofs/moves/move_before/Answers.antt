@@ -15,7 +15,7 @@ whole n f k es ds turned len same order within after =
     ap (put_mid f (k + 1 - f) ds) after ∙ ap all same ∙ turned_right es f k order within in
     ap (λ (ys : List Entry). take n (ys ++ drop (length ys) es)) parts ∙ overwritten n es (moved_to es f k) len (moved_to-length es f k order within)
 
-pub returns : goal.returns
-returns c =
+pub returns-clause-moved : goal.returns-clause-moved
+returns-clause-moved c =
     whole c.args.entries.now.len c.args.front c.args.next c.args.entries.now.items c.deref_mut.result.now c.rotate_right.new.self (search rules)
     c.deref_mut.ensures.value c.requires.order c.requires.within c.rotate_right.ensures.after

@@ -26,7 +26,7 @@ loop-next-preserved c =
     ∙ sym c.depends_on_one.ensures in
     elim c.if-not-depends_on_one.branch [
       | then-not-depends_on_one w ↦
-          let is : c.if-not-depends_on_one.entries.items ≡ moved_to es f n = (λ i. (w.entries-is i).items) ∙ w.move_before.ensures in
+          let is : c.if-not-depends_on_one.entries.items ≡ moved_to es f n = (λ i. (w.entries-is i).items) ∙ w.move_before.ensures.moved in
           let same : length (moved_to es f n) ≡ length es =
           moved_to-length es f n (omega (arith, c.loop-next.invariant.before)) (omega (arith, c.loop-next-test.true, c.loop-next.invariant.len, c.requires.within)) in
           record {

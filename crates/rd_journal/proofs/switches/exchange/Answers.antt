@@ -27,7 +27,7 @@ redo_many-requires g c =
     subst (λ (s : World). IsRunFrom g.row.R s (take c.undo_many.new.live es ++ c.args.given.now)) (sym start)
     (subst (λ (xs : List Entry). IsRunFrom g.row.R (world_before w (take c.args.live.now es)) (xs ++ c.args.given.now)) front c.requires.run) in
     let is : c.replace_behind.new.entries.items ≡ take c.undo_many.new.live es ++ c.args.given.now =
-    c.replace_behind.ensures ∙ ap (λ (n : ℕ). take n es ++ c.args.given.now) (sym border) in
+    c.replace_behind.ensures.replaced ∙ ap (λ (n : ℕ). take n es ++ c.args.given.now) (sym border) in
     let session =
     replaced g.row.R v es c.args.given.now c.replace_behind.new.entries.items c.undo_many.new.live (room c.undo_many.new.world)
     (room c.undo_many.new.world) c.undo_many.ensures.session h (omega (arith, c.requires.few)) more is in
@@ -39,11 +39,11 @@ returns-clause-state g c =
     let es = c.args.entries.now.items in
     let fs = c.replace_behind.new.entries.items in
     let border : c.undo_many.new.live ≡ c.args.kept = omega (arith, c.undo_many.ensures.border, c.requires.within) in
-    let is : fs ≡ take c.args.kept es ++ c.args.given.now = c.replace_behind.ensures in
+    let is : fs ≡ take c.args.kept es ++ c.args.given.now = c.replace_behind.ensures.replaced in
     let within = c.requires.session.within in
     let len : length (take c.args.kept es) ≡ c.args.kept = length-take-le c.args.kept es (omega (arith, within, c.requires.within)) in
     let front : take c.undo_many.new.live c.replace_behind.new.entries.items ≡ take c.undo_many.new.live es =
-    (λ i. take ((border ∙ sym len) i) (c.replace_behind.ensures i)) ∙ take-append_seam (take c.args.kept es) c.args.given.now ∙ ap (λ (n : ℕ). take n es) (sym border) in
+    (λ i. take ((border ∙ sym len) i) (c.replace_behind.ensures.replaced i)) ∙ take-append_seam (take c.args.kept es) c.args.given.now ∙ ap (λ (n : ℕ). take n es) (sym border) in
     switched_state c.args.given.now c.args.kept (journal_of (model c.args.world.now) es c.args.live.now)
     (journal_of (model c.redo_many.new.world) fs c.redo_many.new.live)
     (switched_start (c.args.live.now - c.args.kept) (length c.args.given.now) c.undo_many.new.live c.args.live.now c.redo_many.new.live

@@ -1,5 +1,6 @@
 use Rattle.std.proofs.Common.{◌≡◌, ℕ, zero, suc, ◌+◌, ◌∙◌, IsSome, subst, sym, arith}
 use Rattle.rd_step.specs.Prelude.{World, model, room}
+use Rattle.rd_step.proofs.PassedUp.{error_passed_up}
 use Rattle.rd_journal.proofs.Switching.{room_for_one_more, room_for_actors}
 use Rattle.rd_journal.proofs.switches.make_room_for_makings.Goals as goal
 
@@ -30,3 +31,10 @@ returns-clause-ok g c =
     c.loop-number.invariant.same c.loop-number.invariant.made
     (λ (h : IsSome ((model c.args.world.now).actor zero)). cc)
     (λ n h. let low = (c.actors-number-end.ensures.count n).0 h in omega arith)
+
+pub returns-in_err-make_room-clause-err : goal.returns-in_err-make_room-clause-err
+returns-in_err-make_room-clause-err g c =
+    let more = c.loop-number.invariant.more (c.loop-number.number + 1) in
+    let lacks = c.in_err-make_room.ensures.err in
+    error_passed_up _ c.in_err-make_room.field-0.0 c.from_residual.result c.from_residual.ensures.1
+    (lacks.0, (c.loop-number.number + 1, omega (arith, lacks.1, more, c.makings_by.ensures)))

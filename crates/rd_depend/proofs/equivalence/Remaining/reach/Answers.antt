@@ -1,4 +1,4 @@
-use Rattle.std.proofs.Common.{◌∙◌, sym, subst, List, drop}
+use Rattle.std.proofs.Common.{◌∙◌, sym, subst, List, drop, arith}
 use Rattle.rd_step.specs.declared.entries.Entry.{Entry}
 use Rattle.rd_depend.specs.Equivalence.{HasNoneBy}
 use Rattle.rd_depend.specs.Remaining.{passed_over}
@@ -15,4 +15,5 @@ loop-self-preserved c =
       none =
           subst (λ (l : List Entry). HasNoneBy c.args.actor l) (sym left)
           (none_by-one c.args.actor (passed_over c.loop-self.self) _ c.loop-self.invariant.none c.if-actor-entry.false);
+      ahead = omega (arith, c.loop-self.invariant.ahead, c.in-len1-up.len_at_least);
     }

@@ -34,7 +34,7 @@ returns-clause-taken c = λ h.
     subst (λ (b : Bool). IsTestOf c.args.entry.now.event cut c.in-Some.index b) c.if-not-may_come_first.false c.may_come_first.ensures in
     let within : old.taken + c.in-Some.index + 1 ≤ length old.passed.items = omega (arith, found.0, length-drop old.taken old.passed.items) in
     let left : drop (old.taken + 1) c.move_before.new.entries.items ≡ remove (passed_over old) c.in-Some.index =
-    ap (drop (old.taken + 1)) c.move_before.ensures ∙ moved_out old.passed.items old.taken c.in-Some.index within in
+    ap (drop (old.taken + 1)) c.move_before.ensures.moved ∙ moved_out old.passed.items old.taken c.in-Some.index within in
     let out : MayComeFirst c.args.entry.now.event (records old) (remove (passed_over old) c.in-Some.index ++ old.ahead.now) =
     may_tested c.args.entry.now.event (passed_over old) old.ahead.now c.in-Some.index found.0
     (subst (λ (l : List Entry). IsTestOf c.args.entry.now.event l c.in-Some.index true)

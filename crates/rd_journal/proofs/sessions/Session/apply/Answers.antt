@@ -1,4 +1,4 @@
-use Rattle.std.proofs.Common.{◌+◌, ◌<◌, inl, inr, List, refl, ap, arith, length-take-le}
+use Rattle.std.proofs.Common.{◌+◌, ◌<◌, inl, inr, List, refl, ap, arith, length-take-le, vec_capacity}
 use Rattle.rd_step.specs.declared.entries.Entry.{Entry}
 use Rattle.rd_step.specs.Prelude.{model, room, MOST_STEPS}
 use Rattle.rd_step.proofs.PassedUp.{error_passed_up, fact_passed_up}
@@ -30,7 +30,7 @@ returns-in_err-entry-clause-err g c =
           self.kept.runs self.kept.within less h)
       | inr h ↦ inr (
         h.0,
-        may_be_out g.row.R (model self.world) self.entries.items self.live (room self.world) c.args.event self.kept
+        may_be_out g.row.R (model self.world) self.entries.items self.live (vec_capacity self.entries) (room self.world) c.args.event self.kept
             (record { not_full = omega (arith, length-take-le self.live self.entries.items self.kept.within); asked = inr (h.1, h.2, h.3) }),
       )
     ])
