@@ -15,7 +15,8 @@ use Rattle.rd_step.specs.Prelude.{Refusal, World, NoMark, NoMemory, MarkTaken, T
 use Rattle.rd_journal.specs.State.{State}
 use Rattle.rd_marks.specs.NameBytes.{MOST_MARKS}
 use Rattle.rd_marks.specs.Layout.{IsRecordOfRun, KeepsMarks}
-use Rattle.rd_marks.specs.Books.{Mark, BookState, with_session, with_marks, marked_events, without_mark, mark, drop_mark, goto_mark, at_events, mark_at, name_and_length, AnswersSame}
+use Rattle.rd_depend.specs.Beginnings.{Begins}
+use Rattle.rd_marks.specs.Books.{Mark, BookState, with_session, with_marks, marked_events, without_mark, mark, drop_mark, goto_mark, at_events, mark_at, name_and_length, MakesSteps, AnswersSame}
 use Rattle.rd_step.specs.Equivalence.{IsEquivalent}
 use Rattle.rd_depend.specs.Equivalence.{DecidesEquivalence}
 use Rattle.rd_marks.specs.Marks.{mark_of, marks_of}
@@ -153,10 +154,6 @@ pub goto_goes : (b : BookState) (name : MarkName) (es : List Event) (s : State) 
     → s ≡ record { start = b.session.start; live = es; undone = [] } → goto_mark b name ≡ Ok (with_session b s)
 goto_goes b name es s there same = ap (at_events b) there ∙ ap (λ (t : State). Ok (with_session b t)) (sym same)
 
--- which only memory can refuse
-pub goto_refused : (b : BookState) (name : MarkName) (es : List Event) → marked_events b.marks name ≡ Some es → IsOk (goto_mark b name)
-goto_refused b name es there = subst (λ (o : Option (List Event)). IsOk (at_events b o)) (sym there) refl
-
 pub goto_missing : (b : BookState) (name : MarkName) → marked_events b.marks name ≡ None → goto_mark b name ≡ Err NoMark
 goto_missing b name none = ap (at_events b) none
 
@@ -165,10 +162,12 @@ pub goto_done : {X : Type 0} (r : Result X Refusal) (b : BookState) (name : Mark
 goto_done (Ok x) b name es s there same = goto_goes b name es s there same
 goto_done (Err e) b name es s there same = tt
 
+-- which only memory for its steps can refuse
 pub goto_not_done : {X : Type 0} (r : Result X Refusal) (b : BookState) (name : MarkName) (es : List Event) → marked_events b.marks name ≡ Some es
-    → IfErr r (λ refusal. refusal ≡ NoMemory) → IfErr r (λ refusal. (goto_mark b name ≡ Err refusal) ⊎ ((refusal ≡ NoMemory) × IsOk (goto_mark b name)))
-goto_not_done (Ok x) b name es there h = tt
-goto_not_done (Err e) b name es there h = inr (h, goto_refused b name es there)
+    → IfErr r (λ refusal. refusal ≡ NoMemory) → (Begins es b.session.live → IsOk r)
+    → IfErr r (λ refusal. (goto_mark b name ≡ Err refusal) ⊎ ((refusal ≡ NoMemory) × MakesSteps b name))
+goto_not_done (Ok x) b name es there h goes = tt
+goto_not_done (Err e) b name es there h goes = inr (h, (es, there, λ (begins : Begins es b.session.live). let no = goes begins in cc))
 
 -- The comparison of two marks
 

@@ -69,10 +69,10 @@ pub happened_leaves : (R : ℕ) (b : BookState) (e : Event) (a : Answered) → H
 happened_leaves R b e a (inl h) = as_this b a _ (happens_leaves R b e) h
 happened_leaves R b e a (inr h) = as_this b a _ (record { start = refl; unchanged = refl }) h.1
 
-made_leaves : (b : BookState) (reply : BookState → Reply) (r : Result BookState Refusal) (a : Answered)
-    → ((t : BookState) → r ≡ Ok t → t.session.start ≡ b.session.start) → IsMade b reply r a → LeavesStart b a
-made_leaves b reply r a starts (inl h) = as_this b a _ (mark_leaves b reply r starts) h
-made_leaves b reply r a starts (inr h) = as_this b a _ (record { start = refl; unchanged = refl }) h.1
+made_leaves : (b : BookState) (reply : BookState → Reply) (r : Result BookState Refusal) (P : Type 0) (a : Answered)
+    → ((t : BookState) → r ≡ Ok t → t.session.start ≡ b.session.start) → IsMade b reply r P a → LeavesStart b a
+made_leaves b reply r P a starts (inl h) = as_this b a _ (mark_leaves b reply r starts) h
+made_leaves b reply r P a starts (inr h) = as_this b a _ (record { start = refl; unchanged = refl }) h.1
 
 pub obeyed_leaves : (R : ℕ) (b : BookState) (c : Command) (a : Answered) → IsObeyed R b c a → LeavesStart b a
 obeyed_leaves R b (Enq actor value) a h = happened_leaves R b _ a h
@@ -88,10 +88,10 @@ obeyed_leaves R b (Back n) a h = as_this b a _ (move_leaves b (back b.session n)
 obeyed_leaves R b Redo a h = as_this b a _ (move_leaves b (redo b.session) (redo_start b.session)) h
 obeyed_leaves R b (Forward n) a h = as_this b a _ (move_leaves b (forward b.session n) (forward_start b.session n)) h
 obeyed_leaves R b (MarkAs name) a h =
-    made_leaves b _ (mark b name) a (mark_start b _ (is_some (marked_events b.marks name)) (length b.marks == MOST_MARKS)) h
+    made_leaves b _ (mark b name) _ a (mark_start b _ (is_some (marked_events b.marks name)) (length b.marks == MOST_MARKS)) h
 obeyed_leaves R b (DropMark name) a h =
     as_this b a _ (mark_leaves b _ (drop_mark b name) (drop_start b (without_mark b.marks name) (is_some (marked_events b.marks name)))) h
-obeyed_leaves R b (GotoMark name) a h = made_leaves b _ (goto_mark b name) a (goto_start b (marked_events b.marks name)) h
+obeyed_leaves R b (GotoMark name) a h = made_leaves b _ (goto_mark b name) _ a (goto_start b (marked_events b.marks name)) h
 obeyed_leaves R b Marks a h = as_this b a _ (query_leaves b _) h
 obeyed_leaves R b (MarkAt i) a h = as_this b a _ (query_leaves b _) h
 obeyed_leaves R b (Same one other) a h = as_this b a _ (query_leaves b _) h.answers

@@ -1,70 +1,37 @@
--- The records of a session's live steps, by number, and that they are those of a run.
-use Rattle.std.proofs.Common.{◌≡◌, ℕ, zero, suc, drop, option_map, ◌+◌, ◌<◌, ◌≤◌, inl, inr, refl, sym, ap, subst, ◌∙◌, List, [], ◌∷◌, ◌++◌, length, take, get_or, slice_get, ok_or, Option, Some, ◌-◌, Result, Ok, Err, OnOk, length-drop, arith, add-one}
-use Rattle.std.proofs.lemmas.Option.{slice_get_cases, slice_get-get_or}
-use Rattle.std.proofs.Math.Seq.{take-suc, take-length}
-use Rattle.rd_step.specs.Prelude.{Refusal, NoSuchStep, MOST_STEPS, World, Stepped, step, Ran, run}
+-- The records of a session's live steps, and that they are those of a run.
+use Rattle.std.proofs.Common.{◌≡◌, ℕ, zero, suc, drop, option_map, ◌+◌, ◌<◌, ◌≤◌, inl, inr, refl, sym, ap, subst, ◌∙◌, List, [], ◌∷◌, ◌++◌, length, take, get_or, slice_get, ok_or, Option, Some, ◌-◌, Result, Ok, Err, OnOk, IfErr, length-drop, arith, add-one}
+use Rattle.std.proofs.Math.Seq.{take-length}
+use Rattle.rd_step.specs.Prelude.{Refusal, NoMemory, MOST_STEPS, World, Stepped, step, Ran, run}
 use Rattle.rd_step.specs.Run.{run_preceded_by, run_from_step}
 use Rattle.rd_step.specs.declared.entries.Event.{Event}
-use Rattle.std.proofs.lemmas.List.{length-map, take-append-drop, drop-map}
-use Rattle.std.proofs.lemmas.Option.{slice_get-map}
+use Rattle.std.proofs.lemmas.List.{take-append-drop, drop-map}
 use Rattle.rd_step.specs.declared.entries.Entry.{Entry}
 use Rattle.rd_journal.specs.State.{State, state_of, switch}
-use Rattle.rd_journal.specs.Journal.{Journal, start_of, events, run_entries, IsRun, entry_of}
+use Rattle.rd_journal.specs.Journal.{Journal, start_of, events, run_entries, IsRun}
 use Rattle.rd_marks.specs.Layout.{IsRecordOfRun}
 
--- a live record
-record IsThere (j : Journal) (i : ℕ) : Type 0 where
-  pub entry : Entry
-  pub found : entry_of j (i + 1) ≡ Ok entry
-  pub there : slice_get j.live i ≡ Some entry
+-- the first events of some records are those of the first records
+take_events : (n : ℕ) (xs : List Entry) → take n (events xs) ≡ events (take n xs)
+take_events zero xs = refl
+take_events (suc n) [] = refl
+take_events (suc n) (x ∷ xs) = ap (λ (es : List Event). x.event ∷ es) (take_events n xs)
 
-is_there : (j : Journal) (i : ℕ) → i < length j.live → IsThere j i
-is_there j i h =
-    elim ((slice_get_cases j.live i).1) [
-      | inl found ↦ record {
-        entry = found.0;
-        found = ap (entry_of j) (add-one i) ∙ ap (λ (o : Option Entry). ok_or o (NoSuchStep (length j.live))) found.2;
-        there = found.2;
-      }
-      | inr past ↦ absurd (omega (arith, past.0))
-    ]
+-- what records have in common at their beginning, their events have
+pub common_events : (n : ℕ) (es : List Event) (xs ys : List Entry) → events xs ≡ es → events (take n xs) ≡ events (take n ys) → take n es ≡ take n (events ys)
+common_events n es xs ys same h = ap (take n) (sym same) ∙ take_events n xs ∙ h ∙ sym (take_events n ys)
 
--- no refusal is found at a number that is there
-pub not_refused : (j : Journal) (i : ℕ) (r : Result Entry Refusal) (e : Refusal) → i < length j.live → r ≡ entry_of j (i + 1) → r ≡ Err e → ⊥
-not_refused j i r e h k f =
-    let t = is_there j i h in
-    let found : entry_of j (i + 1) ≡ Ok t.entry = t.found in
-    cc
+-- nothing is left behind a whole list
+pub nothing_left : (n : ℕ) (ys : List Entry) → n ≡ length ys → take (length ys - n) (drop n ys) ≡ []
+nothing_left n ys h = let none : length ys - n ≡ 0 = omega arith in ap (λ (k : ℕ). take k (drop n ys)) none
 
--- what is found is the record
-pub found_there : (j : Journal) (i : ℕ) (r : Result Entry Refusal) (x : Entry) → i < length j.live → r ≡ entry_of j (i + 1) → r ≡ Ok x
-    → slice_get j.live i ≡ Some x
-found_there j i r x h k f =
-    let t = is_there j i h in
-    let found : entry_of j (i + 1) ≡ Ok t.entry = t.found in
-    let there : slice_get j.live i ≡ Some t.entry = t.there in
-    let same : t.entry ≡ x = cc in
-    cc
+-- a refusal that says more says this
+pub only_refusal : {X : Type 0} (P : Type 0) (r : Result X Refusal) → IfErr r (λ refusal. (refusal ≡ NoMemory) × P) → IfErr r (λ refusal. refusal ≡ NoMemory)
+only_refusal P (Ok x) h = tt
+only_refusal P (Err e) h = h.0
 
--- one more element of the first ones
-pub one_more : {X : Type 0} (xs ys : List X) (i : ℕ) (x : X) → ys ≡ take i xs → slice_get xs i ≡ Some x → i < length xs → ys ++ x ∷ [] ≡ take (i + 1) xs
-one_more {X} xs ys i x e h k =
-    let at : Some (get_or xs i x) ≡ Some x = sym (slice_get-get_or xs i x k) ∙ h in
-    let same : get_or xs i x ≡ x = cc in
-    ap (λ (zs : List X). zs ++ x ∷ []) e ∙ ap (λ (y : X). take i xs ++ y ∷ []) (sym same) ∙ sym (take-suc xs i x k)
-    ∙ ap (λ (n : ℕ). take n xs) (sym (add-one i))
-
--- one more event that two lists have in common
-pub one_more_common : (xs ys : List Entry) (i : ℕ) (x d : Entry) → take i (events xs) ≡ take i (events ys) → slice_get xs i ≡ Some x
-    → i < length xs → i < length ys → x.event ≡ (get_or ys i d).event → take (i + 1) (events xs) ≡ take (i + 1) (events ys)
-one_more_common xs ys i x d h at low less same =
-    let f = λ (z : Entry). z.event in
-    let there : slice_get ys i ≡ Some (get_or ys i d) = slice_get-get_or ys i d less in
-    let at_x : slice_get (events xs) i ≡ Some x.event = slice_get-map f xs i ∙ ap (option_map f) at in
-    let at_y : slice_get (events ys) i ≡ Some x.event = slice_get-map f ys i ∙ ap (option_map f) there ∙ ap (λ (e : Event). Some e) (sym same) in
-    let low_x : i < length (events xs) = omega (arith, length-map xs f) in
-    let low_y : i < length (events ys) = omega (arith, length-map ys f) in
-    sym (one_more (events xs) (take i (events xs)) i x.event refl at_x low_x) ∙ one_more (events ys) (take i (events xs)) i x.event h at_y low_y
+-- a copy of the live records is one of those of a run
+pub copied_records : (R : ℕ) (w : World) (xs ys : List Entry) → ys ≡ xs → run_entries (run R w (events xs)) ≡ Ok xs → length xs ≤ MOST_STEPS → IsRecordOfRun R w ys
+copied_records R w xs ys same ran few = subst (λ (zs : List Entry). IsRecordOfRun R w zs) (sym same) (record { few = few; ran = ran })
 
 -- A start and its events determine the records of a run
 
@@ -124,10 +91,6 @@ pub joined_events : (n : ℕ) (es : List Event) (ys : List Entry) → take n es 
 joined_events n es ys h =
     ap (λ (zs : List Event). zs ++ events (drop n ys)) h ∙ ap (λ (zs : List Event). take n (events ys) ++ zs) (sym (drop-map (λ (x : Entry). x.event) n ys))
     ∙ take-append-drop n (events ys)
-
--- the records of the live steps are those of a run from the start
-pub live_records : (R : ℕ) (j : Journal) (xs : List Entry) → IsRun R j → length j.live ≤ MOST_STEPS → xs ≡ j.live → IsRecordOfRun R (start_of j) xs
-live_records R j xs runs few e = rw e (record { few = few; ran = ap run_entries runs.live_ran })
 
 -- the state after a switch to records of a run
 pub switched : {X : Type 0} (r : Result X Refusal) (s t : State) (n : ℕ) (ys : List Entry) → take n s.live ≡ take n (events ys)

@@ -3,6 +3,7 @@ use Rattle.std.specs.Prelude.{◌≡◌, ◌↔◌, IsTrue, Bool, ℕ, zero, suc
 use Rattle.rd_step.specs.Prelude.{World, Refusal, NoMark, MarkTaken, TooManyMarks, NoMemory}
 use Rattle.rd_step.specs.Equivalence.{IsEquivalent}
 use Rattle.rd_step.specs.declared.entries.Event.{Event}
+use Rattle.rd_depend.specs.Beginnings.{Begins, IsBegunByNeither}
 use Rattle.rd_journal.specs.State.{State}
 use Rattle.rd_marks.specs.declared.names.MarkName.{MarkName}
 use Rattle.rd_marks.specs.NameBytes.{MOST_MARKS}
@@ -57,11 +58,15 @@ at_events b (Some es) = Ok (with_session b (record { start = b.session.start; li
 abbrev pub goto_mark : BookState → MarkName → Result BookState Refusal
 goto_mark b name = at_events b (marked_events b.marks name)
 
--- what may be said of the events of two marks: whether they are causally equivalent from the start; that a mark is missing; or,
--- if the lists differ, that memory was refused
+-- going to the mark of this name makes steps: its events do not begin the live ones
+abbrev pub MakesSteps : BookState → MarkName → Type 0
+MakesSteps b name = (es : List Event) × (marked_events b.marks name ≡ Some es) × (Begins es b.session.live → ⊥)
+
+-- what may be answered of the events of two marks: whether they are causally equivalent from the start; that a mark is missing; or,
+-- if neither list begins the other, that memory was refused
 abbrev pub AnswersSame : ℕ → World → Option (List Event) → Option (List Event) → Result Bool Refusal → Type 0
 AnswersSame R start (Some es) (Some fs) (Ok same) = IsTrue same ↔ IsEquivalent R start es fs
-AnswersSame R start (Some es) (Some fs) (Err refusal) = (refusal ≡ NoMemory) × (es ≡ fs → ⊥)
+AnswersSame R start (Some es) (Some fs) (Err refusal) = (refusal ≡ NoMemory) × IsBegunByNeither es fs
 AnswersSame R start (Some es) None said = said ≡ Err NoMark
 AnswersSame R start None fs said = said ≡ Err NoMark
 

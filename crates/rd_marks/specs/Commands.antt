@@ -14,7 +14,7 @@ use Rattle.rd_marks.specs.declared.commands.Command.{Command}
 use Rattle.rd_marks.specs.declared.commands.Command.TheVariants.{Enq, Deq, ArrayEnq, ArrayDeq, Go, Starve, Undo, UndoAt, Roll, Back, Redo, Forward, Mark, DropMark, GotoMark, Marks, MarkAt, Same, Origin, Writer, Show, Actor, Step, Len}
 use Rattle.rd_marks.specs.declared.replies.Reply.{Reply}
 use Rattle.rd_marks.specs.declared.replies.Reply.TheVariants.{Applied, At, Marked, Dropped, Marks as MarksAre, Mark as MarkIs, Same as SameIs, Origin as OriginIs, Writer as WriterIs, Content as ContentIs, Actor as ActorIs, Step as StepIs}
-use Rattle.rd_marks.specs.Books.{BookState, with_session, marked_events, mark, drop_mark, goto_mark, mark_at, AnswersSame}
+use Rattle.rd_marks.specs.Books.{BookState, with_session, marked_events, mark, drop_mark, goto_mark, mark_at, MakesSteps, AnswersSame}
 
 -- what a command answers, and the state after it
 pub record Answered : Type 0 where
@@ -85,10 +85,10 @@ happens R b e = event_answer b (reply_to R b.session e) (apply R b.session e)
 abbrev pub Happened : ℕ → BookState → Event → Answered → Type 0
 Happened R b e answered = (answered ≡ happens R b e) ⊎ (MayBeOutOfMemory R b.session e × (answered ≡ refused b NoMemory))
 
--- what setting or going to a mark may be answered, and what it may leave: what it makes, or NoMemory with nothing changed, if
--- nothing else refuses it
-abbrev pub IsMade : BookState → (BookState → Reply) → Result BookState Refusal → Answered → Type 0
-IsMade b reply made answered = (answered ≡ mark_answer b reply made) ⊎ (IsOk made × (answered ≡ refused b NoMemory))
+-- what setting or going to a mark may be answered, and what it may leave: what it makes, or, only if it asks for room, NoMemory with
+-- nothing changed
+abbrev pub IsMade : BookState → (BookState → Reply) → Result BookState Refusal → Type 0 → Answered → Type 0
+IsMade b reply made AsksForRoom answered = (answered ≡ mark_answer b reply made) ⊎ (AsksForRoom × (answered ≡ refused b NoMemory))
 
 -- what the comparison of two marks may be answered
 pub record IsCompared (R : ℕ) (b : BookState) (one other : MarkName) (answered : Answered) : Type 0 where
@@ -110,9 +110,9 @@ IsObeyed R b (Roll k) answered = answered ≡ move_answer b (roll R b.session k)
 IsObeyed R b (Back n) answered = answered ≡ move_answer b (back b.session n)
 IsObeyed R b Redo answered = answered ≡ move_answer b (redo b.session)
 IsObeyed R b (Forward n) answered = answered ≡ move_answer b (forward b.session n)
-IsObeyed R b (Mark name) answered = IsMade b (λ c. Marked (length c.session.live)) (mark b name) answered
+IsObeyed R b (Mark name) answered = IsMade b (λ c. Marked (length c.session.live)) (mark b name) (IsOk (mark b name)) answered
 IsObeyed R b (DropMark name) answered = answered ≡ mark_answer b (λ c. Dropped) (drop_mark b name)
-IsObeyed R b (GotoMark name) answered = IsMade b (λ c. step_counts c.session) (goto_mark b name) answered
+IsObeyed R b (GotoMark name) answered = IsMade b (λ c. step_counts c.session) (goto_mark b name) (MakesSteps b name) answered
 IsObeyed R b Marks answered = answered ≡ query_answer b (Ok (MarksAre (length b.marks)))
 IsObeyed R b (MarkAt i) answered = answered ≡ query_answer b (reply_with (λ m. MarkIs m.0 m.1) (mark_at b i))
 IsObeyed R b (Same one other) answered = IsCompared R b one other answered

@@ -32,7 +32,7 @@ pub struct Book<const R: usize> {
 impl<const R: usize> Book<R> {
     ghost use Rattle.rd_journal.specs.State.{undo, undo_at, roll, back, redo, forward};
     ghost use Rattle.rd_marks.specs.BookViews.{book_state};
-    ghost use Rattle.rd_marks.specs.Books.{marked_events, mark, drop_mark, goto_mark, mark_at, AnswersSame};
+    ghost use Rattle.rd_marks.specs.Books.{marked_events, mark, drop_mark, goto_mark, mark_at, MakesSteps, AnswersSame};
     ghost use Rattle.rd_marks.specs.Commands.{Happened, move_answer};
 
     /// A book over a session, with no marks. It takes no memory.
@@ -99,11 +99,12 @@ impl<const R: usize> Book<R> {
     /// # Errors
     ///
     /// In this order: `NoMark` if there is none of that name; `NoMemory` if room for the steps that are made again was refused,
-    /// which is asked for before the first step is undone. Nothing has changed then.
+    /// which is asked for before the first step is undone, so not if the live steps begin with the bookmark's. Nothing has changed
+    /// then.
     pub fn goto_mark(&mut self, name: MarkName) -> Result<(), Refusal>
         ensures ok { OnOk result (goto_mark (book_state self.old) name ≡ Ok (book_state self.new)) }
         ensures err { IfErr result (λ refusal. (goto_mark (book_state self.old) name ≡ Err refusal)
-            ⊎ ((refusal ≡ Refusal.NoMemory) × IsOk (goto_mark (book_state self.old) name))) }
+            ⊎ ((refusal ≡ Refusal.NoMemory) × MakesSteps (book_state self.old) name)) }
         ensures unchanged { OnErr result (book_state self.new ≡ book_state self.old) }
     {
         match self.marks.get(&name) {
@@ -117,8 +118,8 @@ impl<const R: usize> Book<R> {
     ///
     /// # Errors
     ///
-    /// `NoMark` if one of the bookmarks is not there; `NoMemory` if memory was refused for the comparison, which lists of the
-    /// same events do not ask for.
+    /// `NoMark` if one of the bookmarks is not there; `NoMemory` if memory was refused for the comparison, which lists of which
+    /// one begins the other do not ask for.
     pub fn same(&self, one: MarkName, other: MarkName) -> Result<bool, Refusal>
         ensures { AnswersSame R (book_state self.now).session.start (marked_events (book_state self.now).marks one)
             (marked_events (book_state self.now).marks other) result }

@@ -1,6 +1,7 @@
 //! The marks that a book keeps, by name, and the records of a session.
 
-ghost use Rattle.std.specs.Prelude.{◌≡◌, ◌⊎◌, ◌≤◌, ◌<◌, ◌+◌, ◌++◌, [], ◌∷◌, ℕ, length, take, drop, is_some, Some, None, IfOk, OnOk, IfErr, OnErr, IfSome, IfNone, vec_capacity, false, slice_get, ◌-◌, ◌^◌, ◌↔◌, IsTrue};
+ghost use Rattle.std.specs.Prelude.{◌≡◌, ◌<◌, ◌++◌, [], ◌∷◌, length, take, drop, is_some, IfOk, OnOk, IsOk, IfErr, OnErr, false, ◌-◌};
+ghost use Rattle.rd_depend.specs.Beginnings.{Begins};
 ghost use Rattle.rd_journal.specs.Journal.{events};
 ghost use Rattle.rd_journal.specs.Sessions.{state, journal};
 ghost use Rattle.rd_marks.specs.Books.{Mark, marked_events};
@@ -11,8 +12,9 @@ use super::names::MarkName;
 use indexmap::IndexMap;
 use rd_cell::Refusal;
 use rd_cell::limits::MOST_MARKS;
+use rd_depend::common_beginning;
 use rd_journal::Session;
-use rd_step::{Entry, Event};
+use rd_step::Entry;
 use std::alloc::{AllocError, Global};
 
 /// Whether there is a mark of this name.
@@ -53,35 +55,19 @@ pub(crate) fn put_mark<const R: usize>(
 
 /// A copy of the records of the live steps.
 fn records_of<const R: usize>(alloc: Global, session: &Session<R>) -> Result<Vec<Entry>, AllocError>
-    ensures ok { IfOk result (λ records. records.items ≡ (journal session.now).live) }
+    ensures ok { IfOk result (λ records. events records.items ≡ (state session.now).live) }
     ensures kept { IfOk result (λ records. IsRecordOfRun R (state session.now).start records.items) }
 {
-    let _world = session.world();
-    let len = session.len();
-    let mut records = Vec::with_capacity(alloc, len as usize)?;
-    for i in 0..len {
-        records.push_reserved(live_record(session, i));
-    }
+    let mut records = Vec::new(alloc);
+    records.extend_from_slice(session.live())?;
     Ok(records)
-}
-
-/// The record of the live step that `i` others are before, which there is.
-fn live_record<const R: usize>(session: &Session<R>, i: u64) -> Entry
-    requires there { i < length (journal session.now).live }
-    requires fits { length (journal session.now).live < 2 ^ 64 }
-    ensures { slice_get (journal session.now).live i ≡ Some result }
-{
-    match session.entry(i + 1) {
-        Err(_) => unreachable!(),
-        Ok(entry) => entry,
-    }
 }
 
 /// Makes these records the live ones, with none undone: what they begin with in common with the live ones stays.
 ///
 /// # Errors
 ///
-/// `NoMemory` if room for the others was refused. Nothing has changed then.
+/// `NoMemory` if room for the others was refused, so not if there are none. Nothing has changed then.
 pub(crate) fn switch_to<const R: usize>(
     session: &mut Session<R>,
     records: &[Entry],
@@ -90,31 +76,9 @@ pub(crate) fn switch_to<const R: usize>(
     ensures ok { OnOk result (state session.new
         ≡ record { start = (state session.old).start; live = events records.now; undone = [] }) }
     ensures err { IfErr result (λ refusal. refusal ≡ Refusal.NoMemory) }
+    ensures succeeds { Begins (events records.now) (state session.old).live → IsOk result }
     ensures unchanged { OnErr result (journal session.new ≡ journal session.old) }
 {
-    let n = common_beginning(session, records);
-    session.switch(n, &records[n as usize..])
-}
-
-/// How many events the live records and these begin with in common.
-fn common_beginning<const R: usize>(session: &Session<R>, records: &[Entry]) -> u64
-    ensures live { result ≤ length (journal session.now).live }
-    ensures given { result ≤ length records.now }
-    ensures same { take result (state session.now).live ≡ take result (events records.now) }
-{
-    let shorter = session.len().min(records.len() as u64);
-    for i in 0..shorter {
-        let recorded = records[i as usize];
-        if !is_same(&live_record(session, i).event, &recorded.event) {
-            return i;
-        }
-    }
-    shorter
-}
-
-/// Whether the two are one event.
-fn is_same(a: &Event, b: &Event) -> bool
-    ensures { IsTrue result ↔ (a.now ≡ b.now) }
-{
-    a == b
+    let n = common_beginning(session.live(), records);
+    session.switch(n as u64, &records[n..])
 }

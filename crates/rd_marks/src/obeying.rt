@@ -1,6 +1,6 @@
 //! A book obeys commands: each call of a book and of its session as one value, and lists of them.
 
-ghost use Rattle.std.specs.Prelude.{◌≡◌, ◌⊎◌, length, take, None, Ok, IsOk, OnErr, IfOk, IfErr, List, Result};
+ghost use Rattle.std.specs.Prelude.{◌≡◌, ◌⊎◌, [], length, take, None, Ok, IsOk, OnErr, IfOk, IfErr, List, Result};
 
 use super::books::Book;
 use super::commands::Command;
@@ -12,7 +12,7 @@ use std::alloc::Global;
 
 impl<const R: usize> Book<R> {
     ghost use Rattle.rd_marks.specs.BookViews.{book_state};
-    ghost use Rattle.rd_marks.specs.Books.{mark, drop_mark, goto_mark, mark_at};
+    ghost use Rattle.rd_marks.specs.Books.{mark, drop_mark, goto_mark, mark_at, MakesSteps};
     ghost use Rattle.rd_marks.specs.Commands.{IsObeyed, AreObeyed, IsMade, IsCompared, step_counts, mark_answer, reply_with};
     ghost use Rattle.rd_marks.specs.Events.{event_of};
     ghost use Rattle.rd_marks.specs.declared.replies.Reply.TheVariants.{Marked, Dropped, Mark as MarkIs};
@@ -37,7 +37,7 @@ impl<const R: usize> Book<R> {
     ///
     /// # Errors
     ///
-    /// `NoMemory` if the room for the answers was refused. No command was obeyed then.
+    /// `NoMemory` if the room for the answers was refused, so not if there is no command. No command was obeyed then.
     pub fn apply_all(
         &mut self,
         alloc: Global,
@@ -45,6 +45,7 @@ impl<const R: usize> Book<R> {
     ) -> Result<Vec<Result<Reply, Refusal>>, Refusal>
         ensures ok { IfOk result (λ answers. AreObeyed R (book_state self.old) commands.now answers.items (book_state self.new)) }
         ensures err { IfErr result (λ refusal. refusal ≡ Refusal.NoMemory) }
+        ensures succeeds { commands.now ≡ [] → IsOk result }
         ensures start { (book_state self.new).session.start ≡ (book_state self.old).session.start }
         ensures unchanged { OnErr result (book_state self.new ≡ book_state self.old) }
     {
@@ -89,7 +90,7 @@ impl<const R: usize> Book<R> {
     /// Sets a bookmark, and answers how many steps are live.
     fn mark_live(&mut self, name: MarkName) -> Result<Reply, Refusal>
         ensures { IsMade (book_state self.old) (λ c. Marked (length c.session.live)) (mark (book_state self.old) name)
-            (record { answer = result; state = book_state self.new }) }
+            (IsOk (mark (book_state self.old) name)) (record { answer = result; state = book_state self.new }) }
     {
         match self.mark(name) {
             Err(refusal) => Err(refusal),
@@ -110,7 +111,7 @@ impl<const R: usize> Book<R> {
     /// Goes to a bookmark, and answers how many steps are live and undone then.
     fn go_to(&mut self, name: MarkName) -> Result<Reply, Refusal>
         ensures { IsMade (book_state self.old) (λ c. step_counts c.session) (goto_mark (book_state self.old) name)
-            (record { answer = result; state = book_state self.new }) }
+            (MakesSteps (book_state self.old) name) (record { answer = result; state = book_state self.new }) }
     {
         match self.goto_mark(name) {
             Err(refusal) => Err(refusal),

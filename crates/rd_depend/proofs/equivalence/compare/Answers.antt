@@ -11,8 +11,8 @@ returns-then-not-branch-clause-answer c =
 pub loop-entry-preserved : goal.loop-entry-preserved
 loop-entry-preserved c = record {
   compares =
-    found_at c.args.a.now c.args.b.now (records c.loop-entry.remaining) (records c.take_first.new.self) c.loop-entry.entry-index _
-    c.loop-entry.invariant.compares c.loop-entry-test.true (c.in_ok-take_first.ensures.taken c.if-not-branch.false);
+      found_at c.args.a.now c.args.b.now (records c.loop-entry.remaining) (records c.take_first.new.self) c.loop-entry.entry-index _
+      c.loop-entry.invariant.compares c.loop-entry-test.true (c.in_ok-take_first.ensures.taken c.if-not-branch.false);
   ahead = omega (arith, c.in_ok-take_first.ensures.ahead, c.loop-entry.invariant.ahead);
 }
 

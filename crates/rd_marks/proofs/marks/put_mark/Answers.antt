@@ -1,5 +1,3 @@
-use Rattle.std.proofs.Common.{ap}
-use Rattle.rd_journal.specs.Journal.{events}
 use Rattle.rd_journal.specs.Sessions.{state}
 use Rattle.rd_marks.proofs.MarkLemmas.{marks_put, kept_put}
 use Rattle.rd_marks.proofs.marks.put_mark.Goals as goal
@@ -7,7 +5,7 @@ use Rattle.rd_marks.proofs.marks.put_mark.Goals as goal
 pub returns-clause-ok : goal.returns-clause-ok
 returns-clause-ok g c =
     marks_put c.args.name c.in-Ok.records c.args.marks.now.entries c.insert.new.self.entries (state c.args.session.now).live c.requires.new
-    c.in-Ok-insert.ensures.entries (ap events c.in-Ok.ensures.ok)
+    c.in-Ok-insert.ensures.entries c.in-Ok.ensures.ok
 
 pub returns-clause-kept : goal.returns-clause-kept
 returns-clause-kept g c =

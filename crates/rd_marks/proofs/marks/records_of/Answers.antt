@@ -1,14 +1,15 @@
-use Rattle.std.proofs.Common.{◌∙◌, arith}
-use Rattle.rd_journal.specs.Sessions.{journal}
-use Rattle.rd_marks.proofs.RecordLemmas.{one_more}
+use Rattle.std.proofs.Common.{◌≡◌, ◌∙◌, ap, rules}
+use Rattle.rd_journal.specs.Journal.{events}
+use Rattle.rd_journal.specs.Sessions.{state}
+use Rattle.rd_marks.proofs.RecordLemmas.{copied_records}
 use Rattle.rd_marks.proofs.marks.records_of.Goals as goal
 
-pub loop-i-preserved : goal.loop-i-preserved
-loop-i-preserved g c = record {
-  items =
-      c.push_reserved.ensures.items
-      ∙ one_more (journal c.args.session.now).live c.loop-i.records.items c.loop-i.i c.live_record.result c.loop-i.invariant.items
-      c.live_record.ensures (omega (arith, c.len-len.ensures.records));
-  len = omega arith;
-  capacity = omega arith;
-}
+pub returns-clause-ok : goal.returns-clause-ok
+returns-clause-ok g c =
+    let same : c.extend_from_slice.new.self.items ≡ c.live.result.now = search rules in
+    ap events same ∙ c.live.ensures.events
+
+pub returns-clause-kept : goal.returns-clause-kept
+returns-clause-kept g c =
+    let same : c.extend_from_slice.new.self.items ≡ c.live.result.now = search rules in
+    copied_records g.row.R (state c.args.session.now).start c.live.result.now c.extend_from_slice.new.self.items same c.live.ensures.run c.live.ensures.few

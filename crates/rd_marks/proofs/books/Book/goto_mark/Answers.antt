@@ -29,4 +29,4 @@ pub returns-in-Some-clause-err : goal.returns-in-Some-clause-err
 returns-in-Some-clause-err g c =
     goto_not_done c.switch_to.result (book_state c.args.self.now) c.args.name (events c.as_slice.result.now)
     (as_found c.args.name c.args.self.now.marks.entries c.in-Some.records.now c.as_slice.result.now (sym c.in-Some.ensures.value) c.as_slice.ensures.value)
-    c.switch_to.ensures.err
+    c.switch_to.ensures.err c.switch_to.ensures.succeeds
