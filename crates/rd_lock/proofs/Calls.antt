@@ -6,9 +6,10 @@ use Rattle.rd_lock.specs.declared.views.View.{View}
 use Rattle.rd_lock.specs.declared.views.Stage.{Stage}
 use Rattle.rd_lock.specs.declared.views.Stage.TheVariants.{Out, Holds}
 use Rattle.rd_lock.specs.Histories.{named, Adds, placed}
-use Rattle.rd_lock.specs.Rule.{view_of, in_hand, LockRule}
+use Rattle.rd_lock.specs.Rule.{view_of, in_hand}
 use Rattle.rd_lock.specs.Steps.{knows_served, has_put, after_served, IsNewestServed, saw_served, released}
 use Rattle.rd_lock.specs.Locks.{number_in, IsToldIn, IsDueIn, HasPutIn}
+use Rattle.rd_lock.proofs.Lock.{Lock, Rule}
 use Rattle.rd_lock.proofs.Lists.{named_own}
 use Rattle.rd_lock.proofs.Releases.{found_or, releases}
 
@@ -50,7 +51,9 @@ module _ {T E O : Type 0} where
   pub told_still : (seats : ℕ) (root : O) (m : Me (Option T) (View E O)) (q : Person E O) (s : Stage E) (c : List (ℕ × Option T)) → m ≡ (view_of (q ∷ []) s, c) → (q.seats ≡ seats) × (q.origin ≡ root) → IsToldIn seats root m.0.people
   told_still seats root m q s c is h = subst (λ (x : Me (Option T) (View E O)). IsToldIn seats root x.0.people) (sym is) h
 
-module _ {T E O : Type 0} (history : T → List (ℕ × E)) (origin : T → O) (seats : ℕ) (root : O) where
+module _ {T E O : Type 0} (lock : Lock T E O) where
+  open lock use {history, origin, seats, root}
+
   -- a holder's view, with the value that it puts back
   pub due_view : (v : View E O) (x : T) → length v.people ≡ 1 → IsToldIn seats root v.people → IsDueIn history origin root v x
       → (p : Person E O) × (t : ℕ) × (log : List (ℕ × E)) × (v ≡ view_of (p ∷ []) (Holds t log)) × Adds p.pass log (history x) × (origin x ≡ p.origin) × (p.seats ≡ seats) × (p.origin ≡ root)
@@ -58,11 +61,11 @@ module _ {T E O : Type 0} (history : T → List (ℕ × E)) (origin : T → O) (
       let knows = subst (λ ps. IsToldIn seats root ps) p.1 told in (p.0, h.0, h.1, (λ i. view_of (p.1 i) (h.2 i)), adds, due.rooted ∙ sym knows.1, knows.0, knows.1)
 
   pub releases_it : (slots id : ℕ) (v : View E O) (m : Me (Option T) (View E O)) (x : T) → length v.people ≡ 1 → IsToldIn seats root v.people → IsDueIn history origin root v x → m ≡ (v, (0, Some x) ∷ [])
-      → Allows (LockRule history origin seats root) slots id m 0 (λ n. (n + 1) % 2 ^ 64) (released history origin m)
+      → Allows (Rule lock) slots id m 0 (λ n. (n + 1) % 2 ^ 64) (released history origin m)
   releases_it slots id v m x one told due is = let d = due_view v x one told due in
       let e : m ≡ (view_of (d.0 ∷ []) (Holds d.1 d.2), (0, Some x) ∷ []) = is ∙ ap (λ (u : View E O). (u, (0, Some x) ∷ [])) d.3 in
-      subst (λ (y : Me (Option T) (View E O)). Allows (LockRule history origin seats root) slots id y 0 (λ n. (n + 1) % 2 ^ 64) (released history origin y)) (sym e)
-      (releases history origin seats root slots id d.0 d.1 d.2 x d.4 d.5)
+      subst (λ (y : Me (Option T) (View E O)). Allows (Rule lock) slots id y 0 (λ n. (n + 1) % 2 ^ 64) (released history origin y)) (sym e)
+      (releases lock slots id d.0 d.1 d.2 x d.4 d.5)
 
   pub has_released : (v : View E O) (m m' : Me (Option T) (View E O)) (x : T) (n : ℕ) → length v.people ≡ 1 → IsToldIn seats root v.people → IsDueIn history origin root v x → m ≡ (v, (0, Some x) ∷ [])
       → released history origin m n m' → (q : Person E O) × (m' ≡ (view_of (q ∷ []) Out, [])) × ((q.seats ≡ seats) × (q.origin ≡ root)) × HasPutIn history v m'.0 x

@@ -1,5 +1,6 @@
 pub mod Lists
 pub mod Facts
+pub mod Lock
 pub mod Keeps
 pub mod Looks
 pub mod Draws

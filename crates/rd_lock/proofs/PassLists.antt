@@ -1,5 +1,5 @@
 -- Lists of passes, and the people of their seats.
-use Rattle.std.proofs.Common.{◌≡◌, ℕ, zero, suc, ◌+◌, ◌-◌, ◌<◌, List, [], ◌∷◌, ◌++◌, map, length, sym, refl, ap, ◌∙◌, subst, arith, Result, Ok, Err, IfOk, IfErr, IsOk, length-append, rules, append_assoc}
+use Rattle.std.proofs.Common.{◌≡◌, ℕ, zero, suc, ◌+◌, ◌-◌, ◌<◌, ◌≤◌, List, [], ◌∷◌, ◌++◌, map, length, sym, refl, ap, ◌∙◌, subst, arith, Result, Ok, Err, IfOk, IfErr, IsOk, length-append, rules, append_assoc}
 use Rattle.std.proofs.lemmas.List.{append-nil}
 use mathlib.Core.List.{IsPrefix}
 use Rattle.atomic_table.specs.Seated.{TableId}
@@ -9,11 +9,13 @@ use Rattle.rd_lock.specs.declared.views.View.{View}
 use Rattle.rd_lock.specs.declared.views.Recorded.{Ghosts}
 use Rattle.rd_lock.specs.declared.views.Stage.TheVariants.{Out}
 use Rattle.rd_lock.specs.declared.passes.Pass.{Pass}
+use Rattle.rd_lock.specs.declared.tickets.Busy.{Busy}
 use Rattle.rd_lock.specs.declared.locks.TicketLock.{TicketLock}
 use Rattle.rd_lock.specs.Histories.{Every, named, numbers}
-use Rattle.rd_lock.specs.Rule.{view_of, newcomer, newcomers, first_of_people, other_people, LockRule}
+use Rattle.rd_lock.specs.Rule.{view_of, newcomer, newcomers, first_of_people, other_people}
 use Rattle.rd_lock.specs.Locks.{number_in, seen_in, own_in, next_in, served_in, IsToldIn, number, seats, root}
-use Rattle.rd_lock.specs.Opening.{people_of, IsSeatOf, IsNewPass, IsToldOf, Tells}
+use Rattle.rd_lock.specs.Opening.{people_of, IsSeatOf, IsNewPass, IsToldOf, KnowsUpTo, HasSeenUpTo, Tells}
+use Rattle.rd_lock.proofs.Lock.{Lock, Rule}
 use Rattle.rd_lock.proofs.Calls.{one_of}
 use Rattle.rd_lock.proofs.Seats.{joins, splits}
 
@@ -39,6 +41,10 @@ module _ {A B : Type 0} where
   if_ok_map P Q (Ok x) f h = f x h
   if_ok_map P Q (Err e) f h = tt
 
+  pub if_err_map : (P Q : B → Type 0) (r : Result A B) → ((e : B) → P e → Q e) → IfErr r P → IfErr r Q
+  if_err_map P Q (Ok x) f h = tt
+  if_err_map P Q (Err e) f h = f e h
+
   pub is_ok_unless : (P : B → Type 0) (r : Result A B) → ((e : B) → P e → ⊥) → IfErr r P → IsOk r
   is_ok_unless P (Ok x) f h = search rules
   is_ok_unless P (Err e) f h = absurd (f e h)
@@ -61,17 +67,19 @@ module _ (E : Type 0) {O : Type 0} where
   newcomers_numbers count origin first k zero = refl
   newcomers_numbers count origin first k (suc n) = ap (λ l. k ∷ l) (newcomers_numbers count origin first (suc k) n)
 
-module _ {T E O : Type 0} (history : T → List (ℕ × E)) (origin : T → O) (seats : ℕ) (root : O) where
-  pub joins_it : (id other : ℕ) (v w : View E O) → v.stage ≡ Out → w.stage ≡ Out → Joins (LockRule history origin seats root) id v other w (view_of (w.people ++ v.people) Out) (view_of [] Out)
-  joins_it id other v w out out' = let Rule = LockRule history origin seats root in
-      subst (λ (x : View E O). Joins Rule id x other w (view_of (w.people ++ v.people) Out) (view_of [] Out)) (λ i. view_of v.people (sym out i))
-      (subst (λ (x : View E O). Joins Rule id (view_of v.people Out) other x (view_of (w.people ++ v.people) Out) (view_of [] Out)) (λ i. view_of w.people (sym out' i))
-      (joins history origin seats root id other v.people w.people))
+module _ {T E O : Type 0} (lock : Lock T E O) where
+  open lock use {history, origin, seats, root}
 
-  pub splits_it : (id : ℕ) (v : View E O) → v.stage ≡ Out → 0 < length v.people → Splits (LockRule history origin seats root) id v (view_of (other_people v.people) Out) (view_of (first_of_people v.people) Out)
-  splits_it id v out some_people = let h = some_first v.people some_people in let Rule = LockRule history origin seats root in
-      subst (λ (x : View E O). Splits Rule id x (view_of (other_people x.people) Out) (view_of (first_of_people x.people) Out)) (λ i. view_of (sym h.2 i) (sym out i))
-      (splits history origin seats root id h.0 h.1)
+  pub joins_it : (id other : ℕ) (v w : View E O) → v.stage ≡ Out → w.stage ≡ Out → Joins (Rule lock) id v other w (view_of (w.people ++ v.people) Out) (view_of [] Out)
+  joins_it id other v w out out' =
+      subst (λ (x : View E O). Joins (Rule lock) id x other w (view_of (w.people ++ v.people) Out) (view_of [] Out)) (λ i. view_of v.people (sym out i))
+      (subst (λ (x : View E O). Joins (Rule lock) id (view_of v.people Out) other x (view_of (w.people ++ v.people) Out) (view_of [] Out)) (λ i. view_of w.people (sym out' i))
+      (joins lock id other v.people w.people))
+
+  pub splits_it : (id : ℕ) (v : View E O) → v.stage ≡ Out → 0 < length v.people → Splits (Rule lock) id v (view_of (other_people v.people) Out) (view_of (first_of_people v.people) Out)
+  splits_it id v out some_people = let h = some_first v.people some_people in
+      subst (λ (x : View E O). Splits (Rule lock) id x (view_of (other_people x.people) Out) (view_of (first_of_people x.people) Out)) (λ i. view_of (sym h.2 i) (sym out i))
+      (splits lock id h.0 h.1)
 
 module _ {T E O : Type 0} {K : Ghosts T E O} where
   pub people_append : (xs ys : List (Pass T E O K)) → people_of (xs ++ ys) ≡ people_of xs ++ people_of ys
@@ -89,11 +97,16 @@ module _ {T E O : Type 0} {K : Ghosts T E O} where
       ap (λ ps. map (λ (p : Person E O). p.pass) (ps ++ people_of xs)) p.1 ∙ (λ i. sym (ap number_in p.1) i ∷ same_numbers xs i)
 
   -- what holds of the people holds of the passes
+  of_each : (P : Person E O → Type 0) (Q : List (Person E O) → Type 0) → ((p : Person E O) → P p → Q (p ∷ [])) → (xs : List (Pass T E O K)) → Every P (people_of xs) → Every (λ (x : Pass T E O K). Q x.seat.me.0.people) xs
+  of_each P Q f [] h = tt
+  of_each P Q f (x ∷ xs) h = let p = one_of x.seat.me.0.people x.alone in let both : Every P (p.0 ∷ people_of xs) = subst (λ ps. Every P (ps ++ people_of xs)) p.1 h in
+      (subst Q (sym p.1) (f p.0 both.0), of_each P Q f xs both.1)
+
   pub tells_each : (value : T) (xs : List (Pass T E O K)) → Every (IsToldOf K.history K.origin value) (people_of xs) → Every (Tells {K = K} value) xs
-  tells_each value [] h = tt
-  tells_each value (x ∷ xs) h = let p = one_of x.seat.me.0.people x.alone in
-      let h' : Every (IsToldOf K.history K.origin value) (p.0 ∷ people_of xs) = subst (λ ps. Every (IsToldOf K.history K.origin value) (ps ++ people_of xs)) p.1 h in
-      (subst (λ ps. IsPrefix (seen_in ps) (K.history value) × (own_in ps ≡ named (number_in ps) 0 (K.history value))) (sym p.1) h'.0, tells_each value xs h'.1)
+  tells_each value xs h = of_each (IsToldOf K.history K.origin value) (λ ps. IsPrefix (seen_in ps) (K.history value) × (own_in ps ≡ named (number_in ps) 0 (K.history value))) (λ p t. t) xs h
+
+  pub seen_each : (words : Busy) (xs : List (Pass T E O K)) → Every (KnowsUpTo words) (people_of xs) → Every (HasSeenUpTo {K = K} words) xs
+  seen_each words xs h = of_each (KnowsUpTo words) (λ ps. (next_in ps ≤ words.next) × (served_in ps ≤ words.served)) (λ p t. t) xs h
 
   -- the passes of a lock that has just been opened
   pub are_new : (lock : TicketLock T E O) (first k n : ℕ) (xs : List (Pass T E O K)) → people_of xs ≡ newcomers (seats lock) (root K.origin lock) first k n → Every (IsSeatOf lock.table.shared.table_id) xs

@@ -1,10 +1,11 @@
 -- What contracts say of opening a lock, of meeting, and of closing.
-use Rattle.std.specs.Prelude.{◌≡◌, ◌⊎◌, ℕ, List, [], ◌∷◌, ◌++◌, map}
+use Rattle.std.specs.Prelude.{◌≡◌, ◌⊎◌, ℕ, ◌≤◌, List, [], ◌∷◌, ◌++◌, map}
 use mathlib.Core.List.{IsPrefix}
 use Rattle.atomic_table.specs.Seated.{TableId}
 use Rattle.rd_lock.specs.declared.views.Person.{Person}
 use Rattle.rd_lock.specs.declared.views.Recorded.{Ghosts}
 use Rattle.rd_lock.specs.declared.passes.Pass.{Pass}
+use Rattle.rd_lock.specs.declared.tickets.Busy.{Busy}
 use Rattle.rd_lock.specs.declared.locks.TicketLock.{TicketLock}
 use Rattle.rd_lock.specs.Histories.{Every, named, numbers, NamesUpTo, AreAll}
 use Rattle.rd_lock.specs.Locks.{number, seen, own, next_seen, served_seen, seats, root, IsOut, IsPassOf}
@@ -17,6 +18,11 @@ module _ {T E O : Type 0} (history : T → List (ℕ × E)) (origin : T → O) w
   -- the value that is left at the end, by the people that were handed in
   abbrev pub IsLeft : ℕ → O → List (Person E O) → T → Type 0
   IsLeft seats root ps x = (origin x ≡ root) × NamesUpTo seats (history x) × Every (IsToldOf x) ps
+
+module _ {E O : Type 0} where
+  -- this person knows of no greater words
+  abbrev pub KnowsUpTo : Busy → Person E O → Type 0
+  KnowsUpTo words p = (p.next ≤ words.next) × (p.served ≤ words.served)
 
 module _ {T E O : Type 0} {K : Ghosts T E O} where
   -- a pass of a lock that has just been opened with both words at `first`
@@ -44,6 +50,10 @@ module _ {T E O : Type 0} {K : Ghosts T E O} where
     pub rooted : K.origin value ≡ root K.origin lock
     pub names : NamesUpTo (seats lock) (K.history value)
     pub tells : Every (Tells value) passes
+
+  -- this pass has seen no greater words
+  abbrev pub HasSeenUpTo : Busy → Pass T E O K → Type 0
+  HasSeenUpTo words pass = (next_seen pass ≤ words.next) × (served_seen pass ≤ words.served)
 
   -- these are all passes of the lock
   abbrev pub AreAllOf : TicketLock T E O → List (Pass T E O K) → Type 0

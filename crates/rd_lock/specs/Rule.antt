@@ -1,5 +1,5 @@
 -- What is always so of the lock's words, of its slot, and of what each seat knows.
-use Rattle.std.specs.Prelude.{◌≡◌, ◌≢◌, ℕ, zero, suc, ◌^◌, ◌<◌, ◌≤◌, List, [], ◌∷◌, Option, Some, None}
+use Rattle.std.specs.Prelude.{◌≡◌, ◌≢◌, ℕ, zero, suc, ◌^◌, ◌<◌, ◌≤◌, List, [], ◌∷◌, map, Option, Some, None}
 use mathlib.Core.Option.{some, none}
 use mathlib.Core.Option as maybe
 use mathlib.Core.List.{IsPrefix}
@@ -9,7 +9,7 @@ use Rattle.rd_lock.specs.declared.views.Person.{Person}
 use Rattle.rd_lock.specs.declared.views.View.{View}
 use Rattle.rd_lock.specs.declared.views.Stage.{Stage}
 use Rattle.rd_lock.specs.declared.views.Stage.TheVariants.{Out, Waits, Holds}
-use Rattle.rd_lock.specs.Histories.{Every, Pairwise, named, NamesUpTo}
+use Rattle.rd_lock.specs.Histories.{Every, Pairwise, IsIn, named, NamesUpTo}
 
 -- where the value is: in the slot, or with the seat of this number
 pub data Place (T : Type 0) : Type 0 where
@@ -60,6 +60,14 @@ module _ {E O : Type 0} where
   -- the seat of this number has the ticket
   abbrev pub HasTicket : List (View E O) → ℕ → ℕ → Type 0
   HasTicket views seat t = (v : View E O) × (get_elem? views seat ≡ some v) × (ticket v.stage ≡ some t)
+
+  -- the numbers of these people
+  abbrev pub numbers_of : List (Person E O) → List ℕ
+  numbers_of ps = map (λ (p : Person E O). p.pass) ps
+
+  -- the pass is in the seat of this number
+  abbrev pub HasPass : List (View E O) → ℕ → ℕ → Type 0
+  HasPass views seat pass = (v : View E O) × (get_elem? views seat ≡ some v) × IsIn pass (numbers_of v.people)
 
   -- a pass of a lock that has just been opened, with both words at `first`
   abbrev pub newcomer : ℕ → O → ℕ → ℕ → Person E O
@@ -122,6 +130,7 @@ module _ {T E O : Type 0} (history : T → List (ℕ × E)) (origin : T → O) (
     pub limit : f.next ≤ 2 ^ 63
     pub names : NamesUpTo seats f.log
     pub each_view : (seat : ℕ) (v : View E O) → get_elem? views seat ≡ some v → ViewFits f seat v
+    pub each_pass : (pass : ℕ) → 0 < pass → pass ≤ seats → HasPass views (f.owner pass) pass
     pub each_ticket : (t : ℕ) → f.served ≤ t → t < f.next → HasTicket views (f.taker t) t
     pub is_placed : IsPlaced f views f.place
 

@@ -1,6 +1,6 @@
 //! Opening a lock, and closing it.
 ghost use Rattle.std.specs.Prelude.{◌≡◌, ◌<◌, ◌≤◌, ◌^◌, [], IfOk, IfErr, IsOk};
-ghost use Rattle.rd_lock.specs.Opening.{IsOpened, IsClosedOver, AreAllOf};
+ghost use Rattle.rd_lock.specs.Opening.{IsOpened, IsClosedOver, HasSeenUpTo, AreAllOf};
 ghost use Rattle.rd_lock.specs.Histories.{Every};
 ghost use Rattle.rd_lock.specs.Locks.{IsPassOf, IsOut};
 
@@ -70,12 +70,14 @@ impl<T: Recorded> TicketLock<T> {
     ///
     /// # Errors
     ///
-    /// `Busy` if the words differ, so that some ticket is drawn and not done with. The value is lost then.
+    /// `Busy` with the words as they are at the end, if they differ, so that some ticket is drawn and not done with. The value is lost
+    /// then.
     pub fn close(self, passes: Vec<Pass<T>>) -> Result<T, Busy>
         requires own { Every (IsPassOf self) passes.items }
         requires out { Every IsOut passes.items }
         ensures ok { IfOk result (IsClosedOver self passes.items) }
         ensures err { IfErr result (λ words. (words.served < words.next) × (words.next ≤ 2 ^ 63)) }
+        ensures newest { IfErr result (λ words. Every (HasSeenUpTo words) passes.items) }
         ensures succeeds { AreAllOf self passes.items → IsOk result }
     {
         let TicketLock { table } = self;

@@ -2,8 +2,8 @@
 ghost use Rattle.std.specs.Prelude.{◌≡◌, ◌<◌, ◌≤◌, ◌^◌, [], ◌∷◌, IfOk, IfErr, IsOk, Some, slice_index, map, ◌≢◌};
 ghost use Rattle.std.specs.Mem.Slots.{slots_items, slots_len, IsFull};
 ghost use Rattle.rd_lock.specs.Rule.{opening_view};
-ghost use Rattle.rd_lock.specs.Opening.{IsLeft};
-ghost use Rattle.rd_lock.specs.Histories.{AreAll};
+ghost use Rattle.rd_lock.specs.Opening.{IsLeft, KnowsUpTo};
+ghost use Rattle.rd_lock.specs.Histories.{AreAll, Every};
 ghost use Rattle.rd_lock.specs.declared.views.Stage.TheVariants.{Out};
 ghost use mathlib.Core.Option.{some};
 ghost use lib.ListN.{get_elem?};
@@ -76,6 +76,7 @@ pub(crate) fn close_with_seat<T: Recorded>(
     requires seat { (seat.table_id ≡ table.shared.table_id) × (seat.me.0.stage ≡ Out) }
     ensures ok { IfOk result (IsLeft T.history T.origin table.shared.key.seats (T.origin table.shared.key.value.value) seat.me.0.people) }
     ensures err { IfErr result (λ words. (words.served < words.next) × (words.next ≤ 2 ^ 63)) }
+    ensures newest { IfErr result (λ words. Every (KnowsUpTo words) seat.me.0.people) }
     ensures succeeds { AreAll table.shared.key.seats (map (λ p. p.pass) seat.me.0.people) → IsOk result }
 {
     finish(table.close_with(seat))

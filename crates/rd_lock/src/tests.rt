@@ -1,6 +1,7 @@
 //! The tests of the lock, over a list of numbers, each with the pass that put it.
 
 mod calls;
+mod closing;
 mod rows;
 mod threads;
 

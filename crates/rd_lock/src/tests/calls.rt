@@ -7,6 +7,7 @@ ghost use Rattle.rd_lock.specs.Opening.{IsNewPass};
 use super::Numbers;
 use crate::{Pass, TicketLock};
 use std::process::Abort;
+use std::sync::Wait;
 
 /// The last of the passes, which has this number.
 pub(super) fn last_pass(
@@ -91,4 +92,38 @@ pub(super) fn adds(
 {
     let numbers = finds(rt, lock, pass, wanted);
     puts(rt, lock, pass, numbers, who, added);
+}
+
+/// Takes again and again, and puts the number of the take each time.
+pub(super) fn works<R: Abort + Wait>(
+    rt: &R,
+    lock: &TicketLock<Numbers>,
+    mut pass: Pass<Numbers>,
+    who: u64,
+    takes: u64,
+) -> Pass<Numbers>
+    requires own { IsPassOf lock.now pass × IsOut pass × (number pass ≡ who) }
+    ensures own { IsPassOf lock.now result × IsOut result }
+{
+    for take in 0..takes {
+        let Ok(numbers) = lock.take(rt, &mut pass) else {
+            panic!(rt; "no tickets")
+        };
+        puts(rt, lock, &mut pass, numbers, who, take);
+    }
+    pass
+}
+
+/// Whether the entries of a pass are its takes, in order, and all of them.
+pub(super) fn has_all_in_order(numbers: &Numbers, who: u64, takes: u64) -> bool {
+    let mut next = 0;
+    for entry in numbers.entries.as_slice() {
+        if entry.0 == who {
+            if entry.1 != next || next >= takes {
+                return false;
+            }
+            next += 1;
+        }
+    }
+    next == takes
 }

@@ -4,7 +4,7 @@ ghost use Rattle.rd_lock.specs.Locks.{number, IsOut, IsPassOf};
 ghost use Rattle.std.specs.Thread.{IsSync};
 
 use super::Numbers;
-use super::calls::{last_pass, puts};
+use super::calls::{has_all_in_order, last_pass, works};
 use crate::{Pass, TicketLock};
 use std::process::Abort;
 use std::sync::Wait;
@@ -12,25 +12,6 @@ use std::thread::{Threads, join};
 
 /// How often each pass takes.
 const TAKES: u64 = 1_000;
-
-/// Takes again and again, and puts the number of the take each time.
-fn work<R: Abort + Wait>(
-    rt: &R,
-    lock: &TicketLock<Numbers>,
-    mut pass: Pass<Numbers>,
-    who: u64,
-) -> Pass<Numbers>
-    requires own { IsPassOf lock.now pass × IsOut pass × (number pass ≡ who) }
-    ensures own { IsPassOf lock.now result × IsOut result }
-{
-    for take in 0..TAKES {
-        let Ok(numbers) = lock.take(rt, &mut pass) else {
-            panic!(rt; "no tickets")
-        };
-        puts(rt, lock, &mut pass, numbers, who, take);
-    }
-    pass
-}
 
 /// Two passes take in two threads.
 fn work_both<R: Abort + Threads + Wait + Sync>(
@@ -51,26 +32,12 @@ fn work_both<R: Abort + Threads + Wait + Sync>(
         move || -> Pass<Numbers>
             requires { IsSync R.row × IsPassOf lock.now one × IsOut one × (number one ≡ who) }
             ensures { IsPassOf lock.entry.now result × IsOut result }
-        { work(rt, lock, one, who) },
+        { works(rt, lock, one, who, TAKES) },
         move || -> Pass<Numbers>
             requires { IsSync R.row × IsPassOf lock.now other × IsOut other × (number other ≡ whose) }
             ensures { IsPassOf lock.entry.now result × IsOut result }
-        { work(rt, lock, other, whose) },
+        { works(rt, lock, other, whose, TAKES) },
     )
-}
-
-/// Whether the entries of a pass are its takes, in order, and all of them.
-fn has_all_in_order(numbers: &Numbers, who: u64) -> bool {
-    let mut next = 0;
-    for entry in numbers.entries.as_slice() {
-        if entry.0 == who {
-            if entry.1 != next || next >= TAKES {
-                return false;
-            }
-            next += 1;
-        }
-    }
-    next == TAKES
 }
 
 /// Four passes take in four threads.
@@ -125,6 +92,6 @@ fn four_threads_put_each_in_its_order(rt: HostRuntime) {
     };
     assert_eq!(&rt; numbers.entries.len(), 4_000);
     for who in 1..5 {
-        assert!(&rt; has_all_in_order(&numbers, who));
+        assert!(&rt; has_all_in_order(&numbers, who, TAKES));
     }
 }

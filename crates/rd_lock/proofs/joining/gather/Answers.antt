@@ -3,6 +3,7 @@ use Rattle.std.proofs.lemmas.List.{append-nil}
 use Rattle.rd_lock.specs.Histories.{Every}
 use Rattle.rd_lock.specs.Rule.{in_hand}
 use Rattle.rd_lock.specs.Opening.{IsSeatOf, people_of}
+use Rattle.rd_lock.proofs.Lock.{lock_of}
 use Rattle.rd_lock.proofs.PassLists.{joins_it, every_front, every_back, popped}
 use Rattle.rd_lock.proofs.joining.gather.Goals as goal
 
@@ -23,7 +24,7 @@ join_seat-requires g c = let i = c.loop-pass.invariant in let is = c.in-Some-pop
       mine.0,
       pass.hand ∙ ap in_hand mine.1,
       c.requires.table,
-      joins_it g.T.Recorded.history g.T.Recorded.origin _ _ _ _ c.loop-pass.seat.me.0 pass.seat.me.0 i.out mine.1,
+      joins_it (lock_of g.T.Recorded.history g.T.Recorded.origin _ _) _ _ c.loop-pass.seat.me.0 pass.seat.me.0 i.out mine.1,
     )
 
 pub loop-pass-preserved : goal.loop-pass-preserved

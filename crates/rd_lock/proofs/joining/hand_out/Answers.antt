@@ -3,6 +3,7 @@ use Rattle.std.proofs.lemmas.Grind.{common_steps}
 use Rattle.rd_lock.specs.Rule.{in_hand}
 use Rattle.rd_lock.specs.Opening.{IsSeatOf, people_of}
 use Rattle.rd_lock.specs.Histories.{Every}
+use Rattle.rd_lock.proofs.Lock.{lock_of}
 use Rattle.rd_lock.proofs.Lists.{every_append}
 use Rattle.rd_lock.proofs.PassLists.{splits_it, some_left, one_first, all_out, handed}
 use Rattle.rd_lock.proofs.joining.hand_out.Goals as goal
@@ -11,7 +12,7 @@ pub split_seat-new-requires : goal.split_seat-new-requires
 split_seat-new-requires g c = let i = c.loop-number.invariant in (
   search rules,
   search rules,
-  splits_it g.T.Recorded.history g.T.Recorded.origin _ _ _ c.loop-number.seat.me.0 i.out (some_left _ _ _ _ c.loop-number.passes.items c.loop-number.seat.me.0.people i.people (omega arith)),
+  splits_it (lock_of g.T.Recorded.history g.T.Recorded.origin _ _) _ c.loop-number.seat.me.0 i.out (some_left _ _ _ _ c.loop-number.passes.items c.loop-number.seat.me.0.people i.people (omega arith)),
 )
 
 pub invariant_of-push : goal.invariant_of-push

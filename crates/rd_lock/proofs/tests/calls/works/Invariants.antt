@@ -1,6 +1,6 @@
 use Rattle.std.proofs.Common.{◌≡◌}
 use Rattle.rd_lock.specs.Locks.{number, IsOut, IsPassOf}
-use Rattle.rd_lock.proofs.tests.threads.work.Given as goal
+use Rattle.rd_lock.proofs.tests.calls.works.Given as goal
 
 abbrev pub invariant-loop-take : goal.invariant-loop-take
 invariant-loop-take g l = record {
