@@ -1,9 +1,9 @@
 -- The keywords and the kinds of places, one by one.
 use Rattle.std.proofs.Common.{◌≢◌, ℕ, ◌<◌, lit<, List, [], ◌∷◌, slice_index_or}
-use Rattle.rd_script.specs.declared.keywords.Keyword.{Keyword}
-use Rattle.rd_script.specs.declared.keywords.Keyword.TheVariants.{Go, Len, Enq, Deq, Undo, Redo, Back, Forward, Roll, Step, Show, Actor, Starve, Mark, Goto, Drop, Same, Origin, Writer, Marks, MarkAt, ArrayEnq, ArrayDeq}
-use Rattle.rd_script.specs.declared.kinds.PlaceKind.{PlaceKind}
-use Rattle.rd_script.specs.declared.kinds.PlaceKind.TheVariants.{QHead as QHeadWord, QTail as QTailWord, Head as HeadOf, Tail as TailOf, Next as NextOf, Cell as CellWord, Whole as WholeWord, ArrHead as ArrHeadWord, ArrTail as ArrTailWord, ArrCell as ArrCellWord}
+use Rattle.rd_script.specs.declared.reading.keywords.Keyword.{Keyword}
+use Rattle.rd_script.specs.declared.reading.keywords.Keyword.TheVariants.{Go, Len, Enq, Deq, Undo, Redo, Back, Forward, Roll, Step, Show, Actor, Starve, Mark, Goto, Drop, Same, Origin, Writer, Marks, MarkAt, ArrayEnq, ArrayDeq}
+use Rattle.rd_script.specs.declared.reading.places.PlaceKind.{PlaceKind}
+use Rattle.rd_script.specs.declared.reading.places.PlaceKind.TheVariants.{QHead as QHeadWord, QTail as QTailWord, Head as HeadOf, Tail as TailOf, Next as NextOf, Cell as CellWord, Whole as WholeWord, ArrHead as ArrHeadWord, ArrTail as ArrTailWord, ArrCell as ArrCellWord}
 use Rattle.rd_script.specs.Words.{keyword_text, kind_text}
 
 -- all keywords, in the order in which they are tried

@@ -2,7 +2,7 @@
 use Rattle.std.proofs.Common.{◌≡◌, ◌≢◌, ℕ, ◌+◌, ◌-◌, ◌^◌, Bool, true, false, List, [], ◌∷◌, ◌++◌, length, Option, Some, None, refl, sym, ◌∙◌, ap, subst, arith, inl, inr, length-append}
 use Rattle.std.proofs.lemmas.List.{append-nil}
 use Rattle.std.specs.Io.KnownBytes.{Consumes, IsAtEnd}
-use Rattle.rd_script.specs.declared.line_buffer.Line.{Line}
+use Rattle.rd_script.specs.declared.reading.lines.Line.{Line}
 use Rattle.rd_script.specs.Device.{Gives}
 use Rattle.rd_script.specs.Lines.{IsOneLine, Holds, ReadsLine, ReadsLast, ReadsPart}
 use Rattle.rd_script.proofs.KnownLemmas.{Consumes-nil, Consumes-join}

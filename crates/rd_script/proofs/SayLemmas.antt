@@ -6,8 +6,8 @@ use Rattle.rd_marks.specs.NameBytes.{is_mark_name}
 use Rattle.rd_marks.specs.declared.commands.Command.{Command}
 use Rattle.rd_script.specs.declared.faults.LineFault.{LineFault}
 use Rattle.rd_script.specs.declared.faults.LineFault.TheVariants.{BadLine, LineTooLong, BadName}
-use Rattle.rd_script.specs.declared.keywords.Keyword.{Keyword}
-use Rattle.rd_script.specs.declared.keywords.Keyword.TheVariants.{Enq, Deq, ArrayEnq, ArrayDeq, Go, Starve, Undo, Roll, Back, Redo, Forward, Mark, Drop, Goto, Marks, MarkAt, Same, Origin, Writer, Show, Actor, Step, Len}
+use Rattle.rd_script.specs.declared.reading.keywords.Keyword.{Keyword}
+use Rattle.rd_script.specs.declared.reading.keywords.Keyword.TheVariants.{Enq, Deq, ArrayEnq, ArrayDeq, Go, Starve, Undo, Roll, Back, Redo, Forward, Mark, Drop, Goto, Marks, MarkAt, Same, Origin, Writer, Show, Actor, Step, Len}
 use Rattle.rd_script.specs.Spelling.{most_line_bytes, spelling, IsInRange, AreOne, is_word, IsMisnamed, Says}
 use Rattle.rd_script.specs.Words.{keyword_text, keyword_of, arguments_of, IsBadName, AreBadNames, NamesBadly, ReadsCommand}
 use Rattle.rd_script.proofs.NameReadLemmas.{not_badly_named}

@@ -4,10 +4,10 @@ use Rattle.std.proofs.lemmas.Bool.{ne_eqb}
 use Rattle.std.proofs.lemmas.List.{append-nil}
 use Rattle.std.specs.Io.KnownBytes.{Consumes, Appends, IsAtEnd}
 use Rattle.rd_marks.specs.Books.{BookState}
-use Rattle.rd_script.specs.declared.line_buffer.Line.{Line}
+use Rattle.rd_script.specs.declared.reading.lines.Line.{Line}
 use Rattle.rd_script.specs.declared.faults.ScriptFault.{ScriptFault}
 use Rattle.std.specs.Result.{OnOk, OnErr, IsErrAnd}
-use Rattle.rd_script.specs.declared.device.WriteFault.{WriteFault}
+use Rattle.rd_script.specs.declared.devices.sinks.WriteFault.{WriteFault}
 use Rattle.rd_script.specs.declared.answers.LineAnswer.{LineAnswer}
 use Rattle.rd_script.specs.Replies.{text_of}
 use Rattle.rd_script.specs.Device.{TakesBeginning}

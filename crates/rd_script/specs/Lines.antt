@@ -1,10 +1,10 @@
 -- The lines of a text and what they say, and the reading of one line: which bytes the source gave for it.
 use Rattle.std.specs.Prelude.{◌≡◌, ◌≢◌, ℕ, ◌+◌, ◌^◌, ◌<◌, ◌≤◌, ◌⊎◌, ◌==◌, if◌then◌else◌, Bool, true, List, [], ◌∷◌, ◌++◌, length, Option, Result, Ok, Err, MatchBool}
 use Rattle.std.specs.Io.KnownBytes.{Consumes, IsAtEnd}
-use Rattle.rd_script.specs.declared.line_buffer.Line.{Line}
-use Rattle.rd_script.specs.declared.line_buffer.Reading.{Reading}
-use Rattle.rd_script.specs.declared.line_buffer.Reading.TheVariants.{Ended, Last, End}
-use Rattle.rd_script.specs.declared.device.ReadFault.{ReadFault}
+use Rattle.rd_script.specs.declared.reading.lines.Line.{Line}
+use Rattle.rd_script.specs.declared.reading.lines.Reading.{Reading}
+use Rattle.rd_script.specs.declared.reading.lines.Reading.TheVariants.{Ended, Last, End}
+use Rattle.rd_script.specs.declared.devices.sources.ReadFault.{ReadFault}
 use Rattle.rd_marks.specs.declared.commands.Command.{Command}
 use Rattle.rd_script.specs.declared.faults.LineFault.{LineFault}
 use Rattle.rd_script.specs.Spelling.{most_line_bytes, Says}

@@ -2,7 +2,7 @@
 use Rattle.std.specs.Prelude.{◌≡◌, ℕ, ◌+◌, ◌^◌, ◌≤◌, ◌⊎◌, Bool, true, false, List, [], ◌∷◌, ◌++◌, length, Option, Result, Ok, Err}
 use Rattle.std.specs.Io.KnownBytes.{Consumes, Appends, IsAtEnd}
 use Rattle.rd_marks.specs.Books.{BookState}
-use Rattle.rd_script.specs.declared.device.WriteFault.{WriteFault}
+use Rattle.rd_script.specs.declared.devices.sinks.WriteFault.{WriteFault}
 use Rattle.rd_script.specs.declared.answers.LineAnswer.{LineAnswer}
 use Rattle.rd_script.specs.declared.faults.ScriptFault.{ScriptFault}
 use Rattle.rd_script.specs.declared.faults.ScriptFault.TheVariants.{Read, Write}

@@ -10,10 +10,10 @@ use Rattle.rd_marks.specs.declared.commands.Command.{Command}
 use Rattle.rd_marks.specs.declared.commands.Command.TheVariants.{Enq, Deq, ArrayEnq, ArrayDeq, Go, Starve, Undo, UndoAt, Roll, Back, Redo, Forward, Mark, DropMark, GotoMark, Marks, MarkAt, Same, Origin, Writer, Show, Actor, Step, Len}
 use Rattle.rd_script.specs.declared.faults.LineFault.{LineFault}
 use Rattle.rd_script.specs.declared.faults.LineFault.TheVariants.{BadLine, LineTooLong, BadName}
-use Rattle.rd_script.specs.declared.keywords.Keyword.{Keyword}
-use Rattle.rd_script.specs.declared.keywords.Keyword.TheVariants.{Enq as EnqWord, Deq as DeqWord, ArrayEnq as ArrayEnqWord, ArrayDeq as ArrayDeqWord, Go as GoWord, Starve as StarveWord, Undo as UndoWord, Roll as RollWord, Back as BackWord, Redo as RedoWord, Forward as ForwardWord, Mark as MarkWord, Drop as DropWord, Goto as GotoWord, Marks as MarksWord, MarkAt as MarkAtWord, Same as SameWord, Origin as OriginWord, Writer as WriterWord, Show as ShowWord, Actor as ActorWord, Step as StepWord, Len as LenWord}
-use Rattle.rd_script.specs.declared.kinds.PlaceKind.{PlaceKind}
-use Rattle.rd_script.specs.declared.kinds.PlaceKind.TheVariants.{QHead as QHeadWord, QTail as QTailWord, Head as HeadOf, Tail as TailOf, Next as NextOf, Cell as CellWord, Whole as WholeWord, ArrHead as ArrHeadWord, ArrTail as ArrTailWord, ArrCell as ArrCellWord}
+use Rattle.rd_script.specs.declared.reading.keywords.Keyword.{Keyword}
+use Rattle.rd_script.specs.declared.reading.keywords.Keyword.TheVariants.{Enq as EnqWord, Deq as DeqWord, ArrayEnq as ArrayEnqWord, ArrayDeq as ArrayDeqWord, Go as GoWord, Starve as StarveWord, Undo as UndoWord, Roll as RollWord, Back as BackWord, Redo as RedoWord, Forward as ForwardWord, Mark as MarkWord, Drop as DropWord, Goto as GotoWord, Marks as MarksWord, MarkAt as MarkAtWord, Same as SameWord, Origin as OriginWord, Writer as WriterWord, Show as ShowWord, Actor as ActorWord, Step as StepWord, Len as LenWord}
+use Rattle.rd_script.specs.declared.reading.places.PlaceKind.{PlaceKind}
+use Rattle.rd_script.specs.declared.reading.places.PlaceKind.TheVariants.{QHead as QHeadWord, QTail as QTailWord, Head as HeadOf, Tail as TailOf, Next as NextOf, Cell as CellWord, Whole as WholeWord, ArrHead as ArrHeadWord, ArrTail as ArrTailWord, ArrCell as ArrCellWord}
 use Rattle.rd_script.specs.Texts.{yes_or_no}
 use Rattle.rd_script.specs.Contents.{name_words}
 use Rattle.rd_script.specs.Spelling.{IsInRange, IsPlaceInRange, is_word}

@@ -2,7 +2,8 @@
 
 ghost use Rattle.std.specs.Prelude.{◌≡◌};
 
-use super::device::{ReadFault, WriteFault};
+use super::devices::sinks::WriteFault;
+use super::devices::sources::ReadFault;
 
 /// Why a line spells no command.
 #[derive(Clone, Copy, Debug, PartialEq, Eq)]

@@ -1,42 +1,27 @@
 //! Scripts: the lines that spell commands, the lines that say what each was answered, and the run of a script over a book.
 //!
-//! A script is read one byte at a time into a buffer of fixed capacity; each line is obeyed when it is complete, and its
-//! reply is written at once. No memory is taken but by the commands themselves. A text is put together in a buffer of fixed
-//! capacity too: each function that puts words behind a text says which, and how long they are at most. What the lines of a
-//! whole text say is given as a list, which takes memory.
+//! There are three rooms: `devices` gives the bytes of a script and takes those of its report, `reading` finds the command that a line
+//! spells, and `writing` puts the line of an answer together. `script` runs a script with them: each line is obeyed when it is complete,
+//! and its reply is written at once. Lines and replies are kept in buffers of fixed capacity, so no memory is taken except by the commands
+//! themselves. What the lines of a whole text say is given as a list, which takes memory.
 #![tactic(auto)]
 
-mod actors;
 pub mod answers;
-mod arguments;
-pub mod commands;
-mod contents;
-pub mod device;
-mod events;
+pub mod devices;
 pub mod faults;
-mod keywords;
-mod kinds;
-mod labels;
-pub mod line_buffer;
-mod numbers;
-mod numerals;
-mod places;
-mod portions;
-mod refusals;
-mod replies;
+pub mod reading;
 pub mod script;
-mod steps;
-mod texts;
-pub mod whole_texts;
-mod words;
+pub mod writing;
 
-pub use answers::{LineAnswer, set_text};
-pub use commands::command_in;
-pub use device::{ReadFault, ReadSource, Sink, Source, WriteFault, WriteSink};
+pub use answers::LineAnswer;
+pub use devices::sinks::{Sink, WriteFault, WriteSink, hand_over};
+pub use devices::sources::{ReadFault, ReadSource, Source};
 pub use faults::{LineFault, ScriptFault};
+pub use reading::commands::command_in;
+pub use reading::whole_texts::lines;
 pub use script::{run, write_answer};
-pub use texts::{MOST_BYTES, Text};
-pub use whole_texts::lines;
+pub use writing::lines::set_text;
+pub use writing::texts::{MOST_BYTES, Text};
 
 #[cfg(test)]
 mod tests;

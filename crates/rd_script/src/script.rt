@@ -9,11 +9,13 @@ ghost use Rattle.rd_script.specs.Replies.{text_of};
 ghost use Rattle.rd_script.specs.Answers.{Answered, AnswersLine};
 ghost use Rattle.rd_script.specs.Script.{WritesAnswer, RunsScript};
 
-use super::answers::{LineAnswer, set_refused, set_reply, set_text, set_unread};
-use super::device::{Sink, Source, WriteFault, hand_over};
+use super::answers::LineAnswer;
+use super::devices::sinks::{Sink, WriteFault, hand_over};
+use super::devices::sources::Source;
 use super::faults::ScriptFault;
-use super::line_buffer::{Line, Reading, next_line};
-use super::texts::Text;
+use super::reading::lines::{Line, Reading, next_line};
+use super::writing::lines::{set_refused, set_reply, set_text, set_unread};
+use super::writing::texts::Text;
 use rd_marks::Book;
 
 /// Runs a script over a book: reads its lines to the end, obeys each when it is complete and writes its answer at once.

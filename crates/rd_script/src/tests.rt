@@ -9,8 +9,9 @@ mod steps;
 mod texts;
 mod undoing;
 
-use super::answers::{LineAnswer, set_text};
-use super::texts::Text;
+use super::answers::LineAnswer;
+use super::writing::lines::set_text;
+use super::writing::texts::Text;
 use rd_actor::{Actor, Op, OpReply, Pc};
 use rd_cell::{ArrSlot, Cell, Content, SegName};
 use rd_marks::{MarkName, Reply};

@@ -1,6 +1,7 @@
 //! Devices that fail, take little or are interrupted.
 
-use super::super::device::{ReadSource, WriteSink};
+use super::super::devices::sinks::WriteSink;
+use super::super::devices::sources::ReadSource;
 use super::super::faults::ScriptFault;
 use super::super::script::run;
 use super::runs::poised;

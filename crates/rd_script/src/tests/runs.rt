@@ -2,7 +2,8 @@
 
 ghost use Rattle.std.specs.Prelude.{◌≤◌};
 
-use super::super::device::{ReadSource, WriteSink};
+use super::super::devices::sinks::WriteSink;
+use super::super::devices::sources::ReadSource;
 use super::super::script::run;
 use rd_cell::Refusal;
 use rd_journal::Session;

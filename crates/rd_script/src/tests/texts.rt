@@ -1,7 +1,7 @@
 //! Lines that are long or lack their line feed, in a script and in a whole text.
 
 use super::super::faults::LineFault;
-use super::super::whole_texts::lines;
+use super::super::reading::whole_texts::lines;
 use super::runs::{poised, reports_are};
 use rd_marks::Command;
 use std::alloc::Global;
