@@ -7,3 +7,4 @@ pub mod ReadLemmas
 pub mod LoadLemmas
 pub mod ActorLemmas
 pub mod WriteLemmas
+pub mod BookLemmas

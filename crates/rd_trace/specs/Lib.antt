@@ -4,3 +4,4 @@ pub mod Text
 pub mod Values
 pub mod Loading
 pub mod Writing
+pub mod Devices

@@ -6,6 +6,8 @@ use Rattle.rd_step.specs.Starts.{fresh_world}
 use Rattle.rd_step.specs.declared.entries.Event.{Event}
 use Rattle.rd_journal.specs.State.{State, apply}
 use Rattle.rd_marks.specs.Books.{BookState}
+use Rattle.rd_trace.specs.declared.rings.Ring.{Ring}
+use Rattle.rd_trace.specs.declared.rings.Ring.TheVariants.{Two, Four, Eight}
 
 -- how many actors there are, what happened to them in order, and how many cells a ring has
 pub record Trace : Type 0 where
@@ -16,6 +18,12 @@ pub record Trace : Type 0 where
 -- the rings that a trace may have
 abbrev pub IsTraceRing : ℕ → Type 0
 IsTraceRing n = (n ≡ 2) ⊎ ((n ≡ 4) ⊎ (n ≡ 8))
+
+-- how many cells a ring has
+abbrev pub ring_length : Ring → ℕ
+ring_length Two = 2
+ring_length Four = 4
+ring_length Eight = 8
 
 -- a world has just the actors of the numbers from 1 to this one
 abbrev pub HasActors : World → ℕ → Type 0

@@ -5,11 +5,9 @@ use Rattle.serde_json.specs.Data.{Data, boolean, number, string, array, object, 
 use Rattle.rd_step.specs.Prelude.{Act}
 use Rattle.rd_actor.specs.declared.actors.Act.TheVariants.{Enq, Deq, AEnq, ADeq, Go, Starve}
 use Rattle.rd_step.specs.declared.entries.Event.{Event}
-use Rattle.rd_trace.specs.Traces.{Trace}
+use Rattle.rd_trace.specs.Traces.{Trace, ring_length}
 use Rattle.rd_trace.specs.Form.{events_of}
-use Rattle.rd_trace.specs.declared.form.Spelled.{Spelled}
-use Rattle.rd_trace.specs.declared.form.TraceRing.{TraceRing}
-use Rattle.rd_trace.specs.declared.form.TraceRing.TheVariants.{Two, Four, Eight}
+use Rattle.rd_trace.specs.declared.form.ParsedTrace.{ParsedTrace}
 use Rattle.rd_trace.specs.declared.faults.LoadTraceFault.{LoadTraceFault}
 use Rattle.rd_trace.specs.declared.faults.LoadTraceFault.TheVariants.{NoMemory, BadTrace, TraceStep}
 
@@ -43,15 +41,9 @@ trace_data t = object (
     (member (codes "ring") (number (unsigned t.ring))
     (member (codes "version") (number (unsigned 1)) no_members))))
 
--- the number of cells that a ring of a trace has
-abbrev pub cells : TraceRing → ℕ
-cells Two = 2
-cells Four = 4
-cells Eight = 8
-
 -- the trace that was read
-abbrev pub spelled : Spelled → Trace
-spelled s = record { actors = s.actors; events = s.events.items; ring = cells s.ring }
+abbrev pub parsed : ParsedTrace → Trace
+parsed p = record { actors = p.actors; events = p.events.items; ring = ring_length p.ring }
 
 -- what is read of a list of events
 abbrev pub ReadsEvents : Items → Result (Vec Event Global) LoadTraceFault → Type 0
@@ -61,8 +53,8 @@ ReadsEvents ds (Err BadTrace) = events_of ds ≡ None
 ReadsEvents ds (Err (TraceStep n cause)) = ⊥
 
 -- what is read of a value, or of a text, which is a trace or none
-abbrev pub ReadsTrace : (Trace → Type 0) → Result Spelled LoadTraceFault → Type 0
-ReadsTrace IsSpelled (Ok s) = IsSpelled (spelled s)
-ReadsTrace IsSpelled (Err NoMemory) = Unit {0}
-ReadsTrace IsSpelled (Err BadTrace) = (t : Trace) → IsSpelled t → ⊥
-ReadsTrace IsSpelled (Err (TraceStep n cause)) = ⊥
+abbrev pub ReadsTrace : (Trace → Type 0) → Result ParsedTrace LoadTraceFault → Type 0
+ReadsTrace IsRead (Ok p) = IsRead (parsed p)
+ReadsTrace IsRead (Err NoMemory) = Unit {0}
+ReadsTrace IsRead (Err BadTrace) = (t : Trace) → IsRead t → ⊥
+ReadsTrace IsRead (Err (TraceStep n cause)) = ⊥

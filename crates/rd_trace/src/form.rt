@@ -4,11 +4,12 @@ ghost use Rattle.std.specs.Prelude.{◌≡◌, ℕ, IfSome, IfNone, option_map, 
 ghost use Rattle.serde_json.specs.Events.{members_len};
 ghost use Rattle.serde_json.specs.Find.{as_object, as_str};
 ghost use Rattle.serde_json.specs.View.{view, items_view};
-ghost use Rattle.rd_trace.specs.Traces.{IsTraceRing};
+ghost use Rattle.rd_trace.specs.Traces.{ring_length};
 ghost use Rattle.rd_trace.specs.Form.{whole_number, number_at, actor_number, act_of_word, act_with, event_by, event_of, IsHead, IsTrace};
-ghost use Rattle.rd_trace.specs.Values.{cells, ReadsEvents, ReadsTrace};
+ghost use Rattle.rd_trace.specs.Values.{ReadsEvents, ReadsTrace};
 
 use super::faults::LoadTraceFault;
+use super::rings::Ring;
 use rd_actor::Act;
 use rd_cell::limits::MOST_ACTORS;
 use rd_step::Event;
@@ -21,33 +22,22 @@ const MEMBERS: usize = 4;
 /// The version of the form.
 const VERSION: u64 = 1;
 
-/// The number of cells of a ring of a trace.
-#[derive(Clone, Copy, Debug, PartialEq, Eq)]
-pub enum TraceRing {
-    /// 2 cells.
-    Two,
-    /// 4 cells.
-    Four,
-    /// 8 cells.
-    Eight,
-}
-
 /// A trace that was read.
 #[derive(Drop)]
-pub struct Spelled {
+pub struct ParsedTrace {
     /// The number of actors, 1 to 16.
     pub actors: u8,
     /// The events in order.
     pub events: Vec<Event>,
     /// The ring.
-    pub ring: TraceRing,
+    pub ring: Ring,
 }
 
 /// The numbers of a trace.
 #[derive(Clone, Copy)]
 struct Head {
     actors: u8,
-    ring: TraceRing,
+    ring: Ring,
 }
 
 /// The trace that a value is.
@@ -55,7 +45,7 @@ struct Head {
 /// # Errors
 ///
 /// `BadTrace` if it is none; `NoMemory` if the room for its events was refused.
-pub fn trace_in(alloc: Global, value: &Value) -> Result<Spelled, LoadTraceFault>
+pub fn trace_in(alloc: Global, value: &Value) -> Result<ParsedTrace, LoadTraceFault>
     ensures { ReadsTrace (IsTrace (view value.now)) result }
 {
     let Some(head) = head_in(value) else {
@@ -64,19 +54,16 @@ pub fn trace_in(alloc: Global, value: &Value) -> Result<Spelled, LoadTraceFault>
     let Some(list) = value.get("events").and_then(Value::as_array) else {
         return Err(LoadTraceFault::BadTrace);
     };
-    match events_in(alloc, list) {
-        Err(fault) => Err(fault),
-        Ok(events) => Ok(Spelled {
-            actors: head.actors,
-            events,
-            ring: head.ring,
-        }),
-    }
+    Ok(ParsedTrace {
+        actors: head.actors,
+        events: events_in(alloc, list)?,
+        ring: head.ring,
+    })
 }
 
 /// The numbers of a trace, if the value is an object of four members with these numbers and the version.
 fn head_in(value: &Value) -> Option<Head>
-    ensures some { IfSome result (λ head. IsHead (view value.now) head.actors (cells head.ring)) }
+    ensures some { IfSome result (λ head. IsHead (view value.now) head.actors (ring_length head.ring)) }
     ensures none { IfNone result ((actors ring : ℕ) → IsHead (view value.now) actors ring → ⊥) }
 {
     if member_count(value)? != MEMBERS {
@@ -91,7 +78,7 @@ fn head_in(value: &Value) -> Option<Head>
     }
     Some(Head {
         actors: actors as u8,
-        ring: ring_of(number_at(value, "ring")?)?,
+        ring: Ring::of_length(number_at(value, "ring")?)?,
     })
 }
 
@@ -100,19 +87,6 @@ fn member_count(value: &Value) -> Option<usize>
     ensures { result ≡ option_map members_len (as_object (view value.now)) }
 {
     Some(value.as_object()?.len())
-}
-
-/// The ring of so many cells, if a trace may have it.
-fn ring_of(count: u64) -> Option<TraceRing>
-    ensures some { IfSome result (λ ring. cells ring ≡ count) }
-    ensures none { IfNone result (IsTraceRing count → ⊥) }
-{
-    match count {
-        2 => Some(TraceRing::Two),
-        4 => Some(TraceRing::Four),
-        8 => Some(TraceRing::Eight),
-        _ => None,
-    }
 }
 
 /// The whole number at a key of an object.

@@ -10,12 +10,15 @@ pub mod faults;
 mod form;
 pub mod laws;
 pub mod load;
+mod replay;
+pub mod rings;
 mod values;
 pub mod write;
 
 pub use any_book::AnyBook;
 pub use faults::{LoadTraceFault, WriteTraceFault};
 pub use load::load_trace;
+pub use rings::Ring;
 pub use write::write_trace;
 
 #[cfg(test)]

@@ -1,6 +1,6 @@
 use Rattle.rd_journal.specs.Sessions.{state}
 use Rattle.rd_trace.proofs.ReplayLemmas.{IsAt}
-use Rattle.rd_trace.proofs.load.replay.Given as goal
+use Rattle.rd_trace.proofs.replay.replay.Given as goal
 
 -- the events before this one happened
 abbrev pub invariant-loop-event : goal.invariant-loop-event

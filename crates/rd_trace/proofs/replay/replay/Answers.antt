@@ -6,7 +6,7 @@ use Rattle.rd_marks.specs.declared.books.Book.{Book}
 use Rattle.rd_marks.specs.BookViews.{book_state}
 use Rattle.rd_trace.specs.Traces.{Trace, session_at, loaded_state, GoesThrough, IsRefusedAt}
 use Rattle.rd_trace.proofs.ReplayLemmas.{at_start, at_next, refused_here, refused_with, loaded_as}
-use Rattle.rd_trace.proofs.load.replay.Goals as goal
+use Rattle.rd_trace.proofs.replay.replay.Goals as goal
 
 pub loop-event-init : goal.loop-event-init
 loop-event-init g c =
