@@ -173,11 +173,16 @@ def mark_jobs(base, marks, few):
     marked = Job(f"`mark`, {marks} along the run", steps, lines, marks, base, f"marked {steps}")
     times = 5 if few else 10
     goes = ["goto m1", f"goto m{marks}"] * times
+    near = base.lines + ["mark a", "undo", "mark b"]
+    neighbours = Job("`mark` of a run and of all but its last step", steps, near, 2, base, f"marked {steps - 1}")
+    hops, many = ["goto a", "goto b"] * (100 * times), 200 * times
     twice = base.lines + ["mark a", "mark b"]
     two = Job("`mark` of the whole run", steps, twice, 2, base, f"marked {steps}")
     return [
         marked,
         Job("`goto` the first mark and the last", steps, lines + goes, 2 * times, marked, f"at {steps} 0"),
+        neighbours,
+        Job("`goto` a mark that has one step more or less", steps, near + hops, many, neighbours, f"at {steps - 1} 0"),
         two,
         Job("`same` of equal lists", steps, twice + ["same a b"] * times, times, two, "same yes"),
     ]

@@ -297,14 +297,14 @@ fn a_swap_is_kept_by_the_next_swap(rt: HostRuntime) -> Result<(), Fail> {
 }
 
 /// The next number of a fixed sequence that looks like chance.
-fn next(number: u64) -> u64 {
+pub(super) fn next(number: u64) -> u64 {
     number
         .wrapping_mul(6_364_136_223_846_793_005)
         .wrapping_add(1_442_695_040_888_963_407)
 }
 
 /// What an actor that stands here may do, as the number has it.
-fn choice(pc: Pc, number: u64) -> Act {
+pub(super) fn choice(pc: Pc, number: u64) -> Act {
     match (pc, (number >> 40) % 5) {
         (Pc::Idle, 0 | 1) => Act::Enq(number >> 50),
         (Pc::Idle, 2) => Act::Deq,

@@ -7,21 +7,18 @@ use super::super::sessions::Session;
 use super::lone_undo::{STEPS, is_stepped_afresh, mixed_run};
 use rd_cell::Refusal;
 use rd_step::Entry;
-use std::alloc::Global;
+use std::alloc::{AllocError, Global};
 use std::test::Fail;
 
-/// The records of the live steps.
-fn live_records<const R: usize>(alloc: Global, session: &Session<R>) -> Result<Vec<Entry>, Refusal>
+/// A copy of the records of the live steps.
+fn live_records<const R: usize>(
+    alloc: Global,
+    session: &Session<R>,
+) -> Result<Vec<Entry>, AllocError>
     ensures { IfOk result (λ records. records.items ≡ (journal session.now).live) }
 {
     let mut records = Vec::new(alloc);
-    for k in 0..session.len() {
-        let entry = session.entry(k + 1)?;
-        match records.push(entry) {
-            Err(_) => return Err(Refusal::NoMemory),
-            Ok(()) => {}
-        }
-    }
+    records.extend_from_slice(session.live())?;
     Ok(records)
 }
 
