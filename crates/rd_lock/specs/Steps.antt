@@ -1,4 +1,4 @@
--- What each kind of step tells the pass that makes it.
+-- What the pass that makes a step knows after it, for each kind of step.
 use Rattle.std.specs.Prelude.{◌≡◌, ◌≢◌, ◌⊎◌, ℕ, ◌+◌, ◌^◌, ◌≤◌, max, List, [], ◌∷◌, map, Option, Some}
 use mathlib.Core.List.{IsPrefix}
 use Rattle.atomic_table.specs.Table.{Me}

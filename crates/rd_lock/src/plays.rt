@@ -1,4 +1,4 @@
-//! What each kind of step tells. These types are for contracts alone.
+//! What a pass knows after each kind of step. These types are for contracts alone.
 //!
 //! A step changes the view of the seat that makes it, and of no other.
 use crate::views::{Recorded, View};

@@ -1,4 +1,4 @@
-//! The rule of the table, and what each kind of step tells.
+//! The rule of the table.
 //!
 //! Word 0 is `served`, the ticket whose pass may hold; word 1 is `next`, the ticket that is drawn next. Slot 0 has the value, or
 //! nothing while a pass holds.

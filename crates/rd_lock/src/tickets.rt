@@ -19,7 +19,7 @@ pub const TICKETS: u64 = 1 << 63;
 #[derive(Debug, Clone, Copy, PartialEq, Eq)]
 pub struct TicketsEnded;
 
-/// The words as a pass saw them last: some ticket is drawn and not done with.
+/// The words as a pass saw them last, or as they are when the lock is closed: some ticket is drawn and not done with.
 #[derive(Debug, Clone, Copy, PartialEq, Eq)]
 pub struct Busy {
     /// The ticket that is drawn next.
