@@ -1,6 +1,6 @@
 -- The devices of a call, from what its source and its sink were before it and after it.
-use Rattle.rd_script.specs.declared.device.Source.{Ghosts as SourceOf}
-use Rattle.rd_script.specs.declared.device.Sink.{Ghosts as SinkOf}
+use Rattle.rd_script.specs.declared.devices.sources.Source.{Ghosts as SourceOf}
+use Rattle.rd_script.specs.declared.devices.sinks.Sink.{Ghosts as SinkOf}
 use Rattle.rd_script.specs.Script.{Devices}
 
 -- what the source has left and the sink has, before the call and after it, and whether each has failed then

@@ -12,8 +12,7 @@ ghost use Rattle.rd_trace.specs.Writing.{WritesTrace, is_write_fault};
 use super::faults::WriteTraceFault;
 use super::values::trace_value;
 use rd_marks::Book;
-use rd_script::Sink;
-use rd_script::device::hand_over;
+use rd_script::{Sink, hand_over};
 use std::alloc::{AllocError, Global};
 
 /// Writes the live events of a book as a trace of version 1, with a line feed behind it. The number of cells is that of the
