@@ -1,7 +1,7 @@
 //! Tests of equivalence by examples: two lists of events, both from the fresh world, and whether they are equivalent.
 
 use super::super::equivalence::are_equivalent;
-use rd_actor::Act;
+use rd_actor::{Act, Pc};
 use rd_cell::Refusal;
 use rd_step::{Entry, Event, World};
 use std::alloc::Global;
@@ -180,6 +180,51 @@ fn two_schedules_are_equivalent_or_not(rt: HostRuntime) -> Result<(), Fail> {
             are_equivalent(rt.alloc(), &b, &a)?,
             wanted,
             "{second:?} and {first:?}"
+        );
+    }
+    Ok(())
+}
+
+/// The records of so many steps of array enqueues, by four actors in turn, the first four in this order.
+fn turns(alloc: Global, steps: usize, first: [u8; 4]) -> Result<Vec<Entry>, Refusal> {
+    let mut world = World::<4>::fresh(alloc, 4)?;
+    let mut entries = Vec::new(alloc);
+    for turn in 0..steps {
+        let actor = first.get(turn).copied().unwrap_or((turn % 4) as u8 + 1);
+        let act = match world.actor(actor).map_or(Pc::Idle, |words| words.pc) {
+            Pc::Idle => Act::AEnq(5),
+            _ => Act::Go,
+        };
+        let entry = world.step(Event { actor, act })?;
+        if entries.push(entry).is_err() {
+            return Err(Refusal::NoMemory);
+        }
+    }
+    Ok(entries)
+}
+
+/// Two numbers of steps, and whether the runs of them that begin in another order are equivalent.
+const LONG: [(usize, usize, bool); 4] = [
+    (61, 61, true),
+    (100, 100, true),
+    (100, 98, false),
+    (4, 100, false),
+];
+
+#[test]
+fn long_lists_are_compared_where_memory_is_there(rt: HostRuntime) -> Result<(), Fail> {
+    for (first, second, wanted) in LONG {
+        let a = turns(rt.alloc(), first, [1, 2, 3, 4])?;
+        let b = turns(rt.alloc(), second, [4, 3, 2, 1])?;
+        assert_eq!(rt;
+            are_equivalent(rt.alloc(), &a, &b)?,
+            wanted,
+            "{first}, {second}"
+        );
+        assert_eq!(rt;
+            are_equivalent(rt.alloc(), &b, &a)?,
+            wanted,
+            "{second}, {first}"
         );
     }
     Ok(())
