@@ -118,6 +118,21 @@ fn run_over(
     Ok((answer, taken))
 }
 
+/// Runs a script over its devices, and compares what it answers and writes.
+fn run_is(
+    rt: &impl Abort,
+    alloc: Global,
+    script: &str,
+    devices: Devices,
+    answer: Result<u64, ScriptFault>,
+    report: &str,
+) -> Result<(), Fail> {
+    let (said, written) = run_over(alloc, script, devices)?;
+    let wrote = written.as_slice() == report.as_bytes();
+    assert!(rt; said == answer && wrote, "script {script}, report {report}");
+    Ok(())
+}
+
 /// Runs each script over its devices, and compares what it answers and writes.
 fn runs_are(
     rt: &impl Abort,
@@ -125,34 +140,81 @@ fn runs_are(
     rows: &[(&str, Devices, Result<u64, ScriptFault>, &str)],
 ) -> Result<(), Fail> {
     for (script, devices, answer, report) in rows {
-        let (said, written) = run_over(alloc, script, *devices)?;
-        assert_eq!(rt; said, *answer, "script {script}, report {report}");
-        assert_eq!(rt;
-            written.as_slice(),
-            report.as_bytes(),
-            "script {script}, report {report}"
-        );
+        run_is(rt, alloc, *script, *devices, *answer, *report)?;
     }
     Ok(())
 }
 
 #[test]
 fn a_failed_read_leaves_whole_lines_done(rt: HostRuntime) -> Result<(), Fail> {
-    for (good_reads, report) in [
-        (0, ""),
-        (4, ""),
-        (5, "ok 1\n"),
-        (9, "ok 1\n"),
-        (10, "ok 1\nok 2\n"),
-    ] {
+    runs_are(
+        &rt,
+        rt.alloc(),
+        &[
+            (
+                "go 1\ngo 2\n",
+                Devices {
+                    good_reads: 0,
+                    ..WORKING
+                },
+                Err(ScriptFault::Read),
+                "",
+            ),
+            (
+                "go 1\ngo 2\n",
+                Devices {
+                    good_reads: 4,
+                    ..WORKING
+                },
+                Err(ScriptFault::Read),
+                "",
+            ),
+            (
+                "go 1\ngo 2\n",
+                Devices {
+                    good_reads: 5,
+                    ..WORKING
+                },
+                Err(ScriptFault::Read),
+                "ok 1\n",
+            ),
+            (
+                "go 1\ngo 2\n",
+                Devices {
+                    good_reads: 9,
+                    ..WORKING
+                },
+                Err(ScriptFault::Read),
+                "ok 1\n",
+            ),
+            (
+                "go 1\ngo 2\n",
+                Devices {
+                    good_reads: 10,
+                    ..WORKING
+                },
+                Err(ScriptFault::Read),
+                "ok 1\nok 2\n",
+            ),
+        ],
+    )
+}
+
+/// Runs two scripts over devices whose reads give so many bytes.
+fn portions_are_read(rt: &impl Abort, alloc: Global, rows: &[usize]) -> Result<(), Fail> {
+    for most_given in rows {
         let devices = Devices {
-            good_reads,
+            most_given: *most_given,
             ..WORKING
         };
-        runs_are(
-            &rt,
-            rt.alloc(),
-            &[("go 1\ngo 2\n", devices, Err(ScriptFault::Read), report)],
+        run_is(rt, alloc, "", devices, Ok(0), "")?;
+        run_is(
+            rt,
+            alloc,
+            "go 1\n\nundo\nlen",
+            devices,
+            Ok(4),
+            "ok 1\nrefused 22 BadLine\nat 0 1\nat 0 1\n",
         )?;
     }
     Ok(())
@@ -160,149 +222,198 @@ fn a_failed_read_leaves_whole_lines_done(rt: HostRuntime) -> Result<(), Fail> {
 
 #[test]
 fn a_read_may_give_any_number_of_bytes(rt: HostRuntime) -> Result<(), Fail> {
-    for most_given in [1, 2, 3, 7, 4096, 100_000] {
+    portions_are_read(&rt, rt.alloc(), &[1, 2, 3, 7, 4096, 100_000])
+}
+
+/// Runs 3000 lines over a reader of so many good reads, and compares how many were answered and what the run answers.
+fn long_reads_are(
+    rt: &impl Abort,
+    alloc: Global,
+    rows: &[(usize, usize, Result<u64, ScriptFault>)],
+) -> Result<(), Fail> {
+    let script = "len\n".repeat(alloc, 3000)?;
+    for (good_reads, lines, answer) in rows {
         let devices = Devices {
-            most_given,
+            good_reads: *good_reads,
+            most_given: 100_000,
             ..WORKING
         };
-        runs_are(
-            &rt,
-            rt.alloc(),
-            &[
-                ("", devices, Ok(0), ""),
-                (
-                    "go 1\n\nundo\nlen",
-                    devices,
-                    Ok(4),
-                    "ok 1\nrefused 22 BadLine\nat 0 1\nat 0 1\n",
-                ),
-            ],
-        )?;
+        let report = "at 0 0\n".repeat(alloc, *lines)?;
+        run_is(rt, alloc, &script, devices, *answer, &report)?;
     }
     Ok(())
 }
 
 #[test]
 fn a_read_that_fails_behind_others_leaves_what_they_gave_done(rt: HostRuntime) -> Result<(), Fail> {
-    let alloc = rt.alloc();
-    let script = "len\n".repeat(alloc, 3000)?;
-    for (good_reads, lines, answer) in [
-        (0, 0, Err(ScriptFault::Read)),
-        (1, 1024, Err(ScriptFault::Read)),
-        (2, 2048, Err(ScriptFault::Read)),
-        (4, 3000, Ok(3000)),
-    ] {
-        let devices = Devices {
-            good_reads,
-            most_given: 100_000,
-            ..WORKING
-        };
-        let report = "at 0 0\n".repeat(alloc, lines)?;
-        runs_are(&rt, alloc, &[(&script, devices, answer, &report)])?;
-    }
-    Ok(())
+    long_reads_are(
+        &rt,
+        rt.alloc(),
+        &[
+            (0, 0, Err(ScriptFault::Read)),
+            (1, 1024, Err(ScriptFault::Read)),
+            (2, 2048, Err(ScriptFault::Read)),
+            (4, 3000, Ok(3000)),
+        ],
+    )
 }
 
 #[test]
 fn a_failed_write_leaves_a_beginning_of_the_report(rt: HostRuntime) -> Result<(), Fail> {
-    for (good_writes, report) in [
-        (0, ""),
-        (1, "ok"),
-        (2, "ok 1"),
-        (3, "ok 1\n"),
-        (4, "ok 1\nok"),
-    ] {
-        let devices = Devices {
-            good_writes,
-            most_taken: 2,
-            ..WORKING
-        };
-        runs_are(
-            &rt,
-            rt.alloc(),
-            &[(
+    runs_are(
+        &rt,
+        rt.alloc(),
+        &[
+            (
                 "go 1\ngo 2\nundo\n",
-                devices,
+                Devices {
+                    good_writes: 0,
+                    most_taken: 2,
+                    ..WORKING
+                },
                 Err(ScriptFault::Write),
-                report,
-            )],
-        )?;
-    }
-    Ok(())
+                "",
+            ),
+            (
+                "go 1\ngo 2\nundo\n",
+                Devices {
+                    good_writes: 1,
+                    most_taken: 2,
+                    ..WORKING
+                },
+                Err(ScriptFault::Write),
+                "ok",
+            ),
+            (
+                "go 1\ngo 2\nundo\n",
+                Devices {
+                    good_writes: 2,
+                    most_taken: 2,
+                    ..WORKING
+                },
+                Err(ScriptFault::Write),
+                "ok 1",
+            ),
+            (
+                "go 1\ngo 2\nundo\n",
+                Devices {
+                    good_writes: 3,
+                    most_taken: 2,
+                    ..WORKING
+                },
+                Err(ScriptFault::Write),
+                "ok 1\n",
+            ),
+            (
+                "go 1\ngo 2\nundo\n",
+                Devices {
+                    good_writes: 4,
+                    most_taken: 2,
+                    ..WORKING
+                },
+                Err(ScriptFault::Write),
+                "ok 1\nok",
+            ),
+        ],
+    )
 }
 
 #[test]
 fn a_writer_that_takes_nothing_has_failed(rt: HostRuntime) -> Result<(), Fail> {
-    let devices = Devices {
-        most_taken: 0,
-        ..WORKING
-    };
     runs_are(
         &rt,
         rt.alloc(),
-        &[("go 1\n", devices, Err(ScriptFault::Write), "")],
+        &[(
+            "go 1\n",
+            Devices {
+                most_taken: 0,
+                ..WORKING
+            },
+            Err(ScriptFault::Write),
+            "",
+        )],
     )
 }
 
 #[test]
 fn a_writer_may_take_a_byte_a_call(rt: HostRuntime) -> Result<(), Fail> {
-    let devices = Devices {
-        most_taken: 1,
-        ..WORKING
-    };
     runs_are(
         &rt,
         rt.alloc(),
-        &[("go 1\ngo 2\nundo\n", devices, Ok(3), "ok 1\nok 2\nat 1 1\n")],
+        &[(
+            "go 1\ngo 2\nundo\n",
+            Devices {
+                most_taken: 1,
+                ..WORKING
+            },
+            Ok(3),
+            "ok 1\nok 2\nat 1 1\n",
+        )],
     )
 }
 
 #[test]
 fn each_answer_is_one_write(rt: HostRuntime) -> Result<(), Fail> {
-    let devices = Devices {
-        good_writes: 3,
-        ..WORKING
-    };
     runs_are(
         &rt,
         rt.alloc(),
         &[(
             "go 1\nhello\nundo\n",
-            devices,
+            Devices {
+                good_writes: 3,
+                ..WORKING
+            },
             Ok(3),
             "ok 1\nrefused 22 BadLine\nat 0 1\n",
         )],
     )
 }
 
+/// Devices each of whose reads and writes a signal interrupts once.
+const INTERRUPTED: Devices = Devices {
+    interrupted: true,
+    ..WORKING
+};
+
 #[test]
 fn reads_and_writes_that_a_signal_interrupts_are_made_again(rt: HostRuntime) -> Result<(), Fail> {
-    let devices = Devices {
-        interrupted: true,
-        ..WORKING
-    };
-    let slow = Devices {
-        most_taken: 1,
-        ..devices
-    };
-    let few_reads = Devices {
-        good_reads: 5,
-        ..devices
-    };
-    let few_writes = Devices {
-        good_writes: 1,
-        ..devices
-    };
-    let script = "go 1\ngo 2\nundo\n";
-    let report = "ok 1\nok 2\nat 1 1\n";
     runs_are(
         &rt,
         rt.alloc(),
         &[
-            (script, devices, Ok(3), report),
-            (script, slow, Ok(3), report),
-            (script, few_reads, Err(ScriptFault::Read), "ok 1\n"),
-            (script, few_writes, Err(ScriptFault::Write), "ok 1\n"),
+            (
+                "go 1\ngo 2\nundo\n",
+                INTERRUPTED,
+                Ok(3),
+                "ok 1\nok 2\nat 1 1\n",
+            ),
+            (
+                "go 1\ngo 2\nundo\n",
+                Devices {
+                    most_taken: 1,
+                    ..INTERRUPTED
+                },
+                Ok(3),
+                "ok 1\nok 2\nat 1 1\n",
+            ),
+            (
+                "go 1\ngo 2\nundo\n",
+                Devices {
+                    good_reads: 5,
+                    ..INTERRUPTED
+                },
+                Err(ScriptFault::Read),
+                "ok 1\n",
+            ),
+            (
+                "go 1\ngo 2\nundo\n",
+                Devices {
+                    good_writes: 1,
+                    ..INTERRUPTED
+                },
+                Err(ScriptFault::Write),
+                "ok 1\n",
+            ),
         ],
     )
 }

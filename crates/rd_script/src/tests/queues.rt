@@ -1,15 +1,13 @@
 //! Scripts over a fresh world that walk whole calls of the queues.
 
-use super::runs::{fresh, reports_are};
+use super::runs::over_fresh;
 use std::test::Fail;
 
 #[test]
 fn an_enqueue_is_undone_whole(rt: HostRuntime) -> Result<(), Fail> {
-    let mut book = fresh::<4>(rt.alloc())?;
-    reports_are(
+    over_fresh::<4>(
         &rt,
         rt.alloc(),
-        &mut book,
         &[
             (
                 "enq 1 7\ngo 1\ngo 1\ngo 1\ngo 1\ngo 1\ngo 1\n",
@@ -22,19 +20,16 @@ fn an_enqueue_is_undone_whole(rt: HostRuntime) -> Result<(), Fail> {
                 "actor Idle none crq 0.0 new 0.0 next 0.0 t 0 h 0 closed 0 val none safe 0 idx 0 pass 0\n",
             ),
         ],
-    );
-    Ok(())
+    )
 }
 
 #[test]
 fn a_dequeue_takes_the_value_and_leaves_the_cell_for_the_next_round(
     rt: HostRuntime,
 ) -> Result<(), Fail> {
-    let mut book = fresh::<4>(rt.alloc())?;
-    reports_are(
+    over_fresh::<4>(
         &rt,
         rt.alloc(),
-        &mut book,
         &[
             (
                 "enq 1 7\ngo 1\ngo 1\ngo 1\ngo 1\ngo 1\ngo 1\n",
@@ -47,17 +42,14 @@ fn a_dequeue_takes_the_value_and_leaves_the_cell_for_the_next_round(
             ("show head 0.0\n", "is 1\n"),
             ("show cell 0.0 0\n", "is 1 4 none\n"),
         ],
-    );
-    Ok(())
+    )
 }
 
 #[test]
 fn a_dequeue_of_an_empty_queue_moves_the_tail_behind_the_head(rt: HostRuntime) -> Result<(), Fail> {
-    let mut book = fresh::<4>(rt.alloc())?;
-    reports_are(
+    over_fresh::<4>(
         &rt,
         rt.alloc(),
-        &mut book,
         &[
             (
                 "deq 1\ngo 1\ngo 1\ngo 1\ngo 1\ngo 1\ngo 1\ngo 1\ngo 1\ngo 1\ngo 1\ngo 1\n",
@@ -68,19 +60,16 @@ fn a_dequeue_of_an_empty_queue_moves_the_tail_behind_the_head(rt: HostRuntime) -
             ("show tail 0.0\n", "is open 0\n"),
             ("forward 12\n", "at 12 0\n"),
         ],
-    );
-    Ok(())
+    )
 }
 
 #[test]
 fn an_actor_that_starves_closes_the_segment_and_links_a_new_one(
     rt: HostRuntime,
 ) -> Result<(), Fail> {
-    let mut book = fresh::<4>(rt.alloc())?;
-    reports_are(
+    over_fresh::<4>(
         &rt,
         rt.alloc(),
-        &mut book,
         &[
             ("enq 1 7\ngo 1\ngo 1\ngo 1\n", "ok 1\nok 2\nok 3\nok 4\n"),
             (
@@ -101,17 +90,14 @@ fn an_actor_that_starves_closes_the_segment_and_links_a_new_one(
             ("show qtail\n", "is 1.0\n"),
             ("show cell 1.0 0\n", "is 1 0 7\n"),
         ],
-    );
-    Ok(())
+    )
 }
 
 #[test]
 fn a_dequeue_that_waited_takes_its_value_in_a_second_pass(rt: HostRuntime) -> Result<(), Fail> {
-    let mut book = fresh::<2>(rt.alloc())?;
-    reports_are(
+    over_fresh::<2>(
         &rt,
         rt.alloc(),
-        &mut book,
         &[
             (
                 "deq 2\ngo 2\ngo 2\ngo 2\ngo 2\ngo 2\ngo 2\ngo 2\ngo 2\ngo 2\ngo 2\n",
@@ -139,17 +125,14 @@ fn a_dequeue_that_waited_takes_its_value_in_a_second_pass(rt: HostRuntime) -> Re
             ("writer whole 2.0\n", "refused 19 NoSuchPlace\n"),
             ("writer qhead\n", "writer none\n"),
         ],
-    );
-    Ok(())
+    )
 }
 
 #[test]
 fn a_dequeue_marks_a_cell_unsafe_that_holds_an_earlier_value(rt: HostRuntime) -> Result<(), Fail> {
-    let mut book = fresh::<2>(rt.alloc())?;
-    reports_are(
+    over_fresh::<2>(
         &rt,
         rt.alloc(),
-        &mut book,
         &[
             (
                 "enq 1 7\ngo 1\ngo 1\ngo 1\ngo 1\ngo 1\ngo 1\n",
@@ -176,19 +159,16 @@ fn a_dequeue_marks_a_cell_unsafe_that_holds_an_earlier_value(rt: HostRuntime) ->
             ("show cell 0.0 0\n", "is 0 2 none\n"),
             ("undo 28\n", "refused 13 Depended 29\n"),
         ],
-    );
-    Ok(())
+    )
 }
 
 #[test]
 fn an_array_dequeue_finds_a_slot_empty_and_its_enqueue_draws_another(
     rt: HostRuntime,
 ) -> Result<(), Fail> {
-    let mut book = fresh::<4>(rt.alloc())?;
-    reports_are(
+    over_fresh::<4>(
         &rt,
         rt.alloc(),
-        &mut book,
         &[
             ("aenq 1 7\ngo 1\nadeq 2\n", "ok 1\nok 2\nok 3\n"),
             ("go 2\ngo 2\n", "ok 4\nok 5\n"),
@@ -199,6 +179,5 @@ fn an_array_dequeue_finds_a_slot_empty_and_its_enqueue_draws_another(
             ("show atail\n", "is 2\n"),
             ("undo 5\n", "refused 13 Depended 6\n"),
         ],
-    );
-    Ok(())
+    )
 }

@@ -13,12 +13,14 @@ use std::alloc::Global;
 use std::process::Abort;
 use std::test::Fail;
 
-/// A book over a fresh world of four actors.
-pub fn fresh<const R: usize>(alloc: Global) -> Result<Book<R>, Refusal>
+/// A book over a fresh world of so many actors.
+pub fn fresh<const R: usize>(alloc: Global, actors: u8) -> Result<Book<R>, Refusal>
     requires positive { 1 ≤ R }
     requires small { R ≤ 64 }
+    requires some { 1 ≤ actors }
+    requires few { actors ≤ 16 }
 {
-    let world = World::<R>::fresh(alloc, 4)?;
+    let world = World::<R>::fresh(alloc, actors)?;
     Ok(Book::open(alloc, Session::open(alloc, world)))
 }
 
@@ -31,41 +33,77 @@ pub fn poised<const R: usize>(alloc: Global) -> Result<Book<R>, Refusal>
     Ok(Book::open(alloc, Session::open(alloc, world)))
 }
 
+/// Runs a script over a book, and compares its report and its number of lines.
+pub fn report_is<const R: usize>(
+    rt: &impl Abort,
+    alloc: Global,
+    book: &mut Book<R>,
+    script: &str,
+    report: &str,
+) {
+    let mut written = Vec::new(alloc);
+    let lines = run(
+        &mut ReadSource::new(script.as_bytes()),
+        &mut WriteSink::new(&mut written),
+        book,
+    );
+    let wanted = Ok(report.lines().count() as u64);
+    assert!(rt;
+        written.as_slice() == report.as_bytes() && lines == wanted,
+        "script {script}"
+    );
+}
+
 /// Runs pieces of a script over a book, one after another, and compares the report of each and its number of lines.
-pub fn reports_are<const R: usize>(
+fn reports_are<const R: usize>(
     rt: &impl Abort,
     alloc: Global,
     book: &mut Book<R>,
     pieces: &[(&str, &str)],
 ) {
     for (script, report) in pieces {
-        let mut written = Vec::new(alloc);
-        let lines = run(
-            &mut ReadSource::new(script.as_bytes()),
-            &mut WriteSink::new(&mut written),
-            book,
-        );
-        assert_eq!(rt; written.as_slice(), report.as_bytes(), "script {script}");
-        assert_eq!(rt; lines, Ok(report.lines().count() as u64), "script {script}");
+        report_is(rt, alloc, book, *script, *report);
     }
+}
+
+/// Runs pieces of a script over a fresh world of four actors, and compares their reports.
+pub fn over_fresh<const R: usize>(
+    rt: &impl Abort,
+    alloc: Global,
+    pieces: &[(&str, &str)],
+) -> Result<(), Fail>
+    requires positive { 1 ≤ R }
+    requires small { R ≤ 64 }
+{
+    reports_are(rt, alloc, &mut fresh::<R>(alloc, 4)?, pieces);
+    Ok(())
+}
+
+/// Runs pieces of a script over a poised world of four actors, and compares their reports.
+pub fn over_poised<const R: usize>(
+    rt: &impl Abort,
+    alloc: Global,
+    pieces: &[(&str, &str)],
+) -> Result<(), Fail>
+    requires positive { 1 ≤ R }
+    requires small { R ≤ 64 }
+{
+    reports_are(rt, alloc, &mut poised::<R>(alloc)?, pieces);
+    Ok(())
 }
 
 #[test]
 fn an_empty_script_has_an_empty_report(rt: HostRuntime) -> Result<(), Fail> {
-    let mut book = fresh::<4>(rt.alloc())?;
-    reports_are(&rt, rt.alloc(), &mut book, &[("", "")]);
-    Ok(())
+    over_fresh::<4>(&rt, rt.alloc(), &[("", "")])
 }
 
 #[test]
 fn a_refused_walk_changes_nothing_and_a_new_step_forgets_the_undone_ones(
     rt: HostRuntime,
 ) -> Result<(), Fail> {
-    let mut book = fresh::<4>(rt.alloc())?;
-    reports_are(
+    over_fresh::<4>(
         &rt,
         rt.alloc(),
-        &mut book,
         &[
             ("undo\n", "refused 10 NothingToUndo 0\n"),
             ("enq 1 7\ndeq 2\n", "ok 1\nok 2\n"),
@@ -80,17 +118,14 @@ fn a_refused_walk_changes_nothing_and_a_new_step_forgets_the_undone_ones(
             ("enq 1 8\nlen\n", "refused 2 NotIdle\nat 1 1\n"),
             ("deq 3\nlen\n", "ok 2\nat 2 0\n"),
         ],
-    );
-    Ok(())
+    )
 }
 
 #[test]
 fn a_line_that_spells_no_command_changes_nothing(rt: HostRuntime) -> Result<(), Fail> {
-    let mut book = fresh::<4>(rt.alloc())?;
-    reports_are(
+    over_fresh::<4>(
         &rt,
         rt.alloc(),
-        &mut book,
         &[
             ("enq 1 18446744073709551616\n", "refused 22 BadLine\n"),
             ("enq 1 18446744073709551615\n", "ok 1\n"),
@@ -106,17 +141,14 @@ fn a_line_that_spells_no_command_changes_nothing(rt: HostRuntime) -> Result<(), 
             ("mark A\n", "refused 17 BadName\n"),
             ("len", "at 1 0\n"),
         ],
-    );
-    Ok(())
+    )
 }
 
 #[test]
 fn draws_are_made_and_undone_in_a_poised_world(rt: HostRuntime) -> Result<(), Fail> {
-    let mut book = poised::<4>(rt.alloc())?;
-    reports_are(
+    over_poised::<4>(
         &rt,
         rt.alloc(),
-        &mut book,
         &[
             ("go 1\ngo 2\nundo\n", "ok 1\nok 2\nat 1 1\n"),
             (
@@ -124,32 +156,26 @@ fn draws_are_made_and_undone_in_a_poised_world(rt: HostRuntime) -> Result<(), Fa
                 "at 0 2\nok 1\nat 0 1\nrefused 10 NothingToUndo 0\n",
             ),
         ],
-    );
-    Ok(())
+    )
 }
 
 #[test]
 fn an_enqueue_in_a_poised_world_ends_with_its_reply(rt: HostRuntime) -> Result<(), Fail> {
-    let mut book = poised::<4>(rt.alloc())?;
-    reports_are(
+    over_poised::<4>(
         &rt,
         rt.alloc(),
-        &mut book,
         &[(
             "go 1\ngo 1\ngo 1\ngo 1\ngo 1\nundo\nredo\n",
             "ok 1\nok 2\nok 3\nok 4 enqueued\nrefused 3 Idle\nat 3 1\nat 4 0\n",
         )],
-    );
-    Ok(())
+    )
 }
 
 #[test]
 fn each_refused_line_says_why(rt: HostRuntime) -> Result<(), Fail> {
-    let mut book = poised::<4>(rt.alloc())?;
-    reports_are(
+    over_poised::<4>(
         &rt,
         rt.alloc(),
-        &mut book,
         &[
             (
                 "undo\ngo 1\ngo 1\ngo 5\nhello\n",
@@ -164,6 +190,5 @@ fn each_refused_line_says_why(rt: HostRuntime) -> Result<(), Fail> {
                 "at 2 0\nat 2 0\nrefused 10 NothingToUndo 2\nrefused 11 NothingToRedo\n",
             ),
         ],
-    );
-    Ok(())
+    )
 }

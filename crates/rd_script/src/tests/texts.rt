@@ -2,42 +2,62 @@
 
 use super::super::faults::LineFault;
 use super::super::reading::whole_texts::lines;
-use super::runs::{poised, reports_are};
+use super::runs::{poised, report_is};
 use rd_marks::Command;
-use std::alloc::Global;
+use std::alloc::{AllocError, Global};
 use std::process::Abort;
 use std::test::Fail;
 
+/// Runs each script over a poised world of its own, and compares its report.
+fn alone_over_poised(rt: &impl Abort, alloc: Global, rows: &[(&str, &str)]) -> Result<(), Fail> {
+    for (script, report) in rows {
+        report_is(rt, alloc, &mut poised::<4>(alloc)?, *script, *report);
+    }
+    Ok(())
+}
+
 #[test]
 fn a_last_line_may_lack_its_line_feed(rt: HostRuntime) -> Result<(), Fail> {
-    for (script, report) in [
-        ("", ""),
-        ("go 4", "ok 1\n"),
-        ("go 4\nundo", "ok 1\nat 0 1\n"),
-        ("\n\n", "refused 22 BadLine\nrefused 22 BadLine\n"),
-    ] {
-        let mut book = poised::<4>(rt.alloc())?;
-        reports_are(&rt, rt.alloc(), &mut book, &[(script, report)]);
+    alone_over_poised(
+        &rt,
+        rt.alloc(),
+        &[
+            ("", ""),
+            ("go 4", "ok 1\n"),
+            ("go 4\nundo", "ok 1\nat 0 1\n"),
+            ("\n\n", "refused 22 BadLine\nrefused 22 BadLine\n"),
+        ],
+    )
+}
+
+/// A line of so many bytes, and another line behind it.
+fn long_line(alloc: Global, length: usize, last: &str) -> Result<String, AllocError> {
+    let mut text = "x".repeat(alloc, length)?;
+    text.push_str("\n")?;
+    text.push_str(last)?;
+    Ok(text)
+}
+
+/// Compares the report of a script whose first line has so many bytes.
+fn long_lines_are(rt: &impl Abort, alloc: Global, rows: &[(usize, &str)]) -> Result<(), Fail> {
+    for (length, report) in rows {
+        let script = long_line(alloc, *length, "go 3\n")?;
+        report_is(rt, alloc, &mut poised::<4>(alloc)?, &script, *report);
     }
     Ok(())
 }
 
 #[test]
 fn a_line_of_256_bytes_is_bad_and_a_longer_one_too_long(rt: HostRuntime) -> Result<(), Fail> {
-    for (length, report) in [
-        (256, "refused 22 BadLine\nok 1\n"),
-        (257, "refused 23 LineTooLong\nok 1\n"),
-        (1000, "refused 23 LineTooLong\nok 1\n"),
-    ] {
-        let mut script = String::new(rt.alloc());
-        for _ in 0..length {
-            script.push('x')?;
-        }
-        script.push_str("\ngo 3\n")?;
-        let mut book = poised::<4>(rt.alloc())?;
-        reports_are(&rt, rt.alloc(), &mut book, &[(script.as_str(), report)]);
-    }
-    Ok(())
+    long_lines_are(
+        &rt,
+        rt.alloc(),
+        &[
+            (256, "refused 22 BadLine\nok 1\n"),
+            (257, "refused 23 LineTooLong\nok 1\n"),
+            (1000, "refused 23 LineTooLong\nok 1\n"),
+        ],
+    )
 }
 
 /// Compares what the lines of a text say with what is wanted of each.
@@ -48,7 +68,7 @@ fn lines_say(
     wanted: &[Result<Command, LineFault>],
 ) -> Result<(), Fail> {
     let said = lines(alloc, text.as_bytes())?;
-    assert_eq!(rt; said.as_slice(), wanted, "text {text}");
+    assert!(rt; said.as_slice() == wanted, "text {text}");
     Ok(())
 }
 
@@ -82,20 +102,20 @@ fn a_whole_text_says_what_each_of_its_lines_says(rt: HostRuntime) -> Result<(), 
     )
 }
 
-#[test]
-fn a_long_line_of_a_whole_text_is_too_long(rt: HostRuntime) -> Result<(), Fail> {
-    for (length, fault) in [(256, LineFault::BadLine), (257, LineFault::LineTooLong)] {
-        let mut text = String::new(rt.alloc());
-        for _ in 0..length {
-            text.push('x')?;
-        }
-        text.push_str("\nlen")?;
-        lines_say(
-            &rt,
-            rt.alloc(),
-            text.as_str(),
-            &[Err(fault), Ok(Command::Len)],
-        )?;
+/// Compares what a first line of so many bytes, with another one behind it, says in a whole text.
+fn long_lines_say(rt: &impl Abort, alloc: Global, rows: &[(usize, LineFault)]) -> Result<(), Fail> {
+    for (length, fault) in rows {
+        let text = long_line(alloc, *length, "len")?;
+        lines_say(rt, alloc, &text, &[Err(*fault), Ok(Command::Len)])?;
     }
     Ok(())
+}
+
+#[test]
+fn a_long_line_of_a_whole_text_is_too_long(rt: HostRuntime) -> Result<(), Fail> {
+    long_lines_say(
+        &rt,
+        rt.alloc(),
+        &[(256, LineFault::BadLine), (257, LineFault::LineTooLong)],
+    )
 }

@@ -1,15 +1,13 @@
 //! Scripts over a fresh world that undo steps alone, roll back, and compare bookmarks.
 
-use super::runs::{fresh, reports_are};
+use super::runs::{fresh, over_fresh, report_is};
 use std::test::Fail;
 
 #[test]
 fn a_step_on_which_none_depends_is_undone_alone(rt: HostRuntime) -> Result<(), Fail> {
-    let mut book = fresh::<4>(rt.alloc())?;
-    reports_are(
+    over_fresh::<4>(
         &rt,
         rt.alloc(),
-        &mut book,
         &[
             ("enq 1 7\ndeq 2\ngo 1\ngo 2\n", "ok 1\nok 2\nok 3\nok 4\n"),
             ("undo 1\n", "refused 13 Depended 3\n"),
@@ -21,17 +19,14 @@ fn a_step_on_which_none_depends_is_undone_alone(rt: HostRuntime) -> Result<(), F
             ("redo\n", "at 4 0\n"),
             ("step 4\n", "step 4; go 1; qtail; read; 0.0; -\n"),
         ],
-    );
-    Ok(())
+    )
 }
 
 #[test]
 fn the_second_draw_of_a_position_depends_on_the_first(rt: HostRuntime) -> Result<(), Fail> {
-    let mut book = fresh::<4>(rt.alloc())?;
-    reports_are(
+    over_fresh::<4>(
         &rt,
         rt.alloc(),
-        &mut book,
         &[
             (
                 "enq 1 7\nenq 2 8\ngo 1\ngo 1\ngo 2\ngo 2\ngo 1\ngo 2\n",
@@ -41,17 +36,14 @@ fn the_second_draw_of_a_position_depends_on_the_first(rt: HostRuntime) -> Result
             ("undo 8\n", "at 7 1\n"),
             ("undo 7\n", "at 6 2\n"),
         ],
-    );
-    Ok(())
+    )
 }
 
 #[test]
 fn a_link_depends_on_an_earlier_read_of_the_place(rt: HostRuntime) -> Result<(), Fail> {
-    let mut book = fresh::<2>(rt.alloc())?;
-    reports_are(
+    over_fresh::<2>(
         &rt,
         rt.alloc(),
-        &mut book,
         &[
             ("enq 3 5\ngo 3\ngo 3\n", "ok 1\nok 2\nok 3\n"),
             (
@@ -73,17 +65,14 @@ fn a_link_depends_on_an_earlier_read_of_the_place(rt: HostRuntime) -> Result<(),
             ("undo 3\n", "refused 13 Depended 38\n"),
             ("undo 2\n", "refused 13 Depended 3\n"),
         ],
-    );
-    Ok(())
+    )
 }
 
 #[test]
 fn segments_of_two_actors_race_and_one_is_linked(rt: HostRuntime) -> Result<(), Fail> {
-    let mut book = fresh::<2>(rt.alloc())?;
-    reports_are(
+    over_fresh::<2>(
         &rt,
         rt.alloc(),
-        &mut book,
         &[
             (
                 "enq 1 7\ngo 1\ngo 1\ngo 1\ngo 1\ngo 1\ngo 1\n",
@@ -110,17 +99,14 @@ fn segments_of_two_actors_race_and_one_is_linked(rt: HostRuntime) -> Result<(), 
             ("show next 0.0\n", "is 2.0\n"),
             ("show whole 1.0\n", "is exists\n"),
         ],
-    );
-    Ok(())
+    )
 }
 
 #[test]
 fn a_rollback_takes_just_the_steps_that_depend(rt: HostRuntime) -> Result<(), Fail> {
-    let mut book = fresh::<2>(rt.alloc())?;
-    reports_are(
+    over_fresh::<2>(
         &rt,
         rt.alloc(),
-        &mut book,
         &[
             (
                 "enq 1 7\ngo 1\ngo 1\ngo 1\ngo 1\ngo 1\ngo 1\n",
@@ -155,17 +141,14 @@ fn a_rollback_takes_just_the_steps_that_depend(rt: HostRuntime) -> Result<(), Fa
             ("forward 3\n", "at 30 0\n"),
             ("roll 31\n", "refused 12 NoSuchStep 30\n"),
         ],
-    );
-    Ok(())
+    )
 }
 
 #[test]
 fn bookmarks_of_equivalent_runs_are_the_same(rt: HostRuntime) -> Result<(), Fail> {
-    let mut book = fresh::<4>(rt.alloc())?;
-    reports_are(
+    over_fresh::<4>(
         &rt,
         rt.alloc(),
-        &mut book,
         &[
             ("enq 1 7\ndeq 2\ngo 1\ngo 2\n", "ok 1\nok 2\nok 3\nok 4\n"),
             ("mark a\n", "marked 4\n"),
@@ -183,17 +166,14 @@ fn bookmarks_of_equivalent_runs_are_the_same(rt: HostRuntime) -> Result<(), Fail
             ("markat 2\n", "mark b 4\n"),
             ("goto c\n", "refused 14 NoMark\n"),
         ],
-    );
-    Ok(())
+    )
 }
 
 #[test]
 fn bookmarks_of_draws_in_another_order_are_not_the_same(rt: HostRuntime) -> Result<(), Fail> {
-    let mut book = fresh::<4>(rt.alloc())?;
-    reports_are(
+    over_fresh::<4>(
         &rt,
         rt.alloc(),
-        &mut book,
         &[
             (
                 "enq 1 7\nenq 2 8\ngo 1\ngo 1\ngo 2\ngo 2\ngo 1\ngo 2\n",
@@ -206,13 +186,12 @@ fn bookmarks_of_draws_in_another_order_are_not_the_same(rt: HostRuntime) -> Resu
             ("mark b\n", "marked 8\n"),
             ("same a b\n", "same no\n"),
         ],
-    );
-    Ok(())
+    )
 }
 
 #[test]
 fn a_sixty_fifth_bookmark_is_refused(rt: HostRuntime) -> Result<(), Fail> {
-    let mut book = fresh::<4>(rt.alloc())?;
+    let mut book = fresh::<4>(rt.alloc(), 4)?;
     let mut script = String::new(rt.alloc());
     let mut report = String::new(rt.alloc());
     for number in 1..65 {
@@ -221,14 +200,7 @@ fn a_sixty_fifth_bookmark_is_refused(rt: HostRuntime) -> Result<(), Fail> {
     }
     script.push_str("mark n65\n")?;
     report.push_str("refused 16 TooManyMarks\n")?;
-    reports_are(
-        &rt,
-        rt.alloc(),
-        &mut book,
-        &[
-            (script.as_str(), report.as_str()),
-            ("marks\n", "marks 64\n"),
-        ],
-    );
+    report_is(&rt, rt.alloc(), &mut book, &script, &report);
+    report_is(&rt, rt.alloc(), &mut book, "marks\n", "marks 64\n");
     Ok(())
 }
