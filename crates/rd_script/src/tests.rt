@@ -3,6 +3,7 @@
 //! Rows are borrowed, and one helper walks those of a kind, with one assertion: so their proof is cheap.
 
 mod devices;
+mod lone_faults;
 mod origins;
 mod queues;
 mod refusals;
