@@ -4,6 +4,7 @@
 
 mod devices;
 mod lone_faults;
+mod long_runs;
 mod origins;
 mod queues;
 mod refusals;

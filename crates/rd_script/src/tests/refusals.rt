@@ -1,16 +1,26 @@
 //! The line of each refusal: its number, its name, and its data.
 
 use super::super::answers::LineAnswer;
+use super::super::devices::sinks::WriteSink;
 use super::super::faults::{LineFault, ScriptFault};
+use super::super::script::write_answer;
 use super::line_is;
 use rd_cell::Refusal;
 use rd_step::Flaw;
+use std::alloc::Global;
 use std::process::Abort;
 
-/// Compares the line of each refusal of a command with its text.
-fn refusals_are(rt: &impl Abort, rows: &[(Refusal, &str)]) {
+/// Compares the line of each refusal of a command with its text, and with what a writer is given of it.
+fn refusals_are(rt: &impl Abort, alloc: Global, rows: &[(Refusal, &str)]) {
     for (refusal, line) in rows {
-        line_is(rt, &LineAnswer::Refused(*refusal), *line);
+        let answer = LineAnswer::Refused(*refusal);
+        line_is(rt, &answer, *line);
+        let mut written = Vec::new(alloc);
+        let said = write_answer(&mut WriteSink::new(&mut written), &answer);
+        assert!(rt;
+            said.is_ok() && written.as_slice() == line.as_bytes(),
+            "line {line}"
+        );
     }
 }
 
@@ -36,6 +46,7 @@ fn trace_steps_are(rt: &impl Abort, rows: &[(u64, Refusal, &str)]) {
 fn each_refusal_of_a_command_has_its_line(rt: HostRuntime) {
     refusals_are(
         &rt,
+        rt.alloc(),
         &[
             (Refusal::NoActor, "refused 1 NoActor\n"),
             (Refusal::NotIdle, "refused 2 NotIdle\n"),
