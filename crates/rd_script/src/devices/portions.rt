@@ -81,11 +81,8 @@ fn read_some<R: Read>(reader: &mut R, bytes: &mut [u8]) -> Result<usize, ReadFau
     for _ in 0..u64::MAX {
         match reader.read(bytes) {
             Ok(count) => return Ok(count),
-            Err(error) => {
-                if error.kind() != ErrorKind::Interrupted {
-                    return Err(ReadFault);
-                }
-            }
+            Err(error) if error.kind() == ErrorKind::Interrupted => {}
+            Err(_) => return Err(ReadFault),
         }
     }
     Err(ReadFault)

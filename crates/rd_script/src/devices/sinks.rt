@@ -89,11 +89,8 @@ fn some_bytes<W: Write>(writer: &mut W, given: &[u8]) -> Result<usize, WriteFaul
         match writer.write(given) {
             Ok(0) => return Err(WriteFault),
             Ok(count) => return Ok(count),
-            Err(error) => {
-                if error.kind() != ErrorKind::Interrupted {
-                    return Err(WriteFault);
-                }
-            }
+            Err(error) if error.kind() == ErrorKind::Interrupted => {}
+            Err(_) => return Err(WriteFault),
         }
     }
     Err(WriteFault)

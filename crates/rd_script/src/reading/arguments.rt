@@ -113,10 +113,10 @@ fn name_in(word: &[u8]) -> Result<MarkName, LineFault>
     if !is_word(word) {
         return Err(LineFault::BadLine);
     }
-    match MarkName::new(word) {
-        Err(_) => Err(LineFault::BadName),
-        Ok(name) => Ok(name),
-    }
+    let Ok(name) = MarkName::new(word) else {
+        return Err(LineFault::BadName);
+    };
+    Ok(name)
 }
 
 /// Whether this is a word: bytes from 33 to 126, one at least.

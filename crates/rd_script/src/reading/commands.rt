@@ -40,10 +40,10 @@ pub fn command_in(line: &[u8]) -> Result<Command, LineFault>
     let [first, others @ ..] = words.as_slice() else {
         return Err(LineFault::BadLine);
     };
-    match Keyword::of(first) {
-        None => Err(LineFault::BadLine),
-        Some(keyword) => command_of(keyword, others),
-    }
+    let Some(keyword) = Keyword::of(first) else {
+        return Err(LineFault::BadLine);
+    };
+    command_of(keyword, others)
 }
 
 /// The command of a keyword and the words behind it.
@@ -51,26 +51,14 @@ fn command_of(keyword: Keyword, words: &[&[u8]]) -> Result<Command, LineFault>
     ensures { ReadsCommand keyword (map (λ word. word.now) words.now) result }
 {
     match keyword {
-        Keyword::Mark => match name_alone(words) {
-            Err(fault) => Err(fault),
-            Ok(name) => Ok(Command::Mark(name)),
-        },
-        Keyword::Drop => match name_alone(words) {
-            Err(fault) => Err(fault),
-            Ok(name) => Ok(Command::DropMark(name)),
-        },
-        Keyword::Goto => match name_alone(words) {
-            Err(fault) => Err(fault),
-            Ok(name) => Ok(Command::GotoMark(name)),
-        },
-        Keyword::Same => match two_names(words) {
-            Err(fault) => Err(fault),
-            Ok((one, other)) => Ok(Command::Same(one, other)),
-        },
-        _ => match nameless(keyword, words) {
-            None => Err(LineFault::BadLine),
-            Some(command) => Ok(command),
-        },
+        Keyword::Mark => Ok(Command::Mark(name_alone(words)?)),
+        Keyword::Drop => Ok(Command::DropMark(name_alone(words)?)),
+        Keyword::Goto => Ok(Command::GotoMark(name_alone(words)?)),
+        Keyword::Same => {
+            let (one, other) = two_names(words)?;
+            Ok(Command::Same(one, other))
+        }
+        _ => nameless(keyword, words).ok_or(LineFault::BadLine),
     }
 }
 

@@ -46,9 +46,7 @@ pub fn segment_in(word: &[u8]) -> Option<SegName>
     ensures spelled { IfSome result (λ s. word.now ≡ name_words s) }
     ensures unspelled { IfNone result ((s : Segment) → IsSegmentInRange s → word.now ≢ name_words s) }
 {
-    let Some(parts) = parts_of(word, b'.') else {
-        return None;
-    };
+    let parts = parts_of(word, b'.')?;
     segment_of(parts.as_slice())
 }
 
@@ -84,11 +82,8 @@ fn short_in(word: &[u8]) -> Option<u32>
 fn loosely_in(word: &[u8]) -> Option<u64>
     ensures { (n : ℕ) → n < 2 ^ 64 → word.now ≡ decimal n → result ≡ Some n }
 {
-    match str::from_utf8(word) {
-        Ok(digits) => match digits.parse::<u64>() {
-            Ok(number) => Some(number),
-            Err(_) => None,
-        },
-        Err(_) => None,
-    }
+    let Ok(digits) = str::from_utf8(word) else {
+        return None;
+    };
+    digits.parse().ok()
 }

@@ -8,9 +8,8 @@ ghost use Rattle.rd_script.specs.Contents.{name_words};
 ghost use Rattle.rd_script.specs.Spelling.{IsSegmentInRange};
 ghost use Rattle.rd_script.specs.Words.{kind_text, ReadsPlace, ReadsKind};
 
-use super::arguments::byte_alone;
 use super::numbers::{byte_in, segment_in};
-use rd_cell::{Place, SegName};
+use rd_cell::Place;
 
 /// A place's first word.
 #[derive(Clone, Copy, Debug, PartialEq, Eq)]
@@ -87,21 +86,21 @@ impl PlaceKind {
     fn place(self, words: &[&[u8]]) -> Option<Place>
         ensures { ReadsKind self (map (λ word. word.now) words.now) result }
     {
-        match self {
-            PlaceKind::QHead => alone(words, Place::QHead),
-            PlaceKind::QTail => alone(words, Place::QTail),
-            PlaceKind::ArrHead => alone(words, Place::ArrHead),
-            PlaceKind::ArrTail => alone(words, Place::ArrTail),
-            PlaceKind::Head => Some(Place::Head(segment_alone(words)?)),
-            PlaceKind::Tail => Some(Place::Tail(segment_alone(words)?)),
-            PlaceKind::Next => Some(Place::Next(segment_alone(words)?)),
-            PlaceKind::Whole => Some(Place::Whole(segment_alone(words)?)),
-            PlaceKind::Cell => {
-                let (segment, index) = segment_and_index(words)?;
-                Some(Place::Cell(segment, index))
+        Some(match (self, words) {
+            (PlaceKind::QHead, []) => Place::QHead,
+            (PlaceKind::QTail, []) => Place::QTail,
+            (PlaceKind::ArrHead, []) => Place::ArrHead,
+            (PlaceKind::ArrTail, []) => Place::ArrTail,
+            (PlaceKind::Head, [segment]) => Place::Head(segment_in(segment)?),
+            (PlaceKind::Tail, [segment]) => Place::Tail(segment_in(segment)?),
+            (PlaceKind::Next, [segment]) => Place::Next(segment_in(segment)?),
+            (PlaceKind::Whole, [segment]) => Place::Whole(segment_in(segment)?),
+            (PlaceKind::Cell, [segment, index]) => {
+                Place::Cell(segment_in(segment)?, byte_in(index)?)
             }
-            PlaceKind::ArrCell => Some(Place::ArrCell(byte_alone(words)?)),
-        }
+            (PlaceKind::ArrCell, [index]) => Place::ArrCell(byte_in(index)?),
+            _ => return None,
+        })
     }
 }
 
@@ -113,34 +112,4 @@ pub fn place_in(words: &[&[u8]]) -> Option<Place>
         return None;
     };
     PlaceKind::of(kind)?.place(rest)
-}
-
-/// The place, if no word is left.
-fn alone(words: &[&[u8]], place: Place) -> Option<Place>
-    ensures some { IfSome result (λ p. (p ≡ place) × (map (λ word. word.now) words.now ≡ [])) }
-    ensures none { IfNone result (map (λ word. word.now) words.now ≢ []) }
-{
-    if words.is_empty() { Some(place) } else { None }
-}
-
-/// The segment that is named alone.
-fn segment_alone(words: &[&[u8]]) -> Option<SegName>
-    ensures some { IfSome result (λ s. map (λ word. word.now) words.now ≡ name_words s ∷ []) }
-    ensures none { IfNone result ((s : Segment) → IsSegmentInRange s → map (λ word. word.now) words.now ≢ name_words s ∷ []) }
-{
-    let [segment] = words else {
-        return None;
-    };
-    segment_in(segment)
-}
-
-/// A segment and the index of one of its cells.
-fn segment_and_index(words: &[&[u8]]) -> Option<(SegName, u8)>
-    ensures some { IfSome result (λ r. map (λ word. word.now) words.now ≡ name_words r.0 ∷ decimal r.1 ∷ []) }
-    ensures none { IfNone result ((s : Segment) (i : ℕ) → IsSegmentInRange s → i < 256 → map (λ word. word.now) words.now ≢ name_words s ∷ decimal i ∷ []) }
-{
-    let [segment, index] = words else {
-        return None;
-    };
-    Some((segment_in(segment)?, byte_in(index)?))
 }

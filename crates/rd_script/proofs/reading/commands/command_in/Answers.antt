@@ -13,27 +13,27 @@ pub returns-in_default-clause-one : goal.returns-in_default-clause-one
 returns-in_default-clause-one c =
     one_said c.args.line.now (Err BadLine) (too_many_words c.args.line.now c.if-line-gt-MOST_LINE_BYTES.false c.in_default.ensures.none)
 
-pub returns-in-None-clause-says : goal.returns-in-None-clause-says
-returns-in-None-clause-says c =
+pub returns-in_default-of-clause-says : goal.returns-in_default-of-clause-says
+returns-in_default-of-clause-says c =
     let words = first_and_others c.in-Some.words.items c.as_slice.result.now _ c.in-len1-up.len_at_least c.as_slice.ensures.value c.in-Some.ensures.some in
-    no_keyword c.args.line.now _ (map (λ word. word.now) (drop 1 c.as_slice.result.now)) c.if-line-gt-MOST_LINE_BYTES.false words c.in-None.ensures.none
+    no_keyword c.args.line.now _ (map (λ word. word.now) (drop 1 c.as_slice.result.now)) c.if-line-gt-MOST_LINE_BYTES.false words c.in_default-of.ensures.none
 
-pub returns-in-None-clause-one : goal.returns-in-None-clause-one
-returns-in-None-clause-one c =
+pub returns-in_default-of-clause-one : goal.returns-in_default-of-clause-one
+returns-in_default-of-clause-one c =
     let words = first_and_others c.in-Some.words.items c.as_slice.result.now _ c.in-len1-up.len_at_least c.as_slice.ensures.value c.in-Some.ensures.some in
     one_said c.args.line.now (Err BadLine)
-    (no_keyword c.args.line.now _ (map (λ word. word.now) (drop 1 c.as_slice.result.now)) c.if-line-gt-MOST_LINE_BYTES.false words c.in-None.ensures.none)
+    (no_keyword c.args.line.now _ (map (λ word. word.now) (drop 1 c.as_slice.result.now)) c.if-line-gt-MOST_LINE_BYTES.false words c.in_default-of.ensures.none)
 
-pub returns-in-Some-of-clause-says : goal.returns-in-Some-of-clause-says
-returns-in-Some-of-clause-says c =
+pub returns-clause-says : goal.returns-clause-says
+returns-clause-says c =
     let others = map (λ word. word.now) (drop 1 c.as_slice.result.now) in
     let words = first_and_others c.in-Some.words.items c.as_slice.result.now _ c.in-len1-up.len_at_least c.as_slice.ensures.value c.in-Some.ensures.some in
     let reads = subst (λ rest. ReadsCommand c.in-Some-of.keyword (map (λ word. word.now) rest) c.command_of.result) (take_rest c.as_slice.result.now 1) c.command_of.ensures in
     says_words c.args.line.now c.in-Some-of.keyword others c.command_of.result c.if-line-gt-MOST_LINE_BYTES.false
     (ap (λ word. word ∷ others) (sym c.in-Some-of.ensures.some) ∙ words) reads
 
-pub returns-in-Some-of-clause-one : goal.returns-in-Some-of-clause-one
-returns-in-Some-of-clause-one c =
+pub returns-clause-one : goal.returns-clause-one
+returns-clause-one c =
     let others = map (λ word. word.now) (drop 1 c.as_slice.result.now) in
     let words = first_and_others c.in-Some.words.items c.as_slice.result.now _ c.in-len1-up.len_at_least c.as_slice.ensures.value c.in-Some.ensures.some in
     let reads = subst (λ rest. ReadsCommand c.in-Some-of.keyword (map (λ word. word.now) rest) c.command_of.result) (take_rest c.as_slice.result.now 1) c.command_of.ensures in
