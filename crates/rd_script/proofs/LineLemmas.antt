@@ -8,7 +8,7 @@ use Rattle.rd_script.specs.Lines.{IsOneLine, Holds, ReadsLine, ReadsLast, ReadsP
 use Rattle.rd_script.proofs.KnownLemmas.{Consumes-nil, Consumes-join}
 
 -- these many bytes were given, all of them before the line feed, and are held by the line
-pub record Begun (old now : Option (List ℕ)) (failed : Bool) (line : Line) (count : ℕ) : Type 0 where
+pub record HasBegun (old now : Option (List ℕ)) (failed : Bool) (line : Line) (count : ℕ) : Type 0 where
   pub text : List ℕ
   pub is_one : IsOneLine text
   pub held : Holds line text
@@ -22,7 +22,7 @@ IsOneLine-more [] byte h n = (n, tt)
 IsOneLine-more (x ∷ xs) byte h n = (h.0, IsOneLine-more xs byte h.1 n)
 
 -- a line that holds nothing is begun
-pub begins : (old : Option (List ℕ)) (failed : Bool) (line : Line) → Holds line [] → failed ≡ false → Begun old old failed line 0
+pub begins : (old : Option (List ℕ)) (failed : Bool) (line : Line) → Holds line [] → failed ≡ false → HasBegun old old failed line 0
 begins old failed line h works = record {
   text = [];
   is_one = tt;
@@ -33,7 +33,7 @@ begins old failed line h works = record {
 }
 
 -- one more byte
-pub goes_on : {old now : Option (List ℕ)} (new : Option (List ℕ)) {failed failed' : Bool} {line line' : Line} {count : ℕ} (byte : ℕ) → Begun old now failed line count → Gives now new (Some byte) → byte ≢ 10 → ((text : List ℕ) → Holds line text → Holds line' (text ++ byte ∷ [])) → failed' ≡ false → Begun old new failed' line' (count + 1)
+pub goes_on : {old now : Option (List ℕ)} (new : Option (List ℕ)) {failed failed' : Bool} {line line' : Line} {count : ℕ} (byte : ℕ) → HasBegun old now failed line count → Gives now new (Some byte) → byte ≢ 10 → ((text : List ℕ) → Holds line text → Holds line' (text ++ byte ∷ [])) → failed' ≡ false → HasBegun old new failed' line' (count + 1)
 goes_on {old} {now} new {count = count} byte b gives n pushes works = record {
   text = b.text ++ byte ∷ [];
   is_one = IsOneLine-more b.text byte b.is_one n;
@@ -44,7 +44,7 @@ goes_on {old} {now} new {count = count} byte b gives n pushes works = record {
 }
 
 -- a line feed ends the line
-pub is_ended : {old now : Option (List ℕ)} (new : Option (List ℕ)) {failed : Bool} {line : Line} {count : ℕ} → Begun old now failed line count → Gives now new (Some 10) → ReadsLine old new line (10 ∷ [])
+pub is_ended : {old now : Option (List ℕ)} (new : Option (List ℕ)) {failed : Bool} {line : Line} {count : ℕ} → HasBegun old now failed line count → Gives now new (Some 10) → ReadsLine old new line (10 ∷ [])
 is_ended {old} {now} new b gives = record {
   text = b.text;
   is_one = b.is_one;
@@ -57,7 +57,7 @@ some_text : (text : List ℕ) → length text ≢ 0 → text ≢ []
 some_text text n e = n (ap length e)
 
 -- the end ends a line that has a byte
-pub is_last : {old now : Option (List ℕ)} (new : Option (List ℕ)) {failed : Bool} {line : Line} {count : ℕ} → Begun old now failed line count → Gives now new None → count ≢ 0 → ReadsLast old new line
+pub is_last : {old now : Option (List ℕ)} (new : Option (List ℕ)) {failed : Bool} {line : Line} {count : ℕ} → HasBegun old now failed line count → Gives now new None → count ≢ 0 → ReadsLast old new line
 is_last {old} {now} new b gives n = record {
   read = record {
     text = b.text;
@@ -70,7 +70,7 @@ is_last {old} {now} new b gives n = record {
 }
 
 -- nothing was read before the end
-pub is_end : {old now : Option (List ℕ)} (new : Option (List ℕ)) {failed : Bool} {line : Line} → Begun old now failed line 0 → Gives now new None → Consumes old new [] × IsAtEnd new
+pub is_end : {old now : Option (List ℕ)} (new : Option (List ℕ)) {failed : Bool} {line : Line} → HasBegun old now failed line 0 → Gives now new None → Consumes old new [] × IsAtEnd new
 is_end {old} {now} new b gives =
     (subst (λ t. Consumes old new t) (no_text b.text b.counted) (subst (λ t. Consumes old new t) (append-nil b.text) (Consumes-join old now new b.text [] b.took gives.0)), gives.1)
   where
@@ -79,7 +79,7 @@ is_end {old} {now} new b gives =
     no_text (x ∷ xs) e = absurd (omega arith)
 
 -- a fault ends the reading in mid-line
-pub is_broken : {old now : Option (List ℕ)} (new : Option (List ℕ)) {failed failed' : Bool} {line : Line} {count : ℕ} → Begun old now failed line count → Consumes now new [] → failed' ≡ true → ReadsPart old new failed'
+pub is_broken : {old now : Option (List ℕ)} (new : Option (List ℕ)) {failed failed' : Bool} {line : Line} {count : ℕ} → HasBegun old now failed line count → Consumes now new [] → failed' ≡ true → ReadsPart old new failed'
 is_broken {old} {now} new b keeps fails = record {
   text = b.text;
   is_one = b.is_one;
@@ -88,7 +88,7 @@ is_broken {old} {now} new b keeps fails = record {
 }
 
 -- 2^64 - 1 bytes without an end
-pub is_endless : {old now : Option (List ℕ)} {failed : Bool} {line : Line} → Begun old now failed line (2 ^ 64 - 1) → ReadsPart old now failed
+pub is_endless : {old now : Option (List ℕ)} {failed : Bool} {line : Line} → HasBegun old now failed line (2 ^ 64 - 1) → ReadsPart old now failed
 is_endless b = record {
   text = b.text;
   is_one = b.is_one;

@@ -20,35 +20,35 @@ use Rattle.rd_script.proofs.KeywordLemmas.{keywords, kinds}
 use Rattle.rd_script.proofs.NumeralLemmas.{name_parts}
 
 -- the first of these keywords whose text is the word
-abbrev found : List ℕ → List Keyword → Option Keyword
-found word [] = None
-found word (k ∷ ks) = if pointwise nat_eq word (keyword_text k) then Some k else found word ks
+abbrev keyword_with_text : List ℕ → List Keyword → Option Keyword
+keyword_with_text word [] = None
+keyword_with_text word (k ∷ ks) = if pointwise nat_eq word (keyword_text k) then Some k else keyword_with_text word ks
 
 -- each keyword is found by its text
-found_itself : (k : Keyword) → found (keyword_text k) keywords ≡ Some k
-found_itself EnqWord = refl
-found_itself DeqWord = refl
-found_itself ArrayEnqWord = refl
-found_itself ArrayDeqWord = refl
-found_itself GoWord = refl
-found_itself StarveWord = refl
-found_itself UndoWord = refl
-found_itself RollWord = refl
-found_itself BackWord = refl
-found_itself RedoWord = refl
-found_itself ForwardWord = refl
-found_itself MarkWord = refl
-found_itself DropWord = refl
-found_itself GotoWord = refl
-found_itself MarksWord = refl
-found_itself MarkAtWord = refl
-found_itself SameWord = refl
-found_itself OriginWord = refl
-found_itself WriterWord = refl
-found_itself ShowWord = refl
-found_itself ActorWord = refl
-found_itself StepWord = refl
-found_itself LenWord = refl
+keyword_of_own_text : (k : Keyword) → keyword_with_text (keyword_text k) keywords ≡ Some k
+keyword_of_own_text EnqWord = refl
+keyword_of_own_text DeqWord = refl
+keyword_of_own_text ArrayEnqWord = refl
+keyword_of_own_text ArrayDeqWord = refl
+keyword_of_own_text GoWord = refl
+keyword_of_own_text StarveWord = refl
+keyword_of_own_text UndoWord = refl
+keyword_of_own_text RollWord = refl
+keyword_of_own_text BackWord = refl
+keyword_of_own_text RedoWord = refl
+keyword_of_own_text ForwardWord = refl
+keyword_of_own_text MarkWord = refl
+keyword_of_own_text DropWord = refl
+keyword_of_own_text GotoWord = refl
+keyword_of_own_text MarksWord = refl
+keyword_of_own_text MarkAtWord = refl
+keyword_of_own_text SameWord = refl
+keyword_of_own_text OriginWord = refl
+keyword_of_own_text WriterWord = refl
+keyword_of_own_text ShowWord = refl
+keyword_of_own_text ActorWord = refl
+keyword_of_own_text StepWord = refl
+keyword_of_own_text LenWord = refl
 
 -- a value of an option
 abbrev value_or : Keyword → Option Keyword → Keyword
@@ -57,7 +57,7 @@ value_or d (Some k) = k
 
 -- two keywords of one text are one
 pub one_keyword : (k m : Keyword) → keyword_text k ≡ keyword_text m → k ≡ m
-one_keyword k m e = ap (value_or k) (sym (found_itself k) ∙ ap (λ word. found word keywords) e ∙ found_itself m)
+one_keyword k m e = ap (value_or k) (sym (keyword_of_own_text k) ∙ ap (λ word. keyword_with_text word keywords) e ∙ keyword_of_own_text m)
 
 -- what a command of this keyword is
 abbrev IsOf : Keyword → Command → Type 0
@@ -138,22 +138,22 @@ same_segment s t small below e =
     ap (λ m. record { maker = m; n = s.n }) maker ∙ ap (λ m. record { maker = t.maker; n = m }) n
 
 -- the first of these kinds whose text is the word
-abbrev found_kind : List ℕ → List PlaceKind → Option PlaceKind
-found_kind word [] = None
-found_kind word (k ∷ ks) = if pointwise nat_eq word (kind_text k) then Some k else found_kind word ks
+abbrev kind_with_text : List ℕ → List PlaceKind → Option PlaceKind
+kind_with_text word [] = None
+kind_with_text word (k ∷ ks) = if pointwise nat_eq word (kind_text k) then Some k else kind_with_text word ks
 
 -- each kind is found by its text
-kind_found_itself : (k : PlaceKind) → found_kind (kind_text k) kinds ≡ Some k
-kind_found_itself QHeadWord = refl
-kind_found_itself QTailWord = refl
-kind_found_itself HeadOf = refl
-kind_found_itself TailOf = refl
-kind_found_itself NextOf = refl
-kind_found_itself CellWord = refl
-kind_found_itself WholeWord = refl
-kind_found_itself ArrHeadWord = refl
-kind_found_itself ArrTailWord = refl
-kind_found_itself ArrCellWord = refl
+kind_of_own_text : (k : PlaceKind) → kind_with_text (kind_text k) kinds ≡ Some k
+kind_of_own_text QHeadWord = refl
+kind_of_own_text QTailWord = refl
+kind_of_own_text HeadOf = refl
+kind_of_own_text TailOf = refl
+kind_of_own_text NextOf = refl
+kind_of_own_text CellWord = refl
+kind_of_own_text WholeWord = refl
+kind_of_own_text ArrHeadWord = refl
+kind_of_own_text ArrTailWord = refl
+kind_of_own_text ArrCellWord = refl
 
 abbrev kind_or : PlaceKind → Option PlaceKind → PlaceKind
 kind_or d None = d
@@ -161,7 +161,7 @@ kind_or d (Some k) = k
 
 -- two kinds of one text are one
 one_kind : (k m : PlaceKind) → kind_text k ≡ kind_text m → k ≡ m
-one_kind k m e = ap (kind_or k) (sym (kind_found_itself k) ∙ ap (λ word. found_kind word kinds) e ∙ kind_found_itself m)
+one_kind k m e = ap (kind_or k) (sym (kind_of_own_text k) ∙ ap (λ word. kind_with_text word kinds) e ∙ kind_of_own_text m)
 
 -- what a place of this kind is
 abbrev IsPlaceOf : PlaceKind → Place → Type 0

@@ -87,7 +87,7 @@ HasReport-more R s (x ∷ xs) report mid line a h k = (
 )
 
 -- so many lines were read, obeyed and reported, and both devices work
-pub record Going (R : ℕ) (before now : BookState) (in_before in_now : Option (List ℕ)) (in_failed : Bool) (out_before out_now : Option (List ℕ)) (out_failed : Bool) (n : ℕ) : Type 0 where
+pub record IsGoingOn (R : ℕ) (before now : BookState) (in_before in_now : Option (List ℕ)) (in_failed : Bool) (out_before out_now : Option (List ℕ)) (out_failed : Bool) (n : ℕ) : Type 0 where
   pub in_works : in_failed ≡ false
   pub out_works : out_failed ≡ false
   pub given : List ℕ
@@ -102,7 +102,7 @@ pub record Going (R : ℕ) (before now : BookState) (in_before in_now : Option (
   pub start : now.session.start ≡ before.session.start
 
 -- before the first line
-pub starts : (R : ℕ) (s : BookState) (in_now : Option (List ℕ)) (in_failed : Bool) (out_now : Option (List ℕ)) (out_failed : Bool) → in_failed ≡ false → out_failed ≡ false → Going R s s in_now in_now in_failed out_now out_now out_failed 0
+pub starts : (R : ℕ) (s : BookState) (in_now : Option (List ℕ)) (in_failed : Bool) (out_now : Option (List ℕ)) (out_failed : Bool) → in_failed ≡ false → out_failed ≡ false → IsGoingOn R s s in_now in_now in_failed out_now out_now out_failed 0
 starts R s in_now in_failed out_now out_failed in_works out_works = record {
   in_works = in_works;
   out_works = out_works;
@@ -118,7 +118,7 @@ starts R s in_now in_failed out_now out_failed in_works out_works = record {
   start = refl;
 }
 
-module _ (R : ℕ) (before now : BookState) (in_before in_now : Option (List ℕ)) (in_failed : Bool) (out_before out_now : Option (List ℕ)) (out_failed : Bool) (n : ℕ) (g : Going R before now in_before in_now in_failed out_before out_now out_failed n) where
+module _ (R : ℕ) (before now : BookState) (in_before in_now : Option (List ℕ)) (in_failed : Bool) (out_before out_now : Option (List ℕ)) (out_failed : Bool) (n : ℕ) (g : IsGoingOn R before now in_before in_now in_failed out_before out_now out_failed n) where
   -- the devices after more calls
   abbrev now_at : Option (List ℕ) → Bool → Option (List ℕ) → Bool → Devices
   now_at in_new in_failed' out_new out_failed' = record {
@@ -171,7 +171,7 @@ module _ (R : ℕ) (before now : BookState) (in_before in_now : Option (List ℕ
   }
 
   -- one more line, ended by a line feed, was obeyed and reported
-  pub goes_on : (in_new out_new : Option (List ℕ)) (in_failed' out_failed' : Bool) (line : Line) (read : ReadsLine in_now in_new line (10 ∷ [])) (a : Answered) → AnswersLine R now read.text a → (after : BookState) → a.state ≡ after → Appends out_now out_new (text_of a.answer) → in_failed' ≡ false → out_failed' ≡ false → after.session.start ≡ now.session.start → Going R before after in_before in_new in_failed' out_before out_new out_failed' (n + 1)
+  pub goes_on : (in_new out_new : Option (List ℕ)) (in_failed' out_failed' : Bool) (line : Line) (read : ReadsLine in_now in_new line (10 ∷ [])) (a : Answered) → AnswersLine R now read.text a → (after : BookState) → a.state ≡ after → Appends out_now out_new (text_of a.answer) → in_failed' ≡ false → out_failed' ≡ false → after.session.start ≡ now.session.start → IsGoingOn R before after in_before in_new in_failed' out_before out_new out_failed' (n + 1)
   goes_on in_new out_new in_failed' out_failed' line read a answers after leaves wrote in_works out_works start = record {
     in_works = in_works;
     out_works = out_works;

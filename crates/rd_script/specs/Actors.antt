@@ -58,7 +58,7 @@ op_words (Some Deq) = codes "deq"
 op_words (Some (AEnq x)) = codes "aenq" ++ spaced_number x
 op_words (Some ADeq) = codes "adeq"
 
--- where an actor stands and in which call
+-- the control point of an actor, and the call that it is in
 abbrev pub call_words : Actor → List ℕ
 call_words a = codes "actor " ++ label a.pc ++ codes " " ++ op_words a.op
 

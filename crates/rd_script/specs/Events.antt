@@ -5,7 +5,7 @@ use Rattle.rd_step.specs.Prelude.{Act}
 use Rattle.rd_step.specs.declared.entries.Event.{Event}
 use Rattle.rd_script.specs.Texts.{spaced_number, yes_or_no}
 
--- what an actor is told to do
+-- the act of an actor
 abbrev pub act_words : ℕ → Act → List ℕ
 act_words actor (Enq x) = codes "enq" ++ spaced_number actor ++ spaced_number x
 act_words actor Deq = codes "deq" ++ spaced_number actor

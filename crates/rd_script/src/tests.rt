@@ -244,17 +244,10 @@ fn each_call_of_an_actor_has_its_words(rt: HostRuntime) {
             ),
         ],
     );
-    actors_are(
-        &rt,
-        &[(
-            Actor::idle(),
-            "actor Idle none crq 0.0 new 0.0 next 0.0 t 0 h 0 closed 0 val none safe 0 idx 0 pass 0\n",
-        )],
-    );
 }
 
 #[test]
-fn each_word_of_an_actor_stands_in_its_place(rt: HostRuntime) {
+fn each_word_of_an_actor_stands_behind_its_name(rt: HostRuntime) {
     actors_are(
         &rt,
         &[

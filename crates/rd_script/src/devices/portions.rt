@@ -54,7 +54,7 @@ impl Portion {
         Some(byte)
     }
 
-    /// Takes other bytes in place of those that it had: the next ones of the reader, of which there are none at the end alone.
+    /// Forgets the bytes that it had and takes others: the next ones of the reader, of which there are none at the end alone.
     pub fn fill<R: Read>(&mut self, reader: &mut R) -> Result<(), ReadFault>
         ensures ok { OnOk result (Consumes (R.remaining reader.old) (R.remaining reader.new) (left self.new)) }
         ensures end { OnOk result (left self.new ≡ [] → IsAtEnd (R.remaining reader.new)) }

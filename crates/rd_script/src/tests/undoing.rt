@@ -1,6 +1,7 @@
 //! Scripts over a fresh world that undo steps alone, roll back, and compare bookmarks.
 
 use super::runs::{fresh, over_fresh, report_is};
+use std::alloc::Global;
 use std::test::Fail;
 
 #[test]
@@ -189,18 +190,22 @@ fn bookmarks_of_draws_in_another_order_are_not_the_same(rt: HostRuntime) -> Resu
     )
 }
 
-#[test]
-fn a_sixty_fifth_bookmark_is_refused(rt: HostRuntime) -> Result<(), Fail> {
-    let mut book = fresh::<4>(rt.alloc(), 4)?;
-    let mut script = String::new(rt.alloc());
-    let mut report = String::new(rt.alloc());
+/// Lines that set the bookmarks `n1` to `n64`.
+fn sixty_four_marks(alloc: Global) -> Result<String, Fail> {
+    let mut script = String::new(alloc);
     for number in 1..65 {
         write!(script, "mark n{number}\n")?;
-        report.push_str("marked 0\n")?;
     }
-    script.push_str("mark n65\n")?;
-    report.push_str("refused 16 TooManyMarks\n")?;
-    report_is(&rt, rt.alloc(), &mut book, &script, &report);
-    report_is(&rt, rt.alloc(), &mut book, "marks\n", "marks 64\n");
+    Ok(script)
+}
+
+#[test]
+fn a_sixty_fifth_bookmark_is_refused(rt: HostRuntime) -> Result<(), Fail> {
+    let alloc = rt.alloc();
+    let mut book = fresh::<4>(alloc, 4)?;
+    let report = "marked 0\n".repeat(alloc, 64)?;
+    report_is(&rt, alloc, &mut book, &sixty_four_marks(alloc)?, &report);
+    let last = "refused 16 TooManyMarks\nmarks 64\n";
+    report_is(&rt, alloc, &mut book, "mark n65\nmarks\n", last);
     Ok(())
 }

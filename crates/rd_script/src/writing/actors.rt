@@ -21,7 +21,7 @@ pub fn put_actor(text: &mut Text, actor: &Actor)
     put_read(text, actor);
 }
 
-/// Puts where an actor stands and in which call behind the text.
+/// Puts the control point and the call of an actor behind the text.
 fn put_call(text: &mut Text, actor: &Actor)
     ensures words { Puts text.old.items text.new.items (call_words actor.now) }
     ensures len { length (call_words actor.now) ≤ 40 }
