@@ -1,31 +1,28 @@
 -- Commands and their one spelling, and what a line says.
-use Rattle.std.specs.Prelude.{◌≡◌, ◌≢◌, ℕ, ◌<◌, ◌≤◌, ◌^◌, ◌⊎◌, Bool, true, false, ◌&&◌, not, ◌==◌, List, ◌++◌, length, codes, Result, Ok, Err}
+use Rattle.std.specs.Prelude.{◌≡◌, ◌≢◌, ℕ, ◌<◌, ◌≤◌, ◌^◌, ◌⊎◌, Bool, true, false, ◌&&◌, not, ◌==◌, List, [], ◌++◌, length, codes, Option, Some, None, Result, Ok, Err}
 use Rattle.std.specs.List.{list_all}
 use Rattle.std.specs.Char.{is_ascii_graphic}
 use Rattle.rd_step.specs.Prelude.{SegName, Place, Head, Tail, Next, CellAt, WholeOf, ArrCell}
-use Rattle.rd_actor.specs.declared.actors.Act.TheVariants.{Enq as CallsEnq, Deq as CallsDeq, AEnq as CallsArrayEnq, ADeq as CallsArrayDeq, Go as GoesOn, Starve as Starves}
+use Rattle.rd_step.specs.declared.entries.Event.{Event}
 use Rattle.rd_marks.specs.NameBytes.{is_mark_name}
 use Rattle.rd_marks.specs.Names.{bytes_of}
+use Rattle.rd_marks.specs.Events.{event_of}
 use Rattle.rd_marks.specs.declared.commands.Command.{Command}
 use Rattle.rd_marks.specs.declared.commands.Command.TheVariants.{Enq, Deq, ArrayEnq, ArrayDeq, Go, Starve, Undo, UndoAt, Roll, Back, Redo, Forward, Mark, DropMark, GotoMark, Marks, MarkAt, Same, Origin, Writer, Show, Actor, Step, Len}
 use Rattle.rd_script.specs.declared.faults.LineFault.{LineFault}
 use Rattle.rd_script.specs.declared.faults.LineFault.TheVariants.{BadLine, LineTooLong, BadName}
+use Rattle.rd_script.specs.declared.reading.commands.TheConstants.{MOST_LINE_BYTES}
 use Rattle.rd_script.specs.Texts.{spaced_number}
 use Rattle.rd_script.specs.Contents.{place_words}
-use Rattle.rd_script.specs.Events.{act_words}
+use Rattle.rd_script.specs.Events.{event_words}
 
--- how many bytes a line may have, without its line feed
-abbrev pub most_line_bytes : ℕ
-most_line_bytes = 256
+-- the line that makes an event happen, if there is one
+abbrev pub event_line : Option Event → List ℕ
+event_line None = []
+event_line (Some e) = event_words e
 
 -- the one line that spells a command; numbers are decimal without leading zeros
 abbrev pub spelling : Command → List ℕ
-spelling (Enq actor x) = act_words actor (CallsEnq x)
-spelling (Deq actor) = act_words actor CallsDeq
-spelling (ArrayEnq actor x) = act_words actor (CallsArrayEnq x)
-spelling (ArrayDeq actor) = act_words actor CallsArrayDeq
-spelling (Go actor) = act_words actor GoesOn
-spelling (Starve actor choice) = act_words actor (Starves choice)
 spelling Undo = codes "undo"
 spelling (UndoAt k) = codes "undo" ++ spaced_number k
 spelling (Roll k) = codes "roll" ++ spaced_number k
@@ -44,6 +41,7 @@ spelling (Show place) = codes "show " ++ place_words place
 spelling (Actor actor) = codes "actor" ++ spaced_number actor
 spelling (Step k) = codes "step" ++ spaced_number k
 spelling Len = codes "len"
+spelling command = event_line (event_of command)
 
 -- the numbers of a segment's name: its maker's is 0 to 255, and its own 0 to 2^32 - 1
 abbrev pub IsSegmentInRange : SegName → Type 0
@@ -105,8 +103,8 @@ IsMisnamed line =
 
 -- what a line says: a command that it spells, or its fault
 abbrev pub Says : List ℕ → Result Command LineFault → Type 0
-Says line (Ok command) = (length line ≤ most_line_bytes) × IsInRange command × (line ≡ spelling command)
-Says line (Err LineTooLong) = most_line_bytes < length line
-Says line (Err BadName) = (length line ≤ most_line_bytes) × IsMisnamed line
+Says line (Ok command) = (length line ≤ MOST_LINE_BYTES) × IsInRange command × (line ≡ spelling command)
+Says line (Err LineTooLong) = MOST_LINE_BYTES < length line
+Says line (Err BadName) = (length line ≤ MOST_LINE_BYTES) × IsMisnamed line
 Says line (Err BadLine) =
-    (length line ≤ most_line_bytes) × ((command : Command) → IsInRange command → line ≢ spelling command) × (IsMisnamed line → ⊥)
+    (length line ≤ MOST_LINE_BYTES) × ((command : Command) → IsInRange command → line ≢ spelling command) × (IsMisnamed line → ⊥)
