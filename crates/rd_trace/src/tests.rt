@@ -47,37 +47,53 @@ fn written<const R: usize>(alloc: Global, book: &Book<R>) -> Result<Vec<u8>, Fai
     Ok(text)
 }
 
+/// The text that is written of a book is this one.
+fn text_is<const R: usize>(
+    rt: &impl Abort,
+    alloc: Global,
+    book: &Book<R>,
+    text: &str,
+) -> Result<(), Fail> {
+    assert!(rt;
+        written(alloc, book)?.as_slice() == text.as_bytes(),
+        "trace {text}"
+    );
+    Ok(())
+}
+
+/// Compares why the bytes that are shown so are not loaded.
+fn fault_is(rt: &impl Abort, alloc: Global, bytes: &[u8], fault: LoadTraceFault, shown: &str) {
+    assert!(rt;
+        load_trace(alloc, bytes).err() == Some(fault),
+        "trace {shown}"
+    );
+}
+
 /// Compares why each text isn't loaded.
 fn faults_are(rt: &impl Abort, alloc: Global, rows: &[(&str, LoadTraceFault)]) {
     for (text, fault) in rows {
-        let said = load_trace(alloc, text.as_bytes()).err();
-        assert_eq!(rt; said, Some(*fault), "trace {text}");
+        fault_is(rt, alloc, text.as_bytes(), *fault, *text);
     }
 }
 
 /// Each text is no trace.
 fn are_bad(rt: &impl Abort, alloc: Global, texts: &[&str]) {
     for text in texts {
-        faults_are(rt, alloc, &[(*text, LoadTraceFault::BadTrace)]);
+        fault_is(rt, alloc, text.as_bytes(), LoadTraceFault::BadTrace, *text);
     }
 }
 
 #[test]
 fn the_live_events_are_written(rt: HostRuntime) -> Result<(), Fail> {
-    let alloc = rt.alloc();
-    let book = played::<4>(alloc, &[("enq 1 7\n", 1), ("go 1\n", 1)])?;
-    assert_eq!(rt;
-        written(alloc, &book)?.as_slice(),
-        "{\"actors\":4,\"events\":[[\"enq\",1,7],[\"go\",1]],\"ring\":4,\"version\":1}\n".as_bytes()
-    );
-    Ok(())
+    let book = played::<4>(rt.alloc(), &[("enq 1 7\n", 1), ("go 1\n", 1)])?;
+    let text = "{\"actors\":4,\"events\":[[\"enq\",1,7],[\"go\",1]],\"ring\":4,\"version\":1}\n";
+    text_is(&rt, rt.alloc(), &book, text)
 }
 
 #[test]
 fn each_event_has_its_word(rt: HostRuntime) -> Result<(), Fail> {
-    let alloc = rt.alloc();
     let book = played::<8>(
-        alloc,
+        rt.alloc(),
         &[
             ("deq 2\n", 1),
             ("aenq 3 18446744073709551615\n", 1),
@@ -86,23 +102,16 @@ fn each_event_has_its_word(rt: HostRuntime) -> Result<(), Fail> {
             ("undo\n", 1),
         ],
     )?;
-    assert_eq!(rt;
-        written(alloc, &book)?.as_slice(),
-        "{\"actors\":4,\"events\":[[\"deq\",2],[\"aenq\",3,18446744073709551615]],\"ring\":8,\"version\":1}\n".as_bytes()
-    );
-    Ok(())
+    let text =
+        "{\"actors\":4,\"events\":[[\"deq\",2],[\"aenq\",3,18446744073709551615]],\"ring\":8,\"version\":1}\n";
+    text_is(&rt, rt.alloc(), &book, text)
 }
 
 #[test]
 fn a_ring_that_no_trace_has_is_written_too(rt: HostRuntime) -> Result<(), Fail> {
-    let alloc = rt.alloc();
-    let book = played::<3>(alloc, &[("adeq 4\n", 1)])?;
-    let text = written(alloc, &book)?;
-    assert_eq!(rt;
-        text.as_slice(),
-        "{\"actors\":4,\"events\":[[\"adeq\",4]],\"ring\":3,\"version\":1}\n".as_bytes()
-    );
-    let fault = load_trace(alloc, text.as_slice()).err();
-    assert_eq!(rt; fault, Some(LoadTraceFault::BadTrace));
+    let book = played::<3>(rt.alloc(), &[("adeq 4\n", 1)])?;
+    let text = "{\"actors\":4,\"events\":[[\"adeq\",4]],\"ring\":3,\"version\":1}\n";
+    text_is(&rt, rt.alloc(), &book, text)?;
+    are_bad(&rt, rt.alloc(), &[text]);
     Ok(())
 }

@@ -2,7 +2,7 @@
 
 use super::super::faults::LoadTraceFault;
 use super::super::load::load_trace;
-use super::{AnyBook, are_bad, faults_are, written};
+use super::{AnyBook, are_bad, fault_is, faults_are, text_is};
 use rd_cell::Refusal;
 use std::test::Fail;
 
@@ -10,8 +10,13 @@ use std::test::Fail;
 fn a_text_that_is_cut_is_no_trace(rt: HostRuntime) {
     let whole = b"{\"actors\":4,\"events\":[[\"enq\",1,7],[\"go\",1]],\"ring\":4,\"version\":1}";
     for end in 0..whole.len() {
-        let fault = load_trace(rt.alloc(), &whole[..end]).err();
-        assert_eq!(rt; fault, Some(LoadTraceFault::BadTrace), "cut at {end}");
+        fault_is(
+            &rt,
+            rt.alloc(),
+            &whole[..end],
+            LoadTraceFault::BadTrace,
+            "that is cut",
+        );
     }
 }
 
@@ -78,13 +83,13 @@ fn other_events_are_no_trace(rt: HostRuntime) {
 }
 
 #[test]
-fn bytes_that_are_no_text_are_no_trace(rt: HostRuntime) {
-    let open = [b'['; 200];
+fn bytes_that_are_no_text_are_no_trace(rt: HostRuntime) -> Result<(), Fail> {
+    let open = "[".repeat(rt.alloc(), 200)?;
+    are_bad(&rt, rt.alloc(), &[&open]);
     let not_utf8 = b"{\"actors\":4,\"events\":[[\"go\xff\",1]],\"ring\":4,\"version\":1}";
-    for bytes in [open.as_slice(), not_utf8.as_slice()] {
-        let fault = load_trace(rt.alloc(), bytes).err();
-        assert_eq!(rt; fault, Some(LoadTraceFault::BadTrace));
-    }
+    let bad = LoadTraceFault::BadTrace;
+    fault_is(&rt, rt.alloc(), not_utf8, bad, "that is no UTF-8");
+    Ok(())
 }
 
 #[test]
@@ -126,9 +131,7 @@ fn white_space_escapes_and_the_order_of_keys_do_not_matter(rt: HostRuntime) -> R
     let AnyBook::Two(book) = load_trace(alloc, text)? else {
         return Err(Fail::from(Refusal::NoMark));
     };
-    assert_eq!(rt;
-        written(alloc, &book)?.as_slice(),
-        "{\"actors\":16,\"events\":[[\"enq\",1,7],[\"go\",1]],\"ring\":2,\"version\":1}\n".as_bytes()
-    );
-    Ok(())
+    let compact =
+        "{\"actors\":16,\"events\":[[\"enq\",1,7],[\"go\",1]],\"ring\":2,\"version\":1}\n";
+    text_is(&rt, alloc, &book, compact)
 }
