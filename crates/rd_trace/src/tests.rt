@@ -5,6 +5,7 @@ ghost use Rattle.std.specs.Prelude.{◌≤◌};
 mod again;
 mod devices;
 mod limits;
+mod long_runs;
 mod texts;
 
 use super::any_book::AnyBook;
