@@ -10,7 +10,7 @@ use Rattle.rd_trace.specs.Traces.{Trace, IsRefusedAt, ring_length}
 use Rattle.rd_trace.specs.Form.{IsTraceText}
 use Rattle.rd_trace.specs.Text.{trace_text}
 use Rattle.rd_trace.specs.Loading.{IsBookOf, LoadsTrace, IsLoadable, LoadsAgain, Replays}
-use Rattle.rd_trace.specs.Values.{parsed, ReadsTrace}
+use Rattle.rd_trace.specs.Values.{parsed_trace, ReadsTrace}
 use Rattle.rd_trace.proofs.FormLemmas.{one_trace}
 use Rattle.rd_trace.proofs.ReplayLemmas.{none_refused}
 
@@ -38,7 +38,7 @@ loads_replayed text t (Err BadTrace) is h = absurd h
 loads_replayed text t (Err (TraceStep n cause)) is h = (t, is, h)
 
 -- the same of a trace that was read, with its events as they are handed on
-pub loads_parsed : (text : List ℕ) (p : ParsedTrace) (events : List Event) (r : Result AnyBook LoadTraceFault) → events ≡ p.events.items → IsTraceText text (parsed p)
+pub loads_parsed : (text : List ℕ) (p : ParsedTrace) (events : List Event) (r : Result AnyBook LoadTraceFault) → events ≡ p.events.items → IsTraceText text (parsed_trace p)
     → Replays (IsBookOf (record { actors = p.actors; events = events; ring = ring_length p.ring })) (record { actors = p.actors; events = events; ring = ring_length p.ring }) r → LoadsTrace text r
 loads_parsed text p events r same is h =
-    loads_replayed text (parsed p) r is (subst (λ es. Replays (IsBookOf (record { actors = p.actors; events = es; ring = ring_length p.ring })) (record { actors = p.actors; events = es; ring = ring_length p.ring }) r) same h)
+    loads_replayed text (parsed_trace p) r is (subst (λ es. Replays (IsBookOf (record { actors = p.actors; events = es; ring = ring_length p.ring })) (record { actors = p.actors; events = es; ring = ring_length p.ring }) r) same h)

@@ -85,17 +85,18 @@ act_spelled a (Starve choice) h = rw (le-leb a 255 h) refl
 
 -- ---- the values of events
 
-small : (a : ℕ) → a ≤ 255 → a < 2 ^ 64
-small a h = omega (arith, h)
+-- the number of an actor is one of 64 bits
+pub byte_fits : (a : ℕ) → a ≤ 255 → a < 2 ^ 64
+byte_fits a h = omega (arith, h)
 
 events_numbers : (es : List Event) → AreInRange es → ItemsHaveNumbers (items_outline (events_data es))
 events_numbers [] h = tt
-events_numbers (e ∷ es) h = (act_numbers e.actor e.act (small e.actor h.0.0) h.0.1, events_numbers es h.1)
+events_numbers (e ∷ es) h = (act_numbers e.actor e.act (byte_fits e.actor h.0.0) h.0.1, events_numbers es h.1)
 
 events_back : (es : List Event) → AreInRange es → of_items (items_outline (events_data es)) ≡ Some (events_data es)
 events_back [] h = refl
 events_back (e ∷ es) h =
-    ap₂ (λ o p. option_and_then (λ d. option_map (item d) p) o) (act_back e.actor e.act (small e.actor h.0.0) h.0.1) (events_back es h.1)
+    ap₂ (λ o p. option_and_then (λ d. option_map (item d) p) o) (act_back e.actor e.act (byte_fits e.actor h.0.0) h.0.1) (events_back es h.1)
 
 events_depth : (es : List Event) → items_depth (items_outline (events_data es)) ≤ 1
 events_depth [] = omega arith

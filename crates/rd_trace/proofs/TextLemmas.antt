@@ -15,7 +15,7 @@ use Rattle.rd_trace.specs.Traces.{Trace, IsActInRange, AreInRange, IsInRange}
 use Rattle.rd_trace.specs.Form.{IsTraceText}
 use Rattle.rd_trace.specs.Text.{choice_text, act_text, later_events_text, events_text, trace_text}
 use Rattle.rd_trace.specs.Values.{act_data, events_data, trace_data}
-use Rattle.rd_trace.proofs.ReadLemmas.{read-trace, trace_spelled}
+use Rattle.rd_trace.proofs.ReadLemmas.{byte_fits, read-trace, trace_spelled}
 
 choice_same : (b : Bool) → compact_text (boolean b) ≡ choice_text b
 choice_same true = refl
@@ -87,20 +87,17 @@ trace_whole t = rw (events_whole t.events) refl
 number_utf8 : (n : ℕ) → n < 2 ^ 64 → IsUtf8 (decimal n)
 number_utf8 n h = IsUtf8-from_ascii (decimal n) (IsAscii-decimal n h)
 
-small : (a : ℕ) → a ≤ 255 → a < 2 ^ 64
-small a h = omega (arith, h)
-
 choice_utf8 : (b : Bool) → IsUtf8 (choice_text b)
 choice_utf8 true = IsUtf8-are_ascii (codes "true") refl
 choice_utf8 false = IsUtf8-are_ascii (codes "false") refl
 
 short_utf8 : (w : List ℕ) (a : ℕ) → IsUtf8 w → a ≤ 255 → IsUtf8 (w ++ decimal a ++ codes "]")
-short_utf8 w a h k = IsUtf8-append _ (codes "]") (IsUtf8-append w _ h (number_utf8 a (small a k))) (IsUtf8-are_ascii (codes "]") refl)
+short_utf8 w a h k = IsUtf8-append _ (codes "]") (IsUtf8-append w _ h (number_utf8 a (byte_fits a k))) (IsUtf8-are_ascii (codes "]") refl)
 
 long_utf8 : (w x : List ℕ) (a : ℕ) → IsUtf8 w → IsUtf8 x → a ≤ 255 → IsUtf8 (w ++ decimal a ++ codes "," ++ x ++ codes "]")
 long_utf8 w x a h y k =
     IsUtf8-append _ (codes "]")
-    (IsUtf8-append _ x (IsUtf8-append _ (codes ",") (IsUtf8-append w _ h (number_utf8 a (small a k))) (IsUtf8-are_ascii (codes ",") refl)) y)
+    (IsUtf8-append _ x (IsUtf8-append _ (codes ",") (IsUtf8-append w _ h (number_utf8 a (byte_fits a k))) (IsUtf8-are_ascii (codes ",") refl)) y)
     (IsUtf8-are_ascii (codes "]") refl)
 
 act_utf8 : (a : ℕ) (act : Act) → a ≤ 255 → IsActInRange act → IsUtf8 (act_text a act)

@@ -21,7 +21,7 @@ number_at key d = option_and_then whole_number (get key d)
 abbrev pub actor_number : Data → Option ℕ
 actor_number d = option_and_then (λ n. if nat_le n 255 then Some n else None) (whole_number d)
 
--- what an actor is told to do, by a word alone
+-- the act that a word alone says
 abbrev pub act_of_word : List ℕ → Option Act
 act_of_word word =
     if bytes_eq word (codes "go") then Some Go
@@ -29,7 +29,7 @@ act_of_word word =
     else if bytes_eq word (codes "adeq") then Some ADeq
     else None
 
--- what an actor is told to do, by a word and a value: the number that is enqueued, or the choice
+-- the act that a word and a value say: the number that is enqueued, or the choice
 abbrev pub act_with : List ℕ → Data → Option Act
 act_with word d =
     if bytes_eq word (codes "enq") then option_map Enq (whole_number d)
@@ -37,9 +37,9 @@ act_with word d =
     else if bytes_eq word (codes "starve") then option_map Starve (as_bool d)
     else None
 
--- the event of an actor that is told this
+-- the event of an actor and its act
 abbrev pub event_by : Option Act → Option ℕ → Option Event
-event_by act actor = option_and_then (λ told. option_map (λ n. record { actor = n; act = told }) actor) act
+event_by act actor = option_and_then (λ known. option_map (λ n. record { actor = n; act = known }) actor) act
 
 -- an event is a list of its word and its actor, and of the number or the choice if its word takes one
 abbrev pub event_of_items : Items → Option Event

@@ -44,7 +44,7 @@ abbrev pub LoadsAgain : Trace → Result AnyBook LoadTraceFault → Type 0
 LoadsAgain t (Ok book) = IsBookOf t book
 LoadsAgain t (Err fault) = fault ≡ NoMemory
 
--- what making the events of a trace happen in its fresh world gives. No public clause cites it
+-- what making the events of a trace happen in its fresh world gives
 abbrev pub Replays : {B : Type 0} → (B → Type 0) → Trace → Result B LoadTraceFault → Type 0
 Replays IsBook t (Ok book) = GoesThrough t t.events × IsBook book
 Replays IsBook t (Err NoMemory) = Unit {0}

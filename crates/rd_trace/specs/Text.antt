@@ -11,7 +11,7 @@ abbrev pub choice_text : Bool → List ℕ
 choice_text true = codes "true"
 choice_text false = codes "false"
 
--- what an actor is told to do
+-- an act of an actor
 abbrev pub act_text : ℕ → Act → List ℕ
 act_text actor (Enq x) = codes "[\"enq\"," ++ decimal actor ++ codes "," ++ decimal x ++ codes "]"
 act_text actor Deq = codes "[\"deq\"," ++ decimal actor ++ codes "]"

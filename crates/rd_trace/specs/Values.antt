@@ -19,7 +19,7 @@ short_data word actor = array (item (string word) (item (number (unsigned actor)
 abbrev pub long_data : List ℕ → ℕ → Data → Data
 long_data word actor d = array (item (string word) (item (number (unsigned actor)) (item d no_items)))
 
--- the value of what an actor is told to do
+-- the value of an act of an actor
 abbrev pub act_data : ℕ → Act → Data
 act_data actor (Enq x) = long_data (codes "enq") actor (number (unsigned x))
 act_data actor Deq = short_data (codes "deq") actor
@@ -42,8 +42,8 @@ trace_data t = object (
     (member (codes "version") (number (unsigned 1)) no_members))))
 
 -- the trace that was read
-abbrev pub parsed : ParsedTrace → Trace
-parsed p = record { actors = p.actors; events = p.events.items; ring = ring_length p.ring }
+abbrev pub parsed_trace : ParsedTrace → Trace
+parsed_trace p = record { actors = p.actors; events = p.events.items; ring = ring_length p.ring }
 
 -- what is read of a list of events
 abbrev pub ReadsEvents : Items → Result (Vec Event Global) LoadTraceFault → Type 0
@@ -54,7 +54,7 @@ ReadsEvents ds (Err (TraceStep n cause)) = ⊥
 
 -- what is read of a value, or of a text, which is a trace or none
 abbrev pub ReadsTrace : (Trace → Type 0) → Result ParsedTrace LoadTraceFault → Type 0
-ReadsTrace IsRead (Ok p) = IsRead (parsed p)
+ReadsTrace IsRead (Ok p) = IsRead (parsed_trace p)
 ReadsTrace IsRead (Err NoMemory) = Unit {0}
 ReadsTrace IsRead (Err BadTrace) = (t : Trace) → IsRead t → ⊥
 ReadsTrace IsRead (Err (TraceStep n cause)) = ⊥

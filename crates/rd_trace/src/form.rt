@@ -96,7 +96,7 @@ fn number_at(value: &Value, key: &str) -> Option<u64>
     value.get(key).and_then(Value::as_u64)
 }
 
-/// The events that values spell, each one in its place.
+/// The events that values spell, in their order.
 fn events_in(alloc: Global, list: &Vec<Value>) -> Result<Vec<Event>, LoadTraceFault>
     ensures { ReadsEvents (items_view list.now.items) result }
 {
@@ -120,9 +120,9 @@ fn event_in(value: &Value) -> Option<Event>
     ensures { result ≡ event_of (view value.now) }
 {
     let items = value.as_array()?;
-    match items.len() {
-        2 => short_event(&items[0], &items[1]),
-        3 => long_event(&items[0], &items[1], &items[2]),
+    match items.as_slice() {
+        [word, actor] => short_event(word, actor),
+        [word, actor, value] => long_event(word, actor, value),
         _ => None,
     }
 }
@@ -149,33 +149,27 @@ fn long_event(word: &Value, actor: &Value, value: &Value) -> Option<Event>
     })
 }
 
-/// What an actor is told to do by a word alone.
+/// The act that a word alone says.
 fn act_of_word(word: &str) -> Option<Act>
     ensures { result ≡ act_of_word word.now }
 {
-    if word == "go" {
-        Some(Act::Go)
-    } else if word == "deq" {
-        Some(Act::Deq)
-    } else if word == "adeq" {
-        Some(Act::ADeq)
-    } else {
-        None
+    match word {
+        "go" => Some(Act::Go),
+        "deq" => Some(Act::Deq),
+        "adeq" => Some(Act::ADeq),
+        _ => None,
     }
 }
 
-/// What an actor is told to do by a word and a value.
+/// The act that a word and a value say.
 fn act_with(word: &str, value: &Value) -> Option<Act>
     ensures { result ≡ act_with word.now (view value.now) }
 {
-    if word == "enq" {
-        Some(Act::Enq(value.as_u64()?))
-    } else if word == "aenq" {
-        Some(Act::AEnq(value.as_u64()?))
-    } else if word == "starve" {
-        Some(Act::Starve(value.as_bool()?))
-    } else {
-        None
+    match word {
+        "enq" => Some(Act::Enq(value.as_u64()?)),
+        "aenq" => Some(Act::AEnq(value.as_u64()?)),
+        "starve" => Some(Act::Starve(value.as_bool()?)),
+        _ => None,
     }
 }
 
