@@ -5,7 +5,6 @@ use super::super::devices::sources::ReadSource;
 use super::super::faults::ScriptFault;
 use super::super::script::run;
 use super::runs::poised;
-use rd_cell::Refusal;
 use std::alloc::Global;
 use std::io;
 use std::io::{Read, Write};
@@ -92,12 +91,15 @@ impl<'a> Write for TestWriter<'a> {
     }
 }
 
-/// What a script over a poised world answers and writes.
-fn run_over(
+/// Runs a script over its devices and a poised world, and compares what it answers and writes.
+fn run_is(
+    rt: &impl Abort,
     alloc: Global,
     script: &str,
     devices: Devices,
-) -> Result<(Result<u64, ScriptFault>, Vec<u8>), Refusal> {
+    answer: Result<u64, ScriptFault>,
+    report: &str,
+) -> Result<(), Fail> {
     let mut taken = Vec::new(alloc);
     let reader = TestReader {
         rest: script.as_bytes(),
@@ -109,27 +111,15 @@ fn run_over(
         devices,
         interrupts_next: devices.interrupted,
     };
-    let mut book = poised::<4>(alloc)?;
-    let answer = run(
+    let said = run(
         &mut ReadSource::new(reader),
         &mut WriteSink::new(writer),
-        &mut book,
+        &mut poised::<4>(alloc)?,
     );
-    Ok((answer, taken))
-}
-
-/// Runs a script over its devices, and compares what it answers and writes.
-fn run_is(
-    rt: &impl Abort,
-    alloc: Global,
-    script: &str,
-    devices: Devices,
-    answer: Result<u64, ScriptFault>,
-    report: &str,
-) -> Result<(), Fail> {
-    let (said, written) = run_over(alloc, script, devices)?;
-    let wrote = written.as_slice() == report.as_bytes();
-    assert!(rt; said == answer && wrote, "script {script}, report {report}");
+    assert!(rt;
+        said == answer && taken.as_slice() == report.as_bytes(),
+        "report {report}"
+    );
     Ok(())
 }
 
