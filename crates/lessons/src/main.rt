@@ -3,14 +3,10 @@
 //! A page has its script beside the replies in a table of its own. One line for each lesson says whether they are the same.
 #![tactic(auto)]
 
-ghost use Rattle.std.specs.Prelude.{◌≤◌};
-
-use anyhow::{Result, bail, ensure};
-use rd_journal::Session;
-use rd_marks::Book;
-use rd_script::{ReadSource, WriteSink, run};
-use rd_step::World;
-use rd_trace::{AnyBook, load_trace};
+use anyhow::Result;
+use rd_program::{play, resume};
+use rd_script::{ReadSource, WriteSink};
+use rd_trace::Ring;
 use std::alloc::Global;
 use std::fs;
 use std::process::ExitCode;
@@ -63,9 +59,9 @@ fn is_as_its_page_says(rt: &HostRuntime, alloc: Global, name: &str) -> Result<bo
         let trace = fs::read_to_string(rt, format!(in alloc; "{name}.trace")?.as_str())?;
         replies_over(alloc, &trace, &script)?
     } else if page.contains(RING_OF_TWO) {
-        replies_from_start::<2>(alloc, &script)?
+        replies_from_start(alloc, Ring::Two, &script)?
     } else {
-        replies_from_start::<4>(alloc, &script)?
+        replies_from_start(alloc, Ring::Four, &script)?
     };
     let table = table_of(alloc, &script, &replies)?;
     Ok(page.contains(table.as_str()))
@@ -73,38 +69,27 @@ fn is_as_its_page_says(rt: &HostRuntime, alloc: Global, name: &str) -> Result<bo
 
 /// The replies to a script over the run of a trace.
 fn replies_over(alloc: Global, trace: &str, script: &str) -> Result<String> {
-    match load_trace(alloc, trace.as_bytes()) {
-        Ok(AnyBook::Two(book)) => replies_to(alloc, book, script),
-        Ok(AnyBook::Four(book)) => replies_to(alloc, book, script),
-        Ok(AnyBook::Eight(book)) => replies_to(alloc, book, script),
-        Err(_) => bail!("the trace is refused"),
-    }
+    let mut written = Vec::new(alloc);
+    resume(
+        alloc,
+        trace.as_bytes(),
+        &mut ReadSource::new(script.as_bytes()),
+        &mut WriteSink::new(&mut written),
+    )?;
+    Ok(String::from_utf8(written)?)
 }
 
 /// The replies to a script over a fresh world.
-fn replies_from_start<const R: usize>(alloc: Global, script: &str) -> Result<String>
-    requires positive { 1 ≤ R }
-    requires small { R ≤ 64 }
-{
-    let Ok(world) = World::<R>::fresh(alloc, ACTORS) else {
-        bail!("out of memory");
-    };
-    replies_to(
-        alloc,
-        Book::open(alloc, Session::open(alloc, world)),
-        script,
-    )
-}
-
-/// The replies to a script over a book.
-fn replies_to<const R: usize>(alloc: Global, mut book: Book<R>, script: &str) -> Result<String> {
+fn replies_from_start(alloc: Global, ring: Ring, script: &str) -> Result<String> {
     let mut written = Vec::new(alloc);
-    let ran = run(
+    play(
+        alloc,
         &mut ReadSource::new(script.as_bytes()),
         &mut WriteSink::new(&mut written),
-        &mut book,
-    );
-    ensure!(ran.is_ok(), "a device failed");
+        ACTORS,
+        ring,
+        false,
+    )?;
     Ok(String::from_utf8(written)?)
 }
 

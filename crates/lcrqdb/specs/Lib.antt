@@ -1,4 +1,0 @@
-pub mod Options
-pub mod CommandLine
-pub mod Outcome
-pub mod Program

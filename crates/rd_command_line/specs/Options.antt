@@ -1,0 +1,45 @@
+-- What the command line may ask for.
+use Rattle.std.specs.Prelude.{◌≡◌, ◌≤◌, ℕ, ⊤, Bool, true, false, List, codes}
+use Rattle.clap.specs.Words.{kind_of}
+use Rattle.clap.specs.declared.error.Error.{Error}
+use Rattle.clap.specs.declared.error.kind.ErrorKind.{ErrorKind}
+use Rattle.clap.specs.declared.error.kind.ErrorKind.TheVariants.{DisplayHelp, DisplayVersion, OutOfMemory}
+use Rattle.rd_trace.specs.declared.rings.Ring.{Ring}
+use Rattle.rd_trace.specs.declared.rings.Ring.TheVariants.{Two, Four, Eight}
+use Rattle.rd_command_line.specs.declared.requests.Options.{Options}
+use Rattle.rd_command_line.specs.declared.requests.Options.TheVariants.{Run, Load}
+use Rattle.rd_command_line.specs.declared.requests.OptionsFault.{OptionsFault}
+use Rattle.rd_command_line.specs.declared.requests.OptionsFault.TheVariants.{Shown, Refused, NoMemory}
+
+-- how the command line spells a ring
+abbrev pub ring_text : Ring → List ℕ
+ring_text Two = codes "2"
+ring_text Four = codes "4"
+ring_text Eight = codes "8"
+
+-- the text that clap keeps of a flag
+abbrev pub flag_text : Bool → List ℕ
+flag_text true = codes "true"
+flag_text false = codes "false"
+
+-- the number of actors that is asked for is one that a world may have
+abbrev pub AreInRange : Options → Type 0
+AreInRange (Run file actors ring trace) = (1 ≤ actors) × (actors ≤ 16)
+AreInRange (Load file) = ⊤
+
+-- the fault of a command line at which clap fails by an error of this kind
+abbrev pub fault_by : ErrorKind → Error → OptionsFault
+fault_by DisplayHelp error = Shown error
+fault_by DisplayVersion error = Shown error
+fault_by OutOfMemory error = NoMemory
+fault_by _ error = Refused error
+
+-- the fault of a command line at which clap fails by this error
+abbrev pub options_fault : Error → OptionsFault
+options_fault error = fault_by (kind_of error) error
+
+-- the command line is refused by a mistake of this kind, or for want of memory
+abbrev pub IsMistake : ErrorKind → OptionsFault → Type 0
+IsMistake kind (Refused error) = kind_of error ≡ kind
+IsMistake kind (Shown error) = ⊥
+IsMistake kind NoMemory = ⊤

@@ -1,0 +1,184 @@
+//! Command lines, each with the options that it gives or with how it is refused.
+
+use super::super::command_line::options;
+use super::super::requests::{Options, OptionsFault};
+use rd_trace::Ring;
+use std::alloc::Global;
+use std::fmt::Write;
+use std::process::Abort;
+use std::test::Fail;
+
+/// What a command line must come to.
+#[derive(Clone, Copy)]
+enum Wanted {
+    /// To run a script: the file, the actors, the ring, and whether the trace follows.
+    Runs(&'static str, u8, Ring, bool),
+    /// To load a trace: the file.
+    Loads(&'static str),
+    /// A text that begins and goes on so.
+    Shown(&'static str, &'static str),
+    /// A mistake whose text begins so.
+    Refused(&'static str),
+}
+
+/// What the words come to, which must be the wanted.
+fn compare(rt: &impl Abort, alloc: Global, words: &[&str], wanted: Wanted) -> Result<(), Fail> {
+    match (options(alloc, words), wanted) {
+        (Ok(read), Wanted::Runs(file, actors, ring, trace)) => {
+            let options = Options::Run {
+                file,
+                actors,
+                ring,
+                trace,
+            };
+            assert_eq!(rt; read, options, "{words:?}");
+        }
+        (Ok(read), Wanted::Loads(file)) => {
+            assert_eq!(rt; read, Options::Load { file }, "{words:?}");
+        }
+        (Err(OptionsFault::Shown(error)), Wanted::Shown(beginning, part)) => {
+            let mut text = String::new(alloc);
+            write!(text, "{error}")?;
+            assert!(rt; text.starts_with(beginning), "{words:?}: {text}");
+            assert!(rt; text.contains(part), "{words:?}: {text}");
+        }
+        (Err(OptionsFault::Refused(error)), Wanted::Refused(beginning)) => {
+            let mut text = String::new(alloc);
+            write!(text, "{error}")?;
+            assert!(rt; text.starts_with(beginning), "{words:?}: {text}");
+        }
+        (Ok(read), _) => panic!(rt; "{words:?}: {read:?}"),
+        (Err(fault), _) => panic!(rt; "{words:?}: {fault:?}"),
+    }
+    Ok(())
+}
+
+#[test]
+fn run_takes_a_file_and_three_options(rt: HostRuntime) -> Result<(), Fail> {
+    let rows: [(&[&str], Wanted); 12] = [
+        (
+            &["lcrqdb", "run", "a.txt"],
+            Wanted::Runs("a.txt", 4, Ring::Four, false),
+        ),
+        (
+            &["lcrqdb", "run", "-"],
+            Wanted::Runs("-", 4, Ring::Four, false),
+        ),
+        (
+            &["lcrqdb", "run", "--ring", "2", "a"],
+            Wanted::Runs("a", 4, Ring::Two, false),
+        ),
+        (
+            &["lcrqdb", "run", "--ring=4", "a"],
+            Wanted::Runs("a", 4, Ring::Four, false),
+        ),
+        (
+            &["lcrqdb", "run", "a", "--ring=8"],
+            Wanted::Runs("a", 4, Ring::Eight, false),
+        ),
+        (
+            &["lcrqdb", "run", "--actors", "1", "a"],
+            Wanted::Runs("a", 1, Ring::Four, false),
+        ),
+        (
+            &["lcrqdb", "run", "a", "--actors=16"],
+            Wanted::Runs("a", 16, Ring::Four, false),
+        ),
+        (
+            &["lcrqdb", "run", "--ring", "8", "a", "--actors", "2"],
+            Wanted::Runs("a", 2, Ring::Eight, false),
+        ),
+        (
+            &["lcrqdb", "run", "--", "--ring"],
+            Wanted::Runs("--ring", 4, Ring::Four, false),
+        ),
+        (
+            &["lcrqdb", "run", "a", "--trace"],
+            Wanted::Runs("a", 4, Ring::Four, true),
+        ),
+        (
+            &["lcrqdb", "run", "--trace", "a", "--ring=2"],
+            Wanted::Runs("a", 4, Ring::Two, true),
+        ),
+        (&["lcrqdb", "load", "a.json"], Wanted::Loads("a.json")),
+    ];
+    for (words, wanted) in rows {
+        compare(&rt, rt.alloc(), words, wanted)?;
+    }
+    Ok(())
+}
+
+#[test]
+fn other_command_lines_are_refused(rt: HostRuntime) -> Result<(), Fail> {
+    let rows: [(&[&str], &str); 25] = [
+        (&[], "error: "),
+        (&["lcrqdb"], "error: "),
+        (&["lcrqdb", "walk", "a"], "error: "),
+        (&["lcrqdb", "--ring", "2", "run", "a"], "error: "),
+        (&["lcrqdb", "run"], "error: "),
+        (&["lcrqdb", "run", "--ring", "2"], "error: "),
+        (&["lcrqdb", "run", "a", "b"], "error: "),
+        (&["lcrqdb", "run", "--fast", "a"], "error: "),
+        (&["lcrqdb", "run", "-f", "a"], "error: "),
+        (&["lcrqdb", "run", "--ring", "3", "a"], "error: "),
+        (&["lcrqdb", "run", "--ring", "16", "a"], "error: "),
+        (&["lcrqdb", "run", "--ring=02", "a"], "error: "),
+        (&["lcrqdb", "run", "a", "--ring"], "error: "),
+        (&["lcrqdb", "run", "--actors", "0", "a"], "error: "),
+        (&["lcrqdb", "run", "--actors", "17", "a"], "error: "),
+        (&["lcrqdb", "run", "--actors", "x", "a"], "error: "),
+        (&["lcrqdb", "run", "--actors=-1", "a"], "error: "),
+        (
+            &["lcrqdb", "run", "--ring", "2", "--ring", "2", "a"],
+            "error: ",
+        ),
+        (&["lcrqdb", "run", "a", "--trace", "--trace"], "error: "),
+        (&["lcrqdb", "run", "a", "--trace=yes"], "error: "),
+        (&["lcrqdb", "load"], "error: "),
+        (&["lcrqdb", "load", "a", "b"], "error: "),
+        (&["lcrqdb", "load", "--ring", "2", "a"], "error: "),
+        (&["lcrqdb", "load", "--actors", "2", "a"], "error: "),
+        (&["lcrqdb", "load", "--trace", "a"], "error: "),
+    ];
+    for (words, beginning) in rows {
+        compare(&rt, rt.alloc(), words, Wanted::Refused(beginning))?;
+    }
+    Ok(())
+}
+
+#[test]
+fn help_and_the_version_are_shown(rt: HostRuntime) -> Result<(), Fail> {
+    let about = "A causal reversible debugger for LCRQ\n";
+    let run = "Does the lines of a script";
+    let rows: [(&[&str], Wanted); 7] = [
+        (
+            &["lcrqdb", "--help"],
+            Wanted::Shown(about, "Usage: lcrqdb <COMMAND>"),
+        ),
+        (
+            &["lcrqdb", "-h"],
+            Wanted::Shown(about, "Usage: lcrqdb <COMMAND>"),
+        ),
+        (
+            &["lcrqdb", "help"],
+            Wanted::Shown(about, "Usage: lcrqdb <COMMAND>"),
+        ),
+        (
+            &["lcrqdb", "run", "--help"],
+            Wanted::Shown(run, "[possible values: 2, 4, 8]"),
+        ),
+        (
+            &["lcrqdb", "help", "run"],
+            Wanted::Shown(run, "--actors <COUNT>"),
+        ),
+        (
+            &["lcrqdb", "--version"],
+            Wanted::Shown("lcrqdb 0.1.0\n", ""),
+        ),
+        (&["lcrqdb", "-V"], Wanted::Shown("lcrqdb 0.1.0\n", "")),
+    ];
+    for (words, wanted) in rows {
+        compare(&rt, rt.alloc(), words, wanted)?;
+    }
+    Ok(())
+}

@@ -1,0 +1,107 @@
+//! How the program ends where its words give no options.
+
+use super::super::answering::{fault_of, perform};
+use super::super::command_line::not_text;
+use super::super::requests::OptionsFault;
+use rd_program::ProgramFault;
+use rd_script::{ReadSource, WriteSink};
+use std::alloc::Global;
+use std::process::{Abort, ExitCode};
+use std::test::Fail;
+
+/// What an end leaves.
+#[derive(Drop)]
+struct Left {
+    /// The status that it ends with.
+    status: ExitCode,
+    /// What it writes to standard output.
+    output: Vec<u8>,
+    /// What it writes to standard error.
+    errors: Vec<u8>,
+}
+
+/// What is left after these words, with nothing on standard input.
+fn left_after(
+    rt: &HostRuntime,
+    alloc: Global,
+    words: Result<&[&str], ProgramFault>,
+) -> Result<Left, Fail> {
+    let words = match words {
+        Ok(words) => Ok(Vec::from_slice(alloc, words)?),
+        Err(fault) => Err(fault),
+    };
+    let mut output = Vec::new(alloc);
+    let mut errors = Vec::new(alloc);
+    let status = perform(
+        rt,
+        alloc,
+        words,
+        &mut ReadSource::new(b"".as_slice()),
+        &mut WriteSink::new(&mut output),
+        &mut WriteSink::new(&mut errors),
+    );
+    Ok(Left {
+        status,
+        output,
+        errors,
+    })
+}
+
+#[test]
+fn help_goes_to_standard_output_with_status_0(rt: HostRuntime) -> Result<(), Fail> {
+    let rows: [(&[&str], &str); 3] = [
+        (
+            &["lcrqdb", "--help"],
+            "A causal reversible debugger for LCRQ\n",
+        ),
+        (&["lcrqdb", "run", "-h"], "Does the lines of a script"),
+        (&["lcrqdb", "--version"], "lcrqdb 0.1.0\n"),
+    ];
+    for (words, beginning) in rows {
+        let left = left_after(&rt, rt.alloc(), Ok(words))?;
+        assert_eq!(rt; left.status, ExitCode::SUCCESS, "{words:?}");
+        assert!(rt; left.output.starts_with(beginning.as_bytes()), "{words:?}");
+        assert!(rt; left.errors.is_empty(), "{words:?}");
+    }
+    Ok(())
+}
+
+#[test]
+fn a_mistake_goes_to_standard_error_with_status_2(rt: HostRuntime) -> Result<(), Fail> {
+    let rows: [&[&str]; 4] = [
+        &["lcrqdb"],
+        &["lcrqdb", "walk"],
+        &["lcrqdb", "run"],
+        &["lcrqdb", "run", "--ring", "3", "a"],
+    ];
+    for words in rows {
+        let left = left_after(&rt, rt.alloc(), Ok(words))?;
+        assert_eq!(rt; left.status, ExitCode::from(2), "{words:?}");
+        assert!(rt; left.output.is_empty(), "{words:?}");
+        assert!(rt; left.errors.starts_with(b"error: "), "{words:?}");
+    }
+    Ok(())
+}
+
+#[test]
+fn a_word_that_is_no_text_is_a_mistake(rt: HostRuntime) -> Result<(), Fail> {
+    let fault = fault_of(rt.alloc(), not_text(rt.alloc()));
+    let left = left_after(&rt, rt.alloc(), Err(fault))?;
+    let text = "error: invalid UTF-8 was detected in one or more arguments\n";
+    assert_eq!(rt; left.status, ExitCode::from(2));
+    assert!(rt; left.output.is_empty());
+    assert!(rt; left.errors.starts_with(text.as_bytes()));
+    Ok(())
+}
+
+#[test]
+fn a_command_line_that_is_refused_memory_ends_with_status_1(rt: HostRuntime) -> Result<(), Fail> {
+    let fault = fault_of(rt.alloc(), OptionsFault::NoMemory);
+    let left = left_after(&rt, rt.alloc(), Err(fault))?;
+    assert_eq!(rt; left.status, ExitCode::FAILURE);
+    assert_eq!(rt;
+        left.errors.as_slice(),
+        "lcrqdb: refused 20 NoMemory\n".as_bytes()
+    );
+    Ok(())
+}
