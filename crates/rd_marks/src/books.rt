@@ -134,11 +134,10 @@ impl<const R: usize> Book<R> {
         let Some(others) = self.marks.get(&other) else {
             return Err(Refusal::NoMark);
         };
-        Ok(are_equivalent(
-            self.alloc,
-            ones.as_slice(),
-            others.as_slice(),
-        )?)
+        match are_equivalent(self.alloc, ones.as_slice(), others.as_slice()) {
+            Err(_) => Err(Refusal::NoMemory),
+            Ok(same) => Ok(same),
+        }
     }
 
     /// How many bookmarks there are.

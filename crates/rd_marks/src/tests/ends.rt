@@ -108,7 +108,10 @@ fn a_step_at_an_end_is_refused_by_session_and_book(rt: HostRuntime) -> Result<()
         assert_eq!(rt; book.obey(Command::Go(1)), Err(end.refusal), "{end:?}");
         let session = book.session();
         assert_eq!(rt; (session.len(), session.undone_len()), (0, 0));
-        assert_eq!(rt; session.world().actor(1), Some(Actor::calling(end.pc, end.op)));
+        assert_eq!(rt;
+            session.world().actor(1),
+            Some(Actor::calling(end.pc, end.op))
+        );
     }
     Ok(())
 }

@@ -104,9 +104,18 @@ fn is_refused_memory<const R: usize>(alloc: Global, actors: u8) -> Result<bool, 
 #[test]
 fn no_command_is_refused_memory_that_is_there(rt: HostRuntime) -> Result<(), Fail> {
     for actors in 1..17u8 {
-        assert!(rt; !is_refused_memory::<2>(rt.alloc(), actors)?, "{actors} actors, rings of 2");
-        assert!(rt; !is_refused_memory::<4>(rt.alloc(), actors)?, "{actors} actors, rings of 4");
-        assert!(rt; !is_refused_memory::<8>(rt.alloc(), actors)?, "{actors} actors, rings of 8");
+        assert!(rt;
+            !is_refused_memory::<2>(rt.alloc(), actors)?,
+            "{actors} actors, rings of 2"
+        );
+        assert!(rt;
+            !is_refused_memory::<4>(rt.alloc(), actors)?,
+            "{actors} actors, rings of 4"
+        );
+        assert!(rt;
+            !is_refused_memory::<8>(rt.alloc(), actors)?,
+            "{actors} actors, rings of 8"
+        );
     }
     Ok(())
 }
@@ -122,7 +131,10 @@ fn are_answered(alloc: Global, calls: usize) -> Result<bool, Refusal> {
         step: 1,
         reply: None,
     });
-    let are_refused = answers.iter().skip(1).all(|answer| *answer == Err(Refusal::NotIdle));
+    let are_refused = answers
+        .iter()
+        .skip(1)
+        .all(|answer| *answer == Err(Refusal::NotIdle));
     Ok(answers.len() == calls && (calls == 0 || answers[0] == first) && are_refused)
 }
 
