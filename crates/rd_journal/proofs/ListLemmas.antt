@@ -22,12 +22,6 @@ nth [] k h = absurd (omega arith)
 nth (x ∷ l) zero h = (x, refl)
 nth (x ∷ l) (suc k) h = nth l k (omega arith)
 
--- what stands before the cut one further on
-pub take_one_more : {X : Type 0} (l : List X) (k : ℕ) (x : X) → k < length l → x ≡ get_or l k x → take (k + 1) l ≡ take k l ++ x ∷ []
-take_one_more {X} l k x h e =
-    let n : k + 1 ≡ suc k = omega arith in
-    ap (λ (j : ℕ). take j l) n ∙ take-suc l k x h ∙ ap (λ (y : X). take k l ++ y ∷ []) (sym e)
-
 -- what stands behind the cut
 pub drop_one_less : {X : Type 0} (l : List X) (k : ℕ) (x : X) → k < length l → x ≡ get_or l k x → drop k l ≡ x ∷ drop (k + 1) l
 drop_one_less {X} l k x h e =
@@ -35,12 +29,6 @@ drop_one_less {X} l k x h e =
     drop-cons l k x h ∙ (λ i. sym e i ∷ drop (n i) l)
 
 -- a cut moved back within what stands before it
-pub take_before : {X : Type 0} (l : List X) (k m n : ℕ) → m ≤ length l → k + n ≡ m → take k l ≡ take (length (take m l) - n) (take m l)
-take_before {X} l k m n h e =
-    let len : k ≡ length (take m l) - n = omega (arith, length-take-le m l h) in
-    let within : k ≤ m = omega arith in
-    sym (take-take k m l within) ∙ ap (λ (j : ℕ). take j (take m l)) len
-
 pub drop_before : {X : Type 0} (l : List X) (k m n : ℕ) → m ≤ length l → k + n ≡ m
     → drop k l ≡ drop (length (take m l) - n) (take m l) ++ drop m l
 drop_before {X} l k m n h e =
@@ -114,8 +102,3 @@ behind_from {X} es k l some below within =
     let xs = take (k - 1) (take l es) ++ drop k (take l es) in
     let ys = take 1 (drop (k - 1) (take l es)) ++ drop l es in
     ap (λ (n : ℕ). drop n (xs ++ ys)) (sym (others_length es k l some below within)) ∙ drop-append_seam xs ys
-
--- an element that is put behind the first ones of the same list
-pub put_behind : {A : Type 0} (n : ℕ) (xs same cut longer : List A) (x : A) → same ≡ xs → cut ≡ take n same → longer ≡ cut ++ x ∷ []
-    → longer ≡ take n xs ++ x ∷ []
-put_behind n xs same cut longer x h k put = put ∙ ap (λ ys. ys ++ x ∷ []) (k ∙ ap (λ ys. take n ys) h)

@@ -1,17 +1,15 @@
 -- Undoing one live step alone, on which no later one depends, over whole journals.
-use Rattle.std.proofs.Common.{◌≡◌, ℕ, zero, suc, ◌+◌, ◌-◌, ◌<◌, ◌≤◌, ◌⊎◌, inl, inr, false, nat_lt, sym, ◌∙◌, ap, subst, arith, List, [], ◌∷◌, ◌++◌, length, take, drop, get_or, slice_get, Option, Some, None, Result, Err}
+use Rattle.std.proofs.Common.{◌≡◌, ℕ, zero, suc, ◌+◌, ◌-◌, ◌<◌, ◌≤◌, ◌⊎◌, inl, inr, false, nat_lt, sym, ◌∙◌, ap, subst, arith, List, [], ◌∷◌, ◌++◌, length, take, drop, get_or, slice_get, Option, Some, None, Result, Err, length-append}
 use Rattle.std.proofs.lemmas.Bool.{cases_Bool, cond-true, cond-false, lt-ltb, le-ltb}
-use Rattle.std.proofs.lemmas.List.{map-append, take-map, drop-map, take-append-drop, length-map, length-take-le, get_or-take}
+use Rattle.std.proofs.lemmas.List.{map-append, take-map, drop-map, take-append-drop, length-map}
 use Rattle.std.proofs.lemmas.Option.{slice_get-get_or}
-use Rattle.rd_step.specs.Prelude.{Refusal, NoSuchStep, depends, IsFree, first_dependant, without, Ran, run}
+use Rattle.rd_step.specs.Prelude.{Refusal, NoSuchStep, depends, IsFree, first_dependant, without, Ran, run, MOST_STEPS}
 use Rattle.rd_step.specs.declared.entries.Event.{Event}
 use Rattle.rd_step.specs.declared.entries.Entry.{Entry}
 use Rattle.rd_step.specs.Dependence.{first_from, first_after}
-use Rattle.rd_step.specs.Room.{room_returned}
 use Rattle.rd_step.specs.Laws.{WasStepped, IsTakenOut}
 use Rattle.rd_journal.specs.Journal.{Journal, events, start_of, IsRun}
 use Rattle.rd_journal.specs.Moves.{IsTakenOutAt, IsWithout, answer_unless, answer_at}
-use Rattle.rd_journal.specs.Room.{room_returned_by, HasRoom}
 use Rattle.rd_journal.specs.State.{State, state_of, run_of, dependant_in, one_out, one_out_unless, undo_at}
 use Rattle.rd_journal.proofs.ListLemmas.{drop_one_less}
 use Rattle.rd_journal.proofs.Runs.{MayTakeOut, may_take_out}
@@ -33,13 +31,6 @@ pub record IsNumber (l : List Entry) (k : ℕ) (x : Entry) : Type 0 where
   pub some : 1 ≤ k
   pub within : k ≤ length l
   pub here : x ≡ get_or l (k - 1) x
-
-pub numbered : (es : List Entry) (k l : ℕ) (x : Entry) → 1 ≤ k → k ≤ l → l ≤ length es → x ≡ get_or es (k - 1) x → IsNumber (take l es) k x
-numbered es k l x some below within here = record {
-  some = some;
-  within = omega (arith, length-take-le l es within);
-  here = here ∙ sym (get_or-take l es (k - 1) x (omega arith));
-}
 
 -- its first dependant is looked for from the next position on
 first_behind : (l : List Entry) (k : ℕ) (x : Entry) → IsNumber l k x → first_dependant l k ≡ first_from x (k + 1) (drop k l)
@@ -64,6 +55,18 @@ around_it l k x at = sym (take-append-drop (k - 1) l) ∙ ap (λ (ys : List Entr
 
 -- The journal without it
 
+-- the k-th live record of the old journal is the front of the undone ones
+pub taken_out_front : (k : ℕ) (old new : Journal) (x : Entry) → IsNumber old.live k x → IsTakenOutAt k old new → new.undone ≡ x ∷ old.undone
+taken_out_front k old new x at moved = moved.undone ∙ ap (λ (ys : List Entry). take 1 ys ++ old.undone) (from_it old.live k x at)
+
+-- there are as many records as before
+pub taken_out_few : (k : ℕ) (old new : Journal) (x : Entry) → IsNumber old.live k x → IsTakenOutAt k old new
+    → length old.live + length old.undone ≤ MOST_STEPS → length new.live + length new.undone ≤ MOST_STEPS
+taken_out_few k old new x at moved few =
+    let all = ap length (around_it old.live k x at) ∙ length-append (take (k - 1) old.live) (x ∷ drop k old.live) in
+    let left = ap length moved.live ∙ length-append (take (k - 1) old.live) (drop k old.live) in
+    omega (arith, all, left, ap length (taken_out_front k old new x at moved))
+
 -- the k-th live step of a journal may be undone alone, and each journal that this leaves is a run of the same start
 pub record MayUndoAt (R : ℕ) (old : Journal) (k : ℕ) (x : Entry) : Type 0 where
   pub was : WasStepped R old.world x
@@ -77,9 +80,7 @@ may_undo_around R old k x at may = record { was = may.was; start = start; runs =
     same : (new : Journal) → IsTakenOutAt k old new
         → new ≡ record { world = new.world; live = take (k - 1) old.live ++ drop k old.live; undone = x ∷ old.undone }
     same new moved =
-        let undone : new.undone ≡ x ∷ old.undone =
-        moved.undone ∙ ap (λ (ys : List Entry). take 1 ys ++ old.undone) (from_it old.live k x at) in
-        λ i. record { world = new.world; live = moved.live i; undone = undone i }
+        λ i. record { world = new.world; live = moved.live i; undone = taken_out_front k old new x at moved i }
 
     start : (new : Journal) → IsTakenOut R old.world new.world x may.was → IsTakenOutAt k old new → start_of new ≡ start_of old
     start new out moved =
@@ -96,19 +97,6 @@ may_undo_at R old k x at none runs =
     let cut : IsRun R (record { world = old.world; live = take (k - 1) old.live ++ x ∷ drop k old.live; undone = old.undone }) =
     subst (λ (l : List Entry). IsRun R (record { world = old.world; live = l; undone = old.undone })) (around_it old.live k x at) runs in
     may_undo_around R old k x at (may_take_out R old.world (take (k - 1) old.live) (drop k old.live) old.undone x cut free)
-
--- the room that undoing it gave back is the room that redoing it asks for
-pub taken_out_room : (k : ℕ) (old new : Journal) (x : Entry) (before after : ℕ → ℕ) → IsNumber old.live k x → IsTakenOutAt k old new
-    → HasRoom old.undone before → ((m : ℕ) → after m ≡ before m + room_returned x.place x.old_content m) → HasRoom new.undone after
-taken_out_room k old new x before after at moved has gives = record {
-  at = λ m.
-      let front : new.undone ≡ x ∷ old.undone =
-      moved.undone ∙ ap (λ (ys : List Entry). take 1 ys ++ old.undone) (from_it old.live k x at) in
-      let all : room_returned_by new.undone m ≡ room_returned x.place x.old_content m + room_returned_by old.undone m = ap (λ (ys : List Entry). room_returned_by ys m) front in
-      let a = has.at m in
-      let b = gives m in
-      omega arith;
-}
 
 -- The state without it
 

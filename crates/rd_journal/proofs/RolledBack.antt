@@ -2,19 +2,19 @@
 use Rattle.std.proofs.Common.{◌≡◌, ℕ, zero, suc, ◌+◌, ◌-◌, ◌<◌, ◌≤◌, ◌⊎◌, inl, inr, Bool, true, false, nat_lt, refl, sym, ◌∙◌, ap, subst, arith, List, [], ◌∷◌, ◌++◌, length, take, drop, Result, Ok, Err, length-append}
 use Rattle.std.proofs.Math.Seq.{take-append_seam, drop-append_seam}
 use Rattle.std.proofs.lemmas.Bool.{cond-true, cond-false, lt-ltb, le-ltb}
-use Rattle.std.proofs.lemmas.List.{append_assoc, map-append, take-append-drop, length-map, length-take-le}
+use Rattle.std.proofs.lemmas.List.{append_assoc, map-append, take-append-drop, length-map}
 use Rattle.rd_step.specs.Prelude.{Refusal, NoSuchStep, World, Ran, run, IsWellFormed, closure, marked, unmarked, closure_of, without_closure}
 use Rattle.rd_step.specs.Dependence.{closure_from}
 use Rattle.rd_step.specs.declared.entries.Event.{Event}
 use Rattle.rd_step.specs.declared.entries.Entry.{Entry}
 use Rattle.rd_step.proofs.Inverse.{run-cons}
-use Rattle.rd_journal.specs.Border.{IsSession}
-use Rattle.rd_journal.specs.Journal.{Journal, journal_of, events, world_before, start_of, IsRun}
+use Rattle.rd_journal.specs.Journal.{Journal, events, world_before, start_of, IsRun}
 use Rattle.rd_journal.specs.Moves.{IsMovedBack, IsRolledBack, IsWithoutClosure, roll_answer}
+use Rattle.rd_journal.specs.Records.{IsSession}
 use Rattle.rd_journal.specs.Room.{HasRoom}
 use Rattle.rd_journal.specs.State.{State, state_of, run_of, back_one, times, closure_in, marked_out, roll}
 use Rattle.rd_journal.proofs.Calls.{back_start}
-use Rattle.rd_journal.proofs.Gathering.{cut_at, IsGathered, gathered_run}
+use Rattle.rd_journal.proofs.Gathering.{cut_at, gathered_run}
 use Rattle.rd_journal.proofs.ListLemmas.{nth, drop_one_less}
 use Rattle.rd_journal.proofs.Runs.{middle, run_joined, goes_back}
 
@@ -71,40 +71,50 @@ pub reordered : (R : ℕ) (j : Journal) (k : ℕ) → 1 ≤ k → k ≤ length j
 reordered R j zero some within runs = absurd (omega arith)
 reordered R j (suc i) some within runs = reordered_at R j i (omega arith) runs
 
--- The fields with the closure gathered last
+-- The session with the closure gathered last
 
-pub gathered_journal : (w : World) (es fs : List Entry) (k l f : ℕ) → IsGathered es fs k l f → journal_of w fs l ≡ closure_last (journal_of w es l) k
-gathered_journal w es fs k l f g = λ i. record { world = w; live = g.moved i; undone = g.behind i }
+-- the closure is behind the other live records, and all else is as it was
+pub record IsGatheredLast (k : ℕ) (old new : Journal) : Type 0 where
+  pub world : new.world ≡ old.world
+  pub live : new.live ≡ without_closure old.live k ++ closure_of old.live k
+  pub undone : new.undone ≡ old.undone
+  pub len : length new.live ≡ length old.live
 
-pub gathered_session : (R : ℕ) (w : World) (es fs : List Entry) (k l f : ℕ) (room : ℕ → ℕ) → IsSession R w es l room → 1 ≤ k → k ≤ l → IsGathered es fs k l f
-    → IsSession R w fs l room
-gathered_session R w es fs k l f room session some below g =
-    let re = reordered R (journal_of w es l) k some (omega (arith, length-take-le l es session.within)) session.runs in
+gathered_journal : (k : ℕ) (old new : Journal) → IsGatheredLast k old new → new ≡ closure_last old k
+gathered_journal k old new g = λ i. record { world = g.world i; live = g.live i; undone = g.undone i }
+
+pub gathered_session : (R k : ℕ) (old new : Journal) (room : ℕ → ℕ) → IsSession R old room → 1 ≤ k → k ≤ length old.live → IsGatheredLast k old new
+    → IsSession R new room
+gathered_session R k old new room session some within g =
+    let re = reordered R old k some within session.runs in
     record {
-      within = omega (arith, g.len, session.within);
-      few = omega (arith, g.len, session.few);
-      runs = subst (λ (j : Journal). IsRun R j) (sym (gathered_journal w es fs k l f g)) re.runs;
-      has_room = subst (λ (ys : List Entry). HasRoom ys room) (sym g.behind) session.has_room;
+      few = omega (arith, g.len, ap length g.undone, session.few);
+      runs = subst (λ (j : Journal). IsRun R j) (sym (gathered_journal k old new g)) re.runs;
+      has_room = subst (λ (ys : List Entry). HasRoom ys room) (sym g.undone) session.has_room;
     }
 
 -- undoing as many steps as are in the closure is the rollback
-pub rolled_back : (k n : ℕ) (old new : Journal) → n ≡ length (closure_of old.live k) → IsMovedBack n (closure_last old k) new → IsRolledBack k old new
-rolled_back k n old new count moved =
+pub rolled_back : (k n : ℕ) (old mid new : Journal) → n ≡ length (closure_of old.live k) → IsGatheredLast k old mid → IsMovedBack n mid new
+    → IsRolledBack k old new
+rolled_back k n old mid new count gathered moved =
     let xs = without_closure old.live k in
     let ys = closure_of old.live k in
     let cut : length (xs ++ ys) - n ≡ length xs = omega (arith, count, length-append xs ys) in
     record {
-      live = moved.live ∙ ap (λ (m : ℕ). take m (xs ++ ys)) cut ∙ take-append_seam xs ys;
+      live =
+          moved.live ∙ ap (λ (l : List Entry). take (length l - n) l) gathered.live ∙ ap (λ (m : ℕ). take m (xs ++ ys)) cut
+          ∙ take-append_seam xs ys;
       undone =
-          moved.undone ∙ ap (λ (m : ℕ). drop m (xs ++ ys) ++ old.undone) cut
+          moved.undone ∙ (λ i. drop (length (gathered.live i) - n) (gathered.live i) ++ gathered.undone i)
+          ∙ ap (λ (m : ℕ). drop m (xs ++ ys) ++ old.undone) cut
           ∙ ap (λ (zs : List Entry). zs ++ old.undone) (drop-append_seam xs ys);
     }
 
-pub rolled_start : (R : ℕ) (w v : World) (es fs : List Entry) (k l m n f : ℕ) (room : ℕ → ℕ) → IsSession R w es l room → 1 ≤ k → k ≤ l → IsGathered es fs k l f
-    → state_of (journal_of v fs m) ≡ times n back_one (state_of (journal_of w fs l)) → start_of (journal_of v fs m) ≡ start_of (journal_of w es l)
-rolled_start R w v es fs k l m n f room session some below g state =
-    let re = reordered R (journal_of w es l) k some (omega (arith, length-take-le l es session.within)) session.runs in
-    ap (λ (s : State). s.start) state ∙ back_start n (state_of (journal_of w fs l)) ∙ ap start_of (gathered_journal w es fs k l f g) ∙ re.start
+pub rolled_start : (R k n : ℕ) (old mid new : Journal) → IsRun R old → 1 ≤ k → k ≤ length old.live → IsGatheredLast k old mid
+    → state_of new ≡ times n back_one (state_of mid) → start_of new ≡ start_of old
+rolled_start R k n old mid new runs some within g state =
+    ap (λ (s : State). s.start) state ∙ back_start n (state_of mid) ∙ ap start_of (gathered_journal k old mid g)
+    ∙ (reordered R old k some within runs).start
 
 -- The state
 

@@ -1,5 +1,5 @@
 -- Records of a run put behind the first live ones, and the room that their makings ask for.
-use Rattle.std.proofs.Common.{◌≡◌, ◌≢◌, ℕ, zero, suc, ◌+◌, ◌<◌, ◌≤◌, ◌==◌, Bool, true, false, refl, sym, ◌∙◌, ap, subst, arith, inl, inr, List, [], ◌∷◌, ◌++◌, length, take, drop, get_or, Option, Some, None, is_some, IsSome, Ok, ne_eqb, length-append}
+use Rattle.std.proofs.Common.{◌≡◌, ◌≢◌, ℕ, zero, suc, ◌+◌, ◌-◌, ◌<◌, ◌≤◌, ◌==◌, Bool, true, false, refl, sym, ◌∙◌, ap, subst, arith, inl, inr, List, [], ◌∷◌, ◌++◌, length, take, drop, get_or, Option, Some, None, is_some, IsSome, Ok, ne_eqb, length-append}
 use Rattle.std.proofs.Math.Seq.{take-append_seam, drop-append_seam, take-length, drop-length, take-suc}
 use Rattle.std.proofs.lemmas.Bool.{cases_Bool, cases_eq, cond-false, cond_both}
 use Rattle.std.proofs.lemmas.List.{map-append, take-map, take-take, length-take-le}
@@ -9,9 +9,9 @@ use Rattle.rd_step.specs.declared.entries.Entry.{Entry}
 use Rattle.rd_step.specs.Room.{makes_segment, room_used, room_returned}
 use Rattle.rd_step.proofs.Steps.{took, with_actor-other}
 use Rattle.rd_step.proofs.Room.{room_used_returned}
-use Rattle.rd_journal.specs.Border.{IsSession}
-use Rattle.rd_journal.specs.Journal.{Journal, journal_of, events, world_before, start_of, IsRunFrom, IsRun}
-use Rattle.rd_journal.specs.Moves.{IsSwitched}
+use Rattle.rd_journal.specs.Journal.{Journal, events, world_before, start_of, IsRunFrom, IsRun}
+use Rattle.rd_journal.specs.Moves.{IsMovedBack, IsMovedForward, IsSwitched}
+use Rattle.rd_journal.specs.Records.{IsSession}
 use Rattle.rd_journal.specs.Room.{room_returned_by, HasRoom, HasRoomForAll}
 use Rattle.rd_journal.specs.State.{State, state_of, back_one, forward_one, times, switch}
 use Rattle.rd_journal.proofs.Calls.{back_start}
@@ -126,36 +126,39 @@ room_for_all R w xs ys room ran n h has = record { at = each }
           | inr e ↦ omega (arith, none_made R (world_before w xs) (take n xs ++ ys) m h e, returned_joined (take n xs) ys m)
         ]
 
-pub replaced : (R : ℕ) (w : World) (es ys fs : List Entry) (k : ℕ) (before after : ℕ → ℕ) → IsSession R w es k before
-    → IsRunFrom R (world_before w (take k es)) (take k es ++ ys) → k + length ys ≤ MOST_STEPS → HasRoom ys after → fs ≡ take k es ++ ys
-    → IsSession R w fs k after
-replaced R w es ys fs k before after session h few has is =
-    let len = length-take-le k es session.within in
-    let front : take k fs ≡ take k es = ap (λ (n : ℕ). take n fs) (sym len) ∙ ap (take (length (take k es))) is ∙ take-append_seam (take k es) ys in
-    let back : drop k fs ≡ ys = ap (λ (n : ℕ). drop n fs) (sym len) ∙ ap (drop (length (take k es))) is ∙ drop-append_seam (take k es) ys in
-    let all : length fs ≡ k + length ys = ap length is ∙ omega (arith, len, length-append (take k es) ys) in
-    record {
-      within = omega arith;
-      few = omega arith;
-      runs =
-          let old : Journal = record { world = w; live = take k es; undone = drop k es } in
-          subst (λ (j : Journal). IsRun R j) (λ i. record { world = w; live = sym front i; undone = sym back i }) (record {
-            well_formed = session.runs.well_formed;
-            live_ran = session.runs.live_ran;
-            undone_run_on = runs_on R (start_of old) w (take k es) ys session.runs.live_ran h;
-          });
-      has_room = subst (λ (zs : List Entry). HasRoom zs after) (sym back) has;
-    }
+-- these are the undone records, and all else is as it was
+pub record IsReplaced (given : List Entry) (old new : Journal) : Type 0 where
+  pub world : new.world ≡ old.world
+  pub live : new.live ≡ old.live
+  pub undone : new.undone ≡ given
+
+pub replaced_session : (R : ℕ) (given : List Entry) (old new : Journal) (before after : ℕ → ℕ) → IsSession R old before
+    → IsRunFrom R (start_of old) (old.live ++ given) → length old.live + length given ≤ MOST_STEPS → HasRoom given after → IsReplaced given old new
+    → IsSession R new after
+replaced_session R given old new before after session h few has is =
+    let whole : new ≡ record { world = old.world; live = old.live; undone = given } =
+    λ i. record { world = is.world i; live = is.live i; undone = is.undone i } in
+    subst (λ (j : Journal). IsSession R j after) (sym whole) (record {
+      few = few;
+      runs = record {
+        well_formed = session.runs.well_formed;
+        live_ran = session.runs.live_ran;
+        undone_run_on = runs_on R (start_of old) old.world old.live given session.runs.live_ran h;
+      };
+      has_room = has;
+    })
 
 -- redoing leaves the start
 pub forward_start : (n : ℕ) (s : State) → (times n forward_one s).start ≡ s.start
 forward_start zero s = refl
 forward_start (suc n) s = forward_start n s
 
--- the first live steps have the start of all of them
-pub kept_start : (n k l : ℕ) (w v : World) (es : List Entry) → state_of (journal_of v es k) ≡ times n back_one (state_of (journal_of w es l))
-    → world_before v (take k es) ≡ world_before w (take l es)
-kept_start n k l w v es h = ap (λ (s : State). s.start) h ∙ back_start n (state_of (journal_of w es l))
+-- undoing, putting other records in place of the undone ones and redoing them leave the start
+pub switched_start : (a b : ℕ) (old mid put new : Journal) (given : List Entry) → state_of mid ≡ times a back_one (state_of old) → IsReplaced given mid put
+    → state_of new ≡ times b forward_one (state_of put) → start_of new ≡ start_of old
+switched_start a b old mid put new given undone is redone =
+    ap (λ (s : State). s.start) redone ∙ forward_start b (state_of put) ∙ (λ i. world_before (is.world i) (is.live i))
+    ∙ ap (λ (s : State). s.start) undone ∙ back_start a (state_of old)
 
 pub switched_state : (given : List Entry) (kept : ℕ) (old new : Journal) → start_of new ≡ start_of old → IsSwitched kept given old new
     → state_of new ≡ switch (state_of old) kept (events given)
@@ -187,20 +190,14 @@ room_for_actors w v xs number room same made none count =
     each zero there = absurd (none there)
     each (suc n) there = made n (count n there)
 
-pub switched_records : (w v : World) (es fs given : List Entry) (k l m : ℕ) → k ≤ l → l ≤ length es → fs ≡ take k es ++ given → m ≡ k + length given
-    → IsSwitched k given (journal_of w es l) (journal_of v fs m)
-switched_records w v es fs given k l m below within is border =
-    let low : take k (take l es) ≡ take k es = take-take k l es below in
-    let len : length (take k es) ≡ k = length-take-le k es (omega arith) in
-    let all : m ≡ length (take k es ++ given) = omega (arith, len, length-append (take k es) given) in
+pub switched_records : (n kept : ℕ) (old mid put new : Journal) (given : List Entry) → kept + n ≡ length old.live → IsMovedBack n old mid → IsReplaced given mid put
+    → IsMovedForward (length given) put new → IsSwitched kept given old new
+switched_records n kept old mid put new given all back is forward =
+    let low : length old.live - n ≡ kept = omega arith in
     record {
-      live = (λ i. take (all i) (is i)) ∙ take-length (take k es ++ given) ∙ ap (λ (xs : List Entry). xs ++ given) (sym low);
-      undone = (λ i. drop (all i) (is i)) ∙ drop-length (take k es ++ given);
+      live =
+          forward.live
+          ∙ (λ i. (is.live ∙ back.live ∙ ap (λ (m : ℕ). take m old.live) low) i ++ take (length given) (is.undone i))
+          ∙ ap (λ (xs : List Entry). take kept old.live ++ xs) (take-length given);
+      undone = forward.undone ∙ ap (drop (length given)) is.undone ∙ drop-length given;
     }
-
--- undoing, putting other records behind the border and redoing them leave the start
-pub switched_start : (a b k l m : ℕ) (w u v : World) (es fs : List Entry) → take k fs ≡ take k es
-    → state_of (journal_of u es k) ≡ times a back_one (state_of (journal_of w es l)) → state_of (journal_of v fs m) ≡ times b forward_one (state_of (journal_of u fs k))
-    → world_before v (take m fs) ≡ world_before w (take l es)
-switched_start a b k l m w u v es fs front undone redone =
-    ap (λ (s : State). s.start) redone ∙ forward_start b (state_of (journal_of u fs k)) ∙ ap (world_before u) front ∙ kept_start a k l w u es undone

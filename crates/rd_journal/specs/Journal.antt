@@ -1,5 +1,5 @@
 -- What a session keeps: its world and the records of its steps, and the run that they are of.
-use Rattle.std.specs.Prelude.{◌≡◌, ℕ, zero, suc, List, [], ◌∷◌, length, take, drop, ok_or, slice_get, Result, Ok, Err}
+use Rattle.std.specs.Prelude.{◌≡◌, ℕ, zero, suc, List, [], ◌∷◌, length, ok_or, slice_get, Result, Ok, Err}
 use Rattle.rd_step.specs.Prelude.{Refusal, NoSuchStep, World, unstep, run, IsWellFormed}
 pub use Rattle.rd_step.specs.Run.{events, run_entries, IsRunFrom}
 use Rattle.rd_step.specs.declared.entries.Entry.{Entry}
@@ -9,10 +9,6 @@ pub record Journal : Type 0 where
   pub world : World
   pub live : List Entry
   pub undone : List Entry
-
--- the journal that a world and one list of records are, with a border before which the live ones stand
-abbrev pub journal_of : World → List Entry → ℕ → Journal
-journal_of world entries border = record { world = world; live = take border entries; undone = drop border entries }
 
 -- the world with the old words of these records put back, those of the last one first
 abbrev pub world_before : World → List Entry → World

@@ -1,7 +1,7 @@
 pub mod Journal
 pub mod State
 pub mod Room
-pub mod Border
+pub mod Records
 pub mod Moves
 pub mod Sessions
 pub mod Laws

@@ -1,13 +1,14 @@
 -- The code's session, as its journal, as its state, and with its room: what public clauses cite.
-use Rattle.std.specs.Prelude.{ℕ, vec_capacity}
+use Rattle.std.specs.Prelude.{ℕ}
 use Rattle.rd_step.specs.Prelude.{model, room as world_room}
 use Rattle.rd_journal.specs.declared.sessions.Session.{Session}
-use Rattle.rd_journal.specs.Journal.{Journal, journal_of}
+use Rattle.rd_journal.specs.Journal.{Journal}
+use Rattle.rd_journal.specs.Records.{journal_of, records_capacity}
 use Rattle.rd_journal.specs.State.{State, state_of}
 
 -- the session's world and records
 abbrev pub journal : {R : ℕ} → Session R → Journal
-journal s = journal_of (model s.world) s.entries.items s.live
+journal s = journal_of (model s.world) s.records
 
 -- the session's start, live events and undone events
 abbrev pub state : {R : ℕ} → Session R → State
@@ -19,4 +20,4 @@ room s m = world_room s.world m
 
 -- for how many records, live and undone ones, there is room
 abbrev pub capacity : {R : ℕ} → Session R → ℕ
-capacity s = vec_capacity s.entries
+capacity s = records_capacity s.records

@@ -5,11 +5,9 @@
 //! border in it, and undoes from the old words of the records; the start is never stored and never replayed from.
 #![tactic(auto)]
 
-mod border;
 pub mod laws;
-mod rollback;
+mod records;
 pub mod sessions;
-mod switches;
 
 pub use sessions::Session;
 

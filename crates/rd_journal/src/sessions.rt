@@ -1,23 +1,23 @@
-//! The session: the world and one list of records with a border in it, live ones before it and undone ones behind it,
-//! the one undone last right at it.
+//! The session: the world and the records of its live and undone steps.
 //!
-//! Undoing puts the old words of the last live record back and moves the border before it. A lone undo does so with any
-//! live record on which no later one depends, and first moves it behind the other live ones; a rollback with a record
-//! and all that depend on it. Redoing steps again and moves the border behind the record. So the room that an undo needs
-//! was made by the step that it undoes. A switch puts other records behind the border and redoes them.
+//! Undoing puts the old words of a live record back, and the record goes to the front of the undone ones: the last one, or any
+//! other on which no later one depends, or a record with all that depend on it. Redoing steps again. So the room that an undo
+//! needs was made by the step that it undoes. A switch exchanges the undone records for others and redoes them.
+
+mod moving;
+mod removal;
+mod switching;
 
 ghost use Rattle.std.specs.Prelude.{◌≡◌, ◌⊎◌, ◌++◌, ◌+◌, ◌≤◌, ◌<◌, ◌-◌, [], length, take, drop, Ok, Err, IsOk, OnOk, OnErr, IfOk, IfErr};
 ghost use Rattle.rd_step.specs.Prelude.{model, room as world_room, step};
-ghost use Rattle.rd_journal.specs.Border.{IsSession};
 ghost use Rattle.rd_journal.specs.Journal.{entry_of, events, start_of, IsRunFrom, IsRun};
+ghost use Rattle.rd_journal.specs.Records.{journal_of, IsSession};
 ghost use Rattle.rd_journal.specs.Room.{MayBeOutOfMemory, IsOutOfMemory, ComesAfterRoom, LacksRoom};
 ghost use Rattle.rd_journal.specs.State.{run_of, apply, reply_to, undo, undo_at, back, redo, forward, roll, switch};
 ghost use Rattle.rd_journal.specs.Laws.{IsStepAfter};
 ghost use Rattle.rd_journal.specs.Moves.{IsLengthened, IsMovedBack, IsMovedForward, IsBeforeLast, IsTakenOutAt, IsWithout, IsSwitched, IsRolledBack, IsWithoutClosure, answer_at, roll_answer};
 
-use super::border::{make_room, redo_first, redo_many, undo_alone, undo_last, undo_many};
-use super::rollback::undo_closure;
-use super::switches::switch_fields;
+use super::records::Records;
 use rd_cell::Refusal;
 use rd_cell::limits::MOST_STEPS;
 use rd_depend::first_dependant;
@@ -28,9 +28,8 @@ use std::alloc::Global;
 #[derive(Drop)]
 pub struct Session<const R: usize> {
     world: World<R>,
-    entries: Vec<Entry>,
-    live: usize,
-    ghost kept: { IsSession R (model world) entries.items live (world_room world) },
+    records: Records,
+    ghost kept: { IsSession R (journal_of (model world) records) (world_room world) },
 }
 
 impl<const R: usize> Session<R> {
@@ -44,8 +43,7 @@ impl<const R: usize> Session<R> {
     {
         Session {
             world,
-            entries: Vec::new(alloc),
-            live: 0,
+            records: Records::new(alloc),
         }
     }
 
@@ -71,16 +69,12 @@ impl<const R: usize> Session<R> {
         ensures order { IfErr result (λ refusal. ComesAfterRoom (length (journal self.new).live) (capacity self.new) refusal) }
         ensures unchanged { OnErr result (journal self.new ≡ journal self.old) }
     {
-        if self.live == MOST_STEPS {
+        if self.records.live_len() == MOST_STEPS {
             return Err(Refusal::TooLong);
         }
-        if make_room(&mut self.entries, self.live).is_err() {
-            return Err(Refusal::NoMemory);
-        }
+        self.records.make_room()?;
         let entry = self.world.step(event)?;
-        self.entries.truncate(self.live);
-        self.entries.push_reserved(entry);
-        self.live += 1;
+        self.records.push(entry);
         Ok((self.len(), entry))
     }
 
@@ -97,10 +91,10 @@ impl<const R: usize> Session<R> {
         ensures unchanged { OnErr result (journal self.new ≡ journal self.old) }
         ensures capacity { capacity self.new ≡ capacity self.old }
     {
-        if self.live == 0 {
+        if self.records.live_len() == 0 {
             return Err(Refusal::NothingToUndo(0));
         }
-        undo_last(&mut self.world, &self.entries, &mut self.live);
+        self.undo_last();
         Ok(())
     }
 
@@ -125,11 +119,10 @@ impl<const R: usize> Session<R> {
         if len < k || k == 0 {
             return Err(Refusal::NoSuchStep(len));
         }
-        let live = self.live;
-        if let Some(dependant) = first_dependant(&self.entries[..live], k) {
+        if let Some(dependant) = first_dependant(self.records.live(), k) {
             return Err(Refusal::Depended(dependant));
         }
-        undo_alone(&mut self.world, &mut self.entries, &mut self.live, k);
+        self.undo_alone(k);
         Ok(())
     }
 
@@ -156,7 +149,7 @@ impl<const R: usize> Session<R> {
         if len < k || k == 0 {
             return Err(Refusal::NoSuchStep(len));
         }
-        undo_closure(&mut self.world, &mut self.entries, &mut self.live, k);
+        self.undo_closure(k);
         Ok(())
     }
 
@@ -178,7 +171,7 @@ impl<const R: usize> Session<R> {
         if n > len {
             return Err(Refusal::NothingToUndo(len));
         }
-        undo_many(&mut self.world, &self.entries, &mut self.live, n);
+        self.undo_many(n);
         Ok(())
     }
 
@@ -197,7 +190,7 @@ impl<const R: usize> Session<R> {
         if self.undone_len() == 0 {
             return Err(Refusal::NothingToRedo);
         }
-        redo_first(&mut self.world, &self.entries, &mut self.live);
+        self.redo_first();
         Ok(())
     }
 
@@ -216,7 +209,7 @@ impl<const R: usize> Session<R> {
         if n > self.undone_len() {
             return Err(Refusal::NothingToRedo);
         }
-        redo_many(&mut self.world, &self.entries, &mut self.live, n);
+        self.redo_many(n);
         Ok(())
     }
 
@@ -239,13 +232,9 @@ impl<const R: usize> Session<R> {
         ensures succeeds { entries.now ≡ [] → IsOk result }
         ensures capacity { n + length entries.now ≤ capacity self.old → capacity self.new ≡ capacity self.old }
     {
-        switch_fields(
-            &mut self.world,
-            &mut self.entries,
-            &mut self.live,
-            n as usize,
-            entries,
-        )
+        self.make_room_to_switch(n, entries)?;
+        self.exchange(n, entries);
+        Ok(())
     }
 
     /// The number of live steps.
@@ -253,7 +242,7 @@ impl<const R: usize> Session<R> {
         ensures count { result ≡ length (state self.now).live }
         ensures records { result ≡ length (journal self.now).live }
     {
-        self.live as u64
+        self.records.live_len() as u64
     }
 
     /// The number of undone steps.
@@ -261,7 +250,7 @@ impl<const R: usize> Session<R> {
         ensures count { result ≡ length (state self.now).undone }
         ensures records { result ≡ length (journal self.now).undone }
     {
-        (self.entries.len() - self.live) as u64
+        self.records.undone_len() as u64
     }
 
     /// The records of the live steps, in their order. They are those of a run from the start.
@@ -271,7 +260,7 @@ impl<const R: usize> Session<R> {
         ensures events { events result.now ≡ (state self.now).live }
         ensures few { length result.now ≤ MOST_STEPS }
     {
-        &self.entries[..self.live]
+        self.records.live()
     }
 
     /// The record of the live step of this number, from 1.
@@ -282,12 +271,13 @@ impl<const R: usize> Session<R> {
     pub fn entry(&self, k: u64) -> Result<Entry, Refusal>
         ensures found { result ≡ entry_of (journal self.now) k }
         ensures step { IfOk result (λ entry. IsStepAfter R (k - 1) (journal self.now) entry) }
+        ensures runs { IsRun R (journal self.now) }
     {
         let len = self.len();
         if k == 0 || k > len {
             return Err(Refusal::NoSuchStep(len));
         }
-        Ok(self.entries[k as usize - 1])
+        Ok(*self.records.live_at(k as usize - 1))
     }
 
     /// The world: that of the run of the live events from the start.

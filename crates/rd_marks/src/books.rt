@@ -2,6 +2,14 @@
 //!
 //! A mark keeps the records of the steps that were live when it was set, which are those of a run from the session's start.
 //! Nothing outside this crate may know that.
+//!
+//! The calls of a book are here; what each command answers is in `books/`: `obeying` has the commands, `moves` the events, undos and redos,
+//! `bookmarks` the bookmarks, and `queries` the rest.
+
+mod bookmarks;
+mod moves;
+mod obeying;
+mod queries;
 
 ghost use Rattle.std.specs.Prelude.{◌≡◌, ◌⊎◌, [], length, Ok, Err, OnOk, OnErr, IfOk, IfErr, IsOk};
 ghost use Rattle.rd_cell.specs.declared.refusal.Refusal.TheVariants.{NoMemory};
@@ -10,14 +18,12 @@ ghost use Rattle.rd_marks.specs.Layout.{KeepsMarks};
 
 use super::marks::{is_marked, put_mark, switch_to};
 use super::names::MarkName;
-use super::queries::counts_after;
-use super::replies::Reply;
 use indexmap::IndexMap;
 use rd_cell::Refusal;
 use rd_cell::limits::MOST_MARKS;
 use rd_depend::are_equivalent;
 use rd_journal::Session;
-use rd_step::{Entry, Event};
+use rd_step::Entry;
 use std::alloc::Global;
 
 /// A session with bookmarks.
@@ -30,10 +36,8 @@ pub struct Book<const R: usize> {
 }
 
 impl<const R: usize> Book<R> {
-    ghost use Rattle.rd_journal.specs.State.{undo, undo_at, roll, back, redo, forward};
     ghost use Rattle.rd_marks.specs.BookViews.{book_state};
     ghost use Rattle.rd_marks.specs.Books.{marked_events, mark, drop_mark, goto_mark, mark_at, MakesSteps, AnswersSame};
-    ghost use Rattle.rd_marks.specs.Commands.{Happened, move_answer};
 
     /// A book over a session, with no marks. It takes no memory.
     pub fn open(alloc: Global, session: Session<R>) -> Book<R>
@@ -158,65 +162,5 @@ impl<const R: usize> Book<R> {
             None => Err(Refusal::NoMark),
             Some((name, records)) => Ok((*name, records.len() as u64)),
         }
-    }
-
-    /// Makes an event happen, and answers the number of its step and the reply of the call that it ends.
-    pub(crate) fn happen(&mut self, event: Event) -> Result<Reply, Refusal>
-        ensures { Happened R (book_state self.old) event (record { answer = result; state = book_state self.new }) }
-    {
-        let (step, entry) = self.session.apply(event)?;
-        Ok(Reply::Applied {
-            step,
-            reply: entry.reply,
-        })
-    }
-
-    /// Undoes the last live step. Answers how many steps are live and undone then.
-    pub(crate) fn undo(&mut self) -> Result<Reply, Refusal>
-        ensures { record { answer = result; state = book_state self.new } ≡ move_answer (book_state self.old) (undo (book_state self.old).session) }
-    {
-        let done = self.session.undo();
-        counts_after(&self.session, done)
-    }
-
-    /// Undoes the live step of this number alone. Answers how many steps are live and undone then.
-    pub(crate) fn undo_at(&mut self, k: u64) -> Result<Reply, Refusal>
-        ensures { record { answer = result; state = book_state self.new } ≡ move_answer (book_state self.old) (undo_at R (book_state self.old).session k) }
-    {
-        let done = self.session.undo_at(k);
-        counts_after(&self.session, done)
-    }
-
-    /// Undoes the live step of this number and just the later ones that depend on it. Answers how many steps are live and
-    /// undone then.
-    pub(crate) fn roll(&mut self, k: u64) -> Result<Reply, Refusal>
-        ensures { record { answer = result; state = book_state self.new } ≡ move_answer (book_state self.old) (roll R (book_state self.old).session k) }
-    {
-        let done = self.session.roll(k);
-        counts_after(&self.session, done)
-    }
-
-    /// Undoes the last `n` live steps, all or none. Answers how many steps are live and undone then.
-    pub(crate) fn back(&mut self, n: u64) -> Result<Reply, Refusal>
-        ensures { record { answer = result; state = book_state self.new } ≡ move_answer (book_state self.old) (back (book_state self.old).session n) }
-    {
-        let done = self.session.back(n);
-        counts_after(&self.session, done)
-    }
-
-    /// Makes the step again that was undone last. Answers how many steps are live and undone then.
-    pub(crate) fn redo(&mut self) -> Result<Reply, Refusal>
-        ensures { record { answer = result; state = book_state self.new } ≡ move_answer (book_state self.old) (redo (book_state self.old).session) }
-    {
-        let done = self.session.redo();
-        counts_after(&self.session, done)
-    }
-
-    /// Makes the `n` steps again that were undone last, all or none. Answers how many steps are live and undone then.
-    pub(crate) fn forward(&mut self, n: u64) -> Result<Reply, Refusal>
-        ensures { record { answer = result; state = book_state self.new } ≡ move_answer (book_state self.old) (forward (book_state self.old).session n) }
-    {
-        let done = self.session.forward(n);
-        counts_after(&self.session, done)
     }
 }

@@ -8,8 +8,6 @@ pub mod books;
 pub mod commands;
 mod marks;
 pub mod names;
-mod obeying;
-mod queries;
 pub mod replies;
 
 pub use books::Book;

@@ -1,7 +1,9 @@
 //! The tests of a book: lists of commands as data, each with the answer that is wanted, and the small helper that plays them.
 
+mod ends;
 mod limits;
 mod lists;
+mod long_runs;
 mod origins;
 
 use super::books::Book;

@@ -1,6 +1,5 @@
 use Rattle.std.proofs.Common.{◌≤◌, ◌∙◌, Ok, length, inl, inr, sym, ap, arith}
-use Rattle.rd_step.specs.Prelude.{model}
-use Rattle.rd_journal.specs.Journal.{journal_of}
+use Rattle.rd_journal.specs.Sessions.{journal}
 use Rattle.rd_journal.specs.State.{State}
 use Rattle.rd_journal.proofs.RolledBack.{rolled_state, rolled_run, roll_answer_missing, roll_answer_there, roll_missing, roll_there}
 use Rattle.rd_journal.proofs.sessions.Session.roll.Goals as goal
@@ -8,32 +7,28 @@ use Rattle.rd_journal.proofs.sessions.Session.roll.Goals.{then-len-k-via-then-le
 
 pub returns-then-len-k-clause-answer : goal.returns-then-len-k-clause-answer
 returns-then-len-k-clause-answer g c =
-    roll_answer_missing (journal_of (model c.args.self.now.world) c.args.self.now.entries.items c.args.self.now.live) c.args.k c.len-len.result c.len-len.ensures.records
+    roll_answer_missing (journal c.args.self.now) c.args.k c.len-len.result c.len-len.ensures.records
     (elim c.then-len-k.branch [ then-len-k-via-then-len-k w ↦ inr (omega arith) | then-len-k-via-else-len-k+then-k-eq0 w ↦ inl (omega arith) ])
 
 pub returns-then-len-k-clause-err : goal.returns-then-len-k-clause-err
 returns-then-len-k-clause-err g c =
-    roll_missing g.row.R (journal_of (model c.args.self.now.world) c.args.self.now.entries.items c.args.self.now.live) c.args.k c.len-len.result c.len-len.ensures.records
+    roll_missing g.row.R (journal c.args.self.now) c.args.k c.len-len.result c.len-len.ensures.records
     (elim c.then-len-k.branch [ then-len-k-via-then-len-k w ↦ inr (omega arith) | then-len-k-via-else-len-k+then-k-eq0 w ↦ inl (omega arith) ])
 
 pub returns-clause-ok : goal.returns-clause-ok
 returns-clause-ok g c =
-    let j = journal_of (model c.args.self.now.world) c.args.self.now.entries.items c.args.self.now.live in
-    let new = journal_of (model c.undo_closure.new.world) c.undo_closure.new.entries.items c.undo_closure.new.live in
-    let some : 1 ≤ c.args.k = omega arith in
-    let within : c.args.k ≤ length j.live = omega (arith, c.len-len.ensures.records) in
-    roll_there g.row.R j c.args.k c.args.self.now.kept.runs some within
-    ∙ ap (λ (s : State). Ok s) (sym (rolled_state c.args.k j new c.undo_closure.ensures.records c.undo_closure.ensures.start))
+    let old = journal c.args.self.now in
+    let within : c.args.k ≤ length old.live = omega (arith, c.len-len.ensures.records) in
+    roll_there g.row.R old c.args.k c.args.self.now.kept.runs (omega arith) within
+    ∙ ap (λ (s : State). Ok s) (sym (rolled_state c.args.k old (journal c.undo_closure.new.self) c.undo_closure.ensures.records c.undo_closure.ensures.start))
 
 pub returns-clause-answer : goal.returns-clause-answer
 returns-clause-answer g c =
-    let j = journal_of (model c.args.self.now.world) c.args.self.now.entries.items c.args.self.now.live in
-    let some : 1 ≤ c.args.k = omega arith in
-    let within : c.args.k ≤ length j.live = omega (arith, c.len-len.ensures.records) in
-    roll_answer_there j c.args.k some within
+    let old = journal c.args.self.now in
+    let within : c.args.k ≤ length old.live = omega (arith, c.len-len.ensures.records) in
+    roll_answer_there old c.args.k (omega arith) within
 
 pub returns-clause-run : goal.returns-clause-run
 returns-clause-run g c =
-    rolled_run g.row.R c.args.k (journal_of (model c.args.self.now.world) c.args.self.now.entries.items c.args.self.now.live)
-    (journal_of (model c.undo_closure.new.world) c.undo_closure.new.entries.items c.undo_closure.new.live)
-    c.undo_closure.ensures.records c.undo_closure.ensures.start c.undo_closure.ensures.session.runs
+    rolled_run g.row.R c.args.k (journal c.args.self.now) (journal c.undo_closure.new.self) c.undo_closure.ensures.records
+    c.undo_closure.ensures.start c.undo_closure.new.self.kept.runs

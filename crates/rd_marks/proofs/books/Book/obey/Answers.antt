@@ -3,10 +3,10 @@ use Rattle.rd_marks.proofs.ObeyLemmas.{happened_leaves, obeyed_leaves}
 use Rattle.rd_marks.proofs.books.Book.obey.Goals as goal
 
 pub returns-in-Some-clause-start : goal.returns-in-Some-clause-start
-returns-in-Some-clause-start g c = (happened_leaves g.row.R (book_state c.args.self.now) c.in-Some.event _ c.happen.ensures).start
+returns-in-Some-clause-start g c = (happened_leaves g.row.R (book_state c.args.self.now) c.in-Some.event _ c.answer_event.ensures).start
 
 pub returns-in-Some-clause-unchanged : goal.returns-in-Some-clause-unchanged
-returns-in-Some-clause-unchanged g c = (happened_leaves g.row.R (book_state c.args.self.now) c.in-Some.event _ c.happen.ensures).unchanged
+returns-in-Some-clause-unchanged g c = (happened_leaves g.row.R (book_state c.args.self.now) c.in-Some.event _ c.answer_event.ensures).unchanged
 
 pub returns-in-None-clause-start : goal.returns-in-None-clause-start
 returns-in-None-clause-start g c = (obeyed_leaves g.row.R (book_state c.args.self.now) c.args.command _ c.answer_to.ensures).start
