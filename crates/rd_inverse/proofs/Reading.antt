@@ -5,11 +5,11 @@ use Rattle.rd_step.specs.Prelude.{Place, Content, World, unstep, IsWellFormed}
 use Rattle.rd_step.specs.declared.entries.Entry.{Entry}
 use Rattle.rd_step.specs.Room.{room_returned}
 use Rattle.rd_step.specs.Step.{revert, with_actor, CanPutBack}
+use Rattle.rd_step.specs.Touched.{overwritten}
 use Rattle.rd_step.specs.Laws.{WasStepped}
 use Rattle.rd_step.proofs.Progress.{changes_only}
 use Rattle.rd_step.proofs.Removal.{can_undo, taken_out}
 use Rattle.rd_step.proofs.Room.{read_returns_none}
-use Rattle.rd_inverse.specs.Overwritten.{overwritten}
 
 -- putting this back, with the words of the entry's actor, undoes the entry's step
 pub record Undoes (R : ℕ) (now : World) (x : Entry) (o : Option Place × Option Content) : Type 0 where

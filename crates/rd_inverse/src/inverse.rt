@@ -4,9 +4,7 @@ ghost use Rattle.std.specs.Prelude.{◌≡◌, ◌+◌, ℕ};
 ghost use Rattle.rd_step.specs.Room.{room_returned};
 ghost use Rattle.rd_step.specs.Prelude.{model, room, unstep};
 ghost use Rattle.rd_step.specs.Laws.{WasStepped, IsTakenOut};
-ghost use Rattle.rd_inverse.specs.Overwritten.{overwritten};
 
-use rd_cell::{Content, Place};
 use rd_step::{Entry, World};
 
 /// Undoes the step of an entry: puts back the old content of its place and the old words of its actor, and changes
@@ -21,17 +19,6 @@ pub fn unstep<const R: usize>(world: &mut World<R>, entry: &Entry)
         → IsTakenOut R (model world.old) (model world.new) entry.now was }
     ensures room { (m : ℕ) → room world.new m ≡ room world.old m + room_returned entry.now.place entry.now.old_content m }
 {
-    let (place, content) = overwritten(entry);
+    let (place, content) = entry.overwritten();
     world.revert(entry.event.actor, entry.old_actor, place, content);
-}
-
-/// The place that an entry's step wrote, with its content from before; none if it only read.
-fn overwritten(entry: &Entry) -> (Option<Place>, Option<Content>)
-    ensures { result ≡ overwritten entry.now }
-{
-    if entry.wrote {
-        (entry.place, entry.old_content)
-    } else {
-        (None, None)
-    }
 }

@@ -8,13 +8,9 @@ use std::test::Fail;
 
 /// Makes a step and undoes it.
 fn step_and_unstep(world: &mut World<1>, event: Event) -> Result<Entry, Refusal> {
-    match world.step(event) {
-        Err(refusal) => Err(refusal),
-        Ok(entry) => {
-            unstep(world, &entry);
-            Ok(entry)
-        }
-    }
+    let entry = world.step(event)?;
+    unstep(world, &entry);
+    Ok(entry)
 }
 
 #[test]

@@ -9,6 +9,7 @@ pub mod Inverse
 pub mod Keeps
 pub mod PutBack
 pub mod Removal
+pub mod RunParts
 pub mod Actors
 pub mod Starts
 pub mod WorldLemmas

@@ -87,7 +87,8 @@ run_stays_at R w (e ∷ es) r q formed h there =
     subst (λ (v : World). is_some (v.at q) ≡ true) p
     (run_stays_at R ran.one.world es ran.rest q (keeps R w e ran.one formed ran.goes) ran.goes_on (stays_at R w e ran.one q formed ran.goes there))
 
-run_stays_actor : (R : ℕ) (w : World) (es : List Event) (r : Ran) (n : ℕ) → run R w es ≡ Ok r → is_some (w.actor n) ≡ true
+-- nor does a run
+pub run_stays_actor : (R : ℕ) (w : World) (es : List Event) (r : Ran) (n : ℕ) → run R w es ≡ Ok r → is_some (w.actor n) ≡ true
     → is_some (r.world.actor n) ≡ true
 run_stays_actor R w [] r n h there = let p : w ≡ r.world = cc in subst (λ (v : World). is_some (v.actor n) ≡ true) p there
 run_stays_actor R w (e ∷ es) r n h there =

@@ -1,5 +1,5 @@
 -- The code's world, as the model's.
-use Rattle.std.proofs.Common.{◌≡◌, ℕ, zero, suc, ◌+◌, ◌-◌, ◌<◌, ◌≤◌, Bool, true, false, not, nat_lt, ◌⊎◌, inl, inr, refl, sym, ◌∙◌, ap, subst, arith, List, [], ◌∷◌, length, set, slice_get, Option, Some, None, is_some, IsSome, is_ok, IsOk, IfOk, OnErr, Result, Ok, Err, lt-ltb, le-ltb, leb-true, ltb-true, ne_eqb}
+use Rattle.std.proofs.Common.{◌≡◌, ℕ, zero, suc, ◌+◌, ◌-◌, ◌<◌, ◌≤◌, Bool, true, false, not, nat_lt, inl, inr, refl, sym, ◌∙◌, ap, subst, arith, List, [], ◌∷◌, length, set, slice_get, Option, Some, None, is_some, IsSome, is_ok, IsOk, IfOk, OnErr, Result, Ok, Err, lt-ltb, le-ltb, leb-true, ltb-true, ne_eqb}
 use Rattle.std.proofs.lemmas.Bool.{cases_lt, cond-true, cond-false, cond_both, both_ways, and_parts}
 use mathlib.Core.Path.{fun_ext}
 use Rattle.rd_ring.specs.Prelude.{COUNTER_END, MOST_SEGMENTS, MOST_CELLS, MOST_ACTORS, SegName, Place, WholeOf, Access, NoPlace, At, Make, Made, Nothing, Operation, Add, AddArray, CasTail, Done, Refusal, SegmentsEnd, NoMemory, Contents, is_there, is_array, Performed, contents_after, number_made, make, perform, restore, everywhere, HasEffect, Operates, Makes, RefusesMaking}
@@ -17,7 +17,8 @@ use Rattle.rd_step.specs.declared.entries.Event.{Event}
 use Rattle.rd_step.specs.declared.entries.Entry.{Entry}
 use Rattle.rd_step.specs.Step.{Stepped, with_actor, step, step_of_actor, step_of_need, step_of_access, IsLast}
 use Rattle.rd_step.specs.Fields.{actor_at, world_of_fields, access_suits}
-use Rattle.rd_step.specs.Room.{makes, needs_making, actor_makes, makes_segment}
+use Rattle.rd_step.specs.Room.{makes, needs_making, actor_makes, makes_segment, IsRefused}
+use Rattle.rd_step.specs.Touched.{made_at}
 use Rattle.rd_step.specs.WellFormed.{Presence, actor_fits, record_fits, maker_fits, is_actor, IsWellFormed}
 use Rattle.rd_step.proofs.Steps.{step_of, step_refused}
 use Rattle.rd_step.proofs.Actors.{actor_at-set, actor_at-within}
@@ -63,12 +64,11 @@ may_make {R} space actor x few below =
 
 pub refuses_access : {R : ℕ} (space : Space R) (actor x : ℕ) (e : Refusal) → making_count space actor ≤ MOST_SEGMENTS
     → RefusesMaking (making_count space actor) (room space actor) e
-    → (perform R actor (contents space) (Make x) ≡ Err e)
-    ⊎ ((e ≡ NoMemory) × IsOk (perform R actor (contents space) (Make x)) × (room space actor ≡ 0))
+    → IsRefused (perform R actor (contents space) (Make x)) true (room space actor) e
 refuses_access {R} space actor x SegmentsEnd few h =
     inl (cond-false (nat_lt (number_made (contents space) actor) MOST_SEGMENTS) _ _
     (le-ltb (number_made (contents space) actor) MOST_SEGMENTS (let k = made_in space actor few in omega arith)))
-refuses_access space actor x NoMemory few h = inr (refl, may_make space actor x few h.0, h.1)
+refuses_access space actor x NoMemory few h = inr (refl, (may_make space actor x few h.0, refl, h.1))
 refuses_access space actor x _ few h = absurd h
 
 -- Taking a segment away
@@ -94,6 +94,11 @@ last_taken old new s h gone =
     let high = at_count old s.maker (s.n + 1) h.last in
     let e : making_count old s.maker - 1 ≡ s.n = omega arith in
     gone ∙ (λ i. restore (Some (WholeOf (record { maker = s.maker; n = e i }))) None (contents old))
+
+-- a place with no content to put back is the whole of the segment that was made there
+pub made_whole : (p : Place) (s : SegName) → made_at (Some p) None ≡ Some s → p ≡ WholeOf s
+made_whole (WholeOf t) s h = let e : t ≡ s = cc in ap WholeOf e
+made_whole _ s h = cc
 
 -- Actors
 
@@ -202,14 +207,12 @@ step_performed R w e a x has needs ok =
 
 pub step_refuses : (R : ℕ) (space : Space R) (xs : List Actor) (e : Event) (a : Actor) (x : Access) (refusal : Refusal)
     → actor_at xs e.actor ≡ Some a → need R a e.act ≡ Ok x
-    → (perform R e.actor (contents space) x ≡ Err refusal)
-    ⊎ ((refusal ≡ NoMemory) × IsOk (perform R e.actor (contents space) x) × (makes x ≡ true) × (room space e.actor ≡ 0))
-    → (step R (world_of_fields space xs) e ≡ Err refusal)
-    ⊎ ((refusal ≡ NoMemory) × IsOk (step R (world_of_fields space xs) e) × (makes_segment R (world_of_fields space xs) e ≡ true)
-    × (room space e.actor ≡ 0))
+    → IsRefused (perform R e.actor (contents space) x) (makes x) (room space e.actor) refusal
+    → IsRefused (step R (world_of_fields space xs) e) (makes_segment R (world_of_fields space xs) e) (room space e.actor) refusal
 step_refuses R space xs e a x refusal has needs (inl h) = inl (step_refused R (world_of_fields space xs) e a x refusal has needs h)
 step_refuses R space xs e a x refusal has needs (inr h) =
-    inr (h.0, step_performed R (world_of_fields space xs) e a x has needs h.1, makes_by R (world_of_fields space xs) e a x has needs ∙ h.2, h.3)
+    let lacks = h.1 in
+    inr (h.0, (step_performed R (world_of_fields space xs) e a x has needs lacks.0, makes_by R (world_of_fields space xs) e a x has needs ∙ lacks.1, lacks.2))
 
 -- the step that the code makes is the model's
 pub step_goes : (R : ℕ) (old new : Space R) (xs ys : List Actor) (e : Event) (a : Actor) (x : Access) (done : Done) (next : Actor × Option OpReply)

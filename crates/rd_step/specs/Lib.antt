@@ -6,6 +6,7 @@ pub mod WellFormed
 pub mod Starts
 pub mod Fields
 pub mod Room
+pub mod Touched
 pub mod Worlds
 pub mod Parts
 pub mod Laws

@@ -1,6 +1,6 @@
--- Which steps make a segment, and so use their actor's room.
-use Rattle.std.specs.Prelude.{ℕ, Option, Some, None, Bool, true, false, Result, Ok, Err}
-use Rattle.rd_ring.specs.Prelude.{Access, Make, Refusal}
+-- Which steps make a segment, and so use their actor's room, and how they are refused.
+use Rattle.std.specs.Prelude.{◌≡◌, ◌⊎◌, ℕ, Option, Some, None, Bool, true, false, IsTrue, IsOk, Result, Ok, Err}
+use Rattle.rd_ring.specs.Prelude.{Access, Make, Refusal, NoMemory}
 use Rattle.rd_actor.specs.declared.actors.Actor.{Actor}
 use Rattle.rd_actor.specs.declared.actors.Act.{Act}
 use Rattle.rd_actor.specs.Table.{need}
@@ -26,3 +26,11 @@ actor_makes R act (Some a) = needs_making (need R a act)
 -- whether the event is a step that makes a segment
 abbrev pub makes_segment : ℕ → World → Event → Bool
 makes_segment R w e = actor_makes R e.act (w.actor e.actor)
+
+-- memory is all that may refuse what does this: it is a making, and its actor has no room
+abbrev pub LacksRoom : {X : Type 0} → Result X Refusal → Bool → ℕ → Type 0
+LacksRoom does makes room = IsOk does × IsTrue makes × (room ≡ 0)
+
+-- the refusal of what does this, or is refused: its own, or that of memory where room lacks
+abbrev pub IsRefused : {X : Type 0} → Result X Refusal → Bool → ℕ → Refusal → Type 0
+IsRefused does makes room refusal = (does ≡ Err refusal) ⊎ ((refusal ≡ NoMemory) × LacksRoom does makes room)

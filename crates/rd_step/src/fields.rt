@@ -6,8 +6,9 @@ ghost use Rattle.rd_segments.specs.Room.{room_used, room_returned};
 ghost use Rattle.rd_segments.specs.Space.{contents, lists, making_count, room, capacity};
 ghost use Rattle.rd_step.specs.Step.{revert, with_actor, CanPutBack};
 ghost use Rattle.rd_step.specs.Fields.{world_of_fields, actor_at, access_suits};
-ghost use Rattle.rd_step.specs.Room.{makes};
+ghost use Rattle.rd_step.specs.Room.{makes, IsRefused};
 
+use super::entries::made_at;
 use rd_actor::Actor;
 use rd_cell::{Access, Answer, Content, Done, Place, Refusal};
 use rd_segments::Space;
@@ -35,7 +36,7 @@ pub fn revert_fields<const R: usize>(
     set_actor(actors, actor, words);
 }
 
-/// Puts back the content of a place, if one is named, or takes a segment away.
+/// Puts back the content of a place, if one is named, or takes the segment away that was made.
 fn put_back<const R: usize>(space: &mut Space<R>, place: Option<Place>, content: Option<Content>)
     requires can { CanPutBack (contents space.old) place content }
     requires small { R ≤ MOST_CELLS }
@@ -51,7 +52,7 @@ fn put_back<const R: usize>(space: &mut Space<R>, place: Option<Place>, content:
     }
 }
 
-/// Takes a segment away, the last one of its maker.
+/// Takes the segment away whose making wrote this place, the last one of its maker.
 fn take_away<const R: usize>(space: &mut Space<R>, place: Place)
     requires can { CanPutBack (contents space.old) (Some place) None }
     requires small { R ≤ MOST_CELLS }
@@ -60,9 +61,8 @@ fn take_away<const R: usize>(space: &mut Space<R>, place: Place)
     ensures capacity { capacity space.new ≡ capacity space.old }
     ensures room { (m : ℕ) → room space.new m ≡ room space.old m + room_returned (Some place) None m }
 {
-    match place {
-        Place::Whole(name) => space.unmake(name.maker),
-        _ => unreachable!(),
+    if let Some(name) = made_at(Some(place), None) {
+        space.unmake(name.maker);
     }
 }
 
@@ -97,9 +97,7 @@ pub fn perform<const R: usize>(
     requires counted { making_count space.old actor ≤ MOST_SEGMENTS }
     requires access_suits { IsTrue (access_suits access) }
     ensures ok { IfOk result (λ done. HasEffect everywhere (perform R actor (contents space.old) access) done (contents space.old) (contents space.new)) }
-    ensures err { IfErr result (λ e. (perform R actor (contents space.old) access ≡ Err e)
-        ⊎ ((e ≡ Refusal.NoMemory) × IsOk (perform R actor (contents space.old) access) × IsTrue (makes access)
-        × (room space.old actor ≡ 0))) }
+    ensures err { IfErr result (λ e. IsRefused (perform R actor (contents space.old) access) (makes access) (room space.old actor) e) }
     ensures unchanged { OnErr result (contents space.new ≡ contents space.old) }
     ensures number { lists space.new ≡ lists space.old }
     ensures room { (m : ℕ) → room space.old m ≤ room space.new m + room_used (makes access) actor m }
@@ -130,20 +128,17 @@ fn make<const R: usize>(space: &mut Space<R>, actor: u8, value: u64) -> Result<D
     requires maker_there { actor < lists space.old }
     requires counted { making_count space.old actor ≤ MOST_SEGMENTS }
     ensures ok { IfOk result (λ done. HasEffect everywhere (perform R actor (contents space.old) (Make value)) done (contents space.old) (contents space.new)) }
-    ensures err { IfErr result (λ e. (perform R actor (contents space.old) (Make value) ≡ Err e)
-        ⊎ ((e ≡ Refusal.NoMemory) × IsOk (perform R actor (contents space.old) (Make value)) × (room space.old actor ≡ 0))) }
+    ensures err { IfErr result (λ e. IsRefused (perform R actor (contents space.old) (Make value)) true (room space.old actor) e) }
     ensures unchanged { OnErr result (contents space.new ≡ contents space.old) }
     ensures number { lists space.new ≡ lists space.old }
     ensures room { (m : ℕ) → room space.old m ≤ room space.new m + room_used true actor m }
     ensures kept { OnErr result ((m : ℕ) → room space.old m ≤ room space.new m) }
 {
-    match space.make(actor, value) {
-        Err(refusal) => Err(refusal),
-        Ok(name) => Ok(Done {
-            place: Some(Place::Whole(name)),
-            old: None,
-            answer: Answer::Made(name),
-            wrote: true,
-        }),
-    }
+    let name = space.make(actor, value)?;
+    Ok(Done {
+        place: Some(Place::Whole(name)),
+        old: None,
+        answer: Answer::Made(name),
+        wrote: true,
+    })
 }

@@ -4,6 +4,7 @@
 mod assembling;
 mod rows;
 mod starts;
+mod touched;
 
 use super::entries::{Entry, Event};
 use super::flaws::{Flaw, Unassembled};
@@ -238,18 +239,14 @@ fn an_actor_that_is_not_there_is_refused_before_one_that_is_idle(
 
 /// Makes a step, and puts the words of its entry back.
 fn step_and_revert(world: &mut World<4>, event: Event) -> Result<Entry, Refusal> {
-    match world.step(event) {
-        Err(refusal) => Err(refusal),
-        Ok(entry) => {
-            world.revert(
-                entry.event.actor,
-                entry.old_actor,
-                entry.place,
-                entry.old_content,
-            );
-            Ok(entry)
-        }
-    }
+    let entry = world.step(event)?;
+    world.revert(
+        entry.event.actor,
+        entry.old_actor,
+        entry.place,
+        entry.old_content,
+    );
+    Ok(entry)
 }
 
 #[test]

@@ -7,7 +7,7 @@ ghost use Rattle.rd_segments.specs.Space.{lists};
 ghost use Rattle.rd_step.specs.Step.{step, revert, CanPutBack};
 ghost use Rattle.rd_step.specs.Fields.{world_of_fields};
 ghost use Rattle.rd_step.specs.Starts.{fresh_world, poised_world};
-ghost use Rattle.rd_step.specs.Room.{makes_segment};
+ghost use Rattle.rd_step.specs.Room.{makes_segment, IsRefused};
 ghost use Rattle.rd_step.specs.WellFormed.{IsWellFormed};
 ghost use Rattle.rd_step.specs.Parts.{world_of_parts, first_flaw, Refuses};
 
@@ -146,9 +146,7 @@ impl<const R: usize> World<R> {
     /// for a making that nothing else refuses. The world is then as before.
     pub fn step(&mut self, event: Event) -> Result<Entry, Refusal>
         ensures ok { IfOk result (λ entry. step R (model self.old) event ≡ Ok (record { world = model self.new; entry = entry })) }
-        ensures err { IfErr result (λ refusal. (step R (model self.old) event ≡ Err refusal)
-            ⊎ ((refusal ≡ Refusal.NoMemory) × IsOk (step R (model self.old) event) × IsTrue (makes_segment R (model self.old) event)
-            × (room self.old event.actor ≡ 0))) }
+        ensures err { IfErr result (λ refusal. IsRefused (step R (model self.old) event) (makes_segment R (model self.old) event) (room self.old event.actor) refusal) }
         ensures unchanged { OnErr result (model self.new ≡ model self.old) }
         ensures room { (m : ℕ) → room self.old m ≤ room self.new m + room_used (makes_segment R (model self.old) event) event.actor m }
         ensures kept { OnErr result ((m : ℕ) → room self.old m ≤ room self.new m) }

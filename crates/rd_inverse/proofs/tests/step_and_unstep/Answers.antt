@@ -9,8 +9,8 @@ unstep-requires c = (
     start = model c.args.world.now;
     well_formed = c.args.world.now.well_formed;
     event = c.args.event;
-    stepped = record { world = model c.step.new.self; entry = c.in-Ok.entry };
-    goes = c.in-Ok.ensures.ok;
+    stepped = record { world = model c.step.new.self; entry = c.in_ok-entry.entry };
+    goes = c.in_ok-entry.ensures.ok;
     its_entry = refl;
     later = [];
     ran = record { world = model c.step.new.self; entries = [] };
