@@ -1,5 +1,5 @@
 -- Where one list of events begins another, and where it can't.
-use Rattle.std.proofs.Common.{◌≡◌, ℕ, zero, suc, ◌<◌, ◌≤◌, ap, arith, List, [], ◌∷◌, length, get_or, take, drop, ◌-◌, length-take}
+use Rattle.std.proofs.Common.{◌≡◌, ℕ, zero, suc, ◌<◌, ◌≤◌, arith, List, [], ◌∷◌, length, get_or, take, drop, ◌-◌, length-take}
 use Rattle.rd_step.specs.declared.entries.Entry.{Entry}
 use Rattle.rd_step.specs.Run.{events}
 use Rattle.rd_depend.specs.Beginnings.{Begins, IsBegunByNeither}

@@ -9,7 +9,8 @@ use Rattle.rd_step.proofs.Symmetry.{symmetric}
 use Rattle.rd_step.proofs.Commute.{commutes}
 use Rattle.rd_step.proofs.Equivalence.{as_stepped-same, run_events}
 use Rattle.rd_depend.specs.Equivalence.{MayComeFirst}
-use Rattle.rd_depend.proofs.Exactness.{Beginning, beginning, front, comes_first, stands_first}
+use Rattle.rd_step.proofs.RunParts.{FirstStep, first_step}
+use Rattle.rd_depend.proofs.Exactness.{front, comes_first, stands_first}
 
 -- records on which one does not depend, joined and taken apart
 
@@ -80,7 +81,7 @@ Finds R w es f = (u v : List Entry) → IsRunFrom R w es → IsRunFrom R w (u ++
     → IsEquivalent R w (events es) (events (u ++ f ∷ v)) → Found R w f es (u ++ v)
 
 -- it is the first list's first record
-found_first : (R : ℕ) (w : World) (e f : Entry) (es u v earlier later : List Entry) (b : Beginning R w e es)
+found_first : (R : ℕ) (w : World) (e f : Entry) (es u v earlier later : List Entry) (b : FirstStep R w e es)
     → IsEquivalent R b.after (events es) (events (earlier ++ later)) → u ≡ earlier → f ≡ e → v ≡ later → Found R w f (e ∷ es) (u ++ v)
 found_first R w e f es u v earlier later b on same_u same_f same_v = record {
   earlier = [];
@@ -93,7 +94,7 @@ found_first R w e f es u v earlier later b on same_u same_f same_v = record {
 }
 
 -- it stands before that one in the second list
-found_before : (R : ℕ) (w : World) (e f : Entry) (es u v earlier later m : List Entry) (b : Beginning R w e es) → Finds R b.after es f
+found_before : (R : ℕ) (w : World) (e f : Entry) (es u v earlier later m : List Entry) (b : FirstStep R w e es) → Finds R b.after es f
     → IsRunFrom R w (u ++ f ∷ v) → IsFree f u → IsFree e earlier → IsRunFrom R b.after (earlier ++ later)
     → IsEquivalent R b.after (events es) (events (earlier ++ later)) → earlier ≡ u ++ f ∷ m → v ≡ m ++ e ∷ later
     → Found R w f (e ∷ es) (u ++ v)
@@ -116,7 +117,7 @@ found_before R w e f es u v earlier later m b finds runs_f free_f free_e runs on
     })
 
 -- it stands behind it
-found_later : (R : ℕ) (w : World) (e f : Entry) (es u v earlier later m : List Entry) (b : Beginning R w e es) → Finds R b.after es f
+found_later : (R : ℕ) (w : World) (e f : Entry) (es u v earlier later m : List Entry) (b : FirstStep R w e es) → Finds R b.after es f
     → IsRunFrom R w (u ++ f ∷ v) → IsFree f u → IsFree e earlier → IsRunFrom R b.after (earlier ++ later)
     → IsEquivalent R b.after (events es) (events (earlier ++ later)) → u ≡ earlier ++ e ∷ m → later ≡ m ++ f ∷ v
     → Found R w f (e ∷ es) (u ++ v)
@@ -138,7 +139,7 @@ found_later R w e f es u v earlier later m b finds runs_f free_f free_e runs on 
       leaves = append_assoc earlier m v;
     })
 
-found_from : (R : ℕ) (w : World) (e f : Entry) (es u v earlier later : List Entry) (b : Beginning R w e es) → Finds R b.after es f
+found_from : (R : ℕ) (w : World) (e f : Entry) (es u v earlier later : List Entry) (b : FirstStep R w e es) → Finds R b.after es f
     → IsRunFrom R w (u ++ f ∷ v) → IsFree f u → IsFree e earlier → IsRunFrom R b.after (earlier ++ later)
     → IsEquivalent R b.after (events es) (events (earlier ++ later)) → Places u f v earlier e later → Found R w f (e ∷ es) (u ++ v)
 found_from R w e f es u v earlier later b finds runs_f free_f free_e runs on (one a c d) =
@@ -159,7 +160,7 @@ nothing_there (y ∷ xs) ys x h = cc
 find : (R : ℕ) (w : World) (es : List Entry) (f : Entry) → Finds R w es f
 find R w [] f u v runs_e runs_f free h = absurd (nothing_there u v f h)
 find R w (e ∷ es) f u v runs_e runs_f free h =
-    let b = beginning R w e es runs_e in
+    let b = first_step R w e es runs_e in
     let c = comes_first R w e.event (events es) (u ++ f ∷ v) runs_f h in
     let to_front = front R w c.may.earlier c.may.entry c.may.later (subst (λ (l : List Entry). IsRunFrom R w l) c.may.stands runs_f) c.may.free in
     let same : record { world = to_front.after; entry = c.may.entry } ≡ record { world = b.after; entry = e } =
@@ -186,7 +187,7 @@ converse : (R : ℕ) (w : World) (es fs : List Entry) → IsRunFrom R w es → I
 converse R w es [] runs_e runs_f h = converse_none R w es h
 converse R w es (f ∷ fs) runs_e runs_f h =
     let found = find R w es f [] fs runs_e runs_f tt h in
-    let b = beginning R w f fs runs_f in
+    let b = first_step R w f fs runs_f in
     let to_front = front R w found.earlier f found.later (subst (λ (l : List Entry). IsRunFrom R w l) found.stands runs_e) found.free in
     let here : record { world = to_front.after; entry = f } ≡ record { world = b.after; entry = f } = as_stepped-same _ _ (sym to_front.goes ∙ b.goes) in
     let there : record { world = found.after; entry = f } ≡ record { world = b.after; entry = f } = as_stepped-same _ _ (sym found.goes ∙ b.goes) in

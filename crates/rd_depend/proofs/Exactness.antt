@@ -1,83 +1,25 @@
 -- Taking a record that may come first out of one list, and the first one out of the other, keeps whether the lists are equivalent.
-use Rattle.std.proofs.Common.{◌≡◌, ◌↔◌, ℕ, zero, suc, ◌+◌, ◌-◌, ◌<◌, ◌≤◌, Bool, false, IsTrue, refl, sym, ◌∙◌, ap, subst, arith, List, [], ◌∷◌, ◌++◌, length, get_or, take, drop, length-drop, Result, Ok, Err}
+use Rattle.std.proofs.Common.{◌≡◌, ◌↔◌, ℕ, zero, suc, ◌+◌, ◌-◌, ◌<◌, ◌≤◌, Bool, false, IsTrue, refl, sym, ◌∙◌, ap, subst, arith, List, [], ◌∷◌, ◌++◌, length, get_or, take, drop, length-drop, Ok}
 use Rattle.std.proofs.Math.ListN.{drop_of_length-le}
 use Rattle.std.proofs.Math.Seq.{drop-cons}
 use Rattle.std.proofs.lemmas.List.{map-append, take_all}
-use Rattle.rd_step.specs.Prelude.{Refusal, World, Stepped, step, Ran, run, IsFree}
+use Rattle.rd_step.specs.Prelude.{World, Stepped, step, Ran, run, IsFree}
 use Rattle.rd_step.specs.declared.entries.Event.{Event}
 use Rattle.rd_step.specs.declared.entries.Entry.{Entry}
 use Rattle.rd_step.specs.Equivalence.{IsEquivalent}
 use Rattle.rd_step.specs.Run.{events, run_entries, IsRunFrom}
-use Rattle.rd_step.proofs.Inverse.{ran_on, run-cons}
+use Rattle.rd_step.proofs.RunParts.{runs_to, FirstStep, first_step, middle}
 use Rattle.rd_step.proofs.Equivalence.{as_stepped-same, goes_first, stands_in}
 use Rattle.rd_depend.specs.Equivalence.{DecidesEquivalence, MayComeFirst, CannotComeFirst}
 use Rattle.rd_depend.proofs.Search.{one_place}
 
--- A run taken apart at its first step
-
--- the last world of a run, if the records that it leaves are known
-record RunsTo (R : ℕ) (w : World) (xs : List Entry) : Type 0 where
-  last : World
-  runs : run R w (events xs) ≡ Ok (record { world = last; entries = xs })
-
-runs_to_of : (R : ℕ) (w : World) (xs : List Entry) (o : Result Ran Refusal) → run R w (events xs) ≡ o → run_entries o ≡ Ok xs → RunsTo R w xs
-runs_to_of R w xs (Err refusal) h k = cc
-runs_to_of R w xs (Ok r) h k =
-    let same : r.entries ≡ xs = cc in
-    record { last = r.world; runs = h ∙ (λ i. Ok (record { world = r.world; entries = same i })) }
-
-runs_to : (R : ℕ) (w : World) (xs : List Entry) → IsRunFrom R w xs → RunsTo R w xs
-runs_to R w xs h = runs_to_of R w xs (run R w (events xs)) refl h
-
-pub record Beginning (R : ℕ) (w : World) (x : Entry) (xs : List Entry) : Type 0 where
-  pub after : World
-  pub goes : step R w x.event ≡ Ok (record { world = after; entry = x })
-  pub rest : IsRunFrom R after xs
-
-pub beginning : (R : ℕ) (w : World) (x : Entry) (xs : List Entry) → IsRunFrom R w (x ∷ xs) → Beginning R w x xs
-beginning R w x xs h =
-    let to = runs_to R w (x ∷ xs) h in
-    let ran = ran_on R w x.event (events xs) (record { world = to.last; entries = x ∷ xs }) to.runs in
-    let all : ran.one.entry ∷ ran.rest.entries ≡ x ∷ xs = ap (λ (y : Ran). y.entries) ran.joins in
-    let its : ran.one.entry ≡ x = cc in
-    let others : ran.rest.entries ≡ xs = cc in
-    record {
-      after = ran.one.world;
-      goes = ran.goes ∙ (λ i. Ok (record { world = ran.one.world; entry = its i }));
-      rest = ap run_entries ran.goes_on ∙ ap (λ (ys : List Entry). Ok ys) others;
-    }
-
--- and at one of its steps
-
-record Middle (R : ℕ) (w : World) (xs : List Entry) (x : Entry) (ys : List Entry) : Type 0 where
-  before : World
-  ran : run R w (events xs) ≡ Ok (record { world = before; entries = xs })
-  after : World
-  goes : step R before x.event ≡ Ok (record { world = after; entry = x })
-  rest : IsRunFrom R after ys
-
-middle : (R : ℕ) (w : World) (xs : List Entry) (x : Entry) (ys : List Entry) → IsRunFrom R w (xs ++ x ∷ ys) → Middle R w xs x ys
-middle R w [] x ys h =
-    let first = beginning R w x ys h in
-    record { before = w; ran = refl; after = first.after; goes = first.goes; rest = first.rest }
-middle R w (y ∷ xs) x ys h =
-    let first = beginning R w y (xs ++ x ∷ ys) h in
-    let m = middle R first.after xs x ys first.rest in
-    record {
-      before = m.before;
-      ran = run-cons R w y.event (events xs) (record { world = first.after; entry = y }) (record { world = m.before; entries = xs }) first.goes m.ran;
-      after = m.after;
-      goes = m.goes;
-      rest = m.rest;
-    }
-
 -- a record that depends on no earlier one goes first, and the others run on with their records
-pub front : (R : ℕ) (w : World) (xs : List Entry) (x : Entry) (ys : List Entry) → IsRunFrom R w (xs ++ x ∷ ys) → IsFree x xs → Beginning R w x (xs ++ ys)
+pub front : (R : ℕ) (w : World) (xs : List Entry) (x : Entry) (ys : List Entry) → IsRunFrom R w (xs ++ x ∷ ys) → IsFree x xs → FirstStep R w x (xs ++ ys)
 front R w xs x ys h free =
-    let m = middle R w xs x ys h in
-    let to = runs_to R m.after ys m.rest in
+    let to = runs_to R w (xs ++ x ∷ ys) h in
+    let m = middle R w xs x ys to.last to.runs in
     let first = goes_first R w x.event (events xs) (events ys) (record { world = m.before; entries = xs })
-    (record { world = m.after; entry = x }) (record { world = to.last; entries = ys }) m.ran m.goes free to.runs in
+    (record { world = m.after; entry = x }) (record { world = to.last; entries = ys }) m.ran m.goes free m.rest in
     record {
       after = first.after;
       goes = first.goes;
@@ -124,7 +66,8 @@ pub stands_first : (R : ℕ) (w : World) (x : Entry) (u : World) (es : List Even
     → step R w x.event ≡ Ok (record { world = u; entry = x }) → (m : MayComeFirst x.event rest left)
     → IsEquivalent R u es (events left) → IsEquivalent R w (x.event ∷ es) (events rest)
 stands_first R w x u es rest left runs goes m on =
-    let mid = middle R w m.earlier m.entry m.later (subst (λ (l : List Entry). IsRunFrom R w l) m.stands runs) in
+    let to = runs_to R w (m.earlier ++ m.entry ∷ m.later) (subst (λ (l : List Entry). IsRunFrom R w l) m.stands runs) in
+    let mid = middle R w m.earlier m.entry m.later to.last to.runs in
     record {
       earlier = events m.earlier;
       later = events m.later;
@@ -172,7 +115,7 @@ one_more : (R : ℕ) (w v : World) (a b xs rest left : List Entry) (x : Entry) �
     → IsEquivalent R w (events a) (events b) ↔ IsEquivalent R v (events (x ∷ xs)) (events rest)
     → MayComeFirst x.event rest left → Remains R w a b xs left
 one_more R w v a b xs rest left x runs_a runs_b exactly m =
-    let first = beginning R v x xs runs_a in
+    let first = first_step R v x xs runs_a in
     let to_front = front R v m.earlier m.entry m.later (subst (λ (l : List Entry). IsRunFrom R v l) m.stands runs_b) m.free in
     let same : record { world = to_front.after; entry = m.entry } ≡ record { world = first.after; entry = x } =
     as_stepped-same _ _ (sym to_front.goes ∙ ap (step R v) m.its_event ∙ first.goes) in

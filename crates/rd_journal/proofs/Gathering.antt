@@ -10,7 +10,7 @@ use Rattle.rd_step.proofs.Commute.{commutes}
 use Rattle.rd_step.proofs.Inverse.{run-cons}
 use Rattle.rd_journal.specs.Journal.{events}
 use Rattle.rd_journal.proofs.ListLemmas.{nth, drop_one_less}
-use Rattle.rd_journal.proofs.Runs.{beginning}
+use Rattle.rd_step.proofs.RunParts.{beginning}
 
 take_seam : (xs ys : List Entry) (n : ℕ) → length xs ≡ n → take n (xs ++ ys) ≡ xs
 take_seam xs ys n h = ap (λ (m : ℕ). take m (xs ++ ys)) (sym h) ∙ take-append_seam xs ys

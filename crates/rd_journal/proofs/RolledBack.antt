@@ -16,7 +16,8 @@ use Rattle.rd_journal.specs.State.{State, state_of, run_of, back_one, times, clo
 use Rattle.rd_journal.proofs.Calls.{back_start}
 use Rattle.rd_journal.proofs.Gathering.{cut_at, gathered_run}
 use Rattle.rd_journal.proofs.ListLemmas.{nth, drop_one_less}
-use Rattle.rd_journal.proofs.Runs.{middle, run_joined, goes_back}
+use Rattle.rd_step.proofs.RunParts.{middle}
+use Rattle.rd_journal.proofs.Runs.{run_joined, goes_back}
 
 -- The closure gathered last
 

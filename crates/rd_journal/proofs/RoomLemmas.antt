@@ -11,7 +11,7 @@ use Rattle.rd_journal.specs.Journal.{Journal, events, run_entries}
 use Rattle.rd_journal.specs.Records.{IsSession}
 use Rattle.rd_journal.specs.Room.{room_returned_by, HasRoom, count_after, makings, makings_after, makes_after, IsOutOfMemory, MayBeOutOfMemory}
 use Rattle.rd_journal.specs.State.{step_after, state_of}
-use Rattle.rd_journal.proofs.Runs.{first_step}
+use Rattle.rd_step.proofs.RunParts.{first_step}
 
 -- undoing a step gives back the room that redoing it wants
 pub given_back : (xs ys : List Entry) (x : Entry) (before after : ℕ → ℕ) → ys ≡ x ∷ xs → HasRoom xs before

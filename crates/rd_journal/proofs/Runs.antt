@@ -10,6 +10,7 @@ use Rattle.rd_step.proofs.Steps.{took}
 use Rattle.rd_step.proofs.Inverse.{undoes, ran_on, run-cons}
 use Rattle.rd_step.proofs.Keeps.{keeps}
 use Rattle.rd_step.proofs.Removal.{run_keeps, taken_out}
+use Rattle.rd_step.proofs.RunParts.{beginning, Middle, middle, first_step}
 use Rattle.rd_journal.specs.Journal.{Journal, events, world_before, start_of, run_entries, IsRun}
 
 -- an answer that is no refusal
@@ -36,50 +37,6 @@ run_joined R s (e ∷ es) fs r q h k =
     let joined = run_joined R ran.one.world es fs ran.rest q ran.goes_on goes in
     run-cons R s e (es ++ fs) ran.one (record { world = q.world; entries = ran.rest.entries ++ q.entries }) ran.goes joined
     ∙ ap (λ (x : Ran). Ok (record { world = q.world; entries = x.entries ++ q.entries })) ran.joins
-
--- a run that left at least one record, taken apart at its first step
-pub record Beginning (R : ℕ) (s : World) (x : Entry) (xs : List Entry) (w : World) : Type 0 where
-  pub after : World
-  pub goes : step R s x.event ≡ Ok (record { world = after; entry = x })
-  pub rest : run R after (events xs) ≡ Ok (record { world = w; entries = xs })
-
-pub beginning : (R : ℕ) (s : World) (x : Entry) (xs : List Entry) (w : World)
-    → run R s (events (x ∷ xs)) ≡ Ok (record { world = w; entries = x ∷ xs }) → Beginning R s x xs w
-beginning R s x xs w h =
-    let ran = ran_on R s x.event (events xs) (record { world = w; entries = x ∷ xs }) h in
-    let there : ran.rest.world ≡ w = ap (λ (y : Ran). y.world) ran.joins in
-    let all : ran.one.entry ∷ ran.rest.entries ≡ x ∷ xs = ap (λ (y : Ran). y.entries) ran.joins in
-    let its : ran.one.entry ≡ x = cc in
-    let others : ran.rest.entries ≡ xs = cc in
-    record {
-      after = ran.one.world;
-      goes = ran.goes ∙ (λ i. Ok (record { world = ran.one.world; entry = its i }));
-      rest = ran.goes_on ∙ (λ i. Ok (record { world = there i; entries = others i }));
-    }
-
--- a run taken apart at one of its steps
-pub record Middle (R : ℕ) (s : World) (xs : List Entry) (x : Entry) (ys : List Entry) (w : World) : Type 0 where
-  pub before : World
-  pub ran : run R s (events xs) ≡ Ok (record { world = before; entries = xs })
-  pub after : World
-  pub goes : step R before x.event ≡ Ok (record { world = after; entry = x })
-  pub rest : run R after (events ys) ≡ Ok (record { world = w; entries = ys })
-
-pub middle : (R : ℕ) (s : World) (xs : List Entry) (x : Entry) (ys : List Entry) (w : World)
-    → run R s (events (xs ++ x ∷ ys)) ≡ Ok (record { world = w; entries = xs ++ x ∷ ys }) → Middle R s xs x ys w
-middle R s [] x ys w h =
-    let first = beginning R s x ys w h in
-    record { before = s; ran = refl; after = first.after; goes = first.goes; rest = first.rest }
-middle R s (y ∷ xs) x ys w h =
-    let first = beginning R s y (xs ++ x ∷ ys) w h in
-    let m = middle R first.after xs x ys w first.rest in
-    record {
-      before = m.before;
-      ran = run-cons R s y.event (events xs) (record { world = first.after; entry = y }) (record { world = m.before; entries = xs }) first.goes m.ran;
-      after = m.after;
-      goes = m.goes;
-      rest = m.rest;
-    }
 
 -- the loop lemma for runs: putting back the old words of a run's records gives the world that it began in
 pub goes_back : (R : ℕ) (s w : World) (xs : List Entry) → IsWellFormed R s → run R s (events xs) ≡ Ok (record { world = w; entries = xs })
@@ -199,30 +156,6 @@ shrunk R w xs ys x runs =
           subst (λ (l : List Entry). IsRun R (record { world = unstep w x; live = l; undone = x ∷ ys })) (append-nil xs)
           (may.runs (unstep w x) (taken_out R w x may.was));
     }
-
--- the first step of records that run on from a world: it goes, with its record, and the rest run on from there
-pub record FirstStep (R : ℕ) (w : World) (y : Entry) (ys : List Entry) : Type 0 where
-  pub after : World
-  pub goes : step R w y.event ≡ Ok (record { world = after; entry = y })
-  pub rest : run_entries (run R after (events ys)) ≡ Ok ys
-
-first_ran : (R : ℕ) (w : World) (y : Entry) (ys : List Entry) (o : Result Ran Refusal) → run R w (events (y ∷ ys)) ≡ o → run_entries o ≡ Ok (y ∷ ys)
-    → FirstStep R w y ys
-first_ran R w y ys (Err refusal) h k = cc
-first_ran R w y ys (Ok r) h k =
-    let ran = ran_on R w y.event (events ys) r h in
-    let all : ran.one.entry ∷ ran.rest.entries ≡ r.entries = ap (λ (z : Ran). z.entries) ran.joins in
-    let found : r.entries ≡ y ∷ ys = cc (k) in
-    let its : ran.one.entry ≡ y = cc in
-    let others : ran.rest.entries ≡ ys = cc in
-    record {
-      after = ran.one.world;
-      goes = ran.goes ∙ (λ i. Ok (record { world = ran.one.world; entry = its i }));
-      rest = ap run_entries ran.goes_on ∙ ap (λ (zs : List Entry). Ok zs) others;
-    }
-
-pub first_step : (R : ℕ) (w : World) (y : Entry) (ys : List Entry) → run_entries (run R w (events (y ∷ ys))) ≡ Ok (y ∷ ys) → FirstStep R w y ys
-first_step R w y ys h = first_ran R w y ys (run R w (events (y ∷ ys))) refl h
 
 -- the first undone step of a journal: it goes, with its stored record, and the rest run on from there
 pub record MayRedo (R : ℕ) (w : World) (xs ys : List Entry) (y : Entry) : Type 0 where

@@ -15,7 +15,9 @@ use Rattle.rd_journal.specs.Records.{IsSession}
 use Rattle.rd_journal.specs.Room.{room_returned_by, HasRoom, HasRoomForAll}
 use Rattle.rd_journal.specs.State.{State, state_of, back_one, forward_one, times, switch}
 use Rattle.rd_journal.proofs.Calls.{back_start}
-use Rattle.rd_journal.proofs.Runs.{beginning, first_step, as_ok-same}
+use Rattle.rd_step.proofs.Removal.{run_stays_actor}
+use Rattle.rd_step.proofs.RunParts.{beginning, first_step}
+use Rattle.rd_journal.proofs.Runs.{as_ok-same}
 
 -- Counting makings
 
@@ -60,25 +62,6 @@ brings_no_actor R w e s m h none =
     subst (λ (x : Stepped). is_some (x.world.actor m) ≡ false) t.ends
     (ap is_some (with_actor-other e.actor next.0 w.actor m (not_its_actor R w e s m h none)) ∙ none)
 
--- nor does it take one away
-takes_no_actor : (R : ℕ) (w : World) (e : Event) (s : Stepped) (m : ℕ) → step R w e ≡ Ok s → is_some (w.actor m) ≡ true
-    → is_some (s.world.actor m) ≡ true
-takes_no_actor R w e s m h there =
-    let t = took R w e s h in
-    let next = after R t.a e.act t.did.answer in
-    subst (λ (x : Stepped). is_some (x.world.actor m) ≡ true) t.ends
-    (cond_both (m == e.actor) (Some next.0) (w.actor m) (λ (o : Option Actor). is_some o ≡ true) (λ k. refl) (λ k. there))
-
-stays_there : (R : ℕ) (s w : World) (xs : List Entry) (m : ℕ) → run R s (events xs) ≡ Ok (record { world = w; entries = xs }) → is_some (s.actor m) ≡ true
-    → is_some (w.actor m) ≡ true
-stays_there R s w [] m h there =
-    let same : record { world = s; entries = [] } ≡ record { world = w; entries = [] } =
-    as_ok-same (record { world = s; entries = [] }) (record { world = w; entries = [] }) h in
-    subst (λ (v : World). is_some (v.actor m) ≡ true) (ap (λ (r : Ran). r.world) same) there
-stays_there R s w (x ∷ xs) m h there =
-    let first = beginning R s x xs w h in
-    stays_there R first.after w xs m first.rest (takes_no_actor R s x.event (record { world = first.after; entry = x }) m first.goes there)
-
 used_by_other : (made : Bool) (n m : ℕ) → m ≢ n → room_used made n m ≡ 0
 used_by_other true n m ne = cond-false (m == n) 1 0 (ne_eqb m n ne)
 used_by_other false n m ne = refl
@@ -121,7 +104,7 @@ room_for_all R w xs ys room ran n h has = record { at = each }
     each m =
         elim (cases_Bool (is_some ((world_before w xs).actor m))) [
           | inl e ↦
-              let there : is_some (w.actor m) ≡ true = stays_there R (world_before w xs) w xs m ran e in
+              let there : is_some (w.actor m) ≡ true = run_stays_actor R (world_before w xs) (events xs) (record { world = w; entries = xs }) m ran e in
               has.at m there
           | inr e ↦ omega (arith, none_made R (world_before w xs) (take n xs ++ ys) m h e, returned_joined (take n xs) ys m)
         ]

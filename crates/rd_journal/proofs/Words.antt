@@ -8,7 +8,7 @@ use Rattle.rd_step.proofs.Removal.{run_keeps}
 use Rattle.rd_journal.specs.Journal.{Journal, events, start_of, IsRun}
 use Rattle.rd_journal.specs.Laws.{IsStepAfter}
 use Rattle.rd_journal.proofs.ListLemmas.{drop_one_less}
-use Rattle.rd_journal.proofs.Runs.{middle}
+use Rattle.rd_step.proofs.RunParts.{middle}
 
 -- the record at a position among the live ones
 pub step_after : (R : ℕ) (j : Journal) (k : ℕ) (x : Entry) → IsRun R j → k < length j.live → x ≡ get_or j.live k x → IsStepAfter R k j x

@@ -3,7 +3,7 @@ use Rattle.std.specs.Prelude.{◌≡◌, ℕ, ◌+◌, ◌≤◌, ◌<◌, ◌�
 use Rattle.rd_step.specs.Prelude.{Refusal, TooLong, NoMemory, World, Stepped, step, Ran, MOST_STEPS}
 use Rattle.rd_step.specs.declared.entries.Event.{Event}
 use Rattle.rd_step.specs.declared.entries.Entry.{Entry}
-use Rattle.rd_step.specs.Room.{makes_segment, room_used, room_returned}
+use Rattle.rd_step.specs.Room.{makes_segment, room_used, room_returned, FindsNoRoom}
 use Rattle.rd_journal.specs.Journal.{Journal}
 use Rattle.rd_journal.specs.State.{State, run_of, step_after}
 
@@ -57,7 +57,7 @@ pub record MayBeOutOfMemory (R : ℕ) (s : State) (e : Event) : Type 0 where
 -- for a segment that nothing else refuses, where the maker has no room
 pub record IsOutOfMemory (R : ℕ) (j : Journal) (capacity : ℕ) (room : ℕ → ℕ) (e : Event) : Type 0 where
   pub not_full : length j.live < MOST_STEPS
-  pub asked : ((j.undone ≡ []) × (capacity ≡ length j.live)) ⊎ (IsOk (step R j.world e) × IsTrue (makes_segment R j.world e) × (room e.actor ≡ 0))
+  pub asked : ((j.undone ≡ []) × (capacity ≡ length j.live)) ⊎ FindsNoRoom (step R j.world e) (makes_segment R j.world e) (room e.actor)
 
 -- what the step itself is refused for is answered only where there is room for its record
 abbrev pub ComesAfterRoom : ℕ → ℕ → Refusal → Type 0

@@ -27,10 +27,10 @@ actor_makes R act (Some a) = needs_making (need R a act)
 abbrev pub makes_segment : ℕ → World → Event → Bool
 makes_segment R w e = actor_makes R e.act (w.actor e.actor)
 
--- memory is all that may refuse what does this: it is a making, and its actor has no room
-abbrev pub LacksRoom : {X : Type 0} → Result X Refusal → Bool → ℕ → Type 0
-LacksRoom does makes room = IsOk does × IsTrue makes × (room ≡ 0)
+-- what does this is a making that nothing else refuses, and finds no room at its actor
+abbrev pub FindsNoRoom : {X : Type 0} → Result X Refusal → Bool → ℕ → Type 0
+FindsNoRoom does makes room = IsOk does × IsTrue makes × (room ≡ 0)
 
--- the refusal of what does this, or is refused: its own, or that of memory where room lacks
+-- what does this, or is refused, is refused so: as it is by itself, or for want of memory as a making that finds no room
 abbrev pub IsRefused : {X : Type 0} → Result X Refusal → Bool → ℕ → Refusal → Type 0
-IsRefused does makes room refusal = (does ≡ Err refusal) ⊎ ((refusal ≡ NoMemory) × LacksRoom does makes room)
+IsRefused does makes room refusal = (does ≡ Err refusal) ⊎ ((refusal ≡ NoMemory) × FindsNoRoom does makes room)

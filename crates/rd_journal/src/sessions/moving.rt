@@ -81,6 +81,7 @@ fn step_again<const R: usize>(world: &mut World<R>, entry: &Entry)
         }
     } else {
         let (words, _) = after::<R>(&entry.old_actor, entry.event.act, entry.answer);
-        world.revert(entry.event.actor, words, None, None);
+        let (place, content) = entry.overwritten();
+        world.revert(entry.event.actor, words, place, content);
     }
 }

@@ -10,7 +10,7 @@ ghost use Rattle.rd_journal.specs.State.{switch};
 
 use super::Session;
 use rd_cell::limits::MOST_STEPS;
-use rd_cell::{Place, Refusal};
+use rd_cell::Refusal;
 use rd_step::{Entry, World};
 
 impl<const R: usize> Session<R> {
@@ -92,8 +92,8 @@ fn makings_by(entries: &[Entry], actor: u8) -> usize
 fn is_making_by(entry: &Entry, actor: u8) -> bool
     ensures { (if result then 1 else 0) ≡ room_returned entry.now.place entry.now.old_content actor }
 {
-    match (entry.place, entry.old_content) {
-        (Some(Place::Whole(segment)), None) => actor == segment.maker,
-        _ => false,
+    match entry.made() {
+        Some(segment) => actor == segment.maker,
+        None => false,
     }
 }

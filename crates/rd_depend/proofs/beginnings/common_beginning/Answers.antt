@@ -1,4 +1,4 @@
-use Rattle.std.proofs.Common.{◌≡◌, sym, arith}
+use Rattle.std.proofs.Common.{sym, arith}
 use Rattle.rd_depend.proofs.CommonBeginning.{begins_within, differ_there}
 use Rattle.rd_depend.proofs.beginnings.common_beginning.Goals as goal
 

@@ -1,6 +1,5 @@
 use Rattle.std.proofs.lemmas.Result.{IfOk-weaker, on_err_weaker}
 use Rattle.rd_depend.specs.Equivalence.{DecidesEquivalence}
-use Rattle.rd_depend.specs.Beginnings.{IsBegunByNeither}
 use Rattle.rd_depend.proofs.CommonBeginning.{neither_begins}
 use Rattle.rd_depend.proofs.Exactness.{right_behind}
 use Rattle.rd_depend.proofs.equivalence.are_equivalent.Goals as goal

@@ -43,7 +43,7 @@ returns-in_err-entry-clause-err g c =
       | inr h ↦ inr (
         h.0,
         may_be_out g.row.R old (records_capacity self.records) (room self.world) c.args.event self.kept
-            (record { not_full = less; asked = inr (h.1, h.2, h.3) }),
+            (record { not_full = less; asked = inr h.1 }),
       )
     ])
 
@@ -55,7 +55,7 @@ returns-in_err-entry-clause-memory g c =
     error_passed_up _ c.in_err-entry.field-0.0 c.from_residual-in_err-entry.result c.from_residual-in_err-entry.ensures.1 (
     elim c.in_err-entry.ensures.err [
       | inl h ↦ inl (apply_refused g.row.R old c.args.event c.in_err-entry.field-0.0 self.kept.runs less h)
-      | inr h ↦ inr (h.0, record { not_full = less; asked = inr (h.1, h.2, h.3) })
+      | inr h ↦ inr (h.0, record { not_full = less; asked = inr h.1 })
     ])
 
 pub returns-in_err-entry-clause-unchanged : goal.returns-in_err-entry-clause-unchanged
