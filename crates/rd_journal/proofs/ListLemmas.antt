@@ -1,7 +1,7 @@
 -- Lists cut in two, the last element of a list, and one moved behind others.
 use Rattle.std.proofs.Common.{◌≡◌, ℕ, zero, suc, ◌+◌, ◌-◌, ◌<◌, ◌≤◌, List, [], ◌∷◌, ◌++◌, length, get_or, take, drop, refl, sym, ◌∙◌, ap, arith, length-append, length-drop}
 use borrow.Rule.Slice.PartMut.{put_mid, mid_of}
-use Rattle.std.proofs.Math.Seq.{take-suc, drop-cons, take-append_seam, drop-append_seam, take-add}
+use Rattle.std.proofs.Math.Seq.{drop-cons, take-append_seam, drop-append_seam, take-add}
 use Rattle.std.proofs.lemmas.List.{append_assoc, take-append-drop, length-take-le, take-take, drop-take, drop-append-le, drop-drop}
 
 -- all but the last

@@ -1,15 +1,15 @@
 -- Records of a run put behind the first live ones, and the room that their makings ask for.
-use Rattle.std.proofs.Common.{◌≡◌, ◌≢◌, ℕ, zero, suc, ◌+◌, ◌-◌, ◌<◌, ◌≤◌, ◌==◌, Bool, true, false, refl, sym, ◌∙◌, ap, subst, arith, inl, inr, List, [], ◌∷◌, ◌++◌, length, take, drop, get_or, Option, Some, None, is_some, IsSome, Ok, ne_eqb, length-append}
-use Rattle.std.proofs.Math.Seq.{take-append_seam, drop-append_seam, take-length, drop-length, take-suc}
-use Rattle.std.proofs.lemmas.Bool.{cases_Bool, cases_eq, cond-false, cond_both}
-use Rattle.std.proofs.lemmas.List.{map-append, take-map, take-take, length-take-le}
-use Rattle.rd_step.specs.Prelude.{Place, Content, Actor, after, World, Stepped, step, Ran, run, MOST_STEPS}
+use Rattle.std.proofs.Common.{◌≡◌, ◌≢◌, ℕ, zero, suc, ◌+◌, ◌-◌, ◌<◌, ◌≤◌, ◌==◌, Bool, true, false, refl, sym, ◌∙◌, ap, subst, arith, inl, inr, List, [], ◌∷◌, ◌++◌, length, take, drop, get_or, Option, Some, None, is_some, IsSome, Ok, ne_eqb}
+use Rattle.std.proofs.Math.Seq.{take-length, drop-length, take-suc}
+use Rattle.std.proofs.lemmas.Bool.{cases_Bool, cases_eq, cond-false}
+use Rattle.std.proofs.lemmas.List.{map-append, take-map}
+use Rattle.rd_step.specs.Prelude.{Place, Content, after, World, Stepped, step, Ran, run, MOST_STEPS}
 use Rattle.rd_step.specs.declared.entries.Event.{Event}
 use Rattle.rd_step.specs.declared.entries.Entry.{Entry}
 use Rattle.rd_step.specs.Room.{makes_segment, room_used, room_returned}
 use Rattle.rd_step.proofs.Steps.{took, with_actor-other}
 use Rattle.rd_step.proofs.Room.{room_used_returned}
-use Rattle.rd_journal.specs.Journal.{Journal, events, world_before, start_of, IsRunFrom, IsRun}
+use Rattle.rd_journal.specs.Journal.{Journal, events, world_before, start_of, IsRunFrom}
 use Rattle.rd_journal.specs.Moves.{IsMovedBack, IsMovedForward, IsSwitched}
 use Rattle.rd_journal.specs.Records.{IsSession}
 use Rattle.rd_journal.specs.Room.{room_returned_by, HasRoom, HasRoomForAll}

@@ -1,16 +1,17 @@
 //! The two queries of a session: the origin of a value that a step took, and the last writer of a place.
 
 ghost use Rattle.std.specs.Prelude.{◌≡◌};
-ghost use Rattle.rd_journal.specs.Sessions.{journal, state};
+ghost use Rattle.rd_journal.specs.Sessions.{state};
 ghost use Rattle.rd_journal.specs.State.{run_of};
 ghost use Rattle.rd_origin.specs.Origins.{takes_value, put_of, call_of, origin_in};
 ghost use Rattle.rd_origin.specs.Writers.{last_writer_in};
 
 use super::origins::Origin;
-use super::searches::{Sought, last_below};
+use super::searches::{Sought, last_below, step_of};
 use rd_actor::OpReply;
 use rd_cell::{Place, Refusal};
 use rd_journal::Session;
+use rd_step::Entry;
 
 /// The origin of the value that the live step of this number took, from 1: the last step before it that put a value into
 /// the same cell, and the call that this put was made in.
@@ -25,18 +26,14 @@ use rd_journal::Session;
 pub fn origin<const R: usize>(session: &Session<R>, k: u64) -> Result<Origin, Refusal>
     ensures answer { result ≡ origin_in k (run_of R (state session.now)) }
 {
-    // What a session promises of its world says that its records are those of the run, of which the origin is defined.
-    let _world = session.world();
-    let taken = match session.entry(k) {
-        Err(refusal) => return Err(refusal),
-        Ok(taken) => taken,
-    };
+    let taken = session.entry(k)?;
     if !takes_value(taken.reply) {
         return Err(Refusal::NotATake);
     }
-    let put = last_put(session, k, taken.place);
+    let steps = session.live();
+    let put = last_put(steps, k, taken.place);
     Ok(Origin {
-        call: last_call(session, put),
+        call: last_call(steps, put),
         put,
         take: k,
     })
@@ -50,26 +47,19 @@ fn takes_value(reply: Option<OpReply>) -> bool
 }
 
 /// The last step before the `k`-th that put a value into the cell, if there is a cell.
-fn last_put<const R: usize>(session: &Session<R>, k: u64, cell: Option<Place>) -> Option<u64>
-    ensures { result ≡ put_of (journal session.now).live k cell }
+fn last_put(steps: &[Entry], k: u64, cell: Option<Place>) -> Option<u64>
+    ensures { result ≡ put_of steps.now k cell }
 {
-    match cell {
-        None => None,
-        Some(cell) => last_below(session, k, Sought::PutInto(cell)),
-    }
+    last_below(steps, k, Sought::PutInto(cell?))
 }
 
-/// The last call before a step by the actor of that step, if there is one.
-fn last_call<const R: usize>(session: &Session<R>, step: Option<u64>) -> Option<u64>
-    ensures { result ≡ call_of (journal session.now).live step }
+/// The last call before the step of this number by the actor of that step, if there is one.
+fn last_call(steps: &[Entry], number: Option<u64>) -> Option<u64>
+    ensures { result ≡ call_of steps.now number }
 {
-    let Some(number) = step else {
-        return None;
-    };
-    match session.entry(number) {
-        Err(_) => None,
-        Ok(entry) => last_below(session, number, Sought::CallBy(entry.event.actor)),
-    }
+    let number = number?;
+    let step = step_of(steps, number)?;
+    last_below(steps, number, Sought::CallBy(step.event.actor))
 }
 
 /// The last live step that wrote this place, or one that overlaps it; none if no live step did. It takes no memory, and makes
@@ -86,6 +76,6 @@ pub fn last_writer<const R: usize>(
 {
     match session.world().content(place) {
         None => Err(Refusal::NoSuchPlace),
-        Some(_) => Ok(last_below(session, session.len() + 1, Sought::WriteOf(place))),
+        Some(_) => Ok(last_below(session.live(), session.len() + 1, Sought::WriteOf(place))),
     }
 }

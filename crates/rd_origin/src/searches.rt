@@ -1,7 +1,7 @@
 //! The one search that both queries make: back from a step to the last one before it that is what they look for.
 
-ghost use Rattle.std.specs.Prelude.{◌≡◌, ◌-◌, take};
-ghost use Rattle.rd_journal.specs.Sessions.{journal};
+ghost use Rattle.std.specs.Prelude.{◌≡◌, ◌-◌, take, Some, None, MatchOption};
+ghost use Rattle.rd_step.specs.Dependence.{numbered};
 ghost use Rattle.rd_origin.specs.Origins.{is_call, is_at, is_first_cell, puts_into, calls_by};
 ghost use Rattle.rd_origin.specs.Positions.{last_position};
 ghost use Rattle.rd_origin.specs.Writers.{writes_to};
@@ -9,7 +9,6 @@ ghost use Rattle.rd_origin.specs.Searches.{is_sought, is_sought_in};
 
 use rd_actor::{Act, Pc};
 use rd_cell::{Place, overlaps};
-use rd_journal::Session;
 use rd_step::Entry;
 
 /// What is looked for.
@@ -36,30 +35,36 @@ impl Sought {
     }
 }
 
-/// The greatest number below this one of a live step that is what is looked for.
-pub(crate) fn last_below<const R: usize>(
-    session: &Session<R>,
-    below: u64,
-    sought: Sought,
-) -> Option<u64>
-    ensures { result ≡ last_position (is_sought sought) (take (below - 1) (journal session.now).live) }
+/// The greatest number below this one of a step that is what is looked for.
+pub(crate) fn last_below(steps: &[Entry], below: u64, sought: Sought) -> Option<u64>
+    ensures { result ≡ last_position (is_sought sought) (take (below - 1) steps.now) }
 {
     for number in (1..below).rev() {
-        if is_at_number(session, number, sought) {
+        if is_at_number(steps, number, sought) {
             return Some(number);
         }
     }
     None
 }
 
-/// Whether there is a live step of this number, and it is what is looked for.
-fn is_at_number<const R: usize>(session: &Session<R>, number: u64, sought: Sought) -> bool
-    ensures { result ≡ is_sought_in sought (journal session.now).live number }
+/// Whether there is a step of this number, and it is what is looked for.
+fn is_at_number(steps: &[Entry], number: u64, sought: Sought) -> bool
+    ensures { result ≡ is_sought_in sought steps.now number }
 {
-    match session.entry(number) {
-        Err(_) => false,
-        Ok(step) => sought.is(&step),
+    match step_of(steps, number) {
+        None => false,
+        Some(step) => sought.is(step),
     }
+}
+
+/// The step of this number, from 1, if there is one.
+pub(crate) fn step_of(steps: &[Entry], number: u64) -> Option<&Entry>
+    ensures { MatchOption result (numbered steps.now number ≡ None) (λ step. numbered steps.now number ≡ Some step.now) }
+{
+    if number == 0 {
+        return None;
+    }
+    steps.get(number as usize - 1)
 }
 
 /// Whether the step put a value into this cell.

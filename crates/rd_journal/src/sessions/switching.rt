@@ -9,8 +9,8 @@ ghost use Rattle.rd_journal.specs.Room.{room_returned_by, HasRoomForAll, LacksRo
 ghost use Rattle.rd_journal.specs.State.{switch};
 
 use super::Session;
-use rd_cell::limits::MOST_STEPS;
 use rd_cell::Refusal;
+use rd_cell::limits::MOST_STEPS;
 use rd_step::{Entry, World};
 
 impl<const R: usize> Session<R> {

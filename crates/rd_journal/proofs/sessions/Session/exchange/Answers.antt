@@ -1,4 +1,4 @@
-use Rattle.std.proofs.Common.{◌≡◌, ◌∙◌, ◌-◌, ◌+◌, ◌≤◌, ◌++◌, List, length, take, refl, sym, ap, subst, arith, length-take-le}
+use Rattle.std.proofs.Common.{◌≡◌, ◌∙◌, ◌-◌, ◌++◌, List, length, take, refl, sym, ap, subst, arith, length-take-le}
 use Rattle.rd_step.specs.declared.entries.Entry.{Entry}
 use Rattle.rd_step.specs.Prelude.{World, model, room}
 use Rattle.rd_journal.specs.Journal.{start_of, IsRunFrom}
