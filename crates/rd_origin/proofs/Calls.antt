@@ -7,10 +7,12 @@ use Rattle.rd_step.specs.declared.entries.Event.{Event}
 use Rattle.rd_step.specs.declared.entries.Entry.{Entry}
 use Rattle.rd_step.proofs.Steps.{took}
 use Rattle.rd_journal.specs.Journal.{events}
-use Rattle.rd_journal.proofs.Runs.{as_ok, as_ok-same, beginning}
+use Rattle.rd_step.proofs.RunParts.{beginning}
+use Rattle.rd_journal.proofs.Runs.{as_ok, as_ok-same}
 use Rattle.rd_origin.specs.Origins.{is_call, puts_into, calls_by}
 use Rattle.rd_origin.proofs.Split.{NonePasses}
-use Rattle.rd_origin.proofs.Ops.{called, IsStill, after_still, after_call}
+use Rattle.rd_origin.proofs.Rows.{IsStill}
+use Rattle.rd_origin.proofs.Ops.{called, after_still, after_call}
 use Rattle.rd_origin.proofs.Values.{HoldsOnly}
 use Rattle.rd_origin.proofs.Steps.{value_stays}
 

@@ -10,13 +10,15 @@ use Rattle.rd_step.proofs.Keeps.{keeps}
 use Rattle.rd_step.proofs.Removal.{run_keeps}
 use Rattle.rd_step.proofs.Equivalence.{run_events}
 use Rattle.rd_journal.specs.Journal.{events}
-use Rattle.rd_journal.proofs.Runs.{as_ok-same, middle}
+use Rattle.rd_step.proofs.RunParts.{middle}
+use Rattle.rd_journal.proofs.Runs.{as_ok-same}
 use Rattle.rd_origin.specs.declared.origins.Origin.{Origin}
 use Rattle.rd_origin.specs.Positions.{last_position}
 use Rattle.rd_origin.specs.Origins.{takes_value, puts_into, calls_by, put_of, call_before, call_of, origin_by, origin_at, origin, argument}
 use Rattle.rd_origin.specs.Laws.{IsHandedOver}
 use Rattle.rd_origin.proofs.Split.{at_seam, before_seam, apart, NonePasses, apart_at_last}
-use Rattle.rd_origin.proofs.Ops.{called, IsStill, argued}
+use Rattle.rd_origin.proofs.Rows.{IsStill}
+use Rattle.rd_origin.proofs.Ops.{called, argued}
 use Rattle.rd_origin.proofs.Values.{held, HoldsOnly}
 use Rattle.rd_origin.proofs.Puts.{put}
 use Rattle.rd_origin.proofs.Takes.{taken_held}

@@ -2,6 +2,7 @@ pub mod Positions
 pub mod Search
 pub mod Found
 pub mod Split
+pub mod Rows
 pub mod Ops
 pub mod Values
 pub mod Steps

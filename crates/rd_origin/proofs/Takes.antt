@@ -1,87 +1,22 @@
 -- A step that takes a value found it in its cell.
-use Rattle.std.proofs.Common.{◌≡◌, ◌⊎◌, ℕ, ◌+◌, ◌%◌, Bool, true, false, nat_le, inl, inr, refl, sym, ◌∙◌, ap, subst, Option, Some, None, Ok, IfOk}
-use Rattle.std.proofs.lemmas.Bool.{cond_both}
+use Rattle.std.proofs.Common.{◌≡◌, ℕ, ◌+◌, ◌%◌, Bool, true, false, inl, inr, refl, sym, ◌∙◌, ap, subst, Option, Some, None, Ok, IfOk}
 use Rattle.std.proofs.lemmas.Result.{IfOk-at_ok}
-use Rattle.rd_step.specs.Prelude.{Cell, SegName, Place, CellAt, ArrCell, ArrSlot, Empty as NobodyYet, Top, Held, Content, Name, Number, TailIs, NextIs, CellIs, Slot, Answer, Access, Contents, Performed, perform, Actor, Act, OpReply, need, after, World, Stepped, step}
+use Rattle.rd_step.specs.Prelude.{Cell, SegName, Place, CellAt, ArrCell, ArrSlot, Empty as NobodyYet, Top, Held, Content, CellIs, Slot, Access, Contents, Performed, perform, Actor, Act, need, after, World, Stepped, step}
 use Rattle.rd_cell.specs.declared.operations.Operation.TheVariants.{Cas2, Swap}
-use Rattle.rd_cell.specs.declared.operations.Answer.TheVariants.{Found, Value, SafeAndIndex, Won, Lost, Made}
 use Rattle.rd_cell.specs.Cells.{is_cell}
 use Rattle.rd_cell.specs.Operations.{swaps}
 use Rattle.rd_cell.specs.Access.{perform_effect, operate}
 use Rattle.rd_cell.proofs.CellLemmas.{is_cell-true}
 use Rattle.rd_actor.specs.declared.actors.Act.TheVariants.{Enq, Deq, AEnq, ADeq, Go, Starve}
-use Rattle.rd_actor.specs.declared.actors.OpReply.TheVariants.{Value as Dequeued, Empty}
+use Rattle.rd_actor.specs.declared.actors.OpReply.TheVariants.{Value as Dequeued}
 use Rattle.rd_actor.specs.declared.actors.Pc.{Pc}
-use Rattle.rd_actor.specs.declared.actors.Pc.TheVariants.{E1, E2, E3, E4, E5, E6, E7, E8, E9, E11, E12, E13, E14, Q1, Q2, Q3, Q4, Q5, Q6, Q7, Q8, Q9, Q10, Q11, Q12, Q13, Q14, A1, A2, B1, B2, B3}
-use Rattle.rd_actor.specs.Actors.{idle}
-use Rattle.rd_actor.specs.Table.{need_at, cell_of, head_cell, with_pc, after_take, after_swap_in, after_swap_out, after_array_empty_check, after_at}
+use Rattle.rd_actor.specs.declared.actors.Pc.TheVariants.{Q5, B2}
+use Rattle.rd_actor.specs.Table.{need_at, cell_of, head_cell, after_take, after_swap_out, after_at}
 use Rattle.rd_step.specs.declared.entries.Event.{Event}
 use Rattle.rd_step.proofs.Steps.{took}
+use Rattle.rd_origin.proofs.Rows.{value_in, IsTaker, HandsOut, row_goes}
 use Rattle.rd_origin.proofs.Values.{held}
 use Rattle.rd_origin.proofs.Steps.{AtNone}
-
--- the value that a reply hands out
-abbrev value_in : Option OpReply → Option ℕ
-value_in (Some (Dequeued v)) = Some v
-value_in _ = None
-
--- the actor stands where it may take a value
-abbrev IsTaker : Pc → Type 0
-IsTaker pc = (pc ≡ Q5) ⊎ (pc ≡ B2)
-
-abbrev HandsOut : Pc → Actor × Option OpReply → Type 0
-HandsOut pc next = (value_in next.1 ≡ None) ⊎ IsTaker pc
-
-swap_in_replies : (pc : Pc) (a : Actor) (slot : ArrSlot) → HandsOut pc (after_swap_in a slot)
-swap_in_replies pc a NobodyYet = inl refl
-swap_in_replies pc a Top = inl refl
-swap_in_replies pc a (Held v) = inl refl
-
-empty_check_replies : (pc : Pc) (a : Actor) (u : ℕ) → HandsOut pc (after_array_empty_check a u)
-empty_check_replies pc a u = cond_both (nat_le u (a.h + 1)) (idle, Some Empty) (with_pc B1 a, None) (HandsOut pc) (λ e. inl refl) (λ e. inl refl)
-
--- only two rows hand a value out
-row_replies : (R : ℕ) (pc : Pc) (a : Actor) (answer : Answer) → HandsOut pc (after_at R pc a answer)
-row_replies R E1 a (Found (Name s)) = inl refl
-row_replies R E2 a (Found (NextIs (Some m))) = inl refl
-row_replies R E2 a (Found (NextIs None)) = inl refl
-row_replies R E3 a answer = inl refl
-row_replies R E4 a (Found (TailIs closed count)) = inl refl
-row_replies R E5 a (Value v) = inl refl
-row_replies R E6 a (SafeAndIndex safe idx) = inl refl
-row_replies R E7 a (Found (Number g)) = inl refl
-row_replies R E8 a Won = inl refl
-row_replies R E8 a Lost = inl refl
-row_replies R E9 a (Found (Number g)) = inl refl
-row_replies R E11 a answer = inl refl
-row_replies R E12 a (Made s) = inl refl
-row_replies R E13 a Won = inl refl
-row_replies R E13 a Lost = inl refl
-row_replies R E14 a answer = inl refl
-row_replies R Q1 a (Found (Name s)) = inl refl
-row_replies R Q2 a (Found (Number g)) = inl refl
-row_replies R Q3 a (Value v) = inl refl
-row_replies R Q4 a (SafeAndIndex safe idx) = inl refl
-row_replies R Q5 a answer = inr (inl refl)
-row_replies R Q6 a Won = inl refl
-row_replies R Q6 a Lost = inl refl
-row_replies R Q7 a Won = inl refl
-row_replies R Q7 a Lost = inl refl
-row_replies R Q8 a (Found (TailIs closed count)) = inl refl
-row_replies R Q9 a (Found (TailIs closed count)) = inl refl
-row_replies R Q10 a (Found (Number g)) = inl refl
-row_replies R Q11 a (Found (TailIs closed count)) = inl refl
-row_replies R Q12 a Won = inl refl
-row_replies R Q12 a Lost = inl refl
-row_replies R Q13 a (Found (NextIs None)) = inl refl
-row_replies R Q13 a (Found (NextIs (Some m))) = inl refl
-row_replies R Q14 a answer = inl refl
-row_replies R A1 a (Found (Number u)) = inl refl
-row_replies R A2 a (Found (Slot slot)) = swap_in_replies A2 a slot
-row_replies R B1 a (Found (Number g)) = inl refl
-row_replies R B2 a answer = inr (inr refl)
-row_replies R B3 a (Found (Number u)) = empty_check_replies B3 a u
-row_replies R _ a _ = inl refl
 
 -- if an access makes an actor that stands here reply this value, the cell of the access had it
 abbrev TakesFrom : ℕ → Contents → Actor → Place → ℕ → Pc → Performed → Type 0
@@ -155,5 +90,5 @@ taken_held R w e s cell u goes replies place =
     by_act R n at a (AEnq v) cell u x did needs does reply place = let wrong : None ≡ Some u = ap value_in reply in cc
     by_act R n at a ADeq cell u x did needs does reply place = let wrong : None ≡ Some u = ap value_in reply in cc
     by_act R n at a Go cell u x did needs does reply place =
-        by_row R n at a a.pc cell u x did needs does reply place (row_replies R a.pc a did.answer)
+        by_row R n at a a.pc cell u x did needs does reply place (row_goes R a.pc a did.answer).1
     by_act R n at a (Starve b) cell u x did needs does reply place = let wrong : None ≡ Some u = ap value_in reply in cc

@@ -74,8 +74,10 @@ pub fn last_writer<const R: usize>(
 ) -> Result<Option<u64>, Refusal>
     ensures answer { result ≡ last_writer_in place (run_of R (state session.now)) }
 {
-    match session.world().content(place) {
-        None => Err(Refusal::NoSuchPlace),
-        Some(_) => Ok(last_below(session.live(), session.len() + 1, Sought::WriteOf(place))),
-    }
+    let Some(_) = session.world().content(place) else {
+        return Err(Refusal::NoSuchPlace);
+    };
+    let steps = session.live();
+    let behind = steps.len() as u64 + 1;
+    Ok(last_below(steps, behind, Sought::WriteOf(place)))
 }
