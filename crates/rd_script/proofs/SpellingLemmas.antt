@@ -1,5 +1,6 @@
 -- The line that spells a command is its words, joined by spaces; and no word has a space.
 use Rattle.std.proofs.Common.{◌≡◌, ℕ, ◌<◌, ◌≤◌, ◌^◌, ◌==◌, ◌&&◌, nat_lt, Bool, true, false, not, List, [], ◌∷◌, ◌++◌, length, codes, refl, sym, ◌∙◌, ap, append_assoc, arith, tests}
+use Rattle.std.proofs.lemmas.Bool.{and_parts}
 use Rattle.std.specs.Char.{is_ascii_graphic}
 use Rattle.std.specs.Fmt.{decimal}
 use Rattle.std.specs.List.{list_all, slice_split, join_with_byte}
@@ -12,7 +13,7 @@ use Rattle.rd_script.specs.Contents.{name_words, place_words}
 use Rattle.rd_script.specs.Texts.{yes_or_no}
 use Rattle.rd_script.specs.Spelling.{spelling, IsInRange, IsPlaceInRange, IsSegmentInRange, is_word}
 use Rattle.rd_script.specs.Words.{keyword_text, keyword_of, kind_text, kind_of, place_arguments, arguments_of}
-use Rattle.rd_script.proofs.SplitLemmas.{is_free, AreFree, both, parts_of_join, join_of_parts, is_free_decimal, is_free_both}
+use Rattle.rd_script.proofs.SplitLemmas.{is_free, AreFree, parts_of_join, join_of_parts, is_free_decimal, is_free_both}
 
 -- the words of a command
 abbrev pub words_of : Command → List (List ℕ)
@@ -65,11 +66,11 @@ graphic_is_no_space byte graphic = grind (arith, tests)
 are_free_of_spaces : (text : List ℕ) → list_all is_ascii_graphic text ≡ true → is_free 32 text ≡ true
 are_free_of_spaces [] e = refl
 are_free_of_spaces (x ∷ xs) e =
-    let here = both (is_ascii_graphic x) (list_all is_ascii_graphic xs) e in
+    let here = and_parts (is_ascii_graphic x) (list_all is_ascii_graphic xs) e in
     rw (graphic_is_no_space x here.0, are_free_of_spaces xs here.1) refl
 
 pub is_free_word : (word : List ℕ) → is_word word ≡ true → is_free 32 word ≡ true
-is_free_word word e = are_free_of_spaces word (both (not (length word == 0)) (list_all is_ascii_graphic word) e).1
+is_free_word word e = are_free_of_spaces word (and_parts (not (length word == 0)) (list_all is_ascii_graphic word) e).1
 
 -- a bookmark's name is a word
 name_byte_is_graphic : (byte : ℕ) → is_name_byte byte ≡ true → is_ascii_graphic byte ≡ true
@@ -78,13 +79,13 @@ name_byte_is_graphic byte e = grind (arith, tests)
 are_graphic : (text : List ℕ) → list_all is_name_byte text ≡ true → list_all is_ascii_graphic text ≡ true
 are_graphic [] e = refl
 are_graphic (x ∷ xs) e =
-    let here = both (is_name_byte x) (list_all is_name_byte xs) e in
+    let here = and_parts (is_name_byte x) (list_all is_name_byte xs) e in
     rw (name_byte_is_graphic x here.0, are_graphic xs here.1) refl
 
 pub is_word_of_name : (name : List ℕ) → is_mark_name name ≡ true → is_word name ≡ true
 is_word_of_name name e =
-    let all = both (not (length name == 0) && not (nat_lt MOST_NAME_BYTES (length name))) (list_all is_name_byte name) e in
-    let some = both (not (length name == 0)) (not (nat_lt MOST_NAME_BYTES (length name))) all.0 in
+    let all = and_parts (not (length name == 0) && not (nat_lt MOST_NAME_BYTES (length name))) (list_all is_name_byte name) e in
+    let some = and_parts (not (length name == 0)) (not (nat_lt MOST_NAME_BYTES (length name))) all.0 in
     rw (some.0, are_graphic name all.1) refl
 
 -- no word of a command has a space

@@ -2,6 +2,7 @@
 use Rattle.std.proofs.Common.{◌≡◌, ℕ, ◌+◌, ◌%◌, ◌<◌, ◌^◌, ◌==◌, Bool, true, false, true≢false, ◌&&◌, not, ne_eqb, eq-eqb, List, [], ◌∷◌, ◌++◌, refl, sym, ◌∙◌, ap, arith}
 use Rattle.std.specs.List.{list_all, slice_split, onto_first, join_with_byte}
 use Rattle.std.specs.Fmt.{decimal}
+use Rattle.std.proofs.lemmas.Bool.{and_parts}
 use Rattle.std.proofs.lemmas.Fmt.{decimal_by_steps}
 use Rattle.std.proofs.lemmas.List.Folds.{list_all-append}
 use Rattle.std.proofs.lemmas.List.Splits.{slice_split-cons_yes, slice_split-cons_no, join_with_byte-slice_split}
@@ -15,11 +16,6 @@ abbrev pub AreFree : ℕ → List (List ℕ) → Type 0
 AreFree c [] = Unit {0}
 AreFree c (part ∷ parts) = (is_free c part ≡ true) × AreFree c parts
 
--- both tests pass
-pub both : (a b : Bool) → (a && b) ≡ true → (a ≡ true) × (b ≡ true)
-both true b e = (refl, e)
-both false b e = absurd (true≢false (sym e))
-
 not_true : (a : Bool) → not a ≡ true → a ≡ false
 not_true true e = absurd (true≢false (sym e))
 not_true false e = refl
@@ -28,7 +24,7 @@ not_true false e = refl
 first_part : (c : ℕ) (part rest : List ℕ) → is_free c part ≡ true → slice_split (λ byte. byte == c) (part ++ c ∷ rest) ≡ part ∷ slice_split (λ byte. byte == c) rest
 first_part c [] rest free = slice_split-cons_yes (λ byte. byte == c) c rest (eq-eqb c c refl)
 first_part c (x ∷ xs) rest free =
-    let here = both (not (x == c)) (list_all (λ byte. not (byte == c)) xs) free in
+    let here = and_parts (not (x == c)) (list_all (λ byte. not (byte == c)) xs) free in
     slice_split-cons_no (λ byte. byte == c) x (xs ++ c ∷ rest) (not_true (x == c) here.0)
     ∙ ap (onto_first x) (first_part c xs rest here.1)
 
@@ -36,7 +32,7 @@ first_part c (x ∷ xs) rest free =
 last_part : (c : ℕ) (part : List ℕ) → is_free c part ≡ true → slice_split (λ byte. byte == c) part ≡ part ∷ []
 last_part c [] free = refl
 last_part c (x ∷ xs) free =
-    let here = both (not (x == c)) (list_all (λ byte. not (byte == c)) xs) free in
+    let here = and_parts (not (x == c)) (list_all (λ byte. not (byte == c)) xs) free in
     slice_split-cons_no (λ byte. byte == c) x xs (not_true (x == c) here.0) ∙ ap (onto_first x) (last_part c xs here.1)
 
 -- parts that are joined are cut where they were joined

@@ -1,6 +1,6 @@
 //! The world: the space and the actors, and the step.
 
-ghost use Rattle.std.specs.Prelude.{◌≡◌, ◌+◌, ◌<◌, ◌≤◌, ◌↔◌, ◌⊎◌, ℕ, suc, None, Ok, Err, IsSome, IsOk, IsTrue, IfOk, IfErr, OnOk, OnErr, length};
+ghost use Rattle.std.specs.Prelude.{◌≡◌, ◌+◌, ◌<◌, ◌≤◌, ◌↔◌, ℕ, suc, None, Ok, Err, IsSome, IfOk, IfErr, OnOk, OnErr, length};
 ghost use Rattle.rd_ring.specs.Prelude.{MOST_CELLS, MOST_ACTORS, content_at};
 ghost use Rattle.rd_segments.specs.Room.{room_used, room_returned};
 ghost use Rattle.rd_segments.specs.Space.{lists};
