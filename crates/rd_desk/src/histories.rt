@@ -81,7 +81,7 @@ impl History {
         requires room { vec_len self.old.entries < vec_capacity self.old.entries }
         ensures { entries self.new ≡ entries self.old ++ recorded viewer command answer ∷ [] }
     {
-        self.entries
-            .push_reserved((viewer, Call { command, answer }));
+        let call = Call { command, answer };
+        self.entries.push_reserved((viewer, call));
     }
 }

@@ -3,7 +3,13 @@ ghost use Rattle.std.specs.Prelude.{◌≤◌};
 
 use super::calls::{fresh, last_pass};
 use crate::{Busy, Desk, DeskRefusal, MOST_CALLS};
+use rd_cell::Refusal;
 use rd_marks::{Command, Reply};
+
+/// No step is live.
+fn none_live() -> Result<Reply, Refusal> {
+    Ok(Reply::At { live: 0, undone: 0 })
+}
 
 #[test]
 fn the_100_001st_call_finds_the_history_full(rt: HostRuntime) {
@@ -11,11 +17,10 @@ fn the_100_001st_call_finds_the_history_full(rt: HostRuntime) {
         panic!(&rt; "out of memory")
     };
     let mut pass = last_pass(&rt, &desk, &mut passes);
-    let none = Reply::At { live: 0, undone: 0 };
     for call in 0..MOST_CALLS {
         assert_eq!(&rt;
             desk.try_ask(&mut pass, Command::Len),
-            Ok(Ok(none)),
+            Ok(none_live()),
             "call {call}"
         );
     }

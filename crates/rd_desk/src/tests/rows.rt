@@ -2,10 +2,42 @@
 ghost use Rattle.std.specs.Prelude.{◌≤◌};
 
 use super::calls::{fresh, last_pass};
-use crate::{Call, Desk};
+use crate::{Desk, History};
 use rd_actor::Act;
+use rd_cell::Refusal;
 use rd_marks::{Command, Reply};
 use rd_step::Event;
+use std::process::Abort;
+
+/// The first step is made.
+fn first_step() -> Result<Reply, Refusal> {
+    Ok(Reply::Applied {
+        step: 1,
+        reply: None,
+    })
+}
+
+/// One step is live.
+fn one_live() -> Result<Reply, Refusal> {
+    Ok(Reply::At { live: 1, undone: 0 })
+}
+
+/// The entry of this number is this viewer's call.
+fn has_entry(
+    rt: &impl Abort,
+    history: &History,
+    number: u64,
+    viewer: u64,
+    command: Command,
+    answer: Result<Reply, Refusal>,
+) {
+    let Some((who, call)) = history.entry(number) else {
+        panic!(rt; "no entry {number}")
+    };
+    assert_eq!(rt; who, viewer);
+    assert_eq!(rt; call.command, command);
+    assert_eq!(rt; call.answer, answer);
+}
 
 #[test]
 fn a_viewer_sees_what_another_did(rt: HostRuntime) {
@@ -14,18 +46,13 @@ fn a_viewer_sees_what_another_did(rt: HostRuntime) {
     };
     let second = last_pass(&rt, &desk, &mut passes);
     let mut first = last_pass(&rt, &desk, &mut passes);
-    let applied = Reply::Applied {
-        step: 1,
-        reply: None,
-    };
-    let at = Reply::At { live: 1, undone: 0 };
     assert_eq!(&rt;
         desk.ask(&rt, &mut first, Command::Enq(1, 7)),
-        Ok(Ok(applied))
+        Ok(first_step())
     );
     let (served, mut second, first) = desk.meet(second, first);
     assert_eq!(&rt; served, 1);
-    assert_eq!(&rt; desk.try_ask(&mut second, Command::Len), Ok(Ok(at)));
+    assert_eq!(&rt; desk.try_ask(&mut second, Command::Len), Ok(one_live()));
     let Ok(passes) = vec![in rt.alloc(); first, second] else {
         panic!(&rt; "out of memory")
     };
@@ -34,18 +61,10 @@ fn a_viewer_sees_what_another_did(rt: HostRuntime) {
     };
     assert_eq!(&rt; book.session().len(), 1);
     assert_eq!(&rt; history.len(), 2);
-    let enq = Call {
-        command: Command::Enq(1, 7),
-        answer: Ok(applied),
-    };
-    let len = Call {
-        command: Command::Len,
-        answer: Ok(at),
-    };
-    assert_eq!(&rt; history.entry(0), None);
-    assert_eq!(&rt; history.entry(1), Some((1, enq)));
-    assert_eq!(&rt; history.entry(2), Some((2, len)));
-    assert_eq!(&rt; history.entry(3), None);
+    assert!(&rt; history.entry(0).is_none());
+    has_entry(&rt, &history, 1, 1, Command::Enq(1, 7), first_step());
+    has_entry(&rt, &history, 2, 2, Command::Len, one_live());
+    assert!(&rt; history.entry(3).is_none());
 }
 
 #[test]
@@ -54,13 +73,9 @@ fn one_viewer_waits_for_nobody(rt: HostRuntime) {
         panic!(&rt; "out of memory")
     };
     let mut pass = last_pass(&rt, &desk, &mut passes);
-    let applied = Reply::Applied {
-        step: 1,
-        reply: None,
-    };
     assert_eq!(&rt;
         desk.try_ask(&mut pass, Command::Enq(1, 7)),
-        Ok(Ok(applied))
+        Ok(first_step())
     );
     let Ok(Ok(Reply::Step { number, entry })) = desk.try_ask(&mut pass, Command::Step(1)) else {
         panic!(&rt; "no step")

@@ -14,7 +14,7 @@ use std::thread::Threads;
 fn command(viewer: u64, call: u64) -> Command {
     let actor = (viewer % 4) as u8 + 1;
     match call % 8 {
-        0 => Command::Enq(actor, viewer * 1000 + call),
+        0 => Command::Enq(actor, call),
         5 => Command::UndoAt(call),
         6 => Command::Len,
         7 => Command::Deq(actor),
