@@ -1,0 +1,4 @@
+pub mod HistoryLemmas
+pub mod ChainLemmas
+pub mod Starting
+pub mod PassLemmas
