@@ -18,6 +18,7 @@ pub use desks::{Desk, DeskPass, MOST_VIEWERS};
 pub use gates::{Answer, DeskRefusal, Gate};
 pub use histories::{Call, History, MOST_CALLS};
 pub use rd_lock::{Busy, NoMemory};
+pub use recording::BookWithHistory;
 pub use viewers::{Ran, run_viewers};
 
 #[cfg(test)]
