@@ -26,6 +26,10 @@ module _ {A : Type 0} where
   every_back P [] ys h = h
   every_back P (x ∷ xs) ys h = every_back P xs ys h.1
 
+  pub every_more : (P : A → Type 0) (xs : List A) (x : A) → Every P xs → P x → Every P (xs ++ x ∷ [])
+  every_more P [] x h k = (k, tt)
+  every_more P (y ∷ xs) x h k = (h.0, every_more P xs x h.1 k)
+
   pub last_first : (xs : List A) (x : A) → reverse (xs ++ x ∷ []) ≡ x ∷ reverse xs
   last_first xs x = reverse-append xs (x ∷ [])
 

@@ -108,7 +108,7 @@ fn runs<R: Abort + Threads + Wait + Sync>(rt: &R, alloc: Global, viewers: u64, c
     let Ok((_, history)) = desk.close(Vec::new(alloc)) else {
         panic!(rt; "busy")
     };
-    assert_eq!(rt; history.len(), viewers * calls);
+    assert_eq!(rt; Some(history.len()), viewers.checked_mul(calls));
     for ran in rans.as_slice() {
         let Ran::Answered { pass, answers } = ran else {
             panic!(rt; "no thread")
