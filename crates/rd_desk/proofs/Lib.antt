@@ -2,3 +2,4 @@ pub mod HistoryLemmas
 pub mod ChainLemmas
 pub mod Starting
 pub mod PassLemmas
+pub mod Sends
