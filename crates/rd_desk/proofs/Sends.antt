@@ -123,5 +123,8 @@ kept_send R = search (book_with_history_send, sendable, crosses) depth 60 fits 1
 -- viewers in several threads may share a desk
 pub desk_sync : (R : RattleType) → IsSync (Desk.the_row R)
 desk_sync R = recorded_sync _ _ _ (Desk.the_type R).to_one
-    (struct_sync (shape (Desk.the_type R)) (struct_sync (shape (TicketLock.the_type (BookWithHistory.the_row R) Call.the_row (Book.the_row R) (Recorded.ghosts R)))
-    (search (table_sync, kept_send) depth 60 fits 100000, tt), tt))
+    (struct_sync (shape (Desk.the_type R)) (
+      struct_sync (shape (TicketLock.the_type (BookWithHistory.the_row R) Call.the_row (Book.the_row R) (Recorded.ghosts R)))
+          (search (table_sync, kept_send) depth 60 fits 100000, tt),
+      tt,
+    ))
