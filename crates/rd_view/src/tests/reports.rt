@@ -13,7 +13,12 @@ use std::test::Fail;
 type Row<'a> = (&'a [Said], Option<&'a [Answer]>);
 
 /// The text of a view of these viewers, with so many recorded calls.
-fn view_of(alloc: Global, rows: &[Row], calls: u64) -> Result<Vec<u8>, AllocError> {
+fn view_of(
+    rt: &impl Abort,
+    alloc: Global,
+    rows: &[Row],
+    calls: u64,
+) -> Result<Vec<u8>, AllocError> {
     let mut said = Vec::new(alloc);
     let mut told = Vec::new(alloc);
     for (lines, answers) in rows {
@@ -23,13 +28,10 @@ fn view_of(alloc: Global, rows: &[Row], calls: u64) -> Result<Vec<u8>, AllocErro
             None => None,
         })?;
     }
+    let (said, told) = (said.as_slice(), told.as_slice());
+    assert!(rt; said.len() == told.len());
     let mut text = Vec::new(alloc);
-    let _ = write_view(
-        &mut WriteSink::new(&mut text),
-        said.as_slice(),
-        told.as_slice(),
-        calls,
-    );
+    let _ = write_view(&mut WriteSink::new(&mut text), said, told, calls);
     Ok(text)
 }
 
@@ -38,6 +40,7 @@ fn a_view_has_a_heading_for_each_viewer_and_the_number_of_calls(
     rt: HostRuntime,
 ) -> Result<(), Fail> {
     let text = view_of(
+        &rt,
         rt.alloc(),
         &[
             (

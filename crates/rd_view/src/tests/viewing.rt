@@ -1,7 +1,5 @@
 //! Views of scripts: each viewer in a thread of its own, over one desk.
 
-ghost use Rattle.std.specs.Prelude.{◌≤◌, length};
-
 use super::super::viewing::view_scripts;
 use rd_cell::Refusal;
 use rd_journal::Session;
@@ -34,20 +32,13 @@ fn view_is<R: Threads + Wait + Abort + Sync>(
     alloc: Global,
     scripts: &[&str],
     wanted: &str,
-) -> Result<(), Fail>
-    requires some { 1 ≤ length scripts.now }
-    requires few { length scripts.now ≤ 64 }
-{
-    let scripts = bytes_of(alloc, scripts)?;
+) -> Result<(), Fail> {
+    let bytes = bytes_of(alloc, scripts)?;
+    let scripts = bytes.as_slice();
+    assert!(rt; 1 <= scripts.len() && scripts.len() <= 64);
     let book = fresh(alloc)?;
     let mut text = Vec::new(alloc);
-    let viewed = view_scripts(
-        rt,
-        alloc,
-        scripts.as_slice(),
-        &mut WriteSink::new(&mut text),
-        book,
-    );
+    let viewed = view_scripts(rt, alloc, scripts, &mut WriteSink::new(&mut text), book);
     assert!(rt;
         viewed.is_ok() && text.as_slice() == wanted.as_bytes(),
         "wanted {wanted}"
