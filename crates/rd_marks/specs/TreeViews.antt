@@ -9,6 +9,10 @@ use Rattle.rd_marks.specs.TreeLayout.{tree_of}
 abbrev pub mark_tree : Tree → MarkTree
 mark_tree t = tree_of t.nodes
 
+-- the key of the node that is put next: that of the one taken away last, if none was put since
+abbrev pub next_key : Tree → ℕ
+next_key t = t.nodes.vacant_key
+
 -- so many more nodes can be put
 abbrev pub HasRoom : Tree → ℕ → Type 0
 HasRoom t more = HasRoomFor t.nodes more

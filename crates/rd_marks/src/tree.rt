@@ -45,7 +45,7 @@ pub(crate) struct Tree {
 
 impl Tree {
     ghost use Rattle.rd_marks.specs.Tree.{depth_in, parent_in, entry_in, IsChild, IsChildBy, HasChild, HasNoChildBy, ChangesAt};
-    ghost use Rattle.rd_marks.specs.TreeViews.{mark_tree, HasRoom, HasForkRoom};
+    ghost use Rattle.rd_marks.specs.TreeViews.{mark_tree, next_key, HasRoom, HasForkRoom};
 
     /// A tree of the root alone. It takes no memory.
     pub(crate) fn new(alloc: Global) -> Tree
@@ -147,6 +147,7 @@ impl Tree {
         requires room { HasRoom self.old 1 }
         requires forks { HasChild (mark_tree self.old) at → HasForkRoom self.old }
         ensures vacant { mark_tree self.old result ≡ None }
+        ensures next { result ≡ next_key self.old }
         ensures put { ChangesAt (mark_tree self.old) (mark_tree self.new) result
             (Some (record { entry = entry; parent = at; depth = suc (depth_in (mark_tree self.old) at) })) }
         ensures room { (more : ℕ) → HasRoom self.old (suc more) → HasRoom self.new more }
@@ -173,6 +174,7 @@ impl Tree {
         requires leaf { HasChild (mark_tree self.old) (Some key) → ⊥ }
         ensures parent { result ≡ parent_in (mark_tree self.old) (Some key) }
         ensures taken { ChangesAt (mark_tree self.old) (mark_tree self.new) key None }
+        ensures next { next_key self.new ≡ key }
     {
         let node = self.nodes.remove(key);
         forget(&mut self.forks, key);
