@@ -1,14 +1,14 @@
 -- Two nodes that go up until they meet: they meet at the deepest that is above both.
-use Rattle.std.proofs.Common.{◌≡◌, ℕ, zero, suc, ◌+◌, ◌<◌, ◌≤◌, ◌⊎◌, inl, inr, refl, sym, ap, ◌∙◌, subst, List, [], ◌∷◌, ◌++◌, length, take, drop, Option, Some, None, arith, length-append}
-use Rattle.std.proofs.Math.Seq.{take-append_seam, take-length}
+use Rattle.std.proofs.Common.{◌≡◌, ℕ, suc, ◌<◌, ◌≤◌, inl, inr, refl, sym, ap, ◌∙◌, subst, List, [], ◌∷◌, ◌++◌, length, take, Option, arith}
+use Rattle.std.proofs.Math.Seq.{take-length}
 use Rattle.std.proofs.lemmas.Bool.{cases_eq}
 use Rattle.std.proofs.lemmas.List.{take-append-le, take_all}
 use Rattle.rd_step.specs.Run.{events}
 use Rattle.rd_step.specs.declared.entries.Event.{Event}
 use Rattle.rd_step.specs.declared.entries.Entry.{Entry}
 use Rattle.rd_depend.specs.Beginnings.{Begins}
-use Rattle.rd_marks.specs.Tree.{TreeNode, MarkTree, IsIn, depth_in, parent_in, path_in, IsTree}
-use Rattle.rd_marks.proofs.TreeLemmas.{deep, root, path_there, events_there, depth_there, parent_there, parent_is_in, path_length, events_length, same_path}
+use Rattle.rd_marks.specs.Tree.{MarkTree, IsIn, depth_in, parent_in, path_in, IsTree}
+use Rattle.rd_marks.proofs.TreeLemmas.{deep, root, path_there, events_there, depth_there, parent_there, parent_is_in, events_length, same_path}
 
 -- two nodes that went up from these, one of them not past a node whose list begins the other's
 pub record IsAboveBoth (t : MarkTree) (one other a b : Option ℕ) : Type 0 where

@@ -1,5 +1,5 @@
 -- The nodes of a tree are as many as the lists that begin the events of its marks, the empty one apart.
-use Rattle.std.proofs.Common.{◌≡◌, ◌↔◌, ℕ, zero, suc, ◌+◌, ◌<◌, ◌≤◌, ◌⊎◌, inl, inr, refl, sym, ap, ◌∙◌, subst, List, [], ◌∷◌, ◌++◌, length, take, get_or, map, option_map, Option, Some, None, All, Contains, zero-add, arith}
+use Rattle.std.proofs.Common.{◌≡◌, ℕ, suc, ◌+◌, inl, inr, refl, sym, ap, ◌∙◌, subst, List, [], ◌∷◌, length, take, get_or, map, option_map, Option, Some, None, All, Contains, zero-add, arith}
 use Rattle.std.proofs.lemmas.List.{get_or-map, length-map, map-append}
 use Rattle.std.proofs.lemmas.List.Elements.{All-contains}
 use Rattle.slab.specs.Slab.{Slab, get, entries, entries_from, slab_len}
@@ -13,7 +13,7 @@ use Rattle.rd_marks.specs.declared.tree.Node.{Node}
 use Rattle.rd_marks.specs.Beginnings.{IsBeginning, AreDistinct, CountsBeginnings}
 use Rattle.rd_marks.specs.Books.{Mark}
 use Rattle.rd_marks.specs.Marks.{mark_of, marks_of}
-use Rattle.rd_marks.specs.Tree.{TreeNode, MarkTree, IsIn, depth_in, path_in, IsTree}
+use Rattle.rd_marks.specs.Tree.{IsIn, depth_in, path_in, IsTree}
 use Rattle.rd_marks.specs.TreeLayout.{tree_of, node_of}
 use Rattle.rd_marks.specs.Uses.{AreUsedExcept}
 use Rattle.rd_marks.proofs.NodeLemmas.{node_there}

@@ -1,5 +1,5 @@
 -- Going down and growing: the path gets one record longer.
-use Rattle.std.proofs.Common.{◌≡◌, ℕ, suc, ◌+◌, ◌<◌, ◌≤◌, refl, sym, ap, ◌∙◌, subst, List, [], ◌∷◌, ◌++◌, length, take, drop, get_or, Option, Some, None, inl, inr, ◌⊎◌, arith, add-one, reverse, length-append}
+use Rattle.std.proofs.Common.{◌≡◌, ℕ, suc, ◌+◌, ◌<◌, ◌≤◌, sym, ap, ◌∙◌, List, [], ◌∷◌, ◌++◌, length, take, drop, get_or, Option, Some, None, inl, inr, ◌⊎◌, arith, add-one, reverse, length-append}
 use Rattle.std.proofs.Math.Seq.{take-suc, drop-cons, drop-append_seam}
 use Rattle.std.proofs.lemmas.List.{take-map, map-append, append_assoc, length-take, reverse-append}
 use Rattle.std.proofs.lemmas.Bool.{cases_eq}
@@ -69,8 +69,8 @@ grown t u v from at key i xs d h rule after is part path used vacant change =
         elim (used k n e) [
           | inl was ↦ inl was
           | inr later ↦ elim later [
-            | inl parent ↦ inr (inl (parent.0, record { node = parent.1.node; there = whole parent.0 parent.1.node parent.1.there; below = parent.1.below; }))
-            | inr last ↦ inr (inl (key, record { node = record { entry = get_or xs i d; parent = at; depth = suc (depth_in u at) }; there = change.changed; below = last; }))
+            | inl parent ↦ inr (inl (parent.0, record { node = parent.1.node; there = whole parent.0 parent.1.node parent.1.there; below = parent.1.below }))
+            | inr last ↦ inr (inl (key, record { node = record { entry = get_or xs i d; parent = at; depth = suc (depth_in u at) }; there = change.changed; below = last }))
           ]
         ]
 

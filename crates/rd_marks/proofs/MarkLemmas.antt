@@ -1,8 +1,8 @@
 -- The marks that a list of names with records is: looking one up, putting one last, taking one away.
-use Rattle.std.proofs.Common.{◌↔◌, IsTrue, true≢false, ◌⊎◌, inr, ◌≢◌, suc, ◌==◌, Result, Ok, Err, IsOk, IfErr, OnOk, length-append, ne_eqb, ◌≡◌, ℕ, ◌<◌, ◌≤◌, Bool, true, false, if◌then◌else◌, cond, refl, sym, ap, ◌∙◌, subst, List, [], ◌∷◌, ◌++◌, length, is_some, option_map, Option, Some, None, All, slice_get, nat_eq, inl, arith}
+use Rattle.std.proofs.Common.{◌↔◌, IsTrue, true≢false, ◌⊎◌, inr, ◌≢◌, suc, ◌==◌, Result, Ok, Err, IsOk, IfErr, OnOk, ne_eqb, ◌≡◌, ℕ, ◌≤◌, Bool, true, false, if◌then◌else◌, cond, refl, sym, ap, ◌∙◌, subst, List, [], ◌∷◌, ◌++◌, length, is_some, option_map, Option, Some, None, All, slice_get, nat_eq, inl, arith}
 use Rattle.std.specs.Map.{lookup, remove_entry}
 use Rattle.indexmap.specs.IndexMap.{insert_entry}
-use Rattle.std.proofs.lemmas.List.Elements.{All-cons, All-head, All-tail, All-push}
+use Rattle.std.proofs.lemmas.List.Elements.{All-cons, All-head, All-tail}
 use Rattle.rd_step.specs.declared.entries.Entry.{Entry}
 use Rattle.rd_step.specs.declared.entries.Event.{Event}
 use Rattle.rd_journal.specs.Journal.{events}

@@ -1,8 +1,8 @@
 -- The nodes of a tree as it is kept: what is a child, and that each is found.
-use Rattle.std.proofs.Common.{◌≡◌, ◌==◌, ℕ, ◌<◌, ◌≤◌, ◌⊎◌, inl, inr, Bool, true, false, true≢false, IsTrue, nat_eq, refl, sym, ap, ◌∙◌, subst, List, [], ◌∷◌, length, Option, Some, None, MatchOption, option_map, arith}
+use Rattle.std.proofs.Common.{◌≡◌, ◌==◌, ℕ, inl, inr, Bool, true, false, true≢false, IsTrue, nat_eq, refl, sym, ap, ◌∙◌, subst, List, [], ◌∷◌, Option, Some, None, MatchOption, option_map}
 use Rattle.std.specs.Option.{option_eq}
 use Rattle.std.specs.List.{All, list_any}
-use Rattle.std.proofs.lemmas.Bool.{eq-eqb, eqb-true, or_cases, cases_eq}
+use Rattle.std.proofs.lemmas.Bool.{eq-eqb, eqb-true, or_cases}
 use Rattle.std.proofs.lemmas.List.Elements.{All-head, All-tail}
 use Rattle.slab.specs.Slab.{Slab, get, Updates}
 use Rattle.rd_step.specs.declared.entries.Event.{Event}
@@ -104,7 +104,7 @@ knows_as_before m n top key o u (Some k) apart = ap child_known (u.others k (λ 
 pub kept_in_room : (m n : Slab Node) (top : Option ℕ) (forks gs : List ℕ) → n ≡ record m { capacity = n.capacity } → gs ≡ forks → IsKept m top forks → IsKept n top gs
 kept_in_room m n top forks gs same forks_same kept =
     subst (λ (fs : List ℕ). IsKept n top fs) (sym forks_same)
-    (subst (λ (s : Slab Node). IsKept s top forks) (sym same) (record { tree = kept.tree; linked = kept.linked; }))
+    (subst (λ (s : Slab Node). IsKept s top forks) (sym same) (record { tree = kept.tree; linked = kept.linked }))
 
 -- a node that was put into a slab is put into the tree
 pub puts_node : (m n : Slab Node) (key : ℕ) (x : Entry) (at : Option ℕ) (d e : ℕ) → d ≡ e

@@ -1,5 +1,5 @@
 -- The records of a session's live steps, and that they are those of a run.
-use Rattle.std.proofs.Common.{◌≡◌, ℕ, zero, suc, drop, option_map, ◌+◌, ◌<◌, ◌≤◌, inl, inr, refl, sym, ap, subst, ◌∙◌, List, [], ◌∷◌, ◌++◌, length, take, get_or, slice_get, ok_or, Option, Some, ◌-◌, Result, Ok, Err, OnOk, IfErr, length-drop, length-append, arith}
+use Rattle.std.proofs.Common.{◌≡◌, ℕ, zero, suc, drop, ◌+◌, ◌≤◌, refl, sym, ap, subst, ◌∙◌, List, [], ◌∷◌, ◌++◌, length, take, ◌-◌, Result, Ok, Err, OnOk, IfErr, length-drop, length-append, arith}
 use Rattle.std.proofs.Math.Seq.{take-length}
 use Rattle.rd_step.specs.Prelude.{Refusal, NoMemory, MOST_STEPS, World, Stepped, step, Ran, run}
 use Rattle.rd_step.specs.Run.{run_preceded_by, run_from_step}
@@ -121,4 +121,4 @@ begins_run R w (x ∷ xs) ys h =
     ∙ run_goes_on b.stepped.entry xs (run R b.stepped.world (events xs)) rest ∙ ap (λ (y : Entry). Ok (y ∷ xs)) b.entry
 
 pub begins_record : (R : ℕ) (w : World) (xs ys : List Entry) → IsRecordOfRun R w (xs ++ ys) → IsRecordOfRun R w xs
-begins_record R w xs ys h = record { few = omega (arith, h.few, length-append xs ys); ran = begins_run R w xs ys h.ran; }
+begins_record R w xs ys h = record { few = omega (arith, h.few, length-append xs ys); ran = begins_run R w xs ys h.ran }

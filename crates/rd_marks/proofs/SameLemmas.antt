@@ -1,7 +1,7 @@
 -- Lists of which one begins the other are equivalent only if they are one.
-use Rattle.std.proofs.Common.{◌≡◌, ◌↔◌, ℕ, suc, ◌+◌, ◌≤◌, ◌⊎◌, inl, inr, Bool, true, IsTrue, nat_eq, refl, sym, ap, ◌∙◌, subst, List, [], ◌∷◌, ◌++◌, length, Option, Ok, length-append, arith}
+use Rattle.std.proofs.Common.{◌≡◌, ℕ, ◌⊎◌, inl, inr, Bool, nat_eq, refl, sym, ap, ◌∙◌, subst, List, [], ◌∷◌, ◌++◌, length, Option, length-append, arith}
 use Rattle.std.specs.Option.{option_eq}
-use Rattle.rd_step.specs.Prelude.{World, run}
+use Rattle.rd_step.specs.Prelude.{World}
 use Rattle.rd_step.specs.Run.{events, IsRunFrom}
 use Rattle.rd_step.specs.Equivalence.{IsEquivalent}
 use Rattle.rd_step.specs.declared.entries.Event.{Event}
@@ -33,7 +33,7 @@ equivalent_itself R w (x ∷ xs) h =
       earlier = [];
       later = events xs;
       stands = refl;
-      independent = record { ran = record { world = w; entries = []; }; runs = refl; stepped = b.stepped; goes = b.goes; free = tt; };
+      independent = record { ran = record { world = w; entries = [] }; runs = refl; stepped = b.stepped; goes = b.goes; free = tt };
       stepped = b.stepped;
       goes = b.goes;
       rest = equivalent_itself R b.stepped.world xs b.rest;

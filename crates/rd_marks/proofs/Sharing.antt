@@ -1,35 +1,30 @@
 -- What a book keeps of its marks, by children and marks; what setting, dropping and going to one keep of it.
-use Rattle.std.proofs.Common.{◌≡◌, ℕ, zero, suc, ◌+◌, ◌-◌, ◌<◌, ◌≤◌, ◌⊎◌, inl, inr, Bool, true, false, true≢false, nat_eq, refl, sym, ap, ◌∙◌, subst, List, [], ◌∷◌, ◌++◌, length, take, drop, get_or, Option, Some, None, All, cond, slice_get, length-append, arith}
+use Rattle.std.proofs.Common.{◌≡◌, ℕ, zero, suc, ◌+◌, ◌<◌, ◌≤◌, inl, inr, true, false, true≢false, nat_eq, refl, sym, ap, ◌∙◌, subst, List, [], ◌∷◌, ◌++◌, length, take, drop, get_or, Option, Some, None, All, cond, slice_get, length-append, arith}
 use Rattle.std.specs.Option.{option_eq}
-use Rattle.std.specs.List.{list_any}
 use Rattle.std.specs.Map.{lookup, remove_entry}
-use Rattle.indexmap.specs.IndexMap.{insert_entry}
-use Rattle.std.proofs.Math.Seq.{take-append_seam, take-length}
+use Rattle.std.proofs.Math.Seq.{take-length}
 use Rattle.std.proofs.lemmas.Bool.{or_cases, or_left, or_right}
-use Rattle.std.proofs.lemmas.List.{map-append, append_assoc, append-nil, take-map, take_all, take-append-drop}
+use Rattle.std.proofs.lemmas.List.{map-append, append_assoc, append-nil, take-map, take-append-drop}
 use Rattle.std.proofs.lemmas.List.Folds.{list_any-append}
-use Rattle.std.proofs.lemmas.List.Elements.{All-head, All-tail, All-cons, All-nil, All-push, All-weaker, All-contains}
+use Rattle.std.proofs.lemmas.List.Elements.{All-head, All-tail, All-push}
 use Rattle.slab.specs.Slab.{Slab}
 use Rattle.rd_step.specs.Prelude.{World, MOST_STEPS}
-use Rattle.rd_step.specs.Run.{events, run_entries}
+use Rattle.rd_step.specs.Run.{events}
 use Rattle.rd_step.specs.declared.entries.Event.{Event}
 use Rattle.rd_step.specs.declared.entries.Entry.{Entry}
-use Rattle.rd_depend.specs.Beginnings.{Begins}
-use Rattle.rd_journal.specs.Journal.{IsRunFrom}
 use Rattle.rd_marks.specs.declared.names.MarkName.{MarkName}
 use Rattle.rd_marks.specs.declared.tree.Node.{Node}
 use Rattle.rd_marks.specs.NameBytes.{MOST_MARKS}
 use Rattle.rd_marks.specs.Names.{same_name}
-use Rattle.rd_marks.specs.Books.{Mark, marked_events}
 use Rattle.rd_marks.specs.Marks.{mark_of, marks_of}
-use Rattle.rd_marks.specs.Layout.{IsRecordOfRun, KeepsMarks, has_mark, has_child}
-use Rattle.rd_marks.specs.Tree.{TreeNode, MarkTree, IsIn, depth_in, path_in, HasChild, IsTree, IsPartOf, AreLinkedBelow}
+use Rattle.rd_marks.specs.Layout.{IsRecordOfRun, KeepsMarks, has_mark}
+use Rattle.rd_marks.specs.Tree.{TreeNode, MarkTree, IsIn, depth_in, path_in, IsTree, IsPartOf, AreLinkedBelow}
 use Rattle.rd_marks.specs.TreeLayout.{tree_of}
-use Rattle.rd_marks.specs.Uses.{IsUsed, AreUsedExcept}
-use Rattle.rd_marks.proofs.TreeLemmas.{there, path_there, depth_there, path_length, path_kept, stays_in}
+use Rattle.rd_marks.specs.Uses.{AreUsedExcept}
+use Rattle.rd_marks.proofs.TreeLemmas.{there, path_there, depth_there, path_kept, stays_in}
 use Rattle.rd_marks.proofs.NodeLemmas.{same_option, one_option}
 use Rattle.rd_marks.proofs.RecordLemmas.{begins_record, begin_alike}
-use Rattle.rd_marks.proofs.MarkLemmas.{entries_put, all_without, shorter, mark_stays}
+use Rattle.rd_marks.proofs.MarkLemmas.{all_without, shorter, mark_stays}
 use Rattle.rd_marks.proofs.Uses.{used_from_slots, slots_from_used}
 
 -- as KeepsMarks, by children and marks
@@ -40,10 +35,10 @@ pub record Keeps (R : ℕ) (w : World) (t : MarkTree) (ms : List (MarkName × Op
   pub used : AreUsedExcept t ms None
 
 pub keeps : (R : ℕ) (w : World) (nodes : Slab Node) (ms : List (MarkName × Option ℕ)) → KeepsMarks R w nodes ms → Keeps R w (tree_of nodes) ms
-keeps R w nodes ms kept = record { few = kept.few; present = kept.present; runs = kept.runs; used = used_from_slots nodes ms kept.used; }
+keeps R w nodes ms kept = record { few = kept.few; present = kept.present; runs = kept.runs; used = used_from_slots nodes ms kept.used }
 
 pub kept_by : (R : ℕ) (w : World) (nodes : Slab Node) (ms : List (MarkName × Option ℕ)) → Keeps R w (tree_of nodes) ms → KeepsMarks R w nodes ms
-kept_by R w nodes ms kept = record { few = kept.few; present = kept.present; runs = kept.runs; used = slots_from_used nodes ms kept.used; }
+kept_by R w nodes ms kept = record { few = kept.few; present = kept.present; runs = kept.runs; used = slots_from_used nodes ms kept.used }
 
 -- the same tree in another room keeps the same
 pub kept_in : (R : ℕ) (w : World) (m n : Slab Node) (ms es : List (MarkName × Option ℕ)) → tree_of n ≡ tree_of m → es ≡ ms → KeepsMarks R w m ms → KeepsMarks R w n es
@@ -115,6 +110,7 @@ module _ (t : MarkTree) (rule : IsTree t) (ms : List (MarkName × Option ℕ)) (
           let deep = (rule.below child m f).1 ∙ ap (λ (p : Option ℕ). suc (depth_in t p)) below in
           let here = depth_there t rule key n e ∙ sym (rule.below key n e).1 in
           omega (arith, deep, here, h)
+
       through : (child : ℕ) (m : TreeNode) → t child ≡ Some m → m.parent ≡ Some key → IsOnPath t ms (Some child) → IsOnPath t ms (Some key)
       through child m f below on = record {
         index = on.index;
@@ -132,7 +128,7 @@ module _ (t : MarkTree) (rule : IsTree t) (ms : List (MarkName × Option ℕ)) (
 
   -- so the records of each path are those of a run
   pub node_runs : (R : ℕ) (w : World) → All (λ m. IsRecordOfRun R w (path_in t m.1)) ms → (at : Option ℕ) → IsIn t at → IsRecordOfRun R w (path_in t at)
-  node_runs R w runs None is = record { few = omega arith; ran = refl; }
+  node_runs R w runs None is = record { few = omega arith; ran = refl }
   node_runs R w runs (Some key) is =
       let found = there t key is in
       let on = on_path key found.0 found.1 in
@@ -205,7 +201,7 @@ module _ (t u : MarkTree) (rule : IsTree t) (part : IsPartOf t u) (name : MarkNa
   used_with linked used key n e apart =
       elim (linked key n e) [
         | inl was ↦ elim (used key n was (λ h. cc)) [
-          | inl child ↦ inl (child.0, record { node = child.1.node; there = part child.0 child.1.node child.1.there; below = child.1.below; })
+          | inl child ↦ inl (child.0, record { node = child.1.node; there = part child.0 child.1.node child.1.there; below = child.1.below })
           | inr mark ↦ inr (mark_was (Some key) mark)
         ]
         | inr later ↦ elim later [

@@ -1,8 +1,7 @@
 -- No call of a session moves its start, so the marks of a book stay runs from there.
-use Rattle.std.proofs.Common.{◌≡◌, ℕ, zero, suc, ◌==◌, nat_lt, Bool, true, false, if◌then◌else◌, refl, sym, ap, ◌∙◌, subst, List, length, Option, Some, None, Result, Ok, Err, OnOk, OnErr, Vec}
+use Rattle.std.proofs.Common.{◌≡◌, ℕ, zero, suc, ◌==◌, nat_lt, Bool, true, false, if◌then◌else◌, refl, sym, ap, ◌∙◌, subst, List, length, Option, Some, None, Result, Ok, Err, OnOk, OnErr}
 use Rattle.rd_step.specs.Prelude.{Refusal, TooLong, NothingToUndo, NothingToRedo, NoSuchStep, World, Stepped}
 use Rattle.rd_step.specs.declared.entries.Event.{Event}
-use Rattle.rd_step.specs.declared.entries.Entry.{Entry}
 use Rattle.rd_journal.specs.Journal.{Journal, start_of}
 use Rattle.rd_journal.specs.State.{State, state_of, run_of, step_after, with_event, apply, back_one, forward_one, times, undo, back, redo, forward, one_out_unless, undo_at, dependant_in, roll, marked_out, closure_in}
 use Rattle.slab.specs.Slab.{Slab}

@@ -1,5 +1,5 @@
 -- Going to a node: what its path has in common with the live steps.
-use Rattle.std.proofs.Common.{◌≡◌, ℕ, zero, suc, ◌+◌, ◌-◌, ◌<◌, ◌≤◌, ◌⊎◌, inl, inr, refl, sym, ap, ◌∙◌, subst, List, [], ◌∷◌, ◌++◌, length, take, drop, Option, Some, None, length-append, arith}
+use Rattle.std.proofs.Common.{◌≡◌, ℕ, zero, suc, ◌<◌, ◌≤◌, inl, inr, refl, sym, ap, ◌∙◌, List, [], ◌∷◌, ◌++◌, length, take, drop, Option, Some, None, length-append, arith}
 use Rattle.std.proofs.Math.Seq.{take-append_seam, drop-append_seam}
 use Rattle.std.proofs.lemmas.Bool.{cases_lt, cases_eq}
 use Rattle.std.proofs.lemmas.List.{map-append, append_assoc, append-nil, take-map, drop-map, take-append-drop}
@@ -7,7 +7,7 @@ use Rattle.rd_step.specs.Run.{events}
 use Rattle.rd_step.specs.declared.entries.Event.{Event}
 use Rattle.rd_step.specs.declared.entries.Entry.{Entry}
 use Rattle.rd_depend.specs.Beginnings.{Begins}
-use Rattle.rd_marks.specs.Tree.{TreeNode, MarkTree, IsIn, depth_in, path_in, IsTree, IsNew}
+use Rattle.rd_marks.specs.Tree.{MarkTree, IsIn, depth_in, path_in, IsTree, IsNew}
 use Rattle.rd_marks.proofs.TreeLemmas.{there, deep, depth_there, path_there, events_there, path_length, events_length, same_path}
 
 take_shorter : {X : Type 0} (n d : ℕ) (xs : List X) → n ≤ d → take n (take d xs) ≡ take n xs

@@ -1,5 +1,5 @@
 -- A node put below another, and one without children taken away: both leave a tree, whose nodes can be found.
-use Rattle.std.proofs.Common.{◌≡◌, ◌==◌, ◌&&◌, ◌||◌, not, ℕ, suc, ◌≤◌, ◌<◌, ◌⊎◌, inl, inr, Bool, true, false, true≢false, refl, sym, ap, ◌∙◌, subst, List, [], ◌∷◌, ◌++◌, is_some, Option, Some, None, arith}
+use Rattle.std.proofs.Common.{◌≡◌, ◌==◌, not, ℕ, suc, ◌≤◌, ◌<◌, ◌⊎◌, inl, inr, true, false, true≢false, refl, sym, ap, ◌∙◌, subst, List, [], ◌∷◌, ◌++◌, is_some, Option, Some, None, arith}
 use Rattle.std.specs.Option.{option_map_or}
 use Rattle.std.specs.List.{list_any, filter}
 use Rattle.std.proofs.lemmas.Bool.{cases_eq, eq-eqb, ne_eqb, eqb-true, or_left, or_right, not_from_false}
@@ -7,9 +7,8 @@ use Rattle.std.proofs.lemmas.List.Folds.{list_any-append}
 use Rattle.std.proofs.lemmas.Map.Views.{any-filter_same}
 use Rattle.rd_step.specs.Prelude.{MOST_STEPS}
 use Rattle.rd_step.specs.declared.entries.Entry.{Entry}
-use Rattle.rd_marks.specs.Tree.{TreeNode, MarkTree, IsIn, depth_in, IsChild, IsChildBy, HasChild, HasNoChildBy, IsTree, IsPartOf, ChangesAt}
+use Rattle.rd_marks.specs.Tree.{TreeNode, MarkTree, IsIn, depth_in, HasChild, HasNoChildBy, IsTree, IsPartOf, ChangesAt}
 use Rattle.rd_marks.specs.TreeLayout.{AreLinked}
-use Rattle.rd_marks.proofs.TreeLemmas.{there, is_there}
 
 -- an element that is another passes no test for this one
 apart_some : (k key : ℕ) → (k ≡ key → ⊥) → Some k ≡ Some key → ⊥
@@ -39,7 +38,7 @@ module _ (t u : MarkTree) (key : ℕ) (rule : IsTree t) (leaf : HasChild t (Some
         | inl same ↦ (let no = sym e ∙ ap u same ∙ change.changed in cc)
         | inr apart ↦
             let before : t k ≡ Some n = sym (change.others k apart) ∙ e in
-            (before, λ below. leaf (k, record { node = n; there = before; below = below; }))
+            (before, λ below. leaf (k, record { node = n; there = before; below = below }))
       ]
 
   pub tree_without : IsTree u
@@ -88,7 +87,7 @@ module _ (t u : MarkTree) (key : ℕ) (at : Option ℕ) (x : Entry) (rule : IsTr
 
   -- what was there at the key of another is another
   one_parent : (k : ℕ) (n : TreeNode) → t k ≡ Some n → n.parent ≡ at → n.entry.event ≡ x.event → ⊥
-  one_parent k n e parents events = new k (record { node = n; there = e; below = parents; its_event = events; })
+  one_parent k n e parents events = new k (record { node = n; there = e; below = parents; its_event = events })
 
   at_apart : at ≡ Some key → ⊥
   at_apart = not_there t key vacant at is
@@ -145,5 +144,5 @@ module _ (t u : MarkTree) (key : ℕ) (at : Option ℕ) (x : Entry) (rule : IsTr
   linked_known known known' forks only its same linked k n e unknown =
       elim (is_new_or_was k n e) [
         | inl is_new ↦ absurd (unknown (ap (λ (y : TreeNode). known' y.parent) is_new.1 ∙ its ∙ ap (λ (i : ℕ). Some i) (sym is_new.0)))
-        | inr was ↦ linked k n was (λ h. unknown (same n.parent (λ parents. only (k, record { node = n; there = was; below = parents; })) (above_apart k n was) ∙ h))
+        | inr was ↦ linked k n was (λ h. unknown (same n.parent (λ parents. only (k, record { node = n; there = was; below = parents })) (above_apart k n was) ∙ h))
       ]

@@ -1,14 +1,10 @@
 -- Paths in a tree of marks.
-use Rattle.std.proofs.Common.{◌≡◌, ℕ, zero, suc, ◌+◌, ◌<◌, ◌≤◌, ◌⊎◌, inl, inr, Bool, true, false, true≢false, refl, sym, ap, ◌∙◌, subst, List, [], ◌∷◌, ◌++◌, length, take, drop, is_some, Option, Some, None, arith, length-append}
+use Rattle.std.proofs.Common.{◌≡◌, ℕ, zero, suc, ◌+◌, ◌≤◌, true, true≢false, refl, sym, ap, ◌∙◌, subst, List, [], ◌∷◌, ◌++◌, length, is_some, Option, Some, None, arith, length-append}
 use Rattle.std.specs.Option.{option_map_or}
-use Rattle.std.proofs.Math.Seq.{take-append_seam, take-length}
-use Rattle.std.proofs.lemmas.Bool.{cases_eq}
-use Rattle.std.proofs.lemmas.List.{append_cancel_left, append_cancel_right, map-append, take-append-le, length-map}
+use Rattle.std.proofs.lemmas.List.{map-append, length-map}
 use Rattle.rd_step.specs.Run.{events}
-use Rattle.rd_step.specs.declared.entries.Event.{Event}
 use Rattle.rd_step.specs.declared.entries.Entry.{Entry}
-use Rattle.rd_depend.specs.Beginnings.{Begins}
-use Rattle.rd_marks.specs.Tree.{TreeNode, MarkTree, is_in, IsIn, depth_in, above, parent_in, path_by, path_up, path_in, IsChild, IsChildBy, HasChild, HasNoChildBy, IsTree, IsPartOf, ChangesAt}
+use Rattle.rd_marks.specs.Tree.{TreeNode, MarkTree, IsIn, depth_in, above, parent_in, path_by, path_up, path_in, IsTree, IsPartOf}
 
 -- what is there
 pub there : (t : MarkTree) (key : ℕ) → IsIn t (Some key) → (n : TreeNode) × (t key ≡ Some n)

@@ -1,15 +1,14 @@
 -- Which nodes are used: by the slots, and by children and marks.
-use Rattle.std.proofs.Common.{◌≡◌, ◌||◌, ◌↔◌, ℕ, zero, suc, ◌+◌, ◌<◌, ◌≤◌, ◌⊎◌, inl, inr, Bool, true, false, true≢false, nat_eq, refl, sym, ap, ◌∙◌, subst, List, [], ◌∷◌, ◌++◌, length, get_or, option_map, Option, Some, None, All, IsTrue, is_some, slice_get, take, arith}
+use Rattle.std.proofs.Common.{◌≡◌, ◌||◌, ◌↔◌, ℕ, zero, suc, ◌<◌, inl, inr, Bool, true, false, true≢false, nat_eq, refl, sym, ap, ◌∙◌, subst, List, [], ◌∷◌, get_or, option_map, Option, Some, None, All, IsTrue, is_some, slice_get, take, arith}
 use Rattle.std.specs.Option.{option_eq, option_map_or}
 use Rattle.std.specs.List.{list_any}
 use Rattle.std.proofs.lemmas.Bool.{cases_eq, or_cases, or_left, or_right, or_from, or_parts}
-use Rattle.std.proofs.lemmas.List.Folds.{list_any-append}
-use Rattle.std.proofs.lemmas.List.Elements.{All-head, All-tail, All-cons, All-nil}
-use Rattle.slab.specs.Slab.{Slab, get}
+use Rattle.std.proofs.lemmas.List.Elements.{All-cons, All-nil}
+use Rattle.slab.specs.Slab.{Slab}
 use Rattle.rd_marks.specs.declared.names.MarkName.{MarkName}
 use Rattle.rd_marks.specs.declared.tree.Node.{Node}
 use Rattle.rd_marks.specs.Layout.{is_below, has_child, has_mark}
-use Rattle.rd_marks.specs.Tree.{TreeNode, MarkTree, IsIn, depth_in, parent_in, IsChild, HasChild, IsTree, IsPartOf, ChangesAt, AreLinkedBelow}
+use Rattle.rd_marks.specs.Tree.{TreeNode, MarkTree, IsIn, depth_in, parent_in, HasChild, IsTree, IsPartOf, ChangesAt}
 use Rattle.rd_marks.specs.TreeLayout.{tree_of, node_of}
 use Rattle.rd_marks.specs.Uses.{IsUsed, AreUsedExcept}
 use Rattle.rd_marks.proofs.NodeLemmas.{same_option, one_option, node_there}
@@ -39,7 +38,7 @@ found_slot at (slot ∷ slots) (suc key) n h k = or_right (is_below at slot) (li
 pub child_from_slots : (nodes : Slab Node) (at : Option ℕ) → has_child nodes at ≡ true → HasChild (tree_of nodes) at
 child_from_slots nodes at h =
     let found = slot_found at nodes.slots h in
-    (found.0, record { node = node_of found.1; there = ap (option_map node_of) found.2; below = found.3; })
+    (found.0, record { node = node_of found.1; there = ap (option_map node_of) found.2; below = found.3 })
 
 pub slots_from_child : (nodes : Slab Node) (at : Option ℕ) → HasChild (tree_of nodes) at → has_child nodes at ≡ true
 slots_from_child nodes at h =
@@ -147,11 +146,14 @@ module _ (t u : MarkTree) (ms : List (MarkName × Option ℕ)) (key : ℕ) (rule
       let was = part_left k n e in
       let other : k ≡ key → ⊥ = λ same. (let no = sym e ∙ ap u same ∙ change.changed in cc) in
       elim (used k n was (λ h. other (let same : key ≡ k = cc in sym same))) [
-        | inl child ↦ inl (child.0, record {
-          node = child.1.node;
-          there = change.others child.0 (λ same. apart (lost child.0 child.1.node k same child.1.there child.1.below)) ∙ child.1.there;
-          below = child.1.below;
-        })
+        | inl child ↦ inl (
+          child.0,
+          record {
+            node = child.1.node;
+            there = change.others child.0 (λ same. apart (lost child.0 child.1.node k same child.1.there child.1.below)) ∙ child.1.there;
+            below = child.1.below;
+          },
+        )
         | inr mark ↦ inr mark
       ]
     where

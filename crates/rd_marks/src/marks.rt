@@ -114,11 +114,7 @@ pub(crate) fn are_same(
 }
 
 /// Takes away this node and those above it that no bookmark uses, if this is the only one that may not be used.
-pub(crate) fn prune(
-    tree: &mut Tree,
-    marks: &IndexMap<MarkName, Option<usize>>,
-    from: Option<usize>,
-)
+pub(crate) fn prune(tree: &mut Tree, marks: &IndexMap<MarkName, Option<usize>>, from: Option<usize>)
     requires present { IsIn (mark_tree tree.old) from }
     requires marked { All (λ m. IsIn (mark_tree tree.old) m.1) marks.now.entries }
     requires used { AreUsedExcept (mark_tree tree.old) marks.now.entries from }

@@ -90,12 +90,36 @@ const THREE: [(Line, u64); 12] = [
 
 /// The orders in which those three are dropped.
 const ORDERS: [[(Line, u64); 3]; 6] = [
-    [(Line::Drop(b'a'), 5), (Line::Drop(b'b'), 3), (Line::Drop(b'c'), 0)],
-    [(Line::Drop(b'a'), 5), (Line::Drop(b'c'), 4), (Line::Drop(b'b'), 0)],
-    [(Line::Drop(b'b'), 4), (Line::Drop(b'a'), 3), (Line::Drop(b'c'), 0)],
-    [(Line::Drop(b'b'), 4), (Line::Drop(b'c'), 4), (Line::Drop(b'a'), 0)],
-    [(Line::Drop(b'c'), 6), (Line::Drop(b'a'), 4), (Line::Drop(b'b'), 0)],
-    [(Line::Drop(b'c'), 6), (Line::Drop(b'b'), 4), (Line::Drop(b'a'), 0)],
+    [
+        (Line::Drop(b'a'), 5),
+        (Line::Drop(b'b'), 3),
+        (Line::Drop(b'c'), 0),
+    ],
+    [
+        (Line::Drop(b'a'), 5),
+        (Line::Drop(b'c'), 4),
+        (Line::Drop(b'b'), 0),
+    ],
+    [
+        (Line::Drop(b'b'), 4),
+        (Line::Drop(b'a'), 3),
+        (Line::Drop(b'c'), 0),
+    ],
+    [
+        (Line::Drop(b'b'), 4),
+        (Line::Drop(b'c'), 4),
+        (Line::Drop(b'a'), 0),
+    ],
+    [
+        (Line::Drop(b'c'), 6),
+        (Line::Drop(b'a'), 4),
+        (Line::Drop(b'b'), 0),
+    ],
+    [
+        (Line::Drop(b'c'), 6),
+        (Line::Drop(b'b'), 4),
+        (Line::Drop(b'a'), 0),
+    ],
 ];
 
 /// Plays lines on a book, none of which is refused, and counts the nodes after each.
@@ -149,7 +173,11 @@ fn bookmarks_may_have_64_branches(rt: HostRuntime) -> Result<(), Fail> {
     }
     for i in 1..33u8 {
         book.goto_mark(numbered(2 * i - 1)?)?;
-        assert_eq!(rt; book.session().entry(1)?.event.act, Act::Enq(2 * i as u64 - 1), "goto {i}");
+        assert_eq!(rt;
+            book.session().entry(1)?.event.act,
+            Act::Enq(2 * i as u64 - 1),
+            "goto {i}"
+        );
     }
     Ok(())
 }

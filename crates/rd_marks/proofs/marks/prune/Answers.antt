@@ -1,8 +1,7 @@
-use Rattle.std.proofs.Common.{◌≡◌, ◌<◌, ℕ, Option, Some, None, true, true≢false, subst, sym, ap, ◌∙◌, arith}
-use Rattle.rd_marks.specs.Tree.{IsIn, depth_in, parent_in, IsPartOf}
+use Rattle.std.proofs.Common.{ℕ, Option, Some, true≢false, subst, sym, ap, ◌∙◌, arith}
+use Rattle.rd_marks.specs.Tree.{IsIn, depth_in}
 use Rattle.rd_marks.specs.TreeViews.{mark_tree}
 use Rattle.rd_marks.specs.Uses.{IsUsed, AreUsedExcept}
-use Rattle.rd_marks.proofs.Sharing.{same_records}
 use Rattle.rd_marks.proofs.Uses.{part_left, marks_left, parent_left, parent_shallower, used_left, no_exception}
 use Rattle.rd_marks.proofs.marks.prune.Goals as goal
 

@@ -1,15 +1,13 @@
-use Rattle.std.proofs.Common.{◌≡◌, ◌-◌, All, ◌++◌, ◌∷◌, [], ℕ, Option, List, Some, None, refl, ap, subst, sym, length, take, drop, ◌∙◌, arith}
-use Rattle.std.proofs.lemmas.List.{take-append-drop}
-use Rattle.rd_step.specs.declared.entries.Event.{Event}
+use Rattle.std.proofs.Common.{◌≡◌, ◌-◌, All, ◌++◌, ◌∷◌, [], ℕ, Option, List, refl, ap, subst, sym, length, take, drop, ◌∙◌}
 use Rattle.rd_step.specs.declared.entries.Entry.{Entry}
 use Rattle.rd_journal.specs.Journal.{events}
-use Rattle.rd_journal.specs.Sessions.{journal, state}
+use Rattle.rd_journal.specs.Sessions.{state}
 use Rattle.indexmap.specs.IndexMap.{insert_entry}
 use Rattle.rd_marks.specs.declared.names.MarkName.{MarkName}
 use Rattle.rd_marks.specs.Names.{same_name}
 use Rattle.rd_marks.specs.Layout.{IsRecordOfRun}
 use Rattle.rd_marks.specs.Marks.{marks_of}
-use Rattle.rd_marks.specs.Tree.{MarkTree, IsIn, IsNew, IsPartOf, AreLinkedBelow, IsTree, depth_in, path_in}
+use Rattle.rd_marks.specs.Tree.{MarkTree, IsIn, IsNew, depth_in, path_in}
 use Rattle.rd_marks.specs.TreeViews.{mark_tree}
 use Rattle.rd_marks.proofs.TreeLemmas.{path_length}
 use Rattle.rd_marks.proofs.RecordLemmas.{to_the_end}
@@ -50,7 +48,7 @@ returns-clause-ok g c =
     let rule = c.args.tree.now.kept.tree in
     let nodes = c.reserve.ensures.nodes in
     let kept = keeps g.row.R w c.args.tree.now.nodes ms c.requires.kept in
-    let run : IsRecordOfRun g.row.R w live = record { few = c.live-live.ensures.few; ran = c.live-live.ensures.run; } in
+    let run : IsRecordOfRun g.row.R w live = record { few = c.live-live.ensures.few; ran = c.live-live.ensures.run } in
     let whole : path_in u node ≡ live =
     c.grow-node.ensures.path ∙ ap (λ (v : MarkTree). path_in v b ++ take (length live - c.depth.result) (drop c.depth.result live)) nodes
     ∙ whole_path g.row.R w (path_in t b) live (take (length live - c.depth.result) (drop c.depth.result live)) (depth_in t b)
@@ -77,7 +75,7 @@ returns-clause-kept g c =
     let rule = c.args.tree.now.kept.tree in
     let nodes = c.reserve.ensures.nodes in
     let kept = keeps g.row.R w c.args.tree.now.nodes ms c.requires.kept in
-    let run : IsRecordOfRun g.row.R w live = record { few = c.live-live.ensures.few; ran = c.live-live.ensures.run; } in
+    let run : IsRecordOfRun g.row.R w live = record { few = c.live-live.ensures.few; ran = c.live-live.ensures.run } in
     let whole : path_in u node ≡ live =
     c.grow-node.ensures.path ∙ ap (λ (v : MarkTree). path_in v b ++ take (length live - c.depth.result) (drop c.depth.result live)) nodes
     ∙ whole_path g.row.R w (path_in t b) live (take (length live - c.depth.result) (drop c.depth.result live)) (depth_in t b)

@@ -1,4 +1,4 @@
-use Rattle.std.proofs.Common.{◌≡◌, ◌≤◌, ℕ, Option, List, lit<, ap, subst, sym, length, take, drop, ◌∙◌, arith}
+use Rattle.std.proofs.Common.{◌≡◌, ℕ, List, lit<, ap, subst, sym, length, take, drop, ◌∙◌, arith}
 use Rattle.std.proofs.Math.Seq.{drop-length}
 use Rattle.rd_step.specs.declared.entries.Event.{Event}
 use Rattle.rd_depend.specs.Beginnings.{Begins}

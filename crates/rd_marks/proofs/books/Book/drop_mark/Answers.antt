@@ -1,14 +1,12 @@
 use Rattle.std.proofs.Common.{◌≡◌, ◌∙◌, refl, sym, ap, subst, List, ℕ, Option, Some, None, All, is_some, true, Ok}
-use Rattle.std.specs.Map.{lookup}
 use Rattle.rd_journal.specs.Sessions.{state}
 use Rattle.rd_marks.specs.declared.names.MarkName.{MarkName}
 use Rattle.rd_marks.specs.BookViews.{book_state}
 use Rattle.rd_marks.specs.Books.{marked_events, with_marks, Mark}
-use Rattle.rd_marks.specs.Names.{same_name}
 use Rattle.rd_marks.specs.Tree.{IsIn}
 use Rattle.rd_marks.specs.TreeViews.{mark_tree}
 use Rattle.rd_marks.specs.Uses.{AreUsedExcept}
-use Rattle.rd_marks.proofs.MarkLemmas.{drop_goes, drop_missing, found_events, found_marked, all_without}
+use Rattle.rd_marks.proofs.MarkLemmas.{drop_goes, drop_missing, found_events, all_without}
 use Rattle.rd_marks.proofs.Sharing.{keeps, kept_without, node_in, used_without, marks_kept}
 use Rattle.rd_marks.proofs.books.Book.drop_mark.Goals as goal
 

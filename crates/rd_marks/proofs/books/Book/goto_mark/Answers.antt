@@ -15,7 +15,7 @@ switch_to-requires g c =
       (
         node_in t c.args.name c.args.self.now.marks.entries c.in-Some.node.now (sym c.in-Some.ensures.value) c.args.self.now.kept.present,
         node_run g.row.R (state c.args.self.now.session).start t c.args.name c.args.self.now.marks.entries c.in-Some.node.now (sym c.in-Some.ensures.value)
-        c.args.self.now.kept.runs,
+            c.args.self.now.kept.runs,
       ),
     )
 

@@ -3,7 +3,7 @@ use Rattle.rd_step.specs.Prelude.{Refusal}
 use Rattle.std.proofs.lemmas.List.{length-map}
 use Rattle.rd_marks.specs.Books.{BookState, Mark, with_marks}
 use Rattle.rd_marks.specs.BookViews.{book_state}
-use Rattle.rd_marks.specs.Marks.{mark_of, marks_of}
+use Rattle.rd_marks.specs.Marks.{mark_of}
 use Rattle.rd_marks.specs.NameBytes.{MOST_MARKS}
 use Rattle.rd_marks.specs.TreeViews.{mark_tree}
 use Rattle.rd_marks.proofs.MarkLemmas.{mark_goes, mark_taken, mark_too_many}

@@ -1,4 +1,4 @@
-use Rattle.std.proofs.Common.{◌≡◌, ◌∙◌, true≢false, option_map, List, ℕ, Option, None, sym, ap, subst, add-one, suc}
+use Rattle.std.proofs.Common.{◌≡◌, ◌∙◌, true≢false, option_map, List, ℕ, None, sym, ap, subst, add-one, suc}
 use Rattle.rd_marks.specs.Tree.{HasChild}
 use Rattle.rd_marks.specs.TreeLayout.{tree_of, known_in, node_of, AreLinked}
 use Rattle.rd_marks.proofs.NodeLemmas.{puts_node, puts_then, knows_as_before}

@@ -1,9 +1,9 @@
 use Rattle.std.proofs.Common.{◌≡◌, ◌<◌, ◌≤◌, true≢false, ap, sym, subst, ◌∙◌, arith, ℕ, Option}
 use Rattle.std.proofs.lemmas.Bool.{not_from_true}
-use Rattle.rd_marks.specs.Tree.{depth_in, parent_in}
+use Rattle.rd_marks.specs.Tree.{depth_in}
 use Rattle.rd_marks.specs.TreeViews.{mark_tree}
 use Rattle.rd_marks.proofs.NodeLemmas.{one_option}
-use Rattle.rd_marks.proofs.CommonNode.{IsAboveBoth, at_first, first_goes_up, second_goes_up, shallower_first, shallower_second}
+use Rattle.rd_marks.proofs.CommonNode.{IsAboveBoth, first_goes_up, second_goes_up, shallower_first, shallower_second}
 use Rattle.rd_marks.proofs.tree.Tree.common.Goals as goal
 
 pub loop-b-smaller-then-depth : goal.loop-b-smaller-then-depth

@@ -1,4 +1,4 @@
-use Rattle.std.proofs.Common.{◌≡◌, ap, sym, subst, ◌∙◌, ℕ, List, drop, arith}
+use Rattle.std.proofs.Common.{ap, sym, subst, ◌∙◌, ℕ, drop, arith}
 use Rattle.rd_step.specs.declared.entries.Event.{Event}
 use Rattle.rd_step.specs.declared.entries.Entry.{Entry}
 use Rattle.rd_marks.specs.Tree.{HasNoChildBy}
@@ -18,4 +18,4 @@ loop-index-preserved c =
     let t = mark_tree c.args.self.now in
     let on = followed t c.args.self.now.kept.tree c.loop-index.at c.loop-index.index c.args.records.now c.in-Some.key _ c.loop-index-test.true c.in-Some.ensures
     c.loop-index.invariant.begins c.loop-index.invariant.depth in
-    record { present = on.present; depth = on.depth; within = omega (arith, c.loop-index-test.true); begins = on.begins; }
+    record { present = on.present; depth = on.depth; within = omega (arith, c.loop-index-test.true); begins = on.begins }

@@ -1,6 +1,6 @@
 use Rattle.std.proofs.Common.{take}
 use Rattle.std.specs.List.{All}
-use Rattle.rd_marks.specs.Tree.{IsChild, IsChildBy}
+use Rattle.rd_marks.specs.Tree.{IsChildBy}
 use Rattle.rd_marks.specs.TreeViews.{mark_tree}
 use Rattle.rd_marks.proofs.tree.Tree.fork_by.Given as goal
 

@@ -1,6 +1,5 @@
-use Rattle.std.proofs.Common.{◌≡◌, ◌-◌, ◌+◌, suc, length, drop, ℕ, subst, sym, ap, ◌∙◌, arith}
+use Rattle.std.proofs.Common.{◌≡◌, ◌-◌, ◌+◌, suc, length, ℕ, subst, arith}
 use Rattle.std.proofs.Math.Seq.{drop-cons}
-use Rattle.rd_marks.specs.Tree.{HasChild}
 use Rattle.rd_marks.specs.TreeViews.{mark_tree, HasRoom}
 use Rattle.rd_marks.proofs.FollowLemmas.{grown, grows_on}
 use Rattle.rd_marks.proofs.TreeChanges.{is_leaf}
@@ -34,7 +33,7 @@ loop-index-preserved c =
       kept = on.kept;
       path = on.path;
       used = on.used;
-      new = λ x rest h key child. leaf (key, record { node = child.node; there = child.there; below = child.below; });
+      new = λ x rest h key child. leaf (key, record { node = child.node; there = child.there; below = child.below });
       room = c.add.ensures.room (length xs - (i + 1)) (subst (λ (n : ℕ). HasRoom c.loop-index.self n) fewer inv.room);
       forks = λ h. absurd (leaf h);
     }

@@ -1,5 +1,4 @@
 use Rattle.std.proofs.Common.{◌∙◌, sym, ap, option_copied}
-use Rattle.rd_marks.proofs.TreeLemmas.{same_path}
 use Rattle.rd_marks.proofs.NodeLemmas.{child_tested}
 use Rattle.rd_marks.proofs.tree.Tree.is_child.Goals as goal
 

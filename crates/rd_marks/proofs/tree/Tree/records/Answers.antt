@@ -1,4 +1,4 @@
-use Rattle.std.proofs.Common.{◌≡◌, ◌-◌, ◌+◌, ◌++◌, ◌∷◌, [], suc, reverse, length, drop, ℕ, List, Option, Some, subst, sym, ap, ◌∙◌, option_copied, arith}
+use Rattle.std.proofs.Common.{◌≡◌, ◌++◌, ◌∷◌, [], suc, reverse, length, ℕ, List, Option, Some, subst, sym, ap, ◌∙◌, option_copied, arith}
 use Rattle.rd_step.specs.declared.entries.Entry.{Entry}
 use Rattle.rd_marks.specs.Tree.{IsIn, depth_in, path_in, entry_in}
 use Rattle.rd_marks.specs.TreeViews.{mark_tree}

@@ -1,4 +1,4 @@
-use Rattle.std.proofs.Common.{◌≡◌, ◌++◌, ◌-◌, ◌+◌, ◌≤◌, reverse, length, vec_len, vec_capacity}
+use Rattle.std.proofs.Common.{◌≡◌, ◌++◌, ◌-◌, ◌+◌, ◌≤◌, reverse, vec_len, vec_capacity}
 use Rattle.rd_marks.specs.Tree.{IsIn, depth_in, path_in}
 use Rattle.rd_marks.specs.TreeViews.{mark_tree}
 use Rattle.rd_marks.proofs.tree.Tree.records.Given as goal

@@ -1,5 +1,4 @@
-use Rattle.std.proofs.Common.{◌==◌, not, List, ℕ, None, sym, subst}
-use Rattle.std.specs.List.{filter}
+use Rattle.std.proofs.Common.{List, ℕ, None, sym, subst}
 use Rattle.rd_marks.specs.TreeLayout.{tree_of, known_in, AreLinked}
 use Rattle.rd_marks.proofs.NodeLemmas.{changes_tree, knows_as_before}
 use Rattle.rd_marks.proofs.TreeChanges.{tree_without, linked_without}
