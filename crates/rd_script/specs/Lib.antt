@@ -8,6 +8,7 @@ pub mod Actors
 pub mod Steps
 pub mod Refusals
 pub mod Replies
+pub mod Headings
 pub mod Spelling
 pub mod Words
 pub mod Lines

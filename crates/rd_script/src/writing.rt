@@ -4,6 +4,7 @@
 mod actors;
 mod contents;
 mod events;
+pub mod headings;
 mod labels;
 pub mod lines;
 mod numbers;

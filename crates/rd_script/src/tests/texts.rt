@@ -1,7 +1,9 @@
-//! Lines that are long or lack their line feed, in a script and in a whole text.
+//! Lines that are long or lack their line feed, in a script and in a whole text; and the lines of headings.
 
+use super::super::devices::sinks::WriteSink;
 use super::super::faults::LineFault;
 use super::super::reading::whole_texts::lines;
+use super::super::writing::headings::{Heading, write_heading};
 use super::runs::{poised, report_is};
 use rd_marks::Command;
 use std::alloc::{AllocError, Global};
@@ -117,5 +119,31 @@ fn a_long_line_of_a_whole_text_is_too_long(rt: HostRuntime) -> Result<(), Fail> 
         &rt,
         rt.alloc(),
         &[(256, LineFault::BadLine), (257, LineFault::LineTooLong)],
+    )
+}
+
+/// Compares what a writer is given of each heading with its line.
+fn headings_are(rt: &impl Abort, alloc: Global, rows: &[(Heading, &str)]) {
+    for (heading, line) in rows {
+        let mut written = Vec::new(alloc);
+        let said = write_heading(&mut WriteSink::new(&mut written), *heading);
+        assert!(rt;
+            said.is_ok() && written.as_slice() == line.as_bytes(),
+            "line {line}"
+        );
+    }
+}
+
+#[test]
+fn each_heading_has_its_line(rt: HostRuntime) {
+    headings_are(
+        &rt,
+        rt.alloc(),
+        &[
+            (Heading::Viewer(1), "viewer 1\n"),
+            (Heading::Viewer(64), "viewer 64\n"),
+            (Heading::History(0), "history 0\n"),
+            (Heading::History(100_000), "history 100000\n"),
+        ],
     )
 }

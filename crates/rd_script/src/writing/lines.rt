@@ -56,7 +56,7 @@ pub fn set_unread(text: &mut Text, fault: LineFault)
 }
 
 /// Puts the line feed behind the text.
-fn end_line(text: &mut Text)
+pub fn end_line(text: &mut Text)
     ensures { Puts text.old.items text.new.items (10 ∷ []) }
 {
     put(text, b"\n");
