@@ -6,9 +6,9 @@ use Rattle.rd_lock.specs.declared.views.View.{View}
 use Rattle.rd_lock.specs.declared.views.Stage.{Stage}
 use Rattle.rd_lock.specs.declared.views.Stage.TheVariants.{Out, Holds}
 use Rattle.rd_lock.specs.Histories.{named, Adds, placed}
-use Rattle.rd_lock.specs.Rule.{view_of, in_hand}
+use Rattle.rd_lock.specs.Rule.{number_in, view_of, in_hand}
 use Rattle.rd_lock.specs.Steps.{knows_served, has_put, after_served, IsNewestServed, saw_served, released}
-use Rattle.rd_lock.specs.Locks.{number_in, IsToldIn, IsDueIn, HasPutIn}
+use Rattle.rd_lock.specs.Locks.{IsToldIn, IsDueIn, HasPutIn}
 use Rattle.rd_lock.proofs.Lock.{Lock, Rule}
 use Rattle.rd_lock.proofs.Lists.{named_own}
 use Rattle.rd_lock.proofs.Releases.{found_or, releases}

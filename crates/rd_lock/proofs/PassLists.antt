@@ -12,8 +12,8 @@ use Rattle.rd_lock.specs.declared.passes.Pass.{Pass}
 use Rattle.rd_lock.specs.declared.tickets.Busy.{Busy}
 use Rattle.rd_lock.specs.declared.locks.TicketLock.{TicketLock}
 use Rattle.rd_lock.specs.Histories.{Every, named, numbers}
-use Rattle.rd_lock.specs.Rule.{view_of, newcomer, newcomers, first_of_people, other_people}
-use Rattle.rd_lock.specs.Locks.{number_in, seen_in, own_in, next_in, served_in, IsToldIn, number, seats, root}
+use Rattle.rd_lock.specs.Rule.{number_in, view_of, newcomer, newcomers, first_of_people, other_people}
+use Rattle.rd_lock.specs.Locks.{seen_in, own_in, next_in, served_in, IsToldIn, number, seats, root}
 use Rattle.rd_lock.specs.Opening.{people_of, IsSeatOf, IsNewPass, IsToldOf, KnowsUpTo, HasSeenUpTo, Tells}
 use Rattle.rd_lock.proofs.Lock.{Lock, Rule}
 use Rattle.rd_lock.proofs.Calls.{one_of}
@@ -66,6 +66,13 @@ module _ (E : Type 0) {O : Type 0} where
   pub newcomers_numbers : (count : ℕ) (origin : O) (first k n : ℕ) → map (λ (p : Person E O). p.pass) (newcomers count origin first k n) ≡ numbers k n
   newcomers_numbers count origin first k zero = refl
   newcomers_numbers count origin first k (suc n) = ap (λ l. k ∷ l) (newcomers_numbers count origin first (suc k) n)
+
+  -- who is left when some are gone is the next in order
+  pub next_number : (count : ℕ) (origin : O) (first k n : ℕ) (gone left : List (Person E O)) → gone ++ left ≡ newcomers count origin first k n → length gone < n → number_in (first_of_people left) ≡ length gone + k
+  next_number count origin first k zero gone left is less = absurd (omega arith)
+  next_number count origin first k (suc n) [] [] is less = cc
+  next_number count origin first k (suc n) [] (p ∷ ps) is less = let e : p ∷ [] ≡ newcomer count origin first k ∷ [] = ap first_of_people is in let same : p.pass ≡ k = ap number_in e in omega arith
+  next_number count origin first k (suc n) (q ∷ gone) left is less = let r = next_number count origin first (suc k) n gone left (ap other_people is) (omega arith) in omega arith
 
 module _ {T E O : Type 0} (lock : Lock T E O) where
   open lock use {history, origin, seats, root}
@@ -135,6 +142,10 @@ module _ {T E O : Type 0} {K : Ghosts T E O} where
   -- while fewer passes than seats are handed out, the first seat has people
   pub some_left : (count : ℕ) (top : O) (first n : ℕ) (xs : List (Pass T E O K)) (ps : List (Person E O)) → people_of xs ++ ps ≡ newcomers count top first 1 n → length xs < n → 0 < length ps
   some_left count top first n xs ps is less = let a = people_count xs in let b = length-append (people_of xs) ps in let e = ap length is in let c = newcomers_count E count top first 1 n in omega arith
+
+  -- the next pass is the one after those that are handed out
+  pub next_out : (count : ℕ) (top : O) (first n : ℕ) (xs : List (Pass T E O K)) (ps : List (Person E O)) → people_of xs ++ ps ≡ newcomers count top first 1 n → length xs < n → number_in (first_of_people ps) ≡ length xs + 1
+  next_out count top first n xs ps is less = let a = people_count xs in let r = next_number E count top first 1 n (people_of xs) ps is (omega arith) in omega arith
 
   -- and then none
   pub all_out : (count : ℕ) (top : O) (first n : ℕ) (xs : List (Pass T E O K)) (ps : List (Person E O)) → people_of xs ++ ps ≡ newcomers count top first 1 n → length xs ≡ n → people_of xs ≡ newcomers count top first 1 n

@@ -9,13 +9,9 @@ use Rattle.rd_lock.specs.declared.passes.Pass.{Pass}
 use Rattle.rd_lock.specs.declared.locks.TicketLock.{TicketLock}
 use Rattle.rd_lock.specs.declared.tickets.Missed.{Missed}
 use Rattle.rd_lock.specs.Histories.{named, Adds, placed, signed}
+use Rattle.rd_lock.specs.Rule.{number_in}
 
 module _ {E O : Type 0} where
-  -- the number of the first of the people
-  abbrev pub number_in : List (Person E O) → ℕ
-  number_in [] = 0
-  number_in (p ∷ ps) = p.pass
-
   -- what it has seen
   abbrev pub seen_in : List (Person E O) → List (ℕ × E)
   seen_in [] = []

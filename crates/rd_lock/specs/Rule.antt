@@ -37,6 +37,11 @@ module _ {E O : Type 0} where
   abbrev pub view_of : List (Person E O) → Stage E → View E O
   view_of people stage = record { people = people; stage = stage }
 
+  -- the number of the first of the people
+  abbrev pub number_in : List (Person E O) → ℕ
+  number_in [] = 0
+  number_in (p ∷ ps) = p.pass
+
   -- the first of the people, alone
   abbrev pub first_of_people : List (Person E O) → List (Person E O)
   first_of_people [] = []

@@ -24,9 +24,12 @@ pub(crate) fn hand_out<T: Recorded>(
     ensures own { Every (IsSeatOf shared.now.table_id) passes.new.items }
     ensures people { people_of passes.new.items ≡ newcomers seats (T.origin shared.now.key.value.value) shared.now.key.first 1 seats }
 {
-    for _number in 0..seats {
+    for number in 0..seats {
         let new = shared.split_seat::<Parted>(&mut seat);
-        let Ok(()) = passes.push(Pass { seat: new }) else {
+        let Ok(()) = passes.push(Pass {
+            seat: new,
+            number: number + 1,
+        }) else {
             unreachable!()
         };
     }
@@ -45,9 +48,9 @@ pub(crate) fn gather<T: Recorded>(
     let Some(last) = passes.pop() else {
         return None;
     };
-    let Pass { mut seat } = last;
+    let Pass { mut seat, .. } = last;
     while let Some(pass) = passes.pop() {
-        let Pass { seat: other } = pass;
+        let Pass { seat: other, .. } = pass;
         shared.join_seat::<Joined>(&mut seat, other);
     }
     Some(seat)

@@ -25,11 +25,24 @@ impl<T: Recorded> TicketLock<T> {
         ensures told { (served_seen result.1 ≡ result.0) × (served_seen result.2 ≡ result.0) }
     {
         let shared = &self.table.shared;
-        let Pass { seat: mut both } = one;
-        let Pass { seat: joined } = other;
+        let Pass {
+            seat: mut both,
+            number,
+        } = one;
+        let Pass {
+            seat: joined,
+            number: other_number,
+        } = other;
         shared.join_seat::<Joined>(&mut both, joined);
         let served = shared.load::<SawServed>(&mut both, SERVED);
         let second = shared.split_seat::<Parted>(&mut both);
-        (served, Pass { seat: both }, Pass { seat: second })
+        (
+            served,
+            Pass { seat: both, number },
+            Pass {
+                seat: second,
+                number: other_number,
+            },
+        )
     }
 }

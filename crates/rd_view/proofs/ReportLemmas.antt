@@ -14,7 +14,7 @@ use Rattle.rd_script.specs.Device.{TakesBeginning}
 use Rattle.rd_step.specs.Prelude.{Refusal}
 use Rattle.rd_marks.specs.declared.commands.Command.{Command}
 use Rattle.rd_marks.specs.declared.replies.Reply.{Reply}
-use Rattle.rd_desk.specs.declared.DeskRefusal.{DeskRefusal}
+use Rattle.rd_desk.specs.declared.gates.DeskRefusal.{DeskRefusal}
 use Rattle.rd_script.specs.declared.faults.LineFault.{LineFault}
 use Rattle.rd_script.specs.declared.answers.LineAnswer.TheVariants.{Unread}
 use Rattle.rd_script.specs.Replies.{text_of}

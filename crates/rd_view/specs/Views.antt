@@ -5,8 +5,8 @@ use Rattle.std.specs.Global.{Global}
 use Rattle.rd_step.specs.Prelude.{Refusal, NoMemory}
 use Rattle.rd_marks.specs.declared.commands.Command.{Command}
 use Rattle.rd_marks.specs.declared.replies.Reply.{Reply}
-use Rattle.rd_desk.specs.declared.DeskRefusal.{DeskRefusal}
-use Rattle.rd_desk.specs.declared.DeskRefusal.TheVariants as desk
+use Rattle.rd_desk.specs.declared.gates.DeskRefusal.{DeskRefusal}
+use Rattle.rd_desk.specs.declared.gates.DeskRefusal.TheVariants as desk
 use Rattle.rd_script.specs.declared.answers.LineAnswer.{LineAnswer}
 use Rattle.rd_script.specs.declared.answers.LineAnswer.TheVariants.{Reply as Replied, Refused, Unread, HistoryFull, TicketsEnded, Busy, NotRecorded}
 use Rattle.rd_script.specs.declared.devices.sinks.WriteFault.{WriteFault}
@@ -28,7 +28,7 @@ line_answer (Ok (Err refusal)) = Refused refusal
 line_answer (Err desk.HistoryFull) = HistoryFull
 line_answer (Err desk.NotRecorded) = NotRecorded
 line_answer (Err desk.TicketsEnded) = TicketsEnded
-line_answer (Err (desk.Busy next served)) = Busy next served
+line_answer (Err (desk.Busy words)) = Busy words.next words.served
 
 -- what the lines of a script were answered, line by line: a fault by itself, each command by the next answer
 abbrev pub report_text : List (Result Command LineFault) → List (Result (Result Reply Refusal) DeskRefusal) → List ℕ

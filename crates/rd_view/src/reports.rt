@@ -4,7 +4,7 @@ ghost use Rattle.std.specs.Prelude.{◌≡◌, false, length};
 ghost use Rattle.rd_view.specs.Views.{WritesText, line_answer, report_text, viewer_text, view_text};
 
 use rd_cell::Refusal;
-use rd_desk::{DeskAnswer, DeskRefusal};
+use rd_desk::{Answer, DeskRefusal};
 use rd_marks::Command;
 use rd_script::{Heading, LineAnswer, LineFault, Sink, WriteFault, write_answer, write_heading};
 
@@ -20,7 +20,7 @@ pub type Said = Result<Command, LineFault>;
 pub fn write_view<K: Sink>(
     writer: &mut K,
     said: &[Vec<Said>],
-    told: &[Option<Vec<DeskAnswer>>],
+    told: &[Option<Vec<Answer>>],
     calls: u64,
 ) -> Result<(), WriteFault>
     requires works { K.has_failed writer.old ≡ false }
@@ -39,7 +39,7 @@ fn write_viewer<K: Sink>(
     writer: &mut K,
     number: u64,
     said: &[Said],
-    told: &Option<Vec<DeskAnswer>>,
+    told: &Option<Vec<Answer>>,
 ) -> Result<(), WriteFault>
     requires { K.has_failed writer.old ≡ false }
     ensures { WritesText (K.contents writer.old) (K.contents writer.new) (K.has_failed writer.new)
@@ -56,7 +56,7 @@ fn write_viewer<K: Sink>(
 fn write_report<K: Sink>(
     writer: &mut K,
     said: &[Said],
-    answers: &[DeskAnswer],
+    answers: &[Answer],
 ) -> Result<(), WriteFault>
     requires { K.has_failed writer.old ≡ false }
     ensures { WritesText (K.contents writer.old) (K.contents writer.new) (K.has_failed writer.new)
@@ -80,7 +80,7 @@ fn write_report<K: Sink>(
 }
 
 /// What the desk answered, as the answer to a line.
-fn line_answer(answer: &DeskAnswer) -> LineAnswer
+fn line_answer(answer: &Answer) -> LineAnswer
     ensures { result ≡ line_answer answer.now }
 {
     match *answer {
@@ -89,6 +89,9 @@ fn line_answer(answer: &DeskAnswer) -> LineAnswer
         Err(DeskRefusal::HistoryFull) => LineAnswer::HistoryFull,
         Err(DeskRefusal::NotRecorded) => LineAnswer::NotRecorded,
         Err(DeskRefusal::TicketsEnded) => LineAnswer::TicketsEnded,
-        Err(DeskRefusal::Busy { next, served }) => LineAnswer::Busy { next, served },
+        Err(DeskRefusal::Busy(words)) => LineAnswer::Busy {
+            next: words.next,
+            served: words.served,
+        },
     }
 }

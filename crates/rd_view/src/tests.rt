@@ -3,3 +3,4 @@
 ghost use Rattle.std.specs.Prelude.{◌≤◌};
 
 mod reports;
+mod viewing;

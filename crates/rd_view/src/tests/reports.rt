@@ -2,7 +2,7 @@
 
 use super::super::reports::{Said, write_view};
 use rd_cell::Refusal;
-use rd_desk::{DeskAnswer, DeskRefusal};
+use rd_desk::Answer;
 use rd_marks::{Command, Reply};
 use rd_script::{LineFault, WriteSink};
 use std::alloc::{AllocError, Global};
@@ -10,7 +10,7 @@ use std::process::Abort;
 use std::test::Fail;
 
 /// What the lines of a script say, and what was answered where its viewer was started.
-type Row<'a> = (&'a [Said], Option<&'a [DeskAnswer]>);
+type Row<'a> = (&'a [Said], Option<&'a [Answer]>);
 
 /// The text of a view of these viewers, with so many recorded calls.
 fn view_of(alloc: Global, rows: &[Row], calls: u64) -> Result<Vec<u8>, AllocError> {

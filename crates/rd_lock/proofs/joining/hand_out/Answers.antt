@@ -1,11 +1,11 @@
 use Rattle.std.proofs.Common.{rules, ◌++◌, length, arith, sym, ap, ◌∙◌, subst}
 use Rattle.std.proofs.lemmas.Grind.{common_steps}
-use Rattle.rd_lock.specs.Rule.{in_hand}
+use Rattle.rd_lock.specs.Rule.{in_hand, number_in}
 use Rattle.rd_lock.specs.Opening.{IsSeatOf, people_of}
 use Rattle.rd_lock.specs.Histories.{Every}
 use Rattle.rd_lock.proofs.Lock.{lock_of}
 use Rattle.rd_lock.proofs.Lists.{every_append}
-use Rattle.rd_lock.proofs.PassLists.{splits_it, some_left, one_first, all_out, handed}
+use Rattle.rd_lock.proofs.PassLists.{splits_it, some_left, next_out, one_first, all_out, handed}
 use Rattle.rd_lock.proofs.joining.hand_out.Goals as goal
 
 pub split_seat-new-requires : goal.split_seat-new-requires
@@ -19,6 +19,7 @@ pub invariant_of-push : goal.invariant_of-push
 invariant_of-push g c = let i = c.loop-number.invariant in let e = c.split_seat-new.ensures.4 in record {
   alone = ap (λ m. length m.0.people) e ∙ one_first c.loop-number.seat.me.0.people (some_left _ _ _ _ c.loop-number.passes.items c.loop-number.seat.me.0.people i.people (omega arith));
   hand = ap (λ m. m.1) e ∙ sym (ap (λ m. in_hand m.0.stage) e);
+  numbered = let mine = ap (λ m. number_in m.0.people) e in let next = next_out _ _ _ _ c.loop-number.passes.items c.loop-number.seat.me.0.people i.people (omega arith) in omega arith;
 }
 
 pub loop-number-preserved : goal.loop-number-preserved

@@ -10,8 +10,8 @@ invariant-loop-number g l = record {
   table : l.seat.table_id ≡ l.shared.table_id;
   out : l.seat.me.0.stage ≡ Out;
   hand : l.seat.me.1 ≡ [];
-  count : vec_len l.passes ≡ l._number;
-  size : length l.passes.items ≡ l._number;
+  count : vec_len l.passes ≡ l.number;
+  size : length l.passes.items ≡ l.number;
   room : l.seats ≤ vec_capacity l.passes;
   own : Every (IsSeatOf l.shared.table_id) l.passes.items;
   people : people_of l.passes.items ++ l.seat.me.0.people ≡ newcomers l.seats (g.T.Recorded.origin l.shared.key.value.value) l.shared.key.first 1 l.seats;

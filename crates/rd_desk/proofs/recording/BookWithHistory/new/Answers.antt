@@ -1,0 +1,5 @@
+use Rattle.rd_desk.proofs.HistoryLemmas.{nothing_yet}
+use Rattle.rd_desk.proofs.recording.BookWithHistory.new.Goals as goal
+
+pub invariant_of-result-clause-legal : goal.invariant_of-result-clause-legal
+invariant_of-result-clause-legal g c = nothing_yet _ _ _ _ c.new.ensures ?
