@@ -7,7 +7,7 @@ use anyhow::Result;
 use rd_program::{play, resume, view};
 use rd_script::{ReadSource, WriteSink};
 use rd_trace::Ring;
-use std::alloc::Global;
+use std::alloc::{Alloc, Global};
 use std::fs::{self, Files};
 use std::process::ExitCode;
 use std::sync::Wait;
@@ -58,7 +58,7 @@ fn main(rt: HostRuntime) -> Result<ExitCode> {
 }
 
 /// Whether the replies to a lesson's script are those of its page.
-fn is_as_its_page_says<R: Files + Threads + Wait + Sync>(
+fn is_as_its_page_says<R: Files + Alloc<A = Global> + Threads + Wait + Sync>(
     rt: &R,
     alloc: Global,
     name: &str,
@@ -119,7 +119,7 @@ fn table_of(alloc: Global, script: &str, replies: &str) -> Result<String> {
 
 /// The table of a lesson with two viewers: for each the file, its heading, and its lines with what is certain of the replies; and
 /// last how many calls were recorded.
-fn table_of_viewers<R: Files + Threads + Wait + Sync>(
+fn table_of_viewers<R: Files + Alloc<A = Global> + Threads + Wait + Sync>(
     rt: &R,
     alloc: Global,
     name: &str,
@@ -157,10 +157,15 @@ fn write_certain(text: &mut String, reply: &str) -> Result<()> {
         }
     } else if reply.starts_with("is open ") {
         writeln!(text, "is open N")?;
-    } else if reply.starts_with("at ") {
-        writeln!(text, "at L 0")?;
+    } else if let Some((_, undone)) = counts_of(reply) {
+        writeln!(text, "at L {undone}")?;
     } else {
         writeln!(text, "{reply}")?;
     }
     Ok(())
+}
+
+/// The two counts of a reply that says how many steps are live and how many are undone.
+fn counts_of(reply: &str) -> Option<(&str, &str)> {
+    reply.strip_prefix("at ")?.split_once(' ')
 }
