@@ -58,7 +58,7 @@ fn view_over<R: Threads + Wait + Sync, K: Sink, const N: usize>(
     requires some { 1 ≤ length scripts.now }
     requires few { length scripts.now ≤ 64 }
     requires works { K.has_failed writer.old ≡ false }
-    ensures { ViewsOver N ⟦<BookWithHistory<N> as Recorded>⟧ (book_state book) scripts.now
+    ensures { ViewsOver N ⟦<BookWithHistory<N> as Recorded>⟧ (book_state book.entry) scripts.now
         (K.contents writer.old) (K.contents writer.new) (K.has_failed writer.new) result }
 {
     let history = view_scripts(rt, alloc, scripts, writer, book)?;
