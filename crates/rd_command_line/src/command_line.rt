@@ -97,10 +97,7 @@ fn told_by_run<'a>(run: &ArgMatches<'a>) -> Option<Options<'a>>
 }
 
 /// The options that the matches of `view` tell.
-fn told_by_view<'a>(
-    alloc: Global,
-    view: &ArgMatches<'a>,
-) -> Result<Option<Options<'a>>, AllocError>
+fn told_by_view<'a>(alloc: Global, view: &ArgMatches<'a>) -> Result<Option<Options<'a>>, AllocError>
     ensures some { IfOk result (λ told. IfSome told (TellsView (rows_of (found_of view.now)))) }
     ensures none { IfOk result (λ told. IsNone told → (o : Options) → TellsView (rows_of (found_of view.now)) o → ⊥) }
 {

@@ -176,7 +176,12 @@ fn view_takes_up_to_64_files(rt: HostRuntime) -> Result<(), Fail> {
     words.push("a")?;
     compare(&rt, rt.alloc(), words.as_slice(), Wanted::TooMany)?;
     words.extend_from_slice(&["--ring", "3"])?;
-    compare(&rt, rt.alloc(), words.as_slice(), Wanted::Refused("error: "))
+    compare(
+        &rt,
+        rt.alloc(),
+        words.as_slice(),
+        Wanted::Refused("error: "),
+    )
 }
 
 #[test]

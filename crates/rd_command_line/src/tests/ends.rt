@@ -116,7 +116,10 @@ fn more_than_64_files_are_a_bad_command_line(rt: HostRuntime) -> Result<(), Fail
     let left = left_after(&rt, rt.alloc(), Ok(words.as_slice()))?;
     assert_eq!(rt; left.status, ExitCode::from(2));
     assert!(rt; left.output.is_empty());
-    assert_eq!(rt; left.errors.as_slice(), "lcrqdb: 1 to 64 files\n".as_bytes());
+    assert_eq!(rt;
+        left.errors.as_slice(),
+        "lcrqdb: 1 to 64 files\n".as_bytes()
+    );
     Ok(())
 }
 
@@ -126,6 +129,9 @@ fn a_file_of_a_viewer_that_is_not_there_leaves_the_output(rt: HostRuntime) -> Re
     let left = left_after(&rt, rt.alloc(), Ok(words))?;
     assert_eq!(rt; left.status, ExitCode::FAILURE);
     assert!(rt; left.output.is_empty());
-    assert_eq!(rt; left.errors.as_slice(), "lcrqdb: refused 24 Read\n".as_bytes());
+    assert_eq!(rt;
+        left.errors.as_slice(),
+        "lcrqdb: refused 24 Read\n".as_bytes()
+    );
     Ok(())
 }

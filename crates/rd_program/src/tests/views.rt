@@ -63,7 +63,9 @@ fn two_viewers_share_one_world(rt: HostRuntime) -> Result<(), Fail> {
 }
 
 #[test]
-fn the_world_of_a_view_has_the_actors_and_the_ring_of_the_options(rt: HostRuntime) -> Result<(), Fail> {
+fn the_world_of_a_view_has_the_actors_and_the_ring_of_the_options(
+    rt: HostRuntime,
+) -> Result<(), Fail> {
     for (actors, ring, text) in [
         (
             2,
@@ -114,7 +116,11 @@ fn there_may_be_64_viewers(rt: HostRuntime) -> Result<(), Fail> {
     let viewed = view(&rt, rt.alloc(), scripts.as_slice(), sink, 1, Ring::Two);
     assert!(rt; matches!(viewed, Ok(64)));
     assert!(rt; written.starts_with(b"viewer 1\nat 0 0\nviewer 2\n"));
-    assert!(rt; written.as_slice().ends_with(b"viewer 64\nat 0 0\nhistory 64\n"));
+    assert!(rt;
+        written
+            .as_slice()
+            .ends_with(b"viewer 64\nat 0 0\nhistory 64\n")
+    );
     Ok(())
 }
 
