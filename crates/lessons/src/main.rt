@@ -4,15 +4,17 @@
 #![tactic(auto)]
 
 use anyhow::Result;
-use rd_program::{play, resume};
+use rd_program::{play, resume, view};
 use rd_script::{ReadSource, WriteSink};
 use rd_trace::Ring;
-use std::alloc::Global;
-use std::fs;
+use std::alloc::{Alloc, Global};
+use std::fs::{self, Files};
 use std::process::ExitCode;
+use std::sync::Wait;
+use std::thread::Threads;
 
 /// The lessons, in the order of reading: each has a page and a script of this name.
-const LESSONS: [&str; 11] = [
+const LESSONS: [&str; 12] = [
     "01-one-enqueue-and-back",
     "02-empty-dequeue-repairs-tail",
     "03-refused-undo-names-dependant",
@@ -24,6 +26,7 @@ const LESSONS: [&str; 11] = [
     "09-bookmarks-and-same",
     "10-array-queue-livelock",
     "11-who-wrote-this",
+    "12-two-viewers",
 ];
 
 /// How many actors a lesson's world has.
@@ -34,6 +37,9 @@ const RING_OF_TWO: &str = "\nRun with: --ring 2\n";
 
 /// The beginning of the line of a page whose lesson runs over the trace of its name.
 const TRACE: &str = "\nRun over: `";
+
+/// The line of a page whose lesson is run by two viewers. Its scripts are those of its name with `-1` and `-2` behind.
+const TWO_VIEWERS: &str = "\nRun by two viewers.\n";
 
 /// The head of the table with the script and the replies.
 const TABLE_HEAD: &str = "\n| Line | Reply |\n|---|---|\n";
@@ -52,8 +58,16 @@ fn main(rt: HostRuntime) -> Result<ExitCode> {
 }
 
 /// Whether the replies to a lesson's script are those of its page.
-fn is_as_its_page_says(rt: &HostRuntime, alloc: Global, name: &str) -> Result<bool> {
+fn is_as_its_page_says<R: Files + Alloc<A = Global> + Threads + Wait + Sync>(
+    rt: &R,
+    alloc: Global,
+    name: &str,
+) -> Result<bool> {
     let page = fs::read_to_string(rt, format!(in alloc; "{name}.md")?.as_str())?;
+    if page.contains(TWO_VIEWERS) {
+        let table = table_of_viewers(rt, alloc, name)?;
+        return Ok(page.contains(table.as_str()));
+    }
     let script = fs::read_to_string(rt, format!(in alloc; "{name}.script")?.as_str())?;
     let replies = if page.contains(TRACE) {
         let trace = fs::read_to_string(rt, format!(in alloc; "{name}.trace")?.as_str())?;
@@ -101,4 +115,57 @@ fn table_of(alloc: Global, script: &str, replies: &str) -> Result<String> {
     }
     writeln!(table)?;
     Ok(table)
+}
+
+/// The table of a lesson with two viewers: for each the file, its heading, and its lines with what is certain of the replies; and
+/// last how many calls were recorded.
+fn table_of_viewers<R: Files + Alloc<A = Global> + Threads + Wait + Sync>(
+    rt: &R,
+    alloc: Global,
+    name: &str,
+) -> Result<String> {
+    let first = fs::read_to_string(rt, format!(in alloc; "{name}-1.script")?.as_str())?;
+    let second = fs::read_to_string(rt, format!(in alloc; "{name}-2.script")?.as_str())?;
+    let lines = format!(in alloc; "{name}-1.script\n{first}{name}-2.script\n{second}the end\n")?;
+    let scripts = [
+        Vec::from_slice(alloc, first.as_bytes())?,
+        Vec::from_slice(alloc, second.as_bytes())?,
+    ];
+    let mut written = Vec::new(alloc);
+    view(
+        rt,
+        alloc,
+        scripts.as_slice(),
+        &mut WriteSink::new(&mut written),
+        ACTORS,
+        Ring::Four,
+    )?;
+    let mut replies = String::new(alloc);
+    for reply in String::from_utf8(written)?.lines() {
+        write_certain(&mut replies, reply)?;
+    }
+    table_of(alloc, &lines, &replies)
+}
+
+/// Writes a reply with letters in the place of the numbers that another order of the viewers' calls would change: those of
+/// steps, how many are live, and a tail's counter.
+fn write_certain(text: &mut String, reply: &str) -> Result<()> {
+    if let Some(rest) = reply.strip_prefix("ok ") {
+        match rest.split_once(' ') {
+            Some((_, end)) => writeln!(text, "ok K {end}")?,
+            None => writeln!(text, "ok K")?,
+        }
+    } else if reply.starts_with("is open ") {
+        writeln!(text, "is open N")?;
+    } else if let Some((_, undone)) = counts_of(reply) {
+        writeln!(text, "at L {undone}")?;
+    } else {
+        writeln!(text, "{reply}")?;
+    }
+    Ok(())
+}
+
+/// The two counts of a reply that says how many steps are live and how many are undone.
+fn counts_of(reply: &str) -> Option<(&str, &str)> {
+    reply.strip_prefix("at ")?.split_once(' ')
 }

@@ -1,5 +1,5 @@
 -- What the command line may ask for.
-use Rattle.std.specs.Prelude.{◌≡◌, ◌≤◌, ℕ, ⊤, Bool, true, false, List, codes}
+use Rattle.std.specs.Prelude.{◌≡◌, ◌≤◌, ◌<◌, ℕ, ⊤, Bool, true, false, List, codes, length}
 use Rattle.clap.specs.Words.{kind_of}
 use Rattle.clap.specs.declared.error.Error.{Error}
 use Rattle.clap.specs.declared.error.kind.ErrorKind.{ErrorKind}
@@ -7,9 +7,9 @@ use Rattle.clap.specs.declared.error.kind.ErrorKind.TheVariants.{DisplayHelp, Di
 use Rattle.rd_trace.specs.declared.rings.Ring.{Ring}
 use Rattle.rd_trace.specs.declared.rings.Ring.TheVariants.{Two, Four, Eight}
 use Rattle.rd_command_line.specs.declared.requests.Options.{Options}
-use Rattle.rd_command_line.specs.declared.requests.Options.TheVariants.{Run, Load}
+use Rattle.rd_command_line.specs.declared.requests.Options.TheVariants.{Run, View, Load}
 use Rattle.rd_command_line.specs.declared.requests.OptionsFault.{OptionsFault}
-use Rattle.rd_command_line.specs.declared.requests.OptionsFault.TheVariants.{Shown, Refused, NoMemory}
+use Rattle.rd_command_line.specs.declared.requests.OptionsFault.TheVariants.{Shown, Refused, TooManyFiles, NoMemory}
 
 -- how the command line spells a ring
 abbrev pub ring_text : Ring → List ℕ
@@ -22,10 +22,27 @@ abbrev pub flag_text : Bool → List ℕ
 flag_text true = codes "true"
 flag_text false = codes "false"
 
--- the number of actors that is asked for is one that a world may have
+-- how many viewers there may be
+abbrev pub MOST_FILES : ℕ
+MOST_FILES = 64
+
+-- the number of actors that is asked for is one that a world may have, and that of the files one that there may be viewers
 abbrev pub AreInRange : Options → Type 0
 AreInRange (Run file actors ring trace) = (1 ≤ actors) × (actors ≤ 16)
+AreInRange (View files actors ring) = ((1 ≤ actors) × (actors ≤ 16)) × ((1 ≤ length files.items) × (length files.items ≤ MOST_FILES))
 AreInRange (Load file) = ⊤
+
+-- more files are named than there may be viewers
+abbrev pub HasManyFiles : Options → Type 0
+HasManyFiles (Run file actors ring trace) = ⊥
+HasManyFiles (View files actors ring) = MOST_FILES < length files.items
+HasManyFiles (Load file) = ⊥
+
+-- and not more
+abbrev pub HasFewFiles : Options → Type 0
+HasFewFiles (Run file actors ring trace) = ⊤
+HasFewFiles (View files actors ring) = length files.items ≤ MOST_FILES
+HasFewFiles (Load file) = ⊤
 
 -- the fault of a command line at which clap fails by an error of this kind
 abbrev pub fault_by : ErrorKind → Error → OptionsFault
@@ -42,4 +59,5 @@ options_fault error = fault_by (kind_of error) error
 abbrev pub IsMistake : ErrorKind → OptionsFault → Type 0
 IsMistake kind (Refused error) = kind_of error ≡ kind
 IsMistake kind (Shown error) = ⊥
+IsMistake kind TooManyFiles = ⊥
 IsMistake kind NoMemory = ⊤

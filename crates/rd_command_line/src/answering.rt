@@ -1,17 +1,21 @@
 //! What the program does for the words of a command line: which files it opens, which streams it uses, and how it ends.
 
-ghost use Rattle.std.specs.Prelude.{◌≡◌, ◌≤◌, IfErr, map, true, false};
+ghost use Rattle.std.specs.Prelude.{◌≡◌, ◌≤◌, IfOk, IfErr, length, map, vec_len, true, false};
 ghost use Rattle.std.specs.Process.{exit_status};
 ghost use Rattle.rd_trace.specs.Traces.{ring_length};
 ghost use Rattle.rd_trace.specs.Devices.{devices};
 ghost use Rattle.rd_program.specs.declared.faults.ProgramFault.TheVariants.{Read};
 ghost use Rattle.rd_program.specs.Endings.{asks_for_output};
-ghost use Rattle.rd_command_line.specs.Options.{AreInRange};
-ghost use Rattle.rd_command_line.specs.Answering.{Answers, DoesOptions, HasOutcome, IsFaultOf, LoadsFile, Performs, PlaysFile};
+ghost use Rattle.rd_program.specs.Program.{IsUnread};
+ghost use Rattle.rd_program.specs.Viewers.{by_ring};
+ghost use Rattle.rd_command_line.specs.Options.{AreInRange, MOST_FILES};
+ghost use Rattle.rd_command_line.specs.Answering.{Answers, DoesOptions, HasOutcome, IsFaultOf, LoadsFile, Performs, PlaysFile, ViewsFiles};
 
 use super::command_line::{not_text, options};
 use super::requests::{Options, OptionsFault};
-use rd_program::{ProgramFault, end, play, resume, whole_text};
+use rd_desk::BookWithHistory;
+use rd_lock::Recorded;
+use rd_program::{ProgramFault, end, play, resume, view, whole_text};
 use rd_script::{ReadSource, Sink, Source};
 use rd_trace::Ring;
 use std::alloc::{Alloc, Global};
@@ -20,10 +24,12 @@ use std::env::{self, Env};
 use std::fs::{self, Files};
 use std::io::ErrorKind;
 use std::process::ExitCode;
+use std::sync::Wait;
+use std::thread::Threads;
 
 /// Does what the words of a command line ask for over the files and the three streams, writes the messages of the end, and
 /// answers its status. For words that could not be taken there is the fault.
-pub fn perform<R: Files, S: AsStr + Drop, I: Source, O: Sink, E: Sink>(
+pub fn perform<R: Files + Threads + Wait + Sync, S: AsStr + Drop, I: Source, O: Sink, E: Sink>(
     rt: &R,
     alloc: Global,
     words: Result<Vec<S>, ProgramFault>,
@@ -34,7 +40,8 @@ pub fn perform<R: Files, S: AsStr + Drop, I: Source, O: Sink, E: Sink>(
     requires input_works { I.has_failed input.old ≡ false }
     requires output_works { O.has_failed output.old ≡ false }
     requires errors_work { E.has_failed errors.old ≡ false }
-    ensures performs { Performs S.text words (exit_status result)
+    ensures performs { Performs (by_ring ⟦<BookWithHistory<2> as Recorded>⟧ ⟦<BookWithHistory<4> as Recorded>⟧ ⟦<BookWithHistory<8> as Recorded>⟧)
+        S.text words (exit_status result)
         (devices I.Source O.Sink input.old input.new output.old output.new)
         (E.contents errors.old) (E.contents errors.new) (E.has_failed errors.new) }
 {
@@ -43,7 +50,7 @@ pub fn perform<R: Files, S: AsStr + Drop, I: Source, O: Sink, E: Sink>(
 }
 
 /// Does what the words ask for.
-fn outcome_of<R: Files, S: AsStr + Drop, I: Source, O: Sink>(
+fn outcome_of<R: Files + Threads + Wait + Sync, S: AsStr + Drop, I: Source, O: Sink>(
     rt: &R,
     alloc: Global,
     words: Result<Vec<S>, ProgramFault>,
@@ -52,7 +59,8 @@ fn outcome_of<R: Files, S: AsStr + Drop, I: Source, O: Sink>(
 ) -> Result<u64, ProgramFault>
     requires input_works { I.has_failed input.old ≡ false }
     requires output_works { O.has_failed output.old ≡ false }
-    ensures answers { HasOutcome S.text words
+    ensures answers { HasOutcome (by_ring ⟦<BookWithHistory<2> as Recorded>⟧ ⟦<BookWithHistory<4> as Recorded>⟧ ⟦<BookWithHistory<8> as Recorded>⟧)
+        S.text words
         (devices I.Source O.Sink input.old input.new output.old output.new) result }
     ensures shown { asks_for_output result ≡ true → O.has_failed output.new ≡ false }
 {
@@ -68,7 +76,7 @@ fn outcome_of<R: Files, S: AsStr + Drop, I: Source, O: Sink>(
 /// # Errors
 ///
 /// `Shown` and `Refused` if the words give no options; `Read` if a file can't be opened; and as `play`, `resume` and `whole_text`.
-pub fn answer<R: Files, S: AsStr, I: Source, O: Sink>(
+pub fn answer<R: Files + Threads + Wait + Sync, S: AsStr, I: Source, O: Sink>(
     rt: &R,
     alloc: Global,
     words: &[S],
@@ -77,7 +85,8 @@ pub fn answer<R: Files, S: AsStr, I: Source, O: Sink>(
 ) -> Result<u64, ProgramFault>
     requires input_works { I.has_failed input.old ≡ false }
     requires output_works { O.has_failed output.old ≡ false }
-    ensures answers { Answers (map S.text words.now)
+    ensures answers { Answers (by_ring ⟦<BookWithHistory<2> as Recorded>⟧ ⟦<BookWithHistory<4> as Recorded>⟧ ⟦<BookWithHistory<8> as Recorded>⟧)
+        (map S.text words.now)
         (devices I.Source O.Sink input.old input.new output.old output.new) result }
     ensures shown { asks_for_output result ≡ true → O.has_failed output.new ≡ false }
 {
@@ -88,7 +97,7 @@ pub fn answer<R: Files, S: AsStr, I: Source, O: Sink>(
 }
 
 /// Does what the options ask for.
-fn do_options<R: Files, I: Source, O: Sink>(
+fn do_options<R: Files + Threads + Wait + Sync, I: Source, O: Sink>(
     rt: &R,
     alloc: Global,
     asked: Options<'_>,
@@ -98,7 +107,8 @@ fn do_options<R: Files, I: Source, O: Sink>(
     requires input_works { I.has_failed input.old ≡ false }
     requires output_works { O.has_failed output.old ≡ false }
     requires actors { AreInRange asked }
-    ensures { DoesOptions asked.entry (devices I.Source O.Sink input.old input.new output.old output.new) result }
+    ensures { DoesOptions (by_ring ⟦<BookWithHistory<2> as Recorded>⟧ ⟦<BookWithHistory<4> as Recorded>⟧ ⟦<BookWithHistory<8> as Recorded>⟧)
+        asked.entry (devices I.Source O.Sink input.old input.new output.old output.new) result }
 {
     match asked {
         Options::Run {
@@ -113,6 +123,11 @@ fn do_options<R: Files, I: Source, O: Sink>(
             ring,
             trace,
         } => play_file(rt, alloc, file, output, actors, ring, trace),
+        Options::View {
+            files,
+            actors,
+            ring,
+        } => view_files(rt, alloc, files.as_slice(), output, actors, ring),
         Options::Load { file } => load_file(rt, alloc, file, input, output),
     }
 }
@@ -141,6 +156,47 @@ fn play_file<R: Files, O: Sink>(
         ring,
         trace,
     )
+}
+
+/// Runs the scripts in the files of these names, each by a viewer of its own. All are read before the first command.
+fn view_files<R: Files + Threads + Wait + Sync, O: Sink>(
+    rt: &R,
+    alloc: Global,
+    names: &[&str],
+    output: &mut O,
+    actors: u8,
+    ring: Ring,
+) -> Result<u64, ProgramFault>
+    requires output_works { O.has_failed output.old ≡ false }
+    requires some_files { 1 ≤ length names.now }
+    requires few_files { length names.now ≤ MOST_FILES }
+    requires some { 1 ≤ actors }
+    requires few { actors ≤ 16 }
+    ensures { ViewsFiles (by_ring ⟦<BookWithHistory<2> as Recorded>⟧ ⟦<BookWithHistory<4> as Recorded>⟧ ⟦<BookWithHistory<8> as Recorded>⟧)
+        (length names.now) ring actors (O.contents output.old) (O.contents output.new) (O.has_failed output.new) result }
+{
+    let scripts = whole_files(rt, alloc, names)?;
+    view(rt, alloc, scripts.as_slice(), output, actors, ring)
+}
+
+/// The whole texts of the files of these names, in order.
+fn whole_files<R: Files>(
+    rt: &R,
+    alloc: Global,
+    names: &[&str],
+) -> Result<Vec<Vec<u8>>, ProgramFault>
+    ensures ok { IfOk result (λ texts. vec_len texts ≡ length names.now) }
+    ensures err { IfErr result IsUnread }
+{
+    let mut texts = Vec::new(alloc);
+    for name in names {
+        let mut file = opened(rt, name)?;
+        let text = whole_text(alloc, &mut file)?;
+        let Ok(()) = texts.push(text) else {
+            return Err(ProgramFault::NoMemory);
+        };
+    }
+    Ok(texts)
 }
 
 /// Loads the trace in the file of this name, and runs the script that the input gives over it.
@@ -197,6 +253,7 @@ pub fn fault_of(alloc: Global, fault: OptionsFault) -> ProgramFault
             Ok(text) => ProgramFault::Refused(text),
             Err(_) => ProgramFault::NoMemory,
         },
+        OptionsFault::TooManyFiles => ProgramFault::TooManyFiles,
         OptionsFault::NoMemory => ProgramFault::NoMemory,
     }
 }

@@ -3,16 +3,18 @@
 //! The contracts speak of the command that `clap` is told as a value of its specification (`program_app`), and of what
 //! `clap` makes of that command and the words: the rows of matches, or the kinds of fault that it may name.
 
-ghost use Rattle.std.specs.Prelude.{◌≡◌, ◌≢◌, IfOk, IfErr, IfSome, IsNone, Bool, map, false};
+ghost use Rattle.std.specs.Prelude.{◌≡◌, ◌≢◌, ℕ, IfOk, IfErr, IfSome, IsNone, Bool, map, false};
 ghost use Rattle.clap.specs.Words.{app_of, found_of, kind_of, rows_of, rule_of, subcommand_rows_of};
 ghost use Rattle.clap.specs.declared.builder.command.Command.TheViews.{out-Command};
 ghost use Rattle.clap.specs.declared.error.kind.ErrorKind.TheVariants.{InvalidValue};
 ghost use Rattle.rd_command_line.specs.Options.{IsMistake, AreInRange, flag_text};
-ghost use Rattle.rd_command_line.specs.CommandLine.{IsRings, Tells, TellsRun, TellsLoad, Reads, EndsFor, file_rule, actors_rule, ring_rule, trace_rule, run_over_app, run_app, load_app, program_app};
+ghost use Rattle.rd_command_line.specs.CommandLine.{AreRings, BothNames, IsRings, Tells, TellsWorld, TellsRun, TellsView, TellsLoad, Reads, EndsFor};
+ghost use Rattle.rd_command_line.specs.CommandLine.{file_rule, files_rule, actors_rule, ring_rule, trace_rule, run_over_app, run_app, view_app, load_app, program_app};
 
 use super::requests::{Options, OptionsFault, ring_of};
 use clap::error::ErrorKind;
 use clap::{Arg, ArgAction, ArgMatches, Command, Error, value_parser};
+use rd_trace::Ring;
 use std::alloc::{AllocError, Global};
 use std::convert::AsStr;
 
@@ -30,13 +32,14 @@ pub fn options<'a, S: AsStr>(alloc: Global, words: &'a [S]) -> Result<Options<'a
 {
     let mut command = program(alloc)?;
     let matches = command.try_get_matches_from_mut(words)?;
-    match told(&matches) {
-        Some(options) => Ok(options),
-        None => {
-            let error = command.error(ErrorKind::MissingRequiredArgument, "an option is missing")?;
-            Err(OptionsFault::Refused(error))
-        }
+    let Some(options) = told(alloc, &matches)? else {
+        let error = command.error(ErrorKind::MissingRequiredArgument, "an option is missing")?;
+        return Err(OptionsFault::Refused(error));
+    };
+    if options.has_many_files() {
+        return Err(OptionsFault::TooManyFiles);
     }
+    Ok(options)
 }
 
 /// The fault of a command line of which a word is no text.
@@ -61,13 +64,19 @@ fn mistake_in_text(alloc: Global) -> Result<Error, AllocError>
 }
 
 /// The options that the matches of the whole command tell.
-fn told<'a>(matches: &ArgMatches<'a>) -> Option<Options<'a>>
-    ensures some { IfSome result (Tells (subcommand_rows_of matches.now)) }
-    ensures none { IsNone result → (o : Options) → Tells (subcommand_rows_of matches.now) o → ⊥ }
+fn told<'a>(alloc: Global, matches: &ArgMatches<'a>) -> Result<Option<Options<'a>>, AllocError>
+    ensures some { IfOk result (λ told. IfSome told (Tells (subcommand_rows_of matches.now))) }
+    ensures none { IfOk result (λ told. IsNone told → (o : Options) → Tells (subcommand_rows_of matches.now) o → ⊥) }
 {
-    match matches.subcommand_matches("run") {
-        Some(run) => told_by_run(run),
-        None => told_by_load(matches.subcommand_matches("load")?),
+    if let Some(run) = matches.subcommand_matches("run") {
+        return Ok(told_by_run(run));
+    }
+    if let Some(view) = matches.subcommand_matches("view") {
+        return told_by_view(alloc, view);
+    }
+    match matches.subcommand_matches("load") {
+        Some(load) => Ok(told_by_load(load)),
+        None => Ok(None),
     }
 }
 
@@ -77,16 +86,47 @@ fn told_by_run<'a>(run: &ArgMatches<'a>) -> Option<Options<'a>>
     ensures none { IsNone result → (o : Options) → TellsRun (rows_of (found_of run.now)) o → ⊥ }
 {
     let file = run.get_str("file")?;
-    let actors = run.get_one::<u8>("actors")?;
-    let ring = ring_of(run.get_str("ring")?)?;
+    let (actors, ring) = told_world(run)?;
     let trace = choice_of(run.get_str("trace")?)?;
+    Some(Options::Run {
+        file,
+        actors,
+        ring,
+        trace,
+    })
+}
+
+/// The options that the matches of `view` tell.
+fn told_by_view<'a>(alloc: Global, view: &ArgMatches<'a>) -> Result<Option<Options<'a>>, AllocError>
+    ensures some { IfOk result (λ told. IfSome told (TellsView (rows_of (found_of view.now)))) }
+    ensures none { IfOk result (λ told. IsNone told → (o : Options) → TellsView (rows_of (found_of view.now)) o → ⊥) }
+{
+    let Some(files) = view.get_strs("files") else {
+        return Ok(None);
+    };
+    let Some((actors, ring)) = told_world(view) else {
+        return Ok(None);
+    };
+    if files.is_empty() {
+        return Ok(None);
+    }
+    let files = Vec::from_slice(alloc, files)?;
+    Ok(Some(Options::View {
+        files,
+        actors,
+        ring,
+    }))
+}
+
+/// The actors and the ring that matches tell.
+fn told_world<'a>(matches: &ArgMatches<'a>) -> Option<(u8, Ring)>
+    ensures some { IfSome result (λ world. TellsWorld (rows_of (found_of matches.now)) world.0 world.1) }
+    ensures none { IsNone result → (actors : ℕ) (ring : Ring) → TellsWorld (rows_of (found_of matches.now)) actors ring → ⊥ }
+{
+    let actors = matches.get_one::<u8>("actors")?;
+    let ring = ring_of(matches.get_str("ring")?)?;
     if 1 <= actors && actors <= 16 {
-        Some(Options::Run {
-            file,
-            actors,
-            ring,
-            trace,
-        })
+        Some((actors, ring))
     } else {
         None
     }
@@ -115,13 +155,14 @@ fn choice_of(text: &str) -> Option<bool>
 
 /// The program's command, with its subcommands.
 fn program<'a>(alloc: Global) -> Result<Command<'a>, AllocError>
-    ensures { IfOk result (λ c. (names : _) × IsRings names × (app_of c ≡ program_app names)) }
+    ensures { IfOk result (λ c. (names : BothNames) × AreRings names × (app_of c ≡ program_app names)) }
 {
     Command::new(alloc, "lcrqdb")
         .version(VERSION)
         .about("A causal reversible debugger for LCRQ")
         .subcommand_required(true)
         .subcommand(run(alloc)?)?
+        .subcommand(view(alloc)?)?
         .subcommand(load(alloc)?)
 }
 
@@ -145,6 +186,18 @@ fn run_over<'a>(alloc: Global) -> Result<Command<'a>, AllocError>
         .arg(ring(alloc))
 }
 
+/// The subcommand `view`.
+fn view<'a>(alloc: Global) -> Result<Command<'a>, AllocError>
+    ensures app { IfOk result (λ c. (names : _) × IsRings names × (app_of c ≡ view_app names)) }
+    ensures local { IfOk result (λ c. (out-Command c).has_globals ≡ false) }
+{
+    Command::new(alloc, "view")
+        .about("Does the lines of several scripts at once, each by a viewer of one world")
+        .arg(files(alloc))?
+        .arg(actors(alloc))?
+        .arg(ring(alloc))
+}
+
 /// The subcommand `load`.
 fn load<'a>(alloc: Global) -> Result<Command<'a>, AllocError>
     ensures app { IfOk result (λ c. app_of c ≡ load_app) }
@@ -160,6 +213,17 @@ fn file<'a>(alloc: Global, name: &'a str) -> Arg<'a>
     ensures { (rule_of result ≡ file_rule) × (result.global ≡ false) }
 {
     Arg::new(alloc, "file").value_name(name).required(true)
+}
+
+/// The argument that names the files of the viewers.
+fn files<'a>(alloc: Global) -> Arg<'a>
+    ensures { (rule_of result ≡ files_rule) × (result.global ≡ false) }
+{
+    Arg::new(alloc, "files")
+        .value_name("FILE")
+        .num_args(1..)
+        .required(true)
+        .help("The scripts of the viewers, 1 to 64")
 }
 
 /// The option `--trace`.

@@ -1,13 +1,16 @@
 //! What a command line asks for, or why it asks for nothing that the program does.
 
-ghost use Rattle.std.specs.Prelude.{◌≡◌, ◌≢◌, IfSome, IsNone};
+ghost use Rattle.std.specs.Prelude.{◌≡◌, ◌≢◌, true, false, IfSome, IsNone};
 ghost use Rattle.rd_command_line.specs.declared.requests.OptionsFault.TheVariants.{NoMemory};
-ghost use Rattle.rd_command_line.specs.Options.{ring_text, options_fault};
+ghost use Rattle.rd_command_line.specs.Options.{HasFewFiles, HasManyFiles, ring_text, options_fault};
 
 use clap::Error;
 use clap::error::ErrorKind;
 use rd_trace::Ring;
 use std::alloc::AllocError;
+
+/// How many viewers there may be.
+const MOST_FILES: usize = 64;
 
 /// The ring that a text of the command line spells.
 pub fn ring_of(text: &str) -> Option<Ring>
@@ -23,7 +26,7 @@ pub fn ring_of(text: &str) -> Option<Ring>
 }
 
 /// What the command line asks for.
-#[derive(Clone, Copy, Debug, PartialEq, Eq)]
+#[derive(Debug, Drop, PartialEq, Eq)]
 pub enum Options<'a> {
     /// `run FILE`: does the lines of one script.
     Run {
@@ -36,11 +39,33 @@ pub enum Options<'a> {
         /// `--trace`: whether the trace of the run follows its report.
         trace: bool,
     },
+    /// `view FILE..`: runs several scripts over one world, each by a viewer of its own.
+    View {
+        /// The scripts' files, 1 to 64, in the order of their viewers.
+        files: Vec<&'a str>,
+        /// How many actors the world has, 1 to 16.
+        actors: u8,
+        /// How many cells its rings have.
+        ring: Ring,
+    },
     /// `load TRACE`: does the lines of standard input over the run of a trace.
     Load {
         /// The trace's file.
         file: &'a str,
     },
+}
+
+impl<'a> Options<'a> {
+    /// Whether more files are named than there may be viewers.
+    pub(crate) fn has_many_files(&self) -> bool
+        ensures many { result ≡ true → HasManyFiles self.now }
+        ensures few { result ≡ false → HasFewFiles self.now }
+    {
+        match self {
+            Options::View { files, .. } => files.len() > MOST_FILES,
+            _ => false,
+        }
+    }
 }
 
 /// Why the command line gives no options.
@@ -50,6 +75,8 @@ pub enum OptionsFault {
     Shown(Error),
     /// It is not one that the program takes: the text of `clap` on the mistake.
     Refused(Error),
+    /// It names more files than there may be viewers.
+    TooManyFiles,
     /// There was no memory to read it.
     NoMemory,
 }

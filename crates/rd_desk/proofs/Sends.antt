@@ -27,6 +27,8 @@ use Rattle.rd_step.specs.contracts.worlds.World as World
 use Rattle.rd_journal.specs.contracts.records.Records as Records
 use Rattle.rd_journal.specs.contracts.sessions.Session as Session
 use Rattle.rd_marks.specs.contracts.books.Book as Book
+use Rattle.rd_marks.specs.contracts.tree.Node as Node
+use Rattle.rd_marks.specs.contracts.tree.Tree as Tree
 use Rattle.rd_marks.specs.contracts.names.MarkName as MarkName
 use Rattle.rd_marks.specs.contracts.commands.Command as Command
 use Rattle.rd_marks.specs.contracts.replies.Reply as Reply
@@ -90,8 +92,14 @@ records_fields = search (entry_send, sendable, crosses) depth 60 fits 100000
 pub session_fields : (R : RattleType) → IsSend (Session.the_field R).row
 session_fields R = struct_send (shape (Session.the_type R)) (world_fields R, (records_fields, tt))
 
+pub node_send : IsSend Node.the_row
+node_send = search (entry_send, sendable, crosses) depth 60 fits 100000
+
+pub tree_fields : IsSend (Tree.the_field).row
+tree_fields = search (node_send, sendable, crosses) depth 60 fits 100000
+
 pub book_fields : (R : RattleType) → IsSend (Book.the_field R).row
-book_fields R = struct_send (shape (Book.the_type R)) (session_fields R, (search (name_send, entry_send, sendable, crosses) depth 60 fits 100000, (search (sendable, crosses) depth 60 fits 100000, tt)))
+book_fields R = struct_send (shape (Book.the_type R)) (session_fields R, (tree_fields, (search (name_send, sendable, crosses) depth 60 fits 100000, (search (sendable, crosses) depth 60 fits 100000, tt))))
 
 pub book_send : (R : RattleType) → IsSend (Book.the_row R)
 book_send R = recorded_send _ _ _ (Book.the_type R).to_one (book_fields R)

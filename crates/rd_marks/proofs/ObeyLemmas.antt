@@ -8,7 +8,9 @@ use Rattle.rd_marks.specs.declared.commands.Command.TheVariants.{Enq, Deq, Array
 use Rattle.rd_marks.specs.declared.replies.Reply.{Reply}
 use Rattle.rd_marks.specs.Books.{Mark, BookState, with_marks, mark, drop_mark, at_events, goto_mark, marked_events, without_mark}
 use Rattle.rd_marks.specs.NameBytes.{MOST_MARKS}
-use Rattle.rd_marks.specs.Commands.{Answered, move_answer, event_answer, mark_answer, query_answer, happens, Happened, IsMade, IsObeyed, AreObeyed}
+use Rattle.rd_actor.specs.declared.actors.Act.TheVariants.{Enq as CallsEnq, Deq as CallsDeq, AEnq as CallsArrayEnq, ADeq as CallsArrayDeq, Go as GoesOn, Starve as Starves}
+use Rattle.rd_marks.specs.Events.{event_of}
+use Rattle.rd_marks.specs.Commands.{event, Answered, move_answer, event_answer, mark_answer, query_answer, happens, Happened, IsMade, IsObeyed, AreObeyed}
 use Rattle.rd_marks.proofs.Starts.{apply_start, undo_start, undo_at_start, roll_start, back_start, redo_start, forward_start}
 
 -- what an answer leaves: the start, and everything if it is a refusal
@@ -111,3 +113,30 @@ one_more_obeyed R b m t [] [] c answer h k =
 one_more_obeyed R b m t [] (y ∷ ys) c answer h k = absurd h
 one_more_obeyed R b m t (x ∷ xs) [] c answer h k = absurd h
 one_more_obeyed R b m t (x ∷ xs) (y ∷ ys) c answer h k = (h.0, h.1, one_more_obeyed R h.0 m t xs ys c answer h.2 k)
+
+-- what an event is answered, a command that is that event is
+pub event_obeyed : (R : ℕ) (b : BookState) (command : Command) (e : Event) (a : Answered) → event_of command ≡ Some e → Happened R b e a → IsObeyed R b command a
+event_obeyed R b (Enq actor value) e a h happened = let same : e ≡ event actor (CallsEnq value) = cc in subst (λ (f : Event). Happened R b f a) same happened
+event_obeyed R b (Deq actor) e a h happened = let same : e ≡ event actor CallsDeq = cc in subst (λ (f : Event). Happened R b f a) same happened
+event_obeyed R b (ArrayEnq actor value) e a h happened = let same : e ≡ event actor (CallsArrayEnq value) = cc in subst (λ (f : Event). Happened R b f a) same happened
+event_obeyed R b (ArrayDeq actor) e a h happened = let same : e ≡ event actor CallsArrayDeq = cc in subst (λ (f : Event). Happened R b f a) same happened
+event_obeyed R b (Go actor) e a h happened = let same : e ≡ event actor GoesOn = cc in subst (λ (f : Event). Happened R b f a) same happened
+event_obeyed R b (Starve actor choice) e a h happened = let same : e ≡ event actor (Starves choice) = cc in subst (λ (f : Event). Happened R b f a) same happened
+event_obeyed R b Undo e a h happened = cc
+event_obeyed R b (UndoAt k) e a h happened = cc
+event_obeyed R b (Roll k) e a h happened = cc
+event_obeyed R b (Back n) e a h happened = cc
+event_obeyed R b Redo e a h happened = cc
+event_obeyed R b (Forward n) e a h happened = cc
+event_obeyed R b (MarkAs name) e a h happened = cc
+event_obeyed R b (DropMark name) e a h happened = cc
+event_obeyed R b (GotoMark name) e a h happened = cc
+event_obeyed R b Marks e a h happened = cc
+event_obeyed R b (MarkAt i) e a h happened = cc
+event_obeyed R b (Same one other) e a h happened = cc
+event_obeyed R b (Origin k) e a h happened = cc
+event_obeyed R b (Writer place) e a h happened = cc
+event_obeyed R b (Show place) e a h happened = cc
+event_obeyed R b (Actor actor) e a h happened = cc
+event_obeyed R b (Step number) e a h happened = cc
+event_obeyed R b Len e a h happened = cc

@@ -1,5 +1,5 @@
 -- The records of a session's live steps, and that they are those of a run.
-use Rattle.std.proofs.Common.{◌≡◌, ℕ, zero, suc, drop, option_map, ◌+◌, ◌<◌, ◌≤◌, inl, inr, refl, sym, ap, subst, ◌∙◌, List, [], ◌∷◌, ◌++◌, length, take, get_or, slice_get, ok_or, Option, Some, ◌-◌, Result, Ok, Err, OnOk, IfErr, length-drop, arith, add-one}
+use Rattle.std.proofs.Common.{◌≡◌, ℕ, zero, suc, drop, ◌+◌, ◌≤◌, refl, sym, ap, subst, ◌∙◌, List, [], ◌∷◌, ◌++◌, length, take, ◌-◌, Result, Ok, Err, OnOk, IfErr, length-drop, length-append, arith}
 use Rattle.std.proofs.Math.Seq.{take-length}
 use Rattle.rd_step.specs.Prelude.{Refusal, NoMemory, MOST_STEPS, World, Stepped, step, Ran, run}
 use Rattle.rd_step.specs.Run.{run_preceded_by, run_from_step}
@@ -7,7 +7,7 @@ use Rattle.rd_step.specs.declared.entries.Event.{Event}
 use Rattle.std.proofs.lemmas.List.{take-append-drop, drop-map}
 use Rattle.rd_step.specs.declared.entries.Entry.{Entry}
 use Rattle.rd_journal.specs.State.{State, state_of, switch}
-use Rattle.rd_journal.specs.Journal.{Journal, start_of, events, run_entries, IsRun}
+use Rattle.rd_journal.specs.Journal.{Journal, start_of, events, run_entries, IsRun, IsRunFrom}
 use Rattle.rd_marks.specs.Layout.{IsRecordOfRun}
 
 -- the first events of some records are those of the first records
@@ -20,23 +20,15 @@ take_events (suc n) (x ∷ xs) = ap (λ (es : List Event). x.event ∷ es) (take
 pub common_events : (n : ℕ) (es : List Event) (xs ys : List Entry) → events xs ≡ es → events (take n xs) ≡ events (take n ys) → take n es ≡ take n (events ys)
 common_events n es xs ys same h = ap (take n) (sym same) ∙ take_events n xs ∙ h ∙ sym (take_events n ys)
 
--- nothing is left behind a whole list
-pub nothing_left : (n : ℕ) (ys : List Entry) → n ≡ length ys → take (length ys - n) (drop n ys) ≡ []
-nothing_left n ys h = let none : length ys - n ≡ 0 = omega arith in ap (λ (k : ℕ). take k (drop n ys)) none
-
 -- a refusal that says more says this
 pub only_refusal : {X : Type 0} (P : Type 0) (r : Result X Refusal) → IfErr r (λ refusal. (refusal ≡ NoMemory) × P) → IfErr r (λ refusal. refusal ≡ NoMemory)
 only_refusal P (Ok x) h = tt
 only_refusal P (Err e) h = h.0
 
--- a copy of the live records is one of those of a run
-pub copied_records : (R : ℕ) (w : World) (xs ys : List Entry) → ys ≡ xs → run_entries (run R w (events xs)) ≡ Ok xs → length xs ≤ MOST_STEPS → IsRecordOfRun R w ys
-copied_records R w xs ys same ran few = subst (λ (zs : List Entry). IsRecordOfRun R w zs) (sym same) (record { few = few; ran = ran })
-
 -- A start and its events determine the records of a run
 
 -- what a run began with
-record Began (R : ℕ) (w : World) (x : Entry) (xs : List Entry) : Type 0 where
+pub record Began (R : ℕ) (w : World) (x : Entry) (xs : List Entry) : Type 0 where
   pub stepped : Stepped
   pub goes : step R w x.event ≡ Ok stepped
   pub entry : stepped.entry ≡ x
@@ -56,7 +48,7 @@ began_by R w x xs (Ok s) goes h =
     let p = preceded s.entry x xs (run R s.world (events xs)) h in
     record { stepped = s; goes = goes; entry = p.0; rest = p.1 }
 
-began : (R : ℕ) (w : World) (x : Entry) (xs : List Entry) → run_entries (run R w (events (x ∷ xs))) ≡ Ok (x ∷ xs) → Began R w x xs
+pub began : (R : ℕ) (w : World) (x : Entry) (xs : List Entry) → run_entries (run R w (events (x ∷ xs))) ≡ Ok (x ∷ xs) → Began R w x xs
 began R w x xs h = began_by R w x xs (step R w x.event) refl h
 
 -- where the events of two runs begin alike, their records do
@@ -93,23 +85,40 @@ joined_events n es ys h =
     ∙ take-append-drop n (events ys)
 
 -- the state after a switch to records of a run
-pub switched : {X : Type 0} (r : Result X Refusal) (s t : State) (n : ℕ) (ys : List Entry) → take n s.live ≡ take n (events ys)
-    → OnOk r (t ≡ switch s n (events (take (length ys - n) (drop n ys)))) → OnOk r (t ≡ record { start = s.start; live = events ys; undone = [] })
-switched (Err e) s t n ys h k = tt
-switched (Ok x) s t n ys h k =
-    k ∙ ap (λ (zs : List Entry). record { start = s.start; live = take n s.live ++ events zs; undone = [] }) (to_the_end n ys)
+pub switched : {X : Type 0} (r : Result X Refusal) (s t : State) (n : ℕ) (zs ys : List Entry) → zs ≡ drop n ys → take n s.live ≡ take n (events ys)
+    → OnOk r (t ≡ switch s n (events zs)) → OnOk r (t ≡ record { start = s.start; live = events ys; undone = [] })
+switched (Err e) s t n zs ys given h k = tt
+switched (Ok x) s t n zs ys given h k =
+    k ∙ ap (λ (xs : List Entry). record { start = s.start; live = take n s.live ++ events xs; undone = [] }) given
     ∙ ap (λ (es : List Event). record { start = s.start; live = es; undone = [] }) (joined_events n s.live ys h)
 
 -- what a switch to records of a run asks for
-pub may_switch : (R : ℕ) (j : Journal) (n : ℕ) (ys : List Entry) → IsRun R j → IsRecordOfRun R (start_of j) ys → take n (state_of j).live ≡ take n (events ys)
-    → run_entries (run R (start_of j) (events (take n j.live ++ take (length ys - n) (drop n ys)))) ≡ Ok (take n j.live ++ take (length ys - n) (drop n ys))
-may_switch R j n ys runs kept h =
+pub may_switch : (R : ℕ) (j : Journal) (n : ℕ) (zs ys : List Entry) → zs ≡ drop n ys → IsRun R j → IsRecordOfRun R (start_of j) ys
+    → take n (state_of j).live ≡ take n (events ys) → IsRunFrom R (start_of j) (take n j.live ++ zs)
+may_switch R j n zs ys given runs kept h =
     let alike : take n j.live ≡ take n ys = begin_alike R n (start_of j) j.live ys (ap run_entries runs.live_ran) kept.ran h in
-    let all : take n j.live ++ take (length ys - n) (drop n ys) ≡ ys =
-    ap (λ (zs : List Entry). take n j.live ++ zs) (to_the_end n ys) ∙ joined n j.live ys alike in
-    subst (λ (zs : List Entry). run_entries (run R (start_of j) (events zs)) ≡ Ok zs) (sym all) kept.ran
+    let all : take n j.live ++ zs ≡ ys = ap (λ (xs : List Entry). take n j.live ++ xs) given ∙ joined n j.live ys alike in
+    subst (λ (xs : List Entry). IsRunFrom R (start_of j) xs) (sym all) kept.ran
 
-pub few_enough : (n : ℕ) (ys : List Entry) → n ≤ length ys → length ys ≤ MOST_STEPS → n + length (take (length ys - n) (drop n ys)) ≤ MOST_STEPS
-few_enough n ys h k =
-    let rest : length (take (length ys - n) (drop n ys)) ≡ length ys - n = ap length (to_the_end n ys) ∙ length-drop n ys in
+pub few_enough : (n : ℕ) (zs ys : List Entry) → zs ≡ drop n ys → n ≤ length ys → length ys ≤ MOST_STEPS → n + length zs ≤ MOST_STEPS
+few_enough n zs ys given h k =
+    let rest : length zs ≡ length ys - n = ap length given ∙ length-drop n ys in
     omega arith
+
+-- the beginning of a run is a run
+run_goes_on : (y : Entry) (xs : List Entry) (q : Result Ran Refusal) → run_entries q ≡ Ok xs → run_entries (run_preceded_by y q) ≡ Ok (y ∷ xs)
+run_goes_on y xs (Err e) h = cc
+run_goes_on y xs (Ok ran) h =
+    let same : ran.entries ≡ xs = cc in
+    ap (λ (es : List Entry). Ok (y ∷ es)) same
+
+pub begins_run : (R : ℕ) (w : World) (xs ys : List Entry) → IsRunFrom R w (xs ++ ys) → IsRunFrom R w xs
+begins_run R w [] ys h = refl
+begins_run R w (x ∷ xs) ys h =
+    let b = began R w x (xs ++ ys) h in
+    let rest = begins_run R b.stepped.world xs ys b.rest in
+    ap (λ (r : Result Stepped Refusal). run_entries (run_from_step (λ v. run R v (events xs)) r)) b.goes
+    ∙ run_goes_on b.stepped.entry xs (run R b.stepped.world (events xs)) rest ∙ ap (λ (y : Entry). Ok (y ∷ xs)) b.entry
+
+pub begins_record : (R : ℕ) (w : World) (xs ys : List Entry) → IsRecordOfRun R w (xs ++ ys) → IsRecordOfRun R w xs
+begins_record R w xs ys h = record { few = omega (arith, h.few, length-append xs ys); ran = begins_run R w xs ys h.ran }

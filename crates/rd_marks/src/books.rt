@@ -16,26 +16,28 @@ ghost use Rattle.rd_cell.specs.declared.refusal.Refusal.TheVariants.{NoMemory};
 ghost use Rattle.rd_journal.specs.Sessions.{state, journal};
 ghost use Rattle.rd_marks.specs.Layout.{KeepsMarks};
 
-use super::marks::{is_marked, put_mark, switch_to};
+use super::marks::{are_same, is_marked, prune, put_mark, switch_to};
 use super::names::MarkName;
+use super::tree::Tree;
 use indexmap::IndexMap;
 use rd_cell::Refusal;
 use rd_cell::limits::MOST_MARKS;
-use rd_depend::are_equivalent;
 use rd_journal::Session;
-use rd_step::Entry;
 use std::alloc::Global;
 
 /// A session with bookmarks.
 #[derive(Drop)]
 pub struct Book<const R: usize> {
     session: Session<R>,
-    marks: IndexMap<MarkName, Vec<Entry>>,
+    tree: Tree,
+    /// The node of each bookmark, whose path has the records of its steps.
+    marks: IndexMap<MarkName, Option<usize>>,
     alloc: Global,
-    ghost kept: { KeepsMarks R (state session).start marks.entries },
+    ghost kept: { KeepsMarks R (state session).start tree.nodes marks.entries },
 }
 
 impl<const R: usize> Book<R> {
+    ghost use Rattle.rd_marks.specs.Beginnings.{CountsBeginnings};
     ghost use Rattle.rd_marks.specs.BookViews.{book_state};
     ghost use Rattle.rd_marks.specs.Books.{marked_events, mark, drop_mark, goto_mark, mark_at, MakesSteps, AnswersSame};
 
@@ -46,6 +48,7 @@ impl<const R: usize> Book<R> {
     {
         Book {
             session,
+            tree: Tree::new(alloc),
             marks: IndexMap::new(alloc),
             alloc,
         }
@@ -76,8 +79,10 @@ impl<const R: usize> Book<R> {
         if self.marks.len() == MOST_MARKS {
             return Err(Refusal::TooManyMarks);
         }
-        let alloc = self.alloc;
-        put_mark(&mut self.marks, &self.session, alloc, name)
+        match put_mark(&mut self.tree, &mut self.marks, &self.session, name) {
+            Err(_) => Err(Refusal::NoMemory),
+            Ok(()) => Ok(()),
+        }
     }
 
     /// Drops the bookmark of this name. The others keep their order. It takes no memory.
@@ -90,10 +95,12 @@ impl<const R: usize> Book<R> {
         ensures err { IfErr result (λ refusal. drop_mark (book_state self.old) name ≡ Err refusal) }
         ensures unchanged { OnErr result (book_state self.new ≡ book_state self.old) }
     {
-        if !is_marked(&self.marks, &name) {
+        let Some(node) = self.marks.get(&name) else {
             return Err(Refusal::NoMark);
-        }
-        let _records = self.marks.shift_remove(&name);
+        };
+        let node = *node;
+        let _gone = self.marks.shift_remove(&name);
+        prune(&mut self.tree, &self.marks, node);
         Ok(())
     }
 
@@ -113,7 +120,7 @@ impl<const R: usize> Book<R> {
     {
         match self.marks.get(&name) {
             None => Err(Refusal::NoMark),
-            Some(records) => switch_to(&mut self.session, records.as_slice()),
+            Some(node) => switch_to(&mut self.session, &self.tree, self.alloc, *node),
         }
     }
 
@@ -128,13 +135,13 @@ impl<const R: usize> Book<R> {
         ensures { AnswersSame R (book_state self.now).session.start (marked_events (book_state self.now).marks one)
             (marked_events (book_state self.now).marks other) result }
     {
-        let Some(ones) = self.marks.get(&one) else {
+        let Some(one) = self.marks.get(&one) else {
             return Err(Refusal::NoMark);
         };
-        let Some(others) = self.marks.get(&other) else {
+        let Some(other) = self.marks.get(&other) else {
             return Err(Refusal::NoMark);
         };
-        match are_equivalent(self.alloc, ones.as_slice(), others.as_slice()) {
+        match are_same(&self.tree, self.alloc, *one, *other) {
             Err(_) => Err(Refusal::NoMemory),
             Ok(same) => Ok(same),
         }
@@ -145,6 +152,14 @@ impl<const R: usize> Book<R> {
         ensures { result ≡ length (book_state self.now).marks }
     {
         self.marks.len() as u64
+    }
+
+    /// How many different lists there are that begin the steps of some bookmark, the empty one apart: so many records are
+    /// kept for the bookmarks. It takes no memory.
+    pub fn nodes(&self) -> u64
+        ensures { CountsBeginnings (book_state self.now).marks result }
+    {
+        self.tree.len() as u64
     }
 
     /// The name of the bookmark of this number, from 1, and how many steps were live when it was set.
@@ -160,7 +175,7 @@ impl<const R: usize> Book<R> {
         }
         match self.marks.get_index(i as usize - 1) {
             None => Err(Refusal::NoMark),
-            Some((name, records)) => Ok((*name, records.len() as u64)),
+            Some((name, node)) => Ok((*name, self.tree.depth(*node) as u64)),
         }
     }
 }

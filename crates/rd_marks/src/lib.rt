@@ -9,6 +9,7 @@ pub mod commands;
 mod marks;
 pub mod names;
 pub mod replies;
+mod tree;
 
 pub use books::Book;
 pub use commands::Command;

@@ -1,84 +1,154 @@
-//! The marks that a book keeps, by name, and the records of a session.
+//! The bookmarks by name, each with its node, and which nodes they use.
 
-ghost use Rattle.std.specs.Prelude.{◌≡◌, ◌<◌, ◌++◌, [], ◌∷◌, length, take, drop, is_some, IfOk, OnOk, IsOk, IfErr, OnErr, false, ◌-◌};
-ghost use Rattle.rd_depend.specs.Beginnings.{Begins};
+ghost use Rattle.std.specs.Prelude.{◌≡◌, ◌<◌, ◌↔◌, ◌++◌, [], ◌∷◌, ℕ, None, false, length, is_some, IsTrue, IsOk, IfOk, OnOk, IfErr, OnErr};
+ghost use Rattle.std.specs.List.{All};
+ghost use Rattle.rd_depend.specs.Beginnings.{Begins, IsBegunByNeither};
+ghost use Rattle.rd_depend.specs.Equivalence.{DecidesEquivalence};
 ghost use Rattle.rd_journal.specs.Journal.{events};
 ghost use Rattle.rd_journal.specs.Sessions.{state, journal};
 ghost use Rattle.rd_marks.specs.Books.{Mark, marked_events};
-ghost use Rattle.rd_marks.specs.Layout.{IsRecordOfRun, KeepsMarks};
+ghost use Rattle.rd_marks.specs.Layout.{IsRecordOfRun, KeepsMarks, has_mark};
 ghost use Rattle.rd_marks.specs.Marks.{marks_of};
+ghost use Rattle.rd_marks.specs.Tree.{MarkTree, IsIn, IsPartOf, path_in};
+ghost use Rattle.rd_marks.specs.TreeViews.{mark_tree};
+ghost use Rattle.rd_marks.specs.Uses.{IsUsed, AreUsedExcept};
 
 use super::names::MarkName;
+use super::tree::Tree;
 use indexmap::IndexMap;
 use rd_cell::Refusal;
 use rd_cell::limits::MOST_MARKS;
-use rd_depend::common_beginning;
+use rd_depend::are_equivalent;
 use rd_journal::Session;
-use rd_step::Entry;
 use std::alloc::{AllocError, Global};
 
-/// Whether there is a mark of this name.
-pub(crate) fn is_marked(marks: &IndexMap<MarkName, Vec<Entry>>, name: &MarkName) -> bool
-    ensures { result ≡ is_some (marked_events (marks_of marks.now.entries) name.now) }
+/// Whether there is a bookmark of this name.
+pub(crate) fn is_marked(marks: &IndexMap<MarkName, Option<usize>>, name: &MarkName) -> bool
+    ensures { (t : MarkTree) → result ≡ is_some (marked_events (marks_of t marks.now.entries) name.now) }
 {
     marks.contains_key(name)
 }
 
-/// Sets a mark of this name, which no mark has, at the live steps. It is the last one.
+/// Sets a bookmark of this name, which none has, at the live steps. It is the last one. Its nodes are those that are there of its
+/// beginning, and new ones for the rest of it; all memory is asked for before the first is put.
 ///
 /// # Errors
 ///
-/// `NoMemory` if the room for its records or for itself was refused. The marks stay.
+/// If the room for its nodes or for itself was refused. The bookmarks stay.
 pub(crate) fn put_mark<const R: usize>(
-    marks: &mut IndexMap<MarkName, Vec<Entry>>,
+    tree: &mut Tree,
+    marks: &mut IndexMap<MarkName, Option<usize>>,
     session: &Session<R>,
-    alloc: Global,
     name: MarkName,
-) -> Result<(), Refusal>
-    requires new { is_some (marked_events (marks_of marks.old.entries) name) ≡ false }
+) -> Result<(), AllocError>
+    requires new { is_some (marked_events (marks_of (mark_tree tree.old) marks.old.entries) name) ≡ false }
     requires few { length marks.old.entries < MOST_MARKS }
-    requires kept { KeepsMarks R (state session.now).start marks.old.entries }
-    ensures ok { OnOk result (marks_of marks.new.entries
-        ≡ marks_of marks.old.entries ++ record { name = name; events = (state session.now).live } ∷ []) }
-    ensures kept { KeepsMarks R (state session.now).start marks.new.entries }
-    ensures err { IfErr result (λ refusal. refusal ≡ Refusal.NoMemory) }
-    ensures unchanged { OnErr result (marks.new.entries ≡ marks.old.entries) }
+    requires kept { KeepsMarks R (state session.now).start tree.old.nodes marks.old.entries }
+    ensures ok { OnOk result (marks_of (mark_tree tree.new) marks.new.entries
+        ≡ marks_of (mark_tree tree.old) marks.old.entries ++ record { name = name; events = (state session.now).live } ∷ []) }
+    ensures kept { KeepsMarks R (state session.now).start tree.new.nodes marks.new.entries }
+    ensures unchanged { OnErr result (marks_of (mark_tree tree.new) marks.new.entries ≡ marks_of (mark_tree tree.old) marks.old.entries) }
 {
-    let Ok(records) = records_of(alloc, session) else {
-        return Err(Refusal::NoMemory);
-    };
-    match marks.insert(name, records) {
-        Err(_) => Err(Refusal::NoMemory),
+    let live = session.live();
+    let beginning = tree.follow(None, live);
+    let rest = &live[tree.depth(beginning)..];
+    tree.reserve(rest.len())?;
+    marks.reserve(1)?;
+    let node = tree.grow(beginning, rest);
+    match marks.insert(name, node) {
+        Err(_) => unreachable!(),
         Ok(_) => Ok(()),
     }
 }
 
-/// A copy of the records of the live steps.
-fn records_of<const R: usize>(alloc: Global, session: &Session<R>) -> Result<Vec<Entry>, AllocError>
-    ensures ok { IfOk result (λ records. events records.items ≡ (state session.now).live) }
-    ensures kept { IfOk result (λ records. IsRecordOfRun R (state session.now).start records.items) }
-{
-    let mut records = Vec::new(alloc);
-    records.extend_from_slice(session.live())?;
-    Ok(records)
-}
-
-/// Makes these records the live ones, with none undone: what they begin with in common with the live ones stays.
+/// Makes the steps of this node's path the live ones, with none undone: what they begin with in common with the live ones stays.
 ///
 /// # Errors
 ///
 /// `NoMemory` if room for the others was refused, so not if there are none. Nothing has changed then.
 pub(crate) fn switch_to<const R: usize>(
     session: &mut Session<R>,
-    records: &[Entry],
+    tree: &Tree,
+    alloc: Global,
+    node: Option<usize>,
 ) -> Result<(), Refusal>
-    requires { IsRecordOfRun R (state session.old).start records.now }
+    requires present { IsIn (mark_tree tree.now) node }
+    requires run { IsRecordOfRun R (state session.old).start (path_in (mark_tree tree.now) node) }
     ensures ok { OnOk result (state session.new
-        ≡ record { start = (state session.old).start; live = events records.now; undone = [] }) }
+        ≡ record { start = (state session.old).start; live = events (path_in (mark_tree tree.now) node); undone = [] }) }
     ensures err { IfErr result (λ refusal. refusal ≡ Refusal.NoMemory) }
-    ensures succeeds { Begins (events records.now) (state session.old).live → IsOk result }
+    ensures succeeds { Begins (events (path_in (mark_tree tree.now) node)) (state session.old).live → IsOk result }
     ensures unchanged { OnErr result (journal session.new ≡ journal session.old) }
 {
-    let n = common_beginning(session.live(), records);
-    session.switch(n as u64, &records[n..])
+    let beginning = tree.follow(None, session.live());
+    let common = tree.depth(tree.common(beginning, node));
+    match tree.records(alloc, node, common) {
+        Err(_) => Err(Refusal::NoMemory),
+        Ok(records) => session.switch(common as u64, &records),
+    }
+}
+
+/// Whether the paths of two nodes are of equivalent events.
+///
+/// # Errors
+///
+/// If memory was refused for the comparison, so not if one path begins the other.
+pub(crate) fn are_same(
+    tree: &Tree,
+    alloc: Global,
+    one: Option<usize>,
+    other: Option<usize>,
+) -> Result<bool, AllocError>
+    requires one { IsIn (mark_tree tree.now) one }
+    requires other { IsIn (mark_tree tree.now) other }
+    ensures answer { IfOk result (DecidesEquivalence (path_in (mark_tree tree.now) one) (path_in (mark_tree tree.now) other)) }
+    ensures memory { OnErr result (IsBegunByNeither (events (path_in (mark_tree tree.now) one)) (events (path_in (mark_tree tree.now) other))) }
+{
+    let common = tree.common(one, other);
+    if common == one || common == other {
+        return Ok(one == other);
+    }
+    let ones = tree.records(alloc, one, 0)?;
+    let others = tree.records(alloc, other, 0)?;
+    are_equivalent(alloc, &ones, &others)
+}
+
+/// Takes away this node and those above it that no bookmark uses, if this is the only one that may not be used.
+pub(crate) fn prune(tree: &mut Tree, marks: &IndexMap<MarkName, Option<usize>>, from: Option<usize>)
+    requires present { IsIn (mark_tree tree.old) from }
+    requires marked { All (λ m. IsIn (mark_tree tree.old) m.1) marks.now.entries }
+    requires used { AreUsedExcept (mark_tree tree.old) marks.now.entries from }
+    ensures part { IsPartOf (mark_tree tree.new) (mark_tree tree.old) }
+    ensures marked { All (λ m. IsIn (mark_tree tree.new) m.1) marks.now.entries }
+    ensures used { AreUsedExcept (mark_tree tree.new) marks.now.entries None }
+{
+    let mut at = from;
+    while let Some(key) = at {
+        if is_used(tree, marks, at) {
+            return;
+        }
+        at = tree.remove(key);
+    }
+}
+
+/// Whether a node has a child or a bookmark.
+fn is_used(tree: &Tree, marks: &IndexMap<MarkName, Option<usize>>, at: Option<usize>) -> bool
+    ensures { IsTrue result ↔ IsUsed (mark_tree tree.now) marks.now.entries at }
+{
+    tree.is_parent(at) || has_mark(marks, at)
+}
+
+/// Whether a bookmark is at the node.
+fn has_mark(marks: &IndexMap<MarkName, Option<usize>>, at: Option<usize>) -> bool
+    ensures { result ≡ has_mark marks.now.entries at }
+{
+    for index in 0..marks.len() {
+        let Some((_, node)) = marks.get_index(index) else {
+            unreachable!();
+        };
+        if *node == at {
+            return true;
+        }
+    }
+    false
 }

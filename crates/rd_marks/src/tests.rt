@@ -5,6 +5,7 @@ mod limits;
 mod lists;
 mod long_runs;
 mod origins;
+mod sharing;
 
 use super::books::Book;
 use super::commands::Command;
@@ -92,6 +93,18 @@ fn compare(rt: &impl Abort, run: &str, i: usize, answer: Result<Reply, Refusal>,
         ),
         Wanted::Refused(refusal) => assert_eq!(rt; answer, Err(refusal), "{run}, line {i}"),
     }
+}
+
+/// The name `n` and this number, below 100.
+fn numbered(i: u8) -> Result<MarkName, Refusal> {
+    if i >= 100 {
+        return Err(Refusal::BadName);
+    }
+    let text = [b'n', b'0' + i / 10, b'0' + i % 10];
+    if i < 10 {
+        return MarkName::new(&[b'n', text[2]]);
+    }
+    MarkName::new(&text)
 }
 
 /// The reply that shows a bookmark.

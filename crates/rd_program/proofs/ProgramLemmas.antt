@@ -16,7 +16,7 @@ use Rattle.rd_trace.specs.Traces.{trace_of_state, loaded_state}
 use Rattle.rd_trace.specs.Text.{trace_text}
 use Rattle.rd_trace.specs.Loading.{LoadsTrace, any_ring, any_state}
 use Rattle.rd_program.specs.declared.faults.ProgramFault.{ProgramFault}
-use Rattle.rd_program.specs.declared.faults.ProgramFault.TheVariants.{NoMemory, Read, Write, BadTrace, TraceStep, Shown, Refused}
+use Rattle.rd_program.specs.declared.faults.ProgramFault.TheVariants.{NoMemory, Read, Write, BadTrace, TraceStep, Busy, TooManyFiles, Shown, Refused}
 use Rattle.rd_program.specs.Program.{first_state, load_fault, program_fault, write_fault, RunsOver, AppendsIf, WritesIf, RanToTrace, PlaysScript, ResumesTrace, TouchesNothing}
 
 -- `?` passes a fault up as the program's
@@ -57,6 +57,8 @@ plays_to_trace_fault R actors traced d n Write ran = inr (n, ran)
 plays_to_trace_fault R actors traced d n Read ran = absurd ran.trace
 plays_to_trace_fault R actors traced d n BadTrace ran = absurd ran.trace
 plays_to_trace_fault R actors traced d n (TraceStep step cause) ran = absurd ran.trace
+plays_to_trace_fault R actors traced d n (Busy next served) ran = absurd ran.trace
+plays_to_trace_fault R actors traced d n TooManyFiles ran = absurd ran.trace
 plays_to_trace_fault R actors traced d n (Shown text) ran = absurd ran.trace
 plays_to_trace_fault R actors traced d n (Refused text) ran = absurd ran.trace
 
@@ -90,5 +92,7 @@ resumes_over text book d r (t, is_text, through, same) runs = go r (subst (λ s.
   go (Err NoMemory) over = absurd over
   go (Err BadTrace) over = absurd over
   go (Err (TraceStep step cause)) over = absurd over
+  go (Err (Busy next served)) over = absurd over
+  go (Err TooManyFiles) over = absurd over
   go (Err (Shown error)) over = absurd over
   go (Err (Refused error)) over = absurd over

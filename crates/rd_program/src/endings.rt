@@ -10,6 +10,9 @@ use rd_cell::Refusal;
 use rd_script::{LineAnswer, ScriptFault, Sink, Text, WriteFault, hand_over, set_text};
 use std::process::ExitCode;
 
+/// The text on a command line with more files than there may be viewers.
+const TOO_MANY_FILES: &str = "lcrqdb: 1 to 64 files\n";
+
 /// What the program writes to a stream as it ends.
 #[derive(Clone, Copy, Debug)]
 pub enum Message<'a> {
@@ -97,6 +100,11 @@ impl<'a> Ending<'a> {
                 step: *step,
                 cause: *cause,
             }),
+            ProgramFault::Busy { next, served } => Ending::failed(LineAnswer::Busy {
+                next: *next,
+                served: *served,
+            }),
+            ProgramFault::TooManyFiles => Ending::refused(TOO_MANY_FILES),
             ProgramFault::Shown(text) => Ending::shown(text.as_str()),
             ProgramFault::Refused(text) => Ending::refused(text.as_str()),
         }

@@ -2,10 +2,12 @@
 
 ghost use Rattle.std.specs.Prelude.{◌≡◌};
 ghost use Rattle.rd_program.specs.Program.{program_fault, load_fault, write_fault};
+ghost use Rattle.rd_program.specs.Viewers.{view_fault};
 
 use rd_cell::Refusal;
 use rd_script::ScriptFault;
 use rd_trace::{LoadTraceFault, WriteTraceFault};
+use rd_view::ViewFault;
 use thiserror::Error;
 
 /// Why the program ends without having done all that it was asked.
@@ -31,6 +33,17 @@ pub enum ProgramFault {
         /// Why it was refused.
         cause: Refusal,
     },
+    /// The desk of a view can't be closed: the two words of its lock.
+    #[error("the desk is still asked: next {next}, served {served}")]
+    Busy {
+        /// The ticket that would be drawn next.
+        next: u64,
+        /// The ticket that is served.
+        served: u64,
+    },
+    /// The command line names more files than there may be viewers.
+    #[error("more than 64 files")]
+    TooManyFiles,
     /// The command line asks for help or for the version: the text of it.
     #[error("{0}")]
     Shown(String),
@@ -69,6 +82,21 @@ impl From<WriteTraceFault> for ProgramFault {
         match fault {
             WriteTraceFault::NoMemory => ProgramFault::NoMemory,
             WriteTraceFault::Write => ProgramFault::Write,
+        }
+    }
+}
+
+impl From<ViewFault> for ProgramFault {
+    ghost from_gives = { λ fault e. e ≡ view_fault fault };
+
+    fn from(fault: ViewFault) -> ProgramFault {
+        match fault {
+            ViewFault::NoMemory => ProgramFault::NoMemory,
+            ViewFault::Write => ProgramFault::Write,
+            ViewFault::Busy(words) => ProgramFault::Busy {
+                next: words.next,
+                served: words.served,
+            },
         }
     }
 }

@@ -5,3 +5,4 @@ ghost use Rattle.std.specs.Prelude.{◌≤◌};
 mod ends;
 mod loads;
 mod plays;
+mod views;

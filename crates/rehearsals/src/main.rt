@@ -7,8 +7,11 @@
 use rd_command_line::perform;
 use rd_script::{ReadSource, WriteSink};
 use std::alloc::Global;
+use std::fs::Files;
 use std::io;
 use std::process::ExitCode;
+use std::sync::Wait;
+use std::thread::Threads;
 
 /// One run of the program.
 struct Rehearsal {
@@ -24,7 +27,7 @@ struct Rehearsal {
 const AMPLE: usize = 1_000_000;
 
 /// The command lines, in order. The script on the input of those that open a file differs from that file's.
-const REHEARSALS: [Rehearsal; 14] = [
+const REHEARSALS: [Rehearsal; 19] = [
     Rehearsal {
         words: &[
             "run",
@@ -99,6 +102,39 @@ const REHEARSALS: [Rehearsal; 14] = [
         room: 15,
     },
     Rehearsal {
+        words: &["view", "questions.script", "question.script"],
+        input: "len\n",
+        room: AMPLE,
+    },
+    Rehearsal {
+        words: &[
+            "view",
+            "faulty.script",
+            "question.script",
+            "--ring",
+            "2",
+            "--actors",
+            "2",
+        ],
+        input: "len\n",
+        room: AMPLE,
+    },
+    Rehearsal {
+        words: &["view", "question.script", "missing.script"],
+        input: "len\n",
+        room: AMPLE,
+    },
+    Rehearsal {
+        words: &["view", "question.script", "--ring", "3"],
+        input: "len\n",
+        room: AMPLE,
+    },
+    Rehearsal {
+        words: &["view", "question.script"],
+        input: "",
+        room: 12,
+    },
+    Rehearsal {
         words: &["--version"],
         input: "",
         room: 0,
@@ -128,29 +164,47 @@ impl<'a> io::Write for Stream<'a> {
     }
 }
 
+/// So many viewers are the most that there may be, and one more is one too many.
+const CROWDS: [usize; 2] = [64, 65];
+
 fn main(rt: HostRuntime) -> io::Result<()> {
+    let alloc = rt.alloc();
     for rehearsal in &REHEARSALS {
-        rehearse(&rt, rt.alloc(), rehearsal)?;
+        let words = Vec::from_slice(alloc, rehearsal.words)?;
+        rehearse(&rt, alloc, words, rehearsal.input, rehearsal.room)?;
+    }
+    for viewers in CROWDS {
+        let mut words = vec![in alloc; "view"]?;
+        for _ in 0..viewers {
+            words.push("question.script")?;
+        }
+        rehearse(&rt, alloc, words, "", AMPLE)?;
     }
     Ok(())
 }
 
 /// Does one command line, and prints what came of it.
-fn rehearse(rt: &HostRuntime, alloc: Global, rehearsal: &Rehearsal) -> io::Result<()> {
+fn rehearse<R: Files + Threads + Wait + Print + Sync>(
+    rt: &R,
+    alloc: Global,
+    asked: Vec<&str>,
+    input: &str,
+    room: usize,
+) -> io::Result<()> {
     let mut words = vec![in alloc; "lcrqdb"]?;
-    words.extend_from_slice(rehearsal.words)?;
+    words.extend_from_slice(asked.as_slice())?;
     println!(rt; "{}", words.join(alloc, " ")?)?;
     let mut output = Vec::new(alloc);
     let mut errors = Vec::new(alloc);
     let stream = Stream {
         taken: &mut output,
-        room: rehearsal.room,
+        room,
     };
     let status = perform(
         rt,
         alloc,
         Ok(words),
-        &mut ReadSource::new(rehearsal.input.as_bytes()),
+        &mut ReadSource::new(input.as_bytes()),
         &mut WriteSink::new(stream),
         &mut WriteSink::new(&mut errors),
     );
@@ -173,7 +227,7 @@ fn name_of(status: ExitCode) -> &'static str {
 }
 
 /// Prints what a stream has taken, each line behind the stream's name.
-fn print_stream(rt: &HostRuntime, name: &str, taken: &[u8]) -> io::Result<()> {
+fn print_stream<R: Print>(rt: &R, name: &str, taken: &[u8]) -> io::Result<()> {
     if taken.is_empty() {
         return println!(rt; "  {name}: nothing");
     }

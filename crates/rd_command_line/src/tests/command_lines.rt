@@ -13,12 +13,16 @@ use std::test::Fail;
 enum Wanted {
     /// To run a script: the file, the actors, the ring, and whether the trace follows.
     Runs(&'static str, u8, Ring, bool),
+    /// To view scripts: the files, the actors, and the ring.
+    Views(&'static [&'static str], u8, Ring),
     /// To load a trace: the file.
     Loads(&'static str),
     /// A text that begins and goes on so.
     Shown(&'static str, &'static str),
     /// A mistake whose text begins so.
     Refused(&'static str),
+    /// More files than there may be viewers.
+    TooMany,
 }
 
 /// What the words come to, which must be the wanted.
@@ -30,6 +34,15 @@ fn compare(rt: &impl Abort, alloc: Global, words: &[&str], wanted: Wanted) -> Re
                 actors,
                 ring,
                 trace,
+            };
+            assert_eq!(rt; read, options, "{words:?}");
+        }
+        (Ok(read), Wanted::Views(files, actors, ring)) => {
+            let files = Vec::from_slice(alloc, files)?;
+            let options = Options::View {
+                files,
+                actors,
+                ring,
             };
             assert_eq!(rt; read, options, "{words:?}");
         }
@@ -47,6 +60,7 @@ fn compare(rt: &impl Abort, alloc: Global, words: &[&str], wanted: Wanted) -> Re
             write!(text, "{error}")?;
             assert!(rt; text.starts_with(beginning), "{words:?}: {text}");
         }
+        (Err(OptionsFault::TooManyFiles), Wanted::TooMany) => {}
         (Ok(read), _) => panic!(rt; "{words:?}: {read:?}"),
         (Err(fault), _) => panic!(rt; "{words:?}: {fault:?}"),
     }
@@ -109,8 +123,70 @@ fn run_takes_a_file_and_three_options(rt: HostRuntime) -> Result<(), Fail> {
 }
 
 #[test]
+fn view_takes_files_and_two_options(rt: HostRuntime) -> Result<(), Fail> {
+    let rows: [(&[&str], Wanted); 8] = [
+        (
+            &["lcrqdb", "view", "a"],
+            Wanted::Views(&["a"], 4, Ring::Four),
+        ),
+        (
+            &["lcrqdb", "view", "b", "a", "b"],
+            Wanted::Views(&["b", "a", "b"], 4, Ring::Four),
+        ),
+        (
+            &["lcrqdb", "view", "--ring", "2", "a", "b"],
+            Wanted::Views(&["a", "b"], 4, Ring::Two),
+        ),
+        (
+            &["lcrqdb", "view", "a", "b", "--ring=8"],
+            Wanted::Views(&["a", "b"], 4, Ring::Eight),
+        ),
+        (
+            &["lcrqdb", "view", "a", "--actors", "16", "b"],
+            Wanted::Views(&["a", "b"], 16, Ring::Four),
+        ),
+        (
+            &["lcrqdb", "view", "--actors=1", "--ring=4", "a"],
+            Wanted::Views(&["a"], 1, Ring::Four),
+        ),
+        (
+            &["lcrqdb", "view", "--", "--ring", "2"],
+            Wanted::Views(&["--ring", "2"], 4, Ring::Four),
+        ),
+        (
+            &["lcrqdb", "view", "-", "a"],
+            Wanted::Views(&["-", "a"], 4, Ring::Four),
+        ),
+    ];
+    for (words, wanted) in rows {
+        compare(&rt, rt.alloc(), words, wanted)?;
+    }
+    Ok(())
+}
+
+#[test]
+fn view_takes_up_to_64_files(rt: HostRuntime) -> Result<(), Fail> {
+    let files = ["a"; 64];
+    let mut words = Vec::from_slice(rt.alloc(), &["lcrqdb", "view"])?;
+    words.extend_from_slice(&files)?;
+    match options(rt.alloc(), words.as_slice()) {
+        Ok(Options::View { files, .. }) => assert_eq!(rt; files.len(), 64),
+        read => panic!(rt; "{read:?}"),
+    }
+    words.push("a")?;
+    compare(&rt, rt.alloc(), words.as_slice(), Wanted::TooMany)?;
+    words.extend_from_slice(&["--ring", "3"])?;
+    compare(
+        &rt,
+        rt.alloc(),
+        words.as_slice(),
+        Wanted::Refused("error: "),
+    )
+}
+
+#[test]
 fn other_command_lines_are_refused(rt: HostRuntime) -> Result<(), Fail> {
-    let rows: [(&[&str], &str); 25] = [
+    let rows: [(&[&str], &str); 33] = [
         (&[], "error: "),
         (&["lcrqdb"], "error: "),
         (&["lcrqdb", "walk", "a"], "error: "),
@@ -134,6 +210,17 @@ fn other_command_lines_are_refused(rt: HostRuntime) -> Result<(), Fail> {
         ),
         (&["lcrqdb", "run", "a", "--trace", "--trace"], "error: "),
         (&["lcrqdb", "run", "a", "--trace=yes"], "error: "),
+        (&["lcrqdb", "view"], "error: "),
+        (&["lcrqdb", "view", "--ring", "2"], "error: "),
+        (&["lcrqdb", "view", "a", "--ring", "3"], "error: "),
+        (&["lcrqdb", "view", "a", "--actors", "0"], "error: "),
+        (&["lcrqdb", "view", "a", "--actors", "17"], "error: "),
+        (&["lcrqdb", "view", "a", "--trace"], "error: "),
+        (
+            &["lcrqdb", "view", "a", "--ring", "2", "--ring", "2"],
+            "error: ",
+        ),
+        (&["lcrqdb", "--ring", "2", "view", "a"], "error: "),
         (&["lcrqdb", "load"], "error: "),
         (&["lcrqdb", "load", "a", "b"], "error: "),
         (&["lcrqdb", "load", "--ring", "2", "a"], "error: "),
@@ -150,7 +237,8 @@ fn other_command_lines_are_refused(rt: HostRuntime) -> Result<(), Fail> {
 fn help_and_the_version_are_shown(rt: HostRuntime) -> Result<(), Fail> {
     let about = "A causal reversible debugger for LCRQ\n";
     let run = "Does the lines of a script";
-    let rows: [(&[&str], Wanted); 7] = [
+    let view = "Does the lines of several scripts";
+    let rows: [(&[&str], Wanted); 9] = [
         (
             &["lcrqdb", "--help"],
             Wanted::Shown(about, "Usage: lcrqdb <COMMAND>"),
@@ -170,6 +258,14 @@ fn help_and_the_version_are_shown(rt: HostRuntime) -> Result<(), Fail> {
         (
             &["lcrqdb", "help", "run"],
             Wanted::Shown(run, "--actors <COUNT>"),
+        ),
+        (
+            &["lcrqdb", "view", "--help"],
+            Wanted::Shown(view, "Usage: lcrqdb view [OPTIONS] <FILE>..."),
+        ),
+        (
+            &["lcrqdb", "help", "view"],
+            Wanted::Shown(view, "[possible values: 2, 4, 8]"),
         ),
         (
             &["lcrqdb", "--version"],

@@ -6,8 +6,11 @@ use super::super::requests::OptionsFault;
 use rd_program::ProgramFault;
 use rd_script::{ReadSource, WriteSink};
 use std::alloc::Global;
+use std::fs::Files;
 use std::process::{Abort, ExitCode};
+use std::sync::Wait;
 use std::test::Fail;
+use std::thread::Threads;
 
 /// What an end leaves.
 #[derive(Drop)]
@@ -21,8 +24,8 @@ struct Left {
 }
 
 /// What is left after these words, with nothing on standard input.
-fn left_after(
-    rt: &HostRuntime,
+fn left_after<R: Files + Threads + Wait + Sync>(
+    rt: &R,
     alloc: Global,
     words: Result<&[&str], ProgramFault>,
 ) -> Result<Left, Fail> {
@@ -102,6 +105,33 @@ fn a_command_line_that_is_refused_memory_ends_with_status_1(rt: HostRuntime) -> 
     assert_eq!(rt;
         left.errors.as_slice(),
         "lcrqdb: refused 20 NoMemory\n".as_bytes()
+    );
+    Ok(())
+}
+
+#[test]
+fn more_than_64_files_are_a_bad_command_line(rt: HostRuntime) -> Result<(), Fail> {
+    let mut words = Vec::from_slice(rt.alloc(), &["lcrqdb", "view"])?;
+    words.extend_from_slice(&["missing"; 65])?;
+    let left = left_after(&rt, rt.alloc(), Ok(words.as_slice()))?;
+    assert_eq!(rt; left.status, ExitCode::from(2));
+    assert!(rt; left.output.is_empty());
+    assert_eq!(rt;
+        left.errors.as_slice(),
+        "lcrqdb: 1 to 64 files\n".as_bytes()
+    );
+    Ok(())
+}
+
+#[test]
+fn a_file_of_a_viewer_that_is_not_there_leaves_the_output(rt: HostRuntime) -> Result<(), Fail> {
+    let words: &[&str] = &["lcrqdb", "view", "missing", "-"];
+    let left = left_after(&rt, rt.alloc(), Ok(words))?;
+    assert_eq!(rt; left.status, ExitCode::FAILURE);
+    assert!(rt; left.output.is_empty());
+    assert_eq!(rt;
+        left.errors.as_slice(),
+        "lcrqdb: refused 24 Read\n".as_bytes()
     );
     Ok(())
 }

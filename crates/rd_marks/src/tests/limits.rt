@@ -4,6 +4,7 @@ use super::super::books::Book;
 use super::super::commands::Command;
 use super::super::names::MarkName;
 use super::super::replies::Reply;
+use super::numbered;
 use rd_cell::Refusal;
 use rd_cell::limits::MOST_MARKS;
 use rd_journal::Session;
@@ -38,18 +39,6 @@ fn a_name_is_1_to_16_bytes_of_three_kinds(rt: HostRuntime) {
             }
         }
     }
-}
-
-/// The name `n` and this number, below 100.
-fn numbered(i: u8) -> Result<MarkName, Refusal> {
-    if i >= 100 {
-        return Err(Refusal::BadName);
-    }
-    let text = [b'n', b'0' + i / 10, b'0' + i % 10];
-    if i < 10 {
-        return MarkName::new(&[b'n', text[2]]);
-    }
-    MarkName::new(&text)
 }
 
 #[test]

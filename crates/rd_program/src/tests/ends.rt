@@ -82,6 +82,18 @@ fn each_outcome_has_its_status_and_its_message(rt: HostRuntime) -> Result<(), Fa
                 errors: "lcrqdb: refused 28 TraceStep 65536 cause 9 TooLong\n",
             },
             Row {
+                outcome: Err(ProgramFault::Busy { next: 3, served: 2 }),
+                status: 1,
+                output: "",
+                errors: "lcrqdb: refused 30 Busy next 3 served 2\n",
+            },
+            Row {
+                outcome: Err(ProgramFault::TooManyFiles),
+                status: 2,
+                output: "",
+                errors: "lcrqdb: 1 to 64 files\n",
+            },
+            Row {
                 outcome: Err(ProgramFault::Shown(help)),
                 status: 0,
                 output: "the help\n",

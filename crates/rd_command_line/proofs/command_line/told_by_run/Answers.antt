@@ -1,39 +1,22 @@
-use Rattle.std.proofs.Common.{rules, arith, ◌∙◌, ap, Some}
-use Rattle.rd_command_line.proofs.ToldLemmas.{no_file, no_ring, no_spelling, no_trace, no_choice, no_number, out_of_range, actors_read, first_value_is}
-use Rattle.rd_command_line.proofs.command_line.told_by_run.Goals.{else-actors-ge1-via-then-actors-ge1+else-actors-le16, else-actors-ge1-via-else-actors-ge1}
+use Rattle.std.proofs.Common.{rules, ◌∙◌, ap, Some}
+use Rattle.rd_command_line.proofs.ToldLemmas.{first_value_is, no_choice, no_file, no_run_world, no_trace}
 use Rattle.rd_command_line.proofs.command_line.told_by_run.Goals as goal
 
 pub returns-in_err-file-clause-none : goal.returns-in_err-file-clause-none
 returns-in_err-file-clause-none c = λ _. no_file c.args.run.now c.in_err-file.ensures
 
 pub returns-in_err-actors-clause-none : goal.returns-in_err-actors-clause-none
-returns-in_err-actors-clause-none c = λ _. no_number c.args.run.now (λ t is. (c.in_err-actors.ensures.value t is).1.0)
+returns-in_err-actors-clause-none c = λ _. no_run_world c.args.run.now (c.in_err-actors.ensures.none (search rules))
 
 pub returns-in_err-get_str-clause-none : goal.returns-in_err-get_str-clause-none
-returns-in_err-get_str-clause-none c = λ _. no_ring c.args.run.now c.in_err-get_str.ensures
-
-pub returns-in_err-ring-clause-none : goal.returns-in_err-ring-clause-none
-returns-in_err-ring-clause-none c = λ _. no_spelling c.args.run.now c.in_ok-get_str.field-0.now c.in_ok-get_str.ensures (c.in_err-ring.ensures.none (search rules))
-
-pub returns-in_err-get_str-2-clause-none : goal.returns-in_err-get_str-2-clause-none
-returns-in_err-get_str-2-clause-none c = λ _. no_trace c.args.run.now c.in_err-get_str-2.ensures
+returns-in_err-get_str-clause-none c = λ _. no_trace c.args.run.now c.in_err-get_str.ensures
 
 pub returns-in_err-trace-clause-none : goal.returns-in_err-trace-clause-none
-returns-in_err-trace-clause-none c = λ _. no_choice c.args.run.now c.in_ok-get_str-2.field-0.now c.in_ok-get_str-2.ensures (c.in_err-trace.ensures.none (search rules))
+returns-in_err-trace-clause-none c = λ _. no_choice c.args.run.now c.in_ok-get_str.field-0.now c.in_ok-get_str.ensures (c.in_err-trace.ensures.none (search rules))
 
-pub returns-then-actors-le16-clause-some : goal.returns-then-actors-le16-clause-some
-returns-then-actors-le16-clause-some c = (
+pub returns-clause-some : goal.returns-clause-some
+returns-clause-some c = (
   first_value_is c.args.run.now _ _ c.in_ok-file.ensures,
-  actors_read c.args.run.now c.in_ok-actors.actors c.in_ok-actors.ensures.none (λ t is. (c.in_ok-actors.ensures.value t is).0),
-  search rules,
-  search rules,
-  first_value_is c.args.run.now _ _ c.in_ok-get_str.ensures ∙ ap Some c.in_ok-ring.ensures.some,
-  first_value_is c.args.run.now _ _ c.in_ok-get_str-2.ensures ∙ ap Some c.in_ok-trace.ensures.some,
+  c.in_ok-actors.ensures.some,
+  first_value_is c.args.run.now _ _ c.in_ok-get_str.ensures ∙ ap Some c.in_ok-trace.ensures.some,
 )
-
-pub returns-else-actors-ge1-clause-none : goal.returns-else-actors-ge1-clause-none
-returns-else-actors-ge1-clause-none c = λ _. out_of_range c.args.run.now c.in_ok-actors.actors (λ t is. (c.in_ok-actors.ensures.value t is).0.1)
-    (λ few many. elim c.else-actors-ge1.branch [
-      | else-actors-ge1-via-then-actors-ge1+else-actors-le16 w ↦ absurd (omega (arith, w.if-actors-le16.false, many))
-      | else-actors-ge1-via-else-actors-ge1 w ↦ absurd (omega (arith, w.if-actors-ge1.false, few))
-    ])

@@ -1,13 +1,89 @@
+use Rattle.std.proofs.Common.{◌≡◌, ◌-◌, All, ◌++◌, ◌∷◌, [], ℕ, Option, List, refl, ap, subst, sym, length, take, drop, ◌∙◌}
+use Rattle.rd_step.specs.declared.entries.Entry.{Entry}
+use Rattle.rd_journal.specs.Journal.{events}
 use Rattle.rd_journal.specs.Sessions.{state}
-use Rattle.rd_marks.proofs.MarkLemmas.{marks_put, kept_put}
+use Rattle.indexmap.specs.IndexMap.{insert_entry}
+use Rattle.rd_marks.specs.declared.names.MarkName.{MarkName}
+use Rattle.rd_marks.specs.Names.{same_name}
+use Rattle.rd_marks.specs.Layout.{IsRecordOfRun}
+use Rattle.rd_marks.specs.Marks.{marks_of}
+use Rattle.rd_marks.specs.Tree.{MarkTree, IsIn, IsNew, depth_in, path_in}
+use Rattle.rd_marks.specs.TreeViews.{mark_tree}
+use Rattle.rd_marks.proofs.TreeLemmas.{path_length}
+use Rattle.rd_marks.proofs.RecordLemmas.{to_the_end}
+use Rattle.rd_marks.proofs.MarkLemmas.{entries_put}
+use Rattle.rd_marks.proofs.Sharing.{kept_in, kept_with, marks_with, keeps, node_runs, whole_path}
 use Rattle.rd_marks.proofs.marks.put_mark.Goals as goal
+
+pub returns-in_err-reserve-clause-kept : goal.returns-in_err-reserve-clause-kept
+returns-in_err-reserve-clause-kept g c =
+    kept_in g.row.R (state c.args.session.now).start c.args.tree.now.nodes c.reserve.new.self.nodes c.args.marks.now.entries c.args.marks.now.entries
+    c.reserve.ensures.nodes refl c.requires.kept
+
+pub returns-in_err-reserve-2-clause-kept : goal.returns-in_err-reserve-2-clause-kept
+returns-in_err-reserve-2-clause-kept g c =
+    kept_in g.row.R (state c.args.session.now).start c.args.tree.now.nodes c.reserve.new.self.nodes c.args.marks.now.entries c.reserve-2.new.self.entries
+    c.reserve.ensures.nodes c.reserve-2.ensures.entries c.requires.kept
+
+pub grow-node-requires-clause-new : goal.grow-node-requires-clause-new
+grow-node-requires-clause-new g c =
+    let t = mark_tree c.args.tree.now in
+    let live = c.live-live.result.now in
+    let b = c.follow-beginning.result in
+    let rest = to_the_end c.depth.result live ∙ ap (λ (n : ℕ). drop n live) c.depth.ensures in
+    subst (λ (v : MarkTree). IsNew v b (take (length live - c.depth.result) (drop c.depth.result live))) (sym c.reserve.ensures.nodes)
+    (subst (λ (xs : List Entry). IsNew t b xs) (sym rest) c.follow-beginning.ensures.deepest)
 
 pub returns-clause-ok : goal.returns-clause-ok
 returns-clause-ok g c =
-    marks_put c.args.name c.in-Ok.records c.args.marks.now.entries c.insert.new.self.entries (state c.args.session.now).live c.requires.new
-    c.in-Ok-insert.ensures.entries c.in-Ok.ensures.ok
+    let w = (state c.args.session.now).start in
+    let t = mark_tree c.args.tree.now in
+    let between = mark_tree c.reserve.new.self in
+    let u = mark_tree c.grow-node.new.self in
+    let ms = c.args.marks.now.entries in
+    let es = c.insert.new.self.entries in
+    let live = c.live-live.result.now in
+    let b = c.follow-beginning.result in
+    let node = c.grow-node.result in
+    let rule = c.args.tree.now.kept.tree in
+    let nodes = c.reserve.ensures.nodes in
+    let kept = keeps g.row.R w c.args.tree.now.nodes ms c.requires.kept in
+    let run : IsRecordOfRun g.row.R w live = record { few = c.live-live.ensures.few; ran = c.live-live.ensures.run } in
+    let whole : path_in u node ≡ live =
+    c.grow-node.ensures.path ∙ ap (λ (v : MarkTree). path_in v b ++ take (length live - c.depth.result) (drop c.depth.result live)) nodes
+    ∙ whole_path g.row.R w (path_in t b) live (take (length live - c.depth.result) (drop c.depth.result live)) (depth_in t b)
+    (node_runs t rule ms kept.used g.row.R w kept.runs b c.follow-beginning.ensures.present) run (path_length t rule b c.follow-beginning.ensures.present)
+    c.follow-beginning.ensures.begins (to_the_end c.depth.result live ∙ ap (λ (n : ℕ). drop n live) c.depth.ensures) in
+    let entries : es ≡ ms ++ (c.args.name, node) ∷ [] =
+    entries_put t c.args.name node ms es c.requires.new
+    (c.in-Ok.ensures.entries ∙ ap (λ (xs : List (MarkName × Option ℕ)). insert_entry same_name xs c.args.name node) c.reserve-2.ensures.entries) in
+    marks_with between u c.args.name node ms es (state c.args.session.now).live c.reserve.new.self.kept.tree c.grow-node.ensures.kept
+    (subst (λ (v : MarkTree). All (λ m. IsIn v m.1) ms) (sym nodes) kept.present) entries (ap events whole ∙ c.live-live.ensures.events)
+    ∙ ap (λ (v : MarkTree). marks_of v ms ++ record { name = c.args.name; events = (state c.args.session.now).live } ∷ []) nodes
 
 pub returns-clause-kept : goal.returns-clause-kept
 returns-clause-kept g c =
-    kept_put c.args.name g.row.R (state c.args.session.now).start c.in-Ok.records c.args.marks.now.entries c.insert.new.self.entries c.requires.new
-    c.in-Ok-insert.ensures.entries c.in-Ok.ensures.kept c.requires.few c.requires.kept
+    let w = (state c.args.session.now).start in
+    let t = mark_tree c.args.tree.now in
+    let between = mark_tree c.reserve.new.self in
+    let u = mark_tree c.grow-node.new.self in
+    let ms = c.args.marks.now.entries in
+    let es = c.insert.new.self.entries in
+    let live = c.live-live.result.now in
+    let b = c.follow-beginning.result in
+    let node = c.grow-node.result in
+    let rule = c.args.tree.now.kept.tree in
+    let nodes = c.reserve.ensures.nodes in
+    let kept = keeps g.row.R w c.args.tree.now.nodes ms c.requires.kept in
+    let run : IsRecordOfRun g.row.R w live = record { few = c.live-live.ensures.few; ran = c.live-live.ensures.run } in
+    let whole : path_in u node ≡ live =
+    c.grow-node.ensures.path ∙ ap (λ (v : MarkTree). path_in v b ++ take (length live - c.depth.result) (drop c.depth.result live)) nodes
+    ∙ whole_path g.row.R w (path_in t b) live (take (length live - c.depth.result) (drop c.depth.result live)) (depth_in t b)
+    (node_runs t rule ms kept.used g.row.R w kept.runs b c.follow-beginning.ensures.present) run (path_length t rule b c.follow-beginning.ensures.present)
+    c.follow-beginning.ensures.begins (to_the_end c.depth.result live ∙ ap (λ (n : ℕ). drop n live) c.depth.ensures) in
+    let entries : es ≡ ms ++ (c.args.name, node) ∷ [] =
+    entries_put t c.args.name node ms es c.requires.new
+    (c.in-Ok.ensures.entries ∙ ap (λ (xs : List (MarkName × Option ℕ)). insert_entry same_name xs c.args.name node) c.reserve-2.ensures.entries) in
+    kept_with g.row.R w c.reserve.new.self.nodes c.grow-node.new.self.nodes c.args.name node ms es entries c.requires.few
+    (kept_in g.row.R w c.args.tree.now.nodes c.reserve.new.self.nodes ms ms nodes refl c.requires.kept) c.reserve.new.self.kept.tree c.grow-node.ensures.kept
+    c.grow-node.ensures.used c.grow-node.ensures.present (subst (λ (xs : List Entry). IsRecordOfRun g.row.R w xs) (sym whole) run)

@@ -12,7 +12,7 @@ invariant_of-self g c =
     let start =
     start_stays c.back-done.result (journal c.args.self.now.session) (journal c.back-done.new.self) (back old c.args.n)
     (back_start old c.args.n) c.back-done.ensures.ok c.back-done.ensures.unchanged in
-    record { kept = marks_stay g.row.R old.start (state c.back-done.new.self).start c.args.self.now.marks.entries start c.args.self.now.kept }
+    record { kept = marks_stay g.row.R old.start (state c.back-done.new.self).start c.args.self.now.tree.nodes c.args.self.now.marks.entries start c.args.self.now.kept }
 
 pub returns : goal.returns
 returns g c =

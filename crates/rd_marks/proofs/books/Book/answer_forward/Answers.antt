@@ -12,7 +12,7 @@ invariant_of-self g c =
     let start =
     start_stays c.forward-done.result (journal c.args.self.now.session) (journal c.forward-done.new.self) (forward old c.args.n)
     (forward_start old c.args.n) c.forward-done.ensures.ok c.forward-done.ensures.unchanged in
-    record { kept = marks_stay g.row.R old.start (state c.forward-done.new.self).start c.args.self.now.marks.entries start c.args.self.now.kept }
+    record { kept = marks_stay g.row.R old.start (state c.forward-done.new.self).start c.args.self.now.tree.nodes c.args.self.now.marks.entries start c.args.self.now.kept }
 
 pub returns : goal.returns
 returns g c =

@@ -12,7 +12,7 @@ invariant_of-self g c =
     let start =
     start_stays c.redo-done.result (journal c.args.self.now.session) (journal c.redo-done.new.self) (redo old)
     (redo_start old) c.redo-done.ensures.ok c.redo-done.ensures.unchanged in
-    record { kept = marks_stay g.row.R old.start (state c.redo-done.new.self).start c.args.self.now.marks.entries start c.args.self.now.kept }
+    record { kept = marks_stay g.row.R old.start (state c.redo-done.new.self).start c.args.self.now.tree.nodes c.args.self.now.marks.entries start c.args.self.now.kept }
 
 pub returns : goal.returns
 returns g c =

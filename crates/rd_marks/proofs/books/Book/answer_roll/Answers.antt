@@ -12,7 +12,7 @@ invariant_of-self g c =
     let start =
     start_stays c.roll-done.result (journal c.args.self.now.session) (journal c.roll-done.new.self) (roll g.row.R old c.args.k)
     (roll_start g.row.R old c.args.k) c.roll-done.ensures.ok c.roll-done.ensures.unchanged in
-    record { kept = marks_stay g.row.R old.start (state c.roll-done.new.self).start c.args.self.now.marks.entries start c.args.self.now.kept }
+    record { kept = marks_stay g.row.R old.start (state c.roll-done.new.self).start c.args.self.now.tree.nodes c.args.self.now.marks.entries start c.args.self.now.kept }
 
 pub returns : goal.returns
 returns g c =

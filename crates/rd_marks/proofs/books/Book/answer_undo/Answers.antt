@@ -12,7 +12,7 @@ invariant_of-self g c =
     let start =
     start_stays c.undo-done.result (journal c.args.self.now.session) (journal c.undo-done.new.self) (undo old)
     (undo_start old) c.undo-done.ensures.ok c.undo-done.ensures.unchanged in
-    record { kept = marks_stay g.row.R old.start (state c.undo-done.new.self).start c.args.self.now.marks.entries start c.args.self.now.kept }
+    record { kept = marks_stay g.row.R old.start (state c.undo-done.new.self).start c.args.self.now.tree.nodes c.args.self.now.marks.entries start c.args.self.now.kept }
 
 pub returns : goal.returns
 returns g c =

@@ -12,7 +12,7 @@ invariant_of-self g c =
     let start =
     start_stays c.undo_at-done.result (journal c.args.self.now.session) (journal c.undo_at-done.new.self) (undo_at g.row.R old c.args.k)
     (undo_at_start g.row.R old c.args.k) c.undo_at-done.ensures.ok c.undo_at-done.ensures.unchanged in
-    record { kept = marks_stay g.row.R old.start (state c.undo_at-done.new.self).start c.args.self.now.marks.entries start c.args.self.now.kept }
+    record { kept = marks_stay g.row.R old.start (state c.undo_at-done.new.self).start c.args.self.now.tree.nodes c.args.self.now.marks.entries start c.args.self.now.kept }
 
 pub returns : goal.returns
 returns g c =

@@ -1,32 +1,37 @@
-use Rattle.std.proofs.Common.{List, None, lit<, sym, subst, inl}
-use Rattle.rd_step.specs.declared.entries.Entry.{Entry}
+use Rattle.std.proofs.Common.{None, lit<, sym, inl, Some}
 use Rattle.rd_journal.specs.Journal.{events}
 use Rattle.rd_journal.specs.Sessions.{state}
 use Rattle.rd_marks.specs.BookViews.{book_state}
-use Rattle.rd_marks.specs.Layout.{IsRecordOfRun}
-use Rattle.rd_marks.proofs.MarkLemmas.{found_holds, found_events, goto_missing, goto_done, goto_not_done, as_found}
+use Rattle.rd_marks.specs.Tree.{path_in}
+use Rattle.rd_marks.specs.TreeViews.{mark_tree}
+use Rattle.rd_marks.proofs.MarkLemmas.{found_events, goto_missing, goto_done, goto_not_done}
+use Rattle.rd_marks.proofs.Sharing.{node_in, node_run}
 use Rattle.rd_marks.proofs.books.Book.goto_mark.Goals as goal
 
 pub switch_to-requires : goal.switch_to-requires
-switch_to-requires g c = (
-  lit< tt,
-  subst (λ (xs : List Entry). IsRecordOfRun g.row.R (state c.args.self.now.session).start xs) (sym c.as_slice.ensures.value)
-      (found_holds c.args.name (λ xs. IsRecordOfRun g.row.R (state c.args.self.now.session).start xs) c.args.self.now.marks.entries c.in-Some.records.now
-      c.args.self.now.kept.runs (sym c.in-Some.ensures.value)),
-)
+switch_to-requires g c =
+    let t = mark_tree c.args.self.now.tree in (
+      lit< tt,
+      (
+        node_in t c.args.name c.args.self.now.marks.entries c.in-Some.node.now (sym c.in-Some.ensures.value) c.args.self.now.kept.present,
+        node_run g.row.R (state c.args.self.now.session).start t c.args.name c.args.self.now.marks.entries c.in-Some.node.now (sym c.in-Some.ensures.value)
+            c.args.self.now.kept.runs,
+      ),
+    )
 
 pub returns-in-None-clause-err : goal.returns-in-None-clause-err
 returns-in-None-clause-err g c =
-    inl (goto_missing (book_state c.args.self.now) c.args.name (found_events c.args.name c.args.self.now.marks.entries None (sym c.in-None.ensures.value)))
+    inl (goto_missing (book_state c.args.self.now) c.args.name
+    (found_events (mark_tree c.args.self.now.tree) c.args.name c.args.self.now.marks.entries None (sym c.in-None.ensures.value)))
 
 pub returns-in-Some-clause-ok : goal.returns-in-Some-clause-ok
 returns-in-Some-clause-ok g c =
-    goto_done c.switch_to.result (book_state c.args.self.now) c.args.name (events c.as_slice.result.now) (state c.switch_to.new.session)
-    (as_found c.args.name c.args.self.now.marks.entries c.in-Some.records.now c.as_slice.result.now (sym c.in-Some.ensures.value) c.as_slice.ensures.value)
-    c.switch_to.ensures.ok
+    let t = mark_tree c.args.self.now.tree in
+    goto_done c.switch_to.result (book_state c.args.self.now) c.args.name (events (path_in t c.in-Some.node.now)) (state c.switch_to.new.session)
+    (found_events t c.args.name c.args.self.now.marks.entries (Some c.in-Some.node.now) (sym c.in-Some.ensures.value)) c.switch_to.ensures.ok
 
 pub returns-in-Some-clause-err : goal.returns-in-Some-clause-err
 returns-in-Some-clause-err g c =
-    goto_not_done c.switch_to.result (book_state c.args.self.now) c.args.name (events c.as_slice.result.now)
-    (as_found c.args.name c.args.self.now.marks.entries c.in-Some.records.now c.as_slice.result.now (sym c.in-Some.ensures.value) c.as_slice.ensures.value)
-    c.switch_to.ensures.err c.switch_to.ensures.succeeds
+    let t = mark_tree c.args.self.now.tree in
+    goto_not_done c.switch_to.result (book_state c.args.self.now) c.args.name (events (path_in t c.in-Some.node.now))
+    (found_events t c.args.name c.args.self.now.marks.entries (Some c.in-Some.node.now) (sym c.in-Some.ensures.value)) c.switch_to.ensures.err c.switch_to.ensures.succeeds
