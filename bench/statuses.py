@@ -113,19 +113,33 @@ def full_device(program: str) -> bool:
         return fails_to_write(program, full)
 
 
+def table_of(lines: str, replies: list) -> str:
+    """The table of a page, with each line of a script beside its reply."""
+    pairs = zip(lines.splitlines(), replies, strict=True)
+    return "\n| Line | Reply |\n|---|---|\n" + "".join(f"| `{line}` | `{reply}` |\n" for line, reply in pairs) + "\n"
+
+
+def replies_of_two(program: str, scripts: list) -> list:
+    """What `view` answers to the lines of two viewers, the replies to each."""
+    ended = subprocess.run([program, "view", *scripts], capture_output=True, text=True, check=True)
+    first, second = ended.stdout.removeprefix("viewer 1\n").split("viewer 2\n")
+    return [first.splitlines(), second.splitlines()[:-1]]
+
+
 def lesson_is_as_its_page_says(program: str, page: Path) -> bool:
-    """Whether the replies to a lesson's script are those beside it on its page."""
+    """Whether the replies to a lesson's script are those beside it on its page; of two viewers, whether each line has one."""
     text = page.read_text(encoding="utf-8")
-    script = page.with_suffix(".script")
-    lines = script.read_text(encoding="ascii")
+    if "\nRun by two viewers.\n" in text:
+        scripts = [page.with_name(f"{page.stem}-{viewer}.script") for viewer in (1, 2)]
+        told = replies_of_two(program, scripts)
+        return [len(one) for one in told] == [len(script.read_text(encoding="ascii").splitlines()) for script in scripts]
+    lines = page.with_suffix(".script").read_text(encoding="ascii")
     if "\nRun over: " in text:
         words = ["load", str(page.with_suffix(".trace"))]
     else:
         words = ["run", "-", "--ring", "2" if "\nRun with: --ring 2\n" in text else "4"]
     ended = subprocess.run([program, *words], input=lines, capture_output=True, text=True, check=False)
-    pairs = zip(lines.splitlines(), ended.stdout.splitlines(), strict=True)
-    table = "".join(f"| `{line}` | `{reply}` |\n" for line, reply in pairs)
-    return ended.returncode == 0 and f"\n| Line | Reply |\n|---|---|\n{table}\n" in text
+    return ended.returncode == 0 and table_of(lines, ended.stdout.splitlines()) in text
 
 
 def main() -> int:
@@ -136,8 +150,8 @@ def main() -> int:
     checks += [(row[0], run_trace(program, row)) for row in TRACES]
     checks.append(("a closed pipe", closed_pipe(program)))
     checks.append(("a full device", full_device(program)))
-    for script in sorted(LESSONS.glob("*.script")):
-        checks.append((script.stem, lesson_is_as_its_page_says(program, script.with_suffix(".md"))))
+    for page in sorted(LESSONS.glob("[0-9]*.md")):
+        checks.append((page.stem, lesson_is_as_its_page_says(program, page)))
     for name, good in checks:
         print(f"{'ok  ' if good else 'WRONG'} {name}")
     return 0 if all(good for _, good in checks) else 1
