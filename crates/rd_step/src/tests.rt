@@ -2,6 +2,7 @@
 //! data.
 
 mod assembling;
+mod limits;
 mod rows;
 mod starts;
 mod touched;
