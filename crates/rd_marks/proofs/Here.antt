@@ -147,15 +147,13 @@ module _ (t u : MarkTree) (ms : List (MarkName × Option ℕ)) (key : ℕ) (rule
             let begins : Begins (path_in u up) (path_in t (Some key)) =
             subst (λ (xs : List Entry). Begins xs (path_in t (Some key))) (kept_path up up_in)
             (begins_with (path_in t up) (path_in t (Some key)) (found.0.entry ∷ [])
-            (path_there t rule key found.0 found.1 ∙ ap (λ (p : Option ℕ). path_in t p ++ found.0.entry ∷ []) (sym (parent_there t rule key found.0 found.1)))) in
-            (
+            (path_there t rule key found.0 found.1 ∙ ap (λ (p : Option ℕ). path_in t p ++ found.0.entry ∷ []) (sym (parent_there t rule key found.0 found.1)))) in (
               subst (λ (p : Option ℕ). IsIn u p) (sym (gone same)) up_in,
               subst (λ (p : Option ℕ). Begins (path_in u p) (path_in t stood)) (sym (gone same))
                   (subst (λ (p : Option ℕ). Begins (path_in u up) (path_in t p)) (sym same) begins),
             )
         | inr apart ↦
-            let left = still_in t u ms key rule is unused change stood apart stood_in in
-            (
+            let left = still_in t u ms key rule is unused change stood apart stood_in in (
               subst (λ (p : Option ℕ). IsIn u p) (sym (others apart)) left,
               subst (λ (p : Option ℕ). Begins (path_in u p) (path_in t stood)) (sym (others apart))
                   (subst (λ (xs : List Entry). Begins xs (path_in t stood)) (kept_path stood left) (begins_itself (path_in t stood))),

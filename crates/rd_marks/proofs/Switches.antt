@@ -10,7 +10,7 @@ use Rattle.rd_depend.specs.Beginnings.{Begins}
 use Rattle.rd_marks.specs.Tree.{MarkTree, IsIn, depth_in, path_in, IsTree, IsNew}
 use Rattle.rd_marks.proofs.TreeLemmas.{there, deep, depth_there, path_there, events_there, path_length, events_length, same_path}
 
-pub take_shorter : {X : Type 0} (n d : ℕ) (xs : List X) → n ≤ d → take n (take d xs) ≡ take n xs
+take_shorter : {X : Type 0} (n d : ℕ) (xs : List X) → n ≤ d → take n (take d xs) ≡ take n xs
 take_shorter zero d xs h = refl
 take_shorter (suc n) zero xs h = absurd (omega (arith, h))
 take_shorter (suc n) (suc d) [] h = refl

@@ -1,4 +1,4 @@
-use Rattle.std.proofs.Common.{refl}
+use Rattle.std.proofs.Common.{refl, arith}
 use Rattle.rd_journal.specs.Sessions.{journal, state}
 use Rattle.rd_journal.specs.State.{roll}
 use Rattle.rd_marks.specs.BookViews.{book_state}
@@ -20,7 +20,7 @@ invariant_of-self g c =
       stands =
           after_undo (mark_tree book.tree) book.tree.kept.tree c.roll-done.result book.here c.cut_back-self.result c.saturating_sub.result (journal book.session) (journal c.roll-done.new.self)
           book.stands c.cut_back-self.ensures.present c.cut_back-self.ensures.begins c.cut_back-self.ensures.ok c.roll-done.ensures.unchanged c.roll-done.ensures.records
-          (roll_leaves c.args.k c.saturating_sub.result (journal book.session) (journal c.roll-done.new.self) c.saturating_sub.ensures);
+          (roll_leaves c.args.k c.saturating_sub.result (journal book.session) (journal c.roll-done.new.self) (omega arith));
     }
 
 pub returns : goal.returns
