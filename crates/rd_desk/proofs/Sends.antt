@@ -99,7 +99,7 @@ pub tree_fields : IsSend (Tree.the_field).row
 tree_fields = search (node_send, sendable, crosses) depth 60 fits 100000
 
 pub book_fields : (R : RattleType) → IsSend (Book.the_field R).row
-book_fields R = struct_send (shape (Book.the_type R)) (session_fields R, (tree_fields, (search (name_send, sendable, crosses) depth 60 fits 100000, (search (sendable, crosses) depth 60 fits 100000, tt))))
+book_fields R = struct_send (shape (Book.the_type R)) (session_fields R, (tree_fields, (search (name_send, sendable, crosses) depth 60 fits 100000, (search (sendable, crosses) depth 60 fits 100000, (search (sendable, crosses) depth 60 fits 100000, tt)))))
 
 pub book_send : (R : RattleType) → IsSend (Book.the_row R)
 book_send R = recorded_send _ _ _ (Book.the_type R).to_one (book_fields R)

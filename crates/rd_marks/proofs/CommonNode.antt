@@ -59,13 +59,13 @@ module _ (t : MarkTree) (rule : IsTree t) (one other : Option ℕ) where
   }
 
   -- what a node's parent has of what the node has
-  record GoesUp (at : Option ℕ) : Type 0 where
-    up_in : IsIn t (parent_in t at)
-    shallower : depth_in t at ≡ suc (depth_in t (parent_in t at))
-    begins : (xs : List Entry) → Begins (path_in t at) xs → Begins (path_in t (parent_in t at)) xs
-    keeps : (es : List Event) → length es ≤ depth_in t (parent_in t at) → Begins es (events (path_in t at)) → Begins es (events (path_in t (parent_in t at)))
+  pub record GoesUp (at : Option ℕ) : Type 0 where
+    pub up_in : IsIn t (parent_in t at)
+    pub shallower : depth_in t at ≡ suc (depth_in t (parent_in t at))
+    pub begins : (xs : List Entry) → Begins (path_in t at) xs → Begins (path_in t (parent_in t at)) xs
+    pub keeps : (es : List Event) → length es ≤ depth_in t (parent_in t at) → Begins es (events (path_in t at)) → Begins es (events (path_in t (parent_in t at)))
 
-  goes_up : (at : Option ℕ) → IsIn t at → 1 ≤ depth_in t at → GoesUp at
+  pub goes_up : (at : Option ℕ) → IsIn t at → 1 ≤ depth_in t at → GoesUp at
   goes_up at is h =
       let found = deep t rule at is h in
       let key = found.0 in

@@ -14,3 +14,4 @@ pub mod Sharing
 pub mod Switches
 pub mod SameLemmas
 pub mod Counting
+pub mod Here

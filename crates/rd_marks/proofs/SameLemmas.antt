@@ -1,18 +1,20 @@
 -- Lists of which one begins the other are equivalent only if they are one.
-use Rattle.std.proofs.Common.{◌≡◌, ℕ, ◌⊎◌, inl, inr, Bool, nat_eq, refl, sym, ap, ◌∙◌, subst, List, [], ◌∷◌, ◌++◌, length, Option, length-append, arith}
+use Rattle.std.proofs.Common.{◌≡◌, ℕ, ◌⊎◌, inl, inr, Bool, false, true≢false, nat_eq, refl, sym, ap, ◌∙◌, subst, List, [], ◌∷◌, ◌++◌, length, take, drop, ◌-◌, Option, length-append, arith}
 use Rattle.std.specs.Option.{option_eq}
 use Rattle.rd_step.specs.Prelude.{World}
 use Rattle.rd_step.specs.Run.{events, IsRunFrom}
 use Rattle.rd_step.specs.Equivalence.{IsEquivalent}
 use Rattle.rd_step.specs.declared.entries.Event.{Event}
 use Rattle.rd_step.specs.declared.entries.Entry.{Entry}
-use Rattle.rd_depend.specs.Beginnings.{Begins}
+use Rattle.rd_depend.specs.Beginnings.{Begins, IsBegunByNeither}
 use Rattle.rd_depend.specs.Equivalence.{DecidesEquivalence}
-use Rattle.rd_marks.specs.Tree.{MarkTree, IsIn, path_in, IsTree}
+use Rattle.rd_depend.proofs.Exactness.{right_behind}
+use Rattle.rd_marks.specs.Tree.{MarkTree, IsIn, depth_in, path_in, IsTree}
 use Rattle.rd_marks.proofs.CommonNode.{begins_all}
 use Rattle.rd_marks.proofs.NodeLemmas.{same_option, one_option}
-use Rattle.rd_marks.proofs.RecordLemmas.{began}
-use Rattle.rd_marks.proofs.TreeLemmas.{same_path}
+use Rattle.rd_marks.proofs.RecordLemmas.{began, to_the_end}
+use Rattle.rd_marks.proofs.Switches.{begins_shorter}
+use Rattle.rd_marks.proofs.TreeLemmas.{same_path, path_length}
 use Rattle.std.proofs.lemmas.List.{length-map}
 
 -- equivalent lists are equally long
@@ -62,3 +64,26 @@ module _ (t : MarkTree) (rule : IsTree t) (one other : Option ℕ) (one_in : IsI
           | inr is ↦ tested ∙ one_option one other (other_node (subst (λ (at : Option ℕ). Begins (path_in t at) (path_in t one)) is first) long)
         ]),
   )
+
+  -- two nodes that meet at neither of them
+  pub neither_begins : (c : Option ℕ) → option_eq nat_eq c one ≡ false → option_eq nat_eq c other ≡ false
+      → (Begins (events (path_in t one)) (events (path_in t other)) → c ≡ one) → (Begins (events (path_in t other)) (events (path_in t one)) → c ≡ other)
+      → IsBegunByNeither (events (path_in t one)) (events (path_in t other))
+  neither_begins c no_one no_other first second = (
+    λ h. true≢false (sym (one_option c one (first h)) ∙ no_one),
+    λ h. true≢false (sym (one_option c other (second h)) ∙ no_other),
+  )
+
+  -- an answer for what is behind the node where they meet is one for the paths
+  pub decided_behind : (c : Option ℕ) (n : ℕ) (same : Bool) (xs ys : List Entry) → IsIn t c → n ≡ depth_in t c → Begins (path_in t c) (path_in t one)
+      → Begins (path_in t c) (path_in t other) → xs ≡ drop n (path_in t one) → ys ≡ drop n (path_in t other) → DecidesEquivalence xs ys same
+      → DecidesEquivalence (path_in t one) (path_in t other) same
+  decided_behind c n same xs ys c_in its first second ones others decided =
+      let long : length (path_in t c) ≡ n = path_length t rule c c_in ∙ sym its in
+      let in_first = begins_shorter (path_in t c) (path_in t one) first in
+      let in_second = begins_shorter (path_in t c) (path_in t other) second in
+      let alike : take n (path_in t one) ≡ take n (path_in t other) =
+      ap (λ (m : ℕ). take m (path_in t one)) (sym long) ∙ first ∙ sym second ∙ ap (λ (m : ℕ). take m (path_in t other)) long in
+      right_behind (path_in t one) (path_in t other) n same (omega (arith, in_first, long)) (omega (arith, in_second, long)) (ap events alike)
+      (subst (λ (zs : List Entry). DecidesEquivalence zs (take (length (path_in t other) - n) (drop n (path_in t other))) same) (ones ∙ sym (to_the_end n (path_in t one)))
+      (subst (λ (zs : List Entry). DecidesEquivalence xs zs same) (others ∙ sym (to_the_end n (path_in t other))) decided))

@@ -106,7 +106,7 @@ module _ (t u : MarkTree) (ms : List (MarkName × Option ℕ)) (key : ℕ) (rule
   pub no_child_there : HasChild t (Some key) → ⊥
   no_child_there h = unused (inl h)
 
-  still_in : (at : Option ℕ) → (at ≡ Some key → ⊥) → IsIn t at → IsIn u at
+  pub still_in : (at : Option ℕ) → (at ≡ Some key → ⊥) → IsIn t at → IsIn u at
   still_in None apart h = refl
   still_in (Some k) apart h = ap is_some (change.others k (λ e. apart (ap (λ (x : ℕ). Some x) e))) ∙ h
 

@@ -5,12 +5,14 @@ use Rattle.std.specs.Option.{option_eq}
 use Rattle.std.specs.List.{All, list_any}
 use Rattle.slab.specs.Slab.{Slab}
 use Rattle.rd_step.specs.Prelude.{World, MOST_STEPS}
+use Rattle.rd_step.specs.declared.entries.Event.{Event}
 use Rattle.rd_step.specs.declared.entries.Entry.{Entry}
-use Rattle.rd_journal.specs.Journal.{IsRunFrom}
+use Rattle.rd_depend.specs.Beginnings.{Begins}
+use Rattle.rd_journal.specs.Journal.{events, IsRunFrom}
 use Rattle.rd_marks.specs.declared.names.MarkName.{MarkName}
 use Rattle.rd_marks.specs.declared.tree.Node.{Node}
 use Rattle.rd_marks.specs.NameBytes.{MOST_MARKS}
-use Rattle.rd_marks.specs.Tree.{TreeNode, IsIn, path_in}
+use Rattle.rd_marks.specs.Tree.{TreeNode, MarkTree, IsIn, path_in}
 use Rattle.rd_marks.specs.TreeLayout.{tree_of}
 
 -- the records are those of the run of their events from the start, no more than may be live
@@ -38,3 +40,8 @@ pub record KeepsMarks (R : ℕ) (start : World) (nodes : Slab Node) (marks : Lis
   pub present : All (λ m. IsIn (tree_of nodes) m.1) marks
   pub runs : All (λ m. IsRecordOfRun R start (path_in (tree_of nodes) m.1)) marks
   pub used : (key : ℕ) (n : TreeNode) → tree_of nodes key ≡ Some n → (has_child nodes (Some key) || has_mark marks (Some key)) ≡ true
+
+-- where the live steps stand in the tree: at a node, the events of whose path begin them
+pub record IsHere (t : MarkTree) (here : Option ℕ) (live : List Event) : Type 0 where
+  pub present : IsIn t here
+  pub begins : Begins (events (path_in t here)) live

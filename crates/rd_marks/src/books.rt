@@ -14,7 +14,8 @@ mod queries;
 ghost use Rattle.std.specs.Prelude.{◌≡◌, ◌⊎◌, [], length, Ok, Err, OnOk, OnErr, IfOk, IfErr, IsOk};
 ghost use Rattle.rd_cell.specs.declared.refusal.Refusal.TheVariants.{NoMemory};
 ghost use Rattle.rd_journal.specs.Sessions.{state, journal};
-ghost use Rattle.rd_marks.specs.Layout.{KeepsMarks};
+ghost use Rattle.rd_marks.specs.Layout.{KeepsMarks, IsHere};
+ghost use Rattle.rd_marks.specs.TreeViews.{mark_tree};
 
 use super::marks::{are_same, is_marked, prune, put_mark, switch_to};
 use super::names::MarkName;
@@ -32,8 +33,12 @@ pub struct Book<const R: usize> {
     tree: Tree,
     /// The node of each bookmark, whose path has the records of its steps.
     marks: IndexMap<MarkName, Option<usize>>,
+    /// Where the live steps stand in the tree: a node whose path begins them. Setting a bookmark and going to one begin there, and not
+    /// at the root.
+    here: Option<usize>,
     alloc: Global,
     ghost kept: { KeepsMarks R (state session).start tree.nodes marks.entries },
+    ghost stands: { IsHere (mark_tree tree) here (state session).live },
 }
 
 impl<const R: usize> Book<R> {
@@ -50,6 +55,7 @@ impl<const R: usize> Book<R> {
             session,
             tree: Tree::new(alloc),
             marks: IndexMap::new(alloc),
+            here: None,
             alloc,
         }
     }
@@ -79,7 +85,13 @@ impl<const R: usize> Book<R> {
         if self.marks.len() == MOST_MARKS {
             return Err(Refusal::TooManyMarks);
         }
-        match put_mark(&mut self.tree, &mut self.marks, &self.session, name) {
+        match put_mark(
+            &mut self.tree,
+            &mut self.marks,
+            &mut self.here,
+            &self.session,
+            name,
+        ) {
             Err(_) => Err(Refusal::NoMemory),
             Ok(()) => Ok(()),
         }
@@ -100,7 +112,7 @@ impl<const R: usize> Book<R> {
         };
         let node = *node;
         let _gone = self.marks.shift_remove(&name);
-        prune(&mut self.tree, &self.marks, node);
+        prune(&mut self.tree, &self.marks, &mut self.here, node);
         Ok(())
     }
 
@@ -118,10 +130,13 @@ impl<const R: usize> Book<R> {
             ⊎ ((refusal ≡ Refusal.NoMemory) × MakesSteps (book_state self.old) name)) }
         ensures unchanged { OnErr result (book_state self.new ≡ book_state self.old) }
     {
-        match self.marks.get(&name) {
-            None => Err(Refusal::NoMark),
-            Some(node) => switch_to(&mut self.session, &self.tree, self.alloc, *node),
-        }
+        let Some(node) = self.marks.get(&name) else {
+            return Err(Refusal::NoMark);
+        };
+        let node = *node;
+        switch_to(&mut self.session, &self.tree, self.alloc, self.here, node)?;
+        self.here = node;
+        Ok(())
     }
 
     /// Whether the steps of two bookmarks are causally equivalent: one list is the other up to the order of steps that do not

@@ -2,6 +2,7 @@
 
 ghost use Rattle.std.specs.Prelude.{◌≡◌, Ok, Err, OnOk, IfErr};
 
+use super::super::marks::cut_back;
 use super::super::replies::Reply;
 use super::Book;
 use rd_cell::Refusal;
@@ -28,6 +29,7 @@ impl<const R: usize> Book<R> {
         ensures { record { answer = result; state = book_state self.new } ≡ move_answer (book_state self.old) (undo (book_state self.old).session) }
     {
         let done = self.session.undo();
+        self.here = cut_back(&self.tree, self.here, &done, self.session.len());
         self.counts_after(done)
     }
 
@@ -36,6 +38,7 @@ impl<const R: usize> Book<R> {
         ensures { record { answer = result; state = book_state self.new } ≡ move_answer (book_state self.old) (undo_at R (book_state self.old).session k) }
     {
         let done = self.session.undo_at(k);
+        self.here = cut_back(&self.tree, self.here, &done, k.saturating_sub(1));
         self.counts_after(done)
     }
 
@@ -45,6 +48,7 @@ impl<const R: usize> Book<R> {
         ensures { record { answer = result; state = book_state self.new } ≡ move_answer (book_state self.old) (roll R (book_state self.old).session k) }
     {
         let done = self.session.roll(k);
+        self.here = cut_back(&self.tree, self.here, &done, k.saturating_sub(1));
         self.counts_after(done)
     }
 
@@ -53,6 +57,7 @@ impl<const R: usize> Book<R> {
         ensures { record { answer = result; state = book_state self.new } ≡ move_answer (book_state self.old) (back (book_state self.old).session n) }
     {
         let done = self.session.back(n);
+        self.here = cut_back(&self.tree, self.here, &done, self.session.len());
         self.counts_after(done)
     }
 

@@ -72,6 +72,42 @@ const AFTER_UNDOS: [(Line, u64); 21] = [
     (Line::Mark(b'g'), 8),
 ];
 
+/// Bookmarks that are set and gone to after each way to undo, and after the bookmark has gone at which the live steps stood.
+const WHERE_STEPS_STAND: [(Line, u64); 32] = [
+    (Line::Does(Command::Enq(1, 7)), 0),
+    (Line::Does(Command::Deq(2)), 0),
+    (Line::Does(Command::Go(1)), 0),
+    (Line::Does(Command::Go(2)), 0),
+    (Line::Mark(b'a'), 4),
+    (Line::Does(Command::Undo), 4),
+    (Line::Mark(b'b'), 4),
+    (Line::Does(Command::Redo), 4),
+    (Line::Mark(b'c'), 4),
+    (Line::Does(Command::Back(2)), 4),
+    (Line::Does(Command::Go(2)), 4),
+    (Line::Does(Command::Go(1)), 4),
+    (Line::Mark(b'd'), 6),
+    (Line::Does(Command::UndoAt(3)), 6),
+    (Line::Mark(b'e'), 6),
+    (Line::Goto(b'd'), 6),
+    (Line::Does(Command::Roll(2)), 6),
+    (Line::Mark(b'f'), 7),
+    (Line::Goto(b'a'), 7),
+    (Line::Drop(b'a'), 7),
+    (Line::Drop(b'c'), 6),
+    (Line::Mark(b'g'), 7),
+    (Line::Goto(b'f'), 7),
+    (Line::Goto(b'b'), 7),
+    (Line::Does(Command::Undo), 7),
+    (Line::Drop(b'b'), 7),
+    (Line::Drop(b'g'), 6),
+    (Line::Drop(b'e'), 5),
+    (Line::Drop(b'd'), 2),
+    (Line::Drop(b'f'), 0),
+    (Line::Does(Command::Redo), 0),
+    (Line::Mark(b'h'), 3),
+];
+
 /// Three bookmarks: two share two steps, and the third is at three steps of the first.
 const THREE: [(Line, u64); 12] = [
     (Line::Does(Command::Enq(1, 7)), 0),
@@ -143,6 +179,9 @@ fn a_step_that_bookmarks_share_is_kept_once(rt: HostRuntime) -> Result<(), Fail>
     let session = Session::open(rt.alloc(), World::<4>::fresh(rt.alloc(), 4)?);
     let mut book = Book::open(rt.alloc(), session);
     count(&rt, &mut book, "after undos", &AFTER_UNDOS);
+    let session = Session::open(rt.alloc(), World::<4>::fresh(rt.alloc(), 4)?);
+    let mut book = Book::open(rt.alloc(), session);
+    count(&rt, &mut book, "where steps stand", &WHERE_STEPS_STAND);
     Ok(())
 }
 

@@ -1,6 +1,6 @@
 //! Walks up and down the tree.
 
-ghost use Rattle.std.specs.Prelude.{◌≡◌, ◌≤◌, ◌+◌, ◌++◌, length, take, drop, IfOk, IsOk};
+ghost use Rattle.std.specs.Prelude.{◌≡◌, ◌≤◌, ◌+◌, ◌++◌, length, take, drop, min, IfOk, IsOk};
 ghost use Rattle.rd_step.specs.Prelude.{MOST_STEPS};
 ghost use Rattle.rd_step.specs.Run.{events};
 ghost use Rattle.rd_depend.specs.Beginnings.{Begins};
@@ -48,6 +48,20 @@ impl Tree {
         let mut at = from;
         for index in 0..records.len() {
             at = Some(self.add(at, records[index]));
+        }
+        at
+    }
+
+    /// The deepest node on the way from the root to this one whose path has no more than `n` records.
+    pub(crate) fn ancestor(&self, from: Option<usize>, n: usize) -> Option<usize>
+        requires present { IsIn (mark_tree self.now) from }
+        ensures present { IsIn (mark_tree self.now) result }
+        ensures begins { Begins (path_in (mark_tree self.now) result) (path_in (mark_tree self.now) from) }
+        ensures depth { depth_in (mark_tree self.now) result ≡ min n (depth_in (mark_tree self.now) from) }
+    {
+        let mut at = from;
+        while self.depth(at) > n {
+            at = self.parent(at);
         }
         at
     }

@@ -9,6 +9,7 @@ use Rattle.rd_marks.specs.Layout.{IsRecordOfRun}
 use Rattle.rd_marks.specs.Marks.{marks_of}
 use Rattle.rd_marks.specs.Tree.{MarkTree, IsIn, IsNew, depth_in, path_in}
 use Rattle.rd_marks.specs.TreeViews.{mark_tree}
+use Rattle.rd_marks.proofs.Here.{within_at, begins_at, stands_at, stands_in}
 use Rattle.rd_marks.proofs.TreeLemmas.{path_length}
 use Rattle.rd_marks.proofs.RecordLemmas.{to_the_end}
 use Rattle.rd_marks.proofs.MarkLemmas.{entries_put}
@@ -24,6 +25,22 @@ pub returns-in_err-reserve-2-clause-kept : goal.returns-in_err-reserve-2-clause-
 returns-in_err-reserve-2-clause-kept g c =
     kept_in g.row.R (state c.args.session.now).start c.args.tree.now.nodes c.reserve.new.self.nodes c.args.marks.now.entries c.reserve-2.new.self.entries
     c.reserve.ensures.nodes c.reserve-2.ensures.entries c.requires.kept
+
+pub follow-beginning-requires-clause-within : goal.follow-beginning-requires-clause-within
+follow-beginning-requires-clause-within g c =
+    within_at (mark_tree c.args.tree.now) c.args.tree.now.kept.tree c.args.here.now c.live-live.result.now (state c.args.session.now).live c.live-live.ensures.events c.requires.here
+
+pub follow-beginning-requires-clause-begins : goal.follow-beginning-requires-clause-begins
+follow-beginning-requires-clause-begins g c =
+    begins_at (mark_tree c.args.tree.now) c.args.tree.now.kept.tree c.args.here.now c.live-live.result.now (state c.args.session.now).live c.live-live.ensures.events c.requires.here
+
+pub returns-in_err-reserve-clause-here : goal.returns-in_err-reserve-clause-here
+returns-in_err-reserve-clause-here g c =
+    stands_in (mark_tree c.args.tree.now) (mark_tree c.reserve.new.self) c.args.here.now (state c.args.session.now).live c.reserve.ensures.nodes c.requires.here
+
+pub returns-in_err-reserve-2-clause-here : goal.returns-in_err-reserve-2-clause-here
+returns-in_err-reserve-2-clause-here g c =
+    stands_in (mark_tree c.args.tree.now) (mark_tree c.reserve.new.self) c.args.here.now (state c.args.session.now).live c.reserve.ensures.nodes c.requires.here
 
 pub grow-node-requires-clause-new : goal.grow-node-requires-clause-new
 grow-node-requires-clause-new g c =
@@ -87,3 +104,24 @@ returns-clause-kept g c =
     kept_with g.row.R w c.reserve.new.self.nodes c.grow-node.new.self.nodes c.args.name node ms es entries c.requires.few
     (kept_in g.row.R w c.args.tree.now.nodes c.reserve.new.self.nodes ms ms nodes refl c.requires.kept) c.reserve.new.self.kept.tree c.grow-node.ensures.kept
     c.grow-node.ensures.used c.grow-node.ensures.present (subst (λ (xs : List Entry). IsRecordOfRun g.row.R w xs) (sym whole) run)
+
+pub returns-clause-here : goal.returns-clause-here
+returns-clause-here g c =
+    let w = (state c.args.session.now).start in
+    let t = mark_tree c.args.tree.now in
+    let between = mark_tree c.reserve.new.self in
+    let u = mark_tree c.grow-node.new.self in
+    let ms = c.args.marks.now.entries in
+    let live = c.live-live.result.now in
+    let b = c.follow-beginning.result in
+    let node = c.grow-node.result in
+    let rule = c.args.tree.now.kept.tree in
+    let nodes = c.reserve.ensures.nodes in
+    let kept = keeps g.row.R w c.args.tree.now.nodes ms c.requires.kept in
+    let run : IsRecordOfRun g.row.R w live = record { few = c.live-live.ensures.few; ran = c.live-live.ensures.run } in
+    let whole : path_in u node ≡ live =
+    c.grow-node.ensures.path ∙ ap (λ (v : MarkTree). path_in v b ++ take (length live - c.depth.result) (drop c.depth.result live)) nodes
+    ∙ whole_path g.row.R w (path_in t b) live (take (length live - c.depth.result) (drop c.depth.result live)) (depth_in t b)
+    (node_runs t rule ms kept.used g.row.R w kept.runs b c.follow-beginning.ensures.present) run (path_length t rule b c.follow-beginning.ensures.present)
+    c.follow-beginning.ensures.begins (to_the_end c.depth.result live ∙ ap (λ (n : ℕ). drop n live) c.depth.ensures) in
+    stands_at u node (state c.args.session.now).live c.grow-node.ensures.present (ap events whole ∙ c.live-live.ensures.events)

@@ -6,10 +6,19 @@ use Rattle.rd_journal.specs.Journal.{events}
 use Rattle.rd_journal.specs.Sessions.{journal, state}
 use Rattle.rd_marks.specs.Tree.{depth_in, path_in}
 use Rattle.rd_marks.specs.TreeViews.{mark_tree}
+use Rattle.rd_marks.proofs.Here.{within_at, begins_at}
 use Rattle.rd_marks.proofs.TreeLemmas.{path_length}
 use Rattle.rd_marks.proofs.RecordLemmas.{switched, may_switch, few_enough}
 use Rattle.rd_marks.proofs.Switches.{common_depth, common_events, reached}
 use Rattle.rd_marks.proofs.marks.switch_to.Goals as goal
+
+pub follow-beginning-requires-clause-within : goal.follow-beginning-requires-clause-within
+follow-beginning-requires-clause-within g c =
+    within_at (mark_tree c.args.tree.now) c.args.tree.now.kept.tree c.args.here c.live.result.now (state c.args.session.now).live c.live.ensures.events c.requires.here
+
+pub follow-beginning-requires-clause-begins : goal.follow-beginning-requires-clause-begins
+follow-beginning-requires-clause-begins g c =
+    begins_at (mark_tree c.args.tree.now) c.args.tree.now.kept.tree c.args.here c.live.result.now (state c.args.session.now).live c.live.ensures.events c.requires.here
 
 pub records-requires-clause-within : goal.records-requires-clause-within
 records-requires-clause-within g c =

@@ -2,17 +2,25 @@ use Rattle.std.proofs.Common.{refl}
 use Rattle.rd_journal.specs.Sessions.{journal, state}
 use Rattle.rd_journal.specs.State.{redo}
 use Rattle.rd_marks.specs.BookViews.{book_state}
+use Rattle.rd_marks.specs.TreeViews.{mark_tree}
 use Rattle.rd_marks.proofs.AnswerLemmas.{move_answered}
+use Rattle.rd_marks.proofs.Here.{after_redo, forward_leaves}
 use Rattle.rd_marks.proofs.Starts.{redo_start, start_stays, marks_stay}
 use Rattle.rd_marks.proofs.books.Book.answer_redo.Goals as goal
 
 pub invariant_of-self : goal.invariant_of-self
 invariant_of-self g c =
-    let old = state c.args.self.now.session in
+    let book = c.args.self.now in
+    let old = state book.session in
     let start =
     start_stays c.redo-done.result (journal c.args.self.now.session) (journal c.redo-done.new.self) (redo old)
     (redo_start old) c.redo-done.ensures.ok c.redo-done.ensures.unchanged in
-    record { kept = marks_stay g.row.R old.start (state c.redo-done.new.self).start c.args.self.now.tree.nodes c.args.self.now.marks.entries start c.args.self.now.kept }
+    record {
+      kept = marks_stay g.row.R old.start (state c.redo-done.new.self).start c.args.self.now.tree.nodes c.args.self.now.marks.entries start c.args.self.now.kept;
+      stands =
+          after_redo (mark_tree book.tree) c.redo-done.result book.here (journal book.session) (journal c.redo-done.new.self) book.stands c.redo-done.ensures.unchanged
+          c.redo-done.ensures.records (forward_leaves 1 (journal book.session) (journal c.redo-done.new.self));
+    }
 
 pub returns : goal.returns
 returns g c =

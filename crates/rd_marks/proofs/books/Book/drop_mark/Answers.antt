@@ -1,11 +1,13 @@
 use Rattle.std.proofs.Common.{◌≡◌, ◌∙◌, refl, sym, ap, subst, List, ℕ, Option, Some, None, All, is_some, true, Ok}
+use Rattle.rd_journal.specs.Journal.{events}
 use Rattle.rd_journal.specs.Sessions.{state}
 use Rattle.rd_marks.specs.declared.names.MarkName.{MarkName}
 use Rattle.rd_marks.specs.BookViews.{book_state}
 use Rattle.rd_marks.specs.Books.{marked_events, with_marks, Mark}
-use Rattle.rd_marks.specs.Tree.{IsIn}
+use Rattle.rd_marks.specs.Tree.{IsIn, path_in}
 use Rattle.rd_marks.specs.TreeViews.{mark_tree}
 use Rattle.rd_marks.specs.Uses.{AreUsedExcept}
+use Rattle.rd_marks.proofs.Here.{begins_trans, begins_events}
 use Rattle.rd_marks.proofs.MarkLemmas.{drop_goes, drop_missing, found_events, all_without}
 use Rattle.rd_marks.proofs.Sharing.{keeps, kept_without, node_in, used_without, marks_kept}
 use Rattle.rd_marks.proofs.books.Book.drop_mark.Goals as goal
@@ -36,6 +38,12 @@ invariant_of-self g c = record {
   kept =
       kept_without g.row.R (state c.args.self.now.session).start c.args.self.now.tree.nodes c.prune.new.tree.nodes c.args.name c.args.self.now.marks.entries
       c.shift_remove-gone.new.self.entries c.shift_remove-gone.ensures.entries c.args.self.now.kept c.prune.new.tree.kept.tree c.prune.ensures.part c.prune.ensures.marked c.prune.ensures.used;
+  stands = record {
+    present = c.prune.ensures.here;
+    begins =
+        begins_trans (events (path_in (mark_tree c.prune.new.tree) c.prune.new.here)) (events (path_in (mark_tree c.args.self.now.tree) c.args.self.now.here)) (state c.args.self.now.session).live
+        (begins_events (path_in (mark_tree c.prune.new.tree) c.prune.new.here) (path_in (mark_tree c.args.self.now.tree) c.args.self.now.here) c.prune.ensures.begins) c.args.self.now.stands.begins;
+  };
 }
 
 pub returns-clause-ok : goal.returns-clause-ok

@@ -22,7 +22,7 @@ returns-then-len-eq-MOST_MARKS-clause-err g c =
 pub put_mark-requires : goal.put_mark-requires
 put_mark-requires g c = (
   lit< tt,
-  (sym (c.is_marked.ensures (mark_tree c.args.self.now.tree)) ∙ c.if-is_marked.false, (omega (arith, c.args.self.now.kept.few), c.args.self.now.kept)),
+  (sym (c.is_marked.ensures (mark_tree c.args.self.now.tree)) ∙ c.if-is_marked.false, (omega (arith, c.args.self.now.kept.few), (c.args.self.now.kept, c.args.self.now.stands))),
 )
 
 pub returns-in-Err-clause-err : goal.returns-in-Err-clause-err
