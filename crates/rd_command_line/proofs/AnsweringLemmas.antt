@@ -1,20 +1,16 @@
 -- What was done with the scripts in files, for options and for words.
-use Rattle.std.proofs.Common.{◌≡◌, Bool, false, ℕ, List, codes, length, map, Option, Result, Ok, Vec, inl, inr, refl, subst, sym}
-use Rattle.std.specs.Prelude.{◌≢◌, IsErrAnd}
-use Rattle.std.specs.Borrow.{Bor}
+use Rattle.std.proofs.Common.{◌≡◌, Bool, false, ℕ, List, length, map, Option, Result, Ok, Vec, inl, inr, refl, subst, sym}
+use Rattle.std.specs.Prelude.{IsErrAnd}
 use Rattle.std.specs.Global.{Global}
 use Rattle.std.proofs.KnownBytes.{Keeps-refl}
 use Rattle.clap.specs.Walk.{Text}
 use Rattle.rd_script.specs.Script.{Devices}
-use Rattle.rd_trace.specs.Traces.{ring_length}
 use Rattle.rd_trace.specs.declared.rings.Ring.{Ring}
 use Rattle.rd_program.specs.declared.faults.ProgramFault.{ProgramFault}
 use Rattle.rd_program.specs.Program.{IsUnread, PlaysScript}
 use Rattle.rd_program.specs.Viewers.{Tellings, ViewsFresh}
 use Rattle.rd_program.proofs.ProgramLemmas.{fault_passed_up}
-use Rattle.rd_command_line.specs.declared.requests.Options.{Options}
-use Rattle.rd_command_line.specs.declared.requests.Options.TheVariants.{Run}
-use Rattle.rd_command_line.specs.Answering.{Answers, DoesOptions, HasOutcome, LeavesInput, PlaysFile, ViewsFiles}
+use Rattle.rd_command_line.specs.Answering.{Answers, HasOutcome, PlaysFile, ViewsFiles}
 
 -- the script in a file was played
 pub plays_file : (R actors : ℕ) (traced : Bool) (d : Devices) (r : Result ℕ ProgramFault) → PlaysScript R actors traced d r → PlaysFile R actors traced d.out_before d.out_after d.out_failed r
@@ -30,16 +26,6 @@ views_nothing tellings count ring actors output failed fault r is unread works =
 pub views_files : (tellings : Tellings) (count : ℕ) (ring : Ring) (actors : ℕ) (output output' : Option (List ℕ)) (failed : Bool) (r : Result ℕ ProgramFault) (scripts : List (Vec ℕ Global))
     → length scripts ≡ count → ViewsFresh tellings ring actors scripts output output' failed r → ViewsFiles tellings count ring actors output output' failed r
 views_files tellings count ring actors output output' failed r scripts same views = inr (scripts, same, views)
-
--- `run -` plays the script on the input
-pub does_run_input : (tellings : Tellings) (o : Options) (file : Bor Text) (actors : ℕ) (ring : Ring) (trace : Bool) (d : Devices) (r : Result ℕ ProgramFault)
-    → o ≡ Run file actors ring trace → file.now ≡ codes "-" → PlaysScript (ring_length ring) actors trace d r → DoesOptions tellings o d r
-does_run_input tellings o file actors ring trace d r is input plays = subst (λ asked. DoesOptions tellings asked d r) (sym is) (inl (input, plays))
-
--- `run` of another file plays that
-pub does_run_file : (tellings : Tellings) (o : Options) (file : Bor Text) (actors : ℕ) (ring : Ring) (trace : Bool) (d : Devices) (r : Result ℕ ProgramFault)
-    → o ≡ Run file actors ring trace → file.now ≢ codes "-" → LeavesInput d → PlaysFile (ring_length ring) actors trace d.out_before d.out_after d.out_failed r → DoesOptions tellings o d r
-does_run_file tellings o file actors ring trace d r is named leaves plays = subst (λ asked. DoesOptions tellings asked d r) (sym is) (inr (named, leaves, plays))
 
 -- what was done for words that could be taken
 pub has_outcome : (tellings : Tellings) {S : Type 0} (text : S → Text) (words : Result (Vec S Global) ProgramFault) (taken : Vec S Global) (slice : List S) (d : Devices) (r : Result ℕ ProgramFault)
