@@ -49,11 +49,15 @@ ViewsFiles tellings count ring actors output output' failed result =
 abbrev pub LeavesInput : Devices → Type 0
 LeavesInput d = Keeps d.in_before d.in_after × (d.in_failed ≡ false)
 
--- what was done for the options: `run` plays the script on the input if the file is `-`, else the file's
+-- the script on the input was played if the name is `-`, else the one in the file of this name, with the input left alone
+abbrev pub PlaysNamed : Text → ℕ → ℕ → Bool → Devices → Result ℕ ProgramFault → Type 0
+PlaysNamed name R actors traced d result =
+    ((name ≡ codes "-") × PlaysScript R actors traced d result)
+    ⊎ ((name ≢ codes "-") × LeavesInput d × PlaysFile R actors traced d.out_before d.out_after d.out_failed result)
+
+-- what was done for the options
 abbrev pub DoesOptions : Tellings → Options → Devices → Result ℕ ProgramFault → Type 0
-DoesOptions tellings (Run file actors ring trace) d result =
-    ((file.now ≡ codes "-") × PlaysScript (ring_length ring) actors trace d result)
-    ⊎ ((file.now ≢ codes "-") × LeavesInput d × PlaysFile (ring_length ring) actors trace d.out_before d.out_after d.out_failed result)
+DoesOptions tellings (Run file actors ring trace) d result = PlaysNamed file.now (ring_length ring) actors trace d result
 DoesOptions tellings (View files actors ring) d result =
     LeavesInput d × ViewsFiles tellings (length files.items) ring actors d.out_before d.out_after d.out_failed result
 DoesOptions tellings (Load file) d result = LoadsFile d result

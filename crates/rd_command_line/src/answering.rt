@@ -9,7 +9,7 @@ ghost use Rattle.rd_program.specs.Endings.{asks_for_output};
 ghost use Rattle.rd_program.specs.Program.{IsUnread};
 ghost use Rattle.rd_program.specs.Viewers.{by_ring};
 ghost use Rattle.rd_command_line.specs.Options.{AreInRange, MOST_FILES};
-ghost use Rattle.rd_command_line.specs.Answering.{Answers, DoesOptions, HasOutcome, IsFaultOf, LoadsFile, Performs, PlaysFile, ViewsFiles};
+ghost use Rattle.rd_command_line.specs.Answering.{Answers, DoesOptions, HasOutcome, IsFaultOf, LoadsFile, Performs, PlaysFile, PlaysNamed, ViewsFiles};
 
 use super::command_line::{not_text, options};
 use super::requests::{Options, OptionsFault};
@@ -112,23 +112,41 @@ fn do_options<R: Files + Threads + Wait + Sync, I: Source, O: Sink>(
 {
     match asked {
         Options::Run {
-            file: "-",
-            actors,
-            ring,
-            trace,
-        } => play(alloc, input, output, actors, ring, trace),
-        Options::Run {
             file,
             actors,
             ring,
             trace,
-        } => play_file(rt, alloc, file, output, actors, ring, trace),
+        } => play_named(rt, alloc, file, input, output, actors, ring, trace),
         Options::View {
             files,
             actors,
             ring,
         } => view_files(rt, alloc, files.as_slice(), output, actors, ring),
         Options::Load { file } => load_file(rt, alloc, file, input, output),
+    }
+}
+
+/// Runs the script on the input if the name is `-`, else the one in the file of this name.
+fn play_named<R: Files, I: Source, O: Sink>(
+    rt: &R,
+    alloc: Global,
+    name: &str,
+    input: &mut I,
+    output: &mut O,
+    actors: u8,
+    ring: Ring,
+    trace: bool,
+) -> Result<u64, ProgramFault>
+    requires input_works { I.has_failed input.old ≡ false }
+    requires output_works { O.has_failed output.old ≡ false }
+    requires some { 1 ≤ actors }
+    requires few { actors ≤ 16 }
+    ensures { PlaysNamed name.now (ring_length ring) actors trace
+        (devices I.Source O.Sink input.old input.new output.old output.new) result }
+{
+    match name {
+        "-" => play(alloc, input, output, actors, ring, trace),
+        _ => play_file(rt, alloc, name, output, actors, ring, trace),
     }
 }
 
