@@ -92,8 +92,11 @@ records_fields = search (entry_send, sendable, crosses) depth 60 fits 100000
 pub session_fields : (R : RattleType) → IsSend (Session.the_field R).row
 session_fields R = struct_send (shape (Session.the_type R)) (world_fields R, (records_fields, tt))
 
+pub node_fields : IsSend (Node.the_field).row
+node_fields = struct_send (shape Node.the_type) (entry_fields, (search (sendable, crosses) depth 60 fits 100000, (search (sendable, crosses) depth 60 fits 100000, (search (sendable, crosses) depth 60 fits 100000, tt))))
+
 pub node_send : IsSend Node.the_row
-node_send = search (entry_send, sendable, crosses) depth 60 fits 100000
+node_send = recorded_send _ _ _ (Node.the_type).to_one node_fields
 
 pub tree_fields : IsSend (Tree.the_field).row
 tree_fields = search (node_send, sendable, crosses) depth 60 fits 100000
