@@ -6,6 +6,7 @@ mod lists;
 mod long_runs;
 mod origins;
 mod sharing;
+mod slots;
 
 use super::books::Book;
 use super::commands::Command;
