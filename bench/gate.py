@@ -50,7 +50,8 @@ def look():
             folder = os.readlink(f"/proc/{number}/cwd")
         except OSError:
             folder = ""
-        seconds = (int(fields[11]) + int(fields[12])) / tick
+        # its own time, and that of the processes that it started and that have ended
+        seconds = sum(map(int, fields[11:15])) / tick
         found[number, fields[19]] = [seconds, int(peak[1]) if peak else 0, folder, re.sub(r"[\0\t\n]", " ", words)]
     return found
 

@@ -1,5 +1,5 @@
 -- Lists that a loop makes, one element behind another.
-use Rattle.std.proofs.Common.{◌≡◌, ◌∙◌, ℕ, suc, ◌+◌, ◌<◌, List, [], ◌∷◌, ◌++◌, map, take, length, get_or, refl, sym, ap, append_assoc, add-one}
+use Rattle.std.proofs.Common.{◌≡◌, ◌∙◌, ℕ, suc, ◌+◌, ◌<◌, List, [], ◌∷◌, ◌++◌, take, length, get_or, refl, sym, ap, add-one}
 use Rattle.std.proofs.Math.Seq.{take-suc}
 use Rattle.rd_desk.specs.declared.viewers.Ran.{Ran}
 use Rattle.rd_desk.specs.declared.viewers.Ran.TheVariants.{Answered, NoMemory as NotStarted}

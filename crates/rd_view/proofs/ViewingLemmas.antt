@@ -1,13 +1,12 @@
 -- What passes know after a chain of calls, and how that stands to the history that leaves the desk.
-use Rattle.std.proofs.Common.{◌≡◌, ◌∙◌, ℕ, zero, suc, ◌+◌, List, [], ◌∷◌, ◌++◌, Option, Some, None, Result, Ok, Err, Vec, map, drop, length, slice_index_or, arith, refl, sym, ap, subst, append_assoc}
+use Rattle.std.proofs.Common.{◌≡◌, ◌∙◌, ℕ, zero, suc, List, [], ◌∷◌, ◌++◌, Result, Ok, Err, Vec, map, drop, length, slice_index_or, arith, refl, sym, ap, subst, append_assoc}
 use Rattle.std.specs.Global.{Global}
 use Rattle.std.proofs.lemmas.List.{append-nil, map-append}
-use mathlib.Core.List.{IsPrefix}
 use Rattle.rd_step.specs.Prelude.{Refusal}
 use Rattle.rd_lock.specs.declared.views.Recorded.{Ghosts}
 use Rattle.rd_lock.specs.declared.passes.Pass.{Pass}
 use Rattle.rd_lock.specs.Histories.{Every, named, numbers}
-use Rattle.rd_lock.specs.Locks.{number, seen, own}
+use Rattle.rd_lock.specs.Locks.{number, own}
 use Rattle.rd_marks.specs.Books.{BookState}
 use Rattle.rd_marks.specs.declared.books.Book.{Book}
 use Rattle.rd_marks.specs.declared.commands.Command.{Command}
@@ -25,7 +24,7 @@ use Rattle.rd_desk.specs.Desks.{IsViewerOf, IsNewViewer, Tells, opened_state}
 use Rattle.rd_desk.specs.Histories.{entries}
 use Rattle.rd_desk.specs.Viewers.{Pairs, IsChain, IsRan}
 use Rattle.rd_script.specs.declared.faults.LineFault.{LineFault}
-use Rattle.rd_view.specs.Viewing.{commands_of, calls_of, passes_of, told_of, WasAnswered, IsAnswered, AreAnswered}
+use Rattle.rd_view.specs.Viewing.{commands_of, calls_of, passes_of, told_of, WasAnswered, AreAnswered}
 
 -- no list is one with an element before it
 no_cons : {A : Type 0} (x : A) (xs : List A) → [] ≡ x ∷ xs → ⊥

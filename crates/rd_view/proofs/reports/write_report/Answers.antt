@@ -1,4 +1,4 @@
-use Rattle.std.proofs.Common.{◌≡◌, ◌∙◌, ◌++◌, ◌+◌, Ok, arith, sym, subst, drop, ltb-true, ltb-false}
+use Rattle.std.proofs.Common.{◌≡◌, ◌++◌, ◌+◌, arith, sym, subst, drop, ltb-true, ltb-false}
 use Rattle.rd_script.specs.Replies.{text_of}
 use Rattle.rd_view.specs.Views.{report_text}
 use Rattle.rd_view.proofs.ReportLemmas.{GoesOn, begins, goes_on, stops, is_whole, no_lines, fault_next, answer_next, no_answer}

@@ -1,4 +1,4 @@
-use Rattle.std.proofs.Common.{◌≡◌, ◌∙◌, ◌++◌, ◌+◌, List, ℕ, arith, ap, sym, subst, drop}
+use Rattle.std.proofs.Common.{◌+◌, arith, subst, drop}
 use Rattle.rd_script.specs.declared.writing.headings.Heading.TheVariants.{History}
 use Rattle.rd_script.specs.Headings.{heading_text}
 use Rattle.std.specs.Io.KnownBytes.{Appends}

@@ -1,4 +1,4 @@
-use Rattle.std.proofs.Common.{◌≡◌, ◌∙◌, ◌++◌, ◌∷◌, [], Some, None, ap, sym, map}
+use Rattle.std.proofs.Common.{◌∙◌, ◌++◌, ◌∷◌, [], Some, None, ap, sym, map}
 use Rattle.std.proofs.lemmas.List.{append-nil, map-append}
 use Rattle.rd_view.specs.Viewing.{passes_of, told_of}
 use Rattle.rd_view.proofs.GatherLemmas.{one_ran_more}

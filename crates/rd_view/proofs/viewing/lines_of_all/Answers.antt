@@ -1,4 +1,4 @@
-use Rattle.std.proofs.Common.{◌++◌, ◌∷◌, [], arith, sym, subst, take}
+use Rattle.std.proofs.Common.{◌++◌, ◌∷◌, [], arith, subst, take}
 use Rattle.rd_script.specs.Lines.{lines_of, AreSaid}
 use Rattle.rd_view.specs.Viewing.{AreRead}
 use Rattle.rd_view.proofs.GatherLemmas.{one_pair_more, taken_with}

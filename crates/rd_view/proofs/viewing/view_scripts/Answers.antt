@@ -1,4 +1,4 @@
-use Rattle.std.proofs.Common.{◌≡◌, ◌∙◌, arith, sym, ap, length, refl, subst}
+use Rattle.std.proofs.Common.{◌≡◌, ◌∙◌, arith, sym, ap, length, subst}
 use denote.Param.{number as number_of}
 use Rattle.std.specs.Io.KnownBytes.{Appends}
 use Rattle.rd_marks.specs.BookViews.{book_state}
