@@ -36,6 +36,6 @@ pub add-again-requires-clause-new : goal.add-again-requires-clause-new
 add-again-requires-clause-new g c =
     none_by (mark_tree c.reserve-2.new.self) None _
     (λ k.
-        ap (λ (t : MarkTree). t k) c.reserve-2.ensures.nodes
-        ∙ none_left (mark_tree c.reserve.new.self) (mark_tree c.add-key.new.self) (mark_tree c.remove.new.self) c.add-key.result _
-        (λ key. ap (λ (t : MarkTree). t key) c.reserve.ensures.nodes ∙ c.new-tree.ensures.empty key) c.add-key.ensures.put c.remove.ensures.taken k)
+    ap (λ (t : MarkTree). t k) c.reserve-2.ensures.nodes
+    ∙ none_left (mark_tree c.reserve.new.self) (mark_tree c.add-key.new.self) (mark_tree c.remove.new.self) c.add-key.result _
+    (λ key. ap (λ (t : MarkTree). t key) c.reserve.ensures.nodes ∙ c.new-tree.ensures.empty key) c.add-key.ensures.put c.remove.ensures.taken k)
