@@ -1,0 +1,98 @@
+//! The lists of places and of segments: of each, the positions that touch it, and apart from these those that wrote.
+
+ghost use Rattle.std.specs.Prelude.{◌≡◌, ◌<◌, ◌≤◌, ◌+◌, length, ℕ, Some, None, Bool, true, IsSome, IsOk, IfOk, IfSome, OnOk, OnErr, if◌then◌else◌};
+ghost use Rattle.indexmap.specs.IndexSet.{index_set_len};
+ghost use Rattle.rd_depend.specs.Lists.{spare_at, list_at, IsAscending, closed};
+ghost use Rattle.rd_depend.specs.Keys.{slot_in};
+ghost use Rattle.rd_depend.specs.declared.index.keys.Key.{Key as Kept};
+
+use super::keys::Key;
+use super::lists::{close_all, put_in, reserve_in, take_last_in};
+use indexmap::IndexSet;
+use std::alloc::{AllocError, Global};
+
+/// Keys with their lists, each by the index of its key. A key stays when its lists are empty.
+#[derive(Drop)]
+pub(crate) struct Table {
+    keys: IndexSet<Key>,
+    all: Vec<Vec<u32>>,
+    writes: Vec<Vec<u32>>,
+    ghost all_there: { length all.items ≡ length keys.keys },
+    ghost writes_there: { length writes.items ≡ length keys.keys },
+}
+
+impl Table {
+    /// No key; it takes no memory.
+    pub(crate) fn new(alloc: Global) -> Table {
+        Table {
+            keys: IndexSet::new(alloc),
+            all: Vec::new(alloc),
+            writes: Vec::new(alloc),
+        }
+    }
+
+    /// The index of the key, if it is there.
+    pub(crate) fn slot(&self, key: Key) -> Option<usize> {
+        self.keys.get_index_of(&key)
+    }
+
+    /// The positions kept for the key: all of them, or those that wrote.
+    pub(crate) fn list(&self, key: Key, writes: bool) -> &[u32] {
+        let lists = if writes { &self.writes } else { &self.all };
+        match self.slot(key) {
+            None => &[],
+            Some(slot) => &lists[slot],
+        }
+    }
+
+    /// The index of the key, which is put there if it isn't yet, with room for one more position in its list, and in that of
+    /// its writes if the step wrote.
+    ///
+    /// # Errors
+    ///
+    /// If memory was refused. No position has changed then.
+    pub(crate) fn reserve(&mut self, alloc: Global, key: Key, wrote: bool) -> Result<usize, AllocError> {
+        let slot = self.slot_or_new(alloc, key)?;
+        reserve_in(&mut self.all, slot)?;
+        if wrote {
+            reserve_in(&mut self.writes, slot)?;
+        }
+        Ok(slot)
+    }
+
+    /// The index of the key, which is put there with empty lists if it isn't yet.
+    fn slot_or_new(&mut self, alloc: Global, key: Key) -> Result<usize, AllocError> {
+        if let Some(slot) = self.slot(key) {
+            return Ok(slot);
+        }
+        self.all.reserve(1)?;
+        self.writes.reserve(1)?;
+        let slot = self.keys.len();
+        self.keys.insert(key)?;
+        self.all.push_reserved(Vec::new(alloc));
+        self.writes.push_reserved(Vec::new(alloc));
+        Ok(slot)
+    }
+
+    /// Puts a position at the end of the key's list, and of that of its writes if the step wrote.
+    pub(crate) fn put(&mut self, slot: usize, position: u32, wrote: bool) {
+        put_in(&mut self.all, slot, position);
+        if wrote {
+            put_in(&mut self.writes, slot, position);
+        }
+    }
+
+    /// Takes the last position out of the key's list, and out of that of its writes if the step wrote.
+    pub(crate) fn take_last(&mut self, slot: usize, wrote: bool) {
+        take_last_in(&mut self.all, slot);
+        if wrote {
+            take_last_in(&mut self.writes, slot);
+        }
+    }
+
+    /// Takes a position out of each list that has it, and 1 off the positions above it.
+    pub(crate) fn close(&mut self, k: u32) {
+        close_all(&mut self.all, k);
+        close_all(&mut self.writes, k);
+    }
+}
