@@ -1,4 +1,5 @@
 mod CommonBeginning
+pub mod IndexLists
 pub mod Moving
 pub mod Search
 pub mod Reaching

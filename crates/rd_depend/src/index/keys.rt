@@ -6,8 +6,8 @@ ghost use Rattle.std.specs.Prelude.{◌≡◌, ◌+◌, ◌*◌, ◌^◌, ◌<�
 ghost use Rattle.std.proofs.Common.{ap};
 ghost use Rattle.std.specs.Hash as fed;
 ghost use Rattle.std.specs.Cmp.{partial_equiv_from_equiv};
-ghost use Rattle.rd_depend.specs.Keys.{is_key, key_number, place_number, packed, segment_key};
-ghost use Rattle.rd_depend.proofs.Keys.{key_equiv, key_number-same};
+ghost use Rattle.rd_depend.specs.Keys.{is_key, key_number, place_number, packed, segment_of_place};
+ghost use Rattle.rd_depend.specs.KeyLaws.{key_equiv, key_number-same};
 
 use rd_cell::{Place, SegName};
 use std::hash::{Hash, Hasher};
@@ -16,22 +16,22 @@ use std::hash::{Hash, Hasher};
 #[derive(Clone, Copy, Debug)]
 pub(crate) enum Key {
     /// For the steps at this place alone.
-    Place(Place),
+    At(Place),
     /// For the steps at each place of this segment, the whole of it included.
-    Segment(SegName),
+    In(SegName),
 }
 
 impl Key {
     /// The key of the segment that the place is one of, or the whole of.
     pub(crate) fn of_segment(place: Place) -> Option<Key>
-        ensures { result ≡ segment_key place }
+        ensures { result ≡ segment_of_place place }
     {
         match place {
             Place::Head(name)
             | Place::Tail(name)
             | Place::Next(name)
             | Place::Cell(name, _)
-            | Place::Whole(name) => Some(Key::Segment(name)),
+            | Place::Whole(name) => Some(Key::In(name)),
             Place::QHead
             | Place::QTail
             | Place::ArrHead
@@ -45,8 +45,8 @@ impl Key {
         ensures { result ≡ key_number self.now }
     {
         match *self {
-            Key::Place(place) => place_number(place),
-            Key::Segment(name) => packed(10, name, 0),
+            Key::At(place) => place_number(place),
+            Key::In(name) => packed(10, name, 0),
         }
     }
 }
@@ -84,8 +84,8 @@ impl PartialEq for Key {
 
     fn eq(&self, other: &Key) -> bool {
         match (*self, *other) {
-            (Key::Place(p), Key::Place(q)) => p == q,
-            (Key::Segment(s), Key::Segment(t)) => s == t,
+            (Key::At(p), Key::At(q)) => p == q,
+            (Key::In(s), Key::In(t)) => s == t,
             _ => false,
         }
     }

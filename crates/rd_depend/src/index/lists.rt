@@ -1,7 +1,7 @@
 //! Lists of positions by number, and what is done to one or to all of them.
 
 ghost use Rattle.std.specs.Prelude.{◌≡◌, ◌+◌, ◌-◌, ◌==◌, ◌<◌, ◌≤◌, ◌++◌, ◌∷◌, [], ℕ, IsOk, OnOk, length, take, vec_capacity, if◌then◌else◌};
-ghost use Rattle.rd_depend.specs.Lists.{list_at, capacity_at, spare_at, spare, closed, IsAscending};
+ghost use Rattle.rd_depend.specs.Lists.{list_at, capacity_at, spare_at, spare_of, closed, IsAscending};
 
 use std::alloc::{AllocError, Global};
 
@@ -20,7 +20,7 @@ pub(crate) fn grow(
     ensures number { OnOk result (number ≤ length lists.new.items) }
     ensures succeeds { number ≤ length lists.old.items → IsOk result }
 {
-    for _ in lists.len()..number {
+    for count in lists.len()..number {
         lists.push(Vec::new(alloc))?;
     }
     Ok(())
@@ -45,9 +45,9 @@ pub(crate) fn reserve_in(lists: &mut Vec<Vec<u32>>, index: usize) -> Result<(), 
 /// Makes room for one more position.
 fn reserve(list: &mut Vec<u32>) -> Result<(), AllocError>
     ensures items { list.new.items ≡ list.old.items }
-    ensures room { spare list.old ≤ spare list.new }
-    ensures ok { OnOk result (0 < spare list.new) }
-    ensures succeeds { 0 < spare list.old → IsOk result }
+    ensures room { spare_of list.old ≤ spare_of list.new }
+    ensures ok { OnOk result (0 < spare_of list.new) }
+    ensures succeeds { 0 < spare_of list.old → IsOk result }
 {
     list.reserve(1)
 }
@@ -91,7 +91,7 @@ fn close(list: &mut Vec<u32>, k: u32)
     ensures capacity { vec_capacity list.new ≡ vec_capacity list.old }
 {
     let mut end = list.len();
-    while end > 0 && list[end - 1] > k {
+    'falling: while end > 0 && list[end - 1] > k {
         end -= 1;
         list[end] -= 1;
     }

@@ -1,7 +1,7 @@
 //! Ascending positions, which are looked at by probes alone.
 
 ghost use Rattle.std.specs.Prelude.{◌≡◌, ◌+◌, ◌<◌, ◌≤◌, ◌^◌, length, slice_index_or};
-ghost use Rattle.rd_depend.specs.Lists.{IsAscending, first_above, last_below};
+ghost use Rattle.rd_depend.specs.Lists.{IsAscending, first_above, number_up_to};
 
 use super::probes::Probes;
 
@@ -42,9 +42,9 @@ impl<'a> Positions<'a> {
     {
         let mut low = 0;
         let mut high = self.items.len();
-        for _round in 0..17 {
+        for round in 0..17_usize {
             if low >= high {
-                break;
+                return low;
             }
             let middle = low + (high - low) / 2;
             if self.look(middle, probes) <= k {

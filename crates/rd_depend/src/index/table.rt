@@ -1,10 +1,6 @@
 //! The lists of places and of segments: of each, the positions that touch it, and apart from these those that wrote.
 
-ghost use Rattle.std.specs.Prelude.{◌≡◌, ◌<◌, ◌≤◌, ◌+◌, length, ℕ, Some, None, Bool, true, IsSome, IsOk, IfOk, IfSome, OnOk, OnErr, if◌then◌else◌};
-ghost use Rattle.indexmap.specs.IndexSet.{index_set_len};
-ghost use Rattle.rd_depend.specs.Lists.{spare_at, list_at, IsAscending, closed};
-ghost use Rattle.rd_depend.specs.Keys.{slot_in};
-ghost use Rattle.rd_depend.specs.declared.index.keys.Key.{Key as Kept};
+ghost use Rattle.std.specs.Prelude.{◌≡◌, length};
 
 use super::keys::Key;
 use super::lists::{close_all, put_in, reserve_in, take_last_in};
@@ -22,8 +18,15 @@ pub(crate) struct Table {
 }
 
 impl Table {
+    ghost use Rattle.std.specs.Prelude.{◌<◌, ◌≤◌, Some, Bool, true, IsOk, IfOk, IfSome, false, []};
+    ghost use Rattle.rd_depend.specs.Keys.{slot_in};
+    ghost use Rattle.rd_depend.specs.Tables.{kept_in, spare_in, counts, IsReady, IsReadyAt, KeepsLists, Puts, HasLast, TakesLast, Closes};
+    ghost use Rattle.rd_depend.specs.declared.index.keys.Key.{Key as Kept};
+
     /// No key; it takes no memory.
-    pub(crate) fn new(alloc: Global) -> Table {
+    pub(crate) fn new(alloc: Global) -> Table
+        ensures { (w : Bool) (k : Kept) → kept_in result w k ≡ [] }
+    {
         Table {
             keys: IndexSet::new(alloc),
             all: Vec::new(alloc),
@@ -32,16 +35,24 @@ impl Table {
     }
 
     /// The index of the key, if it is there.
-    pub(crate) fn slot(&self, key: Key) -> Option<usize> {
+    pub(crate) fn slot(&self, key: Key) -> Option<usize>
+        ensures slot { result ≡ slot_in self.now.keys.keys key }
+        ensures within { IfSome result (λ i. i < length self.now.keys.keys) }
+    {
         self.keys.get_index_of(&key)
     }
 
     /// The positions kept for the key: all of them, or those that wrote.
-    pub(crate) fn list(&self, key: Key, writes: bool) -> &[u32] {
-        let lists = if writes { &self.writes } else { &self.all };
-        match self.slot(key) {
-            None => &[],
-            Some(slot) => &lists[slot],
+    pub(crate) fn list(&self, key: Key, writes: bool) -> &[u32]
+        ensures { result.now ≡ kept_in self.now writes key }
+    {
+        let Some(slot) = self.slot(key) else {
+            return &[];
+        };
+        if writes {
+            &self.writes[slot]
+        } else {
+            &self.all[slot]
         }
     }
 
@@ -51,7 +62,16 @@ impl Table {
     /// # Errors
     ///
     /// If memory was refused. No position has changed then.
-    pub(crate) fn reserve(&mut self, alloc: Global, key: Key, wrote: bool) -> Result<usize, AllocError> {
+    pub(crate) fn reserve(
+        &mut self,
+        alloc: Global,
+        key: Key,
+        wrote: bool,
+    ) -> Result<usize, AllocError>
+        ensures same { KeepsLists self.old self.new }
+        ensures ready { IfOk result (IsReady self.new key wrote) }
+        ensures succeeds { ((w : Bool) → counts w wrote ≡ true → 0 < spare_in self.old w key) → IsOk result }
+    {
         let slot = self.slot_or_new(alloc, key)?;
         reserve_in(&mut self.all, slot)?;
         if wrote {
@@ -61,7 +81,12 @@ impl Table {
     }
 
     /// The index of the key, which is put there with empty lists if it isn't yet.
-    fn slot_or_new(&mut self, alloc: Global, key: Key) -> Result<usize, AllocError> {
+    fn slot_or_new(&mut self, alloc: Global, key: Key) -> Result<usize, AllocError>
+        ensures same { KeepsLists self.old self.new }
+        ensures slot { IfOk result (λ i. slot_in self.new.keys.keys key ≡ Some i) }
+        ensures within { IfOk result (λ i. i < length self.new.keys.keys) }
+        ensures succeeds { 0 < spare_in self.old false key → IsOk result }
+    {
         if let Some(slot) = self.slot(key) {
             return Ok(slot);
         }
@@ -75,7 +100,10 @@ impl Table {
     }
 
     /// Puts a position at the end of the key's list, and of that of its writes if the step wrote.
-    pub(crate) fn put(&mut self, slot: usize, position: u32, wrote: bool) {
+    pub(crate) fn put(&mut self, slot: usize, position: u32, wrote: bool)
+        requires { IsReadyAt self.old wrote slot }
+        ensures { (k : Kept) → IsReady self.old k wrote slot → Puts k wrote position self.old self.new }
+    {
         put_in(&mut self.all, slot, position);
         if wrote {
             put_in(&mut self.writes, slot, position);
@@ -83,15 +111,22 @@ impl Table {
     }
 
     /// Takes the last position out of the key's list, and out of that of its writes if the step wrote.
-    pub(crate) fn take_last(&mut self, slot: usize, wrote: bool) {
-        take_last_in(&mut self.all, slot);
-        if wrote {
-            take_last_in(&mut self.writes, slot);
+    pub(crate) fn take_last(&mut self, key: Key, wrote: bool)
+        requires { HasLast self.old key wrote }
+        ensures { TakesLast key wrote self.old self.new }
+    {
+        if let Some(slot) = self.slot(key) {
+            take_last_in(&mut self.all, slot);
+            if wrote {
+                take_last_in(&mut self.writes, slot);
+            }
         }
     }
 
     /// Takes a position out of each list that has it, and 1 off the positions above it.
-    pub(crate) fn close(&mut self, k: u32) {
+    pub(crate) fn close(&mut self, k: u32)
+        ensures { Closes k self.old self.new }
+    {
         close_all(&mut self.all, k);
         close_all(&mut self.writes, k);
     }
