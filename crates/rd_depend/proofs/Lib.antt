@@ -1,5 +1,6 @@
 mod CommonBeginning
 pub mod IndexLists
+pub mod IndexTable
 pub mod Moving
 pub mod Search
 pub mod Reaching

@@ -7,8 +7,8 @@ use Rattle.rd_depend.specs.declared.index.Slots.{Slots}
 use Rattle.rd_depend.specs.declared.index.keys.Key.{Key}
 use Rattle.rd_depend.specs.declared.index.table.Table.{Table}
 use Rattle.rd_depend.specs.Keys.{is_under, place_key, segment_key}
-use Rattle.rd_depend.specs.Lists.{list_at, spare_at}
-use Rattle.rd_depend.specs.Tables.{counts, kept_in, one_if, spare_in, IsReady}
+use Rattle.rd_depend.specs.Lists.{list_at, one_if, spare_at}
+use Rattle.rd_depend.specs.Tables.{counts, kept_in, spare_in, IsReady}
 
 -- what a list of positions is kept for: an actor, or a place or a segment, of all steps there or of those that wrote
 pub data Touch : Type 0 where

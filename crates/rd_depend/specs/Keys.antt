@@ -1,5 +1,6 @@
 -- Keys: what a list of positions is kept for, apart from the actors.
-use Rattle.std.specs.Prelude.{ℕ, ◌+◌, ◌*◌, Bool, true, false, List, Option, Some, None, position}
+use Rattle.std.specs.Prelude.{ℕ, ◌+◌, ◌*◌, Bool, true, false, List, [], ◌∷◌, Option, Some, None, suc, if◌then◌else◌}
+use Rattle.std.specs.Option.{option_map}
 use Rattle.rd_cell.specs.declared.places.SegName.{SegName}
 use Rattle.rd_cell.specs.declared.places.Place.{Place}
 use Rattle.rd_cell.specs.declared.places.Place.TheVariants.{QHead, QTail, Head, Tail, Next, Cell, Whole, ArrHead, ArrTail, ArrCell}
@@ -40,7 +41,8 @@ segment_key (Some p) = segment_of_place p
 
 -- the index of the first of these keys that is equal to this one
 abbrev pub slot_in : List Key → Key → Option ℕ
-slot_in keys k = position (is_key k) keys
+slot_in [] k = None
+slot_in (q ∷ qs) k = if is_key k q then Some 0 else option_map (λ i. suc i) (slot_in qs k)
 
 -- a number for a part of a segment
 abbrev pub packed : ℕ → SegName → ℕ → ℕ

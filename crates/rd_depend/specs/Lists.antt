@@ -28,6 +28,10 @@ capacity_at lists i = room_of (slice_get lists i)
 abbrev pub spare_at : Lists → ℕ → ℕ
 spare_at lists i = capacity_at lists i - length (list_at lists i)
 
+-- one if it holds, else none
+abbrev pub one_if : Bool → ℕ
+one_if b = if b then 1 else 0
+
 -- how many more positions a list has room for
 abbrev pub spare_of : Vec ℕ Global → ℕ
 spare_of list = vec_capacity list - length list.items

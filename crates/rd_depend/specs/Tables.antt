@@ -3,7 +3,7 @@ use Rattle.std.specs.Prelude.{◌≡◌, ℕ, ◌+◌, ◌-◌, ◌<◌, ◌≤�
 use Rattle.rd_depend.specs.declared.index.keys.Key.{Key}
 use Rattle.rd_depend.specs.declared.index.table.Table.{Table}
 use Rattle.rd_depend.specs.Keys.{is_key, slot_in}
-use Rattle.rd_depend.specs.Lists.{Lists, list_of, capacity_of, closed, IsAscending}
+use Rattle.rd_depend.specs.Lists.{Lists, one_if, list_of, capacity_of, closed, IsAscending}
 
 -- the lists of all positions, or of those that wrote
 abbrev pub lists_of : Table → Bool → Lists
@@ -26,10 +26,6 @@ spare_in t w k = capacity_in t w k - length (kept_in t w k)
 abbrev pub counts : Bool → Bool → Bool
 counts false wrote = true
 counts true wrote = wrote
-
--- one if a list is one of those that a step is kept in
-abbrev pub one_if : Bool → ℕ
-one_if b = if b then 1 else 0
 
 -- the key has this index, and room for one more step in each of its lists that such a step is kept in
 pub record IsReady (t : Table) (k : Key) (wrote : Bool) (i : ℕ) : Type 0 where

@@ -1,7 +1,7 @@
 //! Lists of positions by number, and what is done to one or to all of them.
 
-ghost use Rattle.std.specs.Prelude.{◌≡◌, ◌+◌, ◌-◌, ◌==◌, ◌<◌, ◌≤◌, ◌++◌, ◌∷◌, [], ℕ, IsOk, OnOk, length, take, vec_capacity, if◌then◌else◌};
-ghost use Rattle.rd_depend.specs.Lists.{list_at, capacity_at, spare_at, spare_of, closed, IsAscending};
+ghost use Rattle.std.specs.Prelude.{◌≡◌, ◌+◌, ◌-◌, ◌==◌, ◌&&◌, true, ◌<◌, ◌≤◌, ◌++◌, ◌∷◌, [], ℕ, IsOk, OnOk, length, take, vec_capacity, if◌then◌else◌};
+ghost use Rattle.rd_depend.specs.Lists.{one_if, list_at, capacity_at, spare_at, spare_of, closed, IsAscending};
 
 use std::alloc::{AllocError, Global};
 
@@ -42,6 +42,26 @@ pub(crate) fn reserve_in(lists: &mut Vec<Vec<u32>>, index: usize) -> Result<(), 
     reserve(&mut lists[index])
 }
 
+/// The same, if it is wanted.
+pub(crate) fn reserve_if(
+    lists: &mut Vec<Vec<u32>>,
+    wanted: bool,
+    index: usize,
+) -> Result<(), AllocError>
+    requires { index < length lists.old.items }
+    ensures lists { (i : ℕ) → list_at lists.new.items i ≡ list_at lists.old.items i }
+    ensures room { (i : ℕ) → spare_at lists.old.items i ≤ spare_at lists.new.items i }
+    ensures ok { OnOk result (wanted ≡ true → 0 < spare_at lists.new.items index) }
+    ensures number { length lists.new.items ≡ length lists.old.items }
+    ensures succeeds { (wanted ≡ true → 0 < spare_at lists.old.items index) → IsOk result }
+{
+    if wanted {
+        reserve_in(lists, index)
+    } else {
+        Ok(())
+    }
+}
+
 /// Makes room for one more position.
 fn reserve(list: &mut Vec<u32>) -> Result<(), AllocError>
     ensures items { list.new.items ≡ list.old.items }
@@ -57,10 +77,23 @@ pub(crate) fn put_in(lists: &mut Vec<Vec<u32>>, index: usize, position: u32)
     requires { 0 < spare_at lists.old.items index }
     ensures lists { (i : ℕ) → list_at lists.new.items i
         ≡ (if i == index then list_at lists.old.items i ++ position ∷ [] else list_at lists.old.items i) }
-    ensures room { (i : ℕ) → spare_at lists.old.items i ≤ spare_at lists.new.items i + (if i == index then 1 else 0) }
+    ensures room { (i : ℕ) → spare_at lists.old.items i ≤ spare_at lists.new.items i + one_if (i == index) }
     ensures number { length lists.new.items ≡ length lists.old.items }
 {
     lists[index].push_reserved(position);
+}
+
+/// The same, if it is wanted.
+pub(crate) fn put_if(lists: &mut Vec<Vec<u32>>, wanted: bool, index: usize, position: u32)
+    requires { wanted ≡ true → 0 < spare_at lists.old.items index }
+    ensures lists { (i : ℕ) → list_at lists.new.items i
+        ≡ (if wanted && (i == index) then list_at lists.old.items i ++ position ∷ [] else list_at lists.old.items i) }
+    ensures room { (i : ℕ) → spare_at lists.old.items i ≤ spare_at lists.new.items i + one_if (wanted && (i == index)) }
+    ensures number { length lists.new.items ≡ length lists.old.items }
+{
+    if wanted {
+        put_in(lists, index, position);
+    }
 }
 
 /// Takes the last position out of the list of this number.
@@ -68,10 +101,23 @@ pub(crate) fn take_last_in(lists: &mut Vec<Vec<u32>>, index: usize)
     requires { 1 ≤ length (list_at lists.old.items index) }
     ensures lists { (i : ℕ) → list_at lists.new.items i
         ≡ (if i == index then take (length (list_at lists.old.items i) - 1) (list_at lists.old.items i) else list_at lists.old.items i) }
-    ensures room { (i : ℕ) → spare_at lists.new.items i ≡ spare_at lists.old.items i + (if i == index then 1 else 0) }
+    ensures room { (i : ℕ) → spare_at lists.new.items i ≡ spare_at lists.old.items i + one_if (i == index) }
     ensures number { length lists.new.items ≡ length lists.old.items }
 {
     let _last = lists[index].pop();
+}
+
+/// The same, if it is wanted.
+pub(crate) fn take_last_if(lists: &mut Vec<Vec<u32>>, wanted: bool, index: usize)
+    requires { wanted ≡ true → 1 ≤ length (list_at lists.old.items index) }
+    ensures lists { (i : ℕ) → list_at lists.new.items i
+        ≡ (if wanted && (i == index) then take (length (list_at lists.old.items i) - 1) (list_at lists.old.items i) else list_at lists.old.items i) }
+    ensures room { (i : ℕ) → spare_at lists.new.items i ≡ spare_at lists.old.items i + one_if (wanted && (i == index)) }
+    ensures number { length lists.new.items ≡ length lists.old.items }
+{
+    if wanted {
+        take_last_in(lists, index);
+    }
 }
 
 /// Takes a position out of each list that has it, and 1 off the positions above it.

@@ -3,7 +3,7 @@
 ghost use Rattle.std.specs.Prelude.{◌≡◌, length};
 
 use super::keys::Key;
-use super::lists::{close_all, put_in, reserve_in, take_last_in};
+use super::lists::{close_all, put_if, put_in, reserve_if, reserve_in, take_last_if, take_last_in};
 use indexmap::IndexSet;
 use std::alloc::{AllocError, Global};
 
@@ -74,9 +74,7 @@ impl Table {
     {
         let slot = self.slot_or_new(alloc, key)?;
         reserve_in(&mut self.all, slot)?;
-        if wrote {
-            reserve_in(&mut self.writes, slot)?;
-        }
+        reserve_if(&mut self.writes, wrote, slot)?;
         Ok(slot)
     }
 
@@ -105,9 +103,7 @@ impl Table {
         ensures { (k : Kept) → IsReady self.old k wrote slot → Puts k wrote position self.old self.new }
     {
         put_in(&mut self.all, slot, position);
-        if wrote {
-            put_in(&mut self.writes, slot, position);
-        }
+        put_if(&mut self.writes, wrote, slot, position);
     }
 
     /// Takes the last position out of the key's list, and out of that of its writes if the step wrote.
@@ -117,9 +113,7 @@ impl Table {
     {
         if let Some(slot) = self.slot(key) {
             take_last_in(&mut self.all, slot);
-            if wrote {
-                take_last_in(&mut self.writes, slot);
-            }
+            take_last_if(&mut self.writes, wrote, slot);
         }
     }
 
