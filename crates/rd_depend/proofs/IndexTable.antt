@@ -12,7 +12,7 @@ use Rattle.rd_depend.specs.declared.index.table.Table.{Table}
 use Rattle.rd_depend.specs.Keys.{is_key, slot_in}
 use Rattle.rd_depend.specs.KeyLaws.{is_key-true, is_key-refl}
 use Rattle.rd_depend.specs.Lists.{Lists, items_of, room_of, list_at, capacity_at, spare_at, one_if, list_of, capacity_of}
-use Rattle.rd_depend.specs.Tables.{lists_of, kept_in, capacity_in, spare_in, counts, IsReady, IsReadyAt, HasLast, KeepsLists, Puts, TakesLast, Closes}
+use Rattle.rd_depend.specs.Tables.{lists_of, kept_in, capacity_in, spare_in, counts, IsReady, KeepsLists, Puts, TakesLast, Closes}
 
 -- indices of keys
 
@@ -126,7 +126,7 @@ freed keys k q i slot old new b h =
 pub ready_room : (t : Table) (k : Key) (wrote : Bool) (i : ℕ) → IsReady t k wrote i → (w : Bool) → counts w wrote ≡ true → 0 < spare_at (lists_of t w) i
 ready_room t k wrote i r w c = subst (λ (o : Option ℕ). 0 < room_left (lists_of t w) o) r.at (r.room w c)
 
-pub last_there : (t : Table) (k : Key) (wrote : Bool) (i : ℕ) → slot_in t.keys.keys k ≡ Some i → HasLast t k wrote
+pub last_there : (t : Table) (k : Key) (wrote : Bool) (i : ℕ) → slot_in t.keys.keys k ≡ Some i → ((w : Bool) → counts w wrote ≡ true → 1 ≤ length (kept_in t w k))
     → (w : Bool) → counts w wrote ≡ true → 1 ≤ length (list_at (lists_of t w) i)
 last_there t k wrote i slot h w c = subst (λ (o : Option ℕ). 1 ≤ length (list_of (lists_of t w) o)) slot (h w c)
 
@@ -234,7 +234,7 @@ pub puts : (old new : Table) (k : Key) (wrote : Bool) (p i : ℕ) → new.keys.k
     → ((j : ℕ) → list_at new.writes.items j ≡ (if wrote && (j == i) then list_at old.writes.items j ++ p ∷ [] else list_at old.writes.items j))
     → ((j : ℕ) → spare_at old.all.items j ≤ spare_at new.all.items j + one_if (j == i))
     → ((j : ℕ) → spare_at old.writes.items j ≤ spare_at new.writes.items j + one_if (wrote && (j == i)))
-    → slot_in old.keys.keys k ≡ Some i → Puts k wrote p old new
+    → slot_in old.keys.keys k ≡ Some i → Puts (Some k) wrote p old new
 puts old new k wrote p i keys all writes room_all room_writes slot = record {
   lists = λ w q. ap (λ (ks : List Key). list_of (lists_of new w) (slot_in ks q)) keys ∙ lists w q;
   room = λ w q. subst (λ (ks : List Key). spare_in old w q ≤ room_left (lists_of new w) (slot_in ks q) + one_if (counts w wrote && is_key q k)) (sym keys) (room w q);
@@ -254,7 +254,7 @@ pub takes_last : (old new : Table) (k : Key) (wrote : Bool) (i : ℕ) → new.ke
     → ((j : ℕ) → list_at new.writes.items j ≡ (if wrote && (j == i) then take (length (list_at old.writes.items j) - 1) (list_at old.writes.items j) else list_at old.writes.items j))
     → ((j : ℕ) → spare_at new.all.items j ≡ spare_at old.all.items j + one_if (j == i))
     → ((j : ℕ) → spare_at new.writes.items j ≡ spare_at old.writes.items j + one_if (wrote && (j == i)))
-    → slot_in old.keys.keys k ≡ Some i → TakesLast k wrote old new
+    → slot_in old.keys.keys k ≡ Some i → TakesLast (Some k) wrote old new
 takes_last old new k wrote i keys all writes room_all room_writes slot = record {
   lists = λ w q. ap (λ (ks : List Key). list_of (lists_of new w) (slot_in ks q)) keys ∙ lists w q;
   room = λ w q. ap (λ (ks : List Key). room_left (lists_of new w) (slot_in ks q)) keys ∙ room w q;

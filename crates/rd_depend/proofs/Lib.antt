@@ -1,6 +1,9 @@
 mod CommonBeginning
 pub mod IndexLists
 pub mod IndexTable
+pub mod IndexKeys
+pub mod IndexPositions
+pub mod IndexChanges
 pub mod Moving
 pub mod Search
 pub mod Reaching

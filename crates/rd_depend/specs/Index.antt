@@ -1,14 +1,13 @@
 -- What an index keeps: of the entries of a list, the positions of those that touch an actor, a place or a segment.
-use Rattle.std.specs.Prelude.{◌≡◌, ℕ, ◌+◌, ◌-◌, ◌≤◌, Bool, true, false, ◌==◌, ◌&&◌, if◌then◌else◌, List, [], ◌∷◌, ◌++◌, length, Option, None, Some, ◌<◌}
+use Rattle.std.specs.Prelude.{◌≡◌, ℕ, ◌+◌, ◌-◌, ◌≤◌, Bool, true, false, ◌==◌, ◌&&◌, if◌then◌else◌, List, [], ◌∷◌, ◌++◌, length, take, drop, Some, ◌<◌}
 use Rattle.rd_step.specs.declared.entries.Entry.{Entry}
 use Rattle.rd_step.specs.Dependence.{numbered}
 use Rattle.rd_depend.specs.declared.index.DependIndex.{DependIndex}
-use Rattle.rd_depend.specs.declared.index.Slots.{Slots}
+use Rattle.rd_depend.specs.declared.index.changing.Slots.{Slots}
 use Rattle.rd_depend.specs.declared.index.keys.Key.{Key}
-use Rattle.rd_depend.specs.declared.index.table.Table.{Table}
 use Rattle.rd_depend.specs.Keys.{is_under, place_key, segment_key}
-use Rattle.rd_depend.specs.Lists.{list_at, one_if, spare_at}
-use Rattle.rd_depend.specs.Tables.{counts, kept_in, spare_in, IsReady}
+use Rattle.rd_depend.specs.Lists.{list_at, capacity_at, one_if, spare_at, closed, IsAscending}
+use Rattle.rd_depend.specs.Tables.{counts, kept_in, capacity_in, spare_in, AreReady}
 
 -- what a list of positions is kept for: an actor, or a place or a segment, of all steps there or of those that wrote
 pub data Touch : Type 0 where
@@ -81,13 +80,34 @@ pub record Keeps (old new : DependIndex) : Type 0 where
   pub room : (t : Touch) → spare old t ≤ spare new t
   pub len : new.len ≡ old.len
 
--- each of the keys, if there is one, has this index and such room
-abbrev pub AreReady : Table → Option Key → Bool → Option ℕ → Type 0
-AreReady t None wrote o = o ≡ None
-AreReady t (Some k) wrote o = (i : ℕ) × (o ≡ Some i) × IsReady t k wrote i
-
 -- there is room for the entry's position wherever it is to be kept, and the keys have these indices
 pub record IsReadyFor (index : DependIndex) (x : Entry) (slots : Slots) : Type 0 where
   pub actor : 0 < spare_at index.by_actor.items x.event.actor
   pub place : AreReady index.by_key (place_key x.place) x.wrote slots.place
   pub segment : AreReady index.by_key (segment_key x.place) x.wrote slots.segment
+
+-- the list is as before where the entry is not kept, and lost its last position where it is
+pub record Drops (x : Entry) (old new : DependIndex) : Type 0 where
+  pub lists : (t : Touch) → kept new t ≡ (if touches t x then take (length (kept old t) - 1) (kept old t) else kept old t)
+  pub room : (t : Touch) → spare new t ≡ spare old t + one_if (touches t x)
+  pub len : new.len + 1 ≡ old.len
+
+-- the entries with that at position k taken out, counted from 1
+abbrev pub without_entry : List Entry → ℕ → List Entry
+without_entry entries k = take (k - 1) entries ++ drop k entries
+
+-- how many positions it can have there before it has to grow
+abbrev pub capacity : DependIndex → Touch → ℕ
+capacity index (By a) = capacity_at index.by_actor.items a
+capacity index (Under w k) = capacity_in index.by_key w k
+
+-- the position is gone from each list, and the later ones are one less
+pub record ClosesAll (k : ℕ) (old new : DependIndex) : Type 0 where
+  pub lists : (t : Touch) → IsAscending (kept old t) → kept new t ≡ closed k (kept old t)
+  pub capacity_stays : (t : Touch) → capacity new t ≡ capacity old t
+  pub len : new.len + 1 ≡ old.len
+
+-- the index is that of some entries, which end with these
+pub record EndsWith (index : DependIndex) (last : List Entry) : Type 0 where
+  pub before : List Entry
+  pub is : IsIndexOf index (before ++ last)

@@ -14,6 +14,11 @@ is_key (At p) (At q) = is_place p q
 is_key (In s) (In t) = is_name s t
 is_key _ _ = false
 
+-- whether a key, if there is one, is equal to the first
+abbrev pub is_that : Key → Option Key → Bool
+is_that q None = false
+is_that q (Some k) = is_key q k
+
 -- whether a step at this place, if it has one, is kept under the key
 abbrev pub is_under : Key → Option Place → Bool
 is_under k None = false

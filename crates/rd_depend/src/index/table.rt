@@ -18,9 +18,9 @@ pub(crate) struct Table {
 }
 
 impl Table {
-    ghost use Rattle.std.specs.Prelude.{◌<◌, ◌≤◌, Some, Bool, true, IsOk, IfOk, IfSome, false, []};
+    ghost use Rattle.std.specs.Prelude.{◌<◌, ◌≤◌, Option, Some, Bool, true, IsOk, IfOk, IfSome, false, []};
     ghost use Rattle.rd_depend.specs.Keys.{slot_in};
-    ghost use Rattle.rd_depend.specs.Tables.{kept_in, spare_in, counts, IsReady, IsReadyAt, KeepsLists, Puts, HasLast, TakesLast, Closes};
+    ghost use Rattle.rd_depend.specs.Tables.{kept_in, spare_in, counts, IsReady, IsReadyAt, AreReady, AreReadyAt, KeepsLists, Puts, HasLast, TakesLast, Closes};
     ghost use Rattle.rd_depend.specs.declared.index.keys.Key.{Key as Kept};
 
     /// No key; it takes no memory.
@@ -56,13 +56,34 @@ impl Table {
         }
     }
 
+    /// Makes room under a key, if there is one, for one more position, and gives its index.
+    ///
+    /// # Errors
+    ///
+    /// If memory was refused. No position has changed then.
+    pub(crate) fn reserve(
+        &mut self,
+        alloc: Global,
+        key: Option<Key>,
+        wrote: bool,
+    ) -> Result<Option<usize>, AllocError>
+        ensures same { KeepsLists self.old self.new }
+        ensures ready { IfOk result (AreReady self.new key wrote) }
+        ensures succeeds { ((w : Bool) (k : Kept) → key ≡ Some k → counts w wrote ≡ true → 0 < spare_in self.old w k) → IsOk result }
+    {
+        match key {
+            None => Ok(None),
+            Some(key) => Ok(Some(self.reserve_under(alloc, key, wrote)?)),
+        }
+    }
+
     /// The index of the key, which is put there if it isn't yet, with room for one more position in its list, and in that of
     /// its writes if the step wrote.
     ///
     /// # Errors
     ///
     /// If memory was refused. No position has changed then.
-    pub(crate) fn reserve(
+    fn reserve_under(
         &mut self,
         alloc: Global,
         key: Key,
@@ -97,19 +118,40 @@ impl Table {
         Ok(slot)
     }
 
-    /// Puts a position at the end of the key's list, and of that of its writes if the step wrote.
-    pub(crate) fn put(&mut self, slot: usize, position: u32, wrote: bool)
+    /// Puts a position at the end of the list of the key of this index, if there is one, and of that of its writes if the step
+    /// wrote.
+    pub(crate) fn put(&mut self, slot: Option<usize>, position: u32, wrote: bool)
+        requires { AreReadyAt self.old wrote slot }
+        ensures { (k : Option Kept) → AreReady self.old k wrote slot → Puts k wrote position self.old self.new }
+    {
+        if let Some(slot) = slot {
+            self.put_at(slot, position, wrote);
+        }
+    }
+
+    /// The same at an index that is there.
+    fn put_at(&mut self, slot: usize, position: u32, wrote: bool)
         requires { IsReadyAt self.old wrote slot }
-        ensures { (k : Kept) → IsReady self.old k wrote slot → Puts k wrote position self.old self.new }
+        ensures { (k : Kept) → IsReady self.old k wrote slot → Puts (Some k) wrote position self.old self.new }
     {
         put_in(&mut self.all, slot, position);
         put_if(&mut self.writes, wrote, slot, position);
     }
 
-    /// Takes the last position out of the key's list, and out of that of its writes if the step wrote.
-    pub(crate) fn take_last(&mut self, key: Key, wrote: bool)
+    /// Takes the last position out of the list of the key, if there is one, and out of that of its writes if the step wrote.
+    pub(crate) fn take_last(&mut self, key: Option<Key>, wrote: bool)
         requires { HasLast self.old key wrote }
         ensures { TakesLast key wrote self.old self.new }
+    {
+        if let Some(key) = key {
+            self.take_last_under(key, wrote);
+        }
+    }
+
+    /// The same under a key that is there.
+    fn take_last_under(&mut self, key: Key, wrote: bool)
+        requires { HasLast self.old (Some key) wrote }
+        ensures { TakesLast (Some key) wrote self.old self.new }
     {
         if let Some(slot) = self.slot(key) {
             take_last_in(&mut self.all, slot);

@@ -1,6 +1,6 @@
 use Rattle.std.proofs.Common.{true, false, refl}
 use Rattle.rd_depend.proofs.IndexTable.{puts, ready_room}
-use Rattle.rd_depend.proofs.index.table.Table.put.Goals as goal
+use Rattle.rd_depend.proofs.index.table.Table.put_at.Goals as goal
 
 pub put_in-requires : goal.put_in-requires
 put_in-requires c = ready_room c.args.self.now c.requires.key c.args.wrote c.args.slot c.requires.is false refl

@@ -2,7 +2,7 @@ use Rattle.std.proofs.Common.{◌<◌, ◌≤◌, true, false, refl, arith}
 use Rattle.std.proofs.lemmas.Bool.{false≢true}
 use Rattle.rd_depend.specs.Tables.{spare_in}
 use Rattle.rd_depend.proofs.IndexTable.{spare_there}
-use Rattle.rd_depend.proofs.index.table.Table.reserve.Goals as goal
+use Rattle.rd_depend.proofs.index.table.Table.reserve_under.Goals as goal
 
 pub returns-in_err-slot-clause-succeeds : goal.returns-in_err-slot-clause-succeeds
 returns-in_err-slot-clause-succeeds c = λ h. absurd (false≢true (c.in_err-slot.ensures.succeeds (h false refl)))

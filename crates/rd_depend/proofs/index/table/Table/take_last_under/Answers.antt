@@ -1,14 +1,14 @@
 use Rattle.std.proofs.Common.{true, false, refl, sym}
 use Rattle.rd_depend.proofs.IndexTable.{takes_last, last_there}
-use Rattle.rd_depend.proofs.index.table.Table.take_last.Goals as goal
+use Rattle.rd_depend.proofs.index.table.Table.take_last_under.Goals as goal
 
 pub take_last_in-requires : goal.take_last_in-requires
 take_last_in-requires c =
-    last_there c.args.self.now c.args.key c.args.wrote c.in-Some.slot (sym c.in-Some.ensures.slot) c.requires false refl
+    last_there c.args.self.now c.args.key c.args.wrote c.in-Some.slot (sym c.in-Some.ensures.slot) (λ w. c.requires w c.args.key refl) false refl
 
 pub take_last_if-requires : goal.take_last_if-requires
 take_last_if-requires c = λ h.
-    last_there c.args.self.now c.args.key c.args.wrote c.in-Some.slot (sym c.in-Some.ensures.slot) c.requires true h
+    last_there c.args.self.now c.args.key c.args.wrote c.in-Some.slot (sym c.in-Some.ensures.slot) (λ w. c.requires w c.args.key refl) true h
 
 pub returns-in-Some : goal.returns-in-Some
 returns-in-Some c =
