@@ -1,5 +1,5 @@
 -- The calls of an index, from what they do to its lists.
-use Rattle.std.proofs.Common.{◌≡◌, ℕ, zero, suc, ◌+◌, ◌-◌, ◌<◌, ◌≤◌, Bool, true, false, ◌&&◌, ◌||◌, ◌==◌, if◌then◌else◌, List, [], ◌∷◌, ◌++◌, length, take, drop, Option, Some, None, slice_get, get_or, refl, sym, ap, subst, ◌∙◌, append_assoc, arith, eq-eqb, Result, IsOk, is_ok}
+use Rattle.std.proofs.Common.{◌≡◌, ℕ, zero, suc, ◌+◌, ◌-◌, ◌<◌, ◌≤◌, Bool, true, false, ◌&&◌, ◌||◌, ◌==◌, if◌then◌else◌, List, [], ◌∷◌, ◌++◌, length, take, drop, Option, Some, None, slice_get, get_or, refl, sym, ap, subst, ◌∙◌, append_assoc, arith, eq-eqb, Result, Ok, Err, OnOk, is_err}
 use Rattle.rd_step.specs.declared.entries.Entry.{Entry}
 use Rattle.rd_step.specs.Dependence.{numbered}
 use Rattle.rd_cell.specs.declared.places.Place.{Place}
@@ -214,11 +214,6 @@ drop_one [] n x h = absurd cc
 drop_one (y ∷ ys) zero x h = let same : y ≡ x = cc in ap (λ (z : Entry). z ∷ ys) same
 drop_one (y ∷ ys) (suc n) x h = drop_one ys n x h
 
-pub there_in : (es : List Entry) (n : ℕ) (x : Entry) → n < length es → x ≡ get_or es n x → slice_get es n ≡ Some x
-there_in [] n x h e = absurd (omega arith)
-there_in (y ∷ ys) zero x h e = ap Some (sym e)
-there_in (y ∷ ys) (suc n) x h e = there_in ys n x (omega arith) e
-
 -- what some pushes have done so far
 pub record HasAdded (start now : DependIndex) (entries : List Entry) (n : ℕ) : Type 0 where
   pub index : (es : List Entry) → IsIndexOf start es → IsIndexOf now (es ++ take n entries)
@@ -309,3 +304,19 @@ all_dropped start now entries left h was es is =
     none : (ys : List Entry) → ys ++ [] ≡ ys
     none [] = refl
     none (y ∷ ys) = ap (λ (l : List Entry). y ∷ l) (none ys)
+
+pub there_at : (es : List Entry) (n : ℕ) (d : Entry) → n < length es → slice_get es n ≡ Some (get_or es n d)
+there_at [] n d h = absurd (omega arith)
+there_at (y ∷ ys) zero d h = refl
+there_at (y ∷ ys) (suc n) d h = there_at ys n d (omega arith)
+
+pub last_len : (old : DependIndex) (x : Entry) → IsLast old x → 1 ≤ old.len
+last_len old x last = omega (arith, last.is.len, longer last.before)
+  where
+    longer : (ys : List Entry) → 1 ≤ length (ys ++ x ∷ [])
+    longer [] = omega arith
+    longer (y ∷ ys) = omega arith
+
+pub ok_then : {X E : Type 0} (r : Result X E) (P : Type 0) → is_err r ≡ false → OnOk r P → P
+ok_then (Ok x) P h p = p
+ok_then (Err e) P h p = absurd cc

@@ -4,6 +4,7 @@ pub mod IndexTable
 pub mod IndexKeys
 pub mod IndexPositions
 pub mod IndexChanges
+pub mod IndexFirst
 pub mod Moving
 pub mod Search
 pub mod Reaching

@@ -5,7 +5,7 @@ use Rattle.rd_depend.specs.Lists.{list_at}
 use Rattle.rd_depend.specs.Tables.{HasLast, TakesLast}
 use Rattle.rd_depend.specs.Index.{By}
 use Rattle.rd_depend.proofs.IndexKeys.{under_place, under_segment}
-use Rattle.rd_depend.proofs.IndexChanges.{drops, last_after, last_touched, last_under, touched_by}
+use Rattle.rd_depend.proofs.IndexChanges.{drops, last_after, last_len, last_touched, last_under, touched_by}
 use Rattle.rd_depend.proofs.index.DependIndex.drop_last.Goals as goal
 
 pub take_last_in-requires : goal.take_last_in-requires
@@ -35,4 +35,4 @@ returns c =
     subst (λ (o : Option Key). TakesLast o x.wrote c.args.self.now.by_key c.take_last.new.self) c.place_key.ensures c.take_last.ensures in
     let then_took : TakesLast (segment_key x.place) x.wrote c.take_last.new.self c.take_last-2.new.self =
     subst (λ (o : Option Key). TakesLast o x.wrote c.take_last.new.self c.take_last-2.new.self) c.segment_key.ensures c.take_last-2.ensures in
-    drops _ _ x c.take_last.new.self c.from.result c.from.ensures ? c.take_last_in.ensures.lists c.take_last_in.ensures.room took then_took
+    drops _ _ x c.take_last.new.self c.from.result c.from.ensures (omega (arith, last_len c.args.self.now x c.requires)) c.take_last_in.ensures.lists c.take_last_in.ensures.room took then_took
