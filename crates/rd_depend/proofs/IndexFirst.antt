@@ -42,22 +42,34 @@ least_right : (n : ℕ) (o : Option ℕ) → ((m : ℕ) → o ≡ Some m → n �
 least_right n None h = refl
 least_right n (Some m) h = let e : min m n ≡ n = omega (arith, h m refl) in ap Some e
 
+pulled : (k n : ℕ) (b : Bool) (ps : List ℕ) → first_above k (if b then n ∷ ps else ps) ≡ (if b then (if nat_lt k n then Some n else first_above k ps) else first_above k ps)
+pulled k n true ps = refl
+pulled k n false ps = refl
+
+earlier_here : (n : ℕ) (b c d less : Bool) (o p q : Option ℕ) → d ≡ (b || c) → earlier o p ≡ q
+    → ((m : ℕ) → o ≡ Some m → n ≤ m) → ((m : ℕ) → p ≡ Some m → n ≤ m)
+    → earlier (if b then (if less then Some n else o) else o) (if c then (if less then Some n else p) else p) ≡ (if d then (if less then Some n else q) else q)
+earlier_here n true true d true o p q e rest in_o in_p =
+    least_left n (Some n) (λ m g. let z : n ≡ m = cc in omega (arith, z)) ∙ sym (ap (λ (x : Bool). if x then Some n else q) e)
+earlier_here n true false d true o p q e rest in_o in_p = least_left n p in_p ∙ sym (ap (λ (x : Bool). if x then Some n else q) e)
+earlier_here n false true d true o p q e rest in_o in_p = least_right n o in_o ∙ sym (ap (λ (x : Bool). if x then Some n else q) e)
+earlier_here n false false d true o p q e rest in_o in_p = rest ∙ sym (ap (λ (x : Bool). if x then Some n else q) e)
+earlier_here n true true d false o p q e rest in_o in_p = rest ∙ sym (ap (λ (x : Bool). if x then q else q) e)
+earlier_here n true false d false o p q e rest in_o in_p = rest ∙ sym (ap (λ (x : Bool). if x then q else q) e)
+earlier_here n false true d false o p q e rest in_o in_p = rest ∙ sym (ap (λ (x : Bool). if x then q else q) e)
+earlier_here n false false d false o p q e rest in_o in_p = rest ∙ sym (ap (λ (x : Bool). if x then q else q) e)
+
 -- the earlier of two is the first that passes one test or the other
 pub earlier-first : (t u v : Entry → Bool) → ((y : Entry) → v y ≡ (t y || u y)) → (k n : ℕ) (es : List Entry)
     → earlier (first_above k (positions_from t n es)) (first_above k (positions_from u n es)) ≡ first_above k (positions_from v n es)
 earlier-first t u v h k n [] = refl
 earlier-first t u v h k n (x ∷ xs) =
-    by (t x) (u x) (v x) (nat_lt k n) (h x) (earlier-first t u v h k (n + 1) xs)
-    (λ m e. let f = found-from k (n + 1) (positions_from t (n + 1) xs) m (positions-ascend t (n + 1) xs) e in omega (arith, f))
-    (λ m e. let f = found-from k (n + 1) (positions_from u (n + 1) xs) m (positions-ascend u (n + 1) xs) e in omega (arith, f))
-  where
-    by : (b c d less : Bool) → d ≡ (b || c)
-        → earlier (first_above k (positions_from t (n + 1) xs)) (first_above k (positions_from u (n + 1) xs)) ≡ first_above k (positions_from v (n + 1) xs)
-        → ((m : ℕ) → first_above k (positions_from t (n + 1) xs) ≡ Some m → n ≤ m)
-        → ((m : ℕ) → first_above k (positions_from u (n + 1) xs) ≡ Some m → n ≤ m)
-        → earlier (first_above k (if b then n ∷ positions_from t (n + 1) xs else positions_from t (n + 1) xs)) (first_above k (if c then n ∷ positions_from u (n + 1) xs else positions_from u (n + 1) xs))
-        ≡ first_above k (if d then n ∷ positions_from v (n + 1) xs else positions_from v (n + 1) xs)
-    by b c d less e rest in_t in_u = ?
+    (λ i. earlier (pulled k n (t x) (positions_from t (n + 1) xs) i) (pulled k n (u x) (positions_from u (n + 1) xs) i))
+    ∙ earlier_here n (t x) (u x) (v x) (nat_lt k n) (first_above k (positions_from t (n + 1) xs)) (first_above k (positions_from u (n + 1) xs))
+    (first_above k (positions_from v (n + 1) xs)) (h x) (earlier-first t u v h k (n + 1) xs)
+    (λ m e. let f : n + 1 ≤ m = found-from k (n + 1) (positions_from t (n + 1) xs) m (positions-ascend t (n + 1) xs) e in omega (arith, f))
+    (λ m e. let f : n + 1 ≤ m = found-from k (n + 1) (positions_from u (n + 1) xs) m (positions-ascend u (n + 1) xs) e in omega (arith, f))
+    ∙ sym (pulled k n (v x) (positions_from v (n + 1) xs))
 
 -- positions up to k are passed over
 skipped : (test : Entry → Bool) (k n j : ℕ) (es : List Entry) → n + j ≤ k + 1 → first_above k (positions_from test n es) ≡ first_above k (positions_from test (n + j) (drop j es))
@@ -215,3 +227,42 @@ depends-none x y h = sym (ap (λ (o : Option Place). (x.event.actor == y.event.a
     plain : (b : Bool) → (b || false) ≡ b
     plain true = refl
     plain false = refl
+
+-- what the searches find
+
+pub found_in : (index : DependIndex) (es : List Entry) → IsIndexOf index es → index.len ≤ 65535 → (t : Touch) (k : ℕ) (r : Option ℕ)
+    → (IsAscending (kept index t) → length (kept index t) < 131072 → r ≡ first_above k (kept index t)) → r ≡ first_above k (positions (touches t) es)
+found_in index es is few t k r found = found (kept-ascends index es is t) (kept-short index es is few t) ∙ ap (first_above k) (is.lists t)
+
+-- the test of a place, of all entries or of those that wrote
+abbrev pub at_place : Bool → Place → Entry → Bool
+at_place w p y = counts w y.wrote && some_overlap (Some p) y.place
+
+pub found_whole : (w : Bool) (p : Place) (s : SegName) → p ≡ Whole s → (k : ℕ) (es : List Entry)
+    → first_above k (positions (touches (Under w (In s))) es) ≡ first_above k (positions (at_place w p) es)
+found_whole w p s h k es = ap (first_above k) (positions-same (touches (Under w (In s))) (at_place w p)
+    (λ y. ap (λ (b : Bool). counts w y.wrote && b) (sym (ap (λ (q : Place). some_overlap (Some q) y.place) h ∙ overlaps-whole s y.place))) 1 es)
+
+pub found_alone : (w : Bool) (p : Place) → segment_of p ≡ None → ((t : SegName) → p ≡ Whole t → ⊥) → (k : ℕ) (es : List Entry)
+    → first_above k (positions (touches (Under w (At p))) es) ≡ first_above k (positions (at_place w p) es)
+found_alone w p none other k es = ap (first_above k) (positions-same (touches (Under w (At p))) (at_place w p)
+    (λ y. ap (λ (b : Bool). counts w y.wrote && b) (sym (overlaps-alone p none other y.place))) 1 es)
+
+pub found_both : (w : Bool) (p : Place) (s : SegName) → segment_of p ≡ Some s → (k : ℕ) (es : List Entry)
+    → earlier (first_above k (positions (touches (Under w (At p))) es)) (first_above k (positions (touches (Under w (At (Whole s)))) es))
+    ≡ first_above k (positions (at_place w p) es)
+found_both w p s h k es = earlier-first (touches (Under w (At p))) (touches (Under w (At (Whole s)))) (at_place w p)
+    (λ y. ap (λ (b : Bool). counts w y.wrote && b) (overlaps-own p s h y.place) ∙ spread (counts w y.wrote) (is_under (At p) y.place) (is_under (At (Whole s)) y.place)) k 1 es
+  where
+    spread : (a b c : Bool) → (a && (b || c)) ≡ ((a && b) || (a && c))
+    spread true b c = refl
+    spread false b c = refl
+
+pub found_either : (x : Entry) (p : Place) → x.place ≡ Some p → (k : ℕ) (es : List Entry)
+    → earlier (first_above k (positions (touches (By x.event.actor)) es)) (first_above k (positions (at_place (not x.wrote) p) es))
+    ≡ first_above k (positions (depends x) es)
+found_either x p h k es = earlier-first (touches (By x.event.actor)) (at_place (not x.wrote) p) (depends x) (λ y. depends-some x y p h) k 1 es
+
+pub found_by : (x : Entry) → x.place ≡ None → (k : ℕ) (es : List Entry)
+    → first_above k (positions (touches (By x.event.actor)) es) ≡ first_above k (positions (depends x) es)
+found_by x h k es = ap (first_above k) (positions-same (touches (By x.event.actor)) (depends x) (λ y. depends-none x y h) 1 es)

@@ -5,6 +5,7 @@ pub mod IndexKeys
 pub mod IndexPositions
 pub mod IndexChanges
 pub mod IndexFirst
+pub mod IndexRemove
 pub mod Moving
 pub mod Search
 pub mod Reaching
