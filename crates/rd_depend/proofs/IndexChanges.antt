@@ -38,11 +38,15 @@ ready_after t u o wrote p slot ready put = by (segment_key o) (λ k h. segment_a
   where
     by : (s : Option Key) → ((k : Key) → s ≡ Some k → is_that k (place_key o) ≡ false) → AreReady t s wrote slot → AreReady u s wrote slot
     by None apart_from r = r
-    by (Some k) apart_from r = (r.0, r.1, record {
-      at = put.slots k ∙ r.2.at;
-      room = λ w c. let e : one_if (counts w wrote && is_that k (place_key o)) ≡ 0 = ap (λ (b : Bool). one_if (counts w wrote && b)) (apart_from k refl) ∙ none (counts w wrote) in
-          omega (arith, r.2.room w c, put.room w k, e);
-    })
+    by (Some k) apart_from r = (
+      r.0,
+      r.1,
+      record {
+        at = put.slots k ∙ r.2.at;
+        room = λ w c. let e : one_if (counts w wrote && is_that k (place_key o)) ≡ 0 = ap (λ (b : Bool). one_if (counts w wrote && b)) (apart_from k refl) ∙ none (counts w wrote) in
+            omega (arith, r.2.room w c, put.room w k, e);
+      },
+    )
       where
         none : (b : Bool) → one_if (b && false) ≡ 0
         none true = refl

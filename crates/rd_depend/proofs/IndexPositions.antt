@@ -52,7 +52,7 @@ positions-push test n (y ∷ ys) x = by (test y) (test x) (positions-push test (
         ≡ (if c then positions_from test (n + 1) ys ++ (n + 1 + length ys) ∷ [] else positions_from test (n + 1) ys)
         → (if b then n ∷ positions_from test (n + 1) (ys ++ x ∷ []) else positions_from test (n + 1) (ys ++ x ∷ []))
         ≡ (if c then (if b then n ∷ positions_from test (n + 1) ys else positions_from test (n + 1) ys) ++ (n + suc (length ys)) ∷ []
-          else (if b then n ∷ positions_from test (n + 1) ys else positions_from test (n + 1) ys))
+        else (if b then n ∷ positions_from test (n + 1) ys else positions_from test (n + 1) ys))
     by true true h = let e : n + 1 + length ys ≡ n + suc (length ys) = omega arith in
         ap (λ (l : List ℕ). n ∷ l) h ∙ ap (λ (m : ℕ). n ∷ (positions_from test (n + 1) ys ++ m ∷ [])) e
     by false true h = let e : n + 1 + length ys ≡ n + suc (length ys) = omega arith in

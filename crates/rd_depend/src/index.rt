@@ -15,6 +15,7 @@ mod keys;
 mod lists;
 mod positions;
 mod probes;
+mod searching;
 mod table;
 
 pub use probes::Probes;

@@ -32,11 +32,8 @@ impl Key {
             | Place::Next(name)
             | Place::Cell(name, _)
             | Place::Whole(name) => Some(Key::In(name)),
-            Place::QHead
-            | Place::QTail
-            | Place::ArrHead
-            | Place::ArrTail
-            | Place::ArrCell(_) => None,
+            Place::QHead | Place::QTail | Place::ArrHead | Place::ArrTail | Place::ArrCell(_) =>
+                None,
         }
     }
 

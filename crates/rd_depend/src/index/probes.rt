@@ -23,8 +23,16 @@ impl Probes {
         self.count
     }
 
-    /// Counts one more.
-    pub(crate) fn tick(&mut self)
+    /// Counts a look-up of an actor, a place or a segment.
+    pub(crate) fn look_up(&mut self)
+        requires { self.old.count < 2 ^ 63 }
+        ensures { self.new.count ≡ self.old.count + 1 }
+    {
+        self.count += 1;
+    }
+
+    /// Counts a look at a position in a list.
+    pub(crate) fn look(&mut self)
         requires { self.old.count < 2 ^ 63 }
         ensures { self.new.count ≡ self.old.count + 1 }
     {

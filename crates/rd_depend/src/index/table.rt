@@ -83,12 +83,7 @@ impl Table {
     /// # Errors
     ///
     /// If memory was refused. No position has changed then.
-    fn reserve_under(
-        &mut self,
-        alloc: Global,
-        key: Key,
-        wrote: bool,
-    ) -> Result<usize, AllocError>
+    fn reserve_under(&mut self, alloc: Global, key: Key, wrote: bool) -> Result<usize, AllocError>
         ensures same { KeepsLists self.old self.new }
         ensures ready { IfOk result (IsReady self.new key wrote) }
         ensures succeeds { ((w : Bool) → counts w wrote ≡ true → 0 < spare_in self.old w key) → IsOk result }

@@ -1,6 +1,8 @@
 //! Tests of the index: whatever is pushed, taken from the end or taken out, the first dependant that it finds is that of the
 //! scan.
 
+ghost use Rattle.rd_depend.specs.Index.{IsIndexOf};
+
 use super::super::dependence::first_dependant;
 use super::super::index::{DependIndex, Probes};
 use super::{Access, MADE, OTHER, record};
@@ -16,9 +18,12 @@ use std::test::Fail;
 struct Both {
     index: DependIndex,
     entries: Vec<Entry>,
+    ghost same: { IsIndexOf index entries.items },
 }
 
 impl Both {
+    ghost use Rattle.std.specs.Prelude.{◌≡◌, ◌<◌, ◌≤◌, length};
+
     /// No entry.
     fn new(alloc: Global) -> Both {
         Both {
@@ -46,16 +51,25 @@ impl Both {
 
     /// Takes the entry of this index out.
     fn remove(&mut self, at: usize) {
-        if at < self.entries.len() {
+        if at < self.entries.len() && self.entries.len() <= MOST_STEPS {
             let entry = self.entries.remove(at);
             self.index.remove(at as u64 + 1, &entry);
         }
     }
 
+    /// Makes room for these, if they are not too many.
+    fn make_room(&mut self, entries: &[Entry]) -> Result<(), Fail> {
+        let len = self.entries.len();
+        if len <= MOST_STEPS && entries.len() <= MOST_STEPS - len {
+            self.index.make_room(entries)?;
+        }
+        Ok(())
+    }
+
     /// Compares the first dependant of the entry of this index with what the scan finds; gives the probes.
     fn compare(&self, rt: &impl Abort, at: usize) -> u64 {
         let mut probes = Probes::new();
-        if at < self.entries.len() {
+        if at < self.entries.len() && self.entries.len() <= MOST_STEPS {
             let k = at as u64 + 1;
             let found = self.index.first(k, &self.entries[at], &mut probes);
             assert_eq!(rt; found, first_dependant(&self.entries, k), "at {k}");
@@ -99,6 +113,8 @@ struct Draws {
 }
 
 impl Draws {
+    ghost use Rattle.std.specs.Prelude.{◌<◌};
+
     /// A number below this one.
     fn below(&mut self, end: u32) -> u32
         requires { 0 < end }
@@ -111,20 +127,16 @@ impl Draws {
         (self.state >> 8) % end
     }
 
-    /// An access by one of so many actors.
-    fn access(&mut self, actors: u32) -> Access
-        requires { 0 < actors }
-    {
-        let actor = self.below(actors).min(255) as u8;
+    /// An access by one of the actors up to this number.
+    fn access(&mut self, actors: u8) -> Access {
+        let actor = self.below(u32::from(actors) + 1).min(255) as u8;
         let place = PLACES[self.below(16) as usize];
         (actor, place, self.below(3) == 0)
     }
 }
 
 /// Makes a change: pushes, pops or takes out, as it is drawn.
-fn change(both: &mut Both, draws: &mut Draws, actors: u32) -> Result<(), Fail>
-    requires { 0 < actors }
-{
+fn change(both: &mut Both, draws: &mut Draws, actors: u8) -> Result<(), Fail> {
     let len = both.entries.len();
     match draws.below(8) {
         0 => both.pop(),
@@ -140,7 +152,7 @@ fn change(both: &mut Both, draws: &mut Draws, actors: u32) -> Result<(), Fail>
 #[test]
 fn the_index_finds_what_the_scan_finds(rt: HostRuntime) -> Result<(), Fail> {
     let mut draws = Draws { state: 1 };
-    for actors in [1, 3, 40] {
+    for actors in [0, 2, 40] {
         let mut both = Both::new(rt.alloc());
         for _ in 0..120 {
             change(&mut both, &mut draws, actors)?;
@@ -199,7 +211,7 @@ fn the_whole_of_a_segment_is_found_between_its_cells(rt: HostRuntime) -> Result<
 fn room_that_was_made_is_there_for_the_entries(rt: HostRuntime) -> Result<(), Fail> {
     let entries = WHOLE.map(record);
     let mut both = Both::new(rt.alloc());
-    both.index.make_room(&entries)?;
+    both.make_room(&entries)?;
     assert_eq!(rt; both.index.len(), 0);
     for entry in entries {
         both.push(entry)?;

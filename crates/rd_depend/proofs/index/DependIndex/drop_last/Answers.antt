@@ -1,4 +1,4 @@
-use Rattle.std.proofs.Common.{◌≡◌, ◌≤◌, Option, length, sym, ◌∙◌, subst, arith}
+use Rattle.std.proofs.Common.{◌≤◌, Option, length, sym, ◌∙◌, subst, arith}
 use Rattle.rd_depend.specs.declared.index.keys.Key.{Key}
 use Rattle.rd_depend.specs.Keys.{place_key, segment_key}
 use Rattle.rd_depend.specs.Lists.{list_at}

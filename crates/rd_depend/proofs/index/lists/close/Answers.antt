@@ -42,19 +42,19 @@ returns-else-end-gt0-clause-items c = λ h.
     let e = c.falling.end - 1 in
     elim c.else-end-gt0.branch [
       | else-end-gt0-via-then-end-gt0+else-index-k-2 w ↦
-      let next : c.falling.end ≡ suc e = omega (arith, w.if-end-gt0.true) in
-      let in_ys : e < length c.falling.list.items = omega (arith, c.falling.invariant.within, next) in
-      let in_xs : e < length c.args.list.now.items = omega (arith, c.falling.invariant.number, in_ys) in
-      let less : w.index-then-end-gt0.result.now < c.args.k =
-      elim c.falling-test.branch [
-        | then-falling-test+else-index-k v ↦
-        let same : v.index.result.now ≡ w.index-then-end-gt0.result.now =
-        v.index.ensures ∙ same_there c.falling.list.items e _ _ in_ys ∙ sym w.index-then-end-gt0.ensures in
-        omega (arith, same, v.if-index-k.false, w.if-index-k-2.false)
-        | else-falling-test v ↦ omega (arith, v.falling-test.false, next)
-      ] in
-      passed c.args.k c.falling.end e c.args.list.now.items c.falling.list.items w.index-then-end-gt0.result.now next in_xs in_ys
-      c.falling.invariant.lowered h w.index-then-end-gt0.ensures less
+          let next : c.falling.end ≡ suc e = omega (arith, w.if-end-gt0.true) in
+          let in_ys : e < length c.falling.list.items = omega (arith, c.falling.invariant.within, next) in
+          let in_xs : e < length c.args.list.now.items = omega (arith, c.falling.invariant.number, in_ys) in
+          let less : w.index-then-end-gt0.result.now < c.args.k =
+          elim c.falling-test.branch [
+            | then-falling-test+else-index-k v ↦
+                let same : v.index.result.now ≡ w.index-then-end-gt0.result.now =
+                v.index.ensures ∙ same_there c.falling.list.items e _ _ in_ys ∙ sym w.index-then-end-gt0.ensures in
+                omega (arith, same, v.if-index-k.false, w.if-index-k-2.false)
+            | else-falling-test v ↦ omega (arith, v.falling-test.false, next)
+          ] in
+          passed c.args.k c.falling.end e c.args.list.now.items c.falling.list.items w.index-then-end-gt0.result.now next in_xs in_ys
+          c.falling.invariant.lowered h w.index-then-end-gt0.ensures less
       | else-end-gt0-via-else-end-gt0 w ↦
-      emptied c.args.k c.falling.end c.args.list.now.items c.falling.list.items (omega (arith, w.if-end-gt0.false)) c.falling.invariant.lowered
+          emptied c.args.k c.falling.end c.args.list.now.items c.falling.list.items (omega (arith, w.if-end-gt0.false)) c.falling.invariant.lowered
     ]

@@ -1,4 +1,4 @@
-use Rattle.std.proofs.Common.{◌≡◌, ℕ, ◌<◌, ◌≤◌, length, slice_get}
+use Rattle.std.proofs.Common.{◌≡◌, ℕ, ◌<◌, ◌≤◌, length}
 use Rattle.rd_depend.specs.Lists.{list_at, capacity_at, closed, IsAscending}
 use Rattle.rd_depend.proofs.index.lists.close_all.Given as goal
 
