@@ -1,4 +1,11 @@
 mod CommonBeginning
+pub mod IndexLists
+pub mod IndexTable
+pub mod IndexKeys
+pub mod IndexPositions
+pub mod IndexChanges
+pub mod IndexFirst
+pub mod IndexRemove
 pub mod Moving
 pub mod Search
 pub mod Reaching

@@ -2,3 +2,8 @@ pub mod Beginnings
 pub mod Moved
 pub mod Equivalence
 pub mod Remaining
+pub mod Keys
+pub mod Lists
+pub mod Tables
+pub mod Index
+pub mod KeyLaws

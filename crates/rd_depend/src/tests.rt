@@ -1,6 +1,7 @@
 //! Tests of dependence by examples: which accesses clash, and the first later step that depends on a given one.
 
 mod equivalence;
+mod index;
 
 use super::dependence::{depends, depends_on_one, first_dependant};
 use super::moves::move_before;
