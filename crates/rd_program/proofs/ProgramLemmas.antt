@@ -71,6 +71,15 @@ writes_to_fault asked text old new failed write.Write is took fails = (is, took,
 pub writes_whole : (asked : Bool) (text : List ℕ) (old new : Option (List ℕ)) (failed : Bool) → asked ≡ true → Appends old new text → failed ≡ false → WritesIf asked text old new failed (Ok tt)
 writes_whole asked text old new failed is appends works = (subst (λ a. AppendsIf a old new text) (sym is) appends, works)
 
+-- one that was not asked for was not written
+pub writes_none : (asked : Bool) (text : List ℕ) (old new : Option (List ℕ)) (failed : Bool) → asked ≡ false → new ≡ old → failed ≡ false → WritesIf asked text old new failed (Ok tt)
+writes_none asked text old new failed is kept works = (subst (λ a. AppendsIf a old new text) (sym is) kept, works)
+
+-- what a writer got, said of what is equal to it
+pub written_by_same : {W : Type 0} (contents : W → Option (List ℕ)) (has_failed : W → Bool) (asked : Bool) (text : List ℕ) (old : Option (List ℕ)) (v w : W) → w ≡ v
+    → WritesIf asked text old (contents v) (has_failed v) (Ok tt) → WritesIf asked text old (contents w) (has_failed w) (Ok tt)
+written_by_same contents has_failed asked text old v w is written = subst (λ u. WritesIf asked text old (contents u) (has_failed u) (Ok tt)) (sym is) written
+
 -- a trace that is not loaded leaves the devices alone
 pub resumes_nothing : (text : List ℕ) (d : Devices) (fault : LoadTraceFault) → TouchesNothing d → LoadsTrace text (Err fault) → ResumesTrace text d (Err (load_fault fault))
 resumes_nothing text d load.NoMemory touches loads = touches
