@@ -10,6 +10,3 @@ pub mod words;
 
 pub use actors::{Act, Actor, Op, OpReply, Pc};
 pub use table::{after, need};
-
-#[cfg(test)]
-mod tests;

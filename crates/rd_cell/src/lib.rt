@@ -18,6 +18,3 @@ pub use contents::{ArrSlot, Content};
 pub use operations::{Answer, Operation};
 pub use places::{Place, SegName, is_of, overlaps};
 pub use refusal::Refusal;
-
-#[cfg(test)]
-mod tests;

@@ -11,6 +11,3 @@ pub mod requests;
 pub use answering::{answer, perform, words_of};
 pub use command_line::{not_text, options};
 pub use requests::{Options, OptionsFault};
-
-#[cfg(test)]
-mod tests;

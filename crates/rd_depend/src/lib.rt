@@ -17,6 +17,3 @@ pub use dependence::{depends, depends_on_one, first_dependant};
 pub use equivalence::are_equivalent;
 pub use index::{DependIndex, Probes};
 pub use moves::move_before;
-
-#[cfg(test)]
-mod tests;

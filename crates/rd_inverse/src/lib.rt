@@ -6,6 +6,3 @@
 pub mod inverse;
 
 pub use inverse::unstep;
-
-#[cfg(test)]
-mod tests;

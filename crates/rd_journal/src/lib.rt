@@ -10,6 +10,3 @@ mod records;
 pub mod sessions;
 
 pub use sessions::Session;
-
-#[cfg(test)]
-mod tests;

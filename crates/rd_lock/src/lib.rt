@@ -20,6 +20,3 @@ pub use locks::{NoMemory, TicketLock};
 pub use passes::Pass;
 pub use tickets::{Busy, Missed, TICKETS, TicketsEnded};
 pub use views::Recorded;
-
-#[cfg(test)]
-mod tests;

@@ -11,6 +11,3 @@ mod searches;
 
 pub use origins::Origin;
 pub use queries::{last_writer, origin};
-
-#[cfg(test)]
-mod tests;

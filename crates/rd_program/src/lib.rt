@@ -13,6 +13,3 @@ pub use endings::{Ending, Message, end};
 pub use faults::ProgramFault;
 pub use program::{play, resume, whole_text};
 pub use viewers::view;
-
-#[cfg(test)]
-mod tests;

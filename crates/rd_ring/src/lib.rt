@@ -10,6 +10,3 @@ pub mod segments;
 
 pub use parts::SegmentParts;
 pub use segments::Segment;
-
-#[cfg(test)]
-mod tests;

@@ -23,6 +23,3 @@ pub use script::{run, write_answer};
 pub use writing::headings::{Heading, write_heading};
 pub use writing::lines::set_text;
 pub use writing::texts::{MOST_BYTES, Text};
-
-#[cfg(test)]
-mod tests;

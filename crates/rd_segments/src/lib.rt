@@ -12,6 +12,3 @@ pub mod space;
 
 pub use array::ArrayParts;
 pub use space::Space;
-
-#[cfg(test)]
-mod tests;

@@ -18,6 +18,3 @@ pub use parts::Parts;
 pub use rd_ring::SegmentParts;
 pub use rd_segments::ArrayParts;
 pub use worlds::World;
-
-#[cfg(test)]
-mod tests;

@@ -20,6 +20,3 @@ pub use faults::{LoadTraceFault, WriteTraceFault};
 pub use load::load_trace;
 pub use rings::Ring;
 pub use write::write_trace;
-
-#[cfg(test)]
-mod tests;

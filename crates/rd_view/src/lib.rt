@@ -8,6 +8,3 @@ pub mod viewing;
 pub use faults::ViewFault;
 pub use reports::{Said, write_view};
 pub use viewing::view_scripts;
-
-#[cfg(test)]
-mod tests;
