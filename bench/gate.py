@@ -82,7 +82,9 @@ def kind_of(folder, words):
         return None
     if "rt-edit" in folder:
         return crate[1], "edits"
-    return crate[1], "tests" if " --test " in f"{words} " else "proofs"
+    # the tests of rd_x are the crate rd_x_tests
+    name, tests = re.fullmatch(r"(\w+?)(_tests)?", crate[1]).groups()
+    return name, "tests" if tests or " --test " in f"{words} " else "proofs"
 
 
 def times_of(path, runs):

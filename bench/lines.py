@@ -5,7 +5,8 @@
     python3 bench/lines.py --from FILE..
 
 Without `--from` it prints a Markdown table, a row a crate in the order of crates.txt. Code is what `src/` has but tests, contracts
-included; definitions are `specs/`, proofs are `proofs/`; tests are `src/tests.rt`, `src/tests/` and the proofs of these.
+included; definitions are `specs/`, proofs are `proofs/`; tests are `src/tests.rt`, `src/tests/` and the proofs of these, in the crate or in the
+one with `_tests` behind its name.
 
 With `--from` it follows the imports of these files of definitions, each named from `crates/`, and prints every file of this
 repository that they reach, definitions and the sources of the types that they speak of, with its lines. Who believes a contract that
@@ -22,6 +23,7 @@ from pathlib import Path
 TOP = Path(__file__).resolve().parent.parent
 CRATES = TOP / "crates"
 KINDS = ("code", "definitions", "proofs", "tests")
+TESTS = "_tests"  # behind the name of a crate: that of the crate of its tests
 COMMENT = {".rt": "//", ".antt": "--"}
 IMPORT = re.compile(r"^(?:pub )?use Rattle\.(\w+)\.specs\.([\w.]+)", re.MULTILINE)
 
@@ -69,7 +71,10 @@ def print_crates():
     print("| Crate | Code | Definitions | Proofs | Tests | All |")
     print("|---|---|---|---|---|---|")
     for name in crate_names():
-        counts = counts_of(CRATES / name)
+        if name.endswith(TESTS):
+            continue
+        counts, tests = counts_of(CRATES / name), counts_of(CRATES / (name + TESTS))
+        counts["tests"] += tests["tests"]
         print(row(name, counts))
         total = {kind: total[kind] + counts[kind] for kind in KINDS}
     print(row("all", total))
