@@ -6,9 +6,12 @@
 #![tactic(auto)]
 
 pub mod laws;
+pub mod live_records;
 mod records;
+mod scans;
 pub mod sessions;
 
+pub use live_records::LiveRecords;
 pub use sessions::Session;
 
 #[cfg(test)]

@@ -9,7 +9,7 @@ pub returns : goal.returns
 returns g c =
     record {
       answer =
-          writer_found (model c.world.result.now) (journal c.args.session.now).live c.live-steps.result.now c.args.place (run_of g.row.R (state c.args.session.now))
-          c.in-Some.field-0 (length c.live-steps.result.now + 1) c.last_below.result c.world.ensures.run (sym c.content.ensures ∙ c.in-Some.is)
+          writer_found (model c.world.result.now) (journal c.args.session.now).live c.live-steps.result c.args.place (run_of g.row.R (state c.args.session.now))
+          c.in-Some.field-0 (length c.live-steps.result + 1) c.last_below.result c.world.ensures.run (sym c.content.ensures ∙ c.in-Some.is)
           c.live-steps.ensures.records (omega arith) c.last_below.ensures;
     }
