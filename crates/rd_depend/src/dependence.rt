@@ -1,7 +1,7 @@
 //! Dependence of two records, and the first dependant in a list of them.
 
 ghost use Rattle.std.specs.Prelude.{◌≡◌, ◌≤◌, length};
-ghost use Rattle.rd_step.specs.Prelude.{some_overlap, depends, first_dependant, depends_on_one};
+ghost use Rattle.rd_step.specs.Prelude.{some_overlap, depends, first_dependant};
 
 use rd_cell::{Place, overlaps};
 use rd_step::Entry;
@@ -22,18 +22,6 @@ fn some_overlap(a: Option<Place>, b: Option<Place>) -> bool
         (Some(p), Some(q)) => overlaps(p, q),
         _ => false,
     }
-}
-
-/// Whether the step depends on one of these.
-pub fn depends_on_one(entries: &[Entry], later: &Entry) -> bool
-    ensures { result ≡ depends_on_one entries.now later.now }
-{
-    for entry in entries {
-        if depends(entry, later) {
-            return true;
-        }
-    }
-    false
 }
 
 /// The number of the first step after the `k`-th, counted from 1, that depends on it, or none.

@@ -13,7 +13,7 @@ pub mod laws;
 pub mod moves;
 
 pub use beginnings::common_beginning;
-pub use dependence::{depends, depends_on_one, first_dependant};
+pub use dependence::{depends, first_dependant};
 pub use equivalence::are_equivalent;
 pub use index::{DependIndex, Probes};
 pub use moves::move_before;

@@ -5,7 +5,7 @@ mod index;
 
 use rd_actor::{Act, Actor};
 use rd_cell::{Answer, Place, SegName};
-use rd_depend::dependence::{depends, depends_on_one, first_dependant};
+use rd_depend::dependence::{depends, first_dependant};
 use rd_depend::moves::move_before;
 use rd_step::{Entry, Event};
 use std::process::Abort;
@@ -31,9 +31,6 @@ const CALLS: Access = (3, None, false);
 
 /// The making of a segment.
 const MAKES: Access = (1, Some(Place::Whole(MADE)), true);
-
-/// A call by an actor that takes part in nothing else.
-const STRANGER: Access = (9, None, false);
 
 /// Pairs of accesses, and whether they depend on each other.
 const PAIRS: [(Access, Access, bool); 12] = [
@@ -73,10 +70,7 @@ fn two_steps_depend_on_each_other_or_not(rt: HostRuntime) {
     for (a, b, wanted) in PAIRS {
         assert_eq!(rt; depends(&record(a), &record(b)), wanted, "{a:?} and {b:?}");
         assert_eq!(rt; depends(&record(b), &record(a)), wanted, "{b:?} and {a:?}");
-        let two = [record(STRANGER), record(a)];
-        assert_eq!(rt; depends_on_one(&two, &record(b)), wanted, "{a:?}, {b:?}");
     }
-    assert!(rt; !depends_on_one(&[], &record(STRANGER)));
 }
 
 /// A run: a call, a read of a tail, a write of another one, a write of it, and a read of it again.

@@ -9,7 +9,7 @@ use Rattle.rd_step.specs.declared.entries.Entry.{Entry}
 use Rattle.rd_journal.specs.Journal.{Journal, events, start_of, IsRun, entry_of}
 use Rattle.rd_journal.specs.Records.{IsSession}
 use Rattle.rd_journal.specs.Room.{HasRoom}
-use Rattle.rd_journal.specs.State.{State, state_of, run_of, step_after, reply_in, reply_to, with_event, apply, back_one, forward_one, times, back, forward}
+use Rattle.rd_journal.specs.State.{State, state_of, run_of, step_after, reply_in, reply_to, with_event, apply, back_one, forward_one, times, undo, redo, back, forward}
 use Rattle.rd_journal.specs.Moves.{IsLengthened, IsMovedBack, IsBeforeLast}
 use Rattle.rd_journal.proofs.Runs.{step_event, start_stays, now_formed, grown}
 
@@ -34,6 +34,17 @@ pub forward_goes : (s t : State) (n : ℕ) → n ≤ length s.undone → t ≡ t
 forward_goes s t n h k =
     let no : nat_lt (length s.undone) n ≡ false = le-ltb (length s.undone) n h in
     cond-false (nat_lt (length s.undone) n) (Err NothingToRedo) (Ok (times n forward_one s)) no ∙ ap (λ (u : State). Ok u) (sym k)
+
+-- the same of one
+pub undo_goes : (s t : State) → 1 ≤ length s.live → t ≡ back_one s → undo s ≡ Ok t
+undo_goes s t h k =
+    let no : (length s.live == 0) ≡ false = ne_eqb (length s.live) 0 (λ e. (let f = e in omega arith)) in
+    cond-false (length s.live == 0) (Err (NothingToUndo 0)) (Ok (back_one s)) no ∙ ap (λ (u : State). Ok u) (sym k)
+
+pub redo_goes : (s t : State) → 1 ≤ length s.undone → t ≡ forward_one s → redo s ≡ Ok t
+redo_goes s t h k =
+    let no : (length s.undone == 0) ≡ false = ne_eqb (length s.undone) 0 (λ e. (let f = e in omega arith)) in
+    cond-false (length s.undone == 0) (Err NothingToRedo) (Ok (forward_one s)) no ∙ ap (λ (u : State). Ok u) (sym k)
 
 -- undoing leaves the start
 pub back_start : (n : ℕ) (s : State) → (times n back_one s).start ≡ s.start

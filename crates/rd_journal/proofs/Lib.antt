@@ -1,4 +1,6 @@
 pub mod ListLemmas
+pub mod Numbers
+pub mod RecordLemmas
 pub mod Runs
 pub mod Walks
 pub mod Calls

@@ -3,6 +3,7 @@ use Rattle.std.proofs.Common.{◌≡◌, ℕ, zero, suc, ◌+◌, ◌-◌, ◌<�
 use borrow.Rule.Slice.PartMut.{put_mid, mid_of}
 use Rattle.std.proofs.Math.Seq.{drop-cons, take-append_seam, drop-append_seam, take-add}
 use Rattle.std.proofs.lemmas.List.{append_assoc, take-append-drop, length-take-le, take-take, drop-take, drop-append-le, drop-drop}
+use Rattle.rd_journal.specs.Numbers.{moved_behind}
 
 -- all but the last
 pub front_of : {X : Type 0} (l : List X) (x : X) → take (length (l ++ x ∷ []) - 1) (l ++ x ∷ []) ≡ l
@@ -45,10 +46,6 @@ pub drop_behind : {X : Type 0} (l : List X) (k m n : ℕ) → m ≡ k + n → dr
 drop_behind {X} l k m n e = ap (λ (j : ℕ). drop j l) e ∙ sym (drop-drop n k l)
 
 -- The k-th of the first l elements moved behind the others of them
-
--- the elements in their new order
-abbrev pub moved_behind : {X : Type 0} → List X → ℕ → ℕ → List X
-moved_behind es k l = (take (k - 1) (take l es) ++ drop k (take l es)) ++ (take 1 (drop (k - 1) (take l es)) ++ drop l es)
 
 others_length : {X : Type 0} (es : List X) (k l : ℕ) → 1 ≤ k → k ≤ l → l ≤ length es
     → length (take (k - 1) (take l es) ++ drop k (take l es)) ≡ l - 1

@@ -1,3 +1,4 @@
+pub mod Numbers
 pub mod Journal
 pub mod State
 pub mod Room

@@ -6,7 +6,10 @@
 #![tactic(auto)]
 
 pub mod laws;
+pub mod live_records;
 mod records;
+mod scans;
 pub mod sessions;
 
+pub use live_records::LiveRecords;
 pub use sessions::Session;

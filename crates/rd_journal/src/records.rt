@@ -1,26 +1,37 @@
-//! The records of a session: one list with a border in it, those of the live steps before it and those of the undone ones behind
-//! it, the one undone last right at it.
+//! The records of a session. A record stays in the slot that it was put in; their order is a list of the slots' numbers: those of the
+//! live steps, then those of the undone ones, the one undone last in front, then those whose records were discarded.
 //!
-//! Only the border moves when a step is undone or redone last. A record that leaves the middle first moves behind the other live
-//! ones. So the room that an undo needs was made by the step that it undoes.
+//! Only the border between the first two moves when a step is undone or redone last. A record that leaves the middle first has its
+//! number moved behind those of the other live ones. So the room that an undo needs was made by the step that it undoes.
 
 ghost use Rattle.std.specs.Prelude.{◌≡◌, ◌++◌, ◌+◌, ◌-◌, ◌<◌, ◌≤◌, ◌∷◌, [], length, get_or, take, drop, vec_capacity, OnOk, OnErr};
-ghost use Rattle.rd_step.specs.Prelude.{closure_of, without_closure};
+ghost use Rattle.rd_step.specs.Prelude.{closure_of, without_closure, MOST_STEPS};
+ghost use Rattle.rd_journal.specs.Numbers.{IsOrder};
 
-use rd_depend::{depends_on_one, move_before};
+mod slots;
+
+use super::live_records::{LiveRecords, entry_at};
 use rd_step::Entry;
+use slots::{make_room_in, move_behind, move_closure_last, put_at};
 use std::alloc::{AllocError, Global};
 
 /// The records of the live steps, in their order, and those of the undone ones, the one undone last in front.
 #[derive(Drop)]
 pub(crate) struct Records {
-    entries: Vec<Entry>,
+    /// The records, each where it was put, and those that were discarded and not yet written over.
+    slots: Vec<Entry>,
+    /// The numbers of the slots: of the live records, of the undone ones, and of the discarded ones.
+    order: Vec<u32>,
+    /// How many are live.
     live: usize,
-    ghost within: { live ≤ length entries.items },
+    /// How many are undone.
+    undone: usize,
+    ghost order_of_all: { IsOrder (length slots.items) order.items },
+    ghost within: { live + undone ≤ length order.items },
 }
 
 impl Records {
-    ghost use Rattle.rd_journal.specs.Records.{live_records, undone_records, records_capacity};
+    ghost use Rattle.rd_journal.specs.Records.{all_records, live_records, undone_records, records_capacity};
 
     /// No record. It takes no memory.
     pub(crate) fn new(alloc: Global) -> Records
@@ -29,16 +40,18 @@ impl Records {
         ensures capacity { records_capacity result ≡ 0 }
     {
         Records {
-            entries: Vec::new(alloc),
+            slots: Vec::new(alloc),
+            order: Vec::new(alloc),
             live: 0,
+            undone: 0,
         }
     }
 
     /// Those of the live steps.
-    pub(crate) fn live(&self) -> &[Entry]
-        ensures { result.now ≡ live_records self.now }
+    pub(crate) fn live(&self) -> LiveRecords<'_>
+        ensures { result ≡ live_records self.now }
     {
-        &self.entries[..self.live]
+        LiveRecords::new(&self.slots, &self.order[..self.live])
     }
 
     /// How many steps are live.
@@ -52,7 +65,7 @@ impl Records {
     pub(crate) fn undone_len(&self) -> usize
         ensures { result ≡ length (undone_records self.now) }
     {
-        self.entries.len() - self.live
+        self.undone
     }
 
     /// The record of the live step at this position, from 0.
@@ -60,7 +73,7 @@ impl Records {
         requires within { position < length (live_records self.now) }
         ensures { result.now ≡ get_or (live_records self.now) position result.now }
     {
-        &self.entries[position]
+        self.at(position)
     }
 
     /// The record of the last live step.
@@ -68,7 +81,7 @@ impl Records {
         requires some { 1 ≤ length (live_records self.now) }
         ensures { live_records self.now ≡ take (length (live_records self.now) - 1) (live_records self.now) ++ result.now ∷ [] }
     {
-        &self.entries[self.live - 1]
+        self.at(self.live - 1)
     }
 
     /// The record of the step that was undone last.
@@ -76,7 +89,15 @@ impl Records {
         requires some { 1 ≤ length (undone_records self.now) }
         ensures { undone_records self.now ≡ result.now ∷ drop 1 (undone_records self.now) }
     {
-        &self.entries[self.live]
+        self.at(self.live)
+    }
+
+    /// The record whose slot's number stands at this place of the order.
+    fn at(&self, place: usize) -> &Entry
+        requires { place < length (all_records self.now) }
+        ensures { result.now ≡ get_or (all_records self.now) place result.now }
+    {
+        entry_at(&self.slots, &self.order, place)
     }
 
     /// Makes the last live record the front of the undone ones.
@@ -88,6 +109,7 @@ impl Records {
         ensures capacity { records_capacity self.new ≡ records_capacity self.old }
     {
         self.live -= 1;
+        self.undone += 1;
     }
 
     /// Makes the front of the undone records the last live one.
@@ -98,6 +120,7 @@ impl Records {
         ensures capacity { records_capacity self.new ≡ records_capacity self.old }
     {
         self.live += 1;
+        self.undone -= 1;
     }
 
     /// Makes the `k`-th live record the front of the undone ones. All others stay in their order.
@@ -108,8 +131,9 @@ impl Records {
         ensures undone { undone_records self.new ≡ take 1 (drop (k - 1) (live_records self.old)) ++ undone_records self.old }
         ensures capacity { records_capacity self.new ≡ records_capacity self.old }
     {
-        move_behind(&mut self.entries, k, self.live);
+        move_behind(&mut self.order, k, self.live);
         self.live -= 1;
+        self.undone += 1;
     }
 
     /// Puts the `k`-th live record and those that depend on it, directly or through others, behind the other live ones, all in
@@ -123,7 +147,7 @@ impl Records {
         ensures len { length (live_records self.new) ≡ length (live_records self.old) }
         ensures capacity { records_capacity self.new ≡ records_capacity self.old }
     {
-        move_closure_last(&mut self.entries, k, self.live)
+        move_closure_last(&self.slots, &mut self.order, k, self.live)
     }
 
     /// Makes room for one more live record: if a record is undone, or the room is there, it asks for none.
@@ -134,10 +158,11 @@ impl Records {
         ensures none { OnErr result (undone_records self.old ≡ []) }
         ensures full { OnErr result (records_capacity self.old ≡ length (live_records self.old)) }
     {
-        if self.live < self.entries.len() {
+        if self.live < self.order.len() {
             return Ok(());
         }
-        self.entries.reserve(1)
+        self.slots.reserve(1)?;
+        self.order.reserve(1)
     }
 
     /// Makes room for so many records. Room that is there is not asked for.
@@ -148,87 +173,47 @@ impl Records {
         ensures err { OnErr result (records_capacity self.old < needed) }
         ensures same { needed ≤ records_capacity self.old → records_capacity self.new ≡ records_capacity self.old }
     {
-        if needed <= self.entries.capacity() {
-            return Ok(());
-        }
-        self.entries.reserve(needed - self.entries.len())
+        make_room_in(&mut self.slots, needed)?;
+        make_room_in(&mut self.order, needed)
     }
 
     /// Puts a record last among the live ones, and discards the undone ones.
     pub(crate) fn push(&mut self, entry: Entry)
         requires room { length (live_records self.old) < records_capacity self.old }
+        requires few { length (live_records self.old) < MOST_STEPS }
         ensures live { live_records self.new ≡ live_records self.old ++ entry ∷ [] }
         ensures undone { undone_records self.new ≡ [] }
         ensures capacity { records_capacity self.new ≡ records_capacity self.old }
     {
-        self.entries.truncate(self.live);
-        self.entries.push_reserved(entry);
-        self.live += 1;
+        self.undone = 0;
+        self.put_behind(entry);
+        self.step_forward();
     }
 
     /// Exchanges the undone records for these, the first of which is in front, inside the room that there is.
     pub(crate) fn replace_undone(&mut self, given: &[Entry])
         requires room { length (live_records self.old) + length given.now ≤ records_capacity self.old }
+        requires few { length (live_records self.old) + length given.now ≤ MOST_STEPS }
         ensures live { live_records self.new ≡ live_records self.old }
         ensures undone { undone_records self.new ≡ given.now }
         ensures capacity { records_capacity self.new ≡ records_capacity self.old }
     {
-        replace_behind(&mut self.entries, self.live, given);
-    }
-}
-
-/// Moves the `k`-th of the first `live` records behind the others of them, which keep their order.
-fn move_behind(entries: &mut Vec<Entry>, k: usize, live: usize)
-    requires some { 1 ≤ k }
-    requires position { k ≤ live }
-    requires within { live ≤ length entries.old.items }
-    ensures before { take (live - 1) entries.new.items
-        ≡ take (k - 1) (take live entries.old.items) ++ drop k (take live entries.old.items) }
-    ensures behind { drop (live - 1) entries.new.items
-        ≡ take 1 (drop (k - 1) (take live entries.old.items)) ++ drop live entries.old.items }
-    ensures len { length entries.new.items ≡ length entries.old.items }
-    ensures capacity { vec_capacity entries.new ≡ vec_capacity entries.old }
-{
-    let later = &mut entries[k - 1..live];
-    later.rotate_left(1);
-}
-
-/// Moves the `k`-th of the first `live` records and those of them that depend on it, directly or through others, behind
-/// the others of them, all in their order. Answers how many these are.
-///
-/// They stand in one block that grows at its end: a later record that depends on one of them joins it, and any other
-/// moves before it.
-fn move_closure_last(entries: &mut Vec<Entry>, k: usize, live: usize) -> usize
-    requires some { 1 ≤ k }
-    requires position { k ≤ live }
-    requires within { live ≤ length entries.old.items }
-    ensures count { result ≡ length (closure_of (take live entries.old.items) k) }
-    ensures moved { take live entries.new.items
-        ≡ without_closure (take live entries.old.items) k ++ closure_of (take live entries.old.items) k }
-    ensures behind { drop live entries.new.items ≡ drop live entries.old.items }
-    ensures len { length entries.new.items ≡ length entries.old.items }
-    ensures capacity { vec_capacity entries.new ≡ vec_capacity entries.old }
-{
-    let mut front = k - 1;
-    for next in k..live {
-        let later = entries[next];
-        if !depends_on_one(&entries[front..next], &later) {
-            move_before(entries, front, next);
-            front += 1;
+        self.undone = 0;
+        for entry in given {
+            self.put_behind(*entry);
         }
     }
-    live - front
-}
 
-/// Puts the given records behind the first `kept` ones, in place of all others, inside the room that there is.
-fn replace_behind(entries: &mut Vec<Entry>, kept: usize, given: &[Entry])
-    requires within { kept ≤ length entries.old.items }
-    requires capacity { kept + length given.now ≤ vec_capacity entries.old }
-    ensures replaced { entries.new.items ≡ take kept entries.old.items ++ given.now }
-    ensures capacity { vec_capacity entries.new ≡ vec_capacity entries.old }
-{
-    entries.truncate(kept);
-    for entry in given {
-        entries.push_reserved(*entry);
+    /// Puts a record last among the undone ones: over the first discarded one, or where none is, into a new slot.
+    fn put_behind(&mut self, entry: Entry)
+        requires room { length (live_records self.old) + length (undone_records self.old) < records_capacity self.old }
+        requires few { length (live_records self.old) + length (undone_records self.old) < MOST_STEPS }
+        ensures live { live_records self.new ≡ live_records self.old }
+        ensures undone { undone_records self.new ≡ undone_records self.old ++ entry ∷ [] }
+        ensures capacity { records_capacity self.new ≡ records_capacity self.old }
+    {
+        let place = self.live + self.undone;
+        put_at(&mut self.slots, &mut self.order, place, entry);
+        self.undone += 1;
     }
 }

@@ -17,10 +17,11 @@ ghost use Rattle.rd_journal.specs.State.{run_of, apply, reply_to, undo, undo_at,
 ghost use Rattle.rd_journal.specs.Laws.{IsStepAfter};
 ghost use Rattle.rd_journal.specs.Moves.{IsLengthened, IsMovedBack, IsMovedForward, IsBeforeLast, IsTakenOutAt, IsWithout, IsSwitched, IsRolledBack, IsWithoutClosure, answer_at, roll_answer};
 
+use super::live_records::LiveRecords;
 use super::records::Records;
+use super::scans::first_dependant;
 use rd_cell::Refusal;
 use rd_cell::limits::MOST_STEPS;
-use rd_depend::first_dependant;
 use rd_step::{Entry, Event, World};
 use std::alloc::Global;
 
@@ -119,7 +120,7 @@ impl<const R: usize> Session<R> {
         if len < k || k == 0 {
             return Err(Refusal::NoSuchStep(len));
         }
-        if let Some(dependant) = first_dependant(self.records.live(), k) {
+        if let Some(dependant) = first_dependant(&self.records.live(), k) {
             return Err(Refusal::Depended(dependant));
         }
         self.undo_alone(k);
@@ -254,11 +255,11 @@ impl<const R: usize> Session<R> {
     }
 
     /// The records of the live steps, in their order. They are those of a run from the start.
-    pub fn live(&self) -> &[Entry]
-        ensures records { result.now ≡ (journal self.now).live }
-        ensures run { IsRunFrom R (state self.now).start result.now }
-        ensures events { events result.now ≡ (state self.now).live }
-        ensures few { length result.now ≤ MOST_STEPS }
+    pub fn live(&self) -> LiveRecords<'_>
+        ensures records { result ≡ (journal self.now).live }
+        ensures run { IsRunFrom R (state self.now).start result }
+        ensures events { events result ≡ (state self.now).live }
+        ensures few { length result ≤ MOST_STEPS }
     {
         self.records.live()
     }

@@ -53,11 +53,11 @@ pub(crate) fn put_mark<const R: usize>(
     ensures unchanged { OnErr result (marks_of (mark_tree tree.new) marks.new.entries ≡ marks_of (mark_tree tree.old) marks.old.entries) }
 {
     let live = session.live();
-    let beginning = tree.follow(*here, live);
-    let rest = &live[tree.depth(beginning)..];
+    let beginning = tree.follow(*here, &live);
+    let rest = live.behind(tree.depth(beginning));
     tree.reserve(rest.len())?;
     marks.reserve(1)?;
-    let node = tree.grow(beginning, rest);
+    let node = tree.grow(beginning, &rest);
     *here = node;
     match marks.insert(name, node) {
         Err(_) => unreachable!(),
@@ -87,7 +87,7 @@ pub(crate) fn switch_to<const R: usize>(
     ensures succeeds { Begins (events (path_in (mark_tree tree.now) node)) (state session.old).live → IsOk result }
     ensures unchanged { OnErr result (journal session.new ≡ journal session.old) }
 {
-    let beginning = tree.follow(here, session.live());
+    let beginning = tree.follow(here, &session.live());
     let common = tree.depth(tree.common(beginning, node));
     match tree.records(alloc, node, common) {
         Err(_) => Err(Refusal::NoMemory),

@@ -10,8 +10,7 @@ use super::origins::Origin;
 use super::searches::{Sought, last_below, step_of};
 use rd_actor::OpReply;
 use rd_cell::{Place, Refusal};
-use rd_journal::Session;
-use rd_step::Entry;
+use rd_journal::{LiveRecords, Session};
 
 /// The origin of the value that the live step of this number took, from 1: the last step before it that put a value into
 /// the same cell, and the call that this put was made in.
@@ -31,9 +30,9 @@ pub fn origin<const R: usize>(session: &Session<R>, k: u64) -> Result<Origin, Re
         return Err(Refusal::NotATake);
     }
     let steps = session.live();
-    let put = last_put(steps, k, taken.place);
+    let put = last_put(&steps, k, taken.place);
     Ok(Origin {
-        call: last_call(steps, put),
+        call: last_call(&steps, put),
         put,
         take: k,
     })
@@ -47,14 +46,14 @@ fn takes_value(reply: Option<OpReply>) -> bool
 }
 
 /// The last step before the `k`-th that put a value into the cell, if there is a cell.
-fn last_put(steps: &[Entry], k: u64, cell: Option<Place>) -> Option<u64>
+fn last_put(steps: &LiveRecords, k: u64, cell: Option<Place>) -> Option<u64>
     ensures { result ≡ put_of steps.now k cell }
 {
     last_below(steps, k, Sought::PutInto(cell?))
 }
 
 /// The last call before the step of this number by the actor of that step, if there is one.
-fn last_call(steps: &[Entry], number: Option<u64>) -> Option<u64>
+fn last_call(steps: &LiveRecords, number: Option<u64>) -> Option<u64>
     ensures { result ≡ call_of steps.now number }
 {
     let number = number?;
@@ -79,5 +78,5 @@ pub fn last_writer<const R: usize>(
     };
     let steps = session.live();
     let behind = steps.len() as u64 + 1;
-    Ok(last_below(steps, behind, Sought::WriteOf(place)))
+    Ok(last_below(&steps, behind, Sought::WriteOf(place)))
 }

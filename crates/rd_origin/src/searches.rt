@@ -9,6 +9,7 @@ ghost use Rattle.rd_origin.specs.Searches.{is_sought, is_sought_in};
 
 use rd_actor::{Act, Pc};
 use rd_cell::{Place, overlaps};
+use rd_journal::LiveRecords;
 use rd_step::Entry;
 
 /// What is looked for.
@@ -36,7 +37,7 @@ impl Sought {
 }
 
 /// The greatest number below this one of a step that is what is looked for.
-pub(crate) fn last_below(steps: &[Entry], below: u64, sought: Sought) -> Option<u64>
+pub(crate) fn last_below(steps: &LiveRecords, below: u64, sought: Sought) -> Option<u64>
     ensures { result ≡ last_position (is_sought sought) (take (below - 1) steps.now) }
 {
     for number in (1..below).rev() {
@@ -48,7 +49,7 @@ pub(crate) fn last_below(steps: &[Entry], below: u64, sought: Sought) -> Option<
 }
 
 /// Whether there is a step of this number, and it is what is looked for.
-fn is_at_number(steps: &[Entry], number: u64, sought: Sought) -> bool
+fn is_at_number(steps: &LiveRecords, number: u64, sought: Sought) -> bool
     ensures { result ≡ is_sought_in sought steps.now number }
 {
     match step_of(steps, number) {
@@ -58,7 +59,7 @@ fn is_at_number(steps: &[Entry], number: u64, sought: Sought) -> bool
 }
 
 /// The step of this number, from 1, if there is one.
-pub(crate) fn step_of(steps: &[Entry], number: u64) -> Option<&Entry>
+pub(crate) fn step_of<'a>(steps: &LiveRecords<'a>, number: u64) -> Option<&'a Entry>
     ensures { MatchOption result (numbered steps.now number ≡ None) (λ step. numbered steps.now number ≡ Some step.now) }
 {
     if number == 0 {

@@ -17,8 +17,11 @@ fn live_records<const R: usize>(
 ) -> Result<Vec<Entry>, AllocError>
     ensures { IfOk result (λ records. records.items ≡ (journal session.now).live) }
 {
+    let live = session.live();
     let mut records = Vec::new(alloc);
-    records.extend_from_slice(session.live())?;
+    for position in 0..live.len() {
+        records.push(*live.at(position))?;
+    }
     Ok(records)
 }
 

@@ -6,6 +6,7 @@ ghost use Rattle.rd_step.specs.Run.{events};
 ghost use Rattle.rd_depend.specs.Beginnings.{Begins};
 
 use super::Tree;
+use rd_journal::LiveRecords;
 use rd_step::Entry;
 use std::alloc::{AllocError, Global};
 
@@ -14,7 +15,7 @@ impl Tree {
     ghost use Rattle.rd_marks.specs.TreeViews.{mark_tree, HasRoom, HasForkRoom};
 
     /// The deepest node whose path begins these records, found from one whose path does.
-    pub(crate) fn follow(&self, from: Option<usize>, records: &[Entry]) -> Option<usize>
+    pub(crate) fn follow(&self, from: Option<usize>, records: &LiveRecords) -> Option<usize>
         requires present { IsIn (mark_tree self.now) from }
         requires within { depth_in (mark_tree self.now) from ≤ length records.now }
         requires begins { events (path_in (mark_tree self.now) from) ≡ take (depth_in (mark_tree self.now) from) (events records.now) }
@@ -25,7 +26,7 @@ impl Tree {
     {
         let mut at = from;
         for index in self.depth(from)..records.len() {
-            let Some(key) = self.child_by(at, &records[index].event) else {
+            let Some(key) = self.child_by(at, &records.at(index).event) else {
                 return at;
             };
             at = Some(key);
@@ -34,7 +35,7 @@ impl Tree {
     }
 
     /// Puts nodes with these records below one another, the first below this node, in the room that was made. Answers the last.
-    pub(crate) fn grow(&mut self, from: Option<usize>, records: &[Entry]) -> Option<usize>
+    pub(crate) fn grow(&mut self, from: Option<usize>, records: &LiveRecords) -> Option<usize>
         requires present { IsIn (mark_tree self.old) from }
         requires few { depth_in (mark_tree self.old) from + length records.now ≤ MOST_STEPS }
         requires new { IsNew (mark_tree self.old) from records.now }
@@ -47,7 +48,7 @@ impl Tree {
     {
         let mut at = from;
         for index in 0..records.len() {
-            at = Some(self.add(at, records[index]));
+            at = Some(self.add(at, *records.at(index)));
         }
         at
     }

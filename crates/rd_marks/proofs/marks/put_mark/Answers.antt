@@ -1,4 +1,4 @@
-use Rattle.std.proofs.Common.{◌≡◌, ◌-◌, All, ◌++◌, ◌∷◌, [], ℕ, Option, List, refl, ap, subst, sym, length, take, drop, ◌∙◌}
+use Rattle.std.proofs.Common.{◌≡◌, All, ◌++◌, ◌∷◌, [], ℕ, Option, List, refl, ap, subst, sym, drop, ◌∙◌}
 use Rattle.rd_step.specs.declared.entries.Entry.{Entry}
 use Rattle.rd_journal.specs.Journal.{events}
 use Rattle.rd_journal.specs.Sessions.{state}
@@ -11,7 +11,6 @@ use Rattle.rd_marks.specs.Tree.{MarkTree, IsIn, IsNew, depth_in, path_in}
 use Rattle.rd_marks.specs.TreeViews.{mark_tree}
 use Rattle.rd_marks.proofs.Here.{within_at, begins_at, stands_at, stands_in}
 use Rattle.rd_marks.proofs.TreeLemmas.{path_length}
-use Rattle.rd_marks.proofs.RecordLemmas.{to_the_end}
 use Rattle.rd_marks.proofs.MarkLemmas.{entries_put}
 use Rattle.rd_marks.proofs.Sharing.{kept_in, kept_with, marks_with, keeps, node_runs, whole_path}
 use Rattle.rd_marks.proofs.marks.put_mark.Goals as goal
@@ -28,11 +27,11 @@ returns-in_err-reserve-2-clause-kept g c =
 
 pub follow-beginning-requires-clause-within : goal.follow-beginning-requires-clause-within
 follow-beginning-requires-clause-within g c =
-    within_at (mark_tree c.args.tree.now) c.args.tree.now.kept.tree c.args.here.now c.live-live.result.now (state c.args.session.now).live c.live-live.ensures.events c.requires.here
+    within_at (mark_tree c.args.tree.now) c.args.tree.now.kept.tree c.args.here.now c.live-live.result (state c.args.session.now).live c.live-live.ensures.events c.requires.here
 
 pub follow-beginning-requires-clause-begins : goal.follow-beginning-requires-clause-begins
 follow-beginning-requires-clause-begins g c =
-    begins_at (mark_tree c.args.tree.now) c.args.tree.now.kept.tree c.args.here.now c.live-live.result.now (state c.args.session.now).live c.live-live.ensures.events c.requires.here
+    begins_at (mark_tree c.args.tree.now) c.args.tree.now.kept.tree c.args.here.now c.live-live.result (state c.args.session.now).live c.live-live.ensures.events c.requires.here
 
 pub returns-in_err-reserve-clause-here : goal.returns-in_err-reserve-clause-here
 returns-in_err-reserve-clause-here g c =
@@ -45,10 +44,10 @@ returns-in_err-reserve-2-clause-here g c =
 pub grow-node-requires-clause-new : goal.grow-node-requires-clause-new
 grow-node-requires-clause-new g c =
     let t = mark_tree c.args.tree.now in
-    let live = c.live-live.result.now in
+    let live = c.live-live.result in
     let b = c.follow-beginning.result in
-    let rest = to_the_end c.depth.result live ∙ ap (λ (n : ℕ). drop n live) c.depth.ensures in
-    subst (λ (v : MarkTree). IsNew v b (take (length live - c.depth.result) (drop c.depth.result live))) (sym c.reserve.ensures.nodes)
+    let rest = c.behind-rest.ensures ∙ ap (λ (n : ℕ). drop n live) c.depth.ensures in
+    subst (λ (v : MarkTree). IsNew v b c.behind-rest.result) (sym c.reserve.ensures.nodes)
     (subst (λ (xs : List Entry). IsNew t b xs) (sym rest) c.follow-beginning.ensures.deepest)
 
 pub returns-clause-ok : goal.returns-clause-ok
@@ -59,7 +58,7 @@ returns-clause-ok g c =
     let u = mark_tree c.grow-node.new.self in
     let ms = c.args.marks.now.entries in
     let es = c.insert.new.self.entries in
-    let live = c.live-live.result.now in
+    let live = c.live-live.result in
     let b = c.follow-beginning.result in
     let node = c.grow-node.result in
     let rule = c.args.tree.now.kept.tree in
@@ -67,10 +66,10 @@ returns-clause-ok g c =
     let kept = keeps g.row.R w c.args.tree.now.nodes ms c.requires.kept in
     let run : IsRecordOfRun g.row.R w live = record { few = c.live-live.ensures.few; ran = c.live-live.ensures.run } in
     let whole : path_in u node ≡ live =
-    c.grow-node.ensures.path ∙ ap (λ (v : MarkTree). path_in v b ++ take (length live - c.depth.result) (drop c.depth.result live)) nodes
-    ∙ whole_path g.row.R w (path_in t b) live (take (length live - c.depth.result) (drop c.depth.result live)) (depth_in t b)
+    c.grow-node.ensures.path ∙ ap (λ (v : MarkTree). path_in v b ++ c.behind-rest.result) nodes
+    ∙ whole_path g.row.R w (path_in t b) live c.behind-rest.result (depth_in t b)
     (node_runs t rule ms kept.used g.row.R w kept.runs b c.follow-beginning.ensures.present) run (path_length t rule b c.follow-beginning.ensures.present)
-    c.follow-beginning.ensures.begins (to_the_end c.depth.result live ∙ ap (λ (n : ℕ). drop n live) c.depth.ensures) in
+    c.follow-beginning.ensures.begins (c.behind-rest.ensures ∙ ap (λ (n : ℕ). drop n live) c.depth.ensures) in
     let entries : es ≡ ms ++ (c.args.name, node) ∷ [] =
     entries_put t c.args.name node ms es c.requires.new
     (c.in-Ok.ensures.entries ∙ ap (λ (xs : List (MarkName × Option ℕ)). insert_entry same_name xs c.args.name node) c.reserve-2.ensures.entries) in
@@ -86,7 +85,7 @@ returns-clause-kept g c =
     let u = mark_tree c.grow-node.new.self in
     let ms = c.args.marks.now.entries in
     let es = c.insert.new.self.entries in
-    let live = c.live-live.result.now in
+    let live = c.live-live.result in
     let b = c.follow-beginning.result in
     let node = c.grow-node.result in
     let rule = c.args.tree.now.kept.tree in
@@ -94,10 +93,10 @@ returns-clause-kept g c =
     let kept = keeps g.row.R w c.args.tree.now.nodes ms c.requires.kept in
     let run : IsRecordOfRun g.row.R w live = record { few = c.live-live.ensures.few; ran = c.live-live.ensures.run } in
     let whole : path_in u node ≡ live =
-    c.grow-node.ensures.path ∙ ap (λ (v : MarkTree). path_in v b ++ take (length live - c.depth.result) (drop c.depth.result live)) nodes
-    ∙ whole_path g.row.R w (path_in t b) live (take (length live - c.depth.result) (drop c.depth.result live)) (depth_in t b)
+    c.grow-node.ensures.path ∙ ap (λ (v : MarkTree). path_in v b ++ c.behind-rest.result) nodes
+    ∙ whole_path g.row.R w (path_in t b) live c.behind-rest.result (depth_in t b)
     (node_runs t rule ms kept.used g.row.R w kept.runs b c.follow-beginning.ensures.present) run (path_length t rule b c.follow-beginning.ensures.present)
-    c.follow-beginning.ensures.begins (to_the_end c.depth.result live ∙ ap (λ (n : ℕ). drop n live) c.depth.ensures) in
+    c.follow-beginning.ensures.begins (c.behind-rest.ensures ∙ ap (λ (n : ℕ). drop n live) c.depth.ensures) in
     let entries : es ≡ ms ++ (c.args.name, node) ∷ [] =
     entries_put t c.args.name node ms es c.requires.new
     (c.in-Ok.ensures.entries ∙ ap (λ (xs : List (MarkName × Option ℕ)). insert_entry same_name xs c.args.name node) c.reserve-2.ensures.entries) in
@@ -112,7 +111,7 @@ returns-clause-here g c =
     let between = mark_tree c.reserve.new.self in
     let u = mark_tree c.grow-node.new.self in
     let ms = c.args.marks.now.entries in
-    let live = c.live-live.result.now in
+    let live = c.live-live.result in
     let b = c.follow-beginning.result in
     let node = c.grow-node.result in
     let rule = c.args.tree.now.kept.tree in
@@ -120,8 +119,8 @@ returns-clause-here g c =
     let kept = keeps g.row.R w c.args.tree.now.nodes ms c.requires.kept in
     let run : IsRecordOfRun g.row.R w live = record { few = c.live-live.ensures.few; ran = c.live-live.ensures.run } in
     let whole : path_in u node ≡ live =
-    c.grow-node.ensures.path ∙ ap (λ (v : MarkTree). path_in v b ++ take (length live - c.depth.result) (drop c.depth.result live)) nodes
-    ∙ whole_path g.row.R w (path_in t b) live (take (length live - c.depth.result) (drop c.depth.result live)) (depth_in t b)
+    c.grow-node.ensures.path ∙ ap (λ (v : MarkTree). path_in v b ++ c.behind-rest.result) nodes
+    ∙ whole_path g.row.R w (path_in t b) live c.behind-rest.result (depth_in t b)
     (node_runs t rule ms kept.used g.row.R w kept.runs b c.follow-beginning.ensures.present) run (path_length t rule b c.follow-beginning.ensures.present)
-    c.follow-beginning.ensures.begins (to_the_end c.depth.result live ∙ ap (λ (n : ℕ). drop n live) c.depth.ensures) in
+    c.follow-beginning.ensures.begins (c.behind-rest.ensures ∙ ap (λ (n : ℕ). drop n live) c.depth.ensures) in
     stands_at u node (state c.args.session.now).live c.grow-node.ensures.present (ap events whole ∙ c.live-live.ensures.events)

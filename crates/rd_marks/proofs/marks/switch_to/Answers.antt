@@ -14,11 +14,11 @@ use Rattle.rd_marks.proofs.marks.switch_to.Goals as goal
 
 pub follow-beginning-requires-clause-within : goal.follow-beginning-requires-clause-within
 follow-beginning-requires-clause-within g c =
-    within_at (mark_tree c.args.tree.now) c.args.tree.now.kept.tree c.args.here c.live.result.now (state c.args.session.now).live c.live.ensures.events c.requires.here
+    within_at (mark_tree c.args.tree.now) c.args.tree.now.kept.tree c.args.here c.live.result (state c.args.session.now).live c.live.ensures.events c.requires.here
 
 pub follow-beginning-requires-clause-begins : goal.follow-beginning-requires-clause-begins
 follow-beginning-requires-clause-begins g c =
-    begins_at (mark_tree c.args.tree.now) c.args.tree.now.kept.tree c.args.here c.live.result.now (state c.args.session.now).live c.live.ensures.events c.requires.here
+    begins_at (mark_tree c.args.tree.now) c.args.tree.now.kept.tree c.args.here c.live.result (state c.args.session.now).live c.live.ensures.events c.requires.here
 
 pub records-requires-clause-within : goal.records-requires-clause-within
 records-requires-clause-within g c =
@@ -39,7 +39,7 @@ switch-requires g c =
     let second = common_depth t rule c.common.result node c.common.ensures.present c.requires.present c.common.ensures.second in
     let long = path_length t rule node c.requires.present in
     let shared =
-    common_events t rule beginning c.common.result node (events c.live.result.now) c.follow-beginning.ensures.present c.common.ensures.present c.requires.present
+    common_events t rule beginning c.common.result node (events c.live.result) c.follow-beginning.ensures.present c.common.ensures.present c.requires.present
     c.common.ensures.first c.common.ensures.second c.follow-beginning.ensures.begins in
     let same : take n (state c.args.session.now).live ≡ take n (events ys) =
     subst (λ (m : ℕ). take m (state c.args.session.now).live ≡ take m (events ys)) (sym c.depth-common.ensures)
@@ -58,10 +58,10 @@ pub returns-in-Err-clause-succeeds : goal.returns-in-Err-clause-succeeds
 returns-in-Err-clause-succeeds g c = λ h.
     let t = mark_tree c.args.tree.now in
     let rule = c.args.tree.now.kept.tree in
-    let here : Begins (events (path_in t c.args.node)) (events c.live.result.now) =
+    let here : Begins (events (path_in t c.args.node)) (events c.live.result) =
     subst (λ (es : List Event). Begins (events (path_in t c.args.node)) es) (sym c.live.ensures.events) h in
     let meets =
-    c.common.ensures.second_begins (reached t rule c.follow-beginning.result c.args.node c.live.result.now c.follow-beginning.ensures.present c.requires.present
+    c.common.ensures.second_begins (reached t rule c.follow-beginning.result c.args.node c.live.result c.follow-beginning.ensures.present c.requires.present
     c.follow-beginning.ensures.begins c.follow-beginning.ensures.deepest here) in
     let all : depth_in t c.args.node ≡ c.depth-common.result = ap (depth_in t) (sym meets) ∙ sym c.depth-common.ensures in
     c.in-Err.ensures.succeeds all
@@ -75,7 +75,7 @@ returns-in-Ok-clause-ok g c =
     let ys = path_in t node in
     let given = c.deref.ensures.value ∙ c.in-Ok.ensures.ok in
     let shared =
-    common_events t rule beginning c.common.result node (events c.live.result.now) c.follow-beginning.ensures.present c.common.ensures.present c.requires.present
+    common_events t rule beginning c.common.result node (events c.live.result) c.follow-beginning.ensures.present c.common.ensures.present c.requires.present
     c.common.ensures.first c.common.ensures.second c.follow-beginning.ensures.begins in
     let same : take c.depth-common.result (state c.args.session.now).live ≡ take c.depth-common.result (events ys) =
     subst (λ (m : ℕ). take m (state c.args.session.now).live ≡ take m (events ys)) (sym c.depth-common.ensures)
@@ -86,10 +86,10 @@ pub returns-in-Ok-clause-succeeds : goal.returns-in-Ok-clause-succeeds
 returns-in-Ok-clause-succeeds g c = λ h.
     let t = mark_tree c.args.tree.now in
     let rule = c.args.tree.now.kept.tree in
-    let here : Begins (events (path_in t c.args.node)) (events c.live.result.now) =
+    let here : Begins (events (path_in t c.args.node)) (events c.live.result) =
     subst (λ (es : List Event). Begins (events (path_in t c.args.node)) es) (sym c.live.ensures.events) h in
     let meets =
-    c.common.ensures.second_begins (reached t rule c.follow-beginning.result c.args.node c.live.result.now c.follow-beginning.ensures.present c.requires.present
+    c.common.ensures.second_begins (reached t rule c.follow-beginning.result c.args.node c.live.result c.follow-beginning.ensures.present c.requires.present
     c.follow-beginning.ensures.begins c.follow-beginning.ensures.deepest here) in
     let all : depth_in t c.args.node ≡ c.depth-common.result = ap (depth_in t) (sym meets) ∙ sym c.depth-common.ensures in
     let long = path_length t rule c.args.node c.requires.present in

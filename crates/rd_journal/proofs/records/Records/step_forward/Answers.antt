@@ -1,9 +1,14 @@
-use Rattle.std.proofs.Common.{◌+◌, refl}
-use Rattle.rd_journal.proofs.ListLemmas.{take_behind, drop_behind}
+use Rattle.std.proofs.Common.{arith}
+use Rattle.rd_journal.specs.Records.{all_records}
+use Rattle.rd_journal.proofs.RecordLemmas.{undone-length, cut_on, cut_on_rest}
 use Rattle.rd_journal.proofs.records.Records.step_forward.Goals as goal
 
 pub returns-clause-live : goal.returns-clause-live
-returns-clause-live c = take_behind c.args.self.now.entries.items c.args.self.now.live (c.args.self.now.live + 1) 1 refl
+returns-clause-live c =
+    let self = c.args.self.now in
+    cut_on (all_records self) self.live self.undone (omega (arith, undone-length self))
 
 pub returns-clause-undone : goal.returns-clause-undone
-returns-clause-undone c = drop_behind c.args.self.now.entries.items c.args.self.now.live (c.args.self.now.live + 1) 1 refl
+returns-clause-undone c =
+    let self = c.args.self.now in
+    cut_on_rest (all_records self) self.live self.undone (omega (arith, undone-length self))

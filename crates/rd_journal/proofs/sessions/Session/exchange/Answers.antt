@@ -47,3 +47,12 @@ returns-clause-state g c =
     (switched_start n (length c.args.given.now) old mid put new c.args.given.now c.undo_many.ensures.state is c.redo_many.ensures.state)
     (switched_records n c.args.kept old mid put new c.args.given.now (omega (arith, c.len.ensures.records, c.requires.within)) c.undo_many.ensures.records is
     c.redo_many.ensures.records)
+
+pub returns-clause-records : goal.returns-clause-records
+returns-clause-records g c =
+    let old = journal c.args.self.now in
+    let mid = journal c.undo_many.new.self in
+    let put = journal_of (model c.undo_many.new.self.world) c.replace_undone.new.self in
+    let is : IsReplaced c.args.given.now mid put = record { world = refl; live = c.replace_undone.ensures.live; undone = c.replace_undone.ensures.undone } in
+    switched_records (c.len.result - c.args.kept) c.args.kept old mid put (journal c.redo_many.new.self) c.args.given.now
+    (omega (arith, c.len.ensures.records, c.requires.within)) c.undo_many.ensures.records is c.redo_many.ensures.records
