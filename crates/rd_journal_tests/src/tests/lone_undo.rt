@@ -81,7 +81,7 @@ pub(super) fn shown(entry: Entry) -> (Event, Option<Place>, bool, Answer, Option
 }
 
 /// An enqueue and a dequeue begin, and each reads a name.
-const TWO_CALLS: [(Line, Reply); 4] = [
+const TWO_CALLS: &[(Line, Reply)] = &[
     (Line::Act(1, Act::Enq(7)), Ok((1, 0))),
     (Line::Act(2, Act::Deq), Ok((2, 0))),
     (Line::Go(1, 1), Ok((3, 0))),
@@ -91,7 +91,7 @@ const TWO_CALLS: [(Line, Reply); 4] = [
 #[test]
 fn a_step_in_the_middle_is_undone_and_redone_last(rt: HostRuntime) -> Result<(), Fail> {
     let mut session = Session::open(rt.alloc(), World::<4>::fresh(rt.alloc(), 4)?);
-    walk(&rt, &mut session, &TWO_CALLS);
+    walk(&rt, &mut session, TWO_CALLS);
     walk(
         &rt,
         &mut session,
@@ -123,7 +123,7 @@ fn a_step_in_the_middle_is_undone_and_redone_last(rt: HostRuntime) -> Result<(),
 }
 
 /// Two enqueues up to their fetch-and-adds on one tail, and the undoing of the two.
-const TWO_ADDS: [(Line, Reply); 9] = [
+const TWO_ADDS: &[(Line, Reply)] = &[
     (Line::Act(1, Act::Enq(7)), Ok((1, 0))),
     (Line::Act(2, Act::Enq(8)), Ok((2, 0))),
     (Line::Go(1, 2), Ok((4, 0))),
@@ -138,12 +138,12 @@ const TWO_ADDS: [(Line, Reply); 9] = [
 #[test]
 fn of_two_adds_the_second_is_undone_first(rt: HostRuntime) -> Result<(), Fail> {
     let mut session = Session::open(rt.alloc(), World::<4>::fresh(rt.alloc(), 4)?);
-    walk(&rt, &mut session, &TWO_ADDS);
+    walk(&rt, &mut session, TWO_ADDS);
     Ok(())
 }
 
 /// An actor reads that nothing is linked behind the root; much later another one links a segment there.
-const READ_AND_LATER_WRITE: [(Line, Reply); 12] = [
+const READ_AND_LATER_WRITE: &[(Line, Reply)] = &[
     (Line::Act(3, Act::Enq(5)), Ok((1, 0))),
     (Line::Go(3, 2), Ok((3, 0))),
     (Line::Act(2, Act::Deq), Ok((4, 0))),
@@ -161,12 +161,12 @@ const READ_AND_LATER_WRITE: [(Line, Reply); 12] = [
 #[test]
 fn a_read_is_kept_by_a_later_write(rt: HostRuntime) -> Result<(), Fail> {
     let mut session = Session::open(rt.alloc(), World::<2>::fresh(rt.alloc(), 4)?);
-    walk(&rt, &mut session, &READ_AND_LATER_WRITE);
+    walk(&rt, &mut session, READ_AND_LATER_WRITE);
     Ok(())
 }
 
 /// Two actors find the ring full, and each makes a segment.
-pub(super) const TWO_MAKINGS: [(Line, Reply); 11] = [
+pub(super) const TWO_MAKINGS: &[(Line, Reply)] = &[
     (Line::Act(1, Act::Enq(7)), Ok((1, 0))),
     (Line::Go(1, 6), Ok((7, 0))),
     (Line::Act(1, Act::Enq(8)), Ok((8, 0))),
@@ -181,20 +181,20 @@ pub(super) const TWO_MAKINGS: [(Line, Reply); 11] = [
 ];
 
 /// The second making, and after it the first one undone alone.
-pub(super) const FIRST_MAKING_UNDONE: [(Line, Reply); 2] = [
+pub(super) const FIRST_MAKING_UNDONE: &[(Line, Reply)] = &[
     (Line::Go(2, 1), Ok((28, 0))),
     (Line::UndoAt(27), Ok((27, 1))),
 ];
 
 /// It is made again; then one actor links its segment, and the other one finds it linked.
-pub(super) const MADE_AGAIN_AND_LINKED: [(Line, Reply); 3] = [
+pub(super) const MADE_AGAIN_AND_LINKED: &[(Line, Reply)] = &[
     (Line::Redo, Ok((28, 0))),
     (Line::Go(2, 1), Ok((29, 0))),
     (Line::Go(1, 1), Ok((30, 0))),
 ];
 
 /// The last step is undone, then the making on which it alone depended, then three more.
-const UNDOES_WITHOUT_MEMORY: [(Line, Reply); 3] = [
+const UNDOES_WITHOUT_MEMORY: &[(Line, Reply)] = &[
     (Line::Undo, Ok((29, 1))),
     (Line::UndoAt(28), Ok((28, 2))),
     (Line::Back(3), Ok((25, 5))),
@@ -204,8 +204,8 @@ const UNDOES_WITHOUT_MEMORY: [(Line, Reply); 3] = [
 fn a_making_is_undone_alone_and_renames_no_other(rt: HostRuntime) -> Result<(), Fail> {
     let mut session = Session::open(rt.alloc(), World::<2>::fresh(rt.alloc(), 4)?);
     let (lost, linked) = (SegName { maker: 1, n: 0 }, SegName { maker: 2, n: 0 });
-    walk(&rt, &mut session, &TWO_MAKINGS);
-    walk(&rt, &mut session, &FIRST_MAKING_UNDONE);
+    walk(&rt, &mut session, TWO_MAKINGS);
+    walk(&rt, &mut session, FIRST_MAKING_UNDONE);
     assert_eq!(rt;
         session.world().content(Place::Tail(ROOT)),
         Some(Content::Tail {
@@ -223,7 +223,7 @@ fn a_making_is_undone_alone_and_renames_no_other(rt: HostRuntime) -> Result<(), 
         session.world().content(Place::Cell(linked, 0)),
         Some(Content::Cell(cell))
     );
-    walk(&rt, &mut session, &MADE_AGAIN_AND_LINKED);
+    walk(&rt, &mut session, MADE_AGAIN_AND_LINKED);
     let event = Event {
         actor: 1,
         act: Act::Go,
@@ -240,12 +240,12 @@ fn a_making_is_undone_alone_and_renames_no_other(rt: HostRuntime) -> Result<(), 
         session.world().content(Place::Whole(lost)),
         Some(Content::Whole)
     );
-    walk(&rt, &mut session, &UNDOES_WITHOUT_MEMORY);
+    walk(&rt, &mut session, UNDOES_WITHOUT_MEMORY);
     Ok(())
 }
 
 /// What is refused of undoing, and steps undone from the front.
-const NUMBERS: [(Line, Reply); 14] = [
+const NUMBERS: &[(Line, Reply)] = &[
     (Line::Undo, Err(Refusal::NothingToUndo(0))),
     (Line::Act(1, Act::Enq(7)), Ok((1, 0))),
     (Line::Act(2, Act::Deq), Ok((2, 0))),
@@ -265,7 +265,7 @@ const NUMBERS: [(Line, Reply); 14] = [
 #[test]
 fn a_number_that_no_step_has_is_refused(rt: HostRuntime) -> Result<(), Fail> {
     let mut session = Session::open(rt.alloc(), World::<4>::fresh(rt.alloc(), 4)?);
-    walk(&rt, &mut session, &NUMBERS);
+    walk(&rt, &mut session, NUMBERS);
     let event = Event {
         actor: 1,
         act: Act::Enq(7),
@@ -278,7 +278,7 @@ fn a_number_that_no_step_has_is_refused(rt: HostRuntime) -> Result<(), Fail> {
 }
 
 /// On the array a dequeue's swap comes before that of the enqueue which drew its slot.
-const SWAPS_ON_THE_ARRAY: [(Line, Reply); 8] = [
+const SWAPS_ON_THE_ARRAY: &[(Line, Reply)] = &[
     (Line::Act(1, Act::AEnq(7)), Ok((1, 0))),
     (Line::Go(1, 1), Ok((2, 0))),
     (Line::Act(2, Act::ADeq), Ok((3, 0))),
@@ -292,7 +292,7 @@ const SWAPS_ON_THE_ARRAY: [(Line, Reply); 8] = [
 #[test]
 fn a_swap_is_kept_by_the_next_swap(rt: HostRuntime) -> Result<(), Fail> {
     let mut session = Session::open(rt.alloc(), World::<4>::fresh(rt.alloc(), 4)?);
-    walk(&rt, &mut session, &SWAPS_ON_THE_ARRAY);
+    walk(&rt, &mut session, SWAPS_ON_THE_ARRAY);
     Ok(())
 }
 

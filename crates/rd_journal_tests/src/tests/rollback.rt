@@ -14,10 +14,10 @@ use std::process::Abort;
 use std::test::Fail;
 
 /// One making is rolled back, with the link to its segment and the link that it made fail; the other making stays.
-const MAKING_ROLLED_BACK: [(Line, Reply); 1] = [(Line::RollBack(27), Ok((27, 3)))];
+const MAKING_ROLLED_BACK: &[(Line, Reply)] = &[(Line::RollBack(27), Ok((27, 3)))];
 
 /// All of it is redone; then two numbers that no step has.
-const REDONE: [(Line, Reply); 3] = [
+const REDONE: &[(Line, Reply)] = &[
     (Line::Forward(3), Ok((30, 0))),
     (Line::RollBack(31), Err(Refusal::NoSuchStep(30))),
     (Line::RollBack(0), Err(Refusal::NoSuchStep(30))),
@@ -26,10 +26,10 @@ const REDONE: [(Line, Reply); 3] = [
 #[test]
 fn a_making_is_rolled_back_with_its_link(rt: HostRuntime) -> Result<(), Fail> {
     let mut session = Session::open(rt.alloc(), World::<2>::fresh(rt.alloc(), 4)?);
-    walk(&rt, &mut session, &TWO_MAKINGS);
-    walk(&rt, &mut session, &FIRST_MAKING_UNDONE);
-    walk(&rt, &mut session, &MADE_AGAIN_AND_LINKED);
-    walk(&rt, &mut session, &MAKING_ROLLED_BACK);
+    walk(&rt, &mut session, TWO_MAKINGS);
+    walk(&rt, &mut session, FIRST_MAKING_UNDONE);
+    walk(&rt, &mut session, MADE_AGAIN_AND_LINKED);
+    walk(&rt, &mut session, MAKING_ROLLED_BACK);
     assert_eq!(rt;
         session.world().content(Place::Next(SegName::ROOT)),
         Some(Content::Next(None))
@@ -49,7 +49,7 @@ fn a_making_is_rolled_back_with_its_link(rt: HostRuntime) -> Result<(), Fail> {
             None,
         )
     );
-    walk(&rt, &mut session, &REDONE);
+    walk(&rt, &mut session, REDONE);
     Ok(())
 }
 
