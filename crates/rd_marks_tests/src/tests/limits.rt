@@ -12,7 +12,7 @@ use rd_step::World;
 use std::test::Fail;
 
 /// Bytes, and whether they are a name.
-const NAMES: &[(&'static [u8], bool)] = &[
+const NAMES: [(&'static [u8], bool); 10] = [
     (b"a", true),
     (b"z09-", true),
     (b"-", true),
@@ -30,12 +30,12 @@ fn a_name_is_1_to_16_bytes_of_three_kinds(rt: HostRuntime) {
     for (text, good) in NAMES {
         match MarkName::new(text) {
             Ok(name) => {
-                assert_eq!(rt; name.as_str().as_bytes(), *text);
-                assert!(rt; *good);
+                assert_eq!(rt; name.as_str().as_bytes(), text);
+                assert!(rt; good);
             }
             Err(refusal) => {
                 assert_eq!(rt; refusal, Refusal::BadName);
-                assert!(rt; !*good, "{text:?}");
+                assert!(rt; !good, "{text:?}");
             }
         }
     }

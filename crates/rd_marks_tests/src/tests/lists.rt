@@ -11,7 +11,7 @@ use rd_step::World;
 use std::test::Fail;
 
 /// Two schedules of the same four steps, which do not depend on each other across the actors.
-const GOING_TO_AND_FRO: &[(Line, Wanted)] = &[
+const GOING_TO_AND_FRO: [(Line, Wanted); 25] = [
     (Line::Does(Command::Enq(1, 7)), Wanted::Applied(1)),
     (Line::Does(Command::Deq(2)), Wanted::Applied(2)),
     (Line::Does(Command::Go(1)), Wanted::Applied(3)),
@@ -59,7 +59,7 @@ const GOING_TO_AND_FRO: &[(Line, Wanted)] = &[
 ];
 
 /// Two schedules that differ in the order of two fetch-and-adds on one tail.
-const ANOTHER_ORDER: &[(Line, Wanted)] = &[
+const ANOTHER_ORDER: [(Line, Wanted); 13] = [
     (Line::Does(Command::Enq(1, 7)), Wanted::Applied(1)),
     (Line::Does(Command::Enq(2, 8)), Wanted::Applied(2)),
     (Line::Does(Command::Go(1)), Wanted::Applied(3)),
@@ -76,7 +76,7 @@ const ANOTHER_ORDER: &[(Line, Wanted)] = &[
 ];
 
 /// Refusals of moves through the run, and moves that go.
-const WALKS: &[(Line, Wanted)] = &[
+const WALKS: [(Line, Wanted); 17] = [
     (
         Line::Does(Command::Undo),
         Wanted::Refused(Refusal::NothingToUndo(0)),
@@ -121,7 +121,7 @@ const WALKS: &[(Line, Wanted)] = &[
 ];
 
 /// A rollback, calls on the array, a choice where there is none, and what the queries show.
-const ROLLBACK_AND_QUERIES: &[(Line, Wanted)] = &[
+const ROLLBACK_AND_QUERIES: [(Line, Wanted); 12] = [
     (Line::Does(Command::Enq(1, 7)), Wanted::Applied(1)),
     (Line::Does(Command::Deq(2)), Wanted::Applied(2)),
     (Line::Does(Command::Go(1)), Wanted::Applied(3)),
@@ -155,7 +155,7 @@ const ROLLBACK_AND_QUERIES: &[(Line, Wanted)] = &[
 fn a_bookmark_is_gone_to_and_compared(rt: HostRuntime) -> Result<(), Fail> {
     let session = Session::open(rt.alloc(), World::<4>::fresh(rt.alloc(), 4)?);
     let mut book = Book::open(rt.alloc(), session);
-    play(&rt, &mut book, "going to and fro", GOING_TO_AND_FRO);
+    play(&rt, &mut book, "going to and fro", &GOING_TO_AND_FRO);
     assert_eq!(rt; book.session().len(), 4);
     Ok(())
 }
@@ -164,7 +164,7 @@ fn a_bookmark_is_gone_to_and_compared(rt: HostRuntime) -> Result<(), Fail> {
 fn another_order_of_dependent_steps_is_not_the_same(rt: HostRuntime) -> Result<(), Fail> {
     let session = Session::open(rt.alloc(), World::<4>::fresh(rt.alloc(), 4)?);
     let mut book = Book::open(rt.alloc(), session);
-    play(&rt, &mut book, "another order", ANOTHER_ORDER);
+    play(&rt, &mut book, "another order", &ANOTHER_ORDER);
     let same = [(Line::Same(b'a', b'b'), Wanted::Says(Reply::Same(false)))];
     play(&rt, &mut book, "another order, compared", &same);
     Ok(())
@@ -174,10 +174,15 @@ fn another_order_of_dependent_steps_is_not_the_same(rt: HostRuntime) -> Result<(
 fn moves_through_the_run_are_commands(rt: HostRuntime) -> Result<(), Fail> {
     let session = Session::open(rt.alloc(), World::<4>::fresh(rt.alloc(), 4)?);
     let mut book = Book::open(rt.alloc(), session);
-    play(&rt, &mut book, "walks", WALKS);
+    play(&rt, &mut book, "walks", &WALKS);
     let session = Session::open(rt.alloc(), World::<4>::fresh(rt.alloc(), 4)?);
     let mut book = Book::open(rt.alloc(), session);
-    play(&rt, &mut book, "rollback and queries", ROLLBACK_AND_QUERIES);
+    play(
+        &rt,
+        &mut book,
+        "rollback and queries",
+        &ROLLBACK_AND_QUERIES,
+    );
     assert_eq!(rt;
         book.obey(Command::Actor(4)),
         Ok(Reply::Actor(Actor {

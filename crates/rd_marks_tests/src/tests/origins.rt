@@ -15,7 +15,7 @@ use std::test::Fail;
 const SLOT: Place = Place::ArrCell(0);
 
 /// A value goes through the array; then its take is undone.
-const THROUGH_THE_ARRAY: &[(Line, Wanted)] = &[
+const THROUGH_THE_ARRAY: [(Line, Wanted); 15] = [
     (Line::Does(Command::ArrayEnq(1, 7)), Wanted::Applied(1)),
     (Line::Does(Command::Go(1)), Wanted::Applied(2)),
     (
@@ -77,6 +77,6 @@ const THROUGH_THE_ARRAY: &[(Line, Wanted)] = &[
 fn origins_and_writers_are_commands(rt: HostRuntime) -> Result<(), Fail> {
     let session = Session::open(rt.alloc(), World::<4>::fresh(rt.alloc(), 4)?);
     let mut book = Book::open(rt.alloc(), session);
-    play(&rt, &mut book, "through the array", THROUGH_THE_ARRAY);
+    play(&rt, &mut book, "through the array", &THROUGH_THE_ARRAY);
     Ok(())
 }

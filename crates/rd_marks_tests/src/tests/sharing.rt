@@ -11,7 +11,7 @@ use std::test::Fail;
 
 /// Two schedules of four steps that share two; a second bookmark at one of them, and one at no step. With each line, how many nodes
 /// there are then.
-const TWO_SCHEDULES: &[(Line, u64)] = &[
+const TWO_SCHEDULES: [(Line, u64); 16] = [
     (Line::Does(Command::Enq(1, 7)), 0),
     (Line::Does(Command::Deq(2)), 0),
     (Line::Does(Command::Go(1)), 0),
@@ -31,7 +31,7 @@ const TWO_SCHEDULES: &[(Line, u64)] = &[
 ];
 
 /// Two schedules of eight steps that share six.
-const ANOTHER_ORDER: &[(Line, u64)] = &[
+const ANOTHER_ORDER: [(Line, u64); 13] = [
     (Line::Does(Command::Enq(1, 7)), 0),
     (Line::Does(Command::Enq(2, 8)), 0),
     (Line::Does(Command::Go(1)), 0),
@@ -48,7 +48,7 @@ const ANOTHER_ORDER: &[(Line, u64)] = &[
 ];
 
 /// Bookmarks after a lone undo, a redo, a rollback and a way to another bookmark.
-const AFTER_UNDOS: &[(Line, u64)] = &[
+const AFTER_UNDOS: [(Line, u64); 21] = [
     (Line::Does(Command::Enq(1, 7)), 0),
     (Line::Does(Command::Deq(2)), 0),
     (Line::Does(Command::Go(1)), 0),
@@ -73,7 +73,7 @@ const AFTER_UNDOS: &[(Line, u64)] = &[
 ];
 
 /// Bookmarks that are set and gone to after each way to undo, and after the bookmark has gone at which the live steps stood.
-const WHERE_STEPS_STAND: &[(Line, u64)] = &[
+const WHERE_STEPS_STAND: [(Line, u64); 32] = [
     (Line::Does(Command::Enq(1, 7)), 0),
     (Line::Does(Command::Deq(2)), 0),
     (Line::Does(Command::Go(1)), 0),
@@ -109,7 +109,7 @@ const WHERE_STEPS_STAND: &[(Line, u64)] = &[
 ];
 
 /// Three bookmarks: two share two steps, and the third is at three steps of the first.
-const THREE: &[(Line, u64)] = &[
+const THREE: [(Line, u64); 12] = [
     (Line::Does(Command::Enq(1, 7)), 0),
     (Line::Does(Command::Deq(2)), 0),
     (Line::Does(Command::Go(1)), 0),
@@ -125,7 +125,7 @@ const THREE: &[(Line, u64)] = &[
 ];
 
 /// The orders in which those three are dropped.
-const ORDERS: &[[(Line, u64); 3]] = &[
+const ORDERS: [[(Line, u64); 3]; 6] = [
     [
         (Line::Drop(b'a'), 5),
         (Line::Drop(b'b'), 3),
@@ -172,16 +172,16 @@ fn count<const R: usize>(rt: &impl Abort, book: &mut Book<R>, run: &str, lines: 
 fn a_step_that_bookmarks_share_is_kept_once(rt: HostRuntime) -> Result<(), Fail> {
     let session = Session::open(rt.alloc(), World::<4>::fresh(rt.alloc(), 4)?);
     let mut book = Book::open(rt.alloc(), session);
-    count(&rt, &mut book, "two schedules", TWO_SCHEDULES);
+    count(&rt, &mut book, "two schedules", &TWO_SCHEDULES);
     let session = Session::open(rt.alloc(), World::<4>::fresh(rt.alloc(), 4)?);
     let mut book = Book::open(rt.alloc(), session);
-    count(&rt, &mut book, "another order", ANOTHER_ORDER);
+    count(&rt, &mut book, "another order", &ANOTHER_ORDER);
     let session = Session::open(rt.alloc(), World::<4>::fresh(rt.alloc(), 4)?);
     let mut book = Book::open(rt.alloc(), session);
-    count(&rt, &mut book, "after undos", AFTER_UNDOS);
+    count(&rt, &mut book, "after undos", &AFTER_UNDOS);
     let session = Session::open(rt.alloc(), World::<4>::fresh(rt.alloc(), 4)?);
     let mut book = Book::open(rt.alloc(), session);
-    count(&rt, &mut book, "where steps stand", WHERE_STEPS_STAND);
+    count(&rt, &mut book, "where steps stand", &WHERE_STEPS_STAND);
     Ok(())
 }
 
@@ -190,7 +190,7 @@ fn bookmarks_are_dropped_in_any_order(rt: HostRuntime) -> Result<(), Fail> {
     for order in 0..ORDERS.len() {
         let session = Session::open(rt.alloc(), World::<4>::fresh(rt.alloc(), 4)?);
         let mut book = Book::open(rt.alloc(), session);
-        count(&rt, &mut book, "three bookmarks", THREE);
+        count(&rt, &mut book, "three bookmarks", &THREE);
         count(&rt, &mut book, "an order", &ORDERS[order]);
     }
     Ok(())
