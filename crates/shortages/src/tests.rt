@@ -1,7 +1,14 @@
 //! What the tests have in common: books and commands that are there whatever is refused.
 
 mod books;
+mod command_lines;
+mod desks;
+mod devices;
+mod lists;
+mod traces;
 mod twins;
+mod views;
+mod worlds;
 
 use rd_journal::Session;
 use rd_marks::{Book, Command};
