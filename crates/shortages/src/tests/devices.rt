@@ -1,6 +1,7 @@
 //! Devices in memory that fail at a call of a given number, give or take one byte a call, or take none.
 
 mod runs;
+mod texts;
 
 use std::alloc::Global;
 use std::io;

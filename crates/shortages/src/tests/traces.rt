@@ -10,7 +10,7 @@ use std::alloc::Global;
 use std::process::Abort;
 
 /// The steps of the trace.
-const STEPS: &[(u64, &str)] = &[
+pub(super) const STEPS: &[(u64, &str)] = &[
     (1, "enq 1 7"),
     (1, "go 1"),
     (1, "aenq 2 18446744073709551615"),
@@ -19,7 +19,7 @@ const STEPS: &[(u64, &str)] = &[
 ];
 
 /// Their trace.
-const TRACE: &[u8] =
+pub(super) const TRACE: &[u8] =
     b"{\"actors\":4,\"events\":[[\"enq\",1,7],[\"go\",1],[\"aenq\",2,18446744073709551615],[\"deq\",3],[\"go\",3],[\"go\",3],[\"go\",3]],\"ring\":2,\"version\":1}\n";
 
 /// Writes the trace of a book again if memory was refused, in which case nothing was written.

@@ -1,6 +1,6 @@
-//! Views that are refused memory, and views written to a writer that fails.
+//! Views that are refused memory.
 
-use super::devices::{End, PageWriter, page};
+use super::devices::{PageWriter, page};
 use super::fresh;
 use rd_script::WriteSink;
 use rd_view::{ViewFault, view_scripts};
@@ -10,7 +10,7 @@ use std::sync::Wait;
 use std::thread::Threads;
 
 /// The text of a view of the two scripts below. What one is answered does not depend on the other.
-const USUAL: &[u8] = b"viewer 1\nok 1\nat 1 0\nviewer 2\nis open 0\nhistory 3\n";
+pub(super) const USUAL: &[u8] = b"viewer 1\nok 1\nat 1 0\nviewer 2\nis open 0\nhistory 3\n";
 
 /// The texts where a viewer's thread, the record of a call, or a step was refused memory.
 const SHORT: [&[u8]; 5] = [
@@ -32,7 +32,7 @@ fn script(rt: &impl Abort, alloc: Global, text: &[u8]) -> Vec<u8> {
 }
 
 /// Views the two scripts over a fresh book. Answers the fault, if there was one.
-fn viewed<R: Abort + Threads + Wait + Sync>(
+pub(super) fn viewed<R: Abort + Threads + Wait + Sync>(
     rt: &R,
     alloc: Global,
     writer: PageWriter<'_>,
@@ -43,11 +43,6 @@ fn viewed<R: Abort + Threads + Wait + Sync>(
     ];
     let mut sink = WriteSink::new(writer);
     view_scripts(rt, alloc, scripts.as_slice(), &mut sink, fresh(rt, alloc)).err()
-}
-
-/// Whether bytes begin the text of a view of which something was refused memory.
-fn begins_short(bytes: &[u8]) -> bool {
-    SHORT.iter().any(|text| text.starts_with(bytes))
 }
 
 /// Whether a view has the usual text. If memory was refused it has none of it, or one that says to whom.
@@ -66,25 +61,4 @@ fn a_view_that_was_refused_memory_says_where_or_writes_nothing_and_is_as_ever_th
     rt: HostRuntime,
 ) {
     assert!(&rt; is_usual(&rt, rt.alloc()) || is_usual(&rt, rt.alloc()));
-}
-
-/// A view whose writer takes one byte a call and ends behind so many: just these were written. If memory was refused, none was.
-fn ends_at<R: Abort + Threads + Wait + Sync>(rt: &R, alloc: Global, bytes: usize, end: End) {
-    let mut taken = page(rt, alloc);
-    let writer = PageWriter::that_ends(&mut taken, bytes, 1, end);
-    match viewed(rt, alloc, writer) {
-        Some(ViewFault::NoMemory) => assert!(rt; taken.is_empty()),
-        fault => {
-            assert!(rt; fault == Some(ViewFault::Write) && taken.len() == bytes);
-            assert!(rt; USUAL.starts_with(&taken) || begins_short(&taken));
-        }
-    }
-}
-
-#[test]
-fn a_view_whose_writer_fails_at_any_call_leaves_a_beginning_of_its_text(rt: HostRuntime) {
-    for bytes in 0..USUAL.len() {
-        ends_at(&rt, rt.alloc(), bytes, End::Fails);
-        ends_at(&rt, rt.alloc(), bytes, End::TakesNone);
-    }
 }

@@ -1,4 +1,4 @@
-//! Runs of a script over devices that fail at each of their calls, and traces and views written to them.
+//! Runs of a script over devices that fail at each of their calls.
 
 use super::super::fresh;
 use super::super::twins::are_same;
@@ -111,4 +111,32 @@ fn a_write_that_takes_nothing_at_any_call_leaves_the_lines_up_to_it_done(rt: Hos
     for bytes in 0..report.len() {
         write_fails_at(&rt, rt.alloc(), report.as_slice(), bytes, End::TakesNone);
     }
+}
+
+/// A run of a script whose reader gives all that there is and then fails, and whose writer takes so many bytes and then fails: what it
+/// answers, what was written, and how many steps are live.
+fn ends_as(
+    rt: &impl Abort,
+    alloc: Global,
+    script: &[u8],
+    takes: usize,
+    ended: (ScriptFault, &[u8], u64),
+) {
+    let mut book = fresh(rt, alloc);
+    let mut taken = page(rt, alloc);
+    let failed = run(
+        &mut ReadSource::new(StripReader::of(script, 1, usize::MAX)),
+        &mut WriteSink::new(PageWriter::that_ends(&mut taken, takes, 1, End::Fails)),
+        &mut book,
+    );
+    assert!(rt; failed == Err(ended.0) && taken.as_slice() == ended.1);
+    assert!(rt; book.session().len() == ended.2);
+}
+
+#[test]
+fn a_line_that_is_cut_off_is_not_done_and_one_whose_answer_is_cut_off_is_done(rt: HostRuntime) {
+    let cut = (ScriptFault::Read, b"ok 1\nok 2\n".as_slice(), 2);
+    ends_as(&rt, rt.alloc(), b"enq 1 7\ngo 1\ngo", usize::MAX, cut);
+    let unanswered = (ScriptFault::Write, b"ok ".as_slice(), 1);
+    ends_as(&rt, rt.alloc(), b"enq 1 7\ngo 1", 3, unanswered);
 }
