@@ -205,12 +205,14 @@ QUERIES += [f"show {kind} {name}" for name in ("0.0", "1.0", "2.0") for kind in 
 QUERIES += [f"show cell {name} {at}" for name in ("0.0", "1.0", "2.0") for at in (0, 1)] + [f"actor {number}" for number in (1, 2, 3, 4)]
 QUERIES += ["step 1", "step 7", "step 26", "step 28", "writer qtail", "writer tail 0.0", "origin 7"]
 
-# up to the two makings of a ring behind a full one, and both actors' next step: over rings of two cells
+# up to the two makings of a ring behind a full one, that of actor 1 last, and both actors' next step: over rings of two cells
 RACE = ["enq 1 7"] + ["go 1"] * 6 + ["enq 1 8"] + ["go 1"] * 6 + ["enq 1 9"] + ["go 1"] * 2 + ["enq 2 10"] + ["go 2"] * 2 + ["go 1"] * 5
-RACE += ["go 2", "go 1", "go 2", "go 2", "go 1"]
+RACE += ["go 2", "go 1", "go 2", "undo 27", "redo", "go 2", "go 1"]
+# before them, two bookmarks of which neither begins the other
+APART = ["deq 3", "mark x", "undo", "deq 4", "mark y", "undo"]
 # what comes of them, which takes no memory
-UNDOS = [("undo", "at 29 1"), ("undo 28", "at 28 2"), ("back 3", "at 25 5"), ("redo", "at 26 4"), ("forward 2", "at 28 2"), ("roll 27", "at 27 3")]
-UNDOS += [("undo 30", "refused 12 NoSuchStep 27"), ("undo 1", "refused 13 Depended 2"), ("forward 4", "refused 11 NothingToRedo")]
+UNDOS = [("undo", "at 29 1"), ("undo 28", "at 28 2"), ("back 3", "at 25 5"), ("redo", "at 26 4"), ("forward 2", "at 28 2"), ("roll 27", "at 26 4")]
+UNDOS += [("undo 30", "refused 12 NoSuchStep 26"), ("undo 1", "refused 13 Depended 2"), ("forward 5", "refused 11 NothingToRedo")]
 MORE = ["mark a", "undo", "undo 28", "back 3", "forward 2", "mark b", "hello", "same a b", "deq 3", "go 3", "mark c", "same a c", "goto a"]
 MORE += ["starve 1 yes", "aenq 4 5", "go 4", "adeq 4", "goto c", "drop b", "goto b", "same c a", "back 30", "enq 4 5", "mark A", "roll 1"]
 
@@ -298,20 +300,19 @@ def rest_part(given, refuser):
 
 
 def undos_part(given, refuser):
-    """Undos, redos and queries with all allocations refused from the line before them on, which a bookmark shows that needs memory."""
+    """Undos, redos and queries with all allocations refused from the line before them on: it compares two bookmarks, which needs some."""
     words = [given.program, "run", "-", "--ring", "2"]
-    before = script_of(RACE + ["mark a", "mark b"])
+    before = script_of(APART + RACE)
     taken = refuser.run(words, 2**63, 2**63, before).calls
-    refused = script_of(["mark c"])
-    lines = [line for line, _ in UNDOS] + QUERIES + ["drop a", "marks", "markat 1"]
-    ended = refuser.rest(words, taken + 1, before + refused + script_of(lines))
-    wanted = lines_of(usual(given.program, tuple(words[1:]), before)) + [REFUSED]
-    wanted += [reply.encode() for _, reply in UNDOS]
-    wanted += lines_of(usual(given.program, tuple(words[1:]), before + script_of(lines)))[len(wanted) - 1:]
-    replies = lines_of(ended.output)
-    wrong = [(at, got, want) for at, (got, want) in enumerate(zip(replies, wanted), 1) if got != want]
-    fits = (ended.status, ended.errors, len(replies)) == (0, "", len(wanted)) and not wrong
-    yield f"{len(lines)} lines behind {taken} allocations", ended.refused, "" if fits else f"{ended.status}, {ended.errors!r}, {wrong[:3]}"
+    behind = script_of([line for line, _ in UNDOS] + QUERIES + ["drop x", "marks", "markat 1", "len"])
+    ended = refuser.rest(words, taken + 1, before + b"same x y\n" + behind)
+    answered = lines_of(usual(given.program, tuple(words[1:]), before + behind))
+    first = len(lines_of(before))
+    wanted = answered[:first] + [REFUSED] + [reply.encode() for _, reply in UNDOS] + answered[first + len(UNDOS):]
+    wrong = [(at, *pair) for at, pair in enumerate(zip(lines_of(ended.output), wanted), 1) if pair[0] != pair[1]]
+    fits = (ended.status, ended.errors, len(lines_of(ended.output))) == (0, "", len(wanted)) and not wrong
+    fault = "" if fits else f"status {ended.status}, {ended.errors!r}, {wrong[:3]}"
+    yield f"{len(lines_of(behind))} lines behind {taken} allocations", ended.refused, fault
 
 
 def limited(program, words, script, limit):
