@@ -12,8 +12,8 @@ Parts, all of them if none is named:
     limits    the program under a limit of its address space that is lowered step by step
 
 P is the built program, T the built tests of crates/shortages; `rt ci` leaves both in the crates' folders out/. Each part prints a line with
-how many points were refused, and the status is 1 if anything is wrong. Needs a C compiler (`cc`) and, for `limits`, nothing else. Only
-Python's standard library is used.
+how many points were refused, and the status is 1 if anything is wrong. It needs a C compiler (`cc`) and `prlimit`. Only Python's
+standard library is used.
 """
 
 import argparse
@@ -317,19 +317,15 @@ def undos_part(given, refuser):
 
 def limited(program, words, script, limit):
     """A run under a limit of its address space."""
-    set_limit = functools.partial(resource.setrlimit, resource.RLIMIT_AS, (limit, limit))
-    return run([program, *words], script, preexec_fn=set_limit)
+    return run(["prlimit", f"--as={limit}", program, *words], script)
 
 
-def lowest(program, folder):
+def lowest(program):
     """The lowest limit, in steps of a page, under which the program starts: the loader and the C library need it."""
     low, high = 0, 1 << 30
     while high - low > resource.getpagesize():
         middle = (low + high) // 2 // resource.getpagesize() * resource.getpagesize()
-        try:
-            starts = limited(program, ["--version"], b"", middle).status == 0
-        except (OSError, subprocess.SubprocessError):
-            starts = False
+        starts = limited(program, ["--version"], b"", middle).status == 0
         low, high = (low, middle) if starts else (middle, high)
     return high
 
@@ -338,7 +334,7 @@ def long_script():
     """A script of some 20,000 steps with bookmarks, undos and queries among them."""
     lines = []
     for at in range(1600):
-        lines += ["deq 1"] + ["go 1"] * 11 + ["undo"]
+        lines += ["deq 1"] + ["go 1"] * 11 + ["undo", "redo"]
         if at % 400 == 200:
             lines += [f"mark a{at}", "back 500", "undo", "enq 2 5", f"mark b{at}", f"same a{at} b{at}", f"goto a{at}"]
             lines += QUERIES
@@ -347,7 +343,7 @@ def long_script():
 
 def limits_part(given, refuser):
     """Runs under limits that are lowered step by step, to the lowest under which the program starts."""
-    floor = lowest(given.program, refuser.folder)
+    floor = lowest(given.program)
     many = os.path.join(refuser.folder, "many")
     pathlib.Path(many).write_bytes(b"len\nshow tail 0.0\n" * 20)
     runs = [("run", ("run", "-", "--ring", "2"), long_script(), fault_in_run, 64 << 10, 320)]

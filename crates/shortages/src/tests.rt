@@ -7,6 +7,7 @@ mod devices;
 mod lists;
 mod traces;
 mod twins;
+mod viewers;
 mod views;
 mod worlds;
 
