@@ -5,7 +5,8 @@
 
 Parts, all of them if none is named:
 
-    tests     each test of crates/shortages, with each one of its allocations refused in turn
+    devices   the tests of crates/shortages over devices that fail at each of their calls, which the gate runs too
+    tests     the other tests of crates/shortages, with each one of their allocations refused in turn
     one       the program, with each one of its allocations refused in turn
     rest      the program, with all allocations refused from each one on
     undos     the program, with all refused from a line on: undos, redos and queries answer as ever
@@ -259,16 +260,26 @@ def fault_in_file_run(script, program, words, _given, ended):
 # ---- Parts --------------------------------------------------------------------------------------------------------------
 
 
+DEVICES = "tests::devices::"  # tests that make so many runs that to refuse each allocation of each would take hours
+
+
 def tests_of(tests):
-    """The names of the tests in a built test program, except those of devices, which are about no memory and would take hours here."""
+    """The names of the tests in a built test program."""
     listed = run([tests, "--list"]).output.decode()
-    names = [line.removesuffix(": test") for line in listed.splitlines() if line.endswith(": test")]
-    return [name for name in names if not name.startswith("tests::devices::")]
+    return [line.removesuffix(": test") for line in listed.splitlines() if line.endswith(": test")]
+
+
+def devices_part(given, _refuser):
+    """Each test over devices that fail, once."""
+    for name in tests_of(given.tests):
+        if name.startswith(DEVICES):
+            ended = run([given.tests, name])
+            yield name.removeprefix("tests::"), None, "" if ended.status == 0 else f"status {ended.status}, {ended.errors.strip()!r}"
 
 
 def tests_part(given, refuser):
     """Each test with each one of its allocations refused."""
-    for name in tests_of(given.tests):
+    for name in [name for name in tests_of(given.tests) if not name.startswith(DEVICES)]:
         points, fault = 0, ""
         for number, ended in each_refused(lambda number, name=name: refuser.one([given.tests, name], number)):
             points += 1
@@ -361,7 +372,22 @@ def limits_part(given, refuser):
         yield f"{name}, {len(limits)} limits from {limits[-1] >> 10} to {floor >> 10} KiB", short, fault
 
 
-PARTS = {"tests": tests_part, "one": one_part, "rest": rest_part, "undos": undos_part, "limits": limits_part}
+PARTS = {"devices": devices_part, "tests": tests_part, "one": one_part, "rest": rest_part, "undos": undos_part, "limits": limits_part}
+
+
+def told(part, outcomes):
+    """Prints what became of a part: for each of its checks how many points were refused, if it is one that refuses. Answers how many are
+    wrong."""
+    total, wrong = 0, 0
+    for name, points, fault in outcomes:
+        total += points or 0
+        fault = fault or ("nothing was refused" if points == 0 else "")
+        wrong += bool(fault)
+        count = "" if points is None else f": {points} refused"
+        print(f"WRONG {part}: {name}: {fault}" if fault else f"ok    {part}: {name}{count}", flush=True)
+    if total:
+        print(f"      {part}: {total} points refused", flush=True)
+    return wrong
 
 
 def main():
@@ -373,13 +399,7 @@ def main():
     with tempfile.TemporaryDirectory() as folder:
         refuser = Refuser(folder)
         for part in given.parts or PARTS:
-            total = 0
-            for name, points, fault in PARTS[part](given, refuser):
-                total += points
-                fault = fault or ("" if points else "nothing was refused")
-                wrong += bool(fault)
-                print(f"WRONG {part}: {name}: {fault}" if fault else f"ok    {part}: {name}: {points} refused", flush=True)
-            print(f"      {part}: {total} points refused", flush=True)
+            wrong += told(part, PARTS[part](given, refuser))
     print("nothing is wrong" if not wrong else f"{wrong} wrong")
     return 1 if wrong else 0
 

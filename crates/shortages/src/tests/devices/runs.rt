@@ -8,9 +8,9 @@ use rd_script::{ReadSource, ScriptFault, WriteSink, run};
 use std::alloc::Global;
 use std::process::Abort;
 
-/// A script with lines of every kind: commands that are obeyed and refused, and lines that spell none. Its last line has no line feed.
+/// A script with each command, obeyed or refused, and lines that spell none. Its last line has no line feed.
 const SCRIPT: &[u8] =
-    b"enq 1 7\ngo 1\nmark a\nhello\n\ngo 9\nundo\nundo 5\nredo\ndeq 2\nroll 1\nshow qtail\nactor 1\nstep 1\nmark A\nsame a b\ngoto a\nmarks\nlen";
+    b"enq 1 7\ngo 1\nmark a\nhello\n\ngo 9\nundo\nundo 5\nredo\ndeq 2\naenq 3 5\nadeq 4\nstarve 1 yes\nback 2\nforward 1\nroll 1\nshow qtail\nactor 1\nstep 1\nmark A\nsame a b\ngoto a\nmarkat 1\norigin 1\nwriter qtail\ndrop a\nmarks\nlen";
 
 /// Plays a script over a book and devices that work. Leaves its report on the page.
 fn plays(rt: &impl Abort, script: &[u8], taken: &mut Vec<u8>, book: &mut Book<2>) {
