@@ -342,11 +342,11 @@ def lowest(program):
 
 
 def long_script():
-    """A script of some 20,000 steps with bookmarks, undos and queries among them."""
+    """A script of some 9,600 steps with bookmarks, undos and queries among them."""
     lines = []
-    for at in range(1600):
+    for at in range(800):
         lines += ["deq 1"] + ["go 1"] * 11 + ["undo", "redo"]
-        if at % 400 == 200:
+        if at % 200 == 100:
             lines += [f"mark a{at}", "back 500", "undo", "enq 2 5", f"mark b{at}", f"same a{at} b{at}", f"goto a{at}"]
             lines += QUERIES
     return script_of(lines + QUERIES)
@@ -357,7 +357,7 @@ def limits_part(given, refuser):
     floor = lowest(given.program)
     many = os.path.join(refuser.folder, "many")
     pathlib.Path(many).write_bytes(b"len\nshow tail 0.0\n" * 20)
-    runs = [("run", ("run", "-", "--ring", "2"), long_script(), fault_in_run, 64 << 10, 320)]
+    runs = [("run", ("run", "-", "--ring", "2"), long_script(), fault_in_run, 64 << 10, 130)]
     runs += [("view of 64", ("view", *[many] * 64), b"", fault_in_view, 8 << 20, 80)]
     for name, words, script, fault_in, step, steps in runs:
         fault, short = "", 0
