@@ -59,7 +59,12 @@ fn have_same_marks(rt: &impl Abort, one: &Book<2>, other: &Book<2>, line: &str) 
 
 /// Two books have the same live steps, with the same records.
 fn have_same_steps(rt: &impl Abort, one: &Book<2>, other: &Book<2>, line: &str) {
-    assert!(rt; one.session().live() == other.session().live(), "{line}");
+    let len = one.session().len();
+    assert!(rt; other.session().len() == len, "{line}");
+    for k in 0..len {
+        let (record, twin) = (one.session().entry(k + 1), other.session().entry(k + 1));
+        assert!(rt; record == twin, "{line}");
+    }
 }
 
 /// Moves a book through its steps, which takes no memory.
