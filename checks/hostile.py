@@ -17,6 +17,7 @@ import tempfile
 import time
 
 SECONDS = 120  # a run that takes longer has failed
+START_KIB = 8 * 1024  # more than a start takes
 
 READ, WRITE = "lcrqdb: refused 24 Read\n", "lcrqdb: refused 25 Write\n"
 BAD_TRACE = "lcrqdb: refused 27 BadTrace\n"
@@ -178,17 +179,28 @@ def trace_checks(program):
     yield "other white space, order of keys and escapes", differs(load(program, b"\n\t" + other + b"\r\n"), (0, b"at 2 0\n", ""))
 
 
+def peak_of(child):
+    """The most KiB that a running process has held since it was started as this program; none if it has gone."""
+    try:
+        with open(f"/proc/{child.pid}/status", encoding="utf-8") as status:
+            return max((int(line.split()[1]) for line in status if line.startswith("VmHWM")), default=0)
+    except OSError:
+        return 0
+
+
 def cost(program, text):
     """The seconds and the most KiB of refusing a text, and whether it was refused as no trace."""
     with tempfile.NamedTemporaryFile() as file:
         file.write(text)
         file.flush()
-        begin = time.perf_counter()
+        begin, peak = time.perf_counter(), 0
         child = subprocess.Popen([program, "load", file.name], stdin=subprocess.DEVNULL, stdout=subprocess.PIPE, stderr=subprocess.PIPE)
-        output, errors = child.stdout.read(), child.stderr.read()
-        _, status, usage = os.wait4(child.pid, 0)
-    child.returncode = os.waitstatus_to_exitcode(status)
-    return time.perf_counter() - begin, usage.ru_maxrss, (child.returncode, output, errors.decode()) == (1, b"", BAD_TRACE)
+        while child.poll() is None:
+            peak = max(peak, peak_of(child))
+            time.sleep(0.001)
+        seconds = time.perf_counter() - begin
+        output, errors = child.communicate()
+    return seconds, peak, (child.returncode, output, errors.decode()) == (1, b"", BAD_TRACE)
 
 
 def growth_checks(program):
@@ -201,7 +213,7 @@ def growth_checks(program):
     }
     for name, text in texts.items():
         few, many = cost(program, text(100_000)), cost(program, text(1_000_000))
-        grew = many[0] > 20 * few[0] + 0.1 or many[1] > 20 * few[1]
+        grew = many[0] > 20 * few[0] + 0.1 or many[1] > 20 * max(few[1], START_KIB)
         fault = "" if few[2] and many[2] and not grew else f"refused {few[2]} {many[2]}"
         told = f"{few[0]:.3f} s and {few[1] / 1024:.0f} MiB, ten times as long {many[0]:.3f} s and {many[1] / 1024:.0f} MiB"
         yield f"{name} of {len(text(1_000_000)):,} bytes: {told}", fault
@@ -252,12 +264,10 @@ def endless(program, count):
     child = subprocess.Popen([program, "run", "-"], stdin=subprocess.PIPE, stdout=subprocess.PIPE)
     for _ in range(count // 1_000_000):
         child.stdin.write(bytes(1_000_000))
-    child.stdin.close()
-    output = child.stdout.read()
-    _, status, usage = os.wait4(child.pid, 0)
-    child.returncode = os.waitstatus_to_exitcode(status)
-    fits = (child.returncode, output) == (0, b"refused 23 LineTooLong\n") and usage.ru_maxrss < 64 * 1024
-    return "" if fits else f"status {child.returncode}, {output[:80]!r}, {usage.ru_maxrss} KiB"
+    peak = peak_of(child)
+    output, _ = child.communicate()
+    fits = (child.returncode, output) == (0, b"refused 23 LineTooLong\n") and 0 < peak < START_KIB
+    return "" if fits else f"status {child.returncode}, {output[:80]!r}, {peak} KiB"
 
 
 def shrinking(program):
