@@ -33,7 +33,7 @@ import tempfile
 SECONDS = 120  # a run that takes longer has failed
 HERE = pathlib.Path(__file__).resolve().parent
 ROOT = HERE.parent
-NO_MEMORY, READ = "lcrqdb: refused 20 NoMemory\n", "lcrqdb: refused 24 Read\n"
+NO_MEMORY = "lcrqdb: refused 20 NoMemory\n"
 REFUSED = b"refused 20 NoMemory"
 # the first words of the lines that may be refused memory
 MAY_TAKE = {b"enq", b"deq", b"aenq", b"adeq", b"go", b"starve", b"mark", b"goto", b"same"}
@@ -130,7 +130,7 @@ def fault_in_run(program, words, script, ended):
     """What is wrong with a run of a script."""
     if (ended.status, ended.errors) == (0, ""):
         return fault_in_report(program, words, script, ended.output)
-    if (ended.status, ended.output) == (1, b"") and ended.errors in (NO_MEMORY, READ):
+    if (ended.status, ended.output, ended.errors) == (1, b"", NO_MEMORY):
         return ""
     return f"status {ended.status}, {ended.errors!r}, {ended.output[-40:]!r}"
 
@@ -172,7 +172,7 @@ def viewers_in(output):
 def fault_in_view(program, words, _script, ended):
     """What is wrong with a view of scripts of queries: each viewer has its usual answers, or was not started; a call that is not
     recorded says so, and is not counted."""
-    if (ended.status, ended.output) == (1, b"") and ended.errors in (NO_MEMORY, READ):
+    if (ended.status, ended.output, ended.errors) == (1, b"", NO_MEMORY):
         return ""
     if (ended.status, ended.errors) != (0, "") or not ended.output.endswith(b"\n"):
         return f"status {ended.status}, {ended.errors!r}, {ended.output[-40:]!r}"
