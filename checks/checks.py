@@ -356,7 +356,8 @@ def limits_part(given, refuser):
     """Runs under limits that are lowered step by step, to the lowest under which the program starts."""
     floor = lowest(given.program)
     many = os.path.join(refuser.folder, "many")
-    pathlib.Path(many).write_bytes(b"len\nshow tail 0.0\n" * 20)
+    # few lines: viewers take turns, and 64 threads that do so are slow on a machine that does other work too
+    pathlib.Path(many).write_bytes(b"len\nshow tail 0.0\n")
     runs = [("run", ("run", "-", "--ring", "2"), long_script(), fault_in_run, 64 << 10, 130)]
     runs += [("view of 64", ("view", *[many] * 64), b"", fault_in_view, 8 << 20, 80)]
     for name, words, script, fault_in, step, steps in runs:
