@@ -1,6 +1,6 @@
 //! A desk that is refused memory: when it is opened, and at a call.
 
-ghost use Rattle.std.specs.Prelude.{◌≡◌, ◌≤◌, ◌×◌};
+ghost use Rattle.std.specs.Prelude.{◌≡◌, ◌≤◌};
 ghost use Rattle.rd_lock.specs.Histories.{Every};
 ghost use Rattle.rd_desk.specs.Desks.{IsNewViewer, IsViewerOf};
 
@@ -66,13 +66,13 @@ fn is_refused_memory(rt: &impl Abort, answer: Answer) -> bool {
 }
 
 /// Asks a command, and again if memory was refused.
-fn asks<R: Abort + Wait>(rt: &R, desk: &Desk<2>, pass: &mut DeskPass<2>, command: Command)
+fn asks<R: Abort + Wait>(rt: &R, desk: &Desk<2>, pass: &mut DeskPass<2>, command: &Command)
     requires own { IsViewerOf desk.now pass.old }
     ensures own { IsViewerOf desk.now pass.new }
 {
-    let answer = desk.ask(rt, pass, command);
+    let answer = desk.ask(rt, pass, *command);
     if is_refused_memory(rt, answer) {
-        let again = desk.ask(rt, pass, command);
+        let again = desk.ask(rt, pass, *command);
         assert!(rt; !is_refused_memory(rt, again));
     }
 }
@@ -88,7 +88,7 @@ fn asks_all<R: Abort + Wait>(
     ensures own { IsViewerOf desk.now result }
 {
     for line in lines {
-        asks(rt, desk, &mut pass, command(rt, *line));
+        asks(rt, desk, &mut pass, &command(rt, *line));
     }
     pass
 }
@@ -111,7 +111,7 @@ fn has_calls_in_order(rt: &impl Abort, history: &History, lines: &[&str], book: 
         let (_, made, given) = call(rt, history, number);
         assert!(rt; made == asked, "call {number}");
         if given != Err(Refusal::NoMemory) {
-            assert!(rt; answer(rt, book, asked) == given, "call {number}");
+            assert!(rt; answer(rt, book, &asked) == given, "call {number}");
             next += 1;
         }
     }

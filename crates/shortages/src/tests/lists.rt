@@ -39,7 +39,7 @@ fn follows(
         if answers[i] == Err(Refusal::NoMemory) {
             refused = 1;
         } else {
-            assert!(rt; answer(rt, book, commands[i]) == answers[i], "command {i}");
+            assert!(rt; answer(rt, book, &commands[i]) == answers[i], "command {i}");
         }
     }
     let left = answers

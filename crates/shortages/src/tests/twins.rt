@@ -88,9 +88,9 @@ pub(super) fn are_same(rt: &impl Abort, one: &mut Book<2>, other: &mut Book<2>, 
 }
 
 /// Whether a command may be refused memory: it makes a step, sets a bookmark, goes to one, or compares two.
-fn may_take_memory(command: Command) -> bool {
+fn may_take_memory(command: &Command) -> bool {
     matches!(
-        command,
+        *command,
         Command::Enq(..)
             | Command::Deq(_)
             | Command::ArrayEnq(..)
@@ -107,14 +107,14 @@ fn may_take_memory(command: Command) -> bool {
 pub(super) fn answer(
     rt: &impl Abort,
     book: &mut Book<2>,
-    command: Command,
+    command: &Command,
 ) -> Result<Reply, Refusal> {
-    let answer = book.obey(command);
+    let answer = book.obey(*command);
     if answer != Err(Refusal::NoMemory) {
         return answer;
     }
     assert!(rt; may_take_memory(command));
-    let again = book.obey(command);
+    let again = book.obey(*command);
     assert!(rt; again != Err(Refusal::NoMemory));
     again
 }
@@ -125,10 +125,10 @@ fn first_answer(
     rt: &impl Abort,
     first: &mut Book<2>,
     second: &mut Book<2>,
-    command: Command,
+    command: &Command,
     line: &str,
 ) -> Result<Reply, Refusal> {
-    let given = first.obey(command);
+    let given = first.obey(*command);
     if given == Err(Refusal::NoMemory) {
         assert!(rt; may_take_memory(command), "{line}");
         are_same(rt, first, second, line);
@@ -140,8 +140,8 @@ fn first_answer(
 /// Both of two books, which are the same, obey what a line spells. They answer the same, and are the same then.
 pub(super) fn obey_line(rt: &impl Abort, first: &mut Book<2>, second: &mut Book<2>, line: &str) {
     let command = command(rt, line);
-    let one = first_answer(rt, first, second, command, line);
-    let other = answer(rt, second, command);
+    let one = first_answer(rt, first, second, &command, line);
+    let other = answer(rt, second, &command);
     assert!(rt; one == other, "{line}");
     are_same(rt, first, second, line);
 }
