@@ -198,11 +198,11 @@ at-moved_behind {X} es ns k l below =
     at-append es (take (k - 1) L ++ drop k L) (take 1 (drop (k - 1) L) ++ drop l ns)
     ∙ (λ i. at-append es (take (k - 1) L) (drop k L) i ++ at-append es (take 1 (drop (k - 1) L)) (drop l ns) i)
     ∙ (λ i. (sym (at-take es (k - 1) L first) i ++ sym (at-drop es k L first) i)
-        ++ (sym (at-take es 1 (drop (k - 1) L) turned) i ++ sym (at-drop es l ns below) i))
+    ++ (sym (at-take es 1 (drop (k - 1) L) turned) i ++ sym (at-drop es l ns below) i))
     ∙ (λ i. (take (k - 1) (sym (at-take es l ns below) i) ++ drop k (sym (at-take es l ns below) i))
-        ++ (take 1 (sym (at-drop es (k - 1) L first) i) ++ drop l (at_numbers es ns)))
+    ++ (take 1 (sym (at-drop es (k - 1) L first) i) ++ drop l (at_numbers es ns)))
     ∙ (λ i. (take (k - 1) (take l (at_numbers es ns)) ++ drop k (take l (at_numbers es ns)))
-        ++ (take 1 (drop (k - 1) (sym (at-take es l ns below) i)) ++ drop l (at_numbers es ns)))
+    ++ (take 1 (drop (k - 1) (sym (at-take es l ns below) i)) ++ drop l (at_numbers es ns)))
 
 pub at-moved_to : {X : Type 0} (es : List X) (ns : List ℕ) (f n : ℕ) → AreBelow (length es) ns
     → at_numbers es (moved_to ns f n) ≡ moved_to (at_numbers es ns) f n
