@@ -13,7 +13,7 @@ use super::commands::Command;
 use super::names::MarkName;
 use super::replies::Reply;
 use rd_actor::Act;
-use rd_cell::{Answer, Place, Refusal};
+use rd_cell::{Answer, Place, Refusal, Wrote};
 use rd_step::Event;
 use std::process::Abort;
 
@@ -43,8 +43,9 @@ enum Wanted {
     Says(Reply),
     /// The bookmark of this name and length.
     MarkIs(u8, u64),
-    /// The live step of this number: whose it is and what it did, its place, whether it wrote, and what it was answered.
-    StepIs(u64, u8, Act, Option<Place>, bool, Answer),
+    /// The live step of this number: whose it is and what it did, its place, what it wrote of it, and what it was
+    /// answered.
+    StepIs(u64, u8, Act, Option<Place>, Wrote, Answer),
     /// This refusal.
     Refused(Refusal),
 }
@@ -115,7 +116,7 @@ fn mark_reply(text: u8, len: u64) -> Result<Reply, Refusal> {
 }
 
 /// What a reply shows of a step, its old words apart.
-fn step_of(answer: Result<Reply, Refusal>) -> Option<(u64, Event, Option<Place>, bool, Answer)> {
+fn step_of(answer: Result<Reply, Refusal>) -> Option<(u64, Event, Option<Place>, Wrote, Answer)> {
     match answer {
         Ok(Reply::Step { number, entry }) => {
             Some((number, entry.event, entry.place, entry.wrote, entry.answer))
