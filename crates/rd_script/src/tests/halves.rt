@@ -1,6 +1,6 @@
 //! Rows in which a cell is two places: what each step touches of it, who wrote which half, and a lone undo that the halves allow.
 
-use super::over_fresh;
+use super::runs::over_fresh;
 use std::test::Fail;
 
 /// An enqueue of 7 over rings of two cells. A dequeue draws its position and waits; another one finds the ring empty, and then, at
