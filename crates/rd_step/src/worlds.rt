@@ -113,6 +113,43 @@ impl<const R: usize> World<R> {
         }
     }
 
+    /// The parts of the world, from which `assemble` puts it together again.
+    ///
+    /// # Errors
+    ///
+    /// `NoMemory` if memory was refused.
+    pub fn parts(&self, alloc: Global) -> Result<Parts<R>, Refusal>
+        ensures ok { IfOk result (λ parts. world_of_parts parts ≡ model self.now) }
+        ensures flawless { IfOk result (λ parts. first_flaw parts ≡ None) }
+        ensures err { IfErr result (λ refusal. refusal ≡ Refusal.NoMemory) }
+    {
+        let segments = self.space.segments(alloc)?;
+        let actors = Vec::from_slice(alloc, &self.actors)?;
+        Ok(Parts {
+            actors,
+            segments,
+            qhead: self.space.qhead(),
+            qtail: self.space.qtail(),
+            array: self.space.array(),
+        })
+    }
+
+    /// A world like this one: the same content at each place, and the same words of each actor.
+    ///
+    /// # Errors
+    ///
+    /// `NoMemory` if memory was refused.
+    pub fn copy(&self, alloc: Global) -> Result<World<R>, Refusal>
+        ensures ok { IfOk result (λ world. model world ≡ model self.now) }
+        ensures err { IfErr result (λ refusal. refusal ≡ Refusal.NoMemory) }
+    {
+        let parts = self.parts(alloc)?;
+        match World::assemble(alloc, parts) {
+            Err(_) => Err(Refusal::NoMemory),
+            Ok(world) => Ok(world),
+        }
+    }
+
     /// What is at a place, or none if it is not there. The whole of a segment that is there has `Whole`.
     pub fn content(&self, place: Place) -> Option<Content>
         ensures { result ≡ content_at (model self.now).at place }
