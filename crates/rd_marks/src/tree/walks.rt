@@ -77,14 +77,12 @@ impl Tree {
         ensures first_begins { Begins (events (path_in (mark_tree self.now) one)) (events (path_in (mark_tree self.now) other)) → result ≡ one }
         ensures second_begins { Begins (events (path_in (mark_tree self.now) other)) (events (path_in (mark_tree self.now) one)) → result ≡ other }
     {
-        let mut a = one;
-        let mut b = other;
+        let depth = self.depth(one).min(self.depth(other));
+        let mut a = self.ancestor(one, depth);
+        let mut b = self.ancestor(other, depth);
         while a != b {
-            if self.depth(a) < self.depth(b) {
-                b = self.parent(b);
-            } else {
-                a = self.parent(a);
-            }
+            a = self.parent(a);
+            b = self.parent(b);
         }
         a
     }
