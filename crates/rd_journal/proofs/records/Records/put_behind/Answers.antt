@@ -18,9 +18,9 @@ invariant_of-self c = record { order_of_all = c.put_at.ensures.ordered; within =
 pub returns-clause-live : goal.returns-clause-live
 returns-clause-live c =
     let self = c.args.self.now in
-    put_stays (all_records self) _ self.live self.undone c.args.entry (omega (arith, all-length self, self.within)) c.put_at.ensures.put
+    put_stays (all_records self) _ self.live self.undone c.args.entry.now (omega (arith, all-length self, self.within)) c.put_at.ensures.put
 
 pub returns-clause-undone : goal.returns-clause-undone
 returns-clause-undone c =
     let self = c.args.self.now in
-    put_last (all_records self) _ self.live self.undone c.args.entry (omega (arith, all-length self, self.within)) c.put_at.ensures.put
+    put_last (all_records self) _ self.live self.undone c.args.entry.now (omega (arith, all-length self, self.within)) c.put_at.ensures.put
