@@ -5,6 +5,7 @@
 //! border in it, and undoes from the old words of the records; the start is never stored and never replayed from.
 #![tactic(auto)]
 
+mod indexed_records;
 pub mod laws;
 pub mod live_records;
 mod records;

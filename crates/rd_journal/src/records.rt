@@ -31,7 +31,7 @@ pub(crate) struct Records {
 }
 
 impl Records {
-    ghost use Rattle.rd_journal.specs.Records.{all_records, live_records, undone_records, records_capacity};
+    ghost use Rattle.rd_journal.specs.Records.{all_records, live_records, undone_records, kept_records, records_capacity};
 
     /// No record. It takes no memory.
     pub(crate) fn new(alloc: Global) -> Records
@@ -90,6 +90,14 @@ impl Records {
         ensures { undone_records self.now ≡ result.now ∷ drop 1 (undone_records self.now) }
     {
         self.at(self.live)
+    }
+
+    /// The record at this position, from 0, of the live ones and of the undone ones behind them.
+    pub(crate) fn kept_at(&self, position: usize) -> &Entry
+        requires within { position < length (kept_records self.now) }
+        ensures { result.now ≡ get_or (kept_records self.now) position result.now }
+    {
+        self.at(position)
     }
 
     /// The record whose slot's number stands at this place of the order.

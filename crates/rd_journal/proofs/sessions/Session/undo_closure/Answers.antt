@@ -1,6 +1,6 @@
 use Rattle.std.proofs.Common.{refl}
 use Rattle.rd_step.specs.Prelude.{model, room}
-use Rattle.rd_journal.specs.Records.{journal_of}
+use Rattle.rd_journal.specs.Kept.{journal_of}
 use Rattle.rd_journal.specs.Sessions.{journal}
 use Rattle.rd_journal.proofs.RolledBack.{IsGatheredLast, gathered_session, rolled_back, rolled_start}
 use Rattle.rd_journal.proofs.sessions.Session.undo_closure.Goals as goal
