@@ -149,6 +149,27 @@ pub not_held : (index : DependIndex) (k : ℕ) (x : Entry) → index.len < k →
 not_held index k x past es is at =
     same_beginning index es (without_entry es k) (taken_before es k index.len past (number_within es k x at)) is
 
+pub out_length : {X : Type 0} (live undone : List X) (k : ℕ) → 1 ≤ k → k ≤ length live
+    → length (take (k - 1) live ++ drop k live) + length (take 1 (drop (k - 1) live) ++ undone) ≡ length live + length undone
+out_length {X} live undone k some position =
+    omega (
+      arith,
+      length-append (take (k - 1) live) (drop k live),
+      length-append (take 1 (drop (k - 1) live)) undone,
+      length-take-le (k - 1) live (omega arith),
+      length-take-le 1 (drop (k - 1) live) (omega (arith, length-drop (k - 1) live)),
+      length-drop k live,
+    )
+
+-- the index of live ones alone
+pub of_live : (index : DependIndex) (live undone : List Entry) → index.len ≤ length live → IsIndexOf index (take index.len (live ++ undone))
+    → IsIndexOf index (take index.len live)
+of_live index live undone within is = subst (λ (zs : List Entry). IsIndexOf index zs) (take-append-le index.len live undone within) is
+
+pub of_kept : (index : DependIndex) (live undone : List Entry) → IsIndexOf index (take index.len live) → IsIndexOf index (take index.len (live ++ undone))
+of_kept index live undone is =
+    subst (λ (zs : List Entry). IsIndexOf index zs) (sym (take-append-le index.len live undone (reaches_within index live is))) is
+
 -- those before the k-th stand where they stood when its closure is gathered last
 pub closure_begins : (l : List Entry) (k m : ℕ) → 1 ≤ k → k ≤ length l → m ≤ k - 1 → take m (without_closure l k ++ closure_of l k) ≡ take m l
 closure_begins l zero m some within h = absurd (omega arith)
@@ -230,6 +251,7 @@ long x live rest k m position within =
   where
     none : first_from x (m + 1) (drop m live) ≡ None
     none = ap (first_from x (m + 1)) (drop_all m live within)
+
     by : (o p : Option ℕ) → first_from x (k + 1) (drop k live) ≡ o → first_from x (k + 1) (drop k live ++ rest) ≡ p → o ≡ answer_by x live m p
     by (Some i) p h g =
         let in_it = found_within x (k + 1) i (drop k live) h in
