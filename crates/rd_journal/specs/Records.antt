@@ -5,7 +5,7 @@ use Rattle.rd_journal.specs.declared.records.Records.{Records}
 use Rattle.rd_journal.specs.Numbers.{at_numbers}
 
 -- the records in the order of their slots' numbers: those of the live steps, of the undone ones, and those that were discarded
-abbrev pub all_records : Records → List Entry
+unfoldable pub all_records : Records → List Entry
 all_records r = at_numbers r.slots.items r.order.items
 
 -- the records of the live steps, in their order

@@ -4,6 +4,8 @@
 //! Only the border between the first two moves when a step is undone or redone last. A record that leaves the middle first has its
 //! number moved behind those of the other live ones. So the room that an undo needs was made by the step that it undoes.
 
+#![tactic(auto, unfolding(crate::specs::Records::all_records))]
+
 ghost use Rattle.std.specs.Prelude.{◌≡◌, ◌++◌, ◌+◌, ◌-◌, ◌<◌, ◌≤◌, ◌∷◌, [], length, get_or, take, drop, vec_capacity, OnOk, OnErr};
 ghost use Rattle.rd_step.specs.Prelude.{closure_of, without_closure, MOST_STEPS};
 ghost use Rattle.rd_journal.specs.Numbers.{IsOrder};
