@@ -1,11 +1,11 @@
 //! A lone undo answers what the plain scan over the records finds, all along runs of calls that are chosen at random.
 
-use super::super::sessions::Session;
 use super::lone_undo::{STEPS, mixed_run, next};
 use super::long_runs::call;
 use super::switching::{live_records, step_all_again};
 use rd_cell::Refusal;
 use rd_depend::first_dependant;
+use rd_journal::sessions::Session;
 use rd_step::Entry;
 use std::alloc::Global;
 use std::test::Fail;
