@@ -19,6 +19,9 @@ use rd_depend::{DependIndex, Probes};
 use rd_step::Entry;
 use std::alloc::{AllocError, Global};
 
+/// How many positions are taken out of the index one by one at most.
+const FEW: usize = 1_000;
+
 /// The records of the live and of the undone steps, and the index of the first ones of them.
 #[derive(Drop)]
 pub(crate) struct IndexedRecords {
@@ -220,8 +223,21 @@ impl IndexedRecords {
         }
     }
 
-    /// Takes the positions behind the first `n` out of the index.
+    /// Takes the positions behind the first `n` out of the index: a few one by one, and many by one pass over all its lists.
     fn forget_behind(&mut self, n: usize)
+        ensures records { self.new.records ≡ self.old.records }
+        ensures covered { self.new.index.len ≤ n }
+    {
+        let covered = self.index.len() as usize;
+        if covered.saturating_sub(n) > FEW {
+            self.index.truncate(n as u64);
+        } else {
+            self.forget_each_behind(n);
+        }
+    }
+
+    /// The same, one by one.
+    fn forget_each_behind(&mut self, n: usize)
         ensures records { self.new.records ≡ self.old.records }
         ensures covered { self.new.index.len ≤ n }
     {

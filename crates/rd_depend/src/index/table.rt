@@ -3,7 +3,9 @@
 ghost use Rattle.std.specs.Prelude.{◌≡◌, length};
 
 use super::keys::Key;
-use super::lists::{close_all, cut_all, put_if, put_in, reserve_if, reserve_in, take_last_if, take_last_in};
+use super::lists::{
+    close_all, cut_all, put_if, put_in, reserve_if, reserve_in, take_last_if, take_last_in,
+};
 use indexmap::IndexSet;
 use std::alloc::{AllocError, Global};
 

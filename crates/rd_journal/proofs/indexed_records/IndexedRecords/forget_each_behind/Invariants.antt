@@ -1,5 +1,5 @@
 use Rattle.std.proofs.Common.{◌≡◌, ◌+◌, ◌≤◌}
-use Rattle.rd_journal.proofs.indexed_records.IndexedRecords.forget_behind.Given as goal
+use Rattle.rd_journal.proofs.indexed_records.IndexedRecords.forget_each_behind.Given as goal
 
 abbrev pub invariant-loop : goal.invariant-loop
 invariant-loop l = record {
