@@ -3,7 +3,7 @@
 ghost use Rattle.std.specs.Prelude.{◌≡◌, ◌≤◌, length};
 ghost use Rattle.rd_step.specs.Prelude.{some_overlap, depends, first_dependant};
 
-use rd_cell::{Place, overlaps};
+use rd_cell::{Place, is_of};
 use rd_step::Entry;
 
 /// Whether two steps depend on each other: they have one actor, or their places overlap and one of them wrote. It is
@@ -11,7 +11,7 @@ use rd_step::Entry;
 pub fn depends(a: &Entry, b: &Entry) -> bool
     ensures { result ≡ depends a.now b.now }
 {
-    a.event.actor == b.event.actor || (some_overlap(a.place, b.place) && (a.wrote || b.wrote))
+    a.event.actor == b.event.actor || ((a.wrote || b.wrote) && some_overlap(a.place, b.place))
 }
 
 /// Whether both accesses have places, and these overlap.
@@ -19,8 +19,17 @@ fn some_overlap(a: Option<Place>, b: Option<Place>) -> bool
     ensures { result ≡ some_overlap a b }
 {
     match (a, b) {
-        (Some(p), Some(q)) => overlaps(p, q),
+        (Some(p), Some(q)) => overlap(p, q),
         _ => false,
+    }
+}
+
+/// Whether two places overlap.
+fn overlap(p: Place, q: Place) -> bool {
+    match (p, q) {
+        (Place::Whole(name), _) => is_of(name, q),
+        (_, Place::Whole(name)) => is_of(name, p),
+        _ => p == q,
     }
 }
 

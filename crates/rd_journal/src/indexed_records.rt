@@ -28,6 +28,8 @@ pub(crate) struct IndexedRecords {
     records: Records,
     /// Of the first of the live records and, behind them, of the undone ones.
     index: DependIndex,
+    /// Whether an undo had to look at many records that the index did not reach.
+    is_wanted: bool,
     ghost indexed: { IsIndexOf index (take index.len (kept_records records)) },
     ghost few: { length (live_records records) + length (undone_records records) ≤ MOST_STEPS },
 }
@@ -42,6 +44,7 @@ impl IndexedRecords {
         IndexedRecords {
             records: Records::new(alloc),
             index: DependIndex::new(alloc),
+            is_wanted: false,
         }
     }
 
@@ -111,7 +114,6 @@ impl IndexedRecords {
         ensures capacity { records_capacity self.new.records ≡ records_capacity self.old.records }
     {
         self.records.step_forward();
-        self.catch_up();
     }
 
     /// Makes the `k`-th live record the front of the undone ones. All others stay in their order.
@@ -124,6 +126,7 @@ impl IndexedRecords {
             ≡ take 1 (drop (k - 1) (live_records self.old.records)) ++ undone_records self.old.records }
         ensures capacity { records_capacity self.new.records ≡ records_capacity self.old.records }
     {
+        self.is_wanted = self.live_len().saturating_sub(self.index.len() as usize) > FEW;
         self.forget_behind(self.live_len());
         remove_held(&mut self.index, k as u64, self.records.live_at(k - 1));
         self.records.take_out(k);
@@ -257,10 +260,14 @@ impl IndexedRecords {
         self.index.pop(self.records.kept_at(last));
     }
 
-    /// Has the index reach all live records, as far as there is memory for it.
+    /// Has the index reach all live records, if that is wanted and as far as there is memory for it.
     fn catch_up(&mut self)
         ensures records { self.new.records ≡ self.old.records }
     {
+        if !self.is_wanted {
+            return;
+        }
+        self.is_wanted = false;
         let live = self.live_len();
         for _ in self.index.len() as usize..live {
             if self.cover_next().is_err() {

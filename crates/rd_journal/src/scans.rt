@@ -24,8 +24,10 @@ pub(crate) fn first_behind(records: &LiveRecords, entry: &Entry, start: usize) -
 pub(crate) fn depends_on_one(records: &LiveRecords, later: &Entry) -> bool
     ensures { result ≡ depends_on_one records.now later.now }
 {
-    for position in 0..records.len() {
-        if depends(records.at(position), later) {
+    let mut left = records.len();
+    while left > 0 {
+        left -= 1;
+        if depends(records.at(left), later) {
             return true;
         }
     }
