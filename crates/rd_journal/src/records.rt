@@ -94,6 +94,14 @@ impl Records {
         self.at(self.live)
     }
 
+    /// The record of the undone step at this position, from 0.
+    pub(crate) fn undone_at(&self, position: usize) -> &Entry
+        requires within { position < length (undone_records self.now) }
+        ensures { result.now ≡ get_or (undone_records self.now) position result.now }
+    {
+        self.at(self.live + position)
+    }
+
     /// The record at this position, from 0, of the live ones and of the undone ones behind them.
     pub(crate) fn kept_at(&self, position: usize) -> &Entry
         requires within { position < length (kept_records self.now) }

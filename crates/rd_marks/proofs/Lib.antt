@@ -15,3 +15,4 @@ pub mod Switches
 pub mod SameLemmas
 pub mod Counting
 pub mod Here
+pub mod MarkedEvents
