@@ -46,7 +46,7 @@ impl Gate for Tried {
 }
 
 /// Asks until the flag is set, and gives the last answer.
-fn asked_until<R: Wait>(
+fn ask_until<R: Wait>(
     rt: &R,
     desk: &Desk<4>,
     flag: &AtomicBool,
@@ -56,7 +56,7 @@ fn asked_until<R: Wait>(
     requires own { IsViewerOf desk.now pass.old }
     ensures own { IsViewerOf desk.now pass.new }
 {
-    for _ in 0..MOST_CALLS {
+    for _call in 0..MOST_CALLS {
         let answer = desk.ask(rt, pass, command);
         if flag.load(Ordering::SeqCst) {
             return answer;
@@ -74,7 +74,7 @@ fn try_until_busy(
     requires own { IsViewerOf desk.now pass.old }
     ensures own { IsViewerOf desk.now pass.new }
 {
-    for _ in 0..MOST_CALLS {
+    for _call in 0..MOST_CALLS {
         let answer = desk.try_ask(pass, command);
         if matches!(answer, Err(DeskRefusal::Busy(_))) {
             return answer;

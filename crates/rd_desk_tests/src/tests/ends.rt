@@ -2,8 +2,8 @@
 ghost use Rattle.std.specs.Prelude.{◌≤◌};
 
 use super::calls::{fresh, last_pass};
-use rd_desk::{Desk, DeskRefusal, MOST_CALLS};
 use rd_cell::Refusal;
+use rd_desk::{Desk, DeskRefusal, MOST_CALLS};
 use rd_marks::{Command, Reply};
 
 /// No step is live.
