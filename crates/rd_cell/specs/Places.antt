@@ -96,6 +96,11 @@ abbrev pub some_overlap : Option Place → Option Place → Bool
 some_overlap (Some p) (Some q) = overlaps p q
 some_overlap _ _ = false
 
+-- whether an access wrote nothing
+abbrev pub is_nothing : Wrote → Bool
+is_nothing Nothing = true
+is_nothing _ = false
+
 -- the half of a cell that has its safe bit and its index, and any other place itself
 abbrev pub index_half : Place → Place
 index_half (Cell s i) = Idx s i

@@ -2,7 +2,7 @@
 
 ghost use Rattle.std.specs.Prelude.{◌≡◌};
 ghost use Rattle.rd_cell.specs.declared.places.TheConstants.SegName.{ROOT};
-ghost use Rattle.rd_cell.specs.Places.{covers, is_array, is_of, is_of_cell, overlaps, root, segment_of, index_half, written};
+ghost use Rattle.rd_cell.specs.Places.{covers, is_array, is_of, is_of_cell, overlaps, root, segment_of, index_half, is_nothing, written};
 
 /// The name of a segment: (maker, n) is the one that this actor made as its n-th, from 0. The root is (0, 0).
 #[derive(Clone, Copy, Debug, PartialEq, Eq)]
@@ -56,6 +56,15 @@ pub enum Wrote {
     Place,
     /// Of a cell the index half alone: its value stayed as it was.
     Index,
+}
+
+impl Wrote {
+    /// Whether the access wrote nothing.
+    pub fn is_nothing(self) -> bool
+        ensures { result ≡ is_nothing self }
+    {
+        matches!(self, Wrote::Nothing)
+    }
 }
 
 impl Place {

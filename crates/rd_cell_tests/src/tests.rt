@@ -80,6 +80,7 @@ const WRITTEN: &[(Option<Place>, Wrote, Option<Place>)] = &[
 fn what_was_written_is_all_of_a_place_or_the_index_half_of_a_cell(rt: HostRuntime) {
     for &(place, wrote, wanted) in WRITTEN {
         assert_eq!(rt; written(place, wrote), wanted, "{place:?}, {wrote:?}");
+        assert_eq!(rt; wrote.is_nothing(), wrote == Wrote::Nothing);
     }
 }
 
