@@ -91,7 +91,7 @@ impl Place {
     }
 
     /// The index half of a cell, and any other place itself.
-    fn index_half(self) -> Place
+    pub fn index_half(self) -> Place
         ensures { result ≡ index_half self }
     {
         match self {
