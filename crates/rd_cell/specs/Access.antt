@@ -52,7 +52,7 @@ no_access = record { place = None; old = None; answer = Nothing; wrote = WroteNo
 
 -- an operation with this effect at a place that had this content
 abbrev pub effect_at : Place → Content → Effect → Performed
-effect_at p c e = record { place = Some p; old = Some c; answer = e.answer; wrote = wrote_by c e.writes; given = share e.writes }
+effect_at p c e = record { place = Some p; old = Some c; answer = e.answer; wrote = wrote_by c e.writes; given = share p e.writes }
 
 -- an operation at a place that had this content, with this effect or refused
 abbrev pub perform_effect : Place → Content → Result Effect Refusal → Result Performed Refusal

@@ -30,10 +30,15 @@ abbrev pub cell_of_halves : Option Content → Option Content → Option Content
 cell_of_halves (Some (ValIs val)) (Some (IdxIs safe idx)) = Some (CellIs (record { safe = safe; idx = idx; val = val }))
 cell_of_halves _ _ = None
 
--- what each place that a written one covers is given of a content, or of none: of a cell its half, else all of it
-abbrev pub share : Option Content → Contents
-share (Some (CellIs c)) q = half c q
-share o q = o
+-- the same of a content that is put at a cell, or of none
+abbrev pub halves : Option Content → Contents
+halves (Some (CellIs c)) q = half c q
+halves o q = o
+
+-- what each place that a place covers has of its content, or of none: at a cell its half, else all of it
+abbrev pub share : Place → Option Content → Contents
+share (CellAt s i) o q = halves o q
+share p o q = o
 
 -- the contents after a write of these at a place, if there is one
 abbrev pub after_write_at : Option Place → Contents → Contents → Contents
@@ -42,7 +47,8 @@ after_write_at (Some p) given at = after_write p given at
 
 -- the contents with the old content of a place put back, or for none without the places that it covers
 abbrev pub restore : Option Place → Option Content → Contents → Contents
-restore place old = after_write_at place (share old)
+restore None old at = at
+restore (Some p) old at = after_write p (share p old) at
 
 -- what an operation at a place works on: its content, and of a cell those of its halves together. The whole of a segment takes
 -- no operation

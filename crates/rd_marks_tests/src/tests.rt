@@ -8,7 +8,7 @@ mod origins;
 mod sharing;
 
 use rd_actor::Act;
-use rd_cell::{Answer, Place, Refusal};
+use rd_cell::{Answer, Place, Refusal, Wrote};
 use rd_marks::books::Book;
 use rd_marks::commands::Command;
 use rd_marks::names::MarkName;
@@ -42,8 +42,9 @@ enum Wanted {
     Says(Reply),
     /// The bookmark of this name and length.
     MarkIs(u8, u64),
-    /// The live step of this number: whose it is and what it did, its place, whether it wrote, and what it was answered.
-    StepIs(u64, u8, Act, Option<Place>, bool, Answer),
+    /// The live step of this number: whose it is and what it did, its place, what it wrote of it, and what it was
+    /// answered.
+    StepIs(u64, u8, Act, Option<Place>, Wrote, Answer),
     /// This refusal.
     Refused(Refusal),
 }
@@ -114,7 +115,7 @@ fn mark_reply(text: u8, len: u64) -> Result<Reply, Refusal> {
 }
 
 /// What a reply shows of a step, its old words apart.
-fn step_of(answer: Result<Reply, Refusal>) -> Option<(u64, Event, Option<Place>, bool, Answer)> {
+fn step_of(answer: Result<Reply, Refusal>) -> Option<(u64, Event, Option<Place>, Wrote, Answer)> {
     match answer {
         Ok(Reply::Step { number, entry }) => {
             Some((number, entry.event, entry.place, entry.wrote, entry.answer))

@@ -1,14 +1,14 @@
 -- The step that last wrote a place.
-use Rattle.std.specs.Prelude.{ℕ, ◌&&◌, Bool, List, Option, Some, None, Result, Ok, Err}
-use Rattle.rd_step.specs.Prelude.{Place, Content, content_at, some_overlap, Refusal, NoSuchPlace, Ran}
+use Rattle.std.specs.Prelude.{ℕ, Bool, List, Option, Some, None, Result, Ok, Err}
+use Rattle.rd_step.specs.Prelude.{Place, Content, content_at, some_overlap, written, Refusal, NoSuchPlace, Ran}
 use Rattle.rd_step.specs.declared.entries.Entry.{Entry}
 use Rattle.rd_origin.specs.Positions.{last_position}
 
--- whether the step wrote a place that overlaps this one
+-- whether the step wrote this place, or one of the places that it names
 abbrev pub writes_to : Place → Entry → Bool
-writes_to place x = x.wrote && some_overlap x.place (Some place)
+writes_to place x = some_overlap (written x.place x.wrote) (Some place)
 
--- the greatest position that wrote an overlapping place, if this place is there
+-- the greatest position that wrote this place or one that it names, if this place is there
 abbrev pub writer_at : List Entry → Place → Option Content → Result (Option ℕ) Refusal
 writer_at entries place None = Err NoSuchPlace
 writer_at entries place (Some content) = Ok (last_position (writes_to place) entries)

@@ -61,7 +61,7 @@ fn last_call(steps: &LiveRecords, number: Option<u64>) -> Option<u64>
     last_below(steps, number, Sought::CallBy(step.event.actor))
 }
 
-/// The last live step that wrote this place, or one that overlaps it; none if no live step did. It takes no memory, and makes
+/// The last live step that wrote this place, or one of the places that it names; none if no live step did. It takes no memory, and makes
 /// one pass over the live steps at most, from the back.
 ///
 /// # Errors

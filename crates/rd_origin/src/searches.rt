@@ -19,7 +19,7 @@ pub enum Sought {
     PutInto(Place),
     /// A call by this actor.
     CallBy(u8),
-    /// A step that wrote this place, or one that overlaps it.
+    /// A step that wrote this place, or one of the places that it names.
     WriteOf(Place),
 }
 
@@ -73,7 +73,7 @@ fn puts_into(cell: Place, step: &Entry) -> bool
     ensures { result ≡ puts_into cell step.now }
 {
     match step.old_actor.pc {
-        Pc::E8 => step.wrote && is_at(step.place, cell),
+        Pc::E8 => !step.wrote.is_nothing() && is_at(step.place, cell),
         Pc::A2 => is_at(step.place, cell),
         Pc::E12 => is_first_cell(step.place, cell),
         _ => false,
@@ -114,9 +114,10 @@ fn is_call(act: Act) -> bool
     !matches!(act, Act::Go | Act::Starve(_))
 }
 
-/// Whether the step wrote this place, or one that overlaps it.
+/// Whether the step wrote this place, or one of the places that it names.
 fn writes_to(place: Place, step: &Entry) -> bool
     ensures { result ≡ writes_to place step.now }
 {
-    step.wrote && step.place.is_some_and(|written| overlaps(written, place))
+    step.written()
+        .is_some_and(|written| overlaps(written, place))
 }

@@ -2,7 +2,7 @@
 
 use super::{Line, Wanted, play};
 use rd_actor::{Act, Actor};
-use rd_cell::{Answer, Content, Place, Refusal, SegName};
+use rd_cell::{Answer, Content, Place, Refusal, SegName, Wrote};
 use rd_journal::Session;
 use rd_marks::books::Book;
 use rd_marks::commands::Command;
@@ -32,7 +32,7 @@ const GOING_TO_AND_FRO: [(Line, Wanted); 25] = [
             1,
             Act::Go,
             Some(Place::QTail),
-            false,
+            Wrote::Nothing,
             Answer::Found(Content::Name(SegName::ROOT)),
         ),
     ),
@@ -101,7 +101,7 @@ const WALKS: [(Line, Wanted); 17] = [
     (Line::Does(Command::Redo), Wanted::At(1, 1)),
     (
         Line::Does(Command::Step(1)),
-        Wanted::StepIs(1, 1, Act::Enq(7), None, false, Answer::Nothing),
+        Wanted::StepIs(1, 1, Act::Enq(7), None, Wrote::Nothing, Answer::Nothing),
     ),
     (
         Line::Does(Command::Enq(1, 8)),
