@@ -11,12 +11,14 @@ use Rattle.rd_cell.specs.declared.cells.Cell.{Cell}
 use Rattle.rd_cell.specs.declared.contents.Content.{Content}
 use Rattle.rd_cell.specs.declared.contents.Content.TheVariants.{Cell as CellIs, Val as ValIs, Idx as IdxIs}
 use Rattle.rd_cell.specs.declared.operations.Operation.{Operation}
+use Rattle.rd_cell.specs.declared.operations.Operation.TheVariants.{Cas2}
 use Rattle.rd_cell.specs.declared.access.Access.{Access}
 use Rattle.rd_cell.specs.declared.access.Access.TheVariants.{NoPlace, At, Make}
 use Rattle.rd_cell.specs.declared.refusal.Refusal.{Refusal}
 use Rattle.rd_cell.specs.Places.{is_name, is_of_cell, is_place, covers, some_covers, some_overlap, written, interfere}
 use Rattle.rd_cell.specs.Contents.{Contents, half, halves, cell_of_halves, share, after_write_at, operand, holding}
-use Rattle.rd_cell.specs.Operations.{Effect, effect, wrote_content, wrote_by}
+use Rattle.rd_cell.specs.Cells.{is_cell}
+use Rattle.rd_cell.specs.Operations.{Effect, swaps, effect, wrote_content, wrote_by}
 use Rattle.rd_cell.specs.Access.{Performed, contents_after, number_made_from, number_made, effect_at, perform_effect, operate, make, perform}
 use Rattle.rd_cell.proofs.PlaceLemmas.{is_name-true, is_place-true, covers-refl, both_cover, written-covers, interfere-sym}
 
@@ -41,7 +43,7 @@ after_write-same (Some p) given at at' q h = ap (λ (o : Option Content). if cov
 -- What an operation works on
 
 -- a cell that is there has both its halves
-halves_there : (a b : Option Content) (c : Content) → cell_of_halves a b ≡ Some c
+pub halves_there : (a b : Option Content) (c : Content) → cell_of_halves a b ≡ Some c
     → (x : Cell) × (c ≡ CellIs x) × (a ≡ Some (ValIs x.val)) × (b ≡ Some (IdxIs x.safe x.idx))
 halves_there (Some (ValIs v)) (Some (IdxIs safe idx)) c h = (record { safe = safe; idx = idx; val = v }, (cc), refl, refl)
 halves_there _ _ c h = cc
@@ -161,11 +163,11 @@ number_made-same at at' maker same = number_made_from-same MOST_SEGMENTS at at' 
 
 -- an operation on a place that is there keeps which places are there, if it writes contents of the kind that was there
 pub after-is_some : (p : Place) (c : Content) (e : Effect) (at : Contents) (q : Place) → operand at p ≡ Some c → (is_cell_at q ≡ true → at q ≡ None)
-    → IfSome e.writes (λ d. covers p q ≡ true → is_some (share p (Some d) q) ≡ is_some (share p (Some c) q))
+    → IfSome e.writes (λ d. is_some (share p (Some d) q) ≡ is_some (share p (Some c) q))
     → is_some (contents_after (effect_at p c e) at q) ≡ is_some (at q)
 after-is_some p c e at q h bare kind = by e.writes kind
   where
-    by : (o : Option Content) → IfSome o (λ d. covers p q ≡ true → is_some (share p (Some d) q) ≡ is_some (share p (Some c) q))
+    by : (o : Option Content) → IfSome o (λ d. is_some (share p (Some d) q) ≡ is_some (share p (Some c) q))
         → is_some (after_write_at (written (Some p) (wrote_by c o)) (share p o) at q) ≡ is_some (at q)
     by None k = refl
     by (Some d) k =
@@ -173,29 +175,52 @@ after-is_some p c e at q h bare kind = by e.writes kind
         elim (cases_Bool (some_covers place q)) [
           | inl m ↦
               let within : covers p q ≡ true = written-covers (Some p) (wrote_content c d) q m in
-              ap is_some (after_write-inside place (share p (Some d)) at q m) ∙ k within ∙ sym (ap is_some (operand-covered p at c q h bare within))
+              ap is_some (after_write-inside place (share p (Some d)) at q m) ∙ k ∙ sym (ap is_some (operand-covered p at c q h bare within))
           | inr m ↦ ap is_some (after_write-outside place (share p (Some d)) at q m)
         ]
 
--- of a head, whatever is written there or at the whole of its segment
-head-kind : (p : Place) (h : SegName) (c d : Content) → covers p (Head h) ≡ true → is_some (share p (Some d) (Head h)) ≡ is_some (share p (Some c) (Head h))
-head-kind (CellAt s i) h c d k = cc
-head-kind _ h c d k = refl
+-- whether an effect at a place writes contents of the kind that was there
+abbrev KeepsKind : Place → Content → Place → Effect → Type 0
+KeepsKind p c q e = IfSome e.writes (λ d. is_some (share p (Some d) q) ≡ is_some (share p (Some c) q))
 
-head-kinds : (p : Place) (h : SegName) (c : Content) (o : Option Content)
-    → IfSome o (λ d. covers p (Head h) ≡ true → is_some (share p (Some d) (Head h)) ≡ is_some (share p (Some c) (Head h)))
-head-kinds p h c None = tt
-head-kinds p h c (Some d) = head-kind p h c d
+plain_kind : (r : Result Effect Refusal) → IfOk r (λ e. IfSome e.writes (λ d. true ≡ true))
+plain_kind (Err x) = tt
+plain_kind (Ok e) = by e.writes
+  where
+    by : (o : Option Content) → IfSome o (λ d. true ≡ true)
+    by None = tt
+    by (Some d) = refl
 
-keeps-effect : (p : Place) (c : Content) (r : Result Effect Refusal) (at : Contents) (h : SegName) → operand at p ≡ Some c
-    → IfOk (perform_effect p c r) (λ did. is_some (contents_after did at (Head h)) ≡ is_some (at (Head h)))
-keeps-effect p c (Err x) at h found = tt
-keeps-effect p c (Ok e) at h found = after-is_some p c e at (Head h) found (λ k. cc) (head-kinds p h c e.writes)
+halves_kind : (x y : Cell) (q : Place) → is_some (half y q) ≡ is_some (half x q)
+halves_kind x y (ValAt t j) = refl
+halves_kind x y (IdxAt t j) = refl
+halves_kind x y _ = refl
 
-keeps-operate : (p : Place) (op : Operation) (o : Option Content) (at : Contents) (h : SegName) → operand at p ≡ o
-    → IfOk (operate p op o) (λ did. is_some (contents_after did at (Head h)) ≡ is_some (at (Head h)))
-keeps-operate p op None at h found = tt
-keeps-operate p op (Some c) at h found = keeps-effect p c (effect op c) at h found
+cell_kind : (s : SegName) (i : ℕ) (op : Operation) (x : Cell) (q : Place) → IfOk (effect op (CellIs x)) (KeepsKind (CellAt s i) (CellIs x) q)
+cell_kind s i (Cas2 old new) x q = by (is_cell x old)
+  where
+    by : (b : Bool) → IfOk (swaps b (CellIs new)) (KeepsKind (CellAt s i) (CellIs x) q)
+    by true = halves_kind x new q
+    by false = tt
+cell_kind s i _ x q = tt
+
+-- each does
+effect_kind : (p : Place) (op : Operation) (at : Contents) (c : Content) (q : Place) → operand at p ≡ Some c → IfOk (effect op c) (KeepsKind p c q)
+effect_kind (CellAt s i) op at c q h =
+    let parts = halves_there (at (ValAt s i)) (at (IdxAt s i)) c h in
+    subst (λ (d : Content). IfOk (effect op d) (KeepsKind (CellAt s i) d q)) (sym parts.1) (cell_kind s i op parts.0 q)
+effect_kind _ op at c q h = plain_kind (effect op c)
+
+keeps-effect : (p : Place) (c : Content) (r : Result Effect Refusal) (at : Contents) (q : Place) → operand at p ≡ Some c → (is_cell_at q ≡ true → at q ≡ None)
+    → IfOk r (KeepsKind p c q) → IfOk (perform_effect p c r) (λ did. is_some (contents_after did at q) ≡ is_some (at q))
+keeps-effect p c (Err x) at q h bare kind = tt
+keeps-effect p c (Ok e) at q h bare kind = after-is_some p c e at q h bare kind
+
+-- an operation keeps which places are there
+pub keeps-operate : (p : Place) (op : Operation) (o : Option Content) (at : Contents) (q : Place) → operand at p ≡ o → (is_cell_at q ≡ true → at q ≡ None)
+    → IfOk (operate p op o) (λ did. is_some (contents_after did at q) ≡ is_some (at q))
+keeps-operate p op None at q h bare = tt
+keeps-operate p op (Some c) at q h bare = keeps-effect p c (effect op c) at q h bare (effect_kind p op at c q h)
 
 other_maker : (a b m n : ℕ) → (a ≡ b → ⊥) → is_name (record { maker = a; n = m }) (record { maker = b; n = n }) ≡ false
 other_maker a b m n ne = and_left (a == b) (m == n) (ne_eqb a b ne)
@@ -208,10 +233,11 @@ keeps-make R actor n x at maker k ne =
     (λ e. ap is_some (cond-false (is_name (record { maker = actor; n = n }) (record { maker = maker; n = k })) (holding R x h) (at h) (other_maker actor maker n k ne)))
     (λ e. tt)
 
-keeps-perform : (R actor : ℕ) (at : Contents) (x : Access) (maker k : ℕ) → (actor ≡ maker → ⊥)
+-- an access by one actor keeps which segments of another are there
+pub keeps-perform : (R actor : ℕ) (at : Contents) (x : Access) (maker k : ℕ) → (actor ≡ maker → ⊥)
     → IfOk (perform R actor at x) (λ did. is_some (contents_after did at (Head (record { maker = maker; n = k }))) ≡ is_some (at (Head (record { maker = maker; n = k }))))
 keeps-perform R actor at NoPlace maker k ne = refl
-keeps-perform R actor at (At p op) maker k ne = keeps-operate p op (operand at p) at (record { maker = maker; n = k }) refl
+keeps-perform R actor at (At p op) maker k ne = keeps-operate p op (operand at p) at (Head (record { maker = maker; n = k })) refl (λ e. cc)
 keeps-perform R actor at (Make x) maker k ne = keeps-make R actor (number_made at actor) x at maker k ne
 
 -- an access by one actor leaves the number of segments that another has made
