@@ -3,7 +3,7 @@ use Rattle.std.proofs.Common.{◌≡◌, ◌≢◌, ℕ, ◌+◌, ◌%◌, ◌<�
 use Rattle.std.proofs.lemmas.Bool.{cond_both, and_parts, and_from}
 use Rattle.std.proofs.lemmas.Result.{IfOk-at_ok}
 use mathlib.Core.Path.{fun_ext}
-use Rattle.rd_ring.specs.Prelude.{SLOTS, MOST_SEGMENTS, COUNTER_END, Cell, SegName, Place, QHead, QTail, Head, Tail, Next, CellAt, ValAt, IdxAt, Wrote, WroteNothing, ArrHead, ArrTail, ArrCell, ArrSlot, Empty as NobodyYet, Top, Held, Content, Name, Number, TailIs, NextIs, CellIs, ValIs, IdxIs, Slot, Operation, Read, ReadValue, ReadSafeAndIndex, Add, AddArray, Close, CasName, CasNext, CasTail, Cas2, Swap, Found, Won, Lost, Nothing, Made, Access, NoPlace, At, Make, Refusal, NoActor, CounterEnd, ArrayEnd, NoSuchPlace, is_name, is_cell, some_covers, written, Contents, is_there, operand, Effect, effect, Performed, number_made, operate, make, perform}
+use Rattle.rd_ring.specs.Prelude.{SLOTS, MOST_SEGMENTS, COUNTER_END, Cell, SegName, Place, QHead, QTail, Head, Tail, Next, CellAt, ValAt, IdxAt, Wrote, WroteNothing, ArrHead, ArrTail, ArrCell, ArrSlot, Empty as NobodyYet, Top, Held, Content, Name, Number, TailIs, NextIs, CellIs, ValIs, IdxIs, Slot, Operation, Read, ReadValue, ReadSafeAndIndex, Add, AddArray, Close, CasName, CasNext, CasTail, Cas2, Swap, Found, Won, Lost, Nothing, Made, Access, NoPlace, At, Make, Refusal, NoActor, CounterEnd, ArrayEnd, NoSuchPlace, is_name, is_cell, some_covers, is_nothing, written, Contents, is_there, operand, Effect, effect, Performed, number_made, operate, make, perform}
 use Rattle.rd_cell.specs.Cells.{is_bit}
 use Rattle.rd_cell.specs.Operations.{swaps, adds}
 use Rattle.rd_cell.specs.Access.{perform_effect}
@@ -389,12 +389,10 @@ moves_on R w e s some formed h =
     let is_pc : next.0.pc ≡ b.pc = ap (λ (x : Actor). x.pc) (let k : next.0 ≡ b = cc in k) in
     ends (is_pc ∙ sym same ∙ sym was_pc))
 
-nothing_written : (p : Option Place) (w : Wrote) (q : Place) → w ≡ WroteNothing → some_covers (written p w) q ≡ false
-nothing_written p w q h = ap (λ (x : Wrote). some_covers (written p x) q) h ∙ none p
-  where
-    none : (o : Option Place) → some_covers (written o WroteNothing) q ≡ false
-    none None = refl
-    none (Some x) = refl
+nothing_written : (p : Option Place) (w : Wrote) (q : Place) → is_nothing w ≡ true → some_covers (written p w) q ≡ false
+nothing_written None w q h = refl
+nothing_written (Some p) WroteNothing q h = refl
+nothing_written (Some p) _ q h = cc
 
 -- a step changes one place, the two of one cell, or those of one segment, and one actor
 pub changes_only : (R : ℕ) (w : World) (e : Event) (s : Stepped) → step R w e ≡ Ok s → ChangesOnly e s.entry w s.world

@@ -1,6 +1,6 @@
 -- What the laws of the machine say.
 use Rattle.std.specs.Prelude.{◌≡◌, ℕ, false, List, Some, Ok, Err}
-use Rattle.rd_ring.specs.Prelude.{Place, Content, Operation, Refusal, NoActor, NotIdle, ActorIdle, NeedsChoice, NoChoice, CounterEnd, ArrayEnd, SegmentsEnd, NoSuchPlace, WroteNothing, some_covers, written, Contents, operand, effect}
+use Rattle.rd_ring.specs.Prelude.{Place, Content, Operation, Refusal, NoActor, NotIdle, ActorIdle, NeedsChoice, NoChoice, CounterEnd, ArrayEnd, SegmentsEnd, NoSuchPlace, some_covers, is_nothing, written, Contents, operand, effect}
 use Rattle.rd_actor.specs.declared.actors.Actor.{Actor}
 use Rattle.rd_step.specs.World.{World}
 use Rattle.rd_step.specs.declared.entries.Event.{Event}
@@ -74,7 +74,7 @@ MovesOn e old new = (a b : Actor) → old.actor e.actor ≡ Some a → new.actor
 pub record ChangesOnly (e : Event) (x : Entry) (old new : World) : Type 0 where
   pub outside : (q : Place) → some_covers (written x.place x.wrote) q ≡ false → new.at q ≡ old.at q
   pub inside : (q : Place) → some_covers (written x.place x.wrote) q ≡ true → some_covers x.place q ≡ true
-  pub reading : x.wrote ≡ WroteNothing → new.at ≡ old.at
+  pub reading : is_nothing x.wrote ≡ true → new.at ≡ old.at
   pub others : (n : ℕ) → (n ≡ e.actor → ⊥) → new.actor n ≡ old.actor n
 
 -- the entry's old words are the words of its actor and the content of its place in this world
