@@ -125,7 +125,7 @@ covers-refl ArrHead = refl
 covers-refl ArrTail = refl
 covers-refl (ArrCell i) = is_place-refl (ArrCell i)
 
-covers_at : (p q : Place) → p ≡ q → covers p q ≡ true
+pub covers_at : (p q : Place) → p ≡ q → covers p q ≡ true
 covers_at p q e = subst (λ (x : Place). covers p x ≡ true) e (covers-refl p)
 
 -- what a place doesn't cover is another place

@@ -1,6 +1,6 @@
 -- What is kept under a key, and the three keys of a place: its own, that of a cell's value half, and its segment's.
 use Rattle.std.proofs.Common.{◌≡◌, ℕ, Bool, true, false, not, ◌==◌, ◌&&◌, ◌||◌, Option, Some, None, refl, sym, ap, subst, ◌∙◌}
-use Rattle.std.proofs.lemmas.Bool.{or_left, or_right}
+use Rattle.std.proofs.lemmas.Bool.{both_ways, or_left, or_right}
 use Rattle.rd_cell.specs.declared.places.SegName.{SegName}
 use Rattle.rd_cell.specs.declared.places.Place.{Place}
 use Rattle.rd_cell.specs.declared.places.Place.TheVariants.{QHead, QTail, Head, Tail, Next, Cell, Val, Idx, Whole, ArrHead, ArrTail, ArrCell}
@@ -104,7 +104,7 @@ at_value w v o q = counts w (is_value_written v) && is_that q (value_key o)
 abbrev pub at_segment : Bool → Wrote → Option Place → Key → Bool
 at_segment w v o q = counts w (not (is_nothing v)) && is_that q (segment_key o)
 
-abbrev at_one : Bool → Wrote → Option Place → Key → Bool
+abbrev pub at_one : Bool → Wrote → Option Place → Key → Bool
 at_one w v o q = (at_place w v o q || at_value w v o q) || at_segment w v o q
 
 -- all three of a place that is reached
@@ -131,48 +131,118 @@ no_key WroteNothing true q = refl
 no_key WrotePlace true q = refl
 no_key WroteIndex true q = refl
 
+under_touched : (q : Key) (o : Option Place) (v : Wrote) → is_under q o ≡ at_one false v o q
+under_touched q None v = none_under q ∙ no_key v false q
+under_touched q (Some p) v = all_three p q
+
+under_written : (q : Key) (o : Option Place) (v : Wrote) → is_under q (written o v) ≡ at_one true v o q
+under_written q None v = none_under q ∙ no_key v true q
+under_written q (Some p) WroteNothing = none_under q
+under_written q (Some p) WrotePlace = all_three p q
+under_written q (Some p) WroteIndex = two_of_them p q
+
 -- a step is kept where one of its three keys holds it, and nowhere else
 pub under : (w : Bool) (q : Key) (x : Entry) → is_under q (reached w x) ≡ at_one w x.wrote x.place q
-under w q x = by w x.place x.wrote
-  where
-    reach : Bool → Option Place → Wrote → Option Place
-    reach false o v = o
-    reach true o v = written o v
+under false q x = under_touched q x.place x.wrote
+under true q x = under_written q x.place x.wrote
 
-    by_place : (o : Option Place) (v : Wrote) → is_under q o ≡ at_one false v o q
-    by_place None v = none_under q ∙ no_key v false q
-    by_place (Some p) v = all_three p q
+-- The keys differ
 
-    by_written : (o : Option Place) (v : Wrote) → is_under q (written o v) ≡ at_one true v o q
-    by_written None v = none_under q ∙ no_key v true q
-    by_written (Some p) WroteNothing = none_under q
-    by_written (Some p) WrotePlace = all_three p q
-    by_written (Some p) WroteIndex = two_of_them p q
+and_false : (b : Bool) → (b && false) ≡ false
+and_false true = refl
+and_false false = refl
 
-    by : (b : Bool) (o : Option Place) (v : Wrote) → is_under q (reached b x) ≡ at_one b x.wrote x.place q
-    by false o v = by_place x.place x.wrote
-    by true o v = by_written x.place x.wrote
+two_halves : (p : Place) (s : SegName) (i : ℕ) → (is_place p (Idx s i) && is_place p (Val s i)) ≡ false
+two_halves (Idx t j) s i = and_false (is_name t s && (j == i))
+two_halves _ s i = refl
 
--- the keys differ
+place_value : (q : Key) (o : Option Place) → (is_that q (place_key o) && is_that q (value_key o)) ≡ false
+place_value (At p) None = refl
+place_value (In s) None = refl
+place_value (In s) (Some r) = refl
+place_value (At p) (Some (Cell s i)) = two_halves p s i
+place_value (At p) (Some (Head s)) = and_false (is_place p (Head s))
+place_value (At p) (Some (Tail s)) = and_false (is_place p (Tail s))
+place_value (At p) (Some (Next s)) = and_false (is_place p (Next s))
+place_value (At p) (Some (Val s i)) = and_false (is_place p (Val s i))
+place_value (At p) (Some (Idx s i)) = and_false (is_place p (Idx s i))
+place_value (At p) (Some (Whole s)) = and_false (is_place p (Whole s))
+place_value (At p) (Some QHead) = and_false (is_place p QHead)
+place_value (At p) (Some QTail) = and_false (is_place p QTail)
+place_value (At p) (Some ArrHead) = and_false (is_place p ArrHead)
+place_value (At p) (Some ArrTail) = and_false (is_place p ArrTail)
+place_value (At p) (Some (ArrCell i)) = and_false (is_place p (ArrCell i))
 
-own_value : (q : Key) (o : Option Place) → (is_that q (place_key o) && is_that q (value_key o)) ≡ false
-own_value (At p) None = refl
-own_value (In s) None = refl
-own_value (In s) (Some r) = refl
-own_value (At p) (Some (Cell s i)) = differ p s i
-  where
-    differ : (r : Place) (t : SegName) (j : ℕ) → (is_place r (Idx t j) && is_place r (Val t j)) ≡ false
-    differ (Idx u k) t j = and_false (is_name u t && (k == j))
-      where
-        and_false : (b : Bool) → (b && false) ≡ false
-        and_false true = refl
-        and_false false = refl
-    differ _ t j = refl
-own_value (At p) (Some _) = and_false (is_place p _)
-  where
-    and_false : (b : Bool) → (b && false) ≡ false
-    and_false true = refl
-    and_false false = refl
+place_segment : (q : Key) (o : Option Place) → (is_that q (place_key o) && is_that q (segment_key o)) ≡ false
+place_segment (At p) None = refl
+place_segment (In s) None = refl
+place_segment (In s) (Some r) = refl
+place_segment (At p) (Some r) = ap (λ (b : Bool). is_place p (index_half r) && b) (no_segment p r) ∙ and_false (is_place p (index_half r))
 
-pub own : (k : Key) (o : Option Key) → o ≡ Some k → is_that k o ≡ true
+value_segment : (q : Key) (o : Option Place) → (is_that q (value_key o) && is_that q (segment_key o)) ≡ false
+value_segment (At p) None = refl
+value_segment (In s) None = refl
+value_segment (In s) (Some r) = ap (λ (b : Bool). b && is_that (In s) (segment_of_place r)) (no_value s r)
+value_segment (At p) (Some r) =
+    ap (λ (b : Bool). is_that (At p) (value_of_place r) && b) (no_segment p r) ∙ and_false (is_that (At p) (value_of_place r))
+
+apart : (a b x y : Bool) → (x && y) ≡ false → ((a && x) && (b && y)) ≡ false
+apart true true x y h = h
+apart true false x y h = and_false x
+apart false b x y h = refl
+
+either_apart : (p q r : Bool) → (p && r) ≡ false → (q && r) ≡ false → ((p || q) && r) ≡ false
+either_apart true q r h k = h
+either_apart false q r h k = k
+
+pub place_not_value : (v : Wrote) (o : Option Place) (w : Bool) (q : Key) → (at_place w v o q && at_value w v o q) ≡ false
+place_not_value v o w q =
+    apart (counts w (not (is_nothing v))) (counts w (is_value_written v)) (is_that q (place_key o)) (is_that q (value_key o)) (place_value q o)
+
+pub not_segment : (v : Wrote) (o : Option Place) (w : Bool) (q : Key) → ((at_place w v o q || at_value w v o q) && at_segment w v o q) ≡ false
+not_segment v o w q =
+    either_apart (at_place w v o q) (at_value w v o q) (at_segment w v o q)
+    (apart (counts w (not (is_nothing v))) (counts w (not (is_nothing v))) (is_that q (place_key o)) (is_that q (segment_key o)) (place_segment q o))
+    (apart (counts w (is_value_written v)) (counts w (not (is_nothing v))) (is_that q (value_key o)) (is_that q (segment_key o)) (value_segment q o))
+
+own : (k : Key) (o : Option Key) → o ≡ Some k → is_that k o ≡ true
 own k o h = ap (is_that k) h ∙ is_key-refl k
+
+first_false : (a b : Bool) → (a && b) ≡ false → b ≡ true → a ≡ false
+first_false true b h k = absurd (both_ways b h k)
+first_false false b h k = refl
+
+-- the key of a value half is not the place's, and the segment's is neither
+pub value_other : (o : Option Place) (k : Key) → value_key o ≡ Some k → is_that k (place_key o) ≡ false
+value_other o k h = first_false (is_that k (place_key o)) (is_that k (value_key o)) (place_value k o) (own k (value_key o) h)
+
+pub segment_other : (o : Option Place) (k : Key) → segment_key o ≡ Some k → is_that k (place_key o) ≡ false
+segment_other o k h = first_false (is_that k (place_key o)) (is_that k (segment_key o)) (place_segment k o) (own k (segment_key o) h)
+
+pub segment_other_value : (o : Option Place) (k : Key) → segment_key o ≡ Some k → is_that k (value_key o) ≡ false
+segment_other_value o k h = first_false (is_that k (value_key o)) (is_that k (segment_key o)) (value_segment k o) (own k (segment_key o) h)
+
+-- a step is kept under each of its keys
+
+both : (a b : Bool) → a ≡ true → b ≡ true → (a && b) ≡ true
+both a b h k = λ i. h i && k i
+
+pub under_place : (x : Entry) (w : Bool) (k : Key) → place_key x.place ≡ Some k → counts w (not (is_nothing x.wrote)) ≡ true → is_under k (reached w x) ≡ true
+under_place x w k h c =
+    under w k x
+    ∙ or_left (at_place w x.wrote x.place k || at_value w x.wrote x.place k) (at_segment w x.wrote x.place k)
+    (or_left (at_place w x.wrote x.place k) (at_value w x.wrote x.place k)
+    (both (counts w (not (is_nothing x.wrote))) (is_that k (place_key x.place)) c (own k (place_key x.place) h)))
+
+pub under_value : (x : Entry) (w : Bool) (k : Key) → value_key x.place ≡ Some k → counts w (is_value_written x.wrote) ≡ true → is_under k (reached w x) ≡ true
+under_value x w k h c =
+    under w k x
+    ∙ or_left (at_place w x.wrote x.place k || at_value w x.wrote x.place k) (at_segment w x.wrote x.place k)
+    (or_right (at_place w x.wrote x.place k) (at_value w x.wrote x.place k)
+    (both (counts w (is_value_written x.wrote)) (is_that k (value_key x.place)) c (own k (value_key x.place) h)))
+
+pub under_segment : (x : Entry) (w : Bool) (k : Key) → segment_key x.place ≡ Some k → counts w (not (is_nothing x.wrote)) ≡ true → is_under k (reached w x) ≡ true
+under_segment x w k h c =
+    under w k x
+    ∙ or_right (at_place w x.wrote x.place k || at_value w x.wrote x.place k) (at_segment w x.wrote x.place k)
+    (both (counts w (not (is_nothing x.wrote))) (is_that k (segment_key x.place)) c (own k (segment_key x.place) h))
