@@ -3,7 +3,7 @@ use Rattle.std.proofs.Common.{◌≡◌, ℕ, ◌-◌, ◌<◌, true, false, nat
 use Rattle.std.specs.Vec.{with_item}
 use Rattle.std.proofs.lemmas.Bool.{cases_Bool, cond-true, cond-false}
 use mathlib.Core.Path.{fun_ext}
-use Rattle.rd_ring.specs.Prelude.{MOST_SEGMENTS, SegName, Place, Head, Tail, Next, CellAt, ValAt, IdxAt, WholeOf, Content, Operation, Made, Done, Refusal, is_name, is_of, is_beside, segment_of, Contents, holding, operand, operate, everywhere, Operates, Makes, Restores, RefusesMaking}
+use Rattle.rd_ring.specs.Prelude.{MOST_SEGMENTS, SegName, Place, Head, Tail, Next, CellAt, ValAt, IdxAt, WholeOf, WrotePlace, Content, Operation, Made, Done, Refusal, is_name, is_of, is_beside, segment_of, Contents, holding, operand, operate, everywhere, Operates, Makes, Restores, RefusesMaking}
 use Rattle.rd_cell.proofs.PlaceLemmas.{is_name-true, is_name-refl}
 use Rattle.rd_cell.proofs.EffectLemmas.{Agrees, operand_agrees, lift_operates, lift_restore, beside_is_of, not_covered_outside}
 use Rattle.rd_ring.specs.declared.segments.Segment.{Segment}
@@ -161,7 +161,7 @@ makes_in {R} makers maker m value list left reads (Ok name) h =
     let changes = list_lengthened makers maker m value name list left reads.maker_is reads.within reads.list_is h in
     let below : name.n < MOST_SEGMENTS = let e = ap (λ (s : SegName). s.n) h.name_is in let b = h.below in omega arith in
     record {
-      performed = record { place = Some (WholeOf name); old = None; answer = Made name; writes = Some (holding R value) };
+      performed = record { place = Some (WholeOf name); old = None; answer = Made name; wrote = WrotePlace; given = holding R value };
       performs = cond-true (nat_lt name.n MOST_SEGMENTS) _ _ (lt-ltb name.n MOST_SEGMENTS below);
       keeps = refl;
       leaves = λ q _.
