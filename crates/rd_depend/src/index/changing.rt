@@ -1,7 +1,8 @@
 //! What the calls of the index do to its lists.
 
-ghost use Rattle.std.specs.Prelude.{◌≡◌, ◌+◌, ◌<◌, ◌≤◌, ◌++◌, length, take, true, ℕ, List, IsOk, IfOk, OnOk, OnErr};
+ghost use Rattle.std.specs.Prelude.{◌≡◌, ◌+◌, ◌<◌, ◌≤◌, ◌++◌, length, take, not, true, ℕ, List, IsOk, IfOk, OnOk, OnErr};
 ghost use Rattle.rd_step.specs.declared.entries.Entry.{Entry as Record};
+ghost use Rattle.rd_cell.specs.Places.{is_nothing};
 ghost use Rattle.rd_depend.specs.Keys.{place_key, value_key, segment_key};
 ghost use Rattle.rd_depend.specs.Index.{Touch, Adds, Keeps, Drops, ClosesAll, CutsAll, IsIndexOf, IsIndex, IsLast, IsReadyFor, EndsWith, number_of, touches, spare, is_value_written};
 
@@ -43,7 +44,8 @@ impl DependIndex {
         let actor = usize::from(entry.event.actor);
         grow(&mut self.by_actor, self.alloc, actor + 1)?;
         reserve_in(&mut self.by_actor, actor)?;
-        let wrote = !entry.wrote.is_nothing();
+        let wrote = is_written(entry.wrote);
+        let value_written = is_value_written(entry.wrote);
         let place = self
             .by_key
             .reserve(self.alloc, place_key(entry.place), wrote)?;
@@ -72,10 +74,10 @@ impl DependIndex {
         let position = self.len as u32;
         let actor = usize::from(entry.event.actor);
         put_in(&mut self.by_actor, actor, position);
-        let wrote = !entry.wrote.is_nothing();
+        let wrote = is_written(entry.wrote);
+        let value_written = is_value_written(entry.wrote);
         self.by_key.put(slots.place, position, wrote);
-        self.by_key
-            .put(slots.value, position, is_value_written(entry.wrote));
+        self.by_key.put(slots.value, position, value_written);
         self.by_key.put(slots.segment, position, wrote);
     }
 
@@ -86,10 +88,10 @@ impl DependIndex {
     {
         self.len -= 1;
         take_last_in(&mut self.by_actor, usize::from(entry.event.actor));
-        let wrote = !entry.wrote.is_nothing();
+        let wrote = is_written(entry.wrote);
+        let value_written = is_value_written(entry.wrote);
         self.by_key.take_last(place_key(entry.place), wrote);
-        self.by_key
-            .take_last(value_key(entry.place), is_value_written(entry.wrote));
+        self.by_key.take_last(value_key(entry.place), value_written);
         self.by_key.take_last(segment_key(entry.place), wrote);
     }
 
@@ -159,6 +161,13 @@ fn value_key(place: Option<Place>) -> Option<Key>
         Some(Place::Cell(name, index)) => Some(Key::At(Place::Val(name, index))),
         _ => None,
     }
+}
+
+/// Whether a step that wrote this wrote anything.
+fn is_written(wrote: Wrote) -> bool
+    ensures { result ≡ not (is_nothing wrote) }
+{
+    !wrote.is_nothing()
 }
 
 /// Whether a step that wrote this wrote the value half of its cell.
