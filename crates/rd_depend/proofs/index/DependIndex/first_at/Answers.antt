@@ -1,6 +1,5 @@
-use Rattle.std.proofs.Common.{◌≡◌, ℕ, Bool, not, Option, List, sym, ◌∙◌, ap, arith}
-use Rattle.rd_cell.specs.declared.places.Place.TheVariants.{Val, Idx, Whole}
-use Rattle.rd_step.specs.declared.entries.Entry.{Entry}
+use Rattle.std.proofs.Common.{◌≡◌, Bool, not, sym, ◌∙◌, ap, arith}
+use Rattle.rd_cell.specs.declared.places.Place.TheVariants.{Val, Idx}
 use Rattle.rd_depend.specs.declared.index.keys.Key.TheVariants.{At, In}
 use Rattle.rd_depend.specs.Lists.{earlier, first_above}
 use Rattle.rd_depend.specs.Index.{Under, touches, positions}
