@@ -23,12 +23,15 @@ pub(crate) fn first_dependant(records: &LiveRecords, k: u64) -> Option<u64>
     None
 }
 
-/// Whether the step depends on one of these.
+/// Whether the step depends on one of these. It is looked for from the end: what a step depends on is most often near
+/// before it.
 pub(crate) fn depends_on_one(records: &LiveRecords, later: &Entry) -> bool
     ensures { result ≡ depends_on_one records.now later.now }
 {
-    for position in 0..records.len() {
-        if depends(records.at(position), later) {
+    let mut left = records.len();
+    while left > 0 {
+        left -= 1;
+        if depends(records.at(left), later) {
             return true;
         }
     }
