@@ -15,3 +15,4 @@ pub mod RolledBack
 pub mod Closures
 pub mod RolledForward
 pub mod ReadAgain
+pub mod Backwards
