@@ -4,6 +4,7 @@ mod ends;
 mod limits;
 mod lists;
 mod long_runs;
+mod marked;
 mod origins;
 mod sharing;
 
