@@ -1,6 +1,6 @@
 use Rattle.rd_lock.specs.Histories.{Every}
 use Rattle.rd_desk.specs.Desks.{IsNewViewer, IsViewerOf}
-use Rattle.rd_desk.proofs.tests.threads.work_of.Given as goal
+use Rattle.rd_desk_tests.proofs.tests.threads.work_of.Given as goal
 
 abbrev pub invariant-loop-viewer : goal.invariant-loop-viewer
 invariant-loop-viewer g l = record {

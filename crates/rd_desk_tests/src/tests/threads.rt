@@ -3,7 +3,7 @@ ghost use Rattle.rd_lock.specs.Histories.{Every};
 ghost use Rattle.rd_desk.specs.Desks.{IsNewViewer, IsViewerOf};
 
 use super::calls::{fresh, last_pass};
-use crate::{Answer, Desk, DeskPass, History, Ran, run_viewers};
+use rd_desk::{Answer, Desk, DeskPass, History, Ran, run_viewers};
 use rd_marks::Command;
 use std::alloc::Global;
 use std::process::Abort;
@@ -23,7 +23,7 @@ fn command(viewer: u64, call: u64) -> Command {
 }
 
 /// Each viewer's pass with its commands.
-fn work_of(
+pub(super) fn work_of(
     rt: &impl Abort,
     alloc: Global,
     desk: &Desk<4>,

@@ -2,7 +2,7 @@
 ghost use Rattle.rd_lock.specs.Histories.{Every};
 ghost use Rattle.rd_desk.specs.Desks.{IsNewViewer, IsViewerOf};
 
-use crate::{Desk, DeskPass};
+use rd_desk::{Desk, DeskPass};
 use rd_journal::Session;
 use rd_marks::Book;
 use rd_step::World;

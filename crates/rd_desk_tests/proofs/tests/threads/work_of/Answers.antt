@@ -2,7 +2,7 @@ use Rattle.std.proofs.Common.{rules, ◌≡◌, ◌++◌, ◌∷◌, [], sym, su
 use Rattle.rd_lock.specs.Histories.{Every}
 use Rattle.rd_desk.specs.Desks.{IsViewerOf}
 use Rattle.rd_desk.proofs.Starting.{every_more}
-use Rattle.rd_desk.proofs.tests.threads.work_of.Goals as goal
+use Rattle.rd_desk_tests.proofs.tests.threads.work_of.Goals as goal
 
 pub loop-viewer-preserved : goal.loop-viewer-preserved
 loop-viewer-preserved g c = let i = c.loop-viewer.invariant in let viewer : _ × _ = (c.last_pass-pass.result, c.commands_of-commands.result) in

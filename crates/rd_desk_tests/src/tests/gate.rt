@@ -1,6 +1,6 @@
 //! Viewers have threads of their own: a gate that holds one viewer's call until the other's is answered lets both go.
-use crate::{DeskRefusal, Gate, Ran, run_viewers};
 use rd_cell::Refusal;
+use rd_desk::{DeskRefusal, Gate, Ran, run_viewers};
 use rd_marks::{Command, Reply};
 use std::alloc::Global;
 use std::process::Abort;

@@ -2,9 +2,9 @@
 ghost use Rattle.std.specs.Prelude.{◌≤◌};
 
 use super::calls::{fresh, last_pass};
-use crate::{Desk, History};
 use rd_actor::Act;
 use rd_cell::Refusal;
+use rd_desk::{Desk, History};
 use rd_marks::{Command, Reply};
 use rd_step::Event;
 use std::process::Abort;
