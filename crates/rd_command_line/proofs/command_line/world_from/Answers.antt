@@ -1,7 +1,7 @@
 use Rattle.std.proofs.Common.{rules, arith, ◌∙◌, ap, Some}
 use Rattle.rd_command_line.proofs.ToldLemmas.{no_ring, no_spelling, no_number, out_of_range, actors_read, first_value_is}
-use Rattle.rd_command_line.proofs.command_line.told_world.Goals.{else-actors-ge1-via-then-actors-ge1+else-actors-le16, else-actors-ge1-via-else-actors-ge1}
-use Rattle.rd_command_line.proofs.command_line.told_world.Goals as goal
+use Rattle.rd_command_line.proofs.command_line.world_from.Goals.{else-actors-ge1-via-then-actors-ge1+else-actors-le16, else-actors-ge1-via-else-actors-ge1}
+use Rattle.rd_command_line.proofs.command_line.world_from.Goals as goal
 
 pub returns-in_err-actors-clause-none : goal.returns-in_err-actors-clause-none
 returns-in_err-actors-clause-none c = λ _. no_number c.args.matches.now (λ t is. (c.in_err-actors.ensures.value t is).1.0)

@@ -1,6 +1,6 @@
 use Rattle.std.proofs.Common.{rules, ◌∙◌, ap, Some}
 use Rattle.rd_command_line.proofs.ToldLemmas.{first_value_is, no_choice, no_file, no_run_world, no_trace}
-use Rattle.rd_command_line.proofs.command_line.told_by_run.Goals as goal
+use Rattle.rd_command_line.proofs.command_line.run_from.Goals as goal
 
 pub returns-in_err-file-clause-none : goal.returns-in_err-file-clause-none
 returns-in_err-file-clause-none c = λ _. no_file c.args.run.now c.in_err-file.ensures
