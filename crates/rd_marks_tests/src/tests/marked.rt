@@ -1,32 +1,26 @@
 //! The events of bookmarks by their numbers and all at once, going to the start, and events as commands.
 
-use super::{Line, Wanted, play};
 use rd_actor::Act;
 use rd_cell::Refusal;
 use rd_journal::Session;
 use rd_marks::books::Book;
 use rd_marks::commands::Command;
+use rd_marks::names::MarkName;
 use rd_marks::replies::Reply;
 use rd_step::{Event, World};
 use std::alloc::Global;
 use std::process::Abort;
 use std::test::Fail;
 
-/// Two bookmarks that share two steps, and one at no step. One step is undone at the end.
-const THREE_BOOKMARKS: [(Line, Wanted); 12] = [
-    (Line::Mark(b'n'), Wanted::Says(Reply::Marked(0))),
-    (Line::Does(Command::Enq(1, 7)), Wanted::Applied(1)),
-    (Line::Does(Command::Deq(2)), Wanted::Applied(2)),
-    (Line::Does(Command::Go(1)), Wanted::Applied(3)),
-    (Line::Does(Command::Go(2)), Wanted::Applied(4)),
-    (Line::Mark(b'a'), Wanted::Says(Reply::Marked(4))),
-    (Line::Does(Command::Back(2)), Wanted::At(2, 2)),
-    (Line::Does(Command::Go(2)), Wanted::Applied(3)),
-    (Line::Mark(b'b'), Wanted::Says(Reply::Marked(3))),
-    (Line::Does(Command::Undo), Wanted::At(2, 1)),
-    (Line::Does(Command::Len), Wanted::At(2, 1)),
-    (Line::Does(Command::Marks), Wanted::Says(Reply::Marks(3))),
+/// The steps of the first bookmark, and what leads from it to the steps of the second, which shares two of them.
+const FIRST: [Command; 4] = [
+    Command::Enq(1, 7),
+    Command::Deq(2),
+    Command::Go(1),
+    Command::Go(2),
 ];
+
+const SECOND: [Command; 2] = [Command::Back(2), Command::Go(2)];
 
 /// An enqueue by the first actor.
 const ENQUEUE: Event = Event {
@@ -70,11 +64,24 @@ const EVENTS: &[(u64, u64, Option<Event>)] = &[
     (u64::MAX, u64::MAX, None),
 ];
 
-/// The book with the three bookmarks.
-fn marked_book(rt: &impl Abort, alloc: Global) -> Result<Book<4>, Refusal> {
+/// Has the book obey commands that it does not refuse.
+fn obey_all(book: &mut Book<4>, commands: &[Command]) -> Result<(), Refusal> {
+    for command in commands {
+        book.obey(*command)?;
+    }
+    Ok(())
+}
+
+/// A book with two bookmarks that share two steps behind one at no step, and one undone step.
+fn marked_book(alloc: Global) -> Result<Book<4>, Refusal> {
     let session = Session::open(alloc, World::<4>::fresh(alloc, 4)?);
     let mut book = Book::open(alloc, session);
-    play(rt, &mut book, "three bookmarks", &THREE_BOOKMARKS);
+    book.mark(MarkName::new(b"n")?)?;
+    obey_all(&mut book, &FIRST)?;
+    book.mark(MarkName::new(b"a")?)?;
+    obey_all(&mut book, &SECOND)?;
+    book.mark(MarkName::new(b"b")?)?;
+    book.obey(Command::Undo)?;
     Ok(book)
 }
 
@@ -91,7 +98,7 @@ fn compare(rt: &impl Abort, book: &Book<4>, rows: &[(u64, u64, Option<Event>)]) 
 
 #[test]
 fn events_of_bookmarks_are_numbered_from_their_first(rt: HostRuntime) -> Result<(), Fail> {
-    let book = marked_book(&rt, rt.alloc())?;
+    let book = marked_book(rt.alloc())?;
     compare(&rt, &book, EVENTS);
     Ok(())
 }
@@ -117,7 +124,7 @@ fn records_of(rt: &impl Abort, alloc: Global, book: &Book<4>, i: u64) -> Result<
 
 #[test]
 fn records_of_a_bookmark_are_of_its_events(rt: HostRuntime) -> Result<(), Fail> {
-    let book = marked_book(&rt, rt.alloc())?;
+    let book = marked_book(rt.alloc())?;
     for (i, wanted) in LENGTHS {
         assert_eq!(rt;
             records_of(&rt, rt.alloc(), &book, *i),
@@ -128,25 +135,34 @@ fn records_of_a_bookmark_are_of_its_events(rt: HostRuntime) -> Result<(), Fail> 
     Ok(())
 }
 
-/// At the start nothing is left to undo or to redo, and the bookmarks are there.
-const AT_THE_START: [(Line, Wanted); 6] = [
-    (Line::Does(Command::Len), Wanted::At(0, 0)),
+/// At the start nothing is left to undo or to redo, and a step can be made.
+const AT_THE_START: [(Command, Result<Reply, Refusal>); 5] = [
+    (Command::Len, Ok(Reply::At { live: 0, undone: 0 })),
+    (Command::Redo, Err(Refusal::NothingToRedo)),
+    (Command::Undo, Err(Refusal::NothingToUndo(0))),
+    (Command::Marks, Ok(Reply::Marks(3))),
     (
-        Line::Does(Command::Redo),
-        Wanted::Refused(Refusal::NothingToRedo),
+        Command::Deq(2),
+        Ok(Reply::Applied {
+            step: 1,
+            reply: None,
+        }),
     ),
-    (Line::Does(Command::Marks), Wanted::Says(Reply::Marks(3))),
-    (Line::Does(Command::Deq(2)), Wanted::Applied(1)),
-    (Line::Goto(b'a'), Wanted::At(4, 0)),
-    (Line::Goto(b'b'), Wanted::At(3, 0)),
 ];
 
 #[test]
 fn at_the_start_the_bookmarks_stay(rt: HostRuntime) -> Result<(), Fail> {
-    let mut book = marked_book(&rt, rt.alloc())?;
+    let mut book = marked_book(rt.alloc())?;
     book.to_start();
     compare(&rt, &book, EVENTS);
-    play(&rt, &mut book, "at the start", &AT_THE_START);
+    for (command, wanted) in AT_THE_START {
+        assert_eq!(rt; book.obey(command), wanted, "{command:?}");
+    }
+    let there = Reply::At { live: 4, undone: 0 };
+    assert_eq!(rt;
+        book.obey(Command::GotoMark(MarkName::new(b"a")?)),
+        Ok(there)
+    );
     Ok(())
 }
 
