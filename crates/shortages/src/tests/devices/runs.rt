@@ -1,0 +1,149 @@
+//! Runs of a script over devices that fail at each of their calls.
+
+use super::super::trials::{Trial, on_trial, plays};
+use super::{ENDS, End, PageWriter, StripReader};
+use rd_script::{ReadSource, ScriptFault, WriteSink, run};
+use std::alloc::Global;
+use std::process::Abort;
+
+/// A script with each command, obeyed or refused, and lines that spell none. Its last line has no line feed.
+const SCRIPT: &[u8] =
+    b"enq 1 7\ngo 1\nmark a\nhello\n\ngo 9\nundo\nundo 5\nredo\ndeq 2\naenq 3 5\nadeq 4\nstarve 1 yes\nback 2\nforward 1\nroll 1\nshow qtail\nactor 1\nstep 1\nmark A\nsame a b\ngoto a\nmarkat 1\norigin 1\nwriter qtail\ndrop a\nmarks\nlen";
+
+/// The beginning of a text up to its line feed of this number, or the whole text if it has fewer.
+fn lines_of(text: &[u8], lines: usize) -> &[u8] {
+    let mut left = lines;
+    for i in 0..text.len() {
+        if left == 0 {
+            return &text[..i];
+        }
+        if text[i] == b'\n' {
+            left -= 1;
+        }
+    }
+    text
+}
+
+/// How many line feeds are in a text.
+fn line_feeds(text: &[u8]) -> usize {
+    text.iter().filter(|byte| **byte == b'\n').count()
+}
+
+/// A run whose reader gives one byte a call and fails behind so many: the whole lines among these are obeyed and answered, and no more.
+fn read_fails(failed: &mut Trial, twin: &mut Trial, bytes: usize) -> bool {
+    let reader = StripReader::of(SCRIPT, bytes, 1);
+    let ended = run(
+        &mut ReadSource::new(reader),
+        &mut WriteSink::new(&mut failed.report),
+        &mut failed.book,
+    );
+    let whole = lines_of(SCRIPT, line_feeds(&SCRIPT[..bytes.min(SCRIPT.len())]));
+    ended == Err(ScriptFault::Read)
+        && plays(&mut twin.book, &[whole], &mut twin.report)
+        && failed.report.as_slice() == twin.report.as_slice()
+        && failed.is_as(twin)
+}
+
+/// The same over two fresh books.
+fn read_fails_at(rt: &impl Abort, alloc: Global, bytes: usize) -> bool {
+    let mut failed = on_trial(rt, alloc);
+    let mut twin = on_trial(rt, alloc);
+    read_fails(&mut failed, &mut twin, bytes)
+}
+
+#[test]
+fn a_read_that_fails_at_any_call_leaves_the_whole_lines_before_it_done(rt: HostRuntime) {
+    for bytes in 0..SCRIPT.len() + 1 {
+        assert!(&rt; read_fails_at(&rt, rt.alloc(), bytes), "{bytes} bytes");
+    }
+}
+
+/// A run whose writer takes one byte a call and ends behind so many: the line whose answer it was to take is obeyed, and no later one.
+fn write_fails(failed: &mut Trial, twin: &mut Trial, bytes: usize, end: End) -> bool {
+    let writer = PageWriter::that_ends(&mut failed.report, bytes, end);
+    let ended = run(
+        &mut ReadSource::new(SCRIPT),
+        &mut WriteSink::new(writer),
+        &mut failed.book,
+    );
+    let answered = line_feeds(failed.report.as_slice());
+    let obeyed = lines_of(SCRIPT, answered.saturating_add(1));
+    ended == Err(ScriptFault::Write)
+        && plays(&mut twin.book, &[obeyed], &mut twin.report)
+        && failed.report.len() == bytes
+        && twin.report.len() > bytes
+        && twin.report.starts_with(failed.report.as_slice())
+        && failed.is_as(twin)
+}
+
+/// The same over two fresh books.
+fn write_fails_at(rt: &impl Abort, alloc: Global, bytes: usize, end: End) -> bool {
+    let mut failed = on_trial(rt, alloc);
+    let mut twin = on_trial(rt, alloc);
+    write_fails(&mut failed, &mut twin, bytes, end)
+}
+
+#[test]
+fn a_write_that_fails_or_takes_nothing_at_any_call_leaves_the_lines_up_to_it_done(rt: HostRuntime) {
+    let mut usual = on_trial(&rt, rt.alloc());
+    assert!(&rt; plays(&mut usual.book, &[SCRIPT], &mut usual.report));
+    for end in ENDS {
+        for bytes in 0..usual.report.len() {
+            assert!(&rt;
+                write_fails_at(&rt, rt.alloc(), bytes, end),
+                "{bytes} bytes"
+            );
+        }
+    }
+}
+
+/// A run of a script over devices that fail, and how it ends.
+struct Row {
+    script: &'static [u8],
+    /// How many bytes the writer takes.
+    takes: usize,
+    fault: ScriptFault,
+    report: &'static [u8],
+    /// How many steps are live.
+    live: u64,
+}
+
+/// A reader that gives all that there is and then fails, and a writer that takes three bytes and then fails.
+const ROWS: [Row; 2] = [
+    Row {
+        script: b"enq 1 7\ngo 1\ngo",
+        takes: 1000,
+        fault: ScriptFault::Read,
+        report: b"ok 1\nok 2\n",
+        live: 2,
+    },
+    Row {
+        script: b"enq 1 7\ngo 1",
+        takes: 3,
+        fault: ScriptFault::Write,
+        report: b"ok ",
+        live: 1,
+    },
+];
+
+/// Whether a run over devices that fail ends so.
+fn ends_so(failed: &mut Trial, row: &Row) -> bool {
+    let reader = StripReader::of(row.script, 1, 1000);
+    let writer = PageWriter::that_ends(&mut failed.report, row.takes, End::Fails);
+    let ended = run(
+        &mut ReadSource::new(reader),
+        &mut WriteSink::new(writer),
+        &mut failed.book,
+    );
+    ended == Err(row.fault)
+        && failed.report.as_slice() == row.report
+        && failed.book.session().len() == row.live
+}
+
+#[test]
+fn a_line_that_is_cut_off_is_not_done_and_one_whose_answer_is_cut_off_is_done(rt: HostRuntime) {
+    for row in &ROWS {
+        let mut failed = on_trial(&rt, rt.alloc());
+        assert!(&rt; ends_so(&mut failed, row));
+    }
+}
