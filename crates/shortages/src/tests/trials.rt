@@ -126,12 +126,19 @@ pub(super) fn plays(book: &mut Book<2>, scripts: &[&[u8]], page: &mut Vec<u8>) -
     true
 }
 
-/// Writes on the page what a book is: what the queries answer, also when its undone steps are made again, which are undone behind
-/// that. Answers how many records it keeps for its bookmarks.
+/// Writes on the page what a book is: what the queries answer, and what they answer when its undone steps are made again. Answers how
+/// many records it keeps for its bookmarks.
 pub(super) fn look(book: &mut Book<2>, page: &mut Vec<u8>) -> Option<u64> {
     page.clear();
-    let undone = book.session().undone_len();
-    let asked = plays(book, QUERIES, page) && book.obey(Command::Forward(undone)).is_ok();
-    let asked = asked && plays(book, QUERIES, page) && book.obey(Command::Back(undone)).is_ok();
+    let asked = plays(book, QUERIES, page) && look_ahead(book, page);
     if asked { Some(book.nodes()) } else { None }
+}
+
+/// Makes the undone steps of a book again, writes what the queries answer then, and undoes the steps.
+fn look_ahead(book: &mut Book<2>, page: &mut Vec<u8>) -> bool {
+    let undone = book.session().undone_len();
+    undone == 0
+        || book.obey(Command::Forward(undone)).is_ok()
+            && plays(book, QUERIES, page)
+            && book.obey(Command::Back(undone)).is_ok()
 }
