@@ -18,16 +18,23 @@ pub(super) enum End {
 /// Both ends.
 const ENDS: [End; 2] = [End::Fails, End::TakesNone];
 
-/// A writer onto a page.
-#[derive(Drop)]
-pub(super) struct PageWriter<'a> {
-    taken: &'a mut Vec<u8>,
+/// What a writer takes.
+#[derive(Clone, Copy)]
+pub(super) struct Limit {
     /// How many calls take bytes; those behind them don't.
-    good_calls: usize,
+    calls: usize,
     /// The most bytes that a call takes.
     most: usize,
     /// What the calls behind them do.
     end: End,
+}
+
+/// A writer onto a page.
+#[derive(Drop)]
+pub(super) struct PageWriter<'a> {
+    taken: &'a mut Vec<u8>,
+    /// What it takes from now on.
+    limit: Limit,
 }
 
 impl<'a> PageWriter<'a> {
@@ -35,33 +42,30 @@ impl<'a> PageWriter<'a> {
     pub(super) fn that_works(taken: &'a mut Vec<u8>) -> PageWriter<'a> {
         PageWriter {
             taken,
-            good_calls: usize::MAX,
-            most: usize::MAX,
-            end: End::Fails,
+            limit: Limit {
+                calls: usize::MAX,
+                most: usize::MAX,
+                end: End::Fails,
+            },
         }
     }
 
-    /// A writer that takes one byte a call, for so many calls, and ends so.
-    pub(super) fn that_ends(taken: &'a mut Vec<u8>, good_calls: usize, end: End) -> PageWriter<'a> {
-        PageWriter {
-            taken,
-            good_calls,
-            most: 1,
-            end,
-        }
+    /// A writer that takes so much.
+    pub(super) fn that_ends(taken: &'a mut Vec<u8>, limit: Limit) -> PageWriter<'a> {
+        PageWriter { taken, limit }
     }
 }
 
 impl<'a> Write for PageWriter<'a> {
     fn write(&mut self, buf: &[u8]) -> io::Result<usize> {
-        if self.good_calls == 0 {
-            return match self.end {
+        if self.limit.calls == 0 {
+            return match self.limit.end {
                 End::Fails => Err(io::Error::from(io::ErrorKind::BrokenPipe)),
                 End::TakesNone => Ok(0),
             };
         }
-        self.good_calls -= 1;
-        let count = buf.len().min(self.most);
+        self.limit.calls -= 1;
+        let count = buf.len().min(self.limit.most);
         self.taken.extend_from_slice(&buf[..count])?;
         Ok(count)
     }

@@ -109,13 +109,23 @@ fn parts(alloc: Global) -> Result<Parts<2>, AllocError> {
     })
 }
 
-/// A world that is put together from these parts.
-fn assembled(rt: &impl Abort, alloc: Global) -> Result<World<2>, Refusal> {
-    match World::assemble(alloc, parts(alloc)?) {
+/// The world of some parts, which has no flaw.
+fn put_together(rt: &impl Abort, alloc: Global, parts: Parts<2>) -> Result<World<2>, Refusal> {
+    match World::assemble(alloc, parts) {
         Ok(world) => Ok(world),
         Err(Unassembled::NoMemory) => Err(Refusal::NoMemory),
         Err(_) => panic!(rt; "a flaw"),
     }
+}
+
+/// The world of the parts above.
+fn assembled(rt: &impl Abort, alloc: Global) -> Result<World<2>, Refusal> {
+    put_together(rt, alloc, parts(alloc)?)
+}
+
+/// The world of the parts of another.
+fn taken_apart(rt: &impl Abort, alloc: Global, world: &World<2>) -> Result<World<2>, Refusal> {
+    put_together(rt, alloc, world.parts(alloc)?)
 }
 
 #[test]
@@ -156,4 +166,21 @@ fn room_for_makings_that_is_refused_leaves_the_world_as_it_was(rt: HostRuntime) 
     assert!(&rt; are_same(&world, &other));
     assert!(&rt; made.is_ok() || world.make_room(1, 9).is_ok());
     assert!(&rt; are_same(&world, &other));
+}
+
+#[test]
+fn a_copy_and_the_parts_of_a_world_that_were_refused_memory_are_as_ever_the_next_time(
+    rt: HostRuntime,
+) {
+    let alloc = rt.alloc();
+    let world = assembled(&rt, alloc)
+        .or(assembled(&rt, alloc))
+        .expect(&rt, "refused memory twice");
+    assert!(&rt;
+        is_made(&rt, world.copy(alloc), &world) || is_made(&rt, world.copy(alloc), &world)
+    );
+    assert!(&rt;
+        is_made(&rt, taken_apart(&rt, alloc, &world), &world)
+            || is_made(&rt, taken_apart(&rt, alloc, &world), &world)
+    );
 }

@@ -1,7 +1,7 @@
 //! Runs of a script over devices that fail at each of their calls.
 
 use super::super::trials::{Trial, on_trial, plays};
-use super::{ENDS, End, PageWriter, StripReader};
+use super::{End, Limit, PageWriter, StripReader};
 use rd_script::{ReadSource, ScriptFault, WriteSink, run};
 use std::alloc::Global;
 use std::process::Abort;
@@ -58,49 +58,96 @@ fn a_read_that_fails_at_any_call_leaves_the_whole_lines_before_it_done(rt: HostR
     }
 }
 
-/// A run whose writer takes one byte a call and ends behind so many: the line whose answer it was to take is obeyed, and no later one.
-fn write_fails(failed: &mut Trial, twin: &mut Trial, bytes: usize, end: End) -> bool {
-    let writer = PageWriter::that_ends(&mut failed.report, bytes, end);
+/// A run whose writer takes no more than this: the line whose answer it was to take is obeyed, and no later one.
+fn write_fails(failed: &mut Trial, twin: &mut Trial, limit: Limit) -> bool {
     let ended = run(
         &mut ReadSource::new(SCRIPT),
-        &mut WriteSink::new(writer),
+        &mut WriteSink::new(PageWriter::that_ends(&mut failed.report, limit)),
         &mut failed.book,
     );
     let answered = line_feeds(failed.report.as_slice());
     let obeyed = lines_of(SCRIPT, answered.saturating_add(1));
     ended == Err(ScriptFault::Write)
         && plays(&mut twin.book, &[obeyed], &mut twin.report)
-        && failed.report.len() == bytes
-        && twin.report.len() > bytes
+        && twin.report.len() > failed.report.len()
         && twin.report.starts_with(failed.report.as_slice())
         && failed.is_as(twin)
 }
 
-/// The same over two fresh books.
-fn write_fails_at(rt: &impl Abort, alloc: Global, bytes: usize, end: End) -> bool {
+/// The same over two fresh books, where each call takes one byte.
+fn byte_fails_at(rt: &impl Abort, alloc: Global, calls: usize, end: End) -> bool {
     let mut failed = on_trial(rt, alloc);
     let mut twin = on_trial(rt, alloc);
-    write_fails(&mut failed, &mut twin, bytes, end)
+    let most = 1;
+    write_fails(&mut failed, &mut twin, Limit { calls, most, end }) && failed.report.len() == calls
+}
+
+/// The same over two fresh books, where each call takes a whole reply.
+fn reply_fails_at(rt: &impl Abort, alloc: Global, calls: usize, end: End) -> bool {
+    let mut failed = on_trial(rt, alloc);
+    let mut twin = on_trial(rt, alloc);
+    let most = usize::MAX;
+    write_fails(&mut failed, &mut twin, Limit { calls, most, end })
+        && line_feeds(failed.report.as_slice()) == calls
+}
+
+/// The same for each byte of the report.
+fn bytes_fail(rt: &impl Abort, alloc: Global, end: End) {
+    let mut usual = on_trial(rt, alloc);
+    assert!(rt; plays(&mut usual.book, &[SCRIPT], &mut usual.report));
+    for calls in 0..usual.report.len() {
+        assert!(rt; byte_fails_at(rt, alloc, calls, end), "{calls} bytes");
+    }
+}
+
+/// The same for each reply.
+fn replies_fail(rt: &impl Abort, alloc: Global, end: End) {
+    for calls in 0..line_feeds(SCRIPT).saturating_add(1) {
+        assert!(rt; reply_fails_at(rt, alloc, calls, end), "{calls} replies");
+    }
 }
 
 #[test]
-fn a_write_that_fails_or_takes_nothing_at_any_call_leaves_the_lines_up_to_it_done(rt: HostRuntime) {
-    let mut usual = on_trial(&rt, rt.alloc());
-    assert!(&rt; plays(&mut usual.book, &[SCRIPT], &mut usual.report));
-    for end in ENDS {
-        for bytes in 0..usual.report.len() {
-            assert!(&rt;
-                write_fails_at(&rt, rt.alloc(), bytes, end),
-                "{bytes} bytes"
-            );
-        }
-    }
+fn a_write_that_fails_at_any_call_leaves_the_lines_up_to_it_done(rt: HostRuntime) {
+    bytes_fail(&rt, rt.alloc(), End::Fails);
+    replies_fail(&rt, rt.alloc(), End::Fails);
+}
+
+#[test]
+fn a_write_that_takes_nothing_at_any_call_leaves_the_lines_up_to_it_done(rt: HostRuntime) {
+    bytes_fail(&rt, rt.alloc(), End::TakesNone);
+    replies_fail(&rt, rt.alloc(), End::TakesNone);
+}
+
+/// Whether a run whose reader gives, and whose writer takes, one byte a call is as one over devices that do all at once.
+fn is_run(slow: &mut Trial, twin: &mut Trial) -> bool {
+    let limit = Limit {
+        calls: usize::MAX,
+        most: 1,
+        end: End::Fails,
+    };
+    let ended = run(
+        &mut ReadSource::new(StripReader::of(SCRIPT, usize::MAX, 1)),
+        &mut WriteSink::new(PageWriter::that_ends(&mut slow.report, limit)),
+        &mut slow.book,
+    );
+    ended.is_ok()
+        && plays(&mut twin.book, &[SCRIPT], &mut twin.report)
+        && slow.report.as_slice() == twin.report.as_slice()
+        && slow.is_as(twin)
+}
+
+#[test]
+fn a_script_that_is_read_and_answered_one_byte_a_call_is_run_as_ever(rt: HostRuntime) {
+    let mut slow = on_trial(&rt, rt.alloc());
+    let mut twin = on_trial(&rt, rt.alloc());
+    assert!(&rt; is_run(&mut slow, &mut twin));
 }
 
 /// A run of a script over devices that fail, and how it ends.
 struct Row {
     script: &'static [u8],
-    /// How many bytes the writer takes.
+    /// How many bytes the writer takes, one a call.
     takes: usize,
     fault: ScriptFault,
     report: &'static [u8],
@@ -129,7 +176,12 @@ const ROWS: [Row; 2] = [
 /// Whether a run over devices that fail ends so.
 fn ends_so(failed: &mut Trial, row: &Row) -> bool {
     let reader = StripReader::of(row.script, 1, 1000);
-    let writer = PageWriter::that_ends(&mut failed.report, row.takes, End::Fails);
+    let limit = Limit {
+        calls: row.takes,
+        most: 1,
+        end: End::Fails,
+    };
+    let writer = PageWriter::that_ends(&mut failed.report, limit);
     let ended = run(
         &mut ReadSource::new(reader),
         &mut WriteSink::new(writer),

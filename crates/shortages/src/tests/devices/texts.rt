@@ -2,7 +2,7 @@
 
 use super::super::trials::on_trial;
 use super::super::{traces, views};
-use super::{ENDS, End, PageWriter};
+use super::{ENDS, End, Limit, PageWriter};
 use rd_marks::Book;
 use rd_script::WriteSink;
 use rd_trace::{WriteTraceFault, write_trace};
@@ -13,12 +13,13 @@ use std::sync::Wait;
 use std::thread::Threads;
 
 /// Whether a trace whose writer ends behind so many bytes ends with just these written.
-fn trace_ends(alloc: Global, book: &Book<2>, page: &mut Vec<u8>, bytes: usize, end: End) -> bool {
+fn trace_ends(alloc: Global, book: &Book<2>, page: &mut Vec<u8>, calls: usize, end: End) -> bool {
     page.clear();
-    let writer = PageWriter::that_ends(&mut *page, bytes, end);
+    let most = 1;
+    let writer = PageWriter::that_ends(&mut *page, Limit { calls, most, end });
     let fault = write_trace(alloc, &mut WriteSink::new(writer), book).err();
     fault == Some(WriteTraceFault::Write)
-        && page.len() == bytes
+        && page.len() == calls
         && traces::TRACE.starts_with(page.as_slice())
 }
 
@@ -39,13 +40,15 @@ fn view_ends<R: Abort + Threads + Wait + Sync>(
     rt: &R,
     page: &mut Vec<u8>,
     alloc: Global,
-    bytes: usize,
+    calls: usize,
     end: End,
 ) -> bool {
     page.clear();
-    let fault = views::viewed(rt, alloc, PageWriter::that_ends(&mut *page, bytes, end));
+    let most = 1;
+    let writer = PageWriter::that_ends(&mut *page, Limit { calls, most, end });
+    let fault = views::viewed(rt, alloc, writer);
     fault == Some(ViewFault::Write)
-        && page.len() == bytes
+        && page.len() == calls
         && views::USUAL.starts_with(page.as_slice())
 }
 
