@@ -69,13 +69,13 @@ fn is_refused(answer: Answer) -> bool {
 }
 
 /// Asks a command, and again if memory was refused. Answers whether it was obeyed or refused for another reason.
-fn asks<R: Wait>(rt: &R, desk: &Desk<2>, pass: &mut DeskPass<2>, command: Command) -> bool
+fn asks<R: Wait>(rt: &R, desk: &Desk<2>, pass: &mut DeskPass<2>, command: &Command) -> bool
     requires own { IsViewerOf desk.now pass.old }
     ensures own { IsViewerOf desk.now pass.new }
 {
-    let mut given = desk.ask(rt, pass, command);
+    let mut given = desk.ask(rt, pass, *command);
     if is_refused(given) {
-        given = desk.ask(rt, pass, command);
+        given = desk.ask(rt, pass, *command);
     }
     matches!(given, Ok(answer) if answer != Err(Refusal::NoMemory))
 }
@@ -89,7 +89,7 @@ fn asks_all<R: Wait>(rt: &R, desk: &Desk<2>, pass: &mut DeskPass<2>) -> bool
         let Ok(command) = command_in(*line) else {
             return false;
         };
-        if !asks(rt, desk, pass, command) {
+        if !asks(rt, desk, pass, &command) {
             return false;
         }
     }
@@ -117,7 +117,7 @@ fn has_calls_in_order(history: &History, book: &mut Book<2>) -> bool {
             return false;
         }
         if call.answer != Err(Refusal::NoMemory) {
-            if answer(book, call.command) != call.answer {
+            if answer(book, &call.command) != call.answer {
                 return false;
             }
             next += 1;

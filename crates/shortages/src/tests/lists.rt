@@ -23,9 +23,9 @@ const COMMANDS: [Command; 11] = [
 ];
 
 /// What a book answers to a command, asked again if memory is refused.
-pub(super) fn answer(book: &mut Book<2>, command: Command) -> Result<Reply, Refusal> {
-    match book.obey(command) {
-        Err(Refusal::NoMemory) => book.obey(command),
+pub(super) fn answer(book: &mut Book<2>, command: &Command) -> Result<Reply, Refusal> {
+    match book.obey(*command) {
+        Err(Refusal::NoMemory) => book.obey(*command),
         answer => answer,
     }
 }
@@ -36,7 +36,7 @@ fn follows(book: &mut Book<2>, answers: &[Result<Reply, Refusal>]) -> bool {
     for i in 0..COMMANDS.len().min(answers.len()) {
         if answers[i] == Err(Refusal::NoMemory) {
             refused += 1;
-        } else if answer(book, COMMANDS[i]) != answers[i] {
+        } else if answer(book, &COMMANDS[i]) != answers[i] {
             return false;
         }
     }

@@ -2,6 +2,7 @@
 
 use super::super::trials::{Trial, on_trial, plays};
 use super::{End, Limit, PageWriter, StripReader};
+use rd_marks::Book;
 use rd_script::{ReadSource, ScriptFault, WriteSink, run};
 use std::alloc::Global;
 use std::process::Abort;
@@ -29,16 +30,27 @@ fn line_feeds(text: &[u8]) -> usize {
     text.iter().filter(|byte| **byte == b'\n').count()
 }
 
+/// How a run over these devices ends, if it is at a fault.
+fn fault_of(
+    reader: StripReader<'_>,
+    writer: PageWriter<'_>,
+    book: &mut Book<2>,
+) -> Option<ScriptFault> {
+    run(
+        &mut ReadSource::new(reader),
+        &mut WriteSink::new(writer),
+        book,
+    )
+    .err()
+}
+
 /// A run whose reader gives one byte a call and fails behind so many: the whole lines among these are obeyed and answered, and no more.
 fn read_fails(failed: &mut Trial, twin: &mut Trial, bytes: usize) -> bool {
     let reader = StripReader::of(SCRIPT, bytes, 1);
-    let ended = run(
-        &mut ReadSource::new(reader),
-        &mut WriteSink::new(&mut failed.report),
-        &mut failed.book,
-    );
+    let writer = PageWriter::that_works(&mut failed.report);
+    let fault = fault_of(reader, writer, &mut failed.book);
     let whole = lines_of(SCRIPT, line_feeds(&SCRIPT[..bytes.min(SCRIPT.len())]));
-    ended == Err(ScriptFault::Read)
+    fault == Some(ScriptFault::Read)
         && plays(&mut twin.book, &[whole], &mut twin.report)
         && failed.report.as_slice() == twin.report.as_slice()
         && failed.is_as(twin)
@@ -60,14 +72,12 @@ fn a_read_that_fails_at_any_call_leaves_the_whole_lines_before_it_done(rt: HostR
 
 /// A run whose writer takes no more than this: the line whose answer it was to take is obeyed, and no later one.
 fn write_fails(failed: &mut Trial, twin: &mut Trial, limit: Limit) -> bool {
-    let ended = run(
-        &mut ReadSource::new(SCRIPT),
-        &mut WriteSink::new(PageWriter::that_ends(&mut failed.report, limit)),
-        &mut failed.book,
-    );
+    let reader = StripReader::of(SCRIPT, usize::MAX, usize::MAX);
+    let writer = PageWriter::that_ends(&mut failed.report, limit);
+    let fault = fault_of(reader, writer, &mut failed.book);
     let answered = line_feeds(failed.report.as_slice());
     let obeyed = lines_of(SCRIPT, answered.saturating_add(1));
-    ended == Err(ScriptFault::Write)
+    fault == Some(ScriptFault::Write)
         && plays(&mut twin.book, &[obeyed], &mut twin.report)
         && twin.report.len() > failed.report.len()
         && twin.report.starts_with(failed.report.as_slice())
@@ -126,12 +136,10 @@ fn is_run(slow: &mut Trial, twin: &mut Trial) -> bool {
         most: 1,
         end: End::Fails,
     };
-    let ended = run(
-        &mut ReadSource::new(StripReader::of(SCRIPT, usize::MAX, 1)),
-        &mut WriteSink::new(PageWriter::that_ends(&mut slow.report, limit)),
-        &mut slow.book,
-    );
-    ended.is_ok()
+    let reader = StripReader::of(SCRIPT, usize::MAX, 1);
+    let writer = PageWriter::that_ends(&mut slow.report, limit);
+    let fault = fault_of(reader, writer, &mut slow.book);
+    fault.is_none()
         && plays(&mut twin.book, &[SCRIPT], &mut twin.report)
         && slow.report.as_slice() == twin.report.as_slice()
         && slow.is_as(twin)
@@ -175,19 +183,15 @@ const ROWS: [Row; 2] = [
 
 /// Whether a run over devices that fail ends so.
 fn ends_so(failed: &mut Trial, row: &Row) -> bool {
-    let reader = StripReader::of(row.script, 1, 1000);
     let limit = Limit {
         calls: row.takes,
         most: 1,
         end: End::Fails,
     };
+    let reader = StripReader::of(row.script, 1, 1000);
     let writer = PageWriter::that_ends(&mut failed.report, limit);
-    let ended = run(
-        &mut ReadSource::new(reader),
-        &mut WriteSink::new(writer),
-        &mut failed.book,
-    );
-    ended == Err(row.fault)
+    let fault = fault_of(reader, writer, &mut failed.book);
+    fault == Some(row.fault)
         && failed.report.as_slice() == row.report
         && failed.book.session().len() == row.live
 }
