@@ -60,6 +60,11 @@ abbrev pub closed : ℕ → List ℕ → List ℕ
 closed k [] = []
 closed k (p ∷ ps) = if nat_lt p k then p ∷ closed k ps else if p == k then closed k ps else (p - 1) ∷ closed k ps
 
+-- those before the first that is greater than n
+abbrev pub up_to : ℕ → List ℕ → List ℕ
+up_to n [] = []
+up_to n (p ∷ ps) = if nat_lt n p then [] else p ∷ up_to n ps
+
 -- how many there are before the first that is greater than k
 abbrev pub number_up_to : ℕ → List ℕ → ℕ
 number_up_to k [] = 0

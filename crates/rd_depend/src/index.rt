@@ -94,6 +94,16 @@ impl DependIndex {
         self.close(k as u32);
     }
 
+    /// Takes all positions above the `n`-th away. It goes over all lists, and takes no memory. Of the room nothing is promised.
+    pub fn truncate(&mut self, n: u64)
+        requires few { self.old.len ≤ MOST_STEPS }
+        ensures left { (es : List Record) → IsIndexOf self.old es → IsIndexOf self.new (take n es) }
+    {
+        if n < self.len() {
+            self.cut(n as u32);
+        }
+    }
+
     /// Makes room for these entries: pushing them in order, at once or after positions were taken away, is not refused. Room
     /// that there was stays.
     ///

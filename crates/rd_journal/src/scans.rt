@@ -1,20 +1,17 @@
 //! Plain scans for a dependant, over records that are lent.
 
-ghost use Rattle.std.specs.Prelude.{◌≡◌, ◌≤◌, length};
-ghost use Rattle.rd_step.specs.Prelude.{first_dependant, depends_on_one};
+ghost use Rattle.std.specs.Prelude.{◌≡◌, ◌+◌, drop};
+ghost use Rattle.rd_step.specs.Dependence.{first_from};
+ghost use Rattle.rd_step.specs.Prelude.{depends_on_one};
 
 use super::live_records::LiveRecords;
 use rd_depend::depends;
 use rd_step::Entry;
 
-/// The number of the first record after the `k`-th, counted from 1, that depends on it, or none.
-pub(crate) fn first_dependant(records: &LiveRecords, k: u64) -> Option<u64>
-    requires some { 1 ≤ k }
-    requires within { k ≤ length records.now }
-    ensures { result ≡ first_dependant records.now k }
+/// The number, counted from 1, of the first record behind the first `start` ones that depends on this one, or none.
+pub(crate) fn first_behind(records: &LiveRecords, entry: &Entry, start: usize) -> Option<u64>
+    ensures { result ≡ first_from entry.now (start + 1) (drop start records.now) }
 {
-    let start = k as usize;
-    let entry = records.at(start - 1);
     for later in start..records.len() {
         if depends(entry, records.at(later)) {
             return Some(later as u64 + 1);

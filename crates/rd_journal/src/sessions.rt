@@ -11,15 +11,14 @@ mod switching;
 ghost use Rattle.std.specs.Prelude.{◌≡◌, ◌⊎◌, ◌++◌, ◌+◌, ◌≤◌, ◌<◌, ◌-◌, [], length, take, drop, Ok, Err, IsOk, OnOk, OnErr, IfOk, IfErr};
 ghost use Rattle.rd_step.specs.Prelude.{model, room as world_room, step};
 ghost use Rattle.rd_journal.specs.Journal.{entry_of, events, start_of, IsRunFrom, IsRun};
-ghost use Rattle.rd_journal.specs.Records.{journal_of, IsSession};
+ghost use Rattle.rd_journal.specs.Kept.{journal_of, IsSession};
 ghost use Rattle.rd_journal.specs.Room.{MayBeOutOfMemory, IsOutOfMemory, ComesAfterRoom, LacksRoom};
 ghost use Rattle.rd_journal.specs.State.{run_of, apply, reply_to, undo, undo_at, back, redo, forward, roll, switch};
 ghost use Rattle.rd_journal.specs.Laws.{IsStepAfter};
 ghost use Rattle.rd_journal.specs.Moves.{IsLengthened, IsMovedBack, IsMovedForward, IsBeforeLast, IsTakenOutAt, IsWithout, IsSwitched, IsRolledBack, IsWithoutClosure, answer_at, roll_answer};
 
+use super::indexed_records::IndexedRecords;
 use super::live_records::LiveRecords;
-use super::records::Records;
-use super::scans::first_dependant;
 use rd_cell::Refusal;
 use rd_cell::limits::MOST_STEPS;
 use rd_step::{Entry, Event, World};
@@ -29,7 +28,7 @@ use std::alloc::Global;
 #[derive(Drop)]
 pub struct Session<const R: usize> {
     world: World<R>,
-    records: Records,
+    records: IndexedRecords,
     ghost kept: { IsSession R (journal_of (model world) records) (world_room world) },
 }
 
@@ -44,7 +43,7 @@ impl<const R: usize> Session<R> {
     {
         Session {
             world,
-            records: Records::new(alloc),
+            records: IndexedRecords::new(alloc),
         }
     }
 
@@ -120,7 +119,7 @@ impl<const R: usize> Session<R> {
         if len < k || k == 0 {
             return Err(Refusal::NoSuchStep(len));
         }
-        if let Some(dependant) = first_dependant(&self.records.live(), k) {
+        if let Some(dependant) = self.records.first_dependant(k) {
             return Err(Refusal::Depended(dependant));
         }
         self.undo_alone(k);

@@ -1,7 +1,7 @@
 //! Lists of positions by number, and what is done to one or to all of them.
 
 ghost use Rattle.std.specs.Prelude.{◌≡◌, ◌+◌, ◌-◌, ◌==◌, ◌&&◌, true, ◌<◌, ◌≤◌, ◌++◌, ◌∷◌, [], ℕ, IsOk, OnOk, length, take, vec_capacity, if◌then◌else◌};
-ghost use Rattle.rd_depend.specs.Lists.{one_if, list_at, capacity_at, spare_at, spare_of, closed, IsAscending};
+ghost use Rattle.rd_depend.specs.Lists.{one_if, list_at, capacity_at, spare_at, spare_of, closed, up_to, IsAscending};
 
 use std::alloc::{AllocError, Global};
 
@@ -144,4 +144,25 @@ fn close(list: &mut Vec<u32>, k: u32)
     if end > 0 && list[end - 1] == k {
         let _gone = list.remove(end - 1);
     }
+}
+
+/// Takes the positions above `n` out of each list.
+pub(crate) fn cut_all(lists: &mut Vec<Vec<u32>>, n: u32)
+    ensures lists { (i : ℕ) → IsAscending (list_at lists.old.items i) → list_at lists.new.items i ≡ up_to n (list_at lists.old.items i) }
+    ensures number { length lists.new.items ≡ length lists.old.items }
+{
+    for index in 0..lists.len() {
+        cut(&mut lists[index], n);
+    }
+}
+
+/// Takes the positions above `n` out of a list.
+fn cut(list: &mut Vec<u32>, n: u32)
+    ensures { IsAscending list.old.items → list.new.items ≡ up_to n list.old.items }
+{
+    let mut end = list.len();
+    'falling: while end > 0 && list[end - 1] > n {
+        end -= 1;
+    }
+    list.truncate(end);
 }

@@ -3,7 +3,9 @@
 ghost use Rattle.std.specs.Prelude.{◌≡◌, length};
 
 use super::keys::Key;
-use super::lists::{close_all, put_if, put_in, reserve_if, reserve_in, take_last_if, take_last_in};
+use super::lists::{
+    close_all, cut_all, put_if, put_in, reserve_if, reserve_in, take_last_if, take_last_in,
+};
 use indexmap::IndexSet;
 use std::alloc::{AllocError, Global};
 
@@ -20,7 +22,7 @@ pub(crate) struct Table {
 impl Table {
     ghost use Rattle.std.specs.Prelude.{◌<◌, ◌≤◌, Option, Some, Bool, true, IsOk, IfOk, IfSome, false, []};
     ghost use Rattle.rd_depend.specs.Keys.{slot_in};
-    ghost use Rattle.rd_depend.specs.Tables.{kept_in, spare_in, counts, IsReady, IsReadyAt, AreReady, AreReadyAt, KeepsLists, Puts, HasLast, TakesLast, Closes};
+    ghost use Rattle.rd_depend.specs.Tables.{kept_in, spare_in, counts, IsReady, IsReadyAt, AreReady, AreReadyAt, KeepsLists, Puts, HasLast, TakesLast, Closes, Cuts};
     ghost use Rattle.rd_depend.specs.declared.index.keys.Key.{Key as Kept};
 
     /// No key; it takes no memory.
@@ -160,5 +162,13 @@ impl Table {
     {
         close_all(&mut self.all, k);
         close_all(&mut self.writes, k);
+    }
+
+    /// Takes the positions above `n` out of each list.
+    pub(crate) fn cut(&mut self, n: u32)
+        ensures { Cuts n self.old self.new }
+    {
+        cut_all(&mut self.all, n);
+        cut_all(&mut self.writes, n);
     }
 }
