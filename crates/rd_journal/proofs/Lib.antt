@@ -16,3 +16,4 @@ pub mod RolledBack
 pub mod Closures
 pub mod RolledForward
 pub mod ReadAgain
+pub mod LastOnes
