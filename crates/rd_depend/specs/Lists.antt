@@ -1,5 +1,5 @@
 -- Lists of positions: what one holds, and what is found in it.
-use Rattle.std.specs.Prelude.{◌≡◌, ℕ, suc, ◌+◌, ◌-◌, ◌≤◌, Bool, true, false, nat_lt, ◌==◌, if◌then◌else◌, List, [], ◌∷◌, length, min, Option, Some, None, Vec, slice_get, vec_capacity}
+use Rattle.std.specs.Prelude.{◌≡◌, ℕ, zero, suc, ◌+◌, ◌-◌, ◌≤◌, Bool, true, false, nat_lt, ◌==◌, if◌then◌else◌, List, [], ◌∷◌, length, min, Option, Some, None, Vec, slice_get, vec_capacity}
 use Rattle.std.specs.declared.alloc.Global.{Global}
 
 -- lists by number
@@ -59,6 +59,14 @@ IsAscending ps = AscendsFrom 0 ps
 abbrev pub closed : ℕ → List ℕ → List ℕ
 closed k [] = []
 closed k (p ∷ ps) = if nat_lt p k then p ∷ closed k ps else if p == k then closed k ps else (p - 1) ∷ closed k ps
+
+-- so many of them one less, from this index on
+abbrev pub lowered_from : ℕ → ℕ → List ℕ → List ℕ
+lowered_from zero zero ps = ps
+lowered_from zero (suc n) [] = []
+lowered_from zero (suc n) (p ∷ ps) = (p - 1) ∷ lowered_from zero n ps
+lowered_from (suc start) n [] = []
+lowered_from (suc start) n (p ∷ ps) = p ∷ lowered_from start n ps
 
 -- those before the first that is greater than n
 abbrev pub up_to : ℕ → List ℕ → List ℕ
