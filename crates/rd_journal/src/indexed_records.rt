@@ -223,8 +223,18 @@ impl IndexedRecords {
         }
     }
 
-    /// Takes the positions behind the first `n` out of the index: a few one by one, and many by one pass over all its lists.
+    /// Takes the positions behind the first `n` out of the index.
     fn forget_behind(&mut self, n: usize)
+        ensures records { self.new.records ≡ self.old.records }
+        ensures covered { self.new.index.len ≤ n }
+    {
+        if self.index.len() > n as u64 {
+            self.forget_some_behind(n);
+        }
+    }
+
+    /// The same: a few one by one, and many by one pass over all its lists.
+    fn forget_some_behind(&mut self, n: usize)
         ensures records { self.new.records ≡ self.old.records }
         ensures covered { self.new.index.len ≤ n }
     {

@@ -4,7 +4,7 @@ use Rattle.rd_step.specs.declared.entries.Entry.{Entry}
 use Rattle.rd_depend.specs.Index.{IsIndexOf}
 use Rattle.rd_journal.specs.Records.{live_records, undone_records, kept_records}
 use Rattle.rd_journal.proofs.IndexedLemmas.{reaches, reached, reaches_within}
-use Rattle.rd_journal.proofs.indexed_records.IndexedRecords.forget_behind.Goals as goal
+use Rattle.rd_journal.proofs.indexed_records.IndexedRecords.forget_some_behind.Goals as goal
 
 pub truncate-requires : goal.truncate-requires
 truncate-requires c =
