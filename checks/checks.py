@@ -1,17 +1,21 @@
 #!/usr/bin/env python3
-"""Refuses memory to the built program, at each point in turn, and looks at what it answers.
+"""Refuses memory to the tests of `crates/shortages` and to the built program, at each point in turn, and looks at what they answer.
 
-    python3 checks/checks.py [PART..] [--program P]
+    python3 checks/checks.py [PART..] [--program P] [--tests T]
 
 Parts, all of them if none is named:
 
+    devices   the tests of crates/shortages over devices that fail at each of their calls, which the gate runs too
+    tests     the other tests of crates/shortages, with each one of their allocations refused in turn
+    none      its tests of calls that take no memory, with all allocations refused from each one on
     one       the program, with each one of its allocations refused in turn
     rest      the program, with all allocations refused from each one on
     undos     the program, with all refused from a line on: undos, redos and queries answer as ever
     limits    the program under a limit of its address space that is lowered step by step
 
-P is the built program, which `rt ci` leaves as crates/lcrqdb/out/lcrqdb. Each part prints a line with how many points were refused, and the
-status is 1 if anything is wrong. It needs a C compiler (`cc`) and `prlimit`. Only Python's standard library is used.
+P is the built program, T the built tests of crates/shortages; `rt ci` leaves both in the crates' folders out/. Each part prints a line with
+how many points were refused, and the status is 1 if anything is wrong. It needs a C compiler (`cc`) and `prlimit`. Only Python's standard
+library is used.
 """
 
 import argparse
@@ -257,6 +261,51 @@ def fault_in_file_run(script, program, words, _given, ended):
 # ---- Parts --------------------------------------------------------------------------------------------------------------
 
 
+DEVICES = "tests::devices::"  # tests that make so many runs that to refuse each allocation of each would take hours
+NONE = "tests::none_left::"  # tests that pass whatever is refused to them from some point on
+
+
+def tests_of(tests):
+    """The names of the tests in a built test program."""
+    listed = run([tests, "--list"]).output.decode()
+    return [line.removesuffix(": test") for line in listed.splitlines() if line.endswith(": test")]
+
+
+def devices_part(given, _refuser):
+    """Each test over devices that fail, once."""
+    for name in tests_of(given.tests):
+        if name.startswith(DEVICES):
+            ended = run([given.tests, name])
+            yield name.removeprefix("tests::"), None, fault_in_test(ended)
+
+
+def fault_in_test(ended):
+    """What is wrong with a run of a test."""
+    return "" if ended.status == 0 else f"status {ended.status}, {ended.errors.strip()!r}"
+
+
+def refused_tests(given, names, runs):
+    """Each test of these names with allocations refused from each number on, as `runs` does it."""
+    for name in names:
+        points, fault = 0, ""
+        for number, ended in each_refused(lambda number, name=name: runs([given.tests, name], number)):
+            points += 1
+            found = fault_in_test(ended)
+            if found and not fault:
+                fault = f"allocation {number}: {found}"
+        yield name.removeprefix("tests::"), points, fault
+
+
+def tests_part(given, refuser):
+    """Each test with each one of its allocations refused."""
+    return refused_tests(given, [name for name in tests_of(given.tests) if not name.startswith(DEVICES)], refuser.one)
+
+
+def none_part(given, refuser):
+    """Each test of calls that take no memory, with all allocations refused from each one on."""
+    return refused_tests(given, [name for name in tests_of(given.tests) if name.startswith(NONE)], refuser.rest)
+
+
 def program_part(given, refuser, runs):
     """Each command line with allocations refused from each number on, as `runs` does it."""
     for name, words, script, fault_in in command_lines(refuser.folder):
@@ -342,7 +391,8 @@ def limits_part(given, refuser):
         yield f"{name}, {len(limits)} limits from {limits[-1] >> 10} to {floor >> 10} KiB", short, fault
 
 
-PARTS = {"one": one_part, "rest": rest_part, "undos": undos_part, "limits": limits_part}
+PARTS = {"devices": devices_part, "tests": tests_part, "none": none_part}
+PARTS |= {"one": one_part, "rest": rest_part, "undos": undos_part, "limits": limits_part}
 
 
 def told(part, outcomes):
@@ -364,6 +414,7 @@ def main():
     parser = argparse.ArgumentParser(description="Refuses memory at each point in turn, and looks at what is answered.")
     parser.add_argument("parts", nargs="*", choices=[[], *PARTS], metavar="PART", help=f"{', '.join(PARTS)}; all if none is named")
     parser.add_argument("--program", default=str(ROOT / "crates/lcrqdb/out/lcrqdb"), help="the built program")
+    parser.add_argument("--tests", default=str(ROOT / "crates/shortages/out/shortages_tests"), help="the built tests of crates/shortages")
     given, wrong = parser.parse_args(), 0
     with tempfile.TemporaryDirectory() as folder:
         refuser = Refuser(folder)

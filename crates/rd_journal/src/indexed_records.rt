@@ -91,6 +91,14 @@ impl IndexedRecords {
         self.records.first_undone()
     }
 
+    /// The record of the undone step at this position, from 0.
+    pub(crate) fn undone_at(&self, position: usize) -> &Entry
+        requires within { position < length (undone_records self.now.records) }
+        ensures { result.now ≡ get_or (undone_records self.now.records) position result.now }
+    {
+        self.records.undone_at(position)
+    }
+
     /// Makes the last live record the front of the undone ones.
     pub(crate) fn step_back(&mut self)
         requires some { 1 ≤ length (live_records self.old.records) }

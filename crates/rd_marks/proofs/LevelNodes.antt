@@ -1,8 +1,7 @@
 -- Two nodes of one depth that go up together until they meet.
-use Rattle.std.proofs.Common.{◌≡◌, ℕ, ◌<◌, ◌≤◌, min, sym, ap, ◌∙◌, subst, List, length, take, Option, arith}
+use Rattle.std.proofs.Common.{◌≡◌, ℕ, ◌<◌, ◌≤◌, min, sym, ap, ◌∙◌, List, length, take, Option, arith}
 use Rattle.std.proofs.lemmas.List.{take-take}
 use Rattle.rd_step.specs.Run.{events}
-use Rattle.rd_step.specs.declared.entries.Entry.{Entry}
 use Rattle.rd_depend.specs.Beginnings.{Begins}
 use Rattle.rd_marks.specs.Tree.{MarkTree, IsIn, depth_in, parent_in, path_in, IsTree}
 use Rattle.rd_marks.proofs.TreeLemmas.{path_length, events_length, same_path}

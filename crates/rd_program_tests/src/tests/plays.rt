@@ -57,6 +57,13 @@ fn a_script_runs_over_the_actors_and_the_ring_of_the_options(rt: HostRuntime) ->
                 report: "ok 1\nrefused 1 NoActor\nat 1 0\n",
             },
             Play {
+                actors: 3,
+                ring: Ring::Four,
+                trace: false,
+                script: "deq 3\ngo 3\ngo 3\ndeq 4\nshow head 0.0\nlen\n",
+                report: "ok 1\nok 2\nok 3\nrefused 1 NoActor\nis 1\nat 3 0\n",
+            },
+            Play {
                 actors: 16,
                 ring: Ring::Eight,
                 trace: false,

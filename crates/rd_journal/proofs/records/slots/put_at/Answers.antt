@@ -1,5 +1,4 @@
 use Rattle.std.proofs.Common.{◌≡◌, ◌<◌, ◌+◌, ◌++◌, ◌∷◌, [], ℕ, List, length, ap, subst, sym, ◌∙◌, arith, length-append}
-use Rattle.rd_step.specs.declared.entries.Entry.{Entry}
 use Rattle.rd_journal.specs.Numbers.{at_numbers, IsOrder}
 use Rattle.rd_journal.proofs.Numbers.{order_below, order_push, put_over, put_new}
 use Rattle.rd_journal.proofs.records.slots.put_at.Goals as goal

@@ -1,4 +1,4 @@
-use Rattle.std.proofs.Common.{◌≡◌, ◌+◌, ◌<◌, ◌∙◌, ℕ, List, length, get_or, arith, refl, sym, ap}
+use Rattle.std.proofs.Common.{◌∙◌, ℕ, List, length, get_or, arith, refl, sym, ap}
 use Rattle.std.proofs.lemmas.List.{get_or-replicate, length-set}
 use Rattle.rd_journal.proofs.Switching.{few_makings, making_counted, no_making_counted}
 use Rattle.rd_journal.proofs.sessions.switching.makings_of.Goals as goal
