@@ -1,4 +1,4 @@
-use Rattle.std.proofs.Common.{◌≡◌, ◌≤◌, ◌<◌, ◌+◌, ◌++◌, ℕ, List, length, take, subst, arith, length-append}
+use Rattle.std.proofs.Common.{◌≤◌, ◌++◌, List, length, take, subst, arith, length-append}
 use Rattle.std.proofs.lemmas.List.{take-take}
 use Rattle.rd_step.specs.declared.entries.Entry.{Entry}
 use Rattle.rd_depend.specs.Index.{IsIndexOf}
