@@ -41,7 +41,7 @@ none_left : (m n : ℕ) (ps : List ℕ) → AscendsFrom m ps → n < m → up_to
 none_left m n [] h less = refl
 none_left m n (p ∷ ps) h less = up_to_none n p ps (omega (arith, h.0, less))
 
-positions-up_to : (test : Entry → Bool) (n m k : ℕ) (es : List Entry) → k + m ≡ n + 1 → up_to n (positions_from test m es) ≡ positions_from test m (take k es)
+pub positions-up_to : (test : Entry → Bool) (n m k : ℕ) (es : List Entry) → k + m ≡ n + 1 → up_to n (positions_from test m es) ≡ positions_from test m (take k es)
 positions-up_to test n m zero es h = none_left m n (positions_from test m es) (positions-ascend test m es) (omega arith)
 positions-up_to test n m (suc k) [] h = refl
 positions-up_to test n m (suc k) (x ∷ xs) h = by (test x) (positions-up_to test n (m + 1) k xs (omega arith))

@@ -11,6 +11,7 @@ mod switching;
 
 ghost use Rattle.std.specs.Prelude.{◌≡◌, ◌⊎◌, ◌++◌, ◌+◌, ◌≤◌, ◌<◌, ◌-◌, [], length, take, drop, Ok, Err, IsOk, OnOk, OnErr, IfOk, IfErr};
 ghost use Rattle.rd_step.specs.Prelude.{model, room as world_room, step};
+ghost use Rattle.rd_depend.specs.Writers.{last_position, writes_to};
 ghost use Rattle.rd_journal.specs.Journal.{entry_of, events, start_of, IsRunFrom, IsRun};
 ghost use Rattle.rd_journal.specs.Kept.{journal_of, IsSession};
 ghost use Rattle.rd_journal.specs.Room.{MayBeOutOfMemory, IsOutOfMemory, ComesAfterRoom, LacksRoom};
@@ -20,7 +21,7 @@ ghost use Rattle.rd_journal.specs.Moves.{IsLengthened, IsMovedBack, IsMovedForwa
 
 use super::indexed_records::IndexedRecords;
 use super::live_records::LiveRecords;
-use rd_cell::Refusal;
+use rd_cell::{Place, Refusal};
 use rd_cell::limits::MOST_STEPS;
 use rd_step::{Entry, Event, World};
 use std::alloc::Global;
@@ -279,6 +280,14 @@ impl<const R: usize> Session<R> {
             return Err(Refusal::NoSuchStep(len));
         }
         Ok(*self.records.live_at(k as usize - 1))
+    }
+
+    /// The number of the last live step that wrote this place, or one that overlaps it; none if no live step did. It asks the
+    /// index of dependants, and scans the steps that this does not reach for want of memory. It takes no memory.
+    pub fn last_writer(&self, place: Place) -> Option<u64>
+        ensures { result ≡ last_position (writes_to place) (journal self.now).live }
+    {
+        self.records.last_writer(place)
     }
 
     /// The event of the undone step of this number, from 1, if there is one: the first is the one undone last.
