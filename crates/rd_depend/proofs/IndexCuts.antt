@@ -1,11 +1,11 @@
 -- The positions above a number taken out of all lists: the index is then that of the first entries.
-use Rattle.std.proofs.Common.{◌≡◌, ℕ, zero, suc, ◌+◌, ◌-◌, ◌<◌, ◌≤◌, Bool, true, false, nat_lt, if◌then◌else◌, List, [], ◌∷◌, ◌++◌, length, get_or, take, refl, sym, ap, ◌∙◌, arith}
+use Rattle.std.proofs.Common.{◌≡◌, ℕ, zero, suc, ◌+◌, ◌<◌, ◌≤◌, Bool, true, false, nat_lt, if◌then◌else◌, List, [], ◌∷◌, length, get_or, take, refl, sym, ap, ◌∙◌, arith}
 use Rattle.std.proofs.lemmas.Bool.Decides.{nat_tests}
 use Rattle.std.proofs.lemmas.List.{take_all, length-take-le}
 use Rattle.rd_step.specs.declared.entries.Entry.{Entry}
 use Rattle.rd_depend.specs.declared.index.DependIndex.{DependIndex}
-use Rattle.rd_depend.specs.Lists.{AscendsFrom, IsAscending, up_to}
-use Rattle.rd_depend.specs.Index.{positions_from, positions, touches, kept, IsIndexOf, CutsAll}
+use Rattle.rd_depend.specs.Lists.{AscendsFrom, up_to}
+use Rattle.rd_depend.specs.Index.{positions_from, positions, touches, IsIndexOf, CutsAll}
 use Rattle.rd_depend.proofs.IndexPositions.{positions-ascend}
 use Rattle.rd_depend.proofs.IndexLists.{ascends-at}
 use Rattle.rd_depend.proofs.IndexFirst.{kept-ascends}

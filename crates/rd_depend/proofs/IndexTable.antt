@@ -1,6 +1,5 @@
 -- The table of keys: which key has which index, and what a change of the lists by index is for the keys.
 use Rattle.std.proofs.Common.{◌≡◌, ℕ, zero, suc, ◌+◌, ◌-◌, ◌<◌, ◌≤◌, Bool, true, false, ◌&&◌, ◌||◌, ◌==◌, if◌then◌else◌, nat_lt, cond, not, List, [], ◌∷◌, ◌++◌, length, get_or, take, Option, Some, None, slice_get, position, Vec, refl, sym, ap, subst, ◌∙◌, arith, eqb-true, eq-eqb}
-use Rattle.std.proofs.lemmas.Bool.{false_from_ne_true}
 use Rattle.std.proofs.lemmas.Bool.Decides.{nat_tests}
 use Rattle.std.proofs.lemmas.Map.Keys.{apart_from_distinct}
 use Rattle.std.specs.Cmp.{both_ways}
@@ -15,8 +14,8 @@ use Rattle.rd_depend.specs.declared.index.keys.Key.TheVariants.{In}
 use Rattle.rd_depend.specs.declared.index.table.Table.{Table}
 use Rattle.rd_depend.specs.Keys.{is_key, slot_in}
 use Rattle.rd_depend.specs.KeyLaws.{is_key-true, is_key-refl, is_key-sym}
-use Rattle.rd_depend.specs.Lists.{Lists, items_of, room_of, list_at, capacity_at, spare_at, one_if, list_of, capacity_of}
-use Rattle.rd_depend.specs.Tables.{lists_of, kept_in, capacity_in, spare_in, counts, IsReady, KeepsLists, Puts, TakesLast, Closes}
+use Rattle.rd_depend.specs.Lists.{Lists, items_of, room_of, list_at, spare_at, one_if, list_of, capacity_of}
+use Rattle.rd_depend.specs.Tables.{lists_of, kept_in, spare_in, counts, IsReady, KeepsLists, Puts, TakesLast}
 
 -- indices of keys
 

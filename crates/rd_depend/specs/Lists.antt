@@ -1,5 +1,5 @@
 -- Lists of positions: what one holds, and what is found in it.
-use Rattle.std.specs.Prelude.{◌≡◌, ℕ, zero, suc, ◌+◌, ◌-◌, ◌≤◌, Bool, true, false, nat_lt, ◌==◌, if◌then◌else◌, List, [], ◌∷◌, length, min, max, Option, Some, None, Vec, slice_get, vec_capacity}
+use Rattle.std.specs.Prelude.{ℕ, zero, suc, ◌-◌, ◌≤◌, Bool, nat_lt, ◌==◌, if◌then◌else◌, List, [], ◌∷◌, length, min, max, Option, Some, None, Vec, slice_get, vec_capacity}
 use Rattle.std.specs.declared.alloc.Global.{Global}
 
 -- lists by number

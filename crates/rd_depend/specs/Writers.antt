@@ -1,5 +1,5 @@
 -- The step that last wrote a place, as a position in a list, counted from 1.
-use Rattle.std.specs.Prelude.{ℕ, suc, ◌&&◌, Bool, true, false, if◌then◌else◌, List, [], ◌∷◌, Option, Some, None}
+use Rattle.std.specs.Prelude.{ℕ, suc, ◌&&◌, Bool, if◌then◌else◌, List, [], ◌∷◌, Option, Some, None}
 use Rattle.rd_step.specs.Prelude.{Place, some_overlap}
 use Rattle.rd_step.specs.declared.entries.Entry.{Entry}
 

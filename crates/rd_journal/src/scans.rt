@@ -38,11 +38,7 @@ pub(crate) fn depends_on_one(records: &LiveRecords, later: &Entry) -> bool
 }
 
 /// The number of the last record that wrote this place, or one that overlaps it, if it is behind the first `start` ones.
-pub(crate) fn last_writer_behind(
-    records: &LiveRecords,
-    place: Place,
-    start: usize,
-) -> Option<u64>
+pub(crate) fn last_writer_behind(records: &LiveRecords, place: Place, start: usize) -> Option<u64>
     requires { start ≤ length records.now }
     ensures { MatchOption result
         (last_position (writes_to place) records.now ≡ last_position (writes_to place) (take start records.now))

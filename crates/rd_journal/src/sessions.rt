@@ -21,8 +21,8 @@ ghost use Rattle.rd_journal.specs.Moves.{IsLengthened, IsMovedBack, IsMovedForwa
 
 use super::indexed_records::IndexedRecords;
 use super::live_records::LiveRecords;
-use rd_cell::{Place, Refusal};
 use rd_cell::limits::MOST_STEPS;
+use rd_cell::{Place, Refusal};
 use rd_step::{Entry, Event, World};
 use std::alloc::Global;
 

@@ -4,8 +4,8 @@
 ghost use Rattle.rd_depend.specs.Index.{IsIndexOf};
 
 use super::{Access, MADE, OTHER, record};
-use rd_cell::{Place, overlaps};
 use rd_cell::limits::MOST_STEPS;
+use rd_cell::{Place, overlaps};
 use rd_depend::dependence::first_dependant;
 use rd_depend::index::{DependIndex, Probes};
 use rd_step::Entry;
@@ -89,9 +89,16 @@ impl Both {
     /// Compares the last writer of the place.
     fn compare_writer(&self, rt: &impl Abort, n: usize, place: Place) {
         let mut probes = Probes::new();
-        if n <= self.entries.len() && self.entries.len() <= MOST_STEPS && n as u64 <= self.index.len() {
+        if n <= self.entries.len()
+            && self.entries.len() <= MOST_STEPS
+            && n as u64 <= self.index.len()
+        {
             let found = self.index.last_writer(n as u64, place, &mut probes);
-            assert_eq!(rt; found, last_writer(&self.entries[..n], place), "among {n}, of {place:?}");
+            assert_eq!(rt;
+                found,
+                last_writer(&self.entries[..n], place),
+                "among {n}, of {place:?}"
+            );
         }
         assert!(rt; probes.count() <= 38);
     }

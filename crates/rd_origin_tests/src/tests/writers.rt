@@ -82,7 +82,10 @@ fn choice(pc: Pc, number: u64) -> Act {
 /// Makes a step by one of four actors, as the number has it.
 fn step(session: &mut Session<2>, number: u64) -> Result<(), Refusal> {
     let actor = ((number >> 33) % 4) as u8 + 1;
-    let pc = session.world().actor(actor).map_or(Pc::Idle, |words| words.pc);
+    let pc = session
+        .world()
+        .actor(actor)
+        .map_or(Pc::Idle, |words| words.pc);
     session.apply(Event {
         actor,
         act: choice(pc, number),

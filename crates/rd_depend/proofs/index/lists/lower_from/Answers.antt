@@ -1,6 +1,6 @@
 use Rattle.std.proofs.Common.{◌≡◌, ◌-◌, ◌+◌, ◌<◌, ◌≤◌, ℕ, List, suc, length, get_or, set, sym, ap, ◌∙◌, arith}
 use Rattle.rd_depend.specs.Lists.{lowered_from}
-use Rattle.rd_depend.proofs.IndexLists.{lowers, lowered_none, lowered-length}
+use Rattle.rd_depend.proofs.IndexLists.{lowers, lowered_none}
 use Rattle.rd_depend.proofs.index.lists.lower_from.Goals as goal
 
 pub loop-index-init : goal.loop-index-init

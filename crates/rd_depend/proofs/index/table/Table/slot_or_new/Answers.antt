@@ -1,4 +1,4 @@
-use Rattle.std.proofs.Common.{◌≡◌, Some, ap, ◌∙◌, List, length, subst, sym}
+use Rattle.std.proofs.Common.{ap, ◌∙◌, List}
 use Rattle.rd_depend.specs.declared.index.keys.Key.{Key}
 use Rattle.rd_depend.specs.Keys.{slot_in}
 use Rattle.rd_depend.proofs.IndexTable.{noted}
