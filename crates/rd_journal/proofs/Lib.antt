@@ -3,6 +3,7 @@ pub mod Numbers
 pub mod RecordLemmas
 pub mod Runs
 pub mod Walks
+pub mod Starting
 pub mod Calls
 pub mod Words
 pub mod There

@@ -92,6 +92,14 @@ impl Records {
         self.at(self.live)
     }
 
+    /// The record of the undone step at this position, from 0.
+    pub(crate) fn undone_at(&self, position: usize) -> &Entry
+        requires within { position < length (undone_records self.now) }
+        ensures { result.now ≡ get_or (undone_records self.now) position result.now }
+    {
+        self.at(self.live + position)
+    }
+
     /// The record whose slot's number stands at this place of the order.
     fn at(&self, place: usize) -> &Entry
         requires { place < length (all_records self.now) }

@@ -6,6 +6,7 @@
 
 mod moving;
 mod removal;
+mod starting;
 mod switching;
 
 ghost use Rattle.std.specs.Prelude.{◌≡◌, ◌⊎◌, ◌++◌, ◌+◌, ◌≤◌, ◌<◌, ◌-◌, [], length, take, drop, Ok, Err, IsOk, OnOk, OnErr, IfOk, IfErr};
@@ -13,7 +14,7 @@ ghost use Rattle.rd_step.specs.Prelude.{model, room as world_room, step};
 ghost use Rattle.rd_journal.specs.Journal.{entry_of, events, start_of, IsRunFrom, IsRun};
 ghost use Rattle.rd_journal.specs.Records.{journal_of, IsSession};
 ghost use Rattle.rd_journal.specs.Room.{MayBeOutOfMemory, IsOutOfMemory, ComesAfterRoom, LacksRoom};
-ghost use Rattle.rd_journal.specs.State.{run_of, apply, reply_to, undo, undo_at, back, redo, forward, roll, switch};
+ghost use Rattle.rd_journal.specs.State.{run_of, apply, reply_to, undo, undo_at, back, redo, forward, roll, switch, event_at};
 ghost use Rattle.rd_journal.specs.Laws.{IsStepAfter};
 ghost use Rattle.rd_journal.specs.Moves.{IsLengthened, IsMovedBack, IsMovedForward, IsBeforeLast, IsTakenOutAt, IsWithout, IsSwitched, IsRolledBack, IsWithoutClosure, answer_at, roll_answer};
 
@@ -279,6 +280,30 @@ impl<const R: usize> Session<R> {
             return Err(Refusal::NoSuchStep(len));
         }
         Ok(*self.records.live_at(k as usize - 1))
+    }
+
+    /// The event of the undone step of this number, from 1, if there is one: the first is the one undone last.
+    pub fn undone_event(&self, i: u64) -> Option<Event>
+        ensures { result ≡ event_at (state self.now).undone i }
+    {
+        if i == 0 || i > self.undone_len() {
+            return None;
+        }
+        Some(self.records.undone_at(i as usize - 1).event)
+    }
+
+    /// The world that the session was opened in: a copy of the world, in which all live steps are undone.
+    ///
+    /// # Errors
+    ///
+    /// `NoMemory` if memory was refused.
+    pub fn start_world(&self, alloc: Global) -> Result<World<R>, Refusal>
+        ensures ok { IfOk result (λ world. model world ≡ (state self.now).start) }
+        ensures err { IfErr result (λ refusal. refusal ≡ Refusal.NoMemory) }
+    {
+        let mut world = self.world.copy(alloc)?;
+        self.undo_all_in(&mut world);
+        Ok(world)
     }
 
     /// The world: that of the run of the live events from the start.

@@ -16,3 +16,4 @@ pub mod SameLemmas
 pub mod Counting
 pub mod Here
 pub mod LevelNodes
+pub mod MarkedEvents

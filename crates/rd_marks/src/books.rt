@@ -4,9 +4,10 @@
 //! Nothing outside this crate may know that.
 //!
 //! The calls of a book are here; what each command answers is in `books/`: `obeying` has the commands, `moves` the events, undos and redos,
-//! `bookmarks` the bookmarks, and `queries` the rest.
+//! `bookmarks` the bookmarks, and `queries` the rest; `marked` has the calls that read the events of bookmarks, and `to_start`.
 
 mod bookmarks;
+mod marked;
 mod moves;
 mod obeying;
 mod queries;
