@@ -126,6 +126,11 @@ pub(super) fn plays(book: &mut Book<2>, scripts: &[&[u8]], page: &mut Vec<u8>) -
     true
 }
 
+/// Whether a page has just this text.
+pub(super) fn has_text(page: &Vec<u8>, text: &[u8]) -> bool {
+    page.as_slice() == text
+}
+
 /// Writes on the page what a book is: what the queries answer, and what they answer when its undone steps are made again. Answers how
 /// many records it keeps for its bookmarks.
 pub(super) fn look(book: &mut Book<2>, page: &mut Vec<u8>) -> Option<u64> {
