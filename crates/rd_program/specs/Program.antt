@@ -16,7 +16,7 @@ use Rattle.rd_trace.specs.Traces.{Trace, trace_of_state, loaded_state, GoesThrou
 use Rattle.rd_trace.specs.Form.{IsTraceText}
 use Rattle.rd_trace.specs.Text.{trace_text}
 use Rattle.rd_program.specs.declared.faults.ProgramFault.{ProgramFault}
-use Rattle.rd_program.specs.declared.faults.ProgramFault.TheVariants.{NoMemory, Read, Write, BadTrace, TraceStep}
+use Rattle.rd_program.specs.declared.faults.ProgramFault.TheVariants.{NoMemory, Read, Write, BadTrace, Flawed, TraceMark, TraceStep}
 
 -- the program's fault if a script's run ended by this one
 abbrev pub program_fault : ScriptFault → ProgramFault
@@ -27,6 +27,8 @@ program_fault AtWrite = Write
 abbrev pub load_fault : LoadTraceFault → ProgramFault
 load_fault load.NoMemory = NoMemory
 load_fault load.BadTrace = BadTrace
+load_fault (load.Flawed flaw) = Flawed flaw
+load_fault (load.TraceMark mark step cause) = TraceMark mark step cause
 load_fault (load.TraceStep step cause) = TraceStep step cause
 
 -- the program's fault if a trace was not written for this one
