@@ -10,13 +10,13 @@ ghost use Rattle.rd_trace.specs.Loading.{any_ring, any_state, IsBookOf, IsLoadab
 ghost use Rattle.rd_trace.specs.Writing.{WritesTrace, is_write_fault};
 ghost use Rattle.rd_trace.specs.Devices.{devices};
 
-use super::faults::{LoadTraceFault, WriteTraceFault};
-use super::replay::replay;
+use super::faults::WriteTraceFault;
 use super::rings::Ring;
 use super::write::write_trace;
+use rd_journal::Session;
 use rd_marks::Book;
 use rd_script::{ScriptFault, Sink, Source, run};
-use rd_step::Event;
+use rd_step::World;
 use std::alloc::{AllocError, Global};
 
 /// A book over rings of 2, 4 or 8 cells: those that a trace may have.
@@ -35,34 +35,11 @@ impl AnyBook {
     pub fn fresh(alloc: Global, ring: Ring, actors: u8) -> Result<AnyBook, AllocError>
         requires some { 1 ≤ actors }
         requires few { actors ≤ MOST_ACTORS }
-        ensures { IfOk result (IsBookOf (record { actors = actors; events = []; ring = ring_length ring })) }
-    {
-        match AnyBook::replayed(alloc, ring, actors, &[]) {
-            Ok(book) => Ok(book),
-            Err(_) => Err(AllocError),
-        }
-    }
-
-    /// A book over the fresh world of so many actors and this ring, in which these events happened in order.
-    ///
-    /// # Errors
-    ///
-    /// `TraceStep` if one of them was refused; `NoMemory` if memory was refused.
-    pub fn replayed(
-        alloc: Global,
-        ring: Ring,
-        actors: u8,
-        events: &[Event],
-    ) -> Result<AnyBook, LoadTraceFault>
-        requires some { 1 ≤ actors }
-        requires few { actors ≤ MOST_ACTORS }
-        ensures { Replays (IsBookOf (record { actors = actors; events = events.now; ring = ring_length ring }))
-            (record { actors = actors; events = events.now; ring = ring_length ring }) result }
     {
         match ring {
-            Ring::Two => Ok(AnyBook::Two(replay(alloc, actors, events)?)),
-            Ring::Four => Ok(AnyBook::Four(replay(alloc, actors, events)?)),
-            Ring::Eight => Ok(AnyBook::Eight(replay(alloc, actors, events)?)),
+            Ring::Two => Ok(AnyBook::Two(fresh_book(alloc, actors)?)),
+            Ring::Four => Ok(AnyBook::Four(fresh_book(alloc, actors)?)),
+            Ring::Eight => Ok(AnyBook::Eight(fresh_book(alloc, actors)?)),
         }
     }
 
@@ -111,4 +88,17 @@ impl AnyBook {
             AnyBook::Eight(book) => write_trace(alloc, writer, book),
         }
     }
+}
+
+/// A book over the fresh world of so many actors.
+fn fresh_book<const R: usize>(alloc: Global, actors: u8) -> Result<Book<R>, AllocError>
+    requires some { 1 ≤ actors }
+    requires few { actors ≤ MOST_ACTORS }
+    requires positive { 1 ≤ R }
+    requires small { R ≤ MOST_CELLS }
+{
+    let Ok(world) = World::fresh(alloc, actors) else {
+        return Err(AllocError);
+    };
+    Ok(Book::open(alloc, Session::open(alloc, world)))
 }

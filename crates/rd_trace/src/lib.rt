@@ -7,12 +7,19 @@
 
 pub mod any_book;
 pub mod faults;
-mod form;
+mod actors;
+mod arrays;
+mod bookmarks;
+mod events;
 pub mod laws;
 pub mod load;
+mod names;
+mod numbers;
 mod replay;
 pub mod rings;
-mod values;
+mod saved;
+mod segments;
+mod starts;
 pub mod write;
 
 pub use any_book::AnyBook;

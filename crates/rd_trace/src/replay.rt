@@ -1,56 +1,150 @@
-//! The events of a trace, made to happen one by one in a fresh world.
+//! A session that was read, made to happen: its bookmarks one after another, then its live events, then its undone ones.
 
-ghost use Rattle.std.specs.Prelude.{◌≡◌, ◌≢◌, ◌≤◌, ◌⊎◌};
-ghost use Rattle.rd_step.specs.Prelude.{MOST_CELLS, MOST_ACTORS};
-ghost use Rattle.rd_cell.specs.declared.refusal.Refusal.TheVariants as Refusal;
-ghost use Rattle.rd_trace.specs.declared.faults.LoadTraceFault.TheVariants as LoadTraceFault;
-ghost use Rattle.rd_marks.specs.BookViews.{book_state};
-ghost use Rattle.rd_trace.specs.Traces.{loaded_state};
-ghost use Rattle.rd_trace.specs.Loading.{Replays};
-
+use super::bookmarks::SavedMark;
 use super::faults::LoadTraceFault;
+use super::saved::SavedSession;
+use super::starts::Start;
 use rd_cell::Refusal;
 use rd_journal::Session;
-use rd_marks::Book;
-use rd_step::{Event, World};
+use rd_marks::{Book, Command};
+use rd_step::{Event, Unassembled, World};
 use std::alloc::Global;
 
-/// A book over the fresh world of so many actors and rings of `R` cells, in which these events happened in order.
+/// An event that was refused.
+#[derive(Clone, Copy)]
+struct RefusedEvent {
+    /// Its number in its list, from 1; that of an undone event is counted on behind the live ones.
+    step: u64,
+    /// Why it was refused.
+    cause: Refusal,
+}
+
+/// The book of a session that was read.
 ///
 /// # Errors
 ///
-/// `TraceStep` if one of them was refused; `NoMemory` if memory was refused.
+/// In this order: `Flawed` if its start is no well-formed world; `TraceMark` if an event of a bookmark is refused; `TraceStep` if a
+/// live event, or an undone one behind them, is refused. `NoMemory` if memory was refused.
 pub fn replay<const R: usize>(
     alloc: Global,
-    actors: u8,
-    events: &[Event],
-) -> Result<Book<R>, LoadTraceFault>
-    requires some { 1 ≤ actors }
-    requires few { actors ≤ MOST_ACTORS }
-    requires positive { 1 ≤ R }
-    requires small { R ≤ MOST_CELLS }
-    ensures { Replays (λ book. book_state book ≡ loaded_state (record { actors = actors; events = events.now; ring = R }))
-        (record { actors = actors; events = events.now; ring = R }) result }
-{
-    let Ok(world) = World::fresh(alloc, actors) else {
-        return Err(LoadTraceFault::NoMemory);
-    };
-    let mut session = Session::open(alloc, world);
-    for event in events {
-        if let Err(refusal) = session.apply(*event) {
-            return Err(fault_of(session.len() + 1, refusal));
-        }
+    session: SavedSession<R>,
+) -> Result<Book<R>, LoadTraceFault> {
+    let world = world_of(alloc, session.start)?;
+    let mut book = Book::open(alloc, Session::open(alloc, world));
+    set_marks(&mut book, &session.marks)?;
+    if let Err(refused) = make_live(&mut book, &session.events, &session.undone) {
+        return Err(refused.of_step());
     }
-    Ok(Book::open(alloc, session))
+    Ok(book)
 }
 
-/// The fault that an event of this number is refused with.
-fn fault_of(step: u64, refusal: Refusal) -> LoadTraceFault
-    ensures { ((refusal ≡ Refusal.NoMemory) × (result ≡ LoadTraceFault.NoMemory))
-        ⊎ ((refusal ≢ Refusal.NoMemory) × (result ≡ LoadTraceFault.TraceStep step refusal)) }
-{
-    match refusal {
-        Refusal::NoMemory => LoadTraceFault::NoMemory,
-        cause => LoadTraceFault::TraceStep { step, cause },
+/// The world of a start.
+fn world_of<const R: usize>(alloc: Global, start: Start<R>) -> Result<World<R>, LoadTraceFault> {
+    match start {
+        Start::Fresh(actors) => match World::fresh(alloc, actors) {
+            Err(_) => Err(LoadTraceFault::NoMemory),
+            Ok(world) => Ok(world),
+        },
+        Start::Parts(parts) => match World::assemble(alloc, parts) {
+            Err(Unassembled::Flaw(flaw)) => Err(LoadTraceFault::Flawed(flaw)),
+            Err(Unassembled::NoMemory) => Err(LoadTraceFault::NoMemory),
+            Ok(world) => Ok(world),
+        },
+    }
+}
+
+/// Sets bookmarks, each at its events.
+fn set_marks<const R: usize>(
+    book: &mut Book<R>,
+    marks: &[SavedMark],
+) -> Result<(), LoadTraceFault> {
+    for i in 0..marks.len() {
+        if let Err(refused) = go_to(book, &marks[i].events) {
+            return Err(refused.of_mark(i as u64 + 1));
+        }
+        if book.mark(marks[i].name).is_err() {
+            return Err(LoadTraceFault::NoMemory);
+        }
+    }
+    Ok(())
+}
+
+/// Makes just these events live, and then undoes those behind them.
+fn make_live<const R: usize>(
+    book: &mut Book<R>,
+    events: &[Event],
+    undone: &[Event],
+) -> Result<(), RefusedEvent> {
+    go_to(book, events)?;
+    step_all(book, undone)?;
+    go_back(book, undone.len() as u64);
+    Ok(())
+}
+
+/// Makes just these events live, with nothing undone: what is live is undone as far as the two lists differ.
+fn go_to<const R: usize>(book: &mut Book<R>, events: &[Event]) -> Result<(), RefusedEvent> {
+    if events.is_empty() {
+        book.to_start();
+        return Ok(());
+    }
+    let kept = shared_beginning(book.session(), events).min(events.len() - 1);
+    go_back(book, book.session().len() - kept as u64);
+    step_all(book, &events[kept..])
+}
+
+/// How many live events of a session are those that a list begins with.
+fn shared_beginning<const R: usize>(session: &Session<R>, events: &[Event]) -> usize {
+    let live = session.live();
+    for k in 0..live.len().min(events.len()) {
+        if live.at(k).event != events[k] {
+            return k;
+        }
+    }
+    live.len().min(events.len())
+}
+
+/// Undoes so many of the live steps.
+fn go_back<const R: usize>(book: &mut Book<R>, n: u64) {
+    match book.obey(Command::Back(n)) {
+        Err(_) => unreachable!(),
+        Ok(_) => {}
+    }
+}
+
+/// Makes events happen in order.
+fn step_all<const R: usize>(book: &mut Book<R>, events: &[Event]) -> Result<(), RefusedEvent> {
+    for event in events {
+        if let Err(cause) = book.obey(Command::of_event(*event)) {
+            return Err(RefusedEvent {
+                step: book.session().len() + 1,
+                cause,
+            });
+        }
+    }
+    Ok(())
+}
+
+impl RefusedEvent {
+    /// The fault of a live event, or an undone one.
+    fn of_step(self) -> LoadTraceFault {
+        match self.cause {
+            Refusal::NoMemory => LoadTraceFault::NoMemory,
+            cause => LoadTraceFault::TraceStep {
+                step: self.step,
+                cause,
+            },
+        }
+    }
+
+    /// The fault of an event of the bookmark of this number.
+    fn of_mark(self, mark: u64) -> LoadTraceFault {
+        match self.cause {
+            Refusal::NoMemory => LoadTraceFault::NoMemory,
+            cause => LoadTraceFault::TraceMark {
+                mark,
+                step: self.step,
+                cause,
+            },
+        }
     }
 }

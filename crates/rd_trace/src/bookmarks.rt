@@ -1,0 +1,119 @@
+//! Bookmarks: an object with the name and the list of events.
+
+ghost use Rattle.std.specs.Prelude.{◌≡◌, IfOk};
+ghost use Rattle.serde_json.specs.View.{view, items_view};
+ghost use Rattle.rd_marks.specs.BookViews.{book_state};
+ghost use Rattle.rd_trace.specs.Bookmarks.{ReadsMarks, ReadsMark, marks_data, mark_data};
+
+use super::events::{events_in, events_value};
+use super::faults::FormFault;
+use super::numbers::member_count;
+use rd_cell::limits::MOST_MARKS;
+use rd_marks::{Book, MarkName};
+use rd_step::{Entry, Event};
+use serde_json::{Value, json};
+use std::alloc::{AllocError, Global};
+
+/// The members of a bookmark.
+const MEMBERS: usize = 2;
+
+const EVENTS: &str = "events";
+const NAME: &str = "name";
+
+/// A bookmark that was read.
+#[derive(Drop)]
+pub struct SavedMark {
+    /// Its name.
+    pub name: MarkName,
+    /// The events that were live when it was set.
+    pub events: Vec<Event>,
+}
+
+/// The bookmarks that the values of a list spell, in their order: at most 64, with different names.
+pub fn marks_in(alloc: Global, list: &Vec<Value>) -> Result<Vec<SavedMark>, FormFault>
+    ensures { ReadsMarks (items_view list.now.items) result }
+{
+    if list.len() > MOST_MARKS {
+        return Err(FormFault::BadForm);
+    }
+    let mut marks = Vec::with_capacity(alloc, list.len())?;
+    for value in list {
+        let mark = mark_in(alloc, value)?;
+        if is_taken(&marks, mark.name) {
+            return Err(FormFault::BadForm);
+        }
+        if marks.push(mark).is_err() {
+            return Err(FormFault::NoMemory);
+        }
+    }
+    Ok(marks)
+}
+
+/// Whether one of these bookmarks has this name.
+fn is_taken(marks: &[SavedMark], name: MarkName) -> bool {
+    marks.iter().any(|mark| mark.name == name)
+}
+
+/// The bookmark that a value spells.
+fn mark_in(alloc: Global, value: &Value) -> Result<SavedMark, FormFault>
+    ensures { ReadsMark (view value.now) result }
+{
+    let list = value.get(EVENTS).and_then(Value::as_array);
+    let (Some(name), Some(list)) = (name_in(value), list) else {
+        return Err(FormFault::BadForm);
+    };
+    Ok(SavedMark {
+        name,
+        events: events_in(alloc, list)?,
+    })
+}
+
+/// The name of the bookmark that a value spells, if it has the members of one.
+fn name_in(value: &Value) -> Option<MarkName> {
+    if member_count(value)? != MEMBERS {
+        return None;
+    }
+    match MarkName::new(value.get(NAME)?.as_str()?.as_bytes()) {
+        Err(_) => None,
+        Ok(name) => Some(name),
+    }
+}
+
+/// The values of the bookmarks of a book, in order.
+pub fn marks_value<const R: usize>(
+    alloc: Global,
+    book: &Book<R>,
+) -> Result<Vec<Value>, AllocError>
+    ensures { IfOk result (λ values. items_view values.items ≡ marks_data (book_state book.now).marks) }
+{
+    let mut values = Vec::with_capacity(alloc, book.marks() as usize)?;
+    for i in 0..book.marks() {
+        if let Ok((name, _)) = book.mark_at(i + 1) {
+            values.push(mark_value(alloc, book, i + 1, name)?)?;
+        }
+    }
+    Ok(values)
+}
+
+/// The value of the bookmark of this number and this name.
+fn mark_value<const R: usize>(
+    alloc: Global,
+    book: &Book<R>,
+    i: u64,
+    name: MarkName,
+) -> Result<Value, AllocError> {
+    let Ok(records) = book.mark_records(alloc, i) else {
+        return Err(AllocError);
+    };
+    let events = events_value(alloc, &events_of(alloc, &records)?)?;
+    json!(in alloc; {EVENTS: events, NAME: name.as_str()})
+}
+
+/// The events of records.
+fn events_of(alloc: Global, records: &[Entry]) -> Result<Vec<Event>, AllocError> {
+    let mut events = Vec::with_capacity(alloc, records.len())?;
+    for record in records {
+        events.push(record.event)?;
+    }
+    Ok(events)
+}

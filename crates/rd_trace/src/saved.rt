@@ -1,0 +1,162 @@
+//! Whole sessions: the object of version 1, which is only read, and that of version 2, which is read and written.
+
+use super::bookmarks::{SavedMark, marks_in, marks_value};
+use super::events::{events_in, events_value};
+use super::faults::FormFault;
+use super::numbers::{member_count, number_at};
+use super::rings::Ring;
+use super::starts::{Start, actors_at, start_in, start_value};
+use rd_cell::Refusal;
+use rd_journal::Session;
+use rd_marks::Book;
+use rd_step::Event;
+use serde_json::{Value, json};
+use std::alloc::{AllocError, Global};
+
+/// The members of a trace of version 1.
+const FIRST_MEMBERS: usize = 4;
+
+/// The members of a trace of version 2.
+const MEMBERS: usize = 6;
+
+/// The version that is written.
+const WRITTEN: u64 = 2;
+
+const ACTORS: &str = "actors";
+const EVENTS: &str = "events";
+const MARKS: &str = "marks";
+const RING: &str = "ring";
+const START: &str = "start";
+const UNDONE: &str = "undone";
+const VERSION: &str = "version";
+
+/// A session that was read.
+#[derive(Drop)]
+pub struct SavedSession<const R: usize> {
+    /// Where it begins.
+    pub start: Start<R>,
+    /// Its bookmarks in order.
+    pub marks: Vec<SavedMark>,
+    /// Its live events in order.
+    pub events: Vec<Event>,
+    /// Its undone events, the one undone last first.
+    pub undone: Vec<Event>,
+}
+
+/// The ring of the session that a value spells, if it is one that a trace may have.
+pub fn ring_in(value: &Value) -> Option<Ring> {
+    Ring::of_length(number_at(value, RING)?)
+}
+
+/// The session over such a ring that a value spells, of version 1 or 2.
+///
+/// # Errors
+///
+/// `BadForm` if it spells none; `NoMemory` if memory was refused.
+pub fn session_in<const R: usize>(
+    alloc: Global,
+    value: &Value,
+) -> Result<SavedSession<R>, FormFault> {
+    match (number_at(value, VERSION), member_count(value)) {
+        (Some(1), Some(FIRST_MEMBERS)) => first_session_in(alloc, value),
+        (Some(WRITTEN), Some(MEMBERS)) => second_session_in(alloc, value),
+        _ => Err(FormFault::BadForm),
+    }
+}
+
+/// The session that the members of a trace of version 1 spell: over a fresh world, with nothing undone and no bookmark.
+fn first_session_in<const R: usize>(
+    alloc: Global,
+    value: &Value,
+) -> Result<SavedSession<R>, FormFault> {
+    let Some(actors) = actors_at(value, ACTORS) else {
+        return Err(FormFault::BadForm);
+    };
+    Ok(SavedSession {
+        start: Start::Fresh(actors),
+        marks: Vec::new(alloc),
+        events: events_at(alloc, value, EVENTS)?,
+        undone: Vec::new(alloc),
+    })
+}
+
+/// The session that the members of a trace of version 2 spell.
+fn second_session_in<const R: usize>(
+    alloc: Global,
+    value: &Value,
+) -> Result<SavedSession<R>, FormFault> {
+    let parts = (value.get(START), value.get(MARKS).and_then(Value::as_array));
+    let (Some(start), Some(marks)) = parts else {
+        return Err(FormFault::BadForm);
+    };
+    Ok(SavedSession {
+        start: start_in(alloc, start)?,
+        marks: marks_in(alloc, marks)?,
+        events: events_at(alloc, value, EVENTS)?,
+        undone: events_at(alloc, value, UNDONE)?,
+    })
+}
+
+/// The events that the list at a key of an object spells.
+fn events_at(alloc: Global, value: &Value, key: &str) -> Result<Vec<Event>, FormFault> {
+    match value.get(key).and_then(Value::as_array) {
+        None => Err(FormFault::BadForm),
+        Some(list) => events_in(alloc, list),
+    }
+}
+
+/// The value of a book's session and bookmarks, of version 2.
+pub fn book_value<const R: usize>(alloc: Global, book: &Book<R>) -> Result<Value, AllocError> {
+    let session = book.session();
+    let events = events_value(alloc, &live_events(alloc, session)?)?;
+    let marks = marks_value(alloc, book)?;
+    let start = start_of(alloc, session)?;
+    let undone = events_value(alloc, &undone_events(alloc, session)?)?;
+    json!(in alloc; {
+        EVENTS: events,
+        MARKS: marks,
+        RING: R as u64,
+        START: start,
+        UNDONE: undone,
+        VERSION: WRITTEN
+    })
+}
+
+/// The value of the start of a session.
+fn start_of<const R: usize>(alloc: Global, session: &Session<R>) -> Result<Value, AllocError> {
+    let Ok(world) = session.start_world(alloc) else {
+        return Err(AllocError);
+    };
+    let Ok(parts) = world.parts(alloc) else {
+        return Err(AllocError);
+    };
+    start_value(alloc, &parts)
+}
+
+/// The live events of a session.
+fn live_events<const R: usize>(
+    alloc: Global,
+    session: &Session<R>,
+) -> Result<Vec<Event>, AllocError> {
+    let mut events = Vec::with_capacity(alloc, session.len() as usize)?;
+    for done in 0..session.len() {
+        if let Ok(entry) = session.entry(done + 1) {
+            events.push(entry.event)?;
+        }
+    }
+    Ok(events)
+}
+
+/// The undone events of a session, the one undone last first.
+fn undone_events<const R: usize>(
+    alloc: Global,
+    session: &Session<R>,
+) -> Result<Vec<Event>, AllocError> {
+    let mut events = Vec::with_capacity(alloc, session.undone_len() as usize)?;
+    for done in 0..session.undone_len() {
+        if let Some(event) = session.undone_event(done + 1) {
+            events.push(event)?;
+        }
+    }
+    Ok(events)
+}

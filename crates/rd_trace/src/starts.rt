@@ -1,0 +1,223 @@
+//! The start of a session: the fresh world of so many actors, or the parts of any other world.
+
+ghost use Rattle.std.specs.Prelude.{◌≡◌, ◌≤◌, IfOk, IfSome, IfNone};
+ghost use Rattle.serde_json.specs.View.{view};
+ghost use Rattle.rd_step.specs.Prelude.{MOST_CELLS};
+ghost use Rattle.rd_step.specs.Parts.{world_of_parts};
+ghost use Rattle.rd_trace.specs.Starts.{IsStart, start_data, is_fresh, ReadsStart};
+
+use super::actors::{actors_in, actors_value};
+use super::arrays::{array_in, array_value};
+use super::faults::FormFault;
+use super::names::{name_in, name_value};
+use super::numbers::{member_count, number_at};
+use super::segments::{makers_in, makers_value};
+use rd_actor::Actor;
+use rd_cell::limits::MOST_ACTORS;
+use rd_cell::{ArrSlot, Cell, SegName};
+use rd_step::{ArrayParts, Parts, SegmentParts};
+use serde_json::{Value, json};
+use std::alloc::{AllocError, Global};
+
+/// The members of the parts of a world.
+const MEMBERS: usize = 5;
+
+const ACTORS: &str = "actors";
+const ARRAY: &str = "array";
+const FRESH: &str = "fresh";
+const QHEAD: &str = "qhead";
+const QTAIL: &str = "qtail";
+const SEGMENTS: &str = "segments";
+
+/// Where a session begins.
+#[derive(Drop)]
+pub enum Start<const R: usize> {
+    /// In the fresh world of so many actors, 1 to 16.
+    Fresh(u8),
+    /// In the world of these parts, of which nothing is known yet.
+    Parts(Parts<R>),
+}
+
+/// The start that a value spells.
+///
+/// # Errors
+///
+/// `BadForm` if it spells none; `NoMemory` if memory was refused.
+pub fn start_in<const R: usize>(alloc: Global, value: &Value) -> Result<Start<R>, FormFault>
+    requires { R ≤ MOST_CELLS }
+    ensures { ReadsStart (view value.now) result }
+{
+    if value.get(FRESH).is_some() {
+        return match fresh_in(value) {
+            None => Err(FormFault::BadForm),
+            Some(actors) => Ok(Start::Fresh(actors)),
+        };
+    }
+    Ok(Start::Parts(parts_in(alloc, value)?))
+}
+
+/// The number of actors of the fresh world that a value spells.
+pub fn fresh_in(value: &Value) -> Option<u8>
+    ensures some { IfSome result (IsFreshStart (view value.now)) }
+    ensures none { IfNone result ((actors : ℕ) → IsFreshStart (view value.now) actors → ⊥) }
+{
+    if member_count(value)? != 1 {
+        return None;
+    }
+    actors_at(value, FRESH)
+}
+
+/// The number of actors at a key of an object: 1 to 16.
+pub fn actors_at(value: &Value, key: &str) -> Option<u8>
+    ensures { result ≡ actors_at key.now (view value.now) }
+{
+    let actors = number_at(value, key)?;
+    if actors < 1 || actors > MOST_ACTORS as u64 {
+        return None;
+    }
+    Some(actors as u8)
+}
+
+/// The parts that a value spells.
+fn parts_in<const R: usize>(alloc: Global, value: &Value) -> Result<Parts<R>, FormFault>
+    requires { R ≤ MOST_CELLS }
+    ensures { ReadsParts (view value.now) result }
+{
+    if member_count(value) != Some(MEMBERS) {
+        return Err(FormFault::BadForm);
+    }
+    let ends = (name_at(value, QHEAD), name_at(value, QTAIL));
+    let (Some(qhead), Some(qtail)) = ends else {
+        return Err(FormFault::BadForm);
+    };
+    let Some(array) = value.get(ARRAY).and_then(array_in) else {
+        return Err(FormFault::BadForm);
+    };
+    let lists = (list_at(value, ACTORS), list_at(value, SEGMENTS));
+    let (Some(actors), Some(segments)) = lists else {
+        return Err(FormFault::BadForm);
+    };
+    Ok(Parts {
+        actors: actors_in(alloc, actors)?,
+        segments: makers_in(alloc, segments)?,
+        qhead,
+        qtail,
+        array,
+    })
+}
+
+/// The name at a key of an object.
+fn name_at(value: &Value, key: &str) -> Option<SegName>
+    ensures { result ≡ name_at key.now (view value.now) }
+{
+    name_in(value.get(key)?)
+}
+
+/// The list at a key of an object.
+fn list_at<'a>(value: &'a Value, key: &str) -> Option<&'a Vec<Value>>
+    ensures { option_map (λ list. items_view list.now.items) result ≡ list_at key.now (view value.now) }
+{
+    value.get(key).and_then(Value::as_array)
+}
+
+/// The value of a start of these parts: as the fresh world if they are its.
+pub fn start_value<const R: usize>(alloc: Global, parts: &Parts<R>) -> Result<Value, AllocError>
+    requires { R ≤ MOST_CELLS }
+    ensures { IfOk result (λ value. view value ≡ start_data parts.now) }
+{
+    if is_fresh(parts) {
+        return json!(in alloc; {FRESH: parts.actors.len() as u64});
+    }
+    parts_value(alloc, parts)
+}
+
+/// The value of parts.
+fn parts_value<const R: usize>(alloc: Global, parts: &Parts<R>) -> Result<Value, AllocError>
+    ensures { IfOk result (λ value. view value ≡ parts_data parts.now) }
+{
+    let actors = actors_value(alloc, &parts.actors)?;
+    let array = array_value(alloc, &parts.array)?;
+    let qhead = name_value(alloc, parts.qhead)?;
+    let qtail = name_value(alloc, parts.qtail)?;
+    let segments = makers_value(alloc, &parts.segments)?;
+    json!(in alloc; {
+        ACTORS: actors,
+        ARRAY: array,
+        QHEAD: qhead,
+        QTAIL: qtail,
+        SEGMENTS: segments
+    })
+}
+
+/// Whether parts are those of a fresh world.
+fn is_fresh<const R: usize>(parts: &Parts<R>) -> bool
+    requires { R ≤ MOST_CELLS }
+    ensures { result ≡ is_fresh parts.now }
+{
+    parts.qhead == SegName::ROOT
+        && parts.qtail == SegName::ROOT
+        && parts.actors.iter().all(|actor| *actor == Actor::idle())
+        && is_fresh_array(&parts.array)
+        && are_fresh_makers(&parts.segments)
+}
+
+/// Whether nothing was done to the array.
+fn is_fresh_array(array: &ArrayParts) -> bool
+    ensures { result ≡ is_fresh_array array.now }
+{
+    array.head == 0
+        && array.tail == 0
+        && array.cells[..].iter().all(|slot| *slot == ArrSlot::Empty)
+}
+
+/// Whether the root is fresh and the only segment.
+fn are_fresh_makers<const R: usize>(makers: &[Vec<SegmentParts<R>>]) -> bool
+    requires { R ≤ MOST_CELLS }
+    ensures { result ≡ are_fresh_makers makers.now }
+{
+    match makers {
+        [] => false,
+        [root, others @ ..] =>
+            is_fresh_root(root) && others.iter().all(|segments| segments.is_empty()),
+    }
+}
+
+/// Whether there is one segment, and it is fresh.
+fn is_fresh_root<const R: usize>(segments: &[SegmentParts<R>]) -> bool
+    requires { R ≤ MOST_CELLS }
+    ensures { result ≡ is_fresh_root segments.now }
+{
+    match segments {
+        [root] => is_fresh_segment(root),
+        _ => false,
+    }
+}
+
+/// Whether nothing was done to a segment.
+fn is_fresh_segment<const R: usize>(segment: &SegmentParts<R>) -> bool
+    requires { R ≤ MOST_CELLS }
+    ensures { result ≡ is_fresh_segment segment.now }
+{
+    segment.head == 0
+        && segment.tail == 0
+        && !segment.closed
+        && segment.next.is_none()
+        && are_fresh_cells(&segment.cells)
+}
+
+/// Whether nothing was done to the cells of a ring.
+fn are_fresh_cells(cells: &[Cell]) -> bool
+    ensures { result ≡ are_fresh_cells 0 cells.now }
+{
+    for i in 0..cells.len() {
+        let fresh = Cell {
+            safe: true,
+            idx: i as u64,
+            val: None,
+        };
+        if cells[i] != fresh {
+            return false;
+        }
+    }
+    true
+}
