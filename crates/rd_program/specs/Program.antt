@@ -1,6 +1,6 @@
 -- What the program does: a script's run over a fresh world, with the trace of it behind the report if one is asked for, and a
 -- script's run over the run of a trace.
-use Rattle.std.specs.Prelude.{◌≡◌, ◌⊎◌, ℕ, Bool, true, false, List, [], Option, Result, Ok, Err}
+use Rattle.std.specs.Prelude.{◌≡◌, ◌⊎◌, ℕ, Bool, true, false, List, [], ◌++◌, Option, Some, None, Result, Ok, Err}
 use Rattle.std.specs.Io.KnownBytes.{Keeps, Appends}
 use Rattle.rd_step.specs.Starts.{fresh_world}
 use Rattle.rd_marks.specs.Books.{BookState}
@@ -12,9 +12,10 @@ use Rattle.rd_trace.specs.declared.faults.LoadTraceFault.{LoadTraceFault}
 use Rattle.rd_trace.specs.declared.faults.LoadTraceFault.TheVariants as load
 use Rattle.rd_trace.specs.declared.faults.WriteTraceFault.{WriteTraceFault}
 use Rattle.rd_trace.specs.declared.faults.WriteTraceFault.TheVariants as write
-use Rattle.rd_trace.specs.Traces.{Trace, trace_of_state, loaded_state, GoesThrough, IsRefusedAt}
-use Rattle.rd_trace.specs.Form.{IsTraceText}
-use Rattle.rd_trace.specs.Text.{trace_text}
+use Rattle.rd_trace.specs.Saved.{Trace, IsTraceText, IsTextOf}
+use Rattle.rd_trace.specs.Starts.{start_world, start_flaw}
+use Rattle.rd_trace.specs.Traces.{IsRefusedAt, IsMarkRefusedAt}
+use Rattle.rd_trace.specs.Loading.{loaded_state, HasMarks, IsPlayable}
 use Rattle.rd_program.specs.declared.faults.ProgramFault.{ProgramFault}
 use Rattle.rd_program.specs.declared.faults.ProgramFault.TheVariants.{NoMemory, Read, Write, BadTrace, Flawed, TraceMark, TraceStep}
 
@@ -77,7 +78,10 @@ pub record RanToTrace (R actors : ℕ) (traced : Bool) (d : Devices) (n : ℕ) (
   -- what the writer had when the report was whole
   pub reported : Option (List ℕ)
   pub ran : RanToEnd R (first_state R actors) after (record d { out_after = reported; out_failed = false }) n
-  pub trace : WritesIf traced (trace_text (trace_of_state R actors after)) reported d.out_after d.out_failed written
+  -- the text that its book is written as
+  pub text : List ℕ
+  pub is_text : (traced ≡ true) → IsTextOf R after text
+  pub trace : WritesIf traced text reported d.out_after d.out_failed written
 
 -- what `run` did: the trace follows the report of a run that came to its end, if it was asked for
 abbrev pub PlaysScript : ℕ → ℕ → Bool → Devices → Result ℕ ProgramFault → Type 0
@@ -89,10 +93,11 @@ PlaysScript R actors traced d (Err _) = ⊥
 
 -- the text is a trace all of whose events go through, and a script ran over the book that it is loaded as
 pub record RunsOverTrace (text : List ℕ) (d : Devices) (result : Result ℕ ProgramFault) : Type 0 where
-  pub trace : Trace
+  pub ring : ℕ
+  pub trace : Trace ring
   pub is_text : IsTraceText text trace
-  pub through : GoesThrough trace trace.events
-  pub runs : RunsOver trace.ring (loaded_state trace) d result
+  pub playable : IsPlayable trace
+  pub runs : RunsOver ring (loaded_state trace) d result
 
 -- what `load` did with the text of a file: neither device is touched unless the text is a trace all of whose events go through
 abbrev pub ResumesTrace : List ℕ → Devices → Result ℕ ProgramFault → Type 0
@@ -100,6 +105,12 @@ ResumesTrace text d (Ok n) = RunsOverTrace text d (Ok n)
 ResumesTrace text d (Err Read) = RunsOverTrace text d (Err Read)
 ResumesTrace text d (Err Write) = RunsOverTrace text d (Err Write)
 ResumesTrace text d (Err NoMemory) = TouchesNothing d
-ResumesTrace text d (Err BadTrace) = TouchesNothing d × ((t : Trace) → IsTraceText text t → ⊥)
-ResumesTrace text d (Err (TraceStep step cause)) = TouchesNothing d × ((t : Trace) × IsTraceText text t × IsRefusedAt t step cause)
+ResumesTrace text d (Err BadTrace) = TouchesNothing d × ((R : ℕ) (t : Trace R) → IsTraceText text t → ⊥)
+ResumesTrace text d (Err (Flawed flaw)) = TouchesNothing d × ((R : ℕ) × (t : Trace R) × IsTraceText text t × (start_flaw t.start ≡ Some flaw))
+ResumesTrace text d (Err (TraceMark mark step cause)) =
+    TouchesNothing d
+    × ((R : ℕ) × (t : Trace R) × IsTraceText text t × (start_flaw t.start ≡ None) × IsMarkRefusedAt R (start_world t.start) t.marks mark step cause)
+ResumesTrace text d (Err (TraceStep step cause)) =
+    TouchesNothing d
+    × ((R : ℕ) × (t : Trace R) × IsTraceText text t × HasMarks t × IsRefusedAt R (start_world t.start) (t.live ++ t.undone) step cause)
 ResumesTrace text d (Err _) = ⊥

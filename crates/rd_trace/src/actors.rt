@@ -1,17 +1,18 @@
 //! Actors: an object with a member for each word of an actor's record.
 
-ghost use Rattle.std.specs.Prelude.{◌≡◌, IfOk, IfSome, IfNone};
+ghost use Rattle.std.specs.Prelude.{◌≡◌, Some, IfOk, IfSome, IfNone};
+ghost use Rattle.serde_json.specs.Data.{string};
+ghost use Rattle.serde_json.specs.Find.{as_str};
 ghost use Rattle.serde_json.specs.View.{view, items_view};
 ghost use Rattle.rd_actor.specs.declared.actors.Actor.{Actor};
 ghost use Rattle.rd_actor.specs.declared.actors.Pc.{Pc};
 ghost use Rattle.rd_script.specs.Actors.{label};
-ghost use Rattle.rd_trace.specs.Actors.{op_of, op_data, value_of, value_data, IsActor, actor_data, actors_data, ReadsActors};
+ghost use Rattle.rd_trace.specs.Actors.{op_of, short_op, long_op, op_data, value_of, IsActor, actor_data, actors_data, ReadsActors};
 
 use super::faults::FormFault;
 use super::names::{name_in, name_value};
 use super::numbers::{bit_at, byte_in, member_count, number_at};
 use rd_actor::{Actor, Op, Pc};
-use rd_cell::SegName;
 use rd_script::label_of;
 use serde_json::{Value, json};
 use std::alloc::{AllocError, Global};

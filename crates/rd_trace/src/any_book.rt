@@ -1,12 +1,11 @@
 //! A book whose ring is known when the program runs, and what the program does with one.
 
-ghost use Rattle.std.specs.Prelude.{◌≡◌, ◌≤◌, ℕ, [], false, IfOk, OnOk};
-ghost use Rattle.rd_step.specs.Prelude.{MOST_ACTORS};
-ghost use Rattle.rd_step.specs.Starts.{fresh_world};
+ghost use Rattle.std.specs.Prelude.{◌≡◌, ◌≤◌, false, IfOk, OnOk};
+ghost use Rattle.rd_step.specs.Prelude.{MOST_ACTORS, MOST_CELLS};
 ghost use Rattle.rd_script.specs.Script.{RunsScript};
-ghost use Rattle.rd_trace.specs.Traces.{HasActors, ring_length, trace_of_state};
-ghost use Rattle.rd_trace.specs.Text.{trace_text};
-ghost use Rattle.rd_trace.specs.Loading.{any_ring, any_state, IsBookOf, IsLoadable, Replays};
+ghost use Rattle.rd_marks.specs.BookViews.{book_state};
+ghost use Rattle.rd_trace.specs.Traces.{ring_length};
+ghost use Rattle.rd_trace.specs.Loading.{any_ring, any_state, fresh_state, IsBookIn, IsLoadable};
 ghost use Rattle.rd_trace.specs.Writing.{WritesTrace, is_write_fault};
 ghost use Rattle.rd_trace.specs.Devices.{devices};
 
@@ -35,6 +34,7 @@ impl AnyBook {
     pub fn fresh(alloc: Global, ring: Ring, actors: u8) -> Result<AnyBook, AllocError>
         requires some { 1 ≤ actors }
         requires few { actors ≤ MOST_ACTORS }
+        ensures { IfOk result (IsBookIn (ring_length ring) (fresh_state (ring_length ring) actors)) }
     {
         match ring {
             Ring::Two => Ok(AnyBook::Two(fresh_book(alloc, actors)?)),
@@ -67,19 +67,15 @@ impl AnyBook {
         }
     }
 
-    /// Writes the live events of the book as a trace, as `write_trace` does.
+    /// Writes the book as a trace, as `write_trace` does.
     ///
     /// # Errors
     ///
     /// `NoMemory` if memory was refused: nothing was written. `Write` if the sink failed: it took a beginning of the text.
     pub fn write_trace<K: Sink>(&self, alloc: Global, writer: &mut K) -> Result<(), WriteTraceFault>
         requires { K.has_failed writer.old ≡ false }
-        ensures writes { (actors : ℕ) → HasActors (any_state self.now).session.start actors
-            → WritesTrace (trace_text (trace_of_state (any_ring self.now) actors (any_state self.now))) (K.contents writer.old) (K.contents writer.new) result }
-        ensures fresh { (actors : ℕ) → (any_state self.now).session.start ≡ fresh_world (any_ring self.now) actors
-            → WritesTrace (trace_text (trace_of_state (any_ring self.now) actors (any_state self.now))) (K.contents writer.old) (K.contents writer.new) result }
-        ensures loadable { (actors : ℕ) → (any_state self.now).session.start ≡ fresh_world (any_ring self.now) actors → 1 ≤ actors → actors ≤ MOST_ACTORS
-            → OnOk result (IsLoadable (trace_of_state (any_ring self.now) actors (any_state self.now))) }
+        ensures writes { WritesTrace (any_ring self.now) (any_state self.now) (K.contents writer.old) (K.contents writer.new) result }
+        ensures loadable { OnOk result (IsLoadable (any_ring self.now) (any_state self.now)) }
         ensures failed { K.has_failed writer.new ≡ is_write_fault result }
     {
         match self {
@@ -96,6 +92,7 @@ fn fresh_book<const R: usize>(alloc: Global, actors: u8) -> Result<Book<R>, Allo
     requires few { actors ≤ MOST_ACTORS }
     requires positive { 1 ≤ R }
     requires small { R ≤ MOST_CELLS }
+    ensures { IfOk result (λ book. book_state book ≡ fresh_state R actors) }
 {
     let Ok(world) = World::fresh(alloc, actors) else {
         return Err(AllocError);

@@ -1,9 +1,11 @@
 //! The array: an object with its counters and those of its slots that aren't empty, each with its position.
 
-ghost use Rattle.std.specs.Prelude.{◌≡◌, IfOk, IfSome, IfNone};
+ghost use Rattle.std.specs.Prelude.{◌≡◌, List, Some, IfOk, IfSome, IfNone, length};
 ghost use Rattle.serde_json.specs.View.{view, items_view};
+ghost use Rattle.rd_step.specs.Prelude.{SLOTS};
+ghost use Rattle.rd_cell.specs.declared.contents.ArrSlot.{ArrSlot};
 ghost use Rattle.rd_segments.specs.declared.array.ArrayParts.{ArrayParts};
-ghost use Rattle.rd_trace.specs.Arrays.{slot_of, slots_data, IsArray, array_data, ReadsSlots};
+ghost use Rattle.rd_trace.specs.Arrays.{slot_content, slot_of, slots_of, slots_data, filled_slots, IsArray, array_data};
 
 use super::numbers::{member_count, number_at};
 use rd_cell::ArrSlot;
@@ -44,9 +46,9 @@ pub fn array_value(alloc: Global, array: &ArrayParts) -> Result<Value, AllocErro
 
 /// All slots, of which the values of a list spell those that aren't empty, their positions rising.
 fn slots_in(list: &Vec<Value>) -> Option<[ArrSlot; SLOTS]>
-    ensures some { IfSome result (λ slots. items_view list.now.items ≡ slots_data 0 slots) }
+    ensures some { IfSome result (λ slots. slots_of (items_view list.now.items) ≡ Some (filled_slots 0 slots)) }
     ensures length { IfSome result (λ slots. length slots ≡ SLOTS) }
-    ensures none { IfNone result ((slots : List ArrSlot) → length slots ≡ SLOTS → items_view list.now.items ≡ slots_data 0 slots → ⊥) }
+    ensures none { IfNone result ((slots : List ArrSlot) → length slots ≡ SLOTS → slots_of (items_view list.now.items) ≡ Some (filled_slots 0 slots) → ⊥) }
 {
     let mut slots = [ArrSlot::Empty; SLOTS];
     let mut free = 0;
@@ -63,7 +65,7 @@ fn slots_in(list: &Vec<Value>) -> Option<[ArrSlot; SLOTS]>
 
 /// The values of the slots that aren't empty, with their positions.
 fn slots_value(alloc: Global, slots: &[ArrSlot]) -> Result<Vec<Value>, AllocError>
-    ensures { IfOk result (λ values. items_view values.items ≡ slots_data 0 slots.now) }
+    ensures { IfOk result (λ values. items_view values.items ≡ slots_data (filled_slots 0 slots.now)) }
 {
     let mut values = Vec::new(alloc);
     for position in 0..slots.len() {
@@ -92,7 +94,7 @@ fn slot_in(value: &Value) -> Option<(usize, ArrSlot)>
 
 /// What a value says of a slot that isn't empty.
 fn content_in(value: &Value) -> Option<ArrSlot>
-    ensures { result ≡ content_of (view value.now) }
+    ensures { result ≡ slot_content (view value.now) }
 {
     if let Some(word) = value.as_str() {
         if word == TOP {

@@ -1,9 +1,17 @@
 //! Bookmarks: an object with the name and the list of events.
 
-ghost use Rattle.std.specs.Prelude.{◌≡◌, IfOk};
+ghost use Rattle.std.specs.Prelude.{◌≡◌, List, Some, IfOk, IfSome, IfNone, not, option_map, map};
+ghost use Rattle.std.specs.List.{list_all};
+ghost use Rattle.serde_json.specs.Data.{array};
 ghost use Rattle.serde_json.specs.View.{view, items_view};
 ghost use Rattle.rd_marks.specs.BookViews.{book_state};
-ghost use Rattle.rd_trace.specs.Bookmarks.{ReadsMarks, ReadsMark, marks_data, mark_data};
+ghost use Rattle.rd_marks.specs.Books.{mark_events, name_and_length};
+ghost use Rattle.rd_marks.specs.Names.{bytes_of, same_name};
+ghost use Rattle.rd_step.specs.Run.{events};
+ghost use Rattle.rd_marks.specs.declared.names.MarkName.{MarkName};
+ghost use Rattle.rd_trace.specs.Numbers.{member_count, text_at};
+ghost use Rattle.rd_trace.specs.Events.{events_data};
+ghost use Rattle.rd_trace.specs.Bookmarks.{ReadsMarks, ReadsMark, saved_mark, HasMarkName, marks_data, mark_data};
 
 use super::events::{events_in, events_value};
 use super::faults::FormFault;
@@ -50,7 +58,9 @@ pub fn marks_in(alloc: Global, list: &Vec<Value>) -> Result<Vec<SavedMark>, Form
 }
 
 /// Whether one of these bookmarks has this name.
-fn is_taken(marks: &[SavedMark], name: MarkName) -> bool {
+fn is_taken(marks: &[SavedMark], name: MarkName) -> bool
+    ensures { not result ≡ list_all (λ mark. not (same_name mark.name name)) marks.now }
+{
     marks.iter().any(|mark| mark.name == name)
 }
 
@@ -69,7 +79,10 @@ fn mark_in(alloc: Global, value: &Value) -> Result<SavedMark, FormFault>
 }
 
 /// The name of the bookmark that a value spells, if it has the members of one.
-fn name_in(value: &Value) -> Option<MarkName> {
+fn name_in(value: &Value) -> Option<MarkName>
+    ensures some { IfSome result (HasMarkName (view value.now)) }
+    ensures none { IfNone result ((name : MarkName) → HasMarkName (view value.now) name → ⊥) }
+{
     if member_count(value)? != MEMBERS {
         return None;
     }
@@ -101,7 +114,9 @@ fn mark_value<const R: usize>(
     book: &Book<R>,
     i: u64,
     name: MarkName,
-) -> Result<Value, AllocError> {
+) -> Result<Value, AllocError>
+    ensures { IfOk result (λ value. IfSome (mark_events (book_state book.now) i) (λ es. view value ≡ mark_data (record { name = name; events = es }))) }
+{
     let Ok(records) = book.mark_records(alloc, i) else {
         return Err(AllocError);
     };
@@ -110,7 +125,9 @@ fn mark_value<const R: usize>(
 }
 
 /// The events of records.
-fn events_of(alloc: Global, records: &[Entry]) -> Result<Vec<Event>, AllocError> {
+fn events_of(alloc: Global, records: &[Entry]) -> Result<Vec<Event>, AllocError>
+    ensures { IfOk result (λ list. list.items ≡ events records.now) }
+{
     let mut events = Vec::with_capacity(alloc, records.len())?;
     for record in records {
         events.push(record.event)?;

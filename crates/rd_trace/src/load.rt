@@ -1,5 +1,13 @@
 //! Loading a trace: a text is read whole, its value is dropped, and then the session that it spells is made to happen.
 
+ghost use Rattle.std.specs.Prelude.{◌≡◌, ◌≤◌, ℕ, Some, codes};
+ghost use Rattle.serde_json.specs.View.{view};
+ghost use Rattle.rd_step.specs.Prelude.{MOST_CELLS};
+ghost use Rattle.rd_marks.specs.Books.{BookState};
+ghost use Rattle.rd_trace.specs.Numbers.{number_at};
+ghost use Rattle.rd_trace.specs.Saved.{IsTextOf, ReadsText};
+ghost use Rattle.rd_trace.specs.Loading.{LoadsTrace, LoadsAgain, LoadsValue, IsLoadable};
+
 use super::any_book::AnyBook;
 use super::faults::{FormFault, LoadTraceFault};
 use super::replay::replay;
@@ -18,7 +26,10 @@ use std::alloc::Global;
 /// fails; `TraceMark` if an event of a bookmark is refused, with the numbers of the first bookmark and of its first such event;
 /// `TraceStep` if a live event or an undone one is refused, with its number, the undone ones being counted on. The cause is `TooLong` at
 /// the event behind the `MOST_STEPS`-th of a list. `NoMemory` if memory was refused, at any point.
-pub fn load_trace(alloc: Global, text: &[u8]) -> Result<AnyBook, LoadTraceFault> {
+pub fn load_trace(alloc: Global, text: &[u8]) -> Result<AnyBook, LoadTraceFault>
+    ensures loads { LoadsTrace text.now result }
+    ensures again { (R : ℕ) (b : BookState) → IsLoadable R b → IsTextOf R b text.now → LoadsAgain R b result }
+{
     let value = value_of(alloc, text)?;
     match ring_in(&value) {
         None => Err(LoadTraceFault::BadTrace),
@@ -33,7 +44,9 @@ pub fn load_trace(alloc: Global, text: &[u8]) -> Result<AnyBook, LoadTraceFault>
 /// # Errors
 ///
 /// `BadForm` if the text is no JSON; `NoMemory` if memory was refused.
-fn value_of(alloc: Global, text: &[u8]) -> Result<Value, FormFault> {
+fn value_of(alloc: Global, text: &[u8]) -> Result<Value, FormFault>
+    ensures { ReadsText text.now result }
+{
     match Value::from_slice(alloc, text) {
         Ok(value) => Ok(value),
         Err(error) => Err(if error.is_memory() {
@@ -49,7 +62,12 @@ fn value_of(alloc: Global, text: &[u8]) -> Result<Value, FormFault> {
 /// # Errors
 ///
 /// As `load_trace`.
-fn book_of<const R: usize>(alloc: Global, value: Value) -> Result<Book<R>, LoadTraceFault> {
+fn book_of<const R: usize>(alloc: Global, value: Value) -> Result<Book<R>, LoadTraceFault>
+    requires positive { 1 ≤ R }
+    requires small { R ≤ MOST_CELLS }
+    requires ring { number_at (codes "ring") (view value.entry) ≡ Some R }
+    ensures { LoadsValue (view value.entry) result }
+{
     let session: SavedSession<R> = session_in(alloc, &value)?;
     drop(value);
     replay(alloc, session)

@@ -1,8 +1,7 @@
 //! Names of segments: `[M,S]`, and `null` where a next names none.
 
-ghost use Rattle.std.specs.Prelude.{◌≡◌, IfOk, IfSome, IfNone};
+ghost use Rattle.std.specs.Prelude.{◌≡◌, IfOk};
 ghost use Rattle.serde_json.specs.View.{view};
-ghost use Rattle.rd_cell.specs.declared.places.SegName.{SegName};
 ghost use Rattle.rd_trace.specs.Names.{name_of, next_of, name_data, next_data};
 
 use super::numbers::{byte_in, word_in};

@@ -1,16 +1,14 @@
 //! Whole numbers, bits and texts in values of serde_json, and members of objects.
 
-ghost use Rattle.std.specs.Prelude.{◌≡◌, option_map, option_and_then};
-ghost use Rattle.serde_json.specs.Events.{members_len};
-ghost use Rattle.serde_json.specs.Find.{get, as_bool, as_str, as_object};
+ghost use Rattle.std.specs.Prelude.{◌≡◌};
 ghost use Rattle.serde_json.specs.View.{view};
-ghost use Rattle.rd_trace.specs.Numbers.{whole_number, number_at, bit_at, text_at, byte_number, word_number};
+ghost use Rattle.rd_trace.specs.Numbers.{member_count, number_at, bit_at, byte_number, word_number};
 
 use serde_json::Value;
 
 /// The number of members of an object.
 pub fn member_count(value: &Value) -> Option<usize>
-    ensures { result ≡ option_map members_len (as_object (view value.now)) }
+    ensures { result ≡ member_count (view value.now) }
 {
     Some(value.as_object()?.len())
 }

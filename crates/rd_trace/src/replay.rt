@@ -1,5 +1,17 @@
 //! A session that was read, made to happen: its bookmarks one after another, then its live events, then its undone ones.
 
+ghost use Rattle.std.specs.Prelude.{◌≡◌, ◌≤◌, [], map, length, take, Ok};
+ghost use Rattle.rd_step.specs.Prelude.{MOST_CELLS};
+ghost use Rattle.rd_journal.specs.State.{back};
+ghost use Rattle.rd_journal.specs.Sessions.{state};
+ghost use Rattle.rd_marks.specs.BookViews.{book_state};
+ghost use Rattle.rd_marks.specs.NameBytes.{MOST_MARKS};
+ghost use Rattle.rd_trace.specs.Starts.{HasActorCount};
+ghost use Rattle.rd_trace.specs.Bookmarks.{saved_mark, HaveNames};
+ghost use Rattle.rd_trace.specs.Saved.{saved_trace};
+ghost use Rattle.rd_trace.specs.Loading.{loaded_state, Replays};
+ghost use Rattle.rd_trace.specs.Steps.{MakesWorld, StepsAll, GoesTo, MakesLive, SetsMarks, IsFaultOfStep, IsFaultOfMark};
+
 use super::bookmarks::SavedMark;
 use super::faults::LoadTraceFault;
 use super::saved::SavedSession;
@@ -28,7 +40,14 @@ struct RefusedEvent {
 pub fn replay<const R: usize>(
     alloc: Global,
     session: SavedSession<R>,
-) -> Result<Book<R>, LoadTraceFault> {
+) -> Result<Book<R>, LoadTraceFault>
+    requires positive { 1 ≤ R }
+    requires small { R ≤ MOST_CELLS }
+    requires counted { HasActorCount session.entry.start }
+    requires names { HaveNames (map saved_mark session.entry.marks.items) }
+    requires few { length session.entry.marks.items ≤ MOST_MARKS }
+    ensures { Replays (λ book. book_state book ≡ loaded_state (saved_trace session.entry)) (saved_trace session.entry) result }
+{
     let world = world_of(alloc, session.start)?;
     let mut book = Book::open(alloc, Session::open(alloc, world));
     set_marks(&mut book, &session.marks)?;
@@ -39,7 +58,12 @@ pub fn replay<const R: usize>(
 }
 
 /// The world of a start.
-fn world_of<const R: usize>(alloc: Global, start: Start<R>) -> Result<World<R>, LoadTraceFault> {
+fn world_of<const R: usize>(alloc: Global, start: Start<R>) -> Result<World<R>, LoadTraceFault>
+    requires positive { 1 ≤ R }
+    requires small { R ≤ MOST_CELLS }
+    requires counted { HasActorCount start.entry }
+    ensures { MakesWorld start.entry result }
+{
     match start {
         Start::Fresh(actors) => match World::fresh(alloc, actors) {
             Err(_) => Err(LoadTraceFault::NoMemory),
@@ -57,7 +81,12 @@ fn world_of<const R: usize>(alloc: Global, start: Start<R>) -> Result<World<R>, 
 fn set_marks<const R: usize>(
     book: &mut Book<R>,
     marks: &[SavedMark],
-) -> Result<(), LoadTraceFault> {
+) -> Result<(), LoadTraceFault>
+    requires names { HaveNames (map saved_mark marks.now) }
+    requires few { length marks.now ≤ MOST_MARKS }
+    requires none { (book_state book.old).marks ≡ [] }
+    ensures { SetsMarks R (book_state book.old) (map saved_mark marks.now) (book_state book.new) result }
+{
     for i in 0..marks.len() {
         if let Err(refused) = go_to(book, &marks[i].events) {
             return Err(refused.of_mark(i as u64 + 1));
@@ -74,7 +103,9 @@ fn make_live<const R: usize>(
     book: &mut Book<R>,
     events: &[Event],
     undone: &[Event],
-) -> Result<(), RefusedEvent> {
+) -> Result<(), RefusedEvent>
+    ensures { MakesLive R (book_state book.old) events.now undone.now (book_state book.new) result }
+{
     go_to(book, events)?;
     step_all(book, undone)?;
     go_back(book, undone.len() as u64);
@@ -82,7 +113,9 @@ fn make_live<const R: usize>(
 }
 
 /// Makes just these events live, with nothing undone: what is live is undone as far as the two lists differ.
-fn go_to<const R: usize>(book: &mut Book<R>, events: &[Event]) -> Result<(), RefusedEvent> {
+fn go_to<const R: usize>(book: &mut Book<R>, events: &[Event]) -> Result<(), RefusedEvent>
+    ensures { GoesTo R (book_state book.old) events.now (book_state book.new) result }
+{
     if events.is_empty() {
         book.to_start();
         return Ok(());
@@ -93,7 +126,11 @@ fn go_to<const R: usize>(book: &mut Book<R>, events: &[Event]) -> Result<(), Ref
 }
 
 /// How many live events of a session are those that a list begins with.
-fn shared_beginning<const R: usize>(session: &Session<R>, events: &[Event]) -> usize {
+fn shared_beginning<const R: usize>(session: &Session<R>, events: &[Event]) -> usize
+    ensures live { result ≤ length (state session.now).live }
+    ensures within { result ≤ length events.now }
+    ensures same { take result (state session.now).live ≡ take result events.now }
+{
     let live = session.live();
     for k in 0..live.len().min(events.len()) {
         if live.at(k).event != events[k] {
@@ -104,7 +141,11 @@ fn shared_beginning<const R: usize>(session: &Session<R>, events: &[Event]) -> u
 }
 
 /// Undoes so many of the live steps.
-fn go_back<const R: usize>(book: &mut Book<R>, n: u64) {
+fn go_back<const R: usize>(book: &mut Book<R>, n: u64)
+    requires { n ≤ length (book_state book.old).session.live }
+    ensures session { back (book_state book.old).session n ≡ Ok (book_state book.new).session }
+    ensures marks { (book_state book.new).marks ≡ (book_state book.old).marks }
+{
     match book.obey(Command::Back(n)) {
         Err(_) => unreachable!(),
         Ok(_) => {}
@@ -112,7 +153,9 @@ fn go_back<const R: usize>(book: &mut Book<R>, n: u64) {
 }
 
 /// Makes events happen in order.
-fn step_all<const R: usize>(book: &mut Book<R>, events: &[Event]) -> Result<(), RefusedEvent> {
+fn step_all<const R: usize>(book: &mut Book<R>, events: &[Event]) -> Result<(), RefusedEvent>
+    ensures { StepsAll R (book_state book.old) events.now (book_state book.new) result }
+{
     for event in events {
         if let Err(cause) = book.obey(Command::of_event(*event)) {
             return Err(RefusedEvent {
@@ -126,7 +169,9 @@ fn step_all<const R: usize>(book: &mut Book<R>, events: &[Event]) -> Result<(), 
 
 impl RefusedEvent {
     /// The fault of a live event, or an undone one.
-    fn of_step(self) -> LoadTraceFault {
+    fn of_step(self) -> LoadTraceFault
+        ensures { IsFaultOfStep self result }
+    {
         match self.cause {
             Refusal::NoMemory => LoadTraceFault::NoMemory,
             cause => LoadTraceFault::TraceStep {
@@ -137,7 +182,9 @@ impl RefusedEvent {
     }
 
     /// The fault of an event of the bookmark of this number.
-    fn of_mark(self, mark: u64) -> LoadTraceFault {
+    fn of_mark(self, mark: u64) -> LoadTraceFault
+        ensures { IsFaultOfMark self mark result }
+    {
         match self.cause {
             Refusal::NoMemory => LoadTraceFault::NoMemory,
             cause => LoadTraceFault::TraceMark {

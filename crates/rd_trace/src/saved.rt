@@ -1,12 +1,23 @@
 //! Whole sessions: the object of version 1, which is only read, and that of version 2, which is read and written.
 
+ghost use Rattle.std.specs.Prelude.{◌≡◌, ◌≤◌, ℕ, Some, codes, IfOk, IfSome, IfNone};
+ghost use Rattle.serde_json.specs.Data.{Data};
+ghost use Rattle.serde_json.specs.View.{view};
+ghost use Rattle.rd_step.specs.Prelude.{MOST_CELLS};
+ghost use Rattle.rd_journal.specs.Sessions.{state};
+ghost use Rattle.rd_marks.specs.BookViews.{book_state};
+ghost use Rattle.rd_trace.specs.Numbers.{member_count, number_at};
+ghost use Rattle.rd_trace.specs.Traces.{IsTraceRing, ring_length};
+ghost use Rattle.rd_trace.specs.Starts.{IsStartData};
+ghost use Rattle.rd_trace.specs.Events.{ReadsEventsAt};
+ghost use Rattle.rd_trace.specs.Saved.{ReadsTrace, ReadsFirst, ReadsSecond, book_data};
+
 use super::bookmarks::{SavedMark, marks_in, marks_value};
 use super::events::{events_in, events_value};
 use super::faults::FormFault;
 use super::numbers::{member_count, number_at};
 use super::rings::Ring;
 use super::starts::{Start, actors_at, start_in, start_value};
-use rd_cell::Refusal;
 use rd_journal::Session;
 use rd_marks::Book;
 use rd_step::Event;
@@ -44,7 +55,10 @@ pub struct SavedSession<const R: usize> {
 }
 
 /// The ring of the session that a value spells, if it is one that a trace may have.
-pub fn ring_in(value: &Value) -> Option<Ring> {
+pub fn ring_in(value: &Value) -> Option<Ring>
+    ensures some { IfSome result (λ ring. number_at (codes "ring") (view value.now) ≡ Some (ring_length ring)) }
+    ensures none { IfNone result ((cells : ℕ) → number_at (codes "ring") (view value.now) ≡ Some cells → IsTraceRing cells → ⊥) }
+{
     Ring::of_length(number_at(value, RING)?)
 }
 
@@ -56,7 +70,11 @@ pub fn ring_in(value: &Value) -> Option<Ring> {
 pub fn session_in<const R: usize>(
     alloc: Global,
     value: &Value,
-) -> Result<SavedSession<R>, FormFault> {
+) -> Result<SavedSession<R>, FormFault>
+    requires small { R ≤ MOST_CELLS }
+    requires ring { number_at (codes "ring") (view value.now) ≡ Some R }
+    ensures { ReadsTrace (view value.now) result }
+{
     match (number_at(value, VERSION), member_count(value)) {
         (Some(1), Some(FIRST_MEMBERS)) => first_session_in(alloc, value),
         (Some(WRITTEN), Some(MEMBERS)) => second_session_in(alloc, value),
@@ -68,7 +86,13 @@ pub fn session_in<const R: usize>(
 fn first_session_in<const R: usize>(
     alloc: Global,
     value: &Value,
-) -> Result<SavedSession<R>, FormFault> {
+) -> Result<SavedSession<R>, FormFault>
+    requires small { R ≤ MOST_CELLS }
+    requires members { member_count (view value.now) ≡ Some 4 }
+    requires version { number_at (codes "version") (view value.now) ≡ Some 1 }
+    requires ring { number_at (codes "ring") (view value.now) ≡ Some R }
+    ensures { ReadsFirst (view value.now) result }
+{
     let Some(actors) = actors_at(value, ACTORS) else {
         return Err(FormFault::BadForm);
     };
@@ -84,7 +108,13 @@ fn first_session_in<const R: usize>(
 fn second_session_in<const R: usize>(
     alloc: Global,
     value: &Value,
-) -> Result<SavedSession<R>, FormFault> {
+) -> Result<SavedSession<R>, FormFault>
+    requires small { R ≤ MOST_CELLS }
+    requires members { member_count (view value.now) ≡ Some 6 }
+    requires version { number_at (codes "version") (view value.now) ≡ Some 2 }
+    requires ring { number_at (codes "ring") (view value.now) ≡ Some R }
+    ensures { ReadsSecond (view value.now) result }
+{
     let parts = (value.get(START), value.get(MARKS).and_then(Value::as_array));
     let (Some(start), Some(marks)) = parts else {
         return Err(FormFault::BadForm);
@@ -98,7 +128,9 @@ fn second_session_in<const R: usize>(
 }
 
 /// The events that the list at a key of an object spells.
-fn events_at(alloc: Global, value: &Value, key: &str) -> Result<Vec<Event>, FormFault> {
+fn events_at(alloc: Global, value: &Value, key: &str) -> Result<Vec<Event>, FormFault>
+    ensures { ReadsEventsAt key.now (view value.now) result }
+{
     match value.get(key).and_then(Value::as_array) {
         None => Err(FormFault::BadForm),
         Some(list) => events_in(alloc, list),
@@ -106,7 +138,10 @@ fn events_at(alloc: Global, value: &Value, key: &str) -> Result<Vec<Event>, Form
 }
 
 /// The value of a book's session and bookmarks, of version 2.
-pub fn book_value<const R: usize>(alloc: Global, book: &Book<R>) -> Result<Value, AllocError> {
+pub fn book_value<const R: usize>(alloc: Global, book: &Book<R>) -> Result<Value, AllocError>
+    ensures { IfOk result (λ value. (start : Data) × IsStartData R (book_state book.now).session.start start
+        × (view value ≡ book_data R start (book_state book.now))) }
+{
     let session = book.session();
     let events = events_value(alloc, &live_events(alloc, session)?)?;
     let marks = marks_value(alloc, book)?;
@@ -123,7 +158,9 @@ pub fn book_value<const R: usize>(alloc: Global, book: &Book<R>) -> Result<Value
 }
 
 /// The value of the start of a session.
-fn start_of<const R: usize>(alloc: Global, session: &Session<R>) -> Result<Value, AllocError> {
+fn start_of<const R: usize>(alloc: Global, session: &Session<R>) -> Result<Value, AllocError>
+    ensures { IfOk result (λ value. IsStartData R (state session.now).start (view value)) }
+{
     let Ok(world) = session.start_world(alloc) else {
         return Err(AllocError);
     };
@@ -137,7 +174,9 @@ fn start_of<const R: usize>(alloc: Global, session: &Session<R>) -> Result<Value
 fn live_events<const R: usize>(
     alloc: Global,
     session: &Session<R>,
-) -> Result<Vec<Event>, AllocError> {
+) -> Result<Vec<Event>, AllocError>
+    ensures { IfOk result (λ list. list.items ≡ (state session.now).live) }
+{
     let mut events = Vec::with_capacity(alloc, session.len() as usize)?;
     for done in 0..session.len() {
         if let Ok(entry) = session.entry(done + 1) {
@@ -151,7 +190,9 @@ fn live_events<const R: usize>(
 fn undone_events<const R: usize>(
     alloc: Global,
     session: &Session<R>,
-) -> Result<Vec<Event>, AllocError> {
+) -> Result<Vec<Event>, AllocError>
+    ensures { IfOk result (λ list. list.items ≡ (state session.now).undone) }
+{
     let mut events = Vec::with_capacity(alloc, session.undone_len() as usize)?;
     for done in 0..session.undone_len() {
         if let Some(event) = session.undone_event(done + 1) {

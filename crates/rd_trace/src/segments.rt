@@ -1,10 +1,11 @@
 //! Segments: an object with a member for each word of a segment; its cells are arrays of three.
 
-ghost use Rattle.std.specs.Prelude.{◌≡◌, ◌≤◌, IfOk, IfSome, IfNone, length};
+ghost use Rattle.std.specs.Prelude.{◌≡◌, ◌≤◌, List, Some, IfOk, IfSome, IfNone, length};
 ghost use Rattle.serde_json.specs.View.{view, items_view};
 ghost use Rattle.rd_step.specs.Prelude.{MOST_CELLS};
+ghost use Rattle.rd_cell.specs.declared.cells.Cell.{Cell};
 ghost use Rattle.rd_ring.specs.declared.parts.SegmentParts.{SegmentParts};
-ghost use Rattle.rd_trace.specs.Segments.{cell_of, cell_data, cells_of, cells_data, IsSegment, segment_data, segments_data, makers_data, ReadsSegments, ReadsMakers};
+ghost use Rattle.rd_trace.specs.Segments.{cell_of, cells_of, cells_data, IsSegment, segment_data, segments_data, makers_data, ReadsSegments, ReadsMakers};
 
 use super::actors::value_in;
 use super::faults::FormFault;

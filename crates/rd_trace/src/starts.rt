@@ -1,10 +1,13 @@
 //! The start of a session: the fresh world of so many actors, or the parts of any other world.
 
-ghost use Rattle.std.specs.Prelude.{◌≡◌, ◌≤◌, IfOk, IfSome, IfNone};
-ghost use Rattle.serde_json.specs.View.{view};
+ghost use Rattle.std.specs.Prelude.{◌≡◌, ◌≤◌, ◌↔◌, ℕ, IsTrue, IfOk, IfSome, IfNone, option_map, Some, None, length};
+ghost use Rattle.serde_json.specs.View.{view, items_view};
 ghost use Rattle.rd_step.specs.Prelude.{MOST_CELLS};
-ghost use Rattle.rd_step.specs.Parts.{world_of_parts};
-ghost use Rattle.rd_trace.specs.Starts.{IsStart, start_data, is_fresh, ReadsStart};
+ghost use Rattle.rd_step.specs.Starts.{fresh_world};
+ghost use Rattle.rd_step.specs.Parts.{world_of_parts, first_flaw};
+ghost use Rattle.rd_trace.specs.Names.{name_at};
+ghost use Rattle.rd_trace.specs.Numbers.{list_at, member_count};
+ghost use Rattle.rd_trace.specs.Starts.{IsFreshStart, IsActorCount, IsStartData, parts_data, ReadsStart, ReadsParts};
 
 use super::actors::{actors_in, actors_value};
 use super::arrays::{array_in, array_value};
@@ -18,6 +21,9 @@ use rd_cell::{ArrSlot, Cell, SegName};
 use rd_step::{ArrayParts, Parts, SegmentParts};
 use serde_json::{Value, json};
 use std::alloc::{AllocError, Global};
+
+/// The members of a fresh start.
+const FRESH_MEMBERS: usize = 1;
 
 /// The members of the parts of a world.
 const MEMBERS: usize = 5;
@@ -47,29 +53,20 @@ pub fn start_in<const R: usize>(alloc: Global, value: &Value) -> Result<Start<R>
     requires { R ≤ MOST_CELLS }
     ensures { ReadsStart (view value.now) result }
 {
-    if value.get(FRESH).is_some() {
-        return match fresh_in(value) {
+    match member_count(value) {
+        Some(FRESH_MEMBERS) => match actors_at(value, FRESH) {
             None => Err(FormFault::BadForm),
             Some(actors) => Ok(Start::Fresh(actors)),
-        };
+        },
+        Some(MEMBERS) => Ok(Start::Parts(parts_in(alloc, value)?)),
+        _ => Err(FormFault::BadForm),
     }
-    Ok(Start::Parts(parts_in(alloc, value)?))
-}
-
-/// The number of actors of the fresh world that a value spells.
-pub fn fresh_in(value: &Value) -> Option<u8>
-    ensures some { IfSome result (IsFreshStart (view value.now)) }
-    ensures none { IfNone result ((actors : ℕ) → IsFreshStart (view value.now) actors → ⊥) }
-{
-    if member_count(value)? != 1 {
-        return None;
-    }
-    actors_at(value, FRESH)
 }
 
 /// The number of actors at a key of an object: 1 to 16.
 pub fn actors_at(value: &Value, key: &str) -> Option<u8>
-    ensures { result ≡ actors_at key.now (view value.now) }
+    ensures some { IfSome result (IsActorCount key.now (view value.now)) }
+    ensures none { IfNone result ((count : ℕ) → IsActorCount key.now (view value.now) count → ⊥) }
 {
     let actors = number_at(value, key)?;
     if actors < 1 || actors > MOST_ACTORS as u64 {
@@ -78,14 +75,12 @@ pub fn actors_at(value: &Value, key: &str) -> Option<u8>
     Some(actors as u8)
 }
 
-/// The parts that a value spells.
+/// The parts that a value of so many members spells.
 fn parts_in<const R: usize>(alloc: Global, value: &Value) -> Result<Parts<R>, FormFault>
-    requires { R ≤ MOST_CELLS }
+    requires small { R ≤ MOST_CELLS }
+    requires members { member_count (view value.now) ≡ Some 5 }
     ensures { ReadsParts (view value.now) result }
 {
-    if member_count(value) != Some(MEMBERS) {
-        return Err(FormFault::BadForm);
-    }
     let ends = (name_at(value, QHEAD), name_at(value, QTAIL));
     let (Some(qhead), Some(qtail)) = ends else {
         return Err(FormFault::BadForm);
@@ -122,8 +117,9 @@ fn list_at<'a>(value: &'a Value, key: &str) -> Option<&'a Vec<Value>>
 
 /// The value of a start of these parts: as the fresh world if they are its.
 pub fn start_value<const R: usize>(alloc: Global, parts: &Parts<R>) -> Result<Value, AllocError>
-    requires { R ≤ MOST_CELLS }
-    ensures { IfOk result (λ value. view value ≡ start_data parts.now) }
+    requires small { R ≤ MOST_CELLS }
+    requires flawless { first_flaw parts.now ≡ None }
+    ensures { IfOk result (λ value. IsStartData R (world_of_parts parts.now) (view value)) }
 {
     if is_fresh(parts) {
         return json!(in alloc; {FRESH: parts.actors.len() as u64});
@@ -149,10 +145,11 @@ fn parts_value<const R: usize>(alloc: Global, parts: &Parts<R>) -> Result<Value,
     })
 }
 
-/// Whether parts are those of a fresh world.
+/// Whether the parts of a well-formed world are those of the fresh world of as many actors.
 fn is_fresh<const R: usize>(parts: &Parts<R>) -> bool
-    requires { R ≤ MOST_CELLS }
-    ensures { result ≡ is_fresh parts.now }
+    requires small { R ≤ MOST_CELLS }
+    requires flawless { first_flaw parts.now ≡ None }
+    ensures { IsTrue result ↔ (world_of_parts parts.now ≡ fresh_world R (length parts.now.actors.items)) }
 {
     parts.qhead == SegName::ROOT
         && parts.qtail == SegName::ROOT

@@ -1,5 +1,12 @@
 //! Writing a trace: the whole text is put together, and then handed over.
 
+ghost use Rattle.std.specs.Prelude.{◌≡◌, false, IfOk, OnOk};
+ghost use Rattle.rd_marks.specs.BookViews.{book_state};
+ghost use Rattle.rd_trace.specs.Traces.{IsTraceRing};
+ghost use Rattle.rd_trace.specs.Saved.{IsTextOf};
+ghost use Rattle.rd_trace.specs.Loading.{IsLoadable};
+ghost use Rattle.rd_trace.specs.Writing.{WritesTrace, is_write_fault};
+
 use super::faults::WriteTraceFault;
 use super::saved::book_value;
 use rd_marks::Book;
@@ -18,6 +25,9 @@ pub fn write_trace<K: Sink, const R: usize>(
     book: &Book<R>,
 ) -> Result<(), WriteTraceFault>
     requires { K.has_failed writer.old ≡ false }
+    ensures writes { WritesTrace R (book_state book.now) (K.contents writer.old) (K.contents writer.new) result }
+    ensures loadable { IsTraceRing R → OnOk result (IsLoadable R (book_state book.now)) }
+    ensures failed { K.has_failed writer.new ≡ is_write_fault result }
 {
     let Ok(text) = text_of(alloc, book) else {
         return Err(WriteTraceFault::NoMemory);
@@ -29,7 +39,9 @@ pub fn write_trace<K: Sink, const R: usize>(
 }
 
 /// The text of a book.
-fn text_of<const R: usize>(alloc: Global, book: &Book<R>) -> Result<Vec<u8>, AllocError> {
+fn text_of<const R: usize>(alloc: Global, book: &Book<R>) -> Result<Vec<u8>, AllocError>
+    ensures { IfOk result (λ text. IsTextOf R (book_state book.now) text.items) }
+{
     let value = book_value(alloc, book)?;
     let mut text = value.to_vec(alloc)?;
     text.push(b'\n')?;

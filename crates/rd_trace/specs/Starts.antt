@@ -1,0 +1,88 @@
+-- The start of a session as a value: the fresh world of so many actors, or the parts of any other world.
+use Rattle.std.specs.Prelude.{◌≡◌, ◌≤◌, ◌⊎◌, ℕ, List, codes, Option, Some, None, Result, Ok, Err}
+use Rattle.serde_json.specs.Data.{Data, number, array, object, unsigned, no_members, member}
+use Rattle.serde_json.specs.Find.{get}
+use Rattle.rd_step.specs.Prelude.{World, MOST_ACTORS}
+use Rattle.rd_step.specs.Starts.{fresh_world}
+use Rattle.rd_step.specs.Parts.{world_of_parts, first_flaw}
+use Rattle.rd_step.specs.declared.parts.Parts.{Parts}
+use Rattle.rd_step.specs.declared.flaws.Flaw.{Flaw}
+use Rattle.rd_trace.specs.Numbers.{member_count, number_at, SpellEachAt}
+use Rattle.rd_trace.specs.Names.{name_at, name_data}
+use Rattle.rd_trace.specs.Actors.{IsActor, actors_data}
+use Rattle.rd_trace.specs.Segments.{IsSegmentList, makers_data}
+use Rattle.rd_trace.specs.Arrays.{IsArray, array_data}
+use Rattle.rd_trace.specs.declared.starts.Start.{Start}
+use Rattle.rd_trace.specs.declared.starts.Start.TheVariants.{Fresh, Parts as OfParts}
+use Rattle.rd_trace.specs.declared.faults.FormFault.{FormFault}
+use Rattle.rd_trace.specs.declared.faults.FormFault.TheVariants.{NoMemory, BadForm}
+
+-- this number, 1 to 16, of actors stands at a key of an object
+pub record IsActorCount (key : List ℕ) (d : Data) (count : ℕ) : Type 0 where
+  pub number : number_at key d ≡ Some count
+  pub some : 1 ≤ count
+  pub few : count ≤ MOST_ACTORS
+
+-- a value is an object of one member: the number of actors of a fresh world
+pub record IsFreshStart (d : Data) (count : ℕ) : Type 0 where
+  pub members : member_count d ≡ Some 1
+  pub fresh : IsActorCount (codes "fresh") d count
+
+-- a fresh start has 1 to 16 actors
+abbrev pub HasActorCount : {R : ℕ} → Start R → Type 0
+HasActorCount (Fresh count) = (1 ≤ count) × (count ≤ MOST_ACTORS)
+HasActorCount (OfParts p) = Unit {0}
+
+-- a value is an object of five members, one for each of the parts, and so of no other
+pub record IsParts {R : ℕ} (d : Data) (p : Parts R) : Type 0 where
+  pub members : member_count d ≡ Some 5
+  pub actors : SpellEachAt IsActor (codes "actors") d p.actors.items
+  pub array : (e : Data) × (get (codes "array") d ≡ Some e) × IsArray e p.array
+  pub qhead : name_at (codes "qhead") d ≡ Some p.qhead
+  pub qtail : name_at (codes "qtail") d ≡ Some p.qtail
+  pub segments : SpellEachAt IsSegmentList (codes "segments") d p.segments.items
+
+-- a value spells a start
+abbrev pub IsStart : {R : ℕ} → Data → Start R → Type 0
+IsStart d (Fresh count) = IsFreshStart d count
+IsStart d (OfParts p) = IsParts d p
+
+-- the world of a start
+abbrev pub start_world : {R : ℕ} → Start R → World
+start_world {R} (Fresh count) = fresh_world R count
+start_world (OfParts p) = world_of_parts p
+
+-- the first condition of a well-formed world that it fails, if it fails one
+abbrev pub start_flaw : {R : ℕ} → Start R → Option Flaw
+start_flaw (Fresh count) = None
+start_flaw (OfParts p) = first_flaw p
+
+-- what is read of a value
+abbrev pub ReadsStart : {R : ℕ} → Data → Result (Start R) FormFault → Type 0
+ReadsStart d (Ok start) = IsStart d start
+ReadsStart d (Err NoMemory) = Unit {0}
+ReadsStart {R} d (Err BadForm) = (start : Start R) → IsStart d start → ⊥
+
+abbrev pub ReadsParts : {R : ℕ} → Data → Result (Parts R) FormFault → Type 0
+ReadsParts d (Ok parts) = IsParts d parts
+ReadsParts d (Err NoMemory) = Unit {0}
+ReadsParts {R} d (Err BadForm) = (parts : Parts R) → IsParts d parts → ⊥
+
+-- the value that a fresh start is written as
+abbrev pub fresh_data : ℕ → Data
+fresh_data count = object (member (codes "fresh") (number (unsigned count)) no_members)
+
+-- the value that parts are written as
+abbrev pub parts_data : {R : ℕ} → Parts R → Data
+parts_data p = object (
+    member (codes "actors") (array (actors_data p.actors.items))
+    (member (codes "array") (array_data p.array)
+    (member (codes "qhead") (name_data p.qhead)
+    (member (codes "qtail") (name_data p.qtail)
+    (member (codes "segments") (array (makers_data p.segments.items)) no_members)))))
+
+-- the value that a world is written as: as a fresh one just if it is the fresh world, and else as its parts
+abbrev pub IsStartData : ℕ → World → Data → Type 0
+IsStartData R w d =
+    ((count : ℕ) × (w ≡ fresh_world R count) × (1 ≤ count) × (count ≤ MOST_ACTORS) × (d ≡ fresh_data count))
+    ⊎ (((count : ℕ) → w ≡ fresh_world R count → ⊥) × (p : Parts R) × (world_of_parts p ≡ w) × (d ≡ parts_data p))
