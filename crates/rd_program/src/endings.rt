@@ -97,12 +97,13 @@ impl<'a> Ending<'a> {
             ProgramFault::Write => Ending::failed(LineAnswer::Stopped(ScriptFault::Write)),
             ProgramFault::BadTrace => Ending::failed(LineAnswer::BadTrace),
             ProgramFault::Flawed(flaw) => Ending::failed(LineAnswer::Flawed(*flaw)),
-            ProgramFault::TraceMark { mark, step, cause } =>
-                Ending::failed(LineAnswer::TraceMark {
+            ProgramFault::TraceMark { mark, step, cause } => Ending::failed(
+                LineAnswer::TraceMark {
                     mark: *mark,
                     step: *step,
                     cause: *cause,
-                }),
+                },
+            ),
             ProgramFault::TraceStep { step, cause } => Ending::failed(LineAnswer::TraceStep {
                 step: *step,
                 cause: *cause,

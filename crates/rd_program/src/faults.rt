@@ -85,8 +85,11 @@ impl From<LoadTraceFault> for ProgramFault {
             LoadTraceFault::NoMemory => ProgramFault::NoMemory,
             LoadTraceFault::BadTrace => ProgramFault::BadTrace,
             LoadTraceFault::Flawed(flaw) => ProgramFault::Flawed(flaw),
-            LoadTraceFault::TraceMark { mark, step, cause } =>
-                ProgramFault::TraceMark { mark, step, cause },
+            LoadTraceFault::TraceMark { mark, step, cause } => ProgramFault::TraceMark {
+                mark,
+                step,
+                cause,
+            },
             LoadTraceFault::TraceStep { step, cause } => ProgramFault::TraceStep { step, cause },
         }
     }

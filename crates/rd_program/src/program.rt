@@ -1,10 +1,9 @@
 //! What the program does over the devices that it is given: a script's run over a fresh world, with the trace of it behind
 //! the report if one is asked for, and a script's run over the run of a trace.
 
-ghost use Rattle.std.specs.Prelude.{◌≡◌, ◌≤◌, ℕ, false, IfOk, IfErr, IfSome};
-ghost use Rattle.rd_step.specs.Starts.{fresh_world};
-ghost use Rattle.rd_trace.specs.Traces.{ring_length, trace_of_state};
-ghost use Rattle.rd_trace.specs.Text.{trace_text};
+ghost use Rattle.std.specs.Prelude.{◌≡◌, ◌≤◌, ℕ, List, true, false, IfOk, IfErr, IfSome};
+ghost use Rattle.rd_trace.specs.Traces.{ring_length};
+ghost use Rattle.rd_trace.specs.Saved.{IsTextOf};
 ghost use Rattle.rd_trace.specs.Loading.{any_ring, any_state};
 ghost use Rattle.rd_trace.specs.Devices.{devices};
 ghost use Rattle.rd_program.specs.Program.{IsUnread, PlaysScript, ResumesTrace, WritesIf};
@@ -45,7 +44,7 @@ pub fn play<S: Source, K: Sink>(
     Ok(lines)
 }
 
-/// Writes the trace of a book over a fresh world, if it is asked for.
+/// Writes the trace of a book, if it is asked for.
 fn write_if<K: Sink>(
     alloc: Global,
     writer: &mut K,
@@ -53,9 +52,8 @@ fn write_if<K: Sink>(
     trace: bool,
 ) -> Result<(), ProgramFault>
     requires { K.has_failed writer.old ≡ false }
-    ensures { (actors : ℕ) → (any_state book.now).session.start ≡ fresh_world (any_ring book.now) actors
-        → WritesIf trace (trace_text (trace_of_state (any_ring book.now) actors (any_state book.now)))
-        (K.contents writer.old) (K.contents writer.new) (K.has_failed writer.new) result }
+    ensures { (text : List ℕ) × (trace ≡ true → IsTextOf (any_ring book.now) (any_state book.now) text)
+        × WritesIf trace text (K.contents writer.old) (K.contents writer.new) (K.has_failed writer.new) result }
 {
     if trace {
         book.write_trace(alloc, writer)?;
@@ -68,7 +66,7 @@ fn write_if<K: Sink>(
 ///
 /// # Errors
 ///
-/// `BadTrace`, `TraceStep` and `NoMemory` as the loading of a trace: neither device was touched. `Read` and `Write` as the
+/// `BadTrace`, `Flawed`, `TraceMark`, `TraceStep` and `NoMemory` as the loading of a trace: neither device was touched. `Read` and `Write` as the
 /// run of a script.
 pub fn resume<S: Source, K: Sink>(
     alloc: Global,

@@ -22,16 +22,27 @@ use std::str;
 const MEMBERS: usize = 12;
 
 const CLOSED: &str = "closed";
+
 const CRQ: &str = "crq";
+
 const H: &str = "h";
+
 const IDX: &str = "idx";
+
 const NEW: &str = "new";
+
 const NEXT: &str = "next";
+
 const OP: &str = "op";
+
 const PASS: &str = "pass";
+
 const PC: &str = "pc";
+
 const SAFE: &str = "safe";
+
 const T: &str = "t";
+
 const VAL: &str = "val";
 
 /// The actors that the values of a list spell, in their order.

@@ -18,7 +18,9 @@ use std::alloc::{AllocError, Global};
 const MEMBERS: usize = 3;
 
 const CELLS: &str = "cells";
+
 const HEAD: &str = "head";
+
 const TAIL: &str = "tail";
 
 /// The array that a value spells.

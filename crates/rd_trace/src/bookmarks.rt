@@ -26,6 +26,7 @@ use std::alloc::{AllocError, Global};
 const MEMBERS: usize = 2;
 
 const EVENTS: &str = "events";
+
 const NAME: &str = "name";
 
 /// A bookmark that was read.
@@ -93,10 +94,7 @@ fn name_in(value: &Value) -> Option<MarkName>
 }
 
 /// The values of the bookmarks of a book, in order.
-pub fn marks_value<const R: usize>(
-    alloc: Global,
-    book: &Book<R>,
-) -> Result<Vec<Value>, AllocError>
+pub fn marks_value<const R: usize>(alloc: Global, book: &Book<R>) -> Result<Vec<Value>, AllocError>
     ensures { IfOk result (λ values. items_view values.items ≡ marks_data (book_state book.now).marks) }
 {
     let mut values = Vec::with_capacity(alloc, book.marks() as usize)?;

@@ -5,12 +5,12 @@
 //! happen in a fresh world. It is written as one text, all of whose memory is asked for before the first byte is handed over.
 #![tactic(auto)]
 
-pub mod any_book;
-pub mod faults;
 mod actors;
+pub mod any_book;
 mod arrays;
 mod bookmarks;
 mod events;
+pub mod faults;
 pub mod laws;
 pub mod load;
 mod names;

@@ -78,10 +78,7 @@ fn world_of<const R: usize>(alloc: Global, start: Start<R>) -> Result<World<R>, 
 }
 
 /// Sets bookmarks, each at its events.
-fn set_marks<const R: usize>(
-    book: &mut Book<R>,
-    marks: &[SavedMark],
-) -> Result<(), LoadTraceFault>
+fn set_marks<const R: usize>(book: &mut Book<R>, marks: &[SavedMark]) -> Result<(), LoadTraceFault>
     requires names { HaveNames (map saved_mark marks.now) }
     requires few { length marks.now ≤ MOST_MARKS }
     requires none { (book_state book.old).marks ≡ [] }

@@ -34,11 +34,17 @@ const MEMBERS: usize = 6;
 const WRITTEN: u64 = 2;
 
 const ACTORS: &str = "actors";
+
 const EVENTS: &str = "events";
+
 const MARKS: &str = "marks";
+
 const RING: &str = "ring";
+
 const START: &str = "start";
+
 const UNDONE: &str = "undone";
+
 const VERSION: &str = "version";
 
 /// A session that was read.

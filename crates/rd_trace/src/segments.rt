@@ -20,9 +20,13 @@ use std::alloc::{AllocError, Global};
 const MEMBERS: usize = 5;
 
 const CELLS: &str = "cells";
+
 const CLOSED: &str = "closed";
+
 const HEAD: &str = "head";
+
 const NEXT: &str = "next";
+
 const TAIL: &str = "tail";
 
 /// A cell that nothing was written to.

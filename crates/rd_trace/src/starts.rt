@@ -29,10 +29,15 @@ const FRESH_MEMBERS: usize = 1;
 const MEMBERS: usize = 5;
 
 const ACTORS: &str = "actors";
+
 const ARRAY: &str = "array";
+
 const FRESH: &str = "fresh";
+
 const QHEAD: &str = "qhead";
+
 const QTAIL: &str = "qtail";
+
 const SEGMENTS: &str = "segments";
 
 /// Where a session begins.
@@ -162,9 +167,7 @@ fn is_fresh<const R: usize>(parts: &Parts<R>) -> bool
 fn is_fresh_array(array: &ArrayParts) -> bool
     ensures { result ≡ is_fresh_array array.now }
 {
-    array.head == 0
-        && array.tail == 0
-        && array.cells[..].iter().all(|slot| *slot == ArrSlot::Empty)
+    array.head == 0 && array.tail == 0 && array.cells[..].iter().all(|slot| *slot == ArrSlot::Empty)
 }
 
 /// Whether the root is fresh and the only segment.
@@ -174,8 +177,8 @@ fn are_fresh_makers<const R: usize>(makers: &[Vec<SegmentParts<R>>]) -> bool
 {
     match makers {
         [] => false,
-        [root, others @ ..] =>
-            is_fresh_root(root) && others.iter().all(|segments| segments.is_empty()),
+        [root, others @ ..] => is_fresh_root(root)
+            && others.iter().all(|segments| segments.is_empty()),
     }
 }
 

@@ -91,7 +91,8 @@ fn are_bad(rt: &impl Abort, alloc: Global, texts: &[&str]) {
 #[test]
 fn the_live_events_are_written(rt: HostRuntime) -> Result<(), Fail> {
     let book = played::<4>(rt.alloc(), &[("enq 1 7\n", 1), ("go 1\n", 1)])?;
-    let text = "{\"events\":[[\"enq\",1,7],[\"go\",1]],\"marks\":[],\"ring\":4,\"start\":{\"fresh\":4},\"undone\":[],\"version\":2}\n";
+    let text =
+        "{\"events\":[[\"enq\",1,7],[\"go\",1]],\"marks\":[],\"ring\":4,\"start\":{\"fresh\":4},\"undone\":[],\"version\":2}\n";
     text_is(&rt, rt.alloc(), &book, text)
 }
 
@@ -114,7 +115,8 @@ fn each_event_has_its_word(rt: HostRuntime) -> Result<(), Fail> {
 #[test]
 fn a_ring_that_no_trace_has_is_written_too(rt: HostRuntime) -> Result<(), Fail> {
     let book = played::<3>(rt.alloc(), &[("adeq 4\n", 1)])?;
-    let text = "{\"events\":[[\"adeq\",4]],\"marks\":[],\"ring\":3,\"start\":{\"fresh\":4},\"undone\":[],\"version\":2}\n";
+    let text =
+        "{\"events\":[[\"adeq\",4]],\"marks\":[],\"ring\":3,\"start\":{\"fresh\":4},\"undone\":[],\"version\":2}\n";
     text_is(&rt, rt.alloc(), &book, text)?;
     are_bad(&rt, rt.alloc(), &[text]);
     Ok(())

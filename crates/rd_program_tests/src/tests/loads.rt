@@ -111,7 +111,9 @@ fn a_file_that_finds_no_memory_is_no_failed_read(rt: HostRuntime) {
 
 /// A trace of version 2 over one actor and rings of two cells, with such a list of bookmarks and such a start.
 fn second_trace(alloc: Global, marks: &str, start: &str) -> Result<String, Fail> {
-    Ok(format!(in alloc; "{{\"events\":[],\"marks\":[{marks}],\"ring\":2,\"start\":{start},\"undone\":[],\"version\":2}}\n")?)
+    Ok(format!(in alloc;
+        "{{\"events\":[],\"marks\":[{marks}],\"ring\":2,\"start\":{start},\"undone\":[],\"version\":2}}\n"
+    )?)
 }
 
 #[test]
@@ -146,7 +148,8 @@ fn a_trace_with_a_refused_event_of_a_bookmark_runs_no_script(rt: HostRuntime) ->
 
 #[test]
 fn a_trace_with_a_flawed_start_runs_no_script(rt: HostRuntime) -> Result<(), Fail> {
-    let start = "{\"actors\":[],\"array\":{\"cells\":[],\"head\":0,\"tail\":0},\"qhead\":[0,0],\"qtail\":[0,0],\"segments\":[]}";
+    let start =
+        "{\"actors\":[],\"array\":{\"cells\":[],\"head\":0,\"tail\":0},\"qhead\":[0,0],\"qtail\":[0,0],\"segments\":[]}";
     let trace = second_trace(rt.alloc(), "", start)?;
     let lines = loaded(&rt, rt.alloc(), &trace, "len\n", "");
     assert!(rt; matches!(lines, Err(ProgramFault::Flawed(Flaw::Makers))));

@@ -35,7 +35,8 @@ impl<'a> Write for TestWriter<'a> {
 }
 
 /// The trace of one event.
-const TRACE: &[u8] = b"{\"events\":[[\"deq\",1]],\"marks\":[],\"ring\":2,\"start\":{\"fresh\":4},\"undone\":[],\"version\":2}\n";
+const TRACE: &[u8] =
+    b"{\"events\":[[\"deq\",1]],\"marks\":[],\"ring\":2,\"start\":{\"fresh\":4},\"undone\":[],\"version\":2}\n";
 
 /// Writes the trace to each writer of so many good writes of so many bytes, and compares the answer and how many bytes were taken.
 fn writes_are(

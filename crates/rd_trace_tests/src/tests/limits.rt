@@ -14,7 +14,9 @@ const DEQUEUE: &str =
 /// A trace of 5461 dequeues of an empty queue, each of 12 events, and of these events behind them.
 fn dequeues(alloc: Global, last: &str) -> Result<String, AllocError> {
     let calls = DEQUEUE.repeat(alloc, 5461)?;
-    format!(in alloc; "{{\"events\":[{calls}{last}],\"marks\":[],\"ring\":4,\"start\":{{\"fresh\":4}},\"undone\":[],\"version\":2}}\n")
+    format!(in alloc;
+        "{{\"events\":[{calls}{last}],\"marks\":[],\"ring\":4,\"start\":{{\"fresh\":4}},\"undone\":[],\"version\":2}}\n"
+    )
 }
 
 #[test]

@@ -51,7 +51,9 @@ fn questions(alloc: Global) -> Result<String, Fail> {
     for number in 0..6 {
         write!(script, "actor {number}\nmarkat {number}\n")?;
     }
-    script.push_str("len\nmarks\nsame a b\nsame b a\nsame a a\nredo\nundo 3\ngoto b\nlen\ngoto a\nlen\n")?;
+    script.push_str(
+        "len\nmarks\nsame a b\nsame b a\nsame a a\nredo\nundo 3\ngoto b\nlen\ngoto a\nlen\n",
+    )?;
     Ok(script)
 }
 
@@ -204,9 +206,10 @@ fn two_bookmarks_and_an_undone_step(rt: HostRuntime) -> Result<(), Fail> {
     answer_alike::<4>(
         &rt,
         rt.alloc(),
-        &[
-            ("enq 1 7\ndeq 2\ngo 1\ngo 2\nmark a\nback 2\ngo 2\ngo 1\nmark b\nback 1\n", 1),
-        ],
+        &[(
+            "enq 1 7\ndeq 2\ngo 1\ngo 2\nmark a\nback 2\ngo 2\ngo 1\nmark b\nback 1\n",
+            1,
+        )],
     )
 }
 
@@ -215,9 +218,10 @@ fn two_bookmarks_and_a_goto(rt: HostRuntime) -> Result<(), Fail> {
     answer_alike::<4>(
         &rt,
         rt.alloc(),
-        &[
-            ("enq 1 7\ndeq 2\ngo 1\ngo 2\nmark a\nback 2\ngo 2\ngo 1\nmark b\nback 1\ngoto a\n", 1),
-        ],
+        &[(
+            "enq 1 7\ndeq 2\ngo 1\ngo 2\nmark a\nback 2\ngo 2\ngo 1\nmark b\nback 1\ngoto a\n",
+            1,
+        )],
     )
 }
 
@@ -242,8 +246,9 @@ fn steps_that_were_undone_alone(rt: HostRuntime) -> Result<(), Fail> {
     answer_alike::<4>(
         &rt,
         rt.alloc(),
-        &[
-            ("enq 1 7\ndeq 2\ngo 1\ngo 2\nmark a\nundo 3\nundo 3\nmark b\n", 1),
-        ],
+        &[(
+            "enq 1 7\ndeq 2\ngo 1\ngo 2\nmark a\nundo 3\nundo 3\nmark b\n",
+            1,
+        )],
     )
 }

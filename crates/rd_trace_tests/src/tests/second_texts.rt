@@ -7,7 +7,8 @@ use std::process::Abort;
 use std::test::Fail;
 
 /// The trace of an enqueue's first two steps, with a bookmark at the first of them.
-const WHOLE: &str = "{\"events\":[[\"enq\",1,7],[\"go\",1]],\"marks\":[{\"events\":[[\"enq\",1,7]],\"name\":\"a\"}],\"ring\":4,\"start\":{\"fresh\":4},\"undone\":[],\"version\":2}";
+const WHOLE: &str =
+    "{\"events\":[[\"enq\",1,7],[\"go\",1]],\"marks\":[{\"events\":[[\"enq\",1,7]],\"name\":\"a\"}],\"ring\":4,\"start\":{\"fresh\":4},\"undone\":[],\"version\":2}";
 
 /// With the new part for the old one, the text is no trace.
 fn with_is_bad(rt: &impl Abort, alloc: Global, rows: &[(&str, &str)]) -> Result<(), Fail> {
@@ -50,7 +51,10 @@ fn other_numbers_and_members_are_no_trace(rt: HostRuntime) -> Result<(), Fail> {
             ("\"start\":{\"fresh\":4}", "\"start\":{\"fresh\":0}"),
             ("\"start\":{\"fresh\":4}", "\"start\":{\"fresh\":17}"),
             ("\"start\":{\"fresh\":4}", "\"start\":{\"fresh\":260}"),
-            ("\"start\":{\"fresh\":4}", "\"start\":{\"fresh\":4,\"more\":1}"),
+            (
+                "\"start\":{\"fresh\":4}",
+                "\"start\":{\"fresh\":4,\"more\":1}",
+            ),
             ("\"start\":{\"fresh\":4}", "\"start\":{}"),
             ("\"start\":{\"fresh\":4}", "\"start\":4"),
             ("\"start\":{\"fresh\":4}", "\"actors\":4"),
@@ -81,8 +85,14 @@ fn other_bookmarks_are_no_trace(rt: HostRuntime) -> Result<(), Fail> {
             ("\"name\":\"a\"", "\"name\":1"),
             ("\"name\":\"a\"", "\"named\":\"a\""),
             ("\"name\":\"a\"", "\"name\":\"a\",\"len\":1"),
-            (mark, "{\"events\":[],\"name\":\"a\"},{\"events\":[],\"name\":\"a\"}"),
-            (mark, "{\"events\":[],\"name\":\"a\"},{\"events\":[],\"name\":\"b\"},{\"events\":[],\"name\":\"a\"}"),
+            (
+                mark,
+                "{\"events\":[],\"name\":\"a\"},{\"events\":[],\"name\":\"a\"}",
+            ),
+            (
+                mark,
+                "{\"events\":[],\"name\":\"a\"},{\"events\":[],\"name\":\"b\"},{\"events\":[],\"name\":\"a\"}",
+            ),
             (mark, "{\"name\":\"a\"}"),
             (mark, "{\"events\":[[\"go\",256]],\"name\":\"a\"}"),
             (mark, "[[[\"enq\",1,7]],\"a\"]"),
@@ -98,7 +108,9 @@ fn with_bookmarks(alloc: Global, number: u64) -> Result<String, Fail> {
         let comma = if i == 0 { "" } else { "," };
         write!(marks, "{comma}{{\"events\":[],\"name\":\"n{i}\"}}")?;
     }
-    Ok(format!(in alloc; "{{\"events\":[],\"marks\":[{marks}],\"ring\":8,\"start\":{{\"fresh\":16}},\"undone\":[],\"version\":2}}")?)
+    Ok(format!(in alloc;
+        "{{\"events\":[],\"marks\":[{marks}],\"ring\":8,\"start\":{{\"fresh\":16}},\"undone\":[],\"version\":2}}"
+    )?)
 }
 
 #[test]

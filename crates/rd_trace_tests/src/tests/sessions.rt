@@ -68,8 +68,15 @@ fn bookmarks_stand_in_their_order_and_may_begin_alike(rt: HostRuntime) -> Result
 
 #[test]
 fn no_step_of_the_last_bookmark_is_left_undone(rt: HostRuntime) -> Result<(), Fail> {
-    let text = "{\"events\":[[\"deq\",1]],\"marks\":[{\"events\":[[\"deq\",1],[\"go\",1]],\"name\":\"a\"}],\"ring\":2,\"start\":{\"fresh\":1},\"undone\":[],\"version\":2}";
-    report_is(&rt, rt.alloc(), text, "len\nredo\n", "at 1 0\nrefused 11 NothingToRedo\n")
+    let text =
+        "{\"events\":[[\"deq\",1]],\"marks\":[{\"events\":[[\"deq\",1],[\"go\",1]],\"name\":\"a\"}],\"ring\":2,\"start\":{\"fresh\":1},\"undone\":[],\"version\":2}";
+    report_is(
+        &rt,
+        rt.alloc(),
+        text,
+        "len\nredo\n",
+        "at 1 0\nrefused 11 NothingToRedo\n",
+    )
 }
 
 #[test]
@@ -125,13 +132,24 @@ fn the_first_refused_event_is_named(rt: HostRuntime) {
 
 #[test]
 fn a_bad_form_comes_before_a_flaw_and_a_flaw_before_a_bookmark(rt: HostRuntime) {
-    let flawed = "{\"actors\":[],\"array\":{\"cells\":[],\"head\":0,\"tail\":0},\"qhead\":[0,0],\"qtail\":[0,0],\"segments\":[]}";
+    let flawed =
+        "{\"actors\":[],\"array\":{\"cells\":[],\"head\":0,\"tail\":0},\"qhead\":[0,0],\"qtail\":[0,0],\"segments\":[]}";
     let alloc = rt.alloc();
     let refused = "{\"events\":[[\"go\",1]],\"name\":\"a\"}";
-    if let Ok(text) = format!(in alloc; "{{\"events\":[],\"marks\":[{refused}],\"ring\":2,\"start\":{flawed},\"undone\":[],\"version\":2}}") {
-        fault_is(&rt, alloc, text.as_bytes(), LoadTraceFault::Flawed(Flaw::Makers), &text);
+    if let Ok(text) = format!(in alloc;
+        "{{\"events\":[],\"marks\":[{refused}],\"ring\":2,\"start\":{flawed},\"undone\":[],\"version\":2}}"
+    ) {
+        fault_is(
+            &rt,
+            alloc,
+            text.as_bytes(),
+            LoadTraceFault::Flawed(Flaw::Makers),
+            &text,
+        );
     }
-    if let Ok(text) = format!(in alloc; "{{\"events\":[],\"marks\":[{refused}],\"ring\":2,\"start\":{flawed},\"undone\":[[\"hop\",1]],\"version\":2}}") {
+    if let Ok(text) = format!(in alloc;
+        "{{\"events\":[],\"marks\":[{refused}],\"ring\":2,\"start\":{flawed},\"undone\":[[\"hop\",1]],\"version\":2}}"
+    ) {
         fault_is(&rt, alloc, text.as_bytes(), LoadTraceFault::BadTrace, &text);
     }
 }
