@@ -12,7 +12,8 @@ use Rattle.rd_trace.specs.declared.faults.LoadTraceFault.{LoadTraceFault}
 use Rattle.rd_trace.specs.declared.faults.LoadTraceFault.TheVariants as load
 use Rattle.rd_trace.specs.declared.faults.WriteTraceFault.{WriteTraceFault}
 use Rattle.rd_trace.specs.declared.faults.WriteTraceFault.TheVariants as write
-use Rattle.rd_trace.specs.Saved.{Trace, IsTraceText, IsTextOf}
+use Rattle.rd_trace.specs.Saved.{Trace, IsTraceText}
+use Rattle.rd_trace.specs.Writing.{IsTextOf}
 use Rattle.rd_trace.specs.Starts.{start_world, start_flaw}
 use Rattle.rd_trace.specs.Traces.{IsRefusedAt, IsMarkRefusedAt}
 use Rattle.rd_trace.specs.Loading.{loaded_state, HasMarks, IsPlayable}

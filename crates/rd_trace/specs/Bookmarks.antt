@@ -1,10 +1,10 @@
 -- Bookmarks as values: an object with the name and the list of events.
-use Rattle.std.specs.Prelude.{◌≡◌, ◌≤◌, ℕ, List, [], ◌∷◌, length, map, codes, IsTrue, not, Option, Some, None, Result, Ok, Err, Vec}
-use Rattle.std.specs.List.{list_all}
+use Rattle.std.specs.Prelude.{◌≡◌, ◌≤◌, ℕ, List, [], ◌∷◌, length, map, codes, Option, Some, None, Result, Ok, Err, Vec}
 use Rattle.std.specs.Global.{Global}
 use Rattle.serde_json.specs.Data.{Data, string, array, object, Items, no_items, item, no_members, member}
 use Rattle.rd_marks.specs.declared.names.MarkName.{MarkName}
-use Rattle.rd_marks.specs.Names.{bytes_of, same_name}
+use Rattle.rd_marks.specs.Names.{bytes_of}
+use Rattle.rd_marks.specs.Rules.{HaveDifferentNames}
 use Rattle.rd_marks.specs.NameBytes.{MOST_MARKS}
 use Rattle.rd_marks.specs.Books.{Mark}
 use Rattle.rd_trace.specs.Numbers.{member_count, text_at, SpellEach}
@@ -23,15 +23,10 @@ pub record IsMark (d : Data) (m : Mark) : Type 0 where
   pub name : HasMarkName d m.name
   pub events : events_at (codes "events") d ≡ Some m.events
 
--- no two bookmarks have one name
-abbrev pub HaveNames : List Mark → Type 0
-HaveNames [] = Unit {0}
-HaveNames (m ∷ ms) = IsTrue (list_all (λ k. not (same_name m.name k.name)) ms) × HaveNames ms
-
 -- values spell bookmarks: each one in its place, with names of their own, and no more than may be
 pub record AreMarks (ds : Items) (ms : List Mark) : Type 0 where
   pub each : SpellEach IsMark ds ms
-  pub names : HaveNames ms
+  pub names : HaveDifferentNames ms
   pub few : length ms ≤ MOST_MARKS
 
 -- the bookmark that was read

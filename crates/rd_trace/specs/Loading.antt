@@ -12,8 +12,9 @@ use Rattle.rd_trace.specs.declared.faults.FormFault.{FormFault}
 use Rattle.rd_trace.specs.declared.faults.FormFault.TheVariants.{NoMemory as FormNoMemory, BadForm}
 use Rattle.rd_step.specs.Starts.{fresh_world}
 use Rattle.rd_trace.specs.Starts.{start_world, start_flaw}
-use Rattle.rd_trace.specs.Saved.{Trace, IsFirstTrace, IsSecondTrace, IsTraceText, IsTextOf}
-use Rattle.rd_trace.specs.Traces.{IsTraceRing, GoThrough, MarksGoThrough, IsRefusedAt, IsMarkRefusedAt}
+use Rattle.rd_trace.specs.Saved.{Trace, IsFirstTrace, IsSecondTrace, IsTraceText, loaded_state}
+use Rattle.rd_marks.specs.Rules.{GoThrough, MarksGoThrough}
+use Rattle.rd_trace.specs.Traces.{IsRefusedAt, IsMarkRefusedAt}
 
 -- the number of cells of a book's rings
 abbrev pub any_ring : AnyBook → ℕ
@@ -31,13 +32,6 @@ any_state (Eight book) = book_state book
 abbrev pub form_fault : FormFault → LoadTraceFault
 form_fault FormNoMemory = NoMemory
 form_fault BadForm = BadTrace
-
--- the book of a trace: its start, live events, undone events and bookmarks
-abbrev pub loaded_state : {R : ℕ} → Trace R → BookState
-loaded_state t = record {
-  session = record { start = start_world t.start; live = t.live; undone = t.undone };
-  marks = t.marks;
-}
 
 -- the state of a book in which nothing was done yet: it begins in the fresh world
 abbrev pub fresh_state : ℕ → ℕ → BookState
@@ -84,11 +78,10 @@ pub record IsReachable (R : ℕ) (b : BookState) : Type 0 where
   pub marks : MarksGoThrough R b.session.start b.marks
   pub through : GoThrough R b.session.start (b.session.live ++ b.session.undone)
 
--- a text that this state is written as is a trace of it, and all of its events go through
-pub record IsLoadable (R : ℕ) (b : BookState) : Type 0 where
-  pub ring : IsTraceRing R
+-- a text is a trace of this state, whose start has no flaw, and all of its events go through
+pub record IsLoadable (R : ℕ) (b : BookState) (text : List ℕ) : Type 0 where
   pub reachable : IsReachable R b
-  pub reads : (text : List ℕ) → IsTextOf R b text → (t : Trace R) × IsTraceText text t × (start_flaw t.start ≡ None) × (loaded_state t ≡ b)
+  pub reads : (t : Trace R) × IsTraceText text t × (start_flaw t.start ≡ None) × (loaded_state t ≡ b)
 
 -- what loading gives of a text that a book in this state is written as: a book in this state, unless memory was refused
 abbrev pub LoadsAgain : ℕ → BookState → Result AnyBook LoadTraceFault → Type 0

@@ -10,7 +10,7 @@ use Rattle.rd_step.specs.declared.entries.Event.{Event}
 use Rattle.rd_marks.specs.Books.{Mark, BookState}
 use Rattle.rd_trace.specs.Numbers.{member_count, number_at, list_at}
 use Rattle.rd_trace.specs.Events.{events_at, events_data}
-use Rattle.rd_trace.specs.Starts.{IsStart, IsActorCount, IsStartData}
+use Rattle.rd_trace.specs.Starts.{IsStart, IsActorCount, IsStartData, start_world, start_flaw}
 use Rattle.rd_trace.specs.Bookmarks.{AreMarks, marks_data, saved_mark}
 use Rattle.rd_trace.specs.Traces.{IsTraceRing}
 use Rattle.rd_trace.specs.declared.starts.Start.{Start}
@@ -29,6 +29,13 @@ pub record Trace (R : ℕ) : Type 0 where
 -- the session that was read
 abbrev pub saved_trace : {R : ℕ} → SavedSession R → Trace R
 saved_trace s = record { start = s.start; marks = map saved_mark s.marks.items; live = s.events.items; undone = s.undone.items }
+
+-- the book of a trace: its start, live events, undone events and bookmarks
+abbrev pub loaded_state : {R : ℕ} → Trace R → BookState
+loaded_state t = record {
+  session = record { start = start_world t.start; live = t.live; undone = t.undone };
+  marks = t.marks;
+}
 
 -- a value is a trace of version 1: an object of four members; nothing is undone, and there is no bookmark
 pub record IsFirstTrace {R : ℕ} (d : Data) (t : Trace R) : Type 0 where
@@ -58,6 +65,10 @@ IsTrace {R} d t = IsTraceRing R × (IsFirstTrace d t ⊎ IsSecondTrace d t)
 abbrev pub IsTraceText : {R : ℕ} → List ℕ → Trace R → Type 0
 IsTraceText text t = IsUtf8 text × (d : Data) × (read text ≡ Some d) × IsTrace d t
 
+-- a value is a trace of version 2 of this state, whose start has no flaw
+abbrev pub SpellsBook : ℕ → BookState → Data → Type 0
+SpellsBook R b d = (t : Trace R) × IsSecondTrace d t × (start_flaw t.start ≡ None) × (loaded_state t ≡ b)
+
 -- what is read of a value that has this ring
 abbrev pub ReadsTrace : {R : ℕ} → Data → Result (SavedSession R) FormFault → Type 0
 ReadsTrace d (Ok s) = IsFirstTrace d (saved_trace s) ⊎ IsSecondTrace d (saved_trace s)
@@ -86,8 +97,8 @@ book_data R start b = object (
     (member (codes "version") (number (unsigned 2)) no_members))))))
 
 -- a text is what a book is written as: JSON without a space, its keys in the order of the alphabet, and a line feed
-abbrev pub IsTextOf : ℕ → BookState → List ℕ → Type 0
-IsTextOf R b text = (start : Data) × IsStartData R b.session.start start × (text ≡ compact_text (book_data R start b) ++ 10 ∷ [])
+abbrev pub IsWrittenAs : ℕ → BookState → List ℕ → Type 0
+IsWrittenAs R b text = (start : Data) × IsStartData R b.session.start start × (text ≡ compact_text (book_data R start b) ++ 10 ∷ [])
 
 -- what is read of a text: the value that it is as JSON
 abbrev pub ReadsText : List ℕ → Result Value FormFault → Type 0

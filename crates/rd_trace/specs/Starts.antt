@@ -68,6 +68,10 @@ ReadsParts d (Ok parts) = IsParts d parts
 ReadsParts d (Err NoMemory) = Unit {0}
 ReadsParts {R} d (Err BadForm) = (parts : Parts R) → IsParts d parts → ⊥
 
+-- a value spells a start that has no flaw, and whose world is this one
+abbrev pub SpellsWorld : ℕ → World → Data → Type 0
+SpellsWorld R w d = (start : Start R) × IsStart d start × (start_flaw start ≡ None) × (start_world start ≡ w)
+
 -- the value that a fresh start is written as
 abbrev pub fresh_data : ℕ → Data
 fresh_data count = object (member (codes "fresh") (number (unsigned count)) no_members)

@@ -10,7 +10,8 @@ use Rattle.rd_trace.specs.declared.faults.LoadTraceFault.TheVariants.{NoMemory, 
 use Rattle.rd_trace.specs.declared.replay.RefusedEvent.{RefusedEvent}
 use Rattle.rd_trace.specs.declared.starts.Start.{Start}
 use Rattle.rd_trace.specs.Starts.{start_world, start_flaw}
-use Rattle.rd_trace.specs.Traces.{session_at, GoThrough, MarksGoThrough, IsRefusedAt, IsMarkRefusedAt}
+use Rattle.rd_marks.specs.Rules.{GoThrough, MarksGoThrough}
+use Rattle.rd_trace.specs.Traces.{session_at, IsRefusedAt, IsMarkRefusedAt}
 
 -- the world that is made of a start
 abbrev pub MakesWorld : {R : ℕ} → Start R → Result (CodeWorld R) LoadTraceFault → Type 0

@@ -1,9 +1,10 @@
 -- Rings and runs: which rings a trace may have, and which events go through from the start of one.
-use Rattle.std.specs.Prelude.{◌≡◌, ◌≤◌, ◌⊎◌, ◌+◌, ℕ, List, [], ◌++◌, ◌∷◌, length, IsOk, Err}
-use Rattle.rd_step.specs.Prelude.{World, Refusal, run, MOST_STEPS}
+use Rattle.std.specs.Prelude.{◌≡◌, ◌⊎◌, ◌+◌, ℕ, List, [], ◌++◌, ◌∷◌, length, Err}
+use Rattle.rd_step.specs.Prelude.{World, Refusal}
 use Rattle.rd_step.specs.declared.entries.Event.{Event}
 use Rattle.rd_journal.specs.State.{State, apply}
 use Rattle.rd_marks.specs.Books.{Mark}
+use Rattle.rd_marks.specs.Rules.{GoThrough, MarksGoThrough}
 use Rattle.rd_trace.specs.declared.rings.Ring.{Ring}
 use Rattle.rd_trace.specs.declared.rings.Ring.TheVariants.{Two, Four, Eight}
 
@@ -21,11 +22,6 @@ ring_length Eight = 8
 abbrev pub session_at : World → List Event → State
 session_at start live = record { start = start; live = live; undone = [] }
 
--- these events go through from a start: they are no more than may be live, and none is refused
-pub record GoThrough (R : ℕ) (start : World) (events : List Event) : Type 0 where
-  pub few : length events ≤ MOST_STEPS
-  pub runs : IsOk (run R start events)
-
 -- the n-th of these events is the first that is refused, with this cause: those before it go through
 pub record IsRefusedAt (R : ℕ) (start : World) (events : List Event) (n : ℕ) (cause : Refusal) : Type 0 where
   pub before : List Event
@@ -35,11 +31,6 @@ pub record IsRefusedAt (R : ℕ) (start : World) (events : List Event) (n : ℕ)
   pub number : n ≡ length before + 1
   pub through : GoThrough R start before
   pub refused : apply R (session_at start before) event ≡ Err cause
-
--- the events of each bookmark go through
-abbrev pub MarksGoThrough : ℕ → World → List Mark → Type 0
-MarksGoThrough R start [] = Unit {0}
-MarksGoThrough R start (m ∷ ms) = GoThrough R start m.events × MarksGoThrough R start ms
 
 -- the m-th bookmark is the first of which an event is refused, and the n-th event the first of its, with this cause
 pub record IsMarkRefusedAt (R : ℕ) (start : World) (marks : List Mark) (m n : ℕ) (cause : Refusal) : Type 0 where

@@ -1,12 +1,13 @@
 //! Actors: an object with a member for each word of an actor's record.
 
-ghost use Rattle.std.specs.Prelude.{◌≡◌, Some, IfOk, IfSome, IfNone};
+ghost use Rattle.std.specs.Prelude.{◌≡◌, Some, IfOk, OnOk, IfSome, IfNone};
 ghost use Rattle.serde_json.specs.Data.{string};
 ghost use Rattle.serde_json.specs.Find.{as_str};
 ghost use Rattle.serde_json.specs.View.{view, items_view};
 ghost use Rattle.rd_actor.specs.declared.actors.Actor.{Actor};
 ghost use Rattle.rd_actor.specs.declared.actors.Pc.{Pc};
 ghost use Rattle.rd_script.specs.Actors.{label};
+ghost use Rattle.rd_trace.specs.Numbers.{SpellEach};
 ghost use Rattle.rd_trace.specs.Actors.{op_of, short_op, long_op, op_data, value_of, IsActor, actor_data, actors_data, ReadsActors};
 
 use super::faults::FormFault;
@@ -63,7 +64,8 @@ pub fn actors_in(alloc: Global, list: &Vec<Value>) -> Result<Vec<Actor>, FormFau
 
 /// The values of actors, in order.
 pub fn actors_value(alloc: Global, actors: &[Actor]) -> Result<Vec<Value>, AllocError>
-    ensures { IfOk result (λ values. items_view values.items ≡ actors_data actors.now) }
+    ensures values { IfOk result (λ values. items_view values.items ≡ actors_data actors.now) }
+    ensures spelled { OnOk result (SpellEach IsActor (actors_data actors.now) actors.now) }
 {
     let mut values = Vec::with_capacity(alloc, actors.len())?;
     for actor in actors {
@@ -98,7 +100,8 @@ fn actor_in(value: &Value) -> Option<Actor>
 
 /// The value of an actor.
 fn actor_value(alloc: Global, actor: &Actor) -> Result<Value, AllocError>
-    ensures { IfOk result (λ value. view value ≡ actor_data actor.now) }
+    ensures value { IfOk result (λ value. view value ≡ actor_data actor.now) }
+    ensures spelled { OnOk result (IsActor (actor_data actor.now) actor.now) }
 {
     let crq = name_value(alloc, actor.crq)?;
     let new = name_value(alloc, actor.new)?;

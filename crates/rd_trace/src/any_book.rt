@@ -1,11 +1,11 @@
 //! A book whose ring is known when the program runs, and what the program does with one.
 
-ghost use Rattle.std.specs.Prelude.{◌≡◌, ◌≤◌, false, IfOk, OnOk};
+ghost use Rattle.std.specs.Prelude.{◌≡◌, ◌≤◌, false, IfOk};
 ghost use Rattle.rd_step.specs.Prelude.{MOST_ACTORS, MOST_CELLS};
 ghost use Rattle.rd_script.specs.Script.{RunsScript};
 ghost use Rattle.rd_marks.specs.BookViews.{book_state};
 ghost use Rattle.rd_trace.specs.Traces.{ring_length};
-ghost use Rattle.rd_trace.specs.Loading.{any_ring, any_state, fresh_state, IsBookIn, IsLoadable};
+ghost use Rattle.rd_trace.specs.Loading.{any_ring, any_state, fresh_state, IsBookIn};
 ghost use Rattle.rd_trace.specs.Writing.{WritesTrace, is_write_fault};
 ghost use Rattle.rd_trace.specs.Devices.{devices};
 
@@ -75,7 +75,6 @@ impl AnyBook {
     pub fn write_trace<K: Sink>(&self, alloc: Global, writer: &mut K) -> Result<(), WriteTraceFault>
         requires { K.has_failed writer.old ≡ false }
         ensures writes { WritesTrace (any_ring self.now) (any_state self.now) (K.contents writer.old) (K.contents writer.new) result }
-        ensures loadable { OnOk result (IsLoadable (any_ring self.now) (any_state self.now)) }
         ensures failed { K.has_failed writer.new ≡ is_write_fault result }
     {
         match self {

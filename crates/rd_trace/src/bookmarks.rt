@@ -1,17 +1,15 @@
 //! Bookmarks: an object with the name and the list of events.
 
-ghost use Rattle.std.specs.Prelude.{◌≡◌, List, Some, IfOk, IfSome, IfNone, not, option_map, map};
+ghost use Rattle.std.specs.Prelude.{◌≡◌, Some, IfOk, OnOk, IfSome, IfNone, not};
 ghost use Rattle.std.specs.List.{list_all};
-ghost use Rattle.serde_json.specs.Data.{array};
 ghost use Rattle.serde_json.specs.View.{view, items_view};
 ghost use Rattle.rd_marks.specs.BookViews.{book_state};
-ghost use Rattle.rd_marks.specs.Books.{mark_events, name_and_length};
-ghost use Rattle.rd_marks.specs.Names.{bytes_of, same_name};
+ghost use Rattle.rd_marks.specs.Books.{mark_events};
+ghost use Rattle.rd_marks.specs.Names.{same_name};
+ghost use Rattle.rd_marks.specs.Rules.{KeepsRules};
 ghost use Rattle.rd_step.specs.Run.{events};
 ghost use Rattle.rd_marks.specs.declared.names.MarkName.{MarkName};
-ghost use Rattle.rd_trace.specs.Numbers.{member_count, text_at};
-ghost use Rattle.rd_trace.specs.Events.{events_data};
-ghost use Rattle.rd_trace.specs.Bookmarks.{ReadsMarks, ReadsMark, saved_mark, HasMarkName, marks_data, mark_data};
+ghost use Rattle.rd_trace.specs.Bookmarks.{AreMarks, IsMark, ReadsMarks, ReadsMark, HasMarkName, marks_data, mark_data};
 
 use super::events::{events_in, events_value};
 use super::faults::FormFault;
@@ -95,7 +93,9 @@ fn name_in(value: &Value) -> Option<MarkName>
 
 /// The values of the bookmarks of a book, in order.
 pub fn marks_value<const R: usize>(alloc: Global, book: &Book<R>) -> Result<Vec<Value>, AllocError>
-    ensures { IfOk result (λ values. items_view values.items ≡ marks_data (book_state book.now).marks) }
+    ensures values { IfOk result (λ values. items_view values.items ≡ marks_data (book_state book.now).marks) }
+    ensures spelled { OnOk result (AreMarks (marks_data (book_state book.now).marks) (book_state book.now).marks) }
+    ensures rules { KeepsRules R (book_state book.now) }
 {
     let mut values = Vec::with_capacity(alloc, book.marks() as usize)?;
     for i in 0..book.marks() {
@@ -113,7 +113,8 @@ fn mark_value<const R: usize>(
     i: u64,
     name: MarkName,
 ) -> Result<Value, AllocError>
-    ensures { IfOk result (λ value. IfSome (mark_events (book_state book.now) i) (λ es. view value ≡ mark_data (record { name = name; events = es }))) }
+    ensures value { IfOk result (λ value. IfSome (mark_events (book_state book.now) i) (λ es. view value ≡ mark_data (record { name = name; events = es }))) }
+    ensures spelled { OnOk result (IfSome (mark_events (book_state book.now) i) (λ es. IsMark (mark_data (record { name = name; events = es })) (record { name = name; events = es }))) }
 {
     let Ok(records) = book.mark_records(alloc, i) else {
         return Err(AllocError);

@@ -1,10 +1,10 @@
 //! Events: an array of a word and an actor, and of a number or a choice if the word takes one.
 
-ghost use Rattle.std.specs.Prelude.{◌≡◌, IfOk, option_and_then};
+ghost use Rattle.std.specs.Prelude.{◌≡◌, Some, IfOk, OnOk, option_and_then};
 ghost use Rattle.serde_json.specs.Find.{as_str};
 ghost use Rattle.serde_json.specs.View.{view, items_view};
 ghost use Rattle.rd_trace.specs.Numbers.{byte_number};
-ghost use Rattle.rd_trace.specs.Events.{act_of_word, act_with, event_by, event_of, short_data, long_data, act_data, events_data, ReadsEvents};
+ghost use Rattle.rd_trace.specs.Events.{act_of_word, act_with, event_by, event_of, events_of, short_data, long_data, act_data, events_data, ReadsEvents};
 
 use super::faults::FormFault;
 use super::numbers::byte_in;
@@ -90,7 +90,8 @@ fn act_with(word: &str, value: &Value) -> Option<Act>
 
 /// The values of events, in order.
 pub fn events_value(alloc: Global, events: &[Event]) -> Result<Vec<Value>, AllocError>
-    ensures { IfOk result (λ values. items_view values.items ≡ events_data events.now) }
+    ensures values { IfOk result (λ values. items_view values.items ≡ events_data events.now) }
+    ensures spelled { OnOk result (events_of (events_data events.now) ≡ Some events.now) }
 {
     let mut values = Vec::with_capacity(alloc, events.len())?;
     for event in events {
@@ -101,7 +102,8 @@ pub fn events_value(alloc: Global, events: &[Event]) -> Result<Vec<Value>, Alloc
 
 /// The value of an event.
 fn event_value(alloc: Global, event: Event) -> Result<Value, AllocError>
-    ensures { IfOk result (λ value. view value ≡ act_data event.actor event.act) }
+    ensures value { IfOk result (λ value. view value ≡ act_data event.actor event.act) }
+    ensures spelled { event_of (act_data event.actor event.act) ≡ Some event }
 {
     match event.act {
         Act::Enq(x) => long_value(alloc, "enq", event.actor, Value::from(x)),

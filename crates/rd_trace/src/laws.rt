@@ -1,8 +1,7 @@
 //! A law of the text of a trace: the contract of a function that does nothing.
 
 ghost use Rattle.std.specs.Prelude.{◌≡◌, ℕ, List};
-ghost use Rattle.rd_trace.specs.Saved.{Trace, IsTraceText};
-ghost use Rattle.rd_trace.specs.Loading.{loaded_state};
+ghost use Rattle.rd_trace.specs.Saved.{Trace, IsTraceText, loaded_state};
 
 /// A text gives one ring and one state at most.
 pub fn a_text_is_one_trace_at_most()

@@ -5,8 +5,10 @@ ghost use Rattle.serde_json.specs.View.{view};
 ghost use Rattle.rd_step.specs.Prelude.{MOST_CELLS};
 ghost use Rattle.rd_marks.specs.Books.{BookState};
 ghost use Rattle.rd_trace.specs.Numbers.{number_at};
-ghost use Rattle.rd_trace.specs.Saved.{IsTextOf, ReadsText};
-ghost use Rattle.rd_trace.specs.Loading.{LoadsTrace, LoadsAgain, LoadsValue, IsLoadable};
+ghost use Rattle.rd_trace.specs.Traces.{IsTraceRing};
+ghost use Rattle.rd_trace.specs.Saved.{ReadsText};
+ghost use Rattle.rd_trace.specs.Loading.{LoadsTrace, LoadsAgain, LoadsValue};
+ghost use Rattle.rd_trace.specs.Writing.{IsTextOf};
 
 use super::any_book::AnyBook;
 use super::faults::{FormFault, LoadTraceFault};
@@ -28,7 +30,7 @@ use std::alloc::Global;
 /// the event behind the `MOST_STEPS`-th of a list. `NoMemory` if memory was refused, at any point.
 pub fn load_trace(alloc: Global, text: &[u8]) -> Result<AnyBook, LoadTraceFault>
     ensures loads { LoadsTrace text.now result }
-    ensures again { (R : ℕ) (b : BookState) → IsLoadable R b → IsTextOf R b text.now → LoadsAgain R b result }
+    ensures again { (R : ℕ) (b : BookState) → IsTraceRing R → IsTextOf R b text.now → LoadsAgain R b result }
 {
     let value = value_of(alloc, text)?;
     match ring_in(&value) {

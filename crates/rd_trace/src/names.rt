@@ -1,6 +1,6 @@
 //! Names of segments: `[M,S]`, and `null` where a next names none.
 
-ghost use Rattle.std.specs.Prelude.{◌≡◌, IfOk};
+ghost use Rattle.std.specs.Prelude.{◌≡◌, Some, IfOk};
 ghost use Rattle.serde_json.specs.View.{view};
 ghost use Rattle.rd_trace.specs.Names.{name_of, next_of, name_data, next_data};
 
@@ -25,7 +25,8 @@ pub fn name_in(value: &Value) -> Option<SegName>
 
 /// The value of a name.
 pub fn name_value(alloc: Global, name: SegName) -> Result<Value, AllocError>
-    ensures { IfOk result (λ value. view value ≡ name_data name) }
+    ensures value { IfOk result (λ value. view value ≡ name_data name) }
+    ensures spelled { name_of (name_data name) ≡ Some name }
 {
     json!(in alloc; [name.maker, name.n])
 }
@@ -42,7 +43,8 @@ pub fn next_in(value: &Value) -> Option<Option<SegName>>
 
 /// The value of the name of the next segment, or of none.
 pub fn next_value(alloc: Global, next: Option<SegName>) -> Result<Value, AllocError>
-    ensures { IfOk result (λ value. view value ≡ next_data next) }
+    ensures value { IfOk result (λ value. view value ≡ next_data next) }
+    ensures spelled { next_of (next_data next) ≡ Some next }
 {
     match next {
         None => Ok(Value::Null),

@@ -7,9 +7,10 @@ ghost use Rattle.rd_journal.specs.Sessions.{state};
 ghost use Rattle.rd_marks.specs.BookViews.{book_state};
 ghost use Rattle.rd_marks.specs.NameBytes.{MOST_MARKS};
 ghost use Rattle.rd_trace.specs.Starts.{HasActorCount};
-ghost use Rattle.rd_trace.specs.Bookmarks.{saved_mark, HaveNames};
-ghost use Rattle.rd_trace.specs.Saved.{saved_trace};
-ghost use Rattle.rd_trace.specs.Loading.{loaded_state, Replays};
+ghost use Rattle.rd_marks.specs.Rules.{HaveDifferentNames};
+ghost use Rattle.rd_trace.specs.Bookmarks.{saved_mark};
+ghost use Rattle.rd_trace.specs.Saved.{saved_trace, loaded_state};
+ghost use Rattle.rd_trace.specs.Loading.{Replays};
 ghost use Rattle.rd_trace.specs.Steps.{MakesWorld, StepsAll, GoesTo, MakesLive, SetsMarks, IsFaultOfStep, IsFaultOfMark};
 
 use super::bookmarks::SavedMark;
@@ -44,7 +45,7 @@ pub fn replay<const R: usize>(
     requires positive { 1 ≤ R }
     requires small { R ≤ MOST_CELLS }
     requires counted { HasActorCount session.entry.start }
-    requires names { HaveNames (map saved_mark session.entry.marks.items) }
+    requires names { HaveDifferentNames (map saved_mark session.entry.marks.items) }
     requires few { length session.entry.marks.items ≤ MOST_MARKS }
     ensures { Replays (λ book. book_state book ≡ loaded_state (saved_trace session.entry)) (saved_trace session.entry) result }
 {
@@ -79,7 +80,7 @@ fn world_of<const R: usize>(alloc: Global, start: Start<R>) -> Result<World<R>, 
 
 /// Sets bookmarks, each at its events.
 fn set_marks<const R: usize>(book: &mut Book<R>, marks: &[SavedMark]) -> Result<(), LoadTraceFault>
-    requires names { HaveNames (map saved_mark marks.now) }
+    requires names { HaveDifferentNames (map saved_mark marks.now) }
     requires few { length marks.now ≤ MOST_MARKS }
     requires none { (book_state book.old).marks ≡ [] }
     ensures { SetsMarks R (book_state book.old) (map saved_mark marks.now) (book_state book.new) result }

@@ -1,6 +1,6 @@
 //! Whole sessions: the object of version 1, which is only read, and that of version 2, which is read and written.
 
-ghost use Rattle.std.specs.Prelude.{◌≡◌, ◌≤◌, ℕ, Some, codes, IfOk, IfSome, IfNone};
+ghost use Rattle.std.specs.Prelude.{◌≡◌, ◌≤◌, ℕ, Some, codes, IfOk, OnOk, IfSome, IfNone};
 ghost use Rattle.serde_json.specs.Data.{Data};
 ghost use Rattle.serde_json.specs.View.{view};
 ghost use Rattle.rd_step.specs.Prelude.{MOST_CELLS};
@@ -8,9 +8,10 @@ ghost use Rattle.rd_journal.specs.Sessions.{state};
 ghost use Rattle.rd_marks.specs.BookViews.{book_state};
 ghost use Rattle.rd_trace.specs.Numbers.{member_count, number_at};
 ghost use Rattle.rd_trace.specs.Traces.{IsTraceRing, ring_length};
-ghost use Rattle.rd_trace.specs.Starts.{IsStartData};
+ghost use Rattle.rd_trace.specs.Starts.{IsStartData, SpellsWorld};
 ghost use Rattle.rd_trace.specs.Events.{ReadsEventsAt};
-ghost use Rattle.rd_trace.specs.Saved.{ReadsTrace, ReadsFirst, ReadsSecond, book_data};
+ghost use Rattle.rd_trace.specs.Saved.{ReadsTrace, ReadsFirst, ReadsSecond, SpellsBook, book_data};
+ghost use Rattle.rd_trace.specs.Loading.{IsReachable};
 
 use super::bookmarks::{SavedMark, marks_in, marks_value};
 use super::events::{events_in, events_value};
@@ -145,8 +146,10 @@ fn events_at(alloc: Global, value: &Value, key: &str) -> Result<Vec<Event>, Form
 
 /// The value of a book's session and bookmarks, of version 2.
 pub fn book_value<const R: usize>(alloc: Global, book: &Book<R>) -> Result<Value, AllocError>
-    ensures { IfOk result (λ value. (start : Data) × IsStartData R (book_state book.now).session.start start
+    ensures value { IfOk result (λ value. (start : Data) × IsStartData R (book_state book.now).session.start start
         × (view value ≡ book_data R start (book_state book.now))) }
+    ensures spelled { IfOk result (λ value. SpellsBook R (book_state book.now) (view value)) }
+    ensures reachable { OnOk result (IsReachable R (book_state book.now)) }
 {
     let session = book.session();
     let events = events_value(alloc, &live_events(alloc, session)?)?;
@@ -165,7 +168,8 @@ pub fn book_value<const R: usize>(alloc: Global, book: &Book<R>) -> Result<Value
 
 /// The value of the start of a session.
 fn start_of<const R: usize>(alloc: Global, session: &Session<R>) -> Result<Value, AllocError>
-    ensures { IfOk result (λ value. IsStartData R (state session.now).start (view value)) }
+    ensures value { IfOk result (λ value. IsStartData R (state session.now).start (view value)) }
+    ensures spelled { IfOk result (λ value. SpellsWorld R (state session.now).start (view value)) }
 {
     let Ok(world) = session.start_world(alloc) else {
         return Err(AllocError);

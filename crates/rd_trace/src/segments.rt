@@ -1,11 +1,12 @@
 //! Segments: an object with a member for each word of a segment; its cells are arrays of three.
 
-ghost use Rattle.std.specs.Prelude.{◌≡◌, ◌≤◌, List, Some, IfOk, IfSome, IfNone, length};
+ghost use Rattle.std.specs.Prelude.{◌≡◌, ◌≤◌, List, Some, IfOk, OnOk, IfSome, IfNone, length};
 ghost use Rattle.serde_json.specs.View.{view, items_view};
 ghost use Rattle.rd_step.specs.Prelude.{MOST_CELLS};
 ghost use Rattle.rd_cell.specs.declared.cells.Cell.{Cell};
 ghost use Rattle.rd_ring.specs.declared.parts.SegmentParts.{SegmentParts};
-ghost use Rattle.rd_trace.specs.Segments.{cell_of, cells_of, cells_data, IsSegment, segment_data, segments_data, makers_data, ReadsSegments, ReadsMakers};
+ghost use Rattle.rd_trace.specs.Numbers.{SpellEach};
+ghost use Rattle.rd_trace.specs.Segments.{cell_of, cells_of, cells_data, IsSegment, IsSegmentList, segment_data, segments_data, makers_data, ReadsSegments, ReadsMakers};
 
 use super::actors::value_in;
 use super::faults::FormFault;
@@ -61,7 +62,8 @@ pub fn makers_value<const R: usize>(
     alloc: Global,
     makers: &[Vec<SegmentParts<R>>],
 ) -> Result<Vec<Value>, AllocError>
-    ensures { IfOk result (λ values. items_view values.items ≡ makers_data makers.now) }
+    ensures values { IfOk result (λ values. items_view values.items ≡ makers_data makers.now) }
+    ensures spelled { OnOk result (SpellEach IsSegmentList (makers_data makers.now) makers.now) }
 {
     let mut values = Vec::with_capacity(alloc, makers.len())?;
     for segments in makers {
@@ -95,7 +97,8 @@ fn segments_value<const R: usize>(
     alloc: Global,
     segments: &[SegmentParts<R>],
 ) -> Result<Vec<Value>, AllocError>
-    ensures { IfOk result (λ values. items_view values.items ≡ segments_data segments.now) }
+    ensures values { IfOk result (λ values. items_view values.items ≡ segments_data segments.now) }
+    ensures spelled { OnOk result (SpellEach IsSegment (segments_data segments.now) segments.now) }
 {
     let mut values = Vec::with_capacity(alloc, segments.len())?;
     for segment in segments {
@@ -127,7 +130,8 @@ fn segment_value<const R: usize>(
     alloc: Global,
     segment: &SegmentParts<R>,
 ) -> Result<Value, AllocError>
-    ensures { IfOk result (λ value. view value ≡ segment_data segment.now) }
+    ensures value { IfOk result (λ value. view value ≡ segment_data segment.now) }
+    ensures spelled { OnOk result (IsSegment (segment_data segment.now) segment.now) }
 {
     let cells = cells_value(alloc, &segment.cells)?;
     let next = next_value(alloc, segment.next)?;

@@ -1,13 +1,13 @@
 //! The start of a session: the fresh world of so many actors, or the parts of any other world.
 
-ghost use Rattle.std.specs.Prelude.{◌≡◌, ◌≤◌, ◌↔◌, ℕ, IsTrue, IfOk, IfSome, IfNone, option_map, Some, None, length};
+ghost use Rattle.std.specs.Prelude.{◌≡◌, ◌≤◌, ◌↔◌, ℕ, IsTrue, IfOk, OnOk, IfSome, IfNone, option_map, Some, None, length};
 ghost use Rattle.serde_json.specs.View.{view, items_view};
 ghost use Rattle.rd_step.specs.Prelude.{MOST_CELLS};
 ghost use Rattle.rd_step.specs.Starts.{fresh_world};
 ghost use Rattle.rd_step.specs.Parts.{world_of_parts, first_flaw};
 ghost use Rattle.rd_trace.specs.Names.{name_at};
 ghost use Rattle.rd_trace.specs.Numbers.{list_at, member_count};
-ghost use Rattle.rd_trace.specs.Starts.{IsFreshStart, IsActorCount, IsStartData, parts_data, ReadsStart, ReadsParts};
+ghost use Rattle.rd_trace.specs.Starts.{IsActorCount, IsParts, IsStartData, SpellsWorld, parts_data, ReadsStart, ReadsParts};
 
 use super::actors::{actors_in, actors_value};
 use super::arrays::{array_in, array_value};
@@ -122,9 +122,9 @@ fn list_at<'a>(value: &'a Value, key: &str) -> Option<&'a Vec<Value>>
 
 /// The value of a start of these parts: as the fresh world if they are its.
 pub fn start_value<const R: usize>(alloc: Global, parts: &Parts<R>) -> Result<Value, AllocError>
-    requires small { R ≤ MOST_CELLS }
     requires flawless { first_flaw parts.now ≡ None }
-    ensures { IfOk result (λ value. IsStartData R (world_of_parts parts.now) (view value)) }
+    ensures value { IfOk result (λ value. IsStartData R (world_of_parts parts.now) (view value)) }
+    ensures spelled { IfOk result (λ value. SpellsWorld R (world_of_parts parts.now) (view value)) }
 {
     if is_fresh(parts) {
         return json!(in alloc; {FRESH: parts.actors.len() as u64});
@@ -134,7 +134,8 @@ pub fn start_value<const R: usize>(alloc: Global, parts: &Parts<R>) -> Result<Va
 
 /// The value of parts.
 fn parts_value<const R: usize>(alloc: Global, parts: &Parts<R>) -> Result<Value, AllocError>
-    ensures { IfOk result (λ value. view value ≡ parts_data parts.now) }
+    ensures value { IfOk result (λ value. view value ≡ parts_data parts.now) }
+    ensures spelled { OnOk result (IsParts (parts_data parts.now) parts.now) }
 {
     let actors = actors_value(alloc, &parts.actors)?;
     let array = array_value(alloc, &parts.array)?;
@@ -152,8 +153,7 @@ fn parts_value<const R: usize>(alloc: Global, parts: &Parts<R>) -> Result<Value,
 
 /// Whether the parts of a well-formed world are those of the fresh world of as many actors.
 fn is_fresh<const R: usize>(parts: &Parts<R>) -> bool
-    requires small { R ≤ MOST_CELLS }
-    requires flawless { first_flaw parts.now ≡ None }
+    requires { first_flaw parts.now ≡ None }
     ensures { IsTrue result ↔ (world_of_parts parts.now ≡ fresh_world R (length parts.now.actors.items)) }
 {
     parts.qhead == SegName::ROOT

