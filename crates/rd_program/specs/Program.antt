@@ -12,11 +12,11 @@ use Rattle.rd_trace.specs.declared.faults.LoadTraceFault.{LoadTraceFault}
 use Rattle.rd_trace.specs.declared.faults.LoadTraceFault.TheVariants as load
 use Rattle.rd_trace.specs.declared.faults.WriteTraceFault.{WriteTraceFault}
 use Rattle.rd_trace.specs.declared.faults.WriteTraceFault.TheVariants as write
-use Rattle.rd_trace.specs.Saved.{Trace, IsTraceText}
+use Rattle.rd_trace.specs.Saved.{Trace, IsTraceText, loaded_state}
 use Rattle.rd_trace.specs.Writing.{IsTextOf}
 use Rattle.rd_trace.specs.Starts.{start_world, start_flaw}
 use Rattle.rd_trace.specs.Traces.{IsRefusedAt, IsMarkRefusedAt}
-use Rattle.rd_trace.specs.Loading.{loaded_state, HasMarks, IsPlayable}
+use Rattle.rd_trace.specs.Loading.{HasMarks, IsPlayable}
 use Rattle.rd_program.specs.declared.faults.ProgramFault.{ProgramFault}
 use Rattle.rd_program.specs.declared.faults.ProgramFault.TheVariants.{NoMemory, Read, Write, BadTrace, Flawed, TraceMark, TraceStep}
 
