@@ -1,0 +1,1 @@
+-- Events as values: what is read of a list, and what is written of one.

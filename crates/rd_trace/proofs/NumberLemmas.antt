@@ -1,0 +1,1 @@
+-- Whole numbers, bits and members of values.

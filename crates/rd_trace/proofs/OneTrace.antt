@@ -1,0 +1,1 @@
+-- A text is one trace at most.

@@ -1,0 +1,1 @@
+-- The start of a session as a value, and when it is the fresh world.

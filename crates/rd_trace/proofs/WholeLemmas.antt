@@ -1,0 +1,1 @@
+-- The value of a book has no float, and is not deep.
