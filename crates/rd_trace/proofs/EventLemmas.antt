@@ -1,1 +1,13 @@
 -- Events as values: what is read of a list, and what is written of one.
+use Rattle.std.proofs.Common.{◌≡◌, List, [], ◌∷◌, length, Option, None, refl}
+use Rattle.serde_json.specs.View.{items_view}
+use Rattle.serde_json.specs.declared.value.Value.{Value}
+use Rattle.rd_trace.specs.Events.{event_of_items}
+
+-- a list of another length spells no event
+pub other_length : (vs : List Value) → (length vs ≡ 2 → ⊥) → (length vs ≡ 3 → ⊥) → event_of_items (items_view vs) ≡ None
+other_length [] two three = refl
+other_length (a ∷ []) two three = refl
+other_length (a ∷ b ∷ []) two three = absurd (two refl)
+other_length (a ∷ b ∷ c ∷ []) two three = absurd (three refl)
+other_length (a ∷ b ∷ c ∷ d ∷ vs) two three = refl

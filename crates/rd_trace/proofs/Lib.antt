@@ -1,4 +1,3 @@
-pub mod FormLemmas
 pub mod SpellLemmas
 pub mod NumberLemmas
 pub mod EventLemmas

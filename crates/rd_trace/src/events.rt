@@ -30,7 +30,7 @@ pub fn events_in(alloc: Global, list: &Vec<Value>) -> Result<Vec<Event>, FormFau
 }
 
 /// The event that a value spells.
-#[tactic(auto, using(crate::proofs::FormLemmas::other_length))]
+#[tactic(auto, using(crate::proofs::EventLemmas::other_length))]
 fn event_in(value: &Value) -> Option<Event>
     ensures { result ≡ event_of (view value.now) }
 {
