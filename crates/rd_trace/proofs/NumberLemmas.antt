@@ -1,12 +1,13 @@
--- Whole numbers, bits and members of values.
-use Rattle.std.proofs.Common.{◌≡◌, ℕ, ◌≤◌, List, length, Option, Some, option_map, refl, sym, ap, ◌∙◌, le-leb, String, BTreeMap, Global}
+-- Whole numbers and members of values, and names of segments.
+use Rattle.std.proofs.Common.{◌≡◌, ℕ, ◌≤◌, List, [], ◌∷◌, length, Option, Some, None, option_map, refl, sym, ap, ◌∙◌, le-leb, String, BTreeMap, Global}
 use Rattle.serde_json.specs.Data.{Data, number, unsigned}
 use Rattle.serde_json.specs.Events.{members_len}
 use Rattle.serde_json.specs.Find.{as_object}
-use Rattle.serde_json.specs.View.{members_view}
+use Rattle.serde_json.specs.View.{items_view, members_view}
 use Rattle.serde_json.proofs.Views.{members_len-members_view}
 use Rattle.serde_json.specs.declared.value.Value.{Value}
 use Rattle.rd_trace.specs.Numbers.{byte_number, word_number}
+use Rattle.rd_trace.specs.Names.{name_of_items}
 
 -- the members of an object are as many as those of its map
 pub member_count : (m : BTreeMap (String Global) Value) (d : Data) → Some (members_view m.entries) ≡ as_object d → option_map members_len (as_object d) ≡ Some (length m.entries)
@@ -18,3 +19,10 @@ byte_spelled n h = rw (le-leb n 255 h) refl
 
 pub word_spelled : (n : ℕ) → n ≤ 4294967295 → word_number (number (unsigned n)) ≡ Some n
 word_spelled n h = rw (le-leb n 4294967295 h) refl
+
+-- a list of another length than two spells no name
+pub no_name : (vs : List Value) → (length vs ≡ 2 → ⊥) → name_of_items (items_view vs) ≡ None
+no_name [] two = refl
+no_name (m ∷ []) two = refl
+no_name (m ∷ n ∷ []) two = absurd (two refl)
+no_name (m ∷ n ∷ more ∷ vs) two = refl
