@@ -1,14 +1,15 @@
 -- The array as a value: which slots are read, whose positions rise, and its value, which spells it.
-use Rattle.std.proofs.Common.{◌≡◌, ℕ, zero, suc, ◌+◌, ◌<◌, ◌≤◌, List, [], ◌∷◌, ◌++◌, length, drop, set, replicate, get_or, codes, Option, Some, None, option_map, refl, sym, ap, ap₂, ◌∙◌, subst, arith}
-use Rattle.std.proofs.lemmas.List.{length-set}
-use Rattle.serde_json.specs.Data.{Data, number, string, array, unsigned, no_items, item}
+use Rattle.std.proofs.Common.{◌≡◌, ℕ, zero, suc, ◌+◌, ◌<◌, ◌≤◌, List, [], ◌∷◌, ◌++◌, length, drop, set, replicate, take, get_or, Bool, true, false, if◌then◌else◌, bytes_eq, codes, Option, Some, None, option_map, option_and_then, refl, sym, ap, ap₂, ◌∙◌, subst, arith, append-nil, length-take}
+use Rattle.std.proofs.lemmas.List.{length-set, take_more}
+use Rattle.serde_json.specs.Data.{Data, unsigned, negative, float, null, boolean, number, string, array, object, Items, no_items, item}
 use Rattle.serde_json.specs.View.{view, items_view}
 use Rattle.serde_json.specs.declared.value.Value.{Value}
 use Rattle.rd_step.specs.Prelude.{SLOTS}
 use Rattle.rd_cell.specs.declared.contents.ArrSlot.{ArrSlot}
 use Rattle.rd_cell.specs.declared.contents.ArrSlot.TheVariants.{Empty, Top, Value as Held}
 use Rattle.rd_segments.specs.declared.array.ArrayParts.{ArrayParts}
-use Rattle.rd_trace.specs.Arrays.{slot_content, slot_of_items, slot_of, slots_of, filled_slots, content_data, slots_data, IsArray, array_data}
+use Rattle.rd_trace.specs.Numbers.{whole_number}
+use Rattle.rd_trace.specs.Arrays.{slot_content, slot_of_items, slot_of, slots_of, filled_slots, slot_data, slots_data, IsArray, array_data}
 use Rattle.rd_trace.proofs.SpellLemmas.{then_item, items_view-last, behind, behind_none, ReadsEach, read_here, read_more, read_none, read_all}
 
 -- ---- reading
@@ -100,11 +101,42 @@ rises_there end done p None ps is h = absurd (cc)
 rises_there end done p (Some qs) ps is h = let same : ps ≡ done ++ p ∷ qs = cc in rises_at 0 end done p qs (subst (Rises 0 end) same h)
 
 -- no empty slot is spelled
-content_filled : (d : Data) (s : ArrSlot) → Some s ≡ slot_content d → IsFilled s
-content_filled d s is = ?
+some_filled : (s t : ArrSlot) → IsFilled t → Some s ≡ Some t → IsFilled s
+some_filled s t h is = let same : t ≡ s = cc in subst IsFilled same h
 
-pub slot_filled : (d : Data) (p : ℕ × ArrSlot) → Some p ≡ slot_of d → IsFilled p.1
-slot_filled d p is = ?
+top_filled : (b : Bool) (s : ArrSlot) → Some s ≡ (if b then Some Top else None) → IsFilled s
+top_filled true s is = some_filled s Top tt is
+top_filled false s is = absurd (cc)
+
+content_filled : (d : Data) (s : ArrSlot) → Some s ≡ slot_content d → IsFilled s
+content_filled null s is = absurd (cc)
+content_filled (boolean b) s is = absurd (cc)
+content_filled (number (unsigned n)) s is = some_filled s (Held n) tt is
+content_filled (number (negative z)) s is = absurd (cc)
+content_filled (number (float x)) s is = absurd (cc)
+content_filled (string t) s is = top_filled (bytes_eq t (codes "top")) s is
+content_filled (array ds) s is = absurd (cc)
+content_filled (object ms) s is = absurd (cc)
+
+pair_filled : (n : Option ℕ) (o : Option ArrSlot) (p : ℕ × ArrSlot) → ((s : ArrSlot) → Some s ≡ o → IsFilled s)
+    → Some p ≡ option_and_then (λ position. option_map (λ slot. (position, slot)) o) n → IsFilled p.1
+pair_filled None o p h is = absurd (cc)
+pair_filled (Some i) None p h is = absurd (cc)
+pair_filled (Some i) (Some s) p h is = let same : p ≡ (i, s) = cc in subst (λ x. IsFilled x.1) (sym same) (h s refl)
+
+items_filled : (ds : Items) (p : ℕ × ArrSlot) → Some p ≡ slot_of_items ds → IsFilled p.1
+items_filled no_items p is = absurd (cc)
+items_filled (item i no_items) p is = absurd (cc)
+items_filled (item i (item s no_items)) p is = pair_filled (whole_number i) (slot_content s) p (content_filled s) is
+items_filled (item i (item s (item more rest))) p is = absurd (cc)
+
+slot_filled : (d : Data) (p : ℕ × ArrSlot) → Some p ≡ slot_of d → IsFilled p.1
+slot_filled null p is = absurd (cc)
+slot_filled (boolean b) p is = absurd (cc)
+slot_filled (number n) p is = absurd (cc)
+slot_filled (string s) p is = absurd (cc)
+slot_filled (array ds) p is = items_filled ds p is
+slot_filled (object ms) p is = absurd (cc)
 
 pub reads_slots : ReadsEach slot_of slots_of
 reads_slots = record { nothing = refl; first = λ d ds. refl }
@@ -160,13 +192,28 @@ filled_behind i j (Empty ∷ xs) s at = filled_behind (suc i) j xs s (omega arit
 filled_behind i j (Top ∷ xs) s at = ap (λ ps. (i, Top) ∷ ps) (filled_behind (suc i) j xs s (omega arith))
 filled_behind i j (Held x ∷ xs) s at = ap (λ ps. (i, Held x) ∷ ps) (filled_behind (suc i) j xs s (omega arith))
 
--- the value of a slot with its position
-abbrev pub slot_data : ℕ → ArrSlot → Data
-slot_data i s = array (item (number (unsigned i)) (item (content_data s) no_items))
-
 slots_data-last : (ps : List (ℕ × ArrSlot)) (p : ℕ × ArrSlot) → slots_data (ps ++ p ∷ []) ≡ then_item (slots_data ps) (slot_data p.0 p.1)
 slots_data-last [] p = refl
 slots_data-last (q ∷ ps) p = ap (item (slot_data q.0 q.1)) (slots_data-last ps p)
+
+not_empty : (s : ArrSlot) → (s ≡ Empty → ⊥) → IsFilled s
+not_empty Empty other = other refl
+not_empty Top other = tt
+not_empty (Held x) other = tt
+
+module _ (ss : List ArrSlot) (i : ℕ) (d : ArrSlot) (vs : List Value) (within : i < length ss) (so_far : items_view vs ≡ slots_data (filled_slots 0 (take i ss))) where
+  filled_take : filled_slots 0 (take (i + 1) ss) ≡ filled_slots 0 (take i ss) ++ filled_slots i (get_or ss i d ∷ [])
+  filled_take = ap (filled_slots 0) (take_more ss i d within) ∙ filled_behind 0 i (take i ss) (get_or ss i d) (omega (arith, length-take i ss))
+
+  pub one_more_value : (v : Value) → (get_or ss i d ≡ Empty → ⊥) → view v ≡ slot_data i (get_or ss i d) → items_view (vs ++ v ∷ []) ≡ slots_data (filled_slots 0 (take (i + 1) ss))
+  one_more_value v other is =
+      let s = get_or ss i d in
+      items_view-last vs v ∙ ap₂ then_item so_far is ∙ sym (slots_data-last (filled_slots 0 (take i ss)) (i, s))
+      ∙ ap slots_data (ap (λ ps. filled_slots 0 (take i ss) ++ ps) (sym (filled_first i s [] (not_empty s other))) ∙ sym filled_take)
+
+  pub no_more_value : get_or ss i d ≡ Empty → items_view vs ≡ slots_data (filled_slots 0 (take (i + 1) ss))
+  no_more_value empty =
+      so_far ∙ ap slots_data (sym (append-nil (filled_slots 0 (take i ss))) ∙ ap (λ s. filled_slots 0 (take i ss) ++ filled_slots i (s ∷ [])) (sym empty) ∙ sym filled_take)
 
 slots_spelled : (i : ℕ) (ss : List ArrSlot) → slots_of (slots_data (filled_slots i ss)) ≡ Some (filled_slots i ss)
 slots_spelled i [] = refl
