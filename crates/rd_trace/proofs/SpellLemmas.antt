@@ -1,6 +1,6 @@
 -- Lists of values: one more value behind them, what each spells, and how many they are.
-use Rattle.std.proofs.Common.{◌≡◌, ℕ, suc, ◌+◌, ◌<◌, ◌≤◌, List, [], ◌∷◌, ◌++◌, length, drop, get_or, Option, Some, None, option_map, option_and_then, refl, sym, ap, ◌∙◌, append_assoc, append-nil}
-use Rattle.std.proofs.lemmas.List.{drop_more, drop_all}
+use Rattle.std.proofs.Common.{◌≡◌, ℕ, suc, ◌+◌, ◌<◌, ◌≤◌, List, [], ◌∷◌, ◌++◌, length, take, drop, get_or, Option, Some, None, option_map, option_and_then, refl, sym, ap, ap₂, ◌∙◌, subst, append_assoc, append-nil}
+use Rattle.std.proofs.lemmas.List.{take_more, drop_more, drop_all, take-append-drop}
 use Rattle.serde_json.specs.Data.{Data, Items, no_items, item}
 use Rattle.serde_json.specs.View.{view, items_view}
 use Rattle.serde_json.specs.declared.value.Value.{Value}
@@ -79,3 +79,35 @@ module _ {X : Type 0} (one : Data → Option X) (all : Items → Option (List X)
   read_last (item e ds) d x is =
       reads.first e (then_item ds d) ∙ ap (λ p. option_and_then (λ y. option_map (λ ys. y ∷ ys) p) (one e)) (read_last ds d x is) ∙ then_one x (one e) (all ds)
       ∙ ap (option_map (λ xs. xs ++ x ∷ [])) (sym (reads.first e ds))
+
+-- ---- lists that are read value by value
+
+pub take_item : {X : Type 0} (xs : List X) (i : ℕ) (x : X) → i < length xs → x ≡ get_or xs i x → take (i + 1) xs ≡ take i xs ++ x ∷ []
+take_item xs i x within is = take_more xs i x within ∙ ap (λ y. take i xs ++ y ∷ []) (sym is)
+
+module _ {X : Type 0} (Spells : Data → X → Type 0) (vs : List Value) (i : ℕ) (v : Value) (within : i < length vs) (is : v ≡ get_or vs i v) where
+  -- one more value is read
+  pub spell_each-more : (xs : List X) (x : X) → SpellEach Spells (items_view (take i vs)) xs → Spells (view v) x → SpellEach Spells (items_view (take (i + 1) vs)) (xs ++ x ∷ [])
+  spell_each-more xs x h k =
+      subst (λ ds. SpellEach Spells ds (xs ++ x ∷ [])) (sym (ap items_view (take_item vs i v within is) ∙ items_view-last (take i vs) v)) (spell_each-last Spells (items_view (take i vs)) (view v) xs x h k)
+
+  -- values of which one spells nothing spell no list
+  pub spell_each-none : ((x : X) → Spells (view v) x → ⊥) → (xs : List X) → SpellEach Spells (items_view vs) xs → ⊥
+  spell_each-none never xs h =
+      let split : vs ≡ take i vs ++ v ∷ drop (i + 1) vs =
+      sym (take-append-drop i vs) ∙ ap (λ ws. take i vs ++ ws) (drop_more vs i v within ∙ ap (λ w. w ∷ drop (i + 1) vs) (sym is)) in
+      spell_each-at Spells (take i vs) (drop (i + 1) vs) v never xs (subst (λ ws. SpellEach Spells (items_view ws) xs) split h)
+
+-- ---- lists that are written value by value
+
+-- values are those of these things, and spell them
+pub record AreValuesOf {X : Type 0} (Spells : Data → X → Type 0) (all : List X → Items) (vs : List Value) (xs : List X) : Type 0 where
+  pub values : items_view vs ≡ all xs
+  pub spelled : SpellEach Spells (all xs) xs
+
+module _ {X : Type 0} (Spells : Data → X → Type 0) (all : List X → Items) (datum : X → Data) (last : (xs : List X) (x : X) → all (xs ++ x ∷ []) ≡ then_item (all xs) (datum x)) where
+  pub one_more_value : (vs : List Value) (xs : List X) (v : Value) (x : X) → AreValuesOf Spells all vs xs → view v ≡ datum x → Spells (datum x) x → AreValuesOf Spells all (vs ++ v ∷ []) (xs ++ x ∷ [])
+  one_more_value vs xs v x h is spells = record {
+    values = items_view-last vs v ∙ ap₂ then_item h.values is ∙ sym (last xs x);
+    spelled = subst (λ ds. SpellEach Spells ds (xs ++ x ∷ [])) (sym (last xs x)) (spell_each-last Spells (all xs) (datum x) xs x h.spelled spells);
+  }

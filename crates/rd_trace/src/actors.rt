@@ -135,6 +135,7 @@ pub fn value_in(value: &Value) -> Option<Option<u64>>
 }
 
 /// The call that a value spells, or that there is none.
+#[tactic(auto, using(crate::proofs::ActorLemmas::no_op))]
 fn op_in(value: &Value) -> Option<Option<Op>>
     ensures { result ≡ op_of (view value.now) }
 {
