@@ -1,7 +1,7 @@
 -- Actors as values: the labels of control points, what is written of each part, and what is read again.
-use Rattle.std.proofs.Common.{◌≡◌, ℕ, ◌<◌, ◌≤◌, List, [], ◌∷◌, ◌++◌, length, get_or, Option, Some, None, true, false, codes, IsUtf8, refl, ap, arith, le-leb}
+use Rattle.std.proofs.Common.{◌≡◌, ℕ, ◌<◌, List, [], ◌∷◌, ◌++◌, length, get_or, Option, Some, None, true, false, IsUtf8, refl, ap, arith}
 use Rattle.json.proofs.Printed.Utf8.{are_ascii, IsUtf8-are_ascii}
-use Rattle.serde_json.specs.Data.{boolean, number, unsigned, item, Members, member}
+use Rattle.serde_json.specs.Data.{number, unsigned, item}
 use Rattle.serde_json.specs.View.{items_view}
 use Rattle.serde_json.specs.declared.value.Value.{Value}
 use Rattle.rd_actor.specs.declared.actors.Actor.{Actor}
@@ -11,6 +11,7 @@ use Rattle.rd_actor.specs.declared.actors.Pc.{Pc}
 use Rattle.rd_actor.specs.declared.actors.Pc.TheVariants.{Idle, E1, E2, E3, E4, E5, E6, E7, E8, E9, E10, E11, E12, E13, E14, Q1, Q2, Q3, Q4, Q5, Q6, Q7, Q8, Q9, Q10, Q11, Q12, Q13, Q14, A1, A2, B1, B2, B3}
 use Rattle.rd_script.specs.Actors.{label}
 use Rattle.rd_trace.specs.Names.{name_of, name_data}
+use Rattle.rd_trace.specs.Numbers.{byte_number}
 use Rattle.rd_trace.specs.Actors.{value_of, value_data, op_of_items, op_of, op_data, IsActor, actor_data, actors_data}
 use Rattle.rd_trace.proofs.SpellLemmas.{then_item}
 
@@ -33,7 +34,7 @@ value_spelled None = refl
 value_spelled (Some x) = refl
 
 -- the value of an actor spells it, since its pass is a number of 8 bits and its names are of their ranges
-pub actor_spelled : (a : Actor) → a.pass ≤ 255 → name_of (name_data a.crq) ≡ Some a.crq → name_of (name_data a.new) ≡ Some a.new → name_of (name_data a.next) ≡ Some a.next
+pub actor_spelled : (a : Actor) → byte_number (number (unsigned a.pass)) ≡ Some a.pass → name_of (name_data a.crq) ≡ Some a.crq → name_of (name_data a.new) ≡ Some a.new → name_of (name_data a.next) ≡ Some a.next
     → IsActor (actor_data a) a
 actor_spelled a pass crq new next = record {
   members = refl;
@@ -44,7 +45,7 @@ actor_spelled a pass crq new next = record {
   new = new;
   next = next;
   op = op_spelled a.op;
-  pass = rw (le-leb a.pass 255 pass) refl;
+  pass = pass;
   pc = refl;
   safe = refl;
   t = refl;
@@ -71,15 +72,6 @@ no_actor = record {
   val = None;
   idx = 0;
 }
-
--- the first four members of the value of an actor, and the first eight
-abbrev pub four_members : Actor → Members → Members
-four_members a more =
-    member (codes "closed") (boolean a.closed) (member (codes "crq") (name_data a.crq) (member (codes "h") (number (unsigned a.h)) (member (codes "idx") (number (unsigned a.idx)) more)))
-
-abbrev pub eight_members : Actor → Members → Members
-eight_members a more =
-    four_members a (member (codes "new") (name_data a.new) (member (codes "next") (name_data a.next) (member (codes "op") (op_data a.op) (member (codes "pass") (number (unsigned a.pass)) more))))
 
 -- ---- labels
 

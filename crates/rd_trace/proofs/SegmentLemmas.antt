@@ -1,5 +1,5 @@
 -- Segments as values: what is written of each part, and what is read again.
-use Rattle.std.proofs.Common.{◌≡◌, ℕ, suc, ◌+◌, ◌<◌, ◌≤◌, List, [], ◌∷◌, ◌++◌, length, get_or, take, drop, Option, Some, None, option_map, option_and_then, Result, Ok, Err, Vec, refl, sym, ap, ap₂, ◌∙◌, subst, append_assoc, append-nil, Global}
+use Rattle.std.proofs.Common.{◌≡◌, ℕ, suc, ◌+◌, ◌<◌, List, [], ◌∷◌, ◌++◌, length, get_or, take, drop, Option, Some, None, option_map, option_and_then, Result, Ok, Err, Vec, refl, sym, ap, ap₂, ◌∙◌, subst, Global}
 use Rattle.std.specs.Result.{IsErrAnd}
 use Rattle.serde_json.specs.Data.{Data, Items, array, no_items, item}
 use Rattle.serde_json.specs.Events.{items_len}
@@ -58,10 +58,10 @@ no_list d list none h = let other : Some h.0 ≡ None = sym h.1 ∙ sym none in 
 -- what is read of one of the lists is read of all, if it is none
 pub one_list : (R : ℕ) (vs : List Value) (i : ℕ) (v : Value) (ds : Items) (fault : FormFault) → i < length vs → v ≡ get_or vs i v → as_array (view v) ≡ Some ds → ReadsSegments {R = R} ds (Err fault)
     → ReadsMakers {R = R} (items_view vs) (Err fault)
-one_list R vs i v ds NoMemory within is array reads = tt
-one_list R vs i v ds BadForm within is array reads =
+one_list R vs i v ds NoMemory within is there reads = tt
+one_list R vs i v ds BadForm within is there reads =
     λ lists h. spell_each-none IsSegmentList vs i v within is
-    (λ list k. let same : Some k.0 ≡ Some ds = sym k.1 ∙ array in let there : k.0 ≡ ds = cc in reads list.items (subst (λ es. SpellEach IsSegment es list.items) there k.2)) lists h
+    (λ list k. let both : Some k.0 ≡ Some ds = sym k.1 ∙ there in let same : k.0 ≡ ds = cc in reads list.items (subst (λ es. SpellEach IsSegment es list.items) same k.2)) lists h
 
 -- the same of a fault that is passed up
 pub list_passed_up : (R : ℕ) (ds : Items) (fault : FormFault) (r : Result (Vec (Vec (SegmentParts R) Global) Global) FormFault) → IsErrAnd r (λ e. e ≡ fault) → ReadsMakers {R = R} ds (Err fault) → ReadsMakers ds r

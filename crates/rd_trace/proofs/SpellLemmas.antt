@@ -101,13 +101,13 @@ module _ {X : Type 0} (Spells : Data → X → Type 0) (vs : List Value) (i : �
 -- ---- lists that are written value by value
 
 -- values are those of these things, and spell them
-pub record AreValuesOf {X : Type 0} (Spells : Data → X → Type 0) (all : List X → Items) (vs : List Value) (xs : List X) : Type 0 where
+pub record AreSpelled {X : Type 0} (Spells : Data → X → Type 0) (all : List X → Items) (vs : List Value) (xs : List X) : Type 0 where
   pub values : items_view vs ≡ all xs
   pub spelled : SpellEach Spells (all xs) xs
 
 module _ {X : Type 0} (Spells : Data → X → Type 0) (all : List X → Items) (datum : X → Data) (last : (xs : List X) (x : X) → all (xs ++ x ∷ []) ≡ then_item (all xs) (datum x)) where
-  pub one_more_value : (vs : List Value) (xs : List X) (v : Value) (x : X) → AreValuesOf Spells all vs xs → view v ≡ datum x → Spells (datum x) x → AreValuesOf Spells all (vs ++ v ∷ []) (xs ++ x ∷ [])
-  one_more_value vs xs v x h is spells = record {
+  pub one_more_spelled : (vs : List Value) (xs : List X) (v : Value) (x : X) → AreSpelled Spells all vs xs → view v ≡ datum x → Spells (datum x) x → AreSpelled Spells all (vs ++ v ∷ []) (xs ++ x ∷ [])
+  one_more_spelled vs xs v x h is spells = record {
     values = items_view-last vs v ∙ ap₂ then_item h.values is ∙ sym (last xs x);
     spelled = subst (λ ds. SpellEach Spells ds (xs ++ x ∷ [])) (sym (last xs x)) (spell_each-last Spells (all xs) (datum x) xs x h.spelled spells);
   }

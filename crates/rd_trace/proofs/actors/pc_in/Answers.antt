@@ -1,4 +1,4 @@
-use Rattle.std.proofs.Common.{◌≡◌, ℕ, ◌<◌, Some, option_map, sym, ap, ◌∙◌, arith}
+use Rattle.std.proofs.Common.{◌≡◌, Some, option_map, sym, ap, ◌∙◌, arith}
 use Rattle.rd_script.specs.Actors.{label}
 use Rattle.rd_trace.proofs.ActorLemmas.{no_point}
 use Rattle.rd_trace.proofs.actors.pc_in.Goals as goal

@@ -1,4 +1,3 @@
-use Rattle.std.proofs.Common.{take}
 use Rattle.rd_trace.proofs.SegmentLemmas.{AreRead}
 use Rattle.rd_trace.proofs.segments.cells_in.Given as goal
 

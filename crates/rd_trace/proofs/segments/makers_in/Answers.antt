@@ -1,4 +1,4 @@
-use Rattle.std.proofs.Common.{rules, ◌≡◌, [], ◌∷◌, ◌++◌, Err, sym, ap, subst, arith}
+use Rattle.std.proofs.Common.{rules, ◌≡◌, [], ◌∷◌, ◌++◌, Err, sym, subst, arith}
 use Rattle.serde_json.specs.View.{view, items_view}
 use Rattle.rd_trace.specs.Numbers.{SpellEach}
 use Rattle.rd_trace.specs.Segments.{IsSegmentList, ReadsMakers}
