@@ -1,4 +1,4 @@
-use Rattle.std.proofs.Common.{◌≡◌, ◌+◌, ◌<◌, ◌≤◌, length, sym, ap, ◌∙◌, arith}
+use Rattle.std.proofs.Common.{◌+◌, ◌<◌, ◌≤◌, length, sym, ap, ◌∙◌, arith}
 use Rattle.serde_json.specs.View.{items_view}
 use Rattle.rd_step.specs.Prelude.{SLOTS}
 use Rattle.rd_trace.specs.Arrays.{slots_of}

@@ -1,4 +1,4 @@
-use Rattle.std.proofs.Common.{◌≡◌, ◌++◌, ◌∷◌, [], sym, ap, ◌∙◌, arith}
+use Rattle.std.proofs.Common.{◌≡◌, ◌++◌, ◌∷◌, [], ap, ◌∙◌}
 use Rattle.serde_json.specs.View.{items_view}
 use Rattle.rd_trace.proofs.ArrayLemmas.{one_more_value, no_more_value}
 use Rattle.rd_trace.proofs.arrays.slots_value.Goals as goal

@@ -2,7 +2,7 @@ use Rattle.std.proofs.Common.{take, get_or, arith}
 use Rattle.std.proofs.lemmas.List.{take_more}
 use Rattle.rd_actor.specs.declared.actors.Act.TheVariants.{Enq}
 use Rattle.rd_step.specs.declared.entries.Event.{Event}
-use Rattle.rd_trace.proofs.EventLemmas.{AreValuesOf, one_more_value}
+use Rattle.rd_trace.proofs.EventLemmas.{one_more_value}
 use Rattle.rd_trace.proofs.events.events_value.Goals as goal
 
 pub loop-event-preserved : goal.loop-event-preserved
