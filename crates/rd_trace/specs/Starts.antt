@@ -1,7 +1,16 @@
 -- The start of a session as a value: the fresh world of so many actors, or the parts of any other world.
-use Rattle.std.specs.Prelude.{◌≡◌, ◌≤◌, ◌⊎◌, ℕ, List, codes, Option, Some, None, Result, Ok, Err}
+use Rattle.std.specs.Prelude.{◌≡◌, ◌≢◌, ◌≤◌, ◌<◌, ◌⊎◌, ℕ, suc, List, length, slice_get, slice_index_or, codes, Option, Some, None, Result, Ok, Err}
 use Rattle.serde_json.specs.Data.{Data, number, array, object, unsigned, no_members, member}
 use Rattle.serde_json.specs.Find.{get}
+use Rattle.rd_cell.specs.declared.cells.Cell.{Cell}
+use Rattle.rd_cell.specs.declared.places.SegName.{SegName}
+use Rattle.rd_cell.specs.declared.places.Place.{Place}
+use Rattle.rd_cell.specs.Places.{root}
+use Rattle.rd_cell.specs.Cells.{new_cell}
+use Rattle.rd_cell.specs.Contents.{fresh}
+use Rattle.rd_ring.specs.declared.parts.SegmentParts.{SegmentParts}
+use Rattle.rd_segments.specs.Lists.{by_name}
+use Rattle.rd_segments.specs.Parts.{PartsOf, part_of_parts}
 use Rattle.rd_step.specs.Prelude.{World, MOST_ACTORS}
 use Rattle.rd_step.specs.Starts.{fresh_world}
 use Rattle.rd_step.specs.Parts.{world_of_parts, first_flaw}
@@ -90,3 +99,19 @@ abbrev pub IsStartData : ℕ → World → Data → Type 0
 IsStartData R w d =
     ((count : ℕ) × (w ≡ fresh_world R count) × (1 ≤ count) × (count ≤ MOST_ACTORS) × (d ≡ fresh_data count))
     ⊎ (((count : ℕ) → w ≡ fresh_world R count → ⊥) × (p : Parts R) × (world_of_parts p ≡ w) × (d ≡ parts_data p))
+
+-- ---- when parts are those of a fresh world. No public clause cites these
+
+-- nothing was done to the cells of a ring
+abbrev pub AreFreshCells : List Cell → Type 0
+AreFreshCells cells = (k : ℕ) (d : Cell) → k < length cells → slice_index_or cells k d ≡ new_cell k None
+
+-- there is just one segment, and nothing was done to it
+pub record IsFreshAlone {R : ℕ} (segments : List (SegmentParts R)) : Type 0 where
+  pub first : (q : Place) → part_of_parts (slice_get segments 0) q ≡ fresh R q
+  pub others : (n : ℕ) → slice_get segments (suc n) ≡ None
+
+-- the root is the only segment, and nothing was done to it
+pub record HasFreshRootAlone {R : ℕ} (makers : List (PartsOf R)) : Type 0 where
+  pub at_root : (q : Place) → part_of_parts (by_name makers root) q ≡ fresh R q
+  pub alone : (s : SegName) → s ≢ root → by_name makers s ≡ None

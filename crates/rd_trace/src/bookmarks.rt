@@ -1,7 +1,7 @@
 //! Bookmarks: an object with the name and the list of events.
 
-ghost use Rattle.std.specs.Prelude.{◌≡◌, Some, IfOk, OnOk, IfSome, IfNone, not};
-ghost use Rattle.std.specs.List.{list_all};
+ghost use Rattle.std.specs.Prelude.{◌≡◌, Some, IfOk, OnOk, IfSome, IfNone};
+ghost use Rattle.std.specs.List.{list_any};
 ghost use Rattle.serde_json.specs.View.{view, items_view};
 ghost use Rattle.rd_marks.specs.BookViews.{book_state};
 ghost use Rattle.rd_marks.specs.Books.{mark_events};
@@ -9,6 +9,7 @@ ghost use Rattle.rd_marks.specs.Names.{same_name};
 ghost use Rattle.rd_marks.specs.Rules.{KeepsRules};
 ghost use Rattle.rd_step.specs.Run.{events};
 ghost use Rattle.rd_marks.specs.declared.names.MarkName.{MarkName};
+ghost use Rattle.rd_trace.specs.Events.{ReadsEventsAt};
 ghost use Rattle.rd_trace.specs.Bookmarks.{AreMarks, IsMark, ReadsMarks, ReadsMark, HasMarkName, marks_data, mark_data};
 
 use super::events::{events_in, events_value};
@@ -58,23 +59,32 @@ pub fn marks_in(alloc: Global, list: &Vec<Value>) -> Result<Vec<SavedMark>, Form
 
 /// Whether one of these bookmarks has this name.
 fn is_taken(marks: &[SavedMark], name: MarkName) -> bool
-    ensures { not result ≡ list_all (λ mark. not (same_name mark.name name)) marks.now }
+    ensures { result ≡ list_any (λ mark. same_name name mark.name) marks.now }
 {
-    marks.iter().any(|mark| mark.name == name)
+    marks.iter().any(|mark| name == mark.name)
 }
 
 /// The bookmark that a value spells.
 fn mark_in(alloc: Global, value: &Value) -> Result<SavedMark, FormFault>
     ensures { ReadsMark (view value.now) result }
 {
-    let list = value.get(EVENTS).and_then(Value::as_array);
-    let (Some(name), Some(list)) = (name_in(value), list) else {
+    let Some(name) = name_in(value) else {
         return Err(FormFault::BadForm);
     };
     Ok(SavedMark {
         name,
-        events: events_in(alloc, list)?,
+        events: events_at(alloc, value, EVENTS)?,
     })
+}
+
+/// The events that the list at a key of an object spells.
+pub fn events_at(alloc: Global, value: &Value, key: &str) -> Result<Vec<Event>, FormFault>
+    ensures { ReadsEventsAt key.now (view value.now) result }
+{
+    match value.get(key).and_then(Value::as_array) {
+        None => Err(FormFault::BadForm),
+        Some(list) => events_in(alloc, list),
+    }
 }
 
 /// The name of the bookmark that a value spells, if it has the members of one.
@@ -97,8 +107,9 @@ pub fn marks_value<const R: usize>(alloc: Global, book: &Book<R>) -> Result<Vec<
     ensures spelled { OnOk result (AreMarks (marks_data (book_state book.now).marks) (book_state book.now).marks) }
     ensures rules { KeepsRules R (book_state book.now) }
 {
-    let mut values = Vec::with_capacity(alloc, book.marks() as usize)?;
-    for i in 0..book.marks() {
+    let count = book.marks();
+    let mut values = Vec::with_capacity(alloc, count as usize)?;
+    for i in 0..count {
         if let Ok((name, _)) = book.mark_at(i + 1) {
             values.push(mark_value(alloc, book, i + 1, name)?)?;
         }

@@ -1,20 +1,20 @@
 //! Whole sessions: the object of version 1, which is only read, and that of version 2, which is read and written.
 
-ghost use Rattle.std.specs.Prelude.{◌≡◌, ◌≤◌, ℕ, Some, codes, IfOk, OnOk, IfSome, IfNone};
+ghost use Rattle.std.specs.Prelude.{◌≡◌, ◌≤◌, ◌++◌, ℕ, Some, codes, IfOk, OnOk, IfSome, IfNone};
 ghost use Rattle.serde_json.specs.Data.{Data};
 ghost use Rattle.serde_json.specs.View.{view};
 ghost use Rattle.rd_step.specs.Prelude.{MOST_CELLS};
 ghost use Rattle.rd_journal.specs.Sessions.{state};
 ghost use Rattle.rd_marks.specs.BookViews.{book_state};
+ghost use Rattle.rd_marks.specs.Rules.{GoThrough};
 ghost use Rattle.rd_trace.specs.Numbers.{member_count, number_at};
 ghost use Rattle.rd_trace.specs.Traces.{IsTraceRing, ring_length};
 ghost use Rattle.rd_trace.specs.Starts.{IsStartData, SpellsWorld};
-ghost use Rattle.rd_trace.specs.Events.{ReadsEventsAt};
 ghost use Rattle.rd_trace.specs.Saved.{ReadsTrace, ReadsFirst, ReadsSecond, SpellsBook, book_data};
 ghost use Rattle.rd_trace.specs.Loading.{IsReachable};
 
-use super::bookmarks::{SavedMark, marks_in, marks_value};
-use super::events::{events_in, events_value};
+use super::bookmarks::{SavedMark, events_at, marks_in, marks_value};
+use super::events::events_value;
 use super::faults::FormFault;
 use super::numbers::{member_count, number_at};
 use super::rings::Ring;
@@ -134,16 +134,6 @@ fn second_session_in<const R: usize>(
     })
 }
 
-/// The events that the list at a key of an object spells.
-fn events_at(alloc: Global, value: &Value, key: &str) -> Result<Vec<Event>, FormFault>
-    ensures { ReadsEventsAt key.now (view value.now) result }
-{
-    match value.get(key).and_then(Value::as_array) {
-        None => Err(FormFault::BadForm),
-        Some(list) => events_in(alloc, list),
-    }
-}
-
 /// The value of a book's session and bookmarks, of version 2.
 pub fn book_value<const R: usize>(alloc: Global, book: &Book<R>) -> Result<Value, AllocError>
     ensures value { IfOk result (λ value. (start : Data) × IsStartData R (book_state book.now).session.start start
@@ -152,6 +142,7 @@ pub fn book_value<const R: usize>(alloc: Global, book: &Book<R>) -> Result<Value
     ensures reachable { OnOk result (IsReachable R (book_state book.now)) }
 {
     let session = book.session();
+    events_go_through(session);
     let events = events_value(alloc, &live_events(alloc, session)?)?;
     let marks = marks_value(alloc, book)?;
     let start = start_of(alloc, session)?;
@@ -164,6 +155,13 @@ pub fn book_value<const R: usize>(alloc: Global, book: &Book<R>) -> Result<Value
         UNDONE: undone,
         VERSION: WRITTEN
     })
+}
+
+/// A session's live events and then its undone ones go through from its start: the contract of its world says so.
+fn events_go_through<const R: usize>(session: &Session<R>)
+    ensures { GoThrough R (state session.now).start ((state session.now).live ++ (state session.now).undone) }
+{
+    let _world = session.world();
 }
 
 /// The value of the start of a session.
@@ -187,11 +185,10 @@ fn live_events<const R: usize>(
 ) -> Result<Vec<Event>, AllocError>
     ensures { IfOk result (λ list. list.items ≡ (state session.now).live) }
 {
-    let mut events = Vec::with_capacity(alloc, session.len() as usize)?;
-    for done in 0..session.len() {
-        if let Ok(entry) = session.entry(done + 1) {
-            events.push(entry.event)?;
-        }
+    let live = session.live();
+    let mut events = Vec::with_capacity(alloc, live.len())?;
+    for k in 0..live.len() {
+        events.push(live.at(k).event)?;
     }
     Ok(events)
 }
@@ -203,9 +200,10 @@ fn undone_events<const R: usize>(
 ) -> Result<Vec<Event>, AllocError>
     ensures { IfOk result (λ list. list.items ≡ (state session.now).undone) }
 {
-    let mut events = Vec::with_capacity(alloc, session.undone_len() as usize)?;
-    for done in 0..session.undone_len() {
-        if let Some(event) = session.undone_event(done + 1) {
+    let count = session.undone_len();
+    let mut events = Vec::with_capacity(alloc, count as usize)?;
+    for k in 0..count {
+        if let Some(event) = session.undone_event(k + 1) {
             events.push(event)?;
         }
     }

@@ -1,13 +1,19 @@
 //! The start of a session: the fresh world of so many actors, or the parts of any other world.
 
-ghost use Rattle.std.specs.Prelude.{◌≡◌, ◌≤◌, ◌↔◌, ℕ, IsTrue, IfOk, OnOk, IfSome, IfNone, option_map, Some, None, length};
+ghost use Rattle.std.specs.Prelude.{◌≡◌, ◌≤◌, ◌↔◌, ℕ, [], IsTrue, IfOk, OnOk, IfSome, IfNone, option_map, Some, None, length};
+ghost use Rattle.std.specs.List.{All};
 ghost use Rattle.serde_json.specs.View.{view, items_view};
+ghost use Rattle.rd_cell.specs.Cells.{new_cell};
+ghost use Rattle.rd_cell.specs.Contents.{fresh};
+ghost use Rattle.rd_ring.specs.Segments.{part_from};
+ghost use Rattle.rd_segments.specs.Array.{array_part, fresh_array};
+ghost use Rattle.rd_actor.specs.Actors.{idle};
 ghost use Rattle.rd_step.specs.Prelude.{MOST_CELLS};
 ghost use Rattle.rd_step.specs.Starts.{fresh_world};
 ghost use Rattle.rd_step.specs.Parts.{world_of_parts, first_flaw};
 ghost use Rattle.rd_trace.specs.Names.{name_at};
 ghost use Rattle.rd_trace.specs.Numbers.{list_at, member_count};
-ghost use Rattle.rd_trace.specs.Starts.{IsActorCount, IsParts, IsStartData, SpellsWorld, parts_data, ReadsStart, ReadsParts};
+ghost use Rattle.rd_trace.specs.Starts.{IsActorCount, IsParts, IsStartData, SpellsWorld, parts_data, ReadsStart, ReadsParts, AreFreshCells, IsFreshAlone, HasFreshRootAlone};
 
 use super::actors::{actors_in, actors_value};
 use super::arrays::{array_in, array_value};
@@ -151,41 +157,67 @@ fn parts_value<const R: usize>(alloc: Global, parts: &Parts<R>) -> Result<Value,
     })
 }
 
-/// Whether the parts of a well-formed world are those of the fresh world of as many actors.
+/// Whether parts are those of the fresh world of as many actors.
 fn is_fresh<const R: usize>(parts: &Parts<R>) -> bool
-    requires { first_flaw parts.now ≡ None }
     ensures { IsTrue result ↔ (world_of_parts parts.now ≡ fresh_world R (length parts.now.actors.items)) }
 {
     parts.qhead == SegName::ROOT
         && parts.qtail == SegName::ROOT
-        && parts.actors.iter().all(|actor| *actor == Actor::idle())
+        && are_idle(&parts.actors)
         && is_fresh_array(&parts.array)
         && are_fresh_makers(&parts.segments)
 }
 
+/// Whether each of these actors is in no call, and was in none.
+fn are_idle(actors: &[Actor]) -> bool
+    ensures { IsTrue result ↔ All (λ actor. actor ≡ idle) actors.now }
+{
+    actors.iter().all(|actor| is_idle(actor))
+}
+
+/// Whether an actor is in no call, and was in none.
+fn is_idle(actor: &Actor) -> bool
+    ensures { IsTrue result ↔ (actor.now ≡ idle) }
+{
+    *actor == Actor::idle()
+}
+
 /// Whether nothing was done to the array.
 fn is_fresh_array(array: &ArrayParts) -> bool
-    ensures { result ≡ is_fresh_array array.now }
+    ensures { IsTrue result ↔ (array_part array.now ≡ fresh_array) }
 {
-    array.head == 0 && array.tail == 0 && array.cells[..].iter().all(|slot| *slot == ArrSlot::Empty)
+    array.head == 0 && array.tail == 0 && are_empty(&array.cells)
+}
+
+/// Whether each of these slots is empty.
+fn are_empty(slots: &[ArrSlot]) -> bool
+    ensures { IsTrue result ↔ All (λ slot. slot ≡ ArrSlot.Empty) slots.now }
+{
+    slots.iter().all(|slot| is_empty(slot))
+}
+
+/// Whether a slot is empty.
+fn is_empty(slot: &ArrSlot) -> bool
+    ensures { IsTrue result ↔ (slot.now ≡ ArrSlot.Empty) }
+{
+    *slot == ArrSlot::Empty
 }
 
 /// Whether the root is fresh and the only segment.
 fn are_fresh_makers<const R: usize>(makers: &[Vec<SegmentParts<R>>]) -> bool
     requires { R ≤ MOST_CELLS }
-    ensures { result ≡ are_fresh_makers makers.now }
+    ensures { IsTrue result ↔ HasFreshRootAlone makers.now }
 {
     match makers {
         [] => false,
-        [root, others @ ..] => is_fresh_root(root)
-            && others.iter().all(|segments| segments.is_empty()),
+        [first, others @ ..] => is_fresh_root(first) && have_no_segment(others),
     }
 }
 
-/// Whether there is one segment, and it is fresh.
+/// Whether there is just one segment, and it is fresh.
 fn is_fresh_root<const R: usize>(segments: &[SegmentParts<R>]) -> bool
     requires { R ≤ MOST_CELLS }
-    ensures { result ≡ is_fresh_root segments.now }
+    ensures { IsTrue result ↔ IsFreshAlone segments.now }
 {
     match segments {
         [root] => is_fresh_segment(root),
@@ -193,10 +225,25 @@ fn is_fresh_root<const R: usize>(segments: &[SegmentParts<R>]) -> bool
     }
 }
 
+/// Whether no maker has a segment.
+fn have_no_segment<const R: usize>(makers: &[Vec<SegmentParts<R>>]) -> bool
+    requires { R ≤ MOST_CELLS }
+    ensures { IsTrue result ↔ All (λ list. list.items ≡ []) makers.now }
+{
+    makers.iter().all(|list| has_no_segment(list))
+}
+
+/// Whether a maker has no segment.
+fn has_no_segment<const R: usize>(list: &Vec<SegmentParts<R>>) -> bool
+    ensures { IsTrue result ↔ (list.now.items ≡ []) }
+{
+    list.is_empty()
+}
+
 /// Whether nothing was done to a segment.
 fn is_fresh_segment<const R: usize>(segment: &SegmentParts<R>) -> bool
     requires { R ≤ MOST_CELLS }
-    ensures { result ≡ is_fresh_segment segment.now }
+    ensures { IsTrue result ↔ (part_from segment.now ≡ fresh R) }
 {
     segment.head == 0
         && segment.tail == 0
@@ -207,17 +254,24 @@ fn is_fresh_segment<const R: usize>(segment: &SegmentParts<R>) -> bool
 
 /// Whether nothing was done to the cells of a ring.
 fn are_fresh_cells(cells: &[Cell]) -> bool
-    ensures { result ≡ are_fresh_cells 0 cells.now }
+    ensures { IsTrue result ↔ AreFreshCells cells.now }
 {
     for i in 0..cells.len() {
-        let fresh = Cell {
-            safe: true,
-            idx: i as u64,
-            val: None,
-        };
-        if cells[i] != fresh {
+        if !is_fresh_cell(&cells[i], i as u64) {
             return false;
         }
     }
     true
+}
+
+/// Whether nothing was done to the cell of this index.
+fn is_fresh_cell(cell: &Cell, index: u64) -> bool
+    ensures { IsTrue result ↔ (cell.now ≡ new_cell index None) }
+{
+    *cell
+        == Cell {
+            safe: true,
+            idx: index,
+            val: None,
+        }
 }
