@@ -1,10 +1,11 @@
 -- The start of a session as a value, and when it is the fresh world.
-use Rattle.std.proofs.Common.{◌≡◌, ◌≢◌, ◌↔◌, ◌⊎◌, ℕ, zero, suc, ◌+◌, ◌<◌, ◌≤◌, Bool, true, false, ◌&&◌, not, ◌==◌, if◌then◌else◌, nat_lt, nat_le, MatchBool, HoldsAt, All, List, [], ◌∷◌, length, get_or, slice_get, Option, Some, None, option_map, Result, Ok, Err, Vec, codes, inl, inr, refl, sym, ap, ◌∙◌, subst, arith, lt-ltb, le-ltb}
+use Rattle.std.proofs.Common.{◌≡◌, ◌≢◌, ◌↔◌, ◌⊎◌, ℕ, zero, suc, ◌+◌, ◌-◌, ◌<◌, ◌≤◌, Bool, true, false, ◌&&◌, not, ◌==◌, if◌then◌else◌, nat_lt, nat_le, MatchBool, HoldsAt, All, List, [], ◌∷◌, length, get_or, take, drop, slice_get, Option, Some, None, option_map, Result, Ok, Err, Vec, codes, inl, inr, refl, sym, ap, ap₂, ◌∙◌, subst, arith, lt-ltb, le-ltb}
 use Rattle.std.specs.List.{AllWithin}
 use Rattle.std.specs.Global.{Global}
-use Rattle.std.proofs.lemmas.Bool.{cases_Bool, cases_lt, cond-true, cond-false, and_parts, not-false, leb-true, true≢false, false≢true}
+use Rattle.std.proofs.lemmas.Bool.{cases_Bool, cases_lt, cond-true, cond-false, and_parts, not-false, leb-true, both_ways, true≢false, false≢true}
 use Rattle.std.proofs.lemmas.Option.{same_Some, slice_get-get_or, slice_get_past, slice_get_within}
 use Rattle.std.proofs.lemmas.List.Elements.{All-from_all_within, All-head, All-tail, All-from_get_or}
+use Rattle.std.proofs.lemmas.List.{take_rest}
 use mathlib.Core.Path.{fun_ext}
 use Rattle.serde_json.specs.Data.{Data}
 use Rattle.serde_json.specs.Find.{get}
@@ -111,6 +112,16 @@ all_decided P true xs h = ((λ _. All-from_all_within P xs h), (λ _. refl))
 all_decided P false [] h = absurd (omega (arith, h.1))
 all_decided P false (x ∷ xs) h = ((λ e. absurd (false≢true e)), (λ all. absurd (all_decided-cons P x xs h all)))
 
+-- ---- two tests
+
+-- the first is passed
+pub both_tests : {P Q W : Type 0} (a b : Bool) → (a ≡ true) ↔ P → (b ≡ true) ↔ Q → (P → Q → W) → (W → Q) → a ≡ true → (b ≡ true) ↔ W
+both_tests a b first second all other passed = ((λ e. all (first.0 passed) (second.0 e)), (λ w. second.1 (other w)))
+
+-- the first is failed
+pub first_test : {P W : Type 0} (a : Bool) → (a ≡ true) ↔ P → (W → P) → a ≡ false → (a ≡ true) ↔ W
+first_test a first one failed = ((λ e. absurd (both_ways a failed e)), (λ w. first.1 (one w)))
+
 -- ---- a fresh segment
 
 module _ {R : ℕ} (s : SegmentParts R) where
@@ -158,6 +169,12 @@ module _ {R : ℕ} (s : SegmentParts R) where
 
 -- ---- the makers' lists
 
+second_other : (m n : ℕ) → let s : SegName = record { maker = suc m; n = n } in s ≢ root
+second_other m n e = let k : suc m ≡ 0 = ap (λ (s : SegName). s.maker) e in omega arith
+
+later_other : (n : ℕ) → let s : SegName = record { maker = 0; n = suc n } in s ≢ root
+later_other n e = let k : suc n ≡ 0 = ap (λ (s : SegName). s.n) e in omega arith
+
 module _ {R : ℕ} where
   -- a fresh segment alone
   pub alone_from_fresh : (s : SegmentParts R) → part_from s ≡ fresh R → IsFreshAlone (s ∷ [])
@@ -165,6 +182,11 @@ module _ {R : ℕ} where
 
   pub fresh_from_alone : (s : SegmentParts R) → IsFreshAlone (s ∷ []) → part_from s ≡ fresh R
   fresh_from_alone s h = fun_ext h.first
+
+  pub only_one : (ss : List (SegmentParts R)) (s : SegmentParts R) → length ss ≡ 1 → s ≡ get_or ss 0 s → ss ≡ s ∷ []
+  only_one [] s len is = absurd (omega (arith, len))
+  only_one (t ∷ []) s len is = ap (λ x. x ∷ []) (sym is)
+  only_one (t ∷ u ∷ ss) s len is = absurd (omega (arith, len))
 
   -- no segment, or two, are no fresh one alone
   pub not_alone : (ss : List (SegmentParts R)) → (length ss ≡ 1 → ⊥) → IsFreshAlone ss → ⊥
@@ -190,12 +212,6 @@ module _ {R : ℕ} where
   no_first [] h = refl
   no_first (s ∷ ss) h = absurd (cc)
 
-  second_other : (m n : ℕ) → let s : SegName = record { maker = suc m; n = n } in s ≢ root
-  second_other m n e = let k : suc m ≡ 0 = ap (λ (s : SegName). s.maker) e in omega arith
-
-  later_other : (n : ℕ) → let s : SegName = record { maker = 0; n = suc n } in s ≢ root
-  later_other n e = let k : suc n ≡ 0 = ap (λ (s : SegName). s.n) e in omega arith
-
   pub first_alone : (first : PartsOf R) (lists : List (PartsOf R)) → HasFreshRootAlone (first ∷ lists) → IsFreshAlone first.items
   first_alone first lists h = record { first = h.at_root; others = λ n. h.alone (record { maker = 0; n = suc n }) (later_other n) }
 
@@ -204,6 +220,12 @@ module _ {R : ℕ} where
       no_first (get_or lists k d).items (
         ap (λ o. by_number o 0) (sym (slice_get-get_or lists k d within)) ∙ h.alone (record { maker = suc k; n = 0 }) (second_other k 0)
       )
+
+  -- the first list, and the others
+  pub first_and_others : (makers : List (PartsOf R)) (first : PartsOf R) → 1 ≤ length makers → first ≡ get_or makers 0 first
+      → makers ≡ first ∷ take (length makers - 1) (drop 1 makers)
+  first_and_others [] first some is = absurd (omega (arith, some))
+  first_and_others (list ∷ lists) first some is = ap₂ (λ l ls. l ∷ ls) (sym is) (sym (take_rest (list ∷ lists) 1))
 
   pub some_maker : (makers : List (PartsOf R)) → makers ≡ [] → HasFreshRootAlone makers → ⊥
   some_maker [] e h = let no : None ≡ Some (Number 0) = h.at_root (Head root) in cc
@@ -301,50 +323,37 @@ if_none true = refl
 if_none false = refl
 
 module _ {R : ℕ} (p : Parts R) where
-  -- parts of a fresh world
-  pub record ArePartsOfFresh : Type 0 where
-    pub qhead : p.qhead ≡ root
-    pub qtail : p.qtail ≡ root
-    pub actors : All (λ actor. actor ≡ idle) p.actors.items
-    pub array : array_part p.array ≡ fresh_array
-    pub makers : HasFreshRootAlone p.segments.items
-
-  module _ (h : ArePartsOfFresh) where
+  module _ (qhead : p.qhead ≡ root) (qtail : p.qtail ≡ root) (array : array_part p.array ≡ fresh_array) (makers : HasFreshRootAlone p.segments.items) where
     -- a place of a segment has what it has in the fresh space
     of_segment : (s : SegName) (q : Place) → part_of_parts (by_name p.segments.items s) q ≡ (if is_name root s then fresh R q else None)
     of_segment s q =
         elim (cases_Bool (is_name root s)) [
           | inl e ↦
-              ap (λ (t : SegName). part_of_parts (by_name p.segments.items t) q) (sym (is_name-true root s e)) ∙ h.makers.at_root q
+              ap (λ (t : SegName). part_of_parts (by_name p.segments.items t) q) (sym (is_name-true root s e)) ∙ makers.at_root q
               ∙ sym (cond-true (is_name root s) (fresh R q) None e)
           | inr e ↦
-              ap (λ o. part_of_parts o q) (h.makers.alone s (λ same. true≢false (sym (ap (is_name root) same ∙ is_name-refl root) ∙ e)))
+              ap (λ o. part_of_parts o q) (makers.alone s (λ same. true≢false (sym (ap (is_name root) same ∙ is_name-refl root) ∙ e)))
               ∙ sym (cond-false (is_name root s) (fresh R q) None e)
         ]
 
-    of_space : (q : Place) → contents_of_parts p.segments.items p.qhead p.qtail p.array q ≡ fresh_space R q
-    of_space QHead = ap (λ n. Some (Name n)) h.qhead
-    of_space QTail = ap (λ n. Some (Name n)) h.qtail
+    of_space : (q : Place) → (world_of_parts p).at q ≡ fresh_space R q
+    of_space QHead = ap (λ n. Some (Name n)) qhead
+    of_space QTail = ap (λ n. Some (Name n)) qtail
     of_space (Head s) = of_segment s (Head s)
     of_space (Tail s) = of_segment s (Tail s)
     of_space (Next s) = of_segment s (Next s)
     of_space (CellAt s i) = of_segment s (CellAt s i)
     of_space (WholeOf s) = sym (if_none (is_name root s))
-    of_space ArrHead = ap (λ (f : Contents). f ArrHead) h.array
-    of_space ArrTail = ap (λ (f : Contents). f ArrTail) h.array
-    of_space (ArrCell i) = ap (λ (f : Contents). f (ArrCell i)) h.array
+    of_space ArrHead = ap (λ (f : Contents). f ArrHead) array
+    of_space ArrTail = ap (λ (f : Contents). f ArrTail) array
+    of_space (ArrCell i) = ap (λ (f : Contents). f (ArrCell i)) array
 
-    of_actors : actor_at p.actors.items ≡ actors_by (λ n. idle) (length p.actors.items)
-    of_actors =
-        list_actors p.actors.items (λ n. idle) (length p.actors.items) refl
-        (λ n within. slice_get-get_or p.actors.items n idle within ∙ ap Some (h.actors n idle within))
+    pub space_fresh : (world_of_parts p).at ≡ fresh_space R
+    space_fresh = fun_ext of_space
 
-    pub world_fresh : world_of_parts p ≡ fresh_world R (length p.actors.items)
-    world_fresh = let at = fun_ext of_space in λ i. record { at = at i; actor = of_actors i }
-
-  module _ (e : world_of_parts p ≡ fresh_world R (length p.actors.items)) where
-    at_place : (q : Place) → contents_of_parts p.segments.items p.qhead p.qtail p.array q ≡ fresh_space R q
-    at_place q = ap (λ (w : World). w.at q) e
+  module _ (e : (world_of_parts p).at ≡ fresh_space R) where
+    at_place : (q : Place) → (world_of_parts p).at q ≡ fresh_space R q
+    at_place q = ap (λ (f : Contents). f q) e
 
     fresh_root : (q : Place) → part_of_parts (by_name p.segments.items root) q ≡ fresh R q
     fresh_root (Head t) = head_named (by_name p.segments.items root) root t ∙ at_place (Head root)
@@ -373,21 +382,33 @@ module _ {R : ℕ} (p : Parts R) where
     fresh_array_at (ArrCell i) = at_place (ArrCell i)
     fresh_array_at _ = refl
 
-    idle_at : All (λ actor. actor ≡ idle) p.actors.items
-    idle_at k d within =
+    pub ends_of_fresh : (p.qhead ≡ root) × (p.qtail ≡ root)
+    ends_of_fresh =
+        let h : Some (Name p.qhead) ≡ Some (Name root) = at_place QHead in
+        let t : Some (Name p.qtail) ≡ Some (Name root) = at_place QTail in
+        ((cc), (cc))
+
+    pub inside_of_fresh : (array_part p.array ≡ fresh_array) × HasFreshRootAlone p.segments.items
+    inside_of_fresh = (fun_ext fresh_array_at, record { at_root = fresh_root; alone = no_other_segment })
+
+  -- with idle actors it is the fresh world
+  pub world_fresh : (world_of_parts p).at ≡ fresh_space R → All (λ actor. actor ≡ idle) p.actors.items → world_of_parts p ≡ fresh_world R (length p.actors.items)
+  world_fresh at actors =
+      let same =
+      list_actors p.actors.items (λ n. idle) (length p.actors.items) refl
+      (λ n within. slice_get-get_or p.actors.items n idle within ∙ ap Some (actors n idle within)) in
+      λ i. record { at = at i; actor = same i }
+
+  module _ (e : world_of_parts p ≡ fresh_world R (length p.actors.items)) where
+    pub space_of_fresh : (world_of_parts p).at ≡ fresh_space R
+    space_of_fresh = ap (λ (w : World). w.at) e
+
+    pub actors_of_fresh : All (λ actor. actor ≡ idle) p.actors.items
+    actors_of_fresh k d within =
         same_Some (get_or p.actors.items k d) idle (
           sym (slice_get-get_or p.actors.items k d within) ∙ ap (λ (w : World). w.actor (suc k)) e
           ∙ cond-true (nat_lt k (length p.actors.items)) (Some idle) None (lt-ltb k (length p.actors.items) within)
         )
-
-    pub fresh_parts : ArePartsOfFresh
-    fresh_parts = record {
-      qhead = (let h : Some (Name p.qhead) ≡ Some (Name root) = at_place QHead in cc);
-      qtail = (let h : Some (Name p.qtail) ≡ Some (Name root) = at_place QTail in cc);
-      actors = idle_at;
-      array = fun_ext fresh_array_at;
-      makers = record { at_root = fresh_root; alone = no_other_segment };
-    }
 
   -- the fresh world of another number of actors is another one
   pub one_count : (count : ℕ) → world_of_parts p ≡ fresh_world R count → count ≡ length p.actors.items

@@ -1,12 +1,14 @@
 //! The start of a session: the fresh world of so many actors, or the parts of any other world.
 
-ghost use Rattle.std.specs.Prelude.{◌≡◌, ◌≤◌, ◌↔◌, ℕ, [], IsTrue, IfOk, OnOk, IfSome, IfNone, option_map, Some, None, length};
+ghost use Rattle.std.specs.Prelude.{◌≡◌, ◌≤◌, ◌↔◌, ℕ, [], false, IsTrue, IfOk, OnOk, IfSome, IfNone, option_map, Some, None, length};
 ghost use Rattle.std.specs.List.{All};
 ghost use Rattle.serde_json.specs.View.{view, items_view};
+ghost use Rattle.rd_cell.specs.Places.{root};
 ghost use Rattle.rd_cell.specs.Cells.{new_cell};
 ghost use Rattle.rd_cell.specs.Contents.{fresh};
 ghost use Rattle.rd_ring.specs.Segments.{part_from};
 ghost use Rattle.rd_segments.specs.Array.{array_part, fresh_array};
+ghost use Rattle.rd_segments.specs.SpaceFields.{fresh_space};
 ghost use Rattle.rd_actor.specs.Actors.{idle};
 ghost use Rattle.rd_step.specs.Prelude.{MOST_CELLS};
 ghost use Rattle.rd_step.specs.Starts.{fresh_world};
@@ -161,11 +163,28 @@ fn parts_value<const R: usize>(alloc: Global, parts: &Parts<R>) -> Result<Value,
 fn is_fresh<const R: usize>(parts: &Parts<R>) -> bool
     ensures { IsTrue result ↔ (world_of_parts parts.now ≡ fresh_world R (length parts.now.actors.items)) }
 {
-    parts.qhead == SegName::ROOT
-        && parts.qtail == SegName::ROOT
-        && are_idle(&parts.actors)
-        && is_fresh_array(&parts.array)
-        && are_fresh_makers(&parts.segments)
+    is_fresh_space(parts) && are_idle(&parts.actors)
+}
+
+/// Whether each place has what it has in the fresh world.
+fn is_fresh_space<const R: usize>(parts: &Parts<R>) -> bool
+    ensures { IsTrue result ↔ ((world_of_parts parts.now).at ≡ fresh_space R) }
+{
+    are_root(parts.qhead, parts.qtail) && is_fresh_inside(parts)
+}
+
+/// Whether both of the queue's ends name the root.
+fn are_root(qhead: SegName, qtail: SegName) -> bool
+    ensures { IsTrue result ↔ ((qhead ≡ root) × (qtail ≡ root)) }
+{
+    qhead == SegName::ROOT && qtail == SegName::ROOT
+}
+
+/// Whether nothing was done to the array, nor to the root, which is the only segment.
+fn is_fresh_inside<const R: usize>(parts: &Parts<R>) -> bool
+    ensures { IsTrue result ↔ ((array_part parts.now.array ≡ fresh_array) × HasFreshRootAlone parts.now.segments.items) }
+{
+    is_fresh_array(&parts.array) && are_fresh_makers(&parts.segments)
 }
 
 /// Whether each of these actors is in no call, and was in none.
@@ -186,7 +205,14 @@ fn is_idle(actor: &Actor) -> bool
 fn is_fresh_array(array: &ArrayParts) -> bool
     ensures { IsTrue result ↔ (array_part array.now ≡ fresh_array) }
 {
-    array.head == 0 && array.tail == 0 && are_empty(&array.cells)
+    is_fresh_pair(array.head, array.tail) && are_empty(&array.cells)
+}
+
+/// Whether both counters are at their start.
+fn is_fresh_pair(head: u64, tail: u64) -> bool
+    ensures { IsTrue result ↔ ((head ≡ 0) × (tail ≡ 0)) }
+{
+    head == 0 && tail == 0
 }
 
 /// Whether each of these slots is empty.
@@ -230,7 +256,11 @@ fn have_no_segment<const R: usize>(makers: &[Vec<SegmentParts<R>>]) -> bool
     requires { R ≤ MOST_CELLS }
     ensures { IsTrue result ↔ All (λ list. list.items ≡ []) makers.now }
 {
-    makers.iter().all(|list| has_no_segment(list))
+    makers.iter().all(
+        |list| -> bool
+            ensures { IsTrue result ↔ (list.now.items ≡ []) }
+        { has_no_segment(list) },
+    )
 }
 
 /// Whether a maker has no segment.
@@ -245,11 +275,14 @@ fn is_fresh_segment<const R: usize>(segment: &SegmentParts<R>) -> bool
     requires { R ≤ MOST_CELLS }
     ensures { IsTrue result ↔ (part_from segment.now ≡ fresh R) }
 {
-    segment.head == 0
-        && segment.tail == 0
-        && !segment.closed
-        && segment.next.is_none()
-        && are_fresh_cells(&segment.cells)
+    has_fresh_words(segment) && are_fresh_cells(&segment.cells)
+}
+
+/// Whether a segment's counters are at their start, it is open, and no other follows it.
+fn has_fresh_words<const R: usize>(segment: &SegmentParts<R>) -> bool
+    ensures { IsTrue result ↔ (((segment.now.head ≡ 0) × (segment.now.tail ≡ 0)) × ((segment.now.closed ≡ false) × (segment.now.next ≡ None))) }
+{
+    is_fresh_pair(segment.head, segment.tail) && !segment.closed && segment.next.is_none()
 }
 
 /// Whether nothing was done to the cells of a ring.
