@@ -1,6 +1,7 @@
 -- The start of a session as a value, and when it is the fresh world.
 use Rattle.std.proofs.Common.{◌≡◌, ◌≢◌, ◌↔◌, ◌⊎◌, ℕ, zero, suc, ◌+◌, ◌-◌, ◌<◌, ◌≤◌, Bool, true, false, ◌&&◌, not, ◌==◌, if◌then◌else◌, nat_lt, nat_le, MatchBool, HoldsAt, All, List, [], ◌∷◌, length, get_or, take, drop, slice_get, Option, Some, None, option_map, Result, Ok, Err, Vec, codes, inl, inr, refl, sym, ap, ap₂, ◌∙◌, subst, arith, lt-ltb, le-ltb}
 use Rattle.std.specs.List.{AllWithin}
+use Rattle.std.specs.Result.{IsErrAnd}
 use Rattle.std.specs.Global.{Global}
 use Rattle.std.proofs.lemmas.Bool.{cases_Bool, cases_lt, cond-true, cond-false, and_parts, not-false, leb-true, both_ways, true≢false, false≢true}
 use Rattle.std.proofs.lemmas.Option.{same_Some, slice_get-get_or, slice_get_past, slice_get_within}
@@ -44,6 +45,11 @@ use Rattle.rd_trace.specs.declared.starts.Start.{Start}
 use Rattle.rd_trace.specs.declared.starts.Start.TheVariants.{Fresh, Parts as OfParts}
 use Rattle.rd_trace.specs.declared.faults.FormFault.{FormFault}
 use Rattle.rd_trace.specs.declared.faults.FormFault.TheVariants.{NoMemory, BadForm}
+
+-- what holds of the error that is passed up holds of the answer
+pub passed_up : {T E : Type 0} (P : Result T E → Type 0) (x : E) (r : Result T E) → IsErrAnd r (λ e. e ≡ x) → P (Err x) → P r
+passed_up P x (Ok y) is h = absurd is
+passed_up P x (Err e) is h = subst (λ f. P (Err f)) (sym is) h
 
 -- ---- what is read
 
