@@ -95,10 +95,10 @@ actor_data a = object (
 
 abbrev pub actors_data : List Actor → Items
 actors_data [] = no_items
-actors_data (a ∷ as) = item (actor_data a) (actors_data as)
+actors_data (a ∷ rest) = item (actor_data a) (actors_data rest)
 
 -- what is read of a list of actors
 abbrev pub ReadsActors : Items → Result (Vec Actor Global) FormFault → Type 0
 ReadsActors ds (Ok actors) = SpellEach IsActor ds actors.items
 ReadsActors ds (Err NoMemory) = Unit {0}
-ReadsActors ds (Err BadForm) = (as : List Actor) → SpellEach IsActor ds as → ⊥
+ReadsActors ds (Err BadForm) = (actors : List Actor) → SpellEach IsActor ds actors → ⊥

@@ -45,15 +45,19 @@ pub record IsArray (d : Data) (a : ArrayParts) : Type 0 where
   pub head : number_at (codes "head") d ≡ Some a.head
   pub tail : number_at (codes "tail") d ≡ Some a.tail
 
--- the value of a slot that isn't empty
+-- what is said of a slot, which isn't empty where it is written
 abbrev pub content_data : ArrSlot → Data
 content_data Empty = null
 content_data Top = string (codes "top")
 content_data (Value x) = number (unsigned x)
 
+-- the value of a slot with its position
+abbrev pub slot_data : ℕ → ArrSlot → Data
+slot_data position slot = array (item (number (unsigned position)) (item (content_data slot) no_items))
+
 abbrev pub slots_data : List (ℕ × ArrSlot) → Items
 slots_data [] = no_items
-slots_data (s ∷ ss) = item (array (item (number (unsigned s.0)) (item (content_data s.1) no_items))) (slots_data ss)
+slots_data (s ∷ ss) = item (slot_data s.0 s.1) (slots_data ss)
 
 -- the value that the array is written as
 abbrev pub array_data : ArrayParts → Data

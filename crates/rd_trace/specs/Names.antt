@@ -1,5 +1,5 @@
 -- Names of segments as values: `[M,S]`, and `null` where a next names none.
-use Rattle.std.specs.Prelude.{◌≡◌, ℕ, List, Option, Some, None, option_map, option_and_then}
+use Rattle.std.specs.Prelude.{ℕ, List, Option, Some, None, option_map, option_and_then}
 use Rattle.serde_json.specs.Data.{Data, null, boolean, number, string, array, object, unsigned, Items, no_items, item}
 use Rattle.serde_json.specs.Find.{get, as_array}
 use Rattle.rd_cell.specs.declared.places.SegName.{SegName}

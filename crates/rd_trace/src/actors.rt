@@ -1,13 +1,13 @@
 //! Actors: an object with a member for each word of an actor's record.
 
 ghost use Rattle.std.specs.Prelude.{◌≡◌, Some, IfOk, OnOk, IfSome, IfNone};
-ghost use Rattle.serde_json.specs.Data.{string};
+ghost use Rattle.serde_json.specs.Data.{number, string, unsigned};
 ghost use Rattle.serde_json.specs.Find.{as_str};
 ghost use Rattle.serde_json.specs.View.{view, items_view};
 ghost use Rattle.rd_actor.specs.declared.actors.Actor.{Actor};
 ghost use Rattle.rd_actor.specs.declared.actors.Pc.{Pc};
 ghost use Rattle.rd_script.specs.Actors.{label};
-ghost use Rattle.rd_trace.specs.Numbers.{SpellEach};
+ghost use Rattle.rd_trace.specs.Numbers.{byte_number, SpellEach};
 ghost use Rattle.rd_trace.specs.Actors.{op_of, short_op, long_op, op_data, value_of, IsActor, actor_data, actors_data, ReadsActors};
 
 use super::faults::FormFault;
@@ -15,7 +15,7 @@ use super::names::{name_in, name_value};
 use super::numbers::{bit_at, byte_in, member_count, number_at};
 use rd_actor::{Actor, Op, Pc};
 use rd_script::label_of;
-use serde_json::{Value, json};
+use serde_json::{Map, Value, json, put};
 use std::alloc::{AllocError, Global};
 use std::str;
 
@@ -103,25 +103,28 @@ fn actor_value(alloc: Global, actor: &Actor) -> Result<Value, AllocError>
     ensures value { IfOk result (λ value. view value ≡ actor_data actor.now) }
     ensures spelled { OnOk result (IsActor (actor_data actor.now) actor.now) }
 {
-    let crq = name_value(alloc, actor.crq)?;
-    let new = name_value(alloc, actor.new)?;
-    let next = name_value(alloc, actor.next)?;
-    let op = op_value(alloc, actor.op)?;
-    let pc = pc_value(alloc, actor.pc)?;
-    json!(in alloc; {
-        CLOSED: actor.closed,
-        CRQ: crq,
-        H: actor.h,
-        IDX: actor.idx,
-        NEW: new,
-        NEXT: next,
-        OP: op,
-        PASS: actor.pass,
-        PC: pc,
-        SAFE: actor.safe,
-        T: actor.t,
-        VAL: actor.val
-    })
+    let mut members = Map::new(alloc);
+    put(&mut members, alloc, CLOSED, Value::from(actor.closed))?;
+    put(&mut members, alloc, CRQ, name_value(alloc, actor.crq)?)?;
+    put(&mut members, alloc, H, Value::from(actor.h))?;
+    put(&mut members, alloc, IDX, Value::from(actor.idx))?;
+    put(&mut members, alloc, NEW, name_value(alloc, actor.new)?)?;
+    put(&mut members, alloc, NEXT, name_value(alloc, actor.next)?)?;
+    put(&mut members, alloc, OP, op_value(alloc, actor.op)?)?;
+    put(&mut members, alloc, PASS, pass_value(actor.pass))?;
+    put(&mut members, alloc, PC, pc_value(alloc, actor.pc)?)?;
+    put(&mut members, alloc, SAFE, Value::from(actor.safe))?;
+    put(&mut members, alloc, T, Value::from(actor.t))?;
+    put(&mut members, alloc, VAL, Value::from(actor.val))?;
+    Ok(Value::Object(members))
+}
+
+/// The value of the pass of an actor.
+fn pass_value(pass: u8) -> Value
+    ensures value { view result ≡ number (unsigned pass) }
+    ensures spelled { byte_number (number (unsigned pass)) ≡ Some pass }
+{
+    Value::from(pass)
 }
 
 /// The value that a cell or an actor has, or that there is none.
@@ -135,6 +138,7 @@ pub fn value_in(value: &Value) -> Option<Option<u64>>
 }
 
 /// The call that a value spells, or that there is none.
+#[tactic(auto, using(crate::proofs::ActorLemmas::no_op))]
 fn op_in(value: &Value) -> Option<Option<Op>>
     ensures { result ≡ op_of (view value.now) }
 {

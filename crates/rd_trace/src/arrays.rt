@@ -5,7 +5,7 @@ ghost use Rattle.serde_json.specs.View.{view, items_view};
 ghost use Rattle.rd_step.specs.Prelude.{SLOTS};
 ghost use Rattle.rd_cell.specs.declared.contents.ArrSlot.{ArrSlot};
 ghost use Rattle.rd_segments.specs.declared.array.ArrayParts.{ArrayParts};
-ghost use Rattle.rd_trace.specs.Arrays.{slot_content, slot_of, slots_of, slots_data, filled_slots, IsArray, array_data};
+ghost use Rattle.rd_trace.specs.Arrays.{slot_content, slot_of, slots_of, content_data, slot_data, slots_data, filled_slots, IsArray, array_data};
 
 use super::numbers::{member_count, number_at};
 use rd_cell::ArrSlot;
@@ -73,17 +73,36 @@ fn slots_value(alloc: Global, slots: &[ArrSlot]) -> Result<Vec<Value>, AllocErro
     for position in 0..slots.len() {
         match slots[position] {
             ArrSlot::Empty => {}
-            ArrSlot::Top => values.push(json!(in alloc; [position as u64, TOP])?)?,
-            ArrSlot::Value(x) => values.push(json!(in alloc; [position as u64, x])?)?,
+            slot => values.push(slot_value(alloc, position, slot)?)?,
         }
     }
     Ok(values)
+}
+
+/// The value of a slot with its position.
+fn slot_value(alloc: Global, position: usize, slot: ArrSlot) -> Result<Value, AllocError>
+    ensures { IfOk result (λ value. view value ≡ slot_data position slot) }
+{
+    let content = content_value(alloc, slot)?;
+    json!(in alloc; [position as u64, content])
+}
+
+/// The value of the content of a slot, which no empty one has.
+fn content_value(alloc: Global, slot: ArrSlot) -> Result<Value, AllocError>
+    ensures { IfOk result (λ value. view value ≡ content_data slot) }
+{
+    match slot {
+        ArrSlot::Empty => Ok(Value::Null),
+        ArrSlot::Top => Value::try_from_str(alloc, TOP),
+        ArrSlot::Value(x) => Ok(Value::from(x)),
+    }
 }
 
 /// What stands for a slot that a dequeue reached first.
 const TOP: &str = "top";
 
 /// The position and the slot that a value spells.
+#[tactic(auto, using(crate::proofs::ArrayLemmas::no_slot))]
 fn slot_in(value: &Value) -> Option<(usize, ArrSlot)>
     ensures { result ≡ slot_of (view value.now) }
 {

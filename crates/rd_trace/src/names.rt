@@ -10,6 +10,7 @@ use serde_json::{Value, json};
 use std::alloc::{AllocError, Global};
 
 /// The name that a value spells.
+#[tactic(auto, using(crate::proofs::NumberLemmas::no_name))]
 pub fn name_in(value: &Value) -> Option<SegName>
     ensures { result ≡ name_of (view value.now) }
 {

@@ -6,7 +6,7 @@ ghost use Rattle.rd_step.specs.Prelude.{MOST_CELLS};
 ghost use Rattle.rd_cell.specs.declared.cells.Cell.{Cell};
 ghost use Rattle.rd_ring.specs.declared.parts.SegmentParts.{SegmentParts};
 ghost use Rattle.rd_trace.specs.Numbers.{SpellEach};
-ghost use Rattle.rd_trace.specs.Segments.{cell_of, cells_of, cells_data, IsSegment, IsSegmentList, segment_data, segments_data, makers_data, ReadsSegments, ReadsMakers};
+ghost use Rattle.rd_trace.specs.Segments.{cell_of, cells_of, cell_data, cells_data, IsSegment, IsSegmentList, segment_data, segments_data, makers_data, ReadsSegments, ReadsMakers};
 
 use super::actors::value_in;
 use super::faults::FormFault;
@@ -166,12 +166,20 @@ fn cells_value(alloc: Global, cells: &[Cell]) -> Result<Vec<Value>, AllocError>
 {
     let mut values = Vec::with_capacity(alloc, cells.len())?;
     for cell in cells {
-        values.push(json!(in alloc; [cell.safe, cell.idx, cell.val])?)?;
+        values.push(cell_value(alloc, cell)?)?;
     }
     Ok(values)
 }
 
+/// The value of a cell.
+fn cell_value(alloc: Global, cell: &Cell) -> Result<Value, AllocError>
+    ensures { IfOk result (λ value. view value ≡ cell_data cell.now) }
+{
+    json!(in alloc; [cell.safe, cell.idx, cell.val])
+}
+
 /// The cell that a value spells.
+#[tactic(auto, using(crate::proofs::SegmentLemmas::no_cell))]
 fn cell_in(value: &Value) -> Option<Cell>
     ensures { result ≡ cell_of (view value.now) }
 {
