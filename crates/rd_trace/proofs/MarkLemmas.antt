@@ -1,11 +1,11 @@
 -- Bookmarks as values.
-use Rattle.std.proofs.Common.{◌≡◌, ◌≢◌, ℕ, zero, suc, ◌+◌, ◌<◌, ◌≤◌, Bool, true, false, ◌||◌, List, [], ◌∷◌, ◌++◌, map, length, get_or, take, drop, slice_get, Decides, Option, Some, None, option_map, IfSome, Result, Ok, Err, inl, inr, refl, sym, ap, ap₂, ◌∙◌, subst, arith, length-take}
+use Rattle.std.proofs.Common.{◌≡◌, ◌≢◌, ℕ, zero, suc, ◌+◌, ◌<◌, ◌≤◌, Bool, true, false, ◌||◌, List, [], ◌∷◌, ◌++◌, map, length, get_or, take, drop, slice_get, codes, Decides, Option, Some, None, option_map, IfSome, Result, Ok, Err, inl, inr, refl, sym, ap, ap₂, ◌∙◌, subst, arith, length-take}
 use Rattle.core.specs.List.{AllByRecursion, list_any, IsDistinct}
 use Rattle.std.specs.Cmp.Lexicographic.{pointwise}
 use Rattle.core.specs.Cmp.{IsEquivalence}
 use Rattle.core.specs.Bool.{one_answer}
 use Rattle.std.proofs.lemmas.Bool.{or_cases, true≢false, false≢true}
-use Rattle.std.proofs.lemmas.Option.{same_Some}
+use Rattle.std.proofs.lemmas.Option.{same_Some, none-some}
 use Rattle.std.proofs.lemmas.List.{take_more, drop_more, take-append-drop, map_push, take_all}
 use Rattle.std.proofs.lemmas.Map.Keys.{IsDistinct-head, IsDistinct-tail, IsDistinct-push}
 use Rattle.std.proofs.lemmas.Slice.Eq.{bytes_eq-Decides}
@@ -15,12 +15,13 @@ use Rattle.serde_json.specs.declared.value.Value.{Value}
 use Rattle.rd_step.specs.Prelude.{Refusal, NoMark}
 use Rattle.rd_step.specs.declared.entries.Event.{Event}
 use Rattle.rd_marks.specs.declared.names.MarkName.{MarkName}
-use Rattle.rd_marks.specs.NameBytes.{MOST_MARKS}
+use Rattle.rd_marks.specs.NameBytes.{MOST_MARKS, is_mark_name}
 use Rattle.rd_marks.specs.Names.{bytes_of, same_name}
 use Rattle.rd_marks.specs.Rules.{HaveDifferentNames, KeepsRules}
 use Rattle.rd_marks.specs.Books.{Mark, BookState, mark_at, mark_events, name_and_length}
-use Rattle.rd_trace.specs.Numbers.{SpellEach}
-use Rattle.rd_trace.specs.Bookmarks.{IsMark, AreMarks, saved_mark, ReadsMark, ReadsMarks, mark_data, marks_data}
+use Rattle.rd_trace.specs.Numbers.{text_at, SpellEach}
+use Rattle.rd_trace.specs.Events.{events_of, events_data, ReadsEventsAt}
+use Rattle.rd_trace.specs.Bookmarks.{HasMarkName, IsMark, AreMarks, saved_mark, ReadsMark, ReadsMarks, mark_data, marks_data}
 use Rattle.rd_trace.specs.declared.bookmarks.SavedMark.{SavedMark}
 use Rattle.rd_trace.specs.declared.faults.FormFault.{FormFault}
 use Rattle.rd_trace.specs.declared.faults.FormFault.TheVariants.{NoMemory, BadForm}
@@ -45,6 +46,19 @@ name_laws = record {
 -- a value spells one name at most
 one_name : (d : Data) (m n : Mark) → IsMark d m → IsMark d n → bytes_of m.name ≡ bytes_of n.name
 one_name d m n h k = same_Some _ _ (sym h.name.text ∙ k.name.text)
+
+-- a value whose events are not read spells no bookmark
+pub no_mark_events : (d : Data) (fault : FormFault) → ReadsEventsAt (codes "events") d (Err fault) → ReadsMark d (Err fault)
+no_mark_events d NoMemory h = tt
+no_mark_events d BadForm h = λ m k. none-some m.events (sym h ∙ k.events)
+
+-- nor has one whose text is no name
+pub no_mark_name : (d : Data) (text : List ℕ) → text_at (codes "name") d ≡ Some text → is_mark_name text ≡ false → (name : MarkName) → HasMarkName d name → ⊥
+no_mark_name d text there bad name h = true≢false (sym name.valid ∙ ap is_mark_name (same_Some _ _ (sym h.text ∙ there)) ∙ bad)
+
+-- the value of a bookmark spells it, if that of its events does
+pub mark_spelled : (m : Mark) → events_of (events_data m.events) ≡ Some m.events → IsMark (mark_data m) m
+mark_spelled m events = record { name = record { members = refl; text = refl }; events = events }
 
 -- ---- lists that are read
 

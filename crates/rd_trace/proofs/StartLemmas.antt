@@ -1,18 +1,16 @@
 -- The start of a session as a value, and when it is the fresh world.
 use Rattle.std.proofs.Common.{◌≡◌, ◌≢◌, ◌↔◌, ◌⊎◌, ℕ, zero, suc, ◌+◌, ◌-◌, ◌<◌, ◌≤◌, Bool, true, false, ◌&&◌, not, ◌==◌, if◌then◌else◌, nat_lt, nat_le, MatchBool, HoldsAt, All, List, [], ◌∷◌, length, get_or, take, drop, slice_get, Option, Some, None, option_map, Result, Ok, Err, Vec, codes, inl, inr, refl, sym, ap, ap₂, ◌∙◌, subst, arith, lt-ltb, le-ltb}
 use Rattle.std.specs.List.{AllWithin}
-use Rattle.std.specs.Result.{IsErrAnd}
+use Rattle.std.specs.Result.{OnOk, IsErrAnd}
 use Rattle.std.specs.Global.{Global}
 use Rattle.std.proofs.lemmas.Bool.{cases_Bool, cases_lt, cond-true, cond-false, and_parts, not-false, leb-true, both_ways, true≢false, false≢true}
-use Rattle.std.proofs.lemmas.Option.{same_Some, slice_get-get_or, slice_get_past, slice_get_within}
+use Rattle.std.proofs.lemmas.Option.{same_Some, none-some, slice_get-get_or, slice_get_past, slice_get_within}
 use Rattle.std.proofs.lemmas.List.Elements.{All-from_all_within, All-head, All-tail, All-from_get_or}
 use Rattle.std.proofs.lemmas.List.{take_rest}
 use mathlib.Core.Path.{fun_ext}
-use Rattle.serde_json.specs.Data.{Data}
-use Rattle.serde_json.specs.Find.{get}
+use Rattle.serde_json.specs.Data.{Data, Items}
 use Rattle.rd_cell.specs.declared.cells.Cell.{Cell}
-use Rattle.rd_cell.specs.declared.contents.ArrSlot.{ArrSlot}
-use Rattle.rd_cell.specs.declared.contents.ArrSlot.TheVariants.{Empty, Top, Value}
+use Rattle.rd_cell.specs.declared.contents.ArrSlot.TheVariants.{Empty}
 use Rattle.rd_cell.specs.Places.{root, is_name}
 use Rattle.rd_cell.specs.Cells.{new_cell}
 use Rattle.rd_cell.specs.Contents.{Contents, fresh}
@@ -35,12 +33,13 @@ use Rattle.rd_step.specs.declared.parts.Parts.{Parts}
 use Rattle.rd_step.specs.declared.flaws.Flaw.{Flaw}
 use Rattle.rd_step.specs.declared.flaws.Flaw.TheVariants.{Makers}
 use Rattle.rd_step.proofs.Starts.{list_actors}
-use Rattle.rd_trace.specs.Numbers.{member_count, SpellEach}
-use Rattle.rd_trace.specs.Names.{name_of, name_data}
-use Rattle.rd_trace.specs.Actors.{IsActor, actors_data}
-use Rattle.rd_trace.specs.Arrays.{slots_of, filled_slots, slots_data, array_data, IsArray}
-use Rattle.rd_trace.specs.Segments.{IsSegmentList, makers_data}
-use Rattle.rd_trace.specs.Starts.{IsActorCount, IsFreshStart, IsParts, IsStart, IsStartData, SpellsWorld, ReadsStart, ReadsParts, fresh_data, parts_data, AreFreshCells, IsFreshAlone, HasFreshRootAlone}
+use Rattle.rd_trace.proofs.ArrayLemmas.{array_spelled}
+use Rattle.rd_trace.specs.Numbers.{member_count, list_at, SpellEach}
+use Rattle.rd_trace.specs.Names.{name_of, name_at, name_data}
+use Rattle.rd_trace.specs.Actors.{IsActor, actors_data, ReadsActors}
+use Rattle.rd_trace.specs.Arrays.{array_data}
+use Rattle.rd_trace.specs.Segments.{IsSegmentList, makers_data, ReadsMakers}
+use Rattle.rd_trace.specs.Starts.{IsActorCount, IsFreshStart, IsArrayAt, IsParts, IsStart, IsStartData, SpellsWorld, ReadsStart, ReadsParts, fresh_data, parts_data, AreFreshCells, IsFreshAlone, HasFreshRootAlone}
 use Rattle.rd_trace.specs.declared.starts.Start.{Start}
 use Rattle.rd_trace.specs.declared.starts.Start.TheVariants.{Fresh, Parts as OfParts}
 use Rattle.rd_trace.specs.declared.faults.FormFault.{FormFault}
@@ -50,6 +49,11 @@ use Rattle.rd_trace.specs.declared.faults.FormFault.TheVariants.{NoMemory, BadFo
 pub passed_up : {T E : Type 0} (P : Result T E → Type 0) (x : E) (r : Result T E) → IsErrAnd r (λ e. e ≡ x) → P (Err x) → P r
 passed_up P x (Ok y) is h = absurd is
 passed_up P x (Err e) is h = subst (λ f. P (Err f)) (sym is) h
+
+-- what holds holds if a call succeeds
+pub on_ok : {T E P : Type 0} (r : Result T E) → P → OnOk r P
+on_ok (Ok y) h = h
+on_ok (Err e) h = tt
 
 -- ---- what is read
 
@@ -78,17 +82,34 @@ no_start d one five (OfParts p) h = five h.members
 pub no_such_start : {R : ℕ} (d : Data) → (member_count d ≡ Some 1 → ⊥) → (member_count d ≡ Some 5 → ⊥) → ReadsStart {R} d (Err BadForm)
 no_such_start d one five = λ start h. no_start d one five start h
 
+module _ {R : ℕ} (d : Data) where
+  -- an object of which a member is not read has no parts
+  pub no_qhead : name_at (codes "qhead") d ≡ None → ReadsParts {R} d (Err BadForm)
+  no_qhead h = λ p k. none-some p.qhead (sym h ∙ k.qhead)
+
+  pub no_qtail : name_at (codes "qtail") d ≡ None → ReadsParts {R} d (Err BadForm)
+  no_qtail h = λ p k. none-some p.qtail (sym h ∙ k.qtail)
+
+  pub no_array : ((a : ArrayParts) → IsArrayAt d a → ⊥) → ReadsParts {R} d (Err BadForm)
+  no_array none = λ p k. none p.array k.array
+
+  pub no_actors : list_at (codes "actors") d ≡ None → ReadsParts {R} d (Err BadForm)
+  no_actors h = λ p k. none-some k.actors.0 (sym h ∙ k.actors.1)
+
+  pub no_segments : list_at (codes "segments") d ≡ None → ReadsParts {R} d (Err BadForm)
+  no_segments h = λ p k. none-some k.segments.0 (sym h ∙ k.segments.1)
+
+  pub no_actors_in : (ds : Items) → list_at (codes "actors") d ≡ Some ds → (fault : FormFault) → ReadsActors ds (Err fault) → ReadsParts {R} d (Err fault)
+  no_actors_in ds there NoMemory h = tt
+  no_actors_in ds there BadForm h = λ p k.
+      h p.actors.items (subst (λ (x : Items). SpellEach IsActor x p.actors.items) (same_Some k.actors.0 ds (sym k.actors.1 ∙ there)) k.actors.2)
+
+  pub no_makers_in : (ds : Items) → list_at (codes "segments") d ≡ Some ds → (fault : FormFault) → ReadsMakers {R} ds (Err fault) → ReadsParts {R} d (Err fault)
+  no_makers_in ds there NoMemory h = tt
+  no_makers_in ds there BadForm h = λ p k.
+      h p.segments.items (subst (λ (x : Items). SpellEach IsSegmentList x p.segments.items) (same_Some k.segments.0 ds (sym k.segments.1 ∙ there)) k.segments.2)
+
 -- ---- what is written
-
-slots_spelled : (i : ℕ) (slots : List ArrSlot) → slots_of (slots_data (filled_slots i slots)) ≡ Some (filled_slots i slots)
-slots_spelled i [] = refl
-slots_spelled i (Empty ∷ slots) = slots_spelled (suc i) slots
-slots_spelled i (Top ∷ slots) = ap (option_map (λ ss. (i, Top) ∷ ss)) (slots_spelled (suc i) slots)
-slots_spelled i (Value x ∷ slots) = ap (option_map (λ ss. (i, Value x) ∷ ss)) (slots_spelled (suc i) slots)
-
--- the value that the array is written as spells it
-array_spelled : (a : ArrayParts) → IsArray (array_data a) a
-array_spelled a = record { members = refl; cells = slots_spelled 0 a.cells; head = refl; tail = refl }
 
 -- the value that parts are written as spells them, if the values of their members do
 pub parts_spelled : {R : ℕ} (p : Parts R) → SpellEach IsActor (actors_data p.actors.items) p.actors.items → name_of (name_data p.qhead) ≡ Some p.qhead

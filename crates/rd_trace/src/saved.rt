@@ -2,7 +2,7 @@
 
 ghost use Rattle.std.specs.Prelude.{◌≡◌, ◌≤◌, ◌++◌, ℕ, Some, codes, IfOk, OnOk, IfSome, IfNone};
 ghost use Rattle.serde_json.specs.Data.{Data};
-ghost use Rattle.serde_json.specs.View.{view};
+ghost use Rattle.serde_json.specs.View.{view, items_view};
 ghost use Rattle.rd_step.specs.Prelude.{MOST_CELLS};
 ghost use Rattle.rd_journal.specs.Sessions.{state};
 ghost use Rattle.rd_marks.specs.BookViews.{book_state};
@@ -10,7 +10,7 @@ ghost use Rattle.rd_marks.specs.Rules.{GoThrough};
 ghost use Rattle.rd_trace.specs.Numbers.{member_count, number_at};
 ghost use Rattle.rd_trace.specs.Traces.{IsTraceRing, ring_length};
 ghost use Rattle.rd_trace.specs.Starts.{IsStartData, SpellsWorld};
-ghost use Rattle.rd_trace.specs.Saved.{ReadsTrace, ReadsFirst, ReadsSecond, SpellsBook, book_data};
+ghost use Rattle.rd_trace.specs.Saved.{ReadsTrace, ReadsFirst, ReadsSecond, SpellsBook, book_object, book_data};
 ghost use Rattle.rd_trace.specs.Loading.{IsReachable};
 
 use super::bookmarks::{SavedMark, events_at, marks_in, marks_value};
@@ -18,7 +18,7 @@ use super::events::events_value;
 use super::faults::FormFault;
 use super::numbers::{member_count, number_at};
 use super::rings::Ring;
-use super::starts::{Start, actors_at, start_in, start_value};
+use super::starts::{Start, actors_at, list_at, start_in, start_value};
 use rd_journal::Session;
 use rd_marks::Book;
 use rd_step::Event;
@@ -122,8 +122,10 @@ fn second_session_in<const R: usize>(
     requires ring { number_at (codes "ring") (view value.now) ≡ Some R }
     ensures { ReadsSecond (view value.now) result }
 {
-    let parts = (value.get(START), value.get(MARKS).and_then(Value::as_array));
-    let (Some(start), Some(marks)) = parts else {
+    let Some(start) = value.get(START) else {
+        return Err(FormFault::BadForm);
+    };
+    let Some(marks) = list_at(value, MARKS) else {
         return Err(FormFault::BadForm);
     };
     Ok(SavedSession {
@@ -147,10 +149,24 @@ pub fn book_value<const R: usize>(alloc: Global, book: &Book<R>) -> Result<Value
     let marks = marks_value(alloc, book)?;
     let start = start_of(alloc, session)?;
     let undone = events_value(alloc, &undone_events(alloc, session)?)?;
+    book_object(alloc, events, marks, R as u64, start, undone)
+}
+
+/// The object of the values of a book's parts.
+fn book_object(
+    alloc: Global,
+    events: Vec<Value>,
+    marks: Vec<Value>,
+    cells: u64,
+    start: Value,
+    undone: Vec<Value>,
+) -> Result<Value, AllocError>
+    ensures { IfOk result (λ value. view value ≡ book_object (items_view events.items) (items_view marks.items) cells (view start) (items_view undone.items)) }
+{
     json!(in alloc; {
         EVENTS: events,
         MARKS: marks,
-        RING: R as u64,
+        RING: cells,
         START: start,
         UNDONE: undone,
         VERSION: WRITTEN

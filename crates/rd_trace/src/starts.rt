@@ -7,6 +7,7 @@ ghost use Rattle.rd_cell.specs.Places.{root};
 ghost use Rattle.rd_cell.specs.Cells.{new_cell};
 ghost use Rattle.rd_cell.specs.Contents.{fresh};
 ghost use Rattle.rd_ring.specs.Segments.{part_from};
+ghost use Rattle.rd_segments.specs.declared.array.ArrayParts.{ArrayParts};
 ghost use Rattle.rd_segments.specs.Array.{array_part, fresh_array};
 ghost use Rattle.rd_segments.specs.SpaceFields.{fresh_space};
 ghost use Rattle.rd_actor.specs.Actors.{idle};
@@ -15,7 +16,7 @@ ghost use Rattle.rd_step.specs.Starts.{fresh_world};
 ghost use Rattle.rd_step.specs.Parts.{world_of_parts, first_flaw};
 ghost use Rattle.rd_trace.specs.Names.{name_at};
 ghost use Rattle.rd_trace.specs.Numbers.{list_at, member_count};
-ghost use Rattle.rd_trace.specs.Starts.{IsActorCount, IsParts, IsStartData, SpellsWorld, parts_data, ReadsStart, ReadsParts, AreFreshCells, IsFreshAlone, HasFreshRootAlone};
+ghost use Rattle.rd_trace.specs.Starts.{IsActorCount, IsArrayAt, IsParts, IsStartData, SpellsWorld, fresh_data, parts_object, parts_data, ReadsStart, ReadsParts, AreFreshCells, IsFreshAlone, HasFreshRootAlone};
 
 use super::actors::{actors_in, actors_value};
 use super::arrays::{array_in, array_value};
@@ -94,15 +95,19 @@ fn parts_in<const R: usize>(alloc: Global, value: &Value) -> Result<Parts<R>, Fo
     requires members { member_count (view value.now) ≡ Some 5 }
     ensures { ReadsParts (view value.now) result }
 {
-    let ends = (name_at(value, QHEAD), name_at(value, QTAIL));
-    let (Some(qhead), Some(qtail)) = ends else {
+    let Some(qhead) = name_at(value, QHEAD) else {
         return Err(FormFault::BadForm);
     };
-    let Some(array) = value.get(ARRAY).and_then(array_in) else {
+    let Some(qtail) = name_at(value, QTAIL) else {
         return Err(FormFault::BadForm);
     };
-    let lists = (list_at(value, ACTORS), list_at(value, SEGMENTS));
-    let (Some(actors), Some(segments)) = lists else {
+    let Some(array) = array_at(value) else {
+        return Err(FormFault::BadForm);
+    };
+    let Some(actors) = list_at(value, ACTORS) else {
+        return Err(FormFault::BadForm);
+    };
+    let Some(segments) = list_at(value, SEGMENTS) else {
         return Err(FormFault::BadForm);
     };
     Ok(Parts {
@@ -114,6 +119,14 @@ fn parts_in<const R: usize>(alloc: Global, value: &Value) -> Result<Parts<R>, Fo
     })
 }
 
+/// The array of an object.
+fn array_at(value: &Value) -> Option<ArrayParts>
+    ensures some { IfSome result (IsArrayAt (view value.now)) }
+    ensures none { IfNone result ((parts : ArrayParts) → IsArrayAt (view value.now) parts → ⊥) }
+{
+    array_in(value.get(ARRAY)?)
+}
+
 /// The name at a key of an object.
 fn name_at(value: &Value, key: &str) -> Option<SegName>
     ensures { result ≡ name_at key.now (view value.now) }
@@ -122,7 +135,7 @@ fn name_at(value: &Value, key: &str) -> Option<SegName>
 }
 
 /// The list at a key of an object.
-fn list_at<'a>(value: &'a Value, key: &str) -> Option<&'a Vec<Value>>
+pub fn list_at<'a>(value: &'a Value, key: &str) -> Option<&'a Vec<Value>>
     ensures { option_map (λ list. items_view list.now.items) result ≡ list_at key.now (view value.now) }
 {
     value.get(key).and_then(Value::as_array)
@@ -135,9 +148,16 @@ pub fn start_value<const R: usize>(alloc: Global, parts: &Parts<R>) -> Result<Va
     ensures spelled { IfOk result (λ value. SpellsWorld R (world_of_parts parts.now) (view value)) }
 {
     if is_fresh(parts) {
-        return json!(in alloc; {FRESH: parts.actors.len() as u64});
+        return fresh_value(alloc, parts.actors.len() as u64);
     }
     parts_value(alloc, parts)
+}
+
+/// The value of a fresh start.
+fn fresh_value(alloc: Global, actors: u64) -> Result<Value, AllocError>
+    ensures { IfOk result (λ value. view value ≡ fresh_data actors) }
+{
+    json!(in alloc; {FRESH: actors})
 }
 
 /// The value of parts.
@@ -146,13 +166,27 @@ fn parts_value<const R: usize>(alloc: Global, parts: &Parts<R>) -> Result<Value,
     ensures spelled { OnOk result (IsParts (parts_data parts.now) parts.now) }
 {
     let actors = actors_value(alloc, &parts.actors)?;
-    let array = array_value(alloc, &parts.array)?;
+    let slots = array_value(alloc, &parts.array)?;
     let qhead = name_value(alloc, parts.qhead)?;
     let qtail = name_value(alloc, parts.qtail)?;
     let segments = makers_value(alloc, &parts.segments)?;
+    parts_object(alloc, actors, slots, qhead, qtail, segments)
+}
+
+/// The object of the values of parts.
+fn parts_object(
+    alloc: Global,
+    actors: Vec<Value>,
+    slots: Value,
+    qhead: Value,
+    qtail: Value,
+    segments: Vec<Value>,
+) -> Result<Value, AllocError>
+    ensures { IfOk result (λ value. view value ≡ parts_object (items_view actors.items) (view slots) (view qhead) (view qtail) (items_view segments.items)) }
+{
     json!(in alloc; {
         ACTORS: actors,
-        ARRAY: array,
+        ARRAY: slots,
         QHEAD: qhead,
         QTAIL: qtail,
         SEGMENTS: segments
