@@ -1,7 +1,7 @@
 -- The start of a session as a value, and when it is the fresh world.
 use Rattle.std.proofs.Common.{◌≡◌, ◌≢◌, ◌↔◌, ◌⊎◌, ℕ, zero, suc, ◌+◌, ◌-◌, ◌<◌, ◌≤◌, Bool, true, false, ◌&&◌, not, ◌==◌, if◌then◌else◌, nat_lt, nat_le, MatchBool, HoldsAt, All, List, [], ◌∷◌, length, get_or, take, drop, slice_get, Option, Some, None, option_map, Result, Ok, Err, Vec, codes, inl, inr, refl, sym, ap, ap₂, ◌∙◌, subst, arith, lt-ltb, le-ltb}
 use Rattle.std.specs.List.{AllWithin}
-use Rattle.std.specs.Result.{OnOk, IsErrAnd}
+use Rattle.std.specs.Result.{IfOk, OnOk, IsErrAnd}
 use Rattle.std.specs.Global.{Global}
 use Rattle.std.proofs.lemmas.Bool.{cases_Bool, cases_lt, cond-true, cond-false, and_parts, not-false, leb-true, both_ways, true≢false, false≢true}
 use Rattle.std.proofs.lemmas.Option.{same_Some, none-some, slice_get-get_or, slice_get_past, slice_get_within}
@@ -54,6 +54,11 @@ passed_up P x (Err e) is h = subst (λ f. P (Err f)) (sym is) h
 pub on_ok : {T E P : Type 0} (r : Result T E) → P → OnOk r P
 on_ok (Ok y) h = h
 on_ok (Err e) h = tt
+
+-- what follows of two facts on what a call gives
+pub both_ok : {T E Q : Type 0} (P W : T → Type 0) (r : Result T E) → IfOk r P → OnOk r Q → ((x : T) → P x → Q → W x) → IfOk r W
+both_ok P W (Ok x) p q f = f x p q
+both_ok P W (Err e) p q f = tt
 
 -- ---- what is read
 
