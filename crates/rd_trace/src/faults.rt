@@ -1,5 +1,7 @@
 //! Why a trace isn't loaded, or isn't written.
 
+ghost use Rattle.std.specs.Prelude.{◌≡◌};
+
 use rd_cell::Refusal;
 use rd_step::Flaw;
 use std::alloc::AllocError;
