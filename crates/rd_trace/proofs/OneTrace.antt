@@ -137,8 +137,8 @@ module _ {X Y : Type 0} (Spells : Data → X → Type 0) (seen : X → Y) (one :
       → map seen xs ≡ map seen ys
   same_list o xs ys (ds, is, each) (es, also, each_too) = same_each es xs ys (subst (λ z. SpellEach Spells z xs) (some_same o ds es is also) each) each_too
 
-same_actors : (d : Data) (as bs : List Actor) → SpellEachAt IsActor (codes "actors") d as → SpellEachAt IsActor (codes "actors") d bs → as ≡ bs
-same_actors d as bs h k = sym (map-id as) ∙ same_list IsActor (λ a. a) same_actor _ as bs h k ∙ map-id bs
+same_actors : (d : Data) (xs ys : List Actor) → SpellEachAt IsActor (codes "actors") d xs → SpellEachAt IsActor (codes "actors") d ys → xs ≡ ys
+same_actors d xs ys h k = sym (map-id xs) ∙ same_list IsActor (λ a. a) same_actor _ xs ys h k ∙ map-id ys
 
 -- ---- the array
 
@@ -168,19 +168,19 @@ none_before i slots s rest h = let k = later_slot (suc i) slots i s rest h in om
 fewer : {X : Type 0} (x y : X) (xs ys : List X) → length (x ∷ xs) ≡ length (y ∷ ys) → length xs ≡ length ys
 fewer x y xs ys h = omega (arith, h)
 
-same_slots : (i : ℕ) (as bs : List ArrSlot) → length as ≡ length bs → filled_slots i as ≡ filled_slots i bs → as ≡ bs
+same_slots : (i : ℕ) (xs ys : List ArrSlot) → length xs ≡ length ys → filled_slots i xs ≡ filled_slots i ys → xs ≡ ys
 same_slots i [] [] n h = refl
-same_slots i [] (b ∷ bs) n h = absurd (omega (arith, n))
-same_slots i (a ∷ as) [] n h = absurd (omega (arith, n))
-same_slots i (Empty ∷ as) (Empty ∷ bs) n h = ap (λ l. Empty ∷ l) (same_slots (suc i) as bs (fewer Empty Empty as bs n) h)
-same_slots i (Empty ∷ as) (Top ∷ bs) n h = absurd (none_before i as Top (filled_slots (suc i) bs) h)
-same_slots i (Empty ∷ as) (Value y ∷ bs) n h = absurd (none_before i as (Value y) (filled_slots (suc i) bs) h)
-same_slots i (Top ∷ as) (Empty ∷ bs) n h = absurd (none_before i bs Top (filled_slots (suc i) as) (sym h))
-same_slots i (Top ∷ as) (Top ∷ bs) n h = ap (λ l. Top ∷ l) (same_slots (suc i) as bs (fewer Top Top as bs n) (ap behind_front h))
-same_slots i (Top ∷ as) (Value y ∷ bs) n h = let e : Top ≡ Value y = ap front_slot h in absurd (cc)
-same_slots i (Value x ∷ as) (Empty ∷ bs) n h = absurd (none_before i bs (Value x) (filled_slots (suc i) as) (sym h))
-same_slots i (Value x ∷ as) (Top ∷ bs) n h = let e : Value x ≡ Top = ap front_slot h in absurd (cc)
-same_slots i (Value x ∷ as) (Value y ∷ bs) n h = ap₂ (λ s l. s ∷ l) (ap front_slot h) (same_slots (suc i) as bs (fewer (Value x) (Value y) as bs n) (ap behind_front h))
+same_slots i [] (b ∷ ys) n h = absurd (omega (arith, n))
+same_slots i (a ∷ xs) [] n h = absurd (omega (arith, n))
+same_slots i (Empty ∷ xs) (Empty ∷ ys) n h = ap (λ l. Empty ∷ l) (same_slots (suc i) xs ys (fewer Empty Empty xs ys n) h)
+same_slots i (Empty ∷ xs) (Top ∷ ys) n h = absurd (none_before i xs Top (filled_slots (suc i) ys) h)
+same_slots i (Empty ∷ xs) (Value y ∷ ys) n h = absurd (none_before i xs (Value y) (filled_slots (suc i) ys) h)
+same_slots i (Top ∷ xs) (Empty ∷ ys) n h = absurd (none_before i ys Top (filled_slots (suc i) xs) (sym h))
+same_slots i (Top ∷ xs) (Top ∷ ys) n h = ap (λ l. Top ∷ l) (same_slots (suc i) xs ys (fewer Top Top xs ys n) (ap behind_front h))
+same_slots i (Top ∷ xs) (Value y ∷ ys) n h = let e : Top ≡ Value y = ap front_slot h in absurd (cc)
+same_slots i (Value x ∷ xs) (Empty ∷ ys) n h = absurd (none_before i ys (Value x) (filled_slots (suc i) xs) (sym h))
+same_slots i (Value x ∷ xs) (Top ∷ ys) n h = let e : Value x ≡ Top = ap front_slot h in absurd (cc)
+same_slots i (Value x ∷ xs) (Value y ∷ ys) n h = ap₂ (λ s l. s ∷ l) (ap front_slot h) (same_slots (suc i) xs ys (fewer (Value x) (Value y) xs ys n) (ap behind_front h))
 
 same_array : (d : Data) (a b : ArrayParts) → IsArray d a → IsArray d b → a ≡ b
 same_array d a b h k =

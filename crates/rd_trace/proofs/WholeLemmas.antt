@@ -123,9 +123,9 @@ module _ (n : ℕ) where
       object_plain m
       (with_member m (boolean_plain m a.closed) (with_member m (name_plain n a.crq) (with_member m (number_plain m a.h) (with_member m (number_plain m a.idx) names))))
 
-  actors_plain : (as : List Actor) → ArePlain (suc (suc n)) (actors_data as)
+  actors_plain : (xs : List Actor) → ArePlain (suc (suc n)) (actors_data xs)
   actors_plain [] = none (suc (suc n))
-  actors_plain (a ∷ as) = more (suc (suc n)) (actor_plain a) (actors_plain as)
+  actors_plain (a ∷ xs) = more (suc (suc n)) (actor_plain a) (actors_plain xs)
 
 -- ---- segments
 
