@@ -1,5 +1,9 @@
 -- Steps that are made again: what goes through, and what is refused.
-use Rattle.std.proofs.Common.{◌≡◌, ◌≢◌, ◌⊎◌, inl, inr, ℕ, zero, suc, ◌+◌, ◌-◌, ◌<◌, ◌≤◌, ◌==◌, if◌then◌else◌, Bool, true, false, List, [], ◌∷◌, ◌++◌, length, take, drop, get_or, map, Some, None, Option, Result, Ok, Err, IsOk, refl, sym, ap, ap₂, ◌∙◌, subst, arith, append_assoc, length-append, ne_eqb, eq-eqb}
+use Rattle.std.proofs.Common.{◌≡◌, ◌≢◌, ◌⊎◌, inl, inr, ℕ, zero, suc, ◌+◌, ◌-◌, ◌<◌, ◌≤◌, ◌==◌, if◌then◌else◌, Bool, true, false, List, [], ◌∷◌, ◌++◌, length, take, drop, get_or, map, Some, None, Option, is_some, Result, Ok, Err, IsOk, refl, sym, ap, ap₂, ◌∙◌, subst, arith, append_assoc, length-append, ne_eqb, eq-eqb}
+use Rattle.std.specs.List.{AllByRecursion}
+use Rattle.std.proofs.lemmas.Bool.{cond-false}
+use Rattle.std.proofs.lemmas.Cmp.{nat_list_eq_equiv}
+use Rattle.std.proofs.lemmas.Map.Keys.{IsDistinct-head, IsDistinct-tail}
 use Rattle.std.proofs.Math.Seq.{take-append_seam, drop-append_seam}
 use Rattle.std.proofs.lemmas.List.{append-nil, length-map, map-append, map_more, get_or-map, take_more, drop_more, take_all, drop_all, take-take, take-append-drop, drop-append-le, length-take-le}
 use Rattle.rd_cell.specs.declared.refusal.Refusal.TheVariants.{NoMemory as OutOfMemory}
@@ -14,10 +18,12 @@ use Rattle.rd_marks.specs.declared.commands.Command.{Command}
 use Rattle.rd_marks.specs.declared.commands.Command.TheVariants.{Enq, Deq, ArrayEnq, ArrayDeq, Go, Starve, Undo, UndoAt, Roll, Back, Redo, Forward, Mark as MarkAs, DropMark, GotoMark, Marks, MarkAt, Same, Origin, Writer, Show, Actor, Step, Len}
 use Rattle.rd_marks.specs.declared.names.MarkName.{MarkName}
 use Rattle.rd_marks.specs.declared.replies.Reply.{Reply}
-use Rattle.rd_marks.specs.Books.{Mark, BookState, with_session, with_marks, mark}
+use Rattle.rd_marks.specs.NameBytes.{MOST_MARKS}
+use Rattle.rd_marks.specs.Names.{bytes_of, same_name}
+use Rattle.rd_marks.specs.Books.{Mark, BookState, with_session, with_marks, marked_events, mark}
 use Rattle.rd_marks.specs.Commands.{event, Answered, event_answer, move_answer, Happened, IsObeyed}
 use Rattle.rd_marks.specs.Events.{event_of}
-use Rattle.rd_marks.specs.Rules.{GoThrough, MarksGoThrough}
+use Rattle.rd_marks.specs.Rules.{GoThrough, MarksGoThrough, HaveDifferentNames}
 use Rattle.rd_trace.specs.declared.bookmarks.SavedMark.{SavedMark}
 use Rattle.rd_trace.specs.declared.faults.LoadTraceFault.{LoadTraceFault}
 use Rattle.rd_trace.specs.declared.faults.LoadTraceFault.TheVariants.{NoMemory, BadTrace, Flawed, TraceMark, TraceStep}
@@ -437,6 +443,27 @@ mark_set after x true full h = absurd (cc)
 mark_set after x false true h = absurd (cc)
 mark_set after x false false h = cc
 
+mark_not_refused : (taken full : Bool) (x : BookState) (refusal : Refusal) → taken ≡ false → full ≡ false
+    → (if taken then Err MarkTaken else if full then Err TooManyMarks else Ok x) ≡ Err refusal → ⊥
+mark_not_refused true full x refusal free few h = cc
+mark_not_refused false true x refusal free few h = cc
+mark_not_refused false false x refusal free few h = cc
+
+differs : (x : Mark) (before : List Mark) (m : Mark) (later : List Mark) → AllByRecursion (λ y. same_name x.name y ≡ false) (map (λ y. y.name) (before ++ m ∷ later))
+    → same_name x.name m.name ≡ false
+differs x [] m later h = h.0
+differs x (y ∷ before) m later h = differs x before m later h.1
+
+-- where names differ, none of the bookmarks before one has its name
+none_taken : (before : List Mark) (m : Mark) (later : List Mark) → HaveDifferentNames (before ++ m ∷ later) → marked_events before m.name ≡ None
+none_taken [] m later h = refl
+none_taken (x ∷ before) m later h =
+    let names : List MarkName = map (λ (y : Mark). y.name) (before ++ m ∷ later) in
+    let apart : same_name m.name x.name ≡ false =
+    nat_list_eq_equiv.symm (bytes_of m.name) (bytes_of x.name) ∙ differs x before m later (IsDistinct-head same_name x.name names h) in
+    cond-false (same_name m.name x.name) (Some x.events) (marked_events before m.name) apart
+    ∙ none_taken before m later (IsDistinct-tail same_name x.name names h)
+
 module _ (R : ℕ) (old now : BookState) (ms : List SavedMark) (i : ℕ) (m : SavedMark) (within : i < length ms) (is : m ≡ get_or ms i m) (so_far : HasSet R old now (map saved_mark (take i ms))) where
   pub one_set : (mid after : BookState) → GoesTo R now m.events.items mid (Ok tt) → mark mid m.name ≡ Ok after → HasSet R old after (map saved_mark (take (i + 1) ms))
   one_set mid after goes made =
@@ -454,13 +481,28 @@ module _ (R : ℕ) (old now : BookState) (ms : List SavedMark) (i : ℕ) (m : Sa
             (subst (λ (w : World). GoThrough R w m.events.items) so_far.start goes.1);
       })
 
+  placed : map saved_mark ms ≡ map saved_mark (take i ms) ++ saved_mark m ∷ map saved_mark (drop (i + 1) ms)
+  placed = ap (map saved_mark) (cut_at ms i m within is) ∙ map-append saved_mark (take i ms) (m ∷ drop (i + 1) ms)
+
+  -- there is room for this one, and none has its name
+  pub can_mark : (mid : BookState) (refusal : Refusal) → GoesTo R now m.events.items mid (Ok tt) → HaveDifferentNames (map saved_mark ms) → length ms ≤ MOST_MARKS
+      → (refusal ≡ OutOfMemory → ⊥) → (mark mid m.name ≡ Err refusal) ⊎ ((refusal ≡ OutOfMemory) × IsOk (mark mid m.name)) → ⊥
+  can_mark mid refusal goes names few other (inl h) =
+      let set : mid.marks ≡ map saved_mark (take i ms) = ap (λ (b : BookState). b.marks) goes.0 ∙ so_far.marks in
+      let free : is_some (marked_events mid.marks m.name) ≡ false =
+      ap (λ (done : List Mark). is_some (marked_events done m.name)) set
+      ∙ ap is_some (none_taken (map saved_mark (take i ms)) (saved_mark m) (map saved_mark (drop (i + 1) ms)) (subst (λ (xs : List Mark). HaveDifferentNames xs) placed names)) in
+      let few_so_far : length mid.marks ≡ i = omega (arith, ap length set, length-map (take i ms) saved_mark, length-take-le i ms (omega arith)) in
+      mark_not_refused _ _ _ refusal free (ne_eqb (length mid.marks) MOST_MARKS (omega arith)) h
+  can_mark mid refusal goes names few other (inr h) = other h.0
+
   -- an event of this one was refused
   mark_refused_at : (n : ℕ) (cause : Refusal) → IsRefusedAt R now.session.start m.events.items n cause → IsMarkRefusedAt R old.session.start (map saved_mark ms) (i + 1) n cause
   mark_refused_at n cause h = record {
     before = map saved_mark (take i ms);
     mark = saved_mark m;
     later = map saved_mark (drop (i + 1) ms);
-    all = ap (map saved_mark) (cut_at ms i m within is) ∙ map-append saved_mark (take i ms) (m ∷ drop (i + 1) ms);
+    all = placed;
     number = omega (arith, length-map (take i ms) saved_mark, length-take-le i ms (omega arith));
     through = so_far.through;
     refused = subst (λ (w : World). IsRefusedAt R w m.events.items n cause) so_far.start h;
