@@ -1,6 +1,7 @@
 -- Steps that are made again: what goes through, and what is refused.
 use Rattle.std.proofs.Common.{◌≡◌, ◌≢◌, ◌⊎◌, inl, inr, ℕ, zero, suc, ◌+◌, ◌-◌, ◌<◌, ◌≤◌, ◌==◌, if◌then◌else◌, Bool, true, false, List, [], ◌∷◌, ◌++◌, length, take, drop, get_or, map, Some, None, Option, is_some, Result, Ok, Err, IsOk, refl, sym, ap, ap₂, ◌∙◌, subst, arith, append_assoc, length-append, ne_eqb, eq-eqb}
 use Rattle.std.specs.List.{AllByRecursion}
+use Rattle.std.specs.Result.{IsErrAnd}
 use Rattle.std.proofs.lemmas.Bool.{cond-false}
 use Rattle.std.proofs.lemmas.Cmp.{nat_list_eq_equiv}
 use Rattle.std.proofs.lemmas.Map.Keys.{IsDistinct-head, IsDistinct-tail}
@@ -42,6 +43,11 @@ same_book b c start live undone marks = λ i. record { session = record { start 
 
 same_state : (s t : State) → s.start ≡ t.start → s.live ≡ t.live → s.undone ≡ t.undone → s ≡ t
 same_state s t start live undone = λ i. record { start = start i; live = live i; undone = undone i }
+
+-- what is so of a fault is so of what passes it up
+pub passed_up : {A E : Type 0} (P : Result A E → Type 0) (r : Result A E) (x : E) → IsErrAnd r (λ e. e ≡ x) → P (Err x) → P r
+passed_up P (Ok a) x is h = absurd is
+passed_up {A} {E} P (Err e) x is h = subst (λ (f : E). P (Err f)) (sym is) h
 
 -- a list, cut before one of its elements and behind it
 cut_at : {X : Type 0} (xs : List X) (i : ℕ) (x : X) → i < length xs → x ≡ get_or xs i x → xs ≡ take i xs ++ x ∷ drop (i + 1) xs
