@@ -336,13 +336,13 @@ pub none_shared : (xs ys : List Event) → take 0 xs ≡ take 0 ys
 none_shared xs ys = refl
 
 -- one more event that is the same in both
-pub one_shared : (xs : List Entry) (es fs : List Event) (k : ℕ) (x : Entry) (f : Event) → events xs ≡ es → k < length xs → k < length fs → x ≡ get_or xs k x → f ≡ get_or fs k f
-    → x.event ≡ f → take k es ≡ take k fs → take (k + 1) es ≡ take (k + 1) fs
-one_shared xs es fs k x f all within below is there same shared =
+pub one_shared : (xs : List Entry) (es fs : List Event) (k : ℕ) (x : Entry) (f : Event) → events xs ≡ es → k < length xs → k < length fs → x ≡ get_or xs k x
+    → x.event ≡ get_or fs k f → take k es ≡ take k fs → take (k + 1) es ≡ take (k + 1) fs
+one_shared xs es fs k x f all within below is same shared =
     let long : k < length es = omega (arith, ap length all, length-map xs (λ (y : Entry). y.event)) in
     let its : x.event ≡ get_or es k x.event =
     ap (λ (y : Entry). y.event) is ∙ sym (get_or-map (λ (y : Entry). y.event) xs k x x.event within) ∙ ap (λ (gs : List Event). get_or gs k x.event) all in
-    one_longer es k x.event long its ∙ ap₂ (λ (gs : List Event) (g : Event). gs ++ g ∷ []) shared same ∙ sym (one_longer fs k f below there)
+    one_longer es k x.event long its ∙ ap₂ (λ (gs : List Event) (g : Event). gs ++ g ∷ []) shared same ∙ sym (take_more fs k f below)
 
 shared_less : (j k : ℕ) (es fs : List Event) → k ≤ j → take j es ≡ take j fs → take k es ≡ take k fs
 shared_less j k es fs h same = sym (take-take k j es h) ∙ ap (λ (gs : List Event). take k gs) same ∙ take-take k j fs h
