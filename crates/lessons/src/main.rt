@@ -40,7 +40,10 @@ const MISTAKES: [(&str, &str); 6] = [
     ("\"qtail\": [0, 0]", "\"qtail\": [1, 0]"),
     ("\"tail\": 2", "\"tail\": 4611686018427387905"),
     ("\"op\": [\"enq\", 9]", "\"op\": [\"deq\"]"),
-    ("\"marks\": []", "\"marks\": [{\"name\": \"a\", \"events\": [[\"go\", 1], [\"go\", 2]]}]"),
+    (
+        "\"marks\": []",
+        "\"marks\": [{\"name\": \"a\", \"events\": [[\"go\", 1], [\"go\", 2]]}]",
+    ),
     ("\"events\": []", "\"events\": [[\"enq\", 1, 7]]"),
 ];
 
@@ -235,7 +238,7 @@ fn answer_to(alloc: Global, trace: &str) -> Result<String> {
     let outcome = resume(
         alloc,
         trace.as_bytes(),
-        &mut ReadSource::new(b""),
+        &mut ReadSource::new("".as_bytes()),
         &mut WriteSink::new(&mut replies),
     );
     let mut output = Vec::new(alloc);
