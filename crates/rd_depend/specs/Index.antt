@@ -1,12 +1,12 @@
 -- What an index keeps: of the entries of a list, the positions of those that touch an actor, a place or a segment.
-use Rattle.std.specs.Prelude.{◌≡◌, ℕ, ◌+◌, ◌-◌, ◌≤◌, Bool, true, false, ◌==◌, ◌&&◌, if◌then◌else◌, List, [], ◌∷◌, ◌++◌, length, take, drop, Some, ◌<◌}
+use Rattle.std.specs.Prelude.{◌≡◌, ℕ, ◌+◌, ◌-◌, ◌≤◌, Bool, ◌==◌, ◌&&◌, if◌then◌else◌, List, [], ◌∷◌, ◌++◌, length, take, drop, Some, ◌<◌}
 use Rattle.rd_step.specs.declared.entries.Entry.{Entry}
 use Rattle.rd_step.specs.Dependence.{numbered}
 use Rattle.rd_depend.specs.declared.index.DependIndex.{DependIndex}
 use Rattle.rd_depend.specs.declared.index.changing.Slots.{Slots}
 use Rattle.rd_depend.specs.declared.index.keys.Key.{Key}
 use Rattle.rd_depend.specs.Keys.{is_under, place_key, segment_key}
-use Rattle.rd_depend.specs.Lists.{list_at, capacity_at, one_if, spare_at, closed, IsAscending}
+use Rattle.rd_depend.specs.Lists.{list_at, capacity_at, one_if, spare_at, closed, up_to, IsAscending}
 use Rattle.rd_depend.specs.Tables.{counts, kept_in, capacity_in, spare_in, AreReady}
 
 -- what a list of positions is kept for: an actor, or a place or a segment, of all steps there or of those that wrote
@@ -111,3 +111,8 @@ pub record ClosesAll (k : ℕ) (old new : DependIndex) : Type 0 where
 pub record EndsWith (index : DependIndex) (last : List Entry) : Type 0 where
   pub before : List Entry
   pub is : IsIndexOf index (before ++ last)
+
+-- the positions above n are gone from each list
+pub record CutsAll (n : ℕ) (old new : DependIndex) : Type 0 where
+  pub lists : (t : Touch) → IsAscending (kept old t) → kept new t ≡ up_to n (kept old t)
+  pub len : new.len ≡ n

@@ -3,7 +3,7 @@ use Rattle.std.specs.Prelude.{◌≡◌, ℕ, ◌+◌, ◌-◌, ◌<◌, ◌≤�
 use Rattle.rd_depend.specs.declared.index.keys.Key.{Key}
 use Rattle.rd_depend.specs.declared.index.table.Table.{Table}
 use Rattle.rd_depend.specs.Keys.{is_that, slot_in}
-use Rattle.rd_depend.specs.Lists.{Lists, one_if, list_of, capacity_of, closed, IsAscending}
+use Rattle.rd_depend.specs.Lists.{Lists, one_if, list_of, capacity_of, closed, up_to, IsAscending}
 
 -- the lists of all positions, or of those that wrote
 abbrev pub lists_of : Table → Bool → Lists
@@ -72,3 +72,7 @@ pub record TakesLast (k : Option Key) (wrote : Bool) (old new : Table) : Type 0 
 pub record Closes (k : ℕ) (old new : Table) : Type 0 where
   pub lists : (w : Bool) (q : Key) → IsAscending (kept_in old w q) → kept_in new w q ≡ closed k (kept_in old w q)
   pub capacity : (w : Bool) (q : Key) → capacity_in new w q ≡ capacity_in old w q
+
+-- the positions above n are gone from each list
+pub record Cuts (n : ℕ) (old new : Table) : Type 0 where
+  pub lists : (w : Bool) (q : Key) → IsAscending (kept_in old w q) → kept_in new w q ≡ up_to n (kept_in old w q)

@@ -7,7 +7,7 @@ use Rattle.rd_step.specs.Prelude.{Refusal, TooLong, NothingToUndo, NothingToRedo
 use Rattle.rd_step.specs.declared.entries.Event.{Event}
 use Rattle.rd_step.specs.declared.entries.Entry.{Entry}
 use Rattle.rd_journal.specs.Journal.{Journal, events, start_of, IsRun, entry_of}
-use Rattle.rd_journal.specs.Records.{IsSession}
+use Rattle.rd_journal.specs.Kept.{IsSession}
 use Rattle.rd_journal.specs.Room.{HasRoom}
 use Rattle.rd_journal.specs.State.{State, state_of, run_of, step_after, reply_in, reply_to, with_event, apply, back_one, forward_one, times, undo, redo, back, forward}
 use Rattle.rd_journal.specs.Moves.{IsLengthened, IsMovedBack, IsBeforeLast}

@@ -1,11 +1,16 @@
 -- The causal closure is the least set that holds its step and what depends on its members, and lone undos that take
 -- the step out take all of it out.
-use Rattle.std.proofs.Common.{◌≡◌, ◌≢◌, ℕ, zero, suc, ◌+◌, ◌-◌, ◌<◌, ◌≤◌, ◌==◌, ◌||◌, inl, inr, Bool, true, false, nat_lt, if◌then◌else◌, refl, sym, ◌∙◌, ap, subst, arith, List, [], ◌∷◌, ◌++◌, length, take, drop, slice_get, Option, Some, None, eq-eqb, ne_eqb}
+use Rattle.std.proofs.Common.{◌≡◌, ◌≢◌, ℕ, zero, suc, ◌+◌, ◌-◌, ◌<◌, ◌≤◌, ◌==◌, ◌||◌, inl, inr, Bool, true, false, nat_lt, if◌then◌else◌, refl, sym, ◌∙◌, ap, subst, arith, List, [], ◌∷◌, ◌++◌, length, get_or, take, drop, slice_get, Option, Some, None, eq-eqb, ne_eqb}
 use Rattle.std.proofs.lemmas.Bool.{cases_Bool, cases_eq, cond-true, cond-false, lt-ltb, le-ltb, ltb-true, ltb-false}
-use Rattle.rd_step.specs.Prelude.{depends, IsFree, first_dependant, depends_on_one, closure}
-use Rattle.rd_step.specs.Dependence.{numbered, IsInClosure, closure_from, first_after, AreLoneUndos, number_after}
+use Rattle.rd_step.specs.Prelude.{depends, IsFree, first_dependant, depends_on_one, closure, closure_of, without_closure, marked, unmarked}
+use Rattle.rd_step.specs.Dependence.{numbered, IsInClosure, closure_from, first_from, first_after, AreLoneUndos, number_after}
 use Rattle.rd_step.specs.Dependence.IsInClosure.{itself, dependant}
 use Rattle.rd_step.specs.declared.entries.Entry.{Entry}
+use Rattle.rd_journal.specs.Journal.{Journal}
+use Rattle.rd_journal.specs.Moves.{IsTakenOutAt, IsRolledBack}
+use Rattle.rd_journal.proofs.Gathering.{cut_at}
+use Rattle.rd_journal.proofs.IndexedLemmas.{scan_is}
+use Rattle.rd_journal.proofs.ListLemmas.{nth, drop_one_less}
 use Rattle.rd_journal.proofs.LoneUndo.{none_is_free}
 
 -- The marks are closed
@@ -315,3 +320,50 @@ all_out es (n ∷ ns) k j undos gone h =
                 (closure_left es n k j undos.0 undos.2 (λ e. nk (sym e)) (λ e. nj (sym e)) h)
           ]
     ]
+
+-- A step on which no later one depends is its whole closure
+
+marked_none : (x : Entry) (n : ℕ) (ys : List Entry) → first_from x n ys ≡ None → marked (closure_from (x ∷ []) ys) ys ≡ []
+marked_none x n [] h = refl
+marked_none x n (y ∷ ys) h = by (depends x y) (marked_none x (n + 1) ys) h
+  where
+    by : (d : Bool) → (first_from x (n + 1) ys ≡ None → marked (closure_from (x ∷ []) ys) ys ≡ []) → (if d then Some n else first_from x (n + 1) ys) ≡ None
+        → (let e = d || false in marked (e ∷ closure_from (if e then (x ∷ []) ++ y ∷ [] else x ∷ []) ys) (y ∷ ys)) ≡ []
+    by true later g = absurd cc
+    by false later g = later g
+
+unmarked_all : (x : Entry) (n : ℕ) (ys : List Entry) → first_from x n ys ≡ None → unmarked (closure_from (x ∷ []) ys) ys ≡ ys
+unmarked_all x n [] h = refl
+unmarked_all x n (y ∷ ys) h = by (depends x y) (unmarked_all x (n + 1) ys) h
+  where
+    by : (d : Bool) → (first_from x (n + 1) ys ≡ None → unmarked (closure_from (x ∷ []) ys) ys ≡ ys) → (if d then Some n else first_from x (n + 1) ys) ≡ None
+        → (let e = d || false in unmarked (e ∷ closure_from (if e then (x ∷ []) ++ y ∷ [] else x ∷ []) ys) (y ∷ ys)) ≡ y ∷ ys
+    by true later g = absurd cc
+    by false later g = ap (λ (zs : List Entry). y ∷ zs) (later g)
+
+pub record IsAlone (l : List Entry) (k : ℕ) : Type 0 where
+  pub outside : without_closure l k ≡ take (k - 1) l ++ drop k l
+  pub inside : closure_of l k ≡ take 1 (drop (k - 1) l)
+
+pub alone : (l : List Entry) (k : ℕ) → 1 ≤ k → k ≤ length l → first_dependant l k ≡ None → IsAlone l k
+alone l zero some within free = absurd (omega arith)
+alone l (suc i) some within free =
+    let x = nth l i (omega arith) in
+    let c = cut_at l i x.0 (omega arith) x.1 in
+    let rest = drop (suc i) l in
+    let same : i ≡ suc i - 1 = omega arith in
+    let here : x.0 ≡ get_or l (suc i - 1) x.0 = x.1 ∙ ap (λ (m : ℕ). get_or l m x.0) same in
+    let none : first_from x.0 (suc i + 1) rest ≡ None = sym (scan_is x.0 l (suc i) some within here) ∙ free in
+    record {
+      outside = c.outside ∙ (λ j. take (same j) l ++ unmarked_all x.0 (suc i + 1) rest none j);
+      inside =
+          c.inside ∙ ap (λ (zs : List Entry). x.0 ∷ zs) (marked_none x.0 (suc i + 1) rest none)
+          ∙ sym (ap (λ (zs : List Entry). take 1 zs) (drop_one_less l i x.0 (omega arith) x.1)) ∙ ap (λ (m : ℕ). take 1 (drop m l)) same;
+    }
+
+-- undone alone, it is rolled back
+pub alone_rolled : (k : ℕ) (old new : Journal) → IsAlone old.live k → IsTakenOutAt k old new → IsRolledBack k old new
+alone_rolled k old new is out = record {
+  live = out.live ∙ sym is.outside;
+  undone = out.undone ∙ ap (λ (zs : List Entry). zs ++ old.undone) (sym is.inside);
+}

@@ -12,6 +12,7 @@ pub mod LoneUndo
 pub mod RedoneLast
 pub mod Switching
 pub mod Gathering
+pub mod IndexedLemmas
 pub mod RolledBack
 pub mod Closures
 pub mod RolledForward

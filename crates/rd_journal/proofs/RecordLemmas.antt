@@ -11,6 +11,7 @@ use Rattle.rd_journal.proofs.Numbers.{at-length, order_below}
 -- how many there are
 
 pub all-length : (r : Records) → length (all_records r) ≡ length r.order.items
+unfolding all_records
 all-length r = at-length r.slots.items r.order.items (order_below (length r.slots.items) r.order.items r.order_of_all)
 
 pub live-length : (r : Records) → length (live_records r) ≡ r.live

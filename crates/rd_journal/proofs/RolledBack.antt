@@ -10,7 +10,7 @@ use Rattle.rd_step.specs.declared.entries.Entry.{Entry}
 use Rattle.rd_step.proofs.Inverse.{run-cons}
 use Rattle.rd_journal.specs.Journal.{Journal, events, world_before, start_of, IsRun}
 use Rattle.rd_journal.specs.Moves.{IsMovedBack, IsRolledBack, IsWithoutClosure, roll_answer}
-use Rattle.rd_journal.specs.Records.{IsSession}
+use Rattle.rd_journal.specs.Kept.{IsSession}
 use Rattle.rd_journal.specs.Room.{HasRoom}
 use Rattle.rd_journal.specs.State.{State, state_of, run_of, back_one, times, closure_in, marked_out, roll}
 use Rattle.rd_journal.proofs.Calls.{back_start}

@@ -8,7 +8,7 @@ use Rattle.rd_step.specs.Room.{makes_segment, room_used, room_returned}
 use Rattle.rd_step.proofs.Room.{room_used_returned}
 use Rattle.rd_step.specs.declared.entries.Event.{Event}
 use Rattle.rd_journal.specs.Journal.{Journal, events, run_entries}
-use Rattle.rd_journal.specs.Records.{IsSession}
+use Rattle.rd_journal.specs.Kept.{IsSession}
 use Rattle.rd_journal.specs.Room.{room_returned_by, HasRoom, count_after, makings, makings_after, makes_after, IsOutOfMemory, MayBeOutOfMemory}
 use Rattle.rd_journal.specs.State.{step_after, state_of}
 use Rattle.rd_step.proofs.RunParts.{first_step}

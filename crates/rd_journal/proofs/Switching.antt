@@ -12,7 +12,7 @@ use Rattle.rd_step.proofs.Steps.{took, with_actor-other}
 use Rattle.rd_step.proofs.Room.{room_used_returned}
 use Rattle.rd_journal.specs.Journal.{Journal, events, world_before, start_of, IsRunFrom}
 use Rattle.rd_journal.specs.Moves.{IsMovedBack, IsMovedForward, IsSwitched}
-use Rattle.rd_journal.specs.Records.{IsSession}
+use Rattle.rd_journal.specs.Kept.{IsSession}
 use Rattle.rd_journal.specs.Room.{room_returned_by, HasRoom, HasRoomForAll}
 use Rattle.rd_journal.specs.State.{State, state_of, back_one, forward_one, times, switch}
 use Rattle.rd_journal.proofs.Calls.{back_start}

@@ -3,7 +3,8 @@ use Rattle.std.specs.Prelude.{ℕ}
 use Rattle.rd_step.specs.Prelude.{model, room as world_room}
 use Rattle.rd_journal.specs.declared.sessions.Session.{Session}
 use Rattle.rd_journal.specs.Journal.{Journal}
-use Rattle.rd_journal.specs.Records.{journal_of, records_capacity}
+use Rattle.rd_journal.specs.Kept.{journal_of}
+use Rattle.rd_journal.specs.Records.{records_capacity}
 use Rattle.rd_journal.specs.State.{State, state_of}
 
 -- the session's world and records
@@ -20,4 +21,4 @@ room s m = world_room s.world m
 
 -- for how many records, live and undone ones, there is room
 abbrev pub capacity : {R : ℕ} → Session R → ℕ
-capacity s = records_capacity s.records
+capacity s = records_capacity s.records.records

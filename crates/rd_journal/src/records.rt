@@ -4,6 +4,8 @@
 //! Only the border between the first two moves when a step is undone or redone last. A record that leaves the middle first has its
 //! number moved behind those of the other live ones. So the room that an undo needs was made by the step that it undoes.
 
+#![tactic(auto, unfolding(crate::specs::Records::all_records))]
+
 ghost use Rattle.std.specs.Prelude.{◌≡◌, ◌++◌, ◌+◌, ◌-◌, ◌<◌, ◌≤◌, ◌∷◌, [], length, get_or, take, drop, vec_capacity, OnOk, OnErr};
 ghost use Rattle.rd_step.specs.Prelude.{closure_of, without_closure, MOST_STEPS};
 ghost use Rattle.rd_journal.specs.Numbers.{IsOrder};
@@ -31,7 +33,7 @@ pub(crate) struct Records {
 }
 
 impl Records {
-    ghost use Rattle.rd_journal.specs.Records.{all_records, live_records, undone_records, records_capacity};
+    ghost use Rattle.rd_journal.specs.Records.{all_records, live_records, undone_records, kept_records, records_capacity};
 
     /// No record. It takes no memory.
     pub(crate) fn new(alloc: Global) -> Records
@@ -90,6 +92,14 @@ impl Records {
         ensures { undone_records self.now ≡ result.now ∷ drop 1 (undone_records self.now) }
     {
         self.at(self.live)
+    }
+
+    /// The record at this position, from 0, of the live ones and of the undone ones behind them.
+    pub(crate) fn kept_at(&self, position: usize) -> &Entry
+        requires within { position < length (kept_records self.now) }
+        ensures { result.now ≡ get_or (kept_records self.now) position result.now }
+    {
+        self.at(position)
     }
 
     /// The record of the undone step at this position, from 0.

@@ -11,18 +11,18 @@ mod switching;
 
 ghost use Rattle.std.specs.Prelude.{◌≡◌, ◌⊎◌, ◌++◌, ◌+◌, ◌≤◌, ◌<◌, ◌-◌, [], length, take, drop, Ok, Err, IsOk, OnOk, OnErr, IfOk, IfErr};
 ghost use Rattle.rd_step.specs.Prelude.{model, room as world_room, step};
+ghost use Rattle.rd_depend.specs.Writers.{last_position, writes_to};
 ghost use Rattle.rd_journal.specs.Journal.{entry_of, events, start_of, IsRunFrom, IsRun};
-ghost use Rattle.rd_journal.specs.Records.{journal_of, IsSession};
+ghost use Rattle.rd_journal.specs.Kept.{journal_of, IsSession};
 ghost use Rattle.rd_journal.specs.Room.{MayBeOutOfMemory, IsOutOfMemory, ComesAfterRoom, LacksRoom};
 ghost use Rattle.rd_journal.specs.State.{run_of, apply, reply_to, undo, undo_at, back, redo, forward, roll, switch, event_at};
 ghost use Rattle.rd_journal.specs.Laws.{IsStepAfter};
 ghost use Rattle.rd_journal.specs.Moves.{IsLengthened, IsMovedBack, IsMovedForward, IsBeforeLast, IsTakenOutAt, IsWithout, IsSwitched, IsRolledBack, IsWithoutClosure, answer_at, roll_answer};
 
+use super::indexed_records::IndexedRecords;
 use super::live_records::LiveRecords;
-use super::records::Records;
-use super::scans::first_dependant;
-use rd_cell::Refusal;
 use rd_cell::limits::MOST_STEPS;
+use rd_cell::{Place, Refusal};
 use rd_step::{Entry, Event, World};
 use std::alloc::Global;
 
@@ -30,7 +30,7 @@ use std::alloc::Global;
 #[derive(Drop)]
 pub struct Session<const R: usize> {
     world: World<R>,
-    records: Records,
+    records: IndexedRecords,
     ghost kept: { IsSession R (journal_of (model world) records) (world_room world) },
 }
 
@@ -45,7 +45,7 @@ impl<const R: usize> Session<R> {
     {
         Session {
             world,
-            records: Records::new(alloc),
+            records: IndexedRecords::new(alloc),
         }
     }
 
@@ -121,7 +121,7 @@ impl<const R: usize> Session<R> {
         if len < k || k == 0 {
             return Err(Refusal::NoSuchStep(len));
         }
-        if let Some(dependant) = first_dependant(&self.records.live(), k) {
+        if let Some(dependant) = self.records.first_dependant(k) {
             return Err(Refusal::Depended(dependant));
         }
         self.undo_alone(k);
@@ -280,6 +280,14 @@ impl<const R: usize> Session<R> {
             return Err(Refusal::NoSuchStep(len));
         }
         Ok(*self.records.live_at(k as usize - 1))
+    }
+
+    /// The number of the last live step that wrote this place, or one that overlaps it; none if no live step did. It asks the
+    /// index of dependants, and scans the steps that this does not reach for want of memory. It takes no memory.
+    pub fn last_writer(&self, place: Place) -> Option<u64>
+        ensures { result ≡ last_position (writes_to place) (journal self.now).live }
+    {
+        self.records.last_writer(place)
     }
 
     /// The event of the undone step of this number, from 1, if there is one: the first is the one undone last.

@@ -3,6 +3,7 @@
 //! A run is a list of lines. Most do something to a session that must be accepted, or refused as the line says; the
 //! others say what must be so then.
 
+mod agreement;
 mod lone_undo;
 mod long_runs;
 mod rollback;

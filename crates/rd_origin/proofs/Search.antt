@@ -4,7 +4,7 @@ use Rattle.rd_step.specs.declared.entries.Entry.{Entry}
 use Rattle.rd_origin.specs.declared.searches.StepKind.{StepKind}
 use Rattle.rd_origin.specs.Positions.{last_position}
 use Rattle.rd_origin.specs.Searches.{is_of_kind, is_some_of_kind, is_of_kind_at}
-use Rattle.rd_origin.proofs.Positions.{last-found, last-passed}
+use Rattle.rd_depend.proofs.LastPositions.{last-found, last-passed}
 
 found_by : (s : StepKind) (xs : List Entry) (i : ℕ) (o : Option Entry) → slice_get xs i ≡ o → is_some_of_kind s o ≡ true
     → last_position (is_of_kind s) (take (suc i) xs) ≡ Some (suc i)

@@ -1,17 +1,15 @@
--- The kinds of steps that the searches of both queries look for.
+-- The kinds of steps that the searches for an origin look for.
 use Rattle.std.specs.Prelude.{ℕ, Bool, false, List, Option, Some, None}
 use Rattle.rd_step.specs.Dependence.{numbered}
 use Rattle.rd_step.specs.declared.entries.Entry.{Entry}
 use Rattle.rd_origin.specs.declared.searches.StepKind.{StepKind}
-use Rattle.rd_origin.specs.declared.searches.StepKind.TheVariants.{PutInto, CallBy, WriteOf}
+use Rattle.rd_origin.specs.declared.searches.StepKind.TheVariants.{PutInto, CallBy}
 use Rattle.rd_origin.specs.Origins.{puts_into, calls_by}
-use Rattle.rd_origin.specs.Writers.{writes_to}
 
 -- whether a step is of a kind
 abbrev pub is_of_kind : StepKind → Entry → Bool
 is_of_kind (PutInto cell) x = puts_into cell x
 is_of_kind (CallBy actor) x = calls_by actor x
-is_of_kind (WriteOf place) x = writes_to place x
 
 -- whether there is a step, and it is of the kind
 abbrev pub is_some_of_kind : StepKind → Option Entry → Bool

@@ -61,8 +61,8 @@ fn last_call(steps: &LiveRecords, number: Option<u64>) -> Option<u64>
     last_below(steps, number, StepKind::CallBy(step.event.actor))
 }
 
-/// The last live step that wrote this place, or one that overlaps it; none if no live step did. It takes no memory, and makes
-/// one pass over the live steps at most, from the back.
+/// The last live step that wrote this place, or one that overlaps it; none if no live step did. It takes no memory. The session
+/// finds it in its index, and scans from the back those live steps alone that the index does not reach for want of memory.
 ///
 /// # Errors
 ///
@@ -76,7 +76,5 @@ pub fn last_writer<const R: usize>(
     let Some(_) = session.world().content(place) else {
         return Err(Refusal::NoSuchPlace);
     };
-    let steps = session.live();
-    let behind = steps.len() as u64 + 1;
-    Ok(last_below(&steps, behind, StepKind::WriteOf(place)))
+    Ok(session.last_writer(place))
 }

@@ -1,14 +1,13 @@
-//! The one search that both queries make: back from a step to the last one before it of the kind that they look for.
+//! The search that an origin is found by: back from a step to the last one before it of the kind that is looked for.
 
 ghost use Rattle.std.specs.Prelude.{◌≡◌, ◌-◌, take, Some, None, MatchOption};
 ghost use Rattle.rd_step.specs.Dependence.{numbered};
 ghost use Rattle.rd_origin.specs.Origins.{is_call, is_at, is_first_cell, puts_into, calls_by};
 ghost use Rattle.rd_origin.specs.Positions.{last_position};
-ghost use Rattle.rd_origin.specs.Writers.{writes_to};
 ghost use Rattle.rd_origin.specs.Searches.{is_of_kind, is_of_kind_at};
 
 use rd_actor::{Act, Pc};
-use rd_cell::{Place, overlaps};
+use rd_cell::Place;
 use rd_journal::LiveRecords;
 use rd_step::Entry;
 
@@ -19,8 +18,6 @@ pub enum StepKind {
     PutInto(Place),
     /// A call by this actor.
     CallBy(u8),
-    /// A step that wrote this place, or one that overlaps it.
-    WriteOf(Place),
 }
 
 impl StepKind {
@@ -31,7 +28,6 @@ impl StepKind {
         match self {
             StepKind::PutInto(cell) => puts_into(cell, step),
             StepKind::CallBy(actor) => calls_by(actor, step),
-            StepKind::WriteOf(place) => writes_to(place, step),
         }
     }
 }
@@ -112,11 +108,4 @@ fn is_call(act: Act) -> bool
     ensures { result ≡ is_call act }
 {
     !matches!(act, Act::Go | Act::Starve(_))
-}
-
-/// Whether the step wrote this place, or one that overlaps it.
-fn writes_to(place: Place, step: &Entry) -> bool
-    ensures { result ≡ writes_to place step.now }
-{
-    step.wrote && step.place.is_some_and(|written| overlaps(written, place))
 }

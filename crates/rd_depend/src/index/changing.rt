@@ -3,11 +3,11 @@
 ghost use Rattle.std.specs.Prelude.{◌≡◌, ◌+◌, ◌<◌, ◌≤◌, ◌++◌, length, take, true, ℕ, List, IsOk, IfOk, OnOk, OnErr};
 ghost use Rattle.rd_step.specs.declared.entries.Entry.{Entry as Record};
 ghost use Rattle.rd_depend.specs.Keys.{place_key, segment_key};
-ghost use Rattle.rd_depend.specs.Index.{Touch, Adds, Keeps, Drops, ClosesAll, IsIndexOf, IsIndex, IsLast, IsReadyFor, EndsWith, number_of, touches, spare};
+ghost use Rattle.rd_depend.specs.Index.{Touch, Adds, Keeps, Drops, ClosesAll, CutsAll, IsIndexOf, IsIndex, IsLast, IsReadyFor, EndsWith, number_of, touches, spare};
 
 use super::DependIndex;
 use super::keys::Key;
-use super::lists::{close_all, grow, put_in, reserve_in, take_last_in};
+use super::lists::{close_all, cut_all, grow, put_in, reserve_in, take_last_in};
 use rd_cell::Place;
 use rd_cell::limits::MOST_STEPS;
 use rd_step::Entry;
@@ -84,6 +84,15 @@ impl DependIndex {
         self.len -= 1;
         close_all(&mut self.by_actor, k);
         self.by_key.close(k);
+    }
+
+    /// Takes the positions above `n` away.
+    pub(super) fn cut(&mut self, n: u32)
+        ensures { CutsAll n self.old self.new }
+    {
+        self.len = n as usize;
+        cut_all(&mut self.by_actor, n);
+        self.by_key.cut(n);
     }
 
     /// Pushes these entries until one is refused, and gives how many were not.

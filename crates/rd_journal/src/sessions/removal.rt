@@ -25,9 +25,24 @@ impl<const R: usize> Session<R> {
         self.records.take_out(k as usize);
     }
 
-    /// Undoes the `k`-th live step and all later ones that depend on it, directly or through others. Their records are first put
-    /// behind the other live ones, none of which depends on them.
+    /// Undoes the `k`-th live step and all later ones that depend on it, directly or through others. If none depends on it directly,
+    /// none does.
     pub(super) fn undo_closure(&mut self, k: u64)
+        requires some { 1 ≤ k }
+        requires position { k ≤ length (journal self.old).live }
+        ensures records { IsRolledBack k (journal self.old) (journal self.new) }
+        ensures start { start_of (journal self.new) ≡ start_of (journal self.old) }
+        ensures capacity { capacity self.new ≡ capacity self.old }
+    {
+        match self.records.first_dependant(k) {
+            None => self.undo_alone(k),
+            Some(_) => self.undo_block(k),
+        }
+    }
+
+    /// The same, whether or not one does: the records of these steps are first put behind the other live ones, none of which
+    /// depends on them.
+    fn undo_block(&mut self, k: u64)
         requires some { 1 ≤ k }
         requires position { k ≤ length (journal self.old).live }
         ensures records { IsRolledBack k (journal self.old) (journal self.new) }

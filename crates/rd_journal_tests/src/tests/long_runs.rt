@@ -26,7 +26,11 @@ fn act<const R: usize>(session: &mut Session<R>, actors: u8, number: u64) -> Res
 }
 
 /// Makes the call that the number chooses: mostly an event, and else an undo or a redo of some kind.
-fn call<const R: usize>(session: &mut Session<R>, actors: u8, number: u64) -> Result<(), Refusal>
+pub(super) fn call<const R: usize>(
+    session: &mut Session<R>,
+    actors: u8,
+    number: u64,
+) -> Result<(), Refusal>
     requires some { 1 ≤ actors }
 {
     let step = (number >> 20) % (session.len() % 1_000 + 1);

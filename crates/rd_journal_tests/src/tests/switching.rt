@@ -11,7 +11,7 @@ use std::alloc::{AllocError, Global};
 use std::test::Fail;
 
 /// A copy of the records of the live steps.
-fn live_records<const R: usize>(
+pub(super) fn live_records<const R: usize>(
     alloc: Global,
     session: &Session<R>,
 ) -> Result<Vec<Entry>, AllocError>
@@ -26,7 +26,7 @@ fn live_records<const R: usize>(
 }
 
 /// Undoes all steps and makes them again, from their records.
-fn step_all_again(alloc: Global, session: &mut Session<2>) -> Result<(), Refusal> {
+pub(super) fn step_all_again(alloc: Global, session: &mut Session<2>) -> Result<(), Refusal> {
     let records = live_records(alloc, session)?;
     let _world = session.world();
     session.switch(0, &records)

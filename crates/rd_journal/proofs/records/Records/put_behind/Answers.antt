@@ -16,11 +16,13 @@ pub invariant_of-self : goal.invariant_of-self
 invariant_of-self c = record { order_of_all = c.put_at.ensures.ordered; within = omega (arith, c.put_at.ensures.within) }
 
 pub returns-clause-live : goal.returns-clause-live
+unfolding all_records
 returns-clause-live c =
     let self = c.args.self.now in
     put_stays (all_records self) _ self.live self.undone c.args.entry.now (omega (arith, all-length self, self.within)) c.put_at.ensures.put
 
 pub returns-clause-undone : goal.returns-clause-undone
+unfolding all_records
 returns-clause-undone c =
     let self = c.args.self.now in
     put_last (all_records self) _ self.live self.undone c.args.entry.now (omega (arith, all-length self, self.within)) c.put_at.ensures.put

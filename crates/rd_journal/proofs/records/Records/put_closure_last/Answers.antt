@@ -1,11 +1,13 @@
 use Rattle.std.proofs.Common.{◌∙◌, List, length, sym, subst, arith, length-take-le}
 use Rattle.rd_step.specs.declared.entries.Entry.{Entry}
+use Rattle.rd_journal.specs.Records.{all_records}
 use Rattle.rd_journal.specs.Numbers.{at_numbers, IsOrder}
 use Rattle.rd_journal.proofs.Numbers.{at-length, order_below}
 use Rattle.rd_journal.proofs.RecordLemmas.{live-length}
 use Rattle.rd_journal.proofs.records.Records.put_closure_last.Goals as goal
 
 pub returns-clause-len : goal.returns-clause-len
+unfolding all_records
 returns-clause-len c =
     let self = c.args.self.now in
     let es = self.slots.items in

@@ -4,11 +4,13 @@ use Rattle.rd_journal.proofs.RecordLemmas.{all-length, live-length, cut_back, cu
 use Rattle.rd_journal.proofs.records.Records.step_back.Goals as goal
 
 pub returns-clause-live : goal.returns-clause-live
+unfolding all_records
 returns-clause-live c =
     let self = c.args.self.now in
     cut_short (all_records self) self.live (omega (arith, all-length self, self.within))
 
 pub returns-clause-undone : goal.returns-clause-undone
+unfolding all_records
 returns-clause-undone c =
     let self = c.args.self.now in
     cut_back (all_records self) self.live self.undone (omega (arith, live-length self, c.requires)) (omega (arith, all-length self, self.within))

@@ -24,6 +24,7 @@ invariant_of-self c =
     }
 
 pub returns-clause-live : goal.returns-clause-live
+unfolding all_records
 returns-clause-live c =
     let self = c.args.self.now in
     let below = order_below (length self.slots.items) self.order.items self.order_of_all in
@@ -33,6 +34,7 @@ returns-clause-live c =
     (omega (arith, all-length self, self.within))
 
 pub returns-clause-undone : goal.returns-clause-undone
+unfolding all_records
 returns-clause-undone c =
     let self = c.args.self.now in
     let below = order_below (length self.slots.items) self.order.items self.order_of_all in

@@ -4,7 +4,8 @@ use Rattle.rd_step.specs.Prelude.{NoMemory, model, room, MOST_STEPS}
 use Rattle.rd_step.proofs.PassedUp.{error_passed_up, fact_passed_up}
 use Rattle.rd_journal.specs.Journal.{events}
 use Rattle.rd_journal.specs.Moves.{IsLengthened}
-use Rattle.rd_journal.specs.Records.{journal_of, records_capacity}
+use Rattle.rd_journal.specs.Kept.{journal_of}
+use Rattle.rd_journal.specs.Records.{records_capacity}
 use Rattle.rd_journal.specs.Sessions.{journal}
 use Rattle.rd_journal.proofs.Calls.{live_len, apply_refused, apply_goes, reply_goes, longer_session, same_session}
 use Rattle.rd_journal.proofs.RoomLemmas.{may_be_out}
@@ -42,7 +43,7 @@ returns-in_err-entry-clause-err g c =
       | inl h ↦ inl (apply_refused g.row.R old c.args.event c.in_err-entry.field-0.0 self.kept.runs less h)
       | inr h ↦ inr (
         h.0,
-        may_be_out g.row.R old (records_capacity self.records) (room self.world) c.args.event self.kept
+        may_be_out g.row.R old (records_capacity self.records.records) (room self.world) c.args.event self.kept
             (record { not_full = less; asked = inr h.1 }),
       )
     ])

@@ -2,7 +2,7 @@ use Rattle.std.proofs.Common.{◌≡◌, ◌∙◌, ◌-◌, ◌++◌, List, len
 use Rattle.rd_step.specs.declared.entries.Entry.{Entry}
 use Rattle.rd_step.specs.Prelude.{World, model, room}
 use Rattle.rd_journal.specs.Journal.{start_of, IsRunFrom}
-use Rattle.rd_journal.specs.Records.{journal_of}
+use Rattle.rd_journal.specs.Kept.{journal_of}
 use Rattle.rd_journal.specs.Room.{HasRoom}
 use Rattle.rd_journal.specs.Sessions.{journal, state}
 use Rattle.rd_journal.specs.State.{State}

@@ -1,6 +1,6 @@
 use Rattle.std.proofs.Common.{arith}
 use Rattle.rd_step.specs.Prelude.{model, room}
-use Rattle.rd_journal.specs.Records.{journal_of}
+use Rattle.rd_journal.specs.Kept.{journal_of}
 use Rattle.rd_journal.specs.Sessions.{journal}
 use Rattle.rd_journal.proofs.Calls.{same_session}
 use Rattle.rd_journal.proofs.sessions.Session.make_room_to_switch.Goals as goal

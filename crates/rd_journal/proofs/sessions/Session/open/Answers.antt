@@ -1,5 +1,5 @@
 use Rattle.rd_step.specs.Prelude.{model, room}
-use Rattle.rd_journal.specs.Records.{journal_of}
+use Rattle.rd_journal.specs.Kept.{journal_of}
 use Rattle.rd_journal.proofs.Calls.{opened_session}
 use Rattle.rd_journal.proofs.sessions.Session.open.Goals as goal
 

@@ -2,7 +2,7 @@ use Rattle.std.proofs.Common.{arith, sym, subst, List}
 use Rattle.rd_step.specs.Prelude.{model, room}
 use Rattle.rd_step.specs.declared.entries.Entry.{Entry}
 use Rattle.rd_journal.specs.Moves.{IsMovedForward}
-use Rattle.rd_journal.specs.Records.{journal_of}
+use Rattle.rd_journal.specs.Kept.{journal_of}
 use Rattle.rd_journal.specs.Room.{HasRoom}
 use Rattle.rd_journal.proofs.RoomLemmas.{redo_room, redone_room}
 use Rattle.rd_journal.proofs.Walks.{may_redo_first, moved_forward_few}

@@ -1,7 +1,7 @@
 use Rattle.std.proofs.Common.{arith}
 use Rattle.rd_step.specs.Prelude.{model, room}
 use Rattle.rd_journal.specs.Moves.{IsTakenOutAt}
-use Rattle.rd_journal.specs.Records.{journal_of}
+use Rattle.rd_journal.specs.Kept.{journal_of}
 use Rattle.rd_journal.proofs.LoneUndo.{IsNumber, may_undo_at, one_out_state, taken_out_front, taken_out_few}
 use Rattle.rd_journal.proofs.RoomLemmas.{given_back}
 use Rattle.rd_journal.proofs.sessions.Session.undo_alone.Goals as goal

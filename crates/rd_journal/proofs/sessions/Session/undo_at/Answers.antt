@@ -1,5 +1,4 @@
-use Rattle.std.proofs.Common.{◌≡◌, ◌≤◌, ◌∙◌, List, Some, None, Ok, length, inl, inr, sym, ap, arith}
-use Rattle.rd_step.specs.declared.entries.Entry.{Entry}
+use Rattle.std.proofs.Common.{◌≡◌, ◌≤◌, ◌∙◌, Some, None, Ok, length, inl, inr, sym, ap, arith}
 use Rattle.rd_step.specs.Prelude.{first_dependant}
 use Rattle.rd_journal.specs.Moves.{answer_unless}
 use Rattle.rd_journal.specs.Sessions.{journal, state}
@@ -23,7 +22,7 @@ returns-in-Some-clause-answer g c =
     let old = journal c.args.self.now in
     let within : c.args.k ≤ length old.live = omega (arith, c.len-len.ensures.records) in
     let first : first_dependant old.live c.args.k ≡ Some c.in-Some.dependant =
-    ap (λ (es : List Entry). first_dependant es c.args.k) (sym c.live.ensures) ∙ sym c.in-Some.ensures in
+    sym c.in-Some.ensures in
     sym (answer_there old c.args.k (omega arith) within ∙ ap answer_unless first)
 
 pub returns-in-Some-clause-err : goal.returns-in-Some-clause-err
@@ -31,7 +30,7 @@ returns-in-Some-clause-err g c =
     let old = journal c.args.self.now in
     let within : c.args.k ≤ length old.live = omega (arith, c.len-len.ensures.records) in
     let first : first_dependant old.live c.args.k ≡ Some c.in-Some.dependant =
-    ap (λ (es : List Entry). first_dependant es c.args.k) (sym c.live.ensures) ∙ sym c.in-Some.ensures in
+    sym c.in-Some.ensures in
     undo_at_there g.row.R old c.args.k c.args.self.now.kept.runs (omega arith) within ∙ ap (one_out_unless (state c.args.self.now) c.args.k) first
 
 pub undo_alone-requires : goal.undo_alone-requires
@@ -41,7 +40,7 @@ undo_alone-requires g c = (
     omega arith,
     (
       omega (arith, c.len-len.ensures.records),
-      ap (λ (es : List Entry). first_dependant es c.args.k) (sym c.live.ensures) ∙ sym c.first_dependant.ensures ∙ c.in_default.is,
+      sym c.first_dependant.ensures ∙ c.in_default.is,
     ),
   ),
 )
@@ -51,7 +50,7 @@ returns-clause-ok g c =
     let old = journal c.args.self.now in
     let within : c.args.k ≤ length old.live = omega (arith, c.len-len.ensures.records) in
     let first : first_dependant old.live c.args.k ≡ None =
-    ap (λ (es : List Entry). first_dependant es c.args.k) (sym c.live.ensures) ∙ sym c.first_dependant.ensures ∙ c.in_default.is in
+    sym c.first_dependant.ensures ∙ c.in_default.is in
     undo_at_there g.row.R old c.args.k c.args.self.now.kept.runs (omega arith) within
     ∙ ap (one_out_unless (state c.args.self.now) c.args.k) first ∙ ap (λ (s : State). Ok s) (sym c.undo_alone.ensures.state)
 
@@ -60,7 +59,7 @@ returns-clause-answer g c =
     let old = journal c.args.self.now in
     let within : c.args.k ≤ length old.live = omega (arith, c.len-len.ensures.records) in
     let first : first_dependant old.live c.args.k ≡ None =
-    ap (λ (es : List Entry). first_dependant es c.args.k) (sym c.live.ensures) ∙ sym c.first_dependant.ensures ∙ c.in_default.is in
+    sym c.first_dependant.ensures ∙ c.in_default.is in
     sym (answer_there old c.args.k (omega arith) within ∙ ap answer_unless first)
 
 pub returns-clause-run : goal.returns-clause-run

@@ -1,6 +1,6 @@
 use Rattle.std.proofs.Common.{arith}
 use Rattle.rd_step.specs.Prelude.{model, room}
-use Rattle.rd_journal.specs.Records.{journal_of}
+use Rattle.rd_journal.specs.Kept.{journal_of}
 use Rattle.rd_journal.specs.Moves.{IsMovedBack}
 use Rattle.rd_journal.proofs.RoomLemmas.{given_back}
 use Rattle.rd_journal.proofs.Walks.{may_undo_last, undone_front, moved_back_few}

@@ -1,4 +1,4 @@
-use Rattle.std.proofs.Common.{◌≡◌, inl, inr, arith}
+use Rattle.std.proofs.Common.{inl, inr, arith}
 use Rattle.rd_journal.specs.Sessions.{journal}
 use Rattle.rd_journal.proofs.Starting.{event_missing, event_found}
 use Rattle.rd_journal.proofs.sessions.Session.undone_event.Goals as goal
