@@ -44,11 +44,15 @@ ReadsMarks ds (Ok marks) = AreMarks ds (map saved_mark marks.items)
 ReadsMarks ds (Err NoMemory) = Unit {0}
 ReadsMarks ds (Err BadForm) = (ms : List Mark) → AreMarks ds ms → ⊥
 
+-- the object of the values of a bookmark's events and of the bytes of its name
+abbrev pub mark_object : Items → List ℕ → Data
+mark_object events name = object (
+    member (codes "events") (array events)
+    (member (codes "name") (string name) no_members))
+
 -- the value that a bookmark is written as
 abbrev pub mark_data : Mark → Data
-mark_data m = object (
-    member (codes "events") (array (events_data m.events))
-    (member (codes "name") (string (bytes_of m.name)) no_members))
+mark_data m = mark_object (events_data m.events) (bytes_of m.name)
 
 abbrev pub marks_data : List Mark → Items
 marks_data [] = no_items

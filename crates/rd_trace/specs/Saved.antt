@@ -86,15 +86,19 @@ ReadsSecond d (Ok s) = IsSecondTrace d (saved_trace s)
 ReadsSecond d (Err NoMemory) = Unit {0}
 ReadsSecond {R} d (Err BadForm) = (t : Trace R) → IsSecondTrace d t → ⊥
 
+-- the object of the values of a book's parts
+abbrev pub book_object : Items → Items → ℕ → Data → Items → Data
+book_object events marks cells start undone = object (
+    member (codes "events") (array events)
+    (member (codes "marks") (array marks)
+    (member (codes "ring") (number (unsigned cells))
+    (member (codes "start") start
+    (member (codes "undone") (array undone)
+    (member (codes "version") (number (unsigned 2)) no_members))))))
+
 -- the value that a book is written as, its start being written as this one
 abbrev pub book_data : ℕ → Data → BookState → Data
-book_data R start b = object (
-    member (codes "events") (array (events_data b.session.live))
-    (member (codes "marks") (array (marks_data b.marks))
-    (member (codes "ring") (number (unsigned R))
-    (member (codes "start") start
-    (member (codes "undone") (array (events_data b.session.undone))
-    (member (codes "version") (number (unsigned 2)) no_members))))))
+book_data R start b = book_object (events_data b.session.live) (marks_data b.marks) R start (events_data b.session.undone)
 
 -- a text is what a book is written as: JSON without a space, its keys in the order of the alphabet, and a line feed
 abbrev pub IsWrittenAs : ℕ → BookState → List ℕ → Type 0

@@ -1,7 +1,17 @@
 -- The start of a session as a value: the fresh world of so many actors, or the parts of any other world.
-use Rattle.std.specs.Prelude.{◌≡◌, ◌≤◌, ◌⊎◌, ℕ, List, codes, Option, Some, None, Result, Ok, Err}
-use Rattle.serde_json.specs.Data.{Data, number, array, object, unsigned, no_members, member}
+use Rattle.std.specs.Prelude.{◌≡◌, ◌≢◌, ◌≤◌, ◌<◌, ◌⊎◌, ℕ, suc, List, length, slice_get, slice_index_or, codes, Option, Some, None, Result, Ok, Err}
+use Rattle.serde_json.specs.Data.{Data, number, array, object, unsigned, Items, no_members, member}
 use Rattle.serde_json.specs.Find.{get}
+use Rattle.rd_cell.specs.declared.cells.Cell.{Cell}
+use Rattle.rd_cell.specs.declared.places.SegName.{SegName}
+use Rattle.rd_cell.specs.declared.places.Place.{Place}
+use Rattle.rd_cell.specs.Places.{root}
+use Rattle.rd_cell.specs.Cells.{new_cell}
+use Rattle.rd_cell.specs.Contents.{fresh}
+use Rattle.rd_ring.specs.declared.parts.SegmentParts.{SegmentParts}
+use Rattle.rd_segments.specs.declared.array.ArrayParts.{ArrayParts}
+use Rattle.rd_segments.specs.Lists.{by_name}
+use Rattle.rd_segments.specs.Parts.{PartsOf, part_of_parts}
 use Rattle.rd_step.specs.Prelude.{World, MOST_ACTORS}
 use Rattle.rd_step.specs.Starts.{fresh_world}
 use Rattle.rd_step.specs.Parts.{world_of_parts, first_flaw}
@@ -33,11 +43,15 @@ abbrev pub HasActorCount : {R : ℕ} → Start R → Type 0
 HasActorCount (Fresh count) = (1 ≤ count) × (count ≤ MOST_ACTORS)
 HasActorCount (OfParts p) = Unit {0}
 
+-- the array stands in an object
+abbrev pub IsArrayAt : Data → ArrayParts → Type 0
+IsArrayAt d a = (e : Data) × (get (codes "array") d ≡ Some e) × IsArray e a
+
 -- a value is an object of five members, one for each of the parts, and so of no other
 pub record IsParts {R : ℕ} (d : Data) (p : Parts R) : Type 0 where
   pub members : member_count d ≡ Some 5
   pub actors : SpellEachAt IsActor (codes "actors") d p.actors.items
-  pub array : (e : Data) × (get (codes "array") d ≡ Some e) × IsArray e p.array
+  pub array : IsArrayAt d p.array
   pub qhead : name_at (codes "qhead") d ≡ Some p.qhead
   pub qtail : name_at (codes "qtail") d ≡ Some p.qtail
   pub segments : SpellEachAt IsSegmentList (codes "segments") d p.segments.items
@@ -76,17 +90,37 @@ SpellsWorld R w d = (start : Start R) × IsStart d start × (start_flaw start �
 abbrev pub fresh_data : ℕ → Data
 fresh_data count = object (member (codes "fresh") (number (unsigned count)) no_members)
 
+-- the object of the values of a world's parts
+abbrev pub parts_object : Items → Data → Data → Data → Items → Data
+parts_object actors slots qhead qtail segments = object (
+    member (codes "actors") (array actors)
+    (member (codes "array") slots
+    (member (codes "qhead") qhead
+    (member (codes "qtail") qtail
+    (member (codes "segments") (array segments) no_members)))))
+
 -- the value that parts are written as
 abbrev pub parts_data : {R : ℕ} → Parts R → Data
-parts_data p = object (
-    member (codes "actors") (array (actors_data p.actors.items))
-    (member (codes "array") (array_data p.array)
-    (member (codes "qhead") (name_data p.qhead)
-    (member (codes "qtail") (name_data p.qtail)
-    (member (codes "segments") (array (makers_data p.segments.items)) no_members)))))
+parts_data p = parts_object (actors_data p.actors.items) (array_data p.array) (name_data p.qhead) (name_data p.qtail) (makers_data p.segments.items)
 
 -- the value that a world is written as: as a fresh one just if it is the fresh world, and else as its parts
 abbrev pub IsStartData : ℕ → World → Data → Type 0
 IsStartData R w d =
     ((count : ℕ) × (w ≡ fresh_world R count) × (1 ≤ count) × (count ≤ MOST_ACTORS) × (d ≡ fresh_data count))
     ⊎ (((count : ℕ) → w ≡ fresh_world R count → ⊥) × (p : Parts R) × (world_of_parts p ≡ w) × (d ≡ parts_data p))
+
+-- ---- when parts are those of a fresh world. No public clause cites these
+
+-- nothing was done to the cells of a ring
+abbrev pub AreFreshCells : List Cell → Type 0
+AreFreshCells cells = (k : ℕ) (d : Cell) → k < length cells → slice_index_or cells k d ≡ new_cell k None
+
+-- there is just one segment, and nothing was done to it
+pub record IsFreshAlone {R : ℕ} (segments : List (SegmentParts R)) : Type 0 where
+  pub first : (q : Place) → part_of_parts (slice_get segments 0) q ≡ fresh R q
+  pub others : (n : ℕ) → slice_get segments (suc n) ≡ None
+
+-- the root is the only segment, and nothing was done to it
+pub record HasFreshRootAlone {R : ℕ} (makers : List (PartsOf R)) : Type 0 where
+  pub at_root : (q : Place) → part_of_parts (by_name makers root) q ≡ fresh R q
+  pub alone : (s : SegName) → s ≢ root → by_name makers s ≡ None

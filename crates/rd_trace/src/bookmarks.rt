@@ -1,7 +1,7 @@
 //! Bookmarks: an object with the name and the list of events.
 
-ghost use Rattle.std.specs.Prelude.{◌≡◌, Some, IfOk, OnOk, IfSome, IfNone, not};
-ghost use Rattle.std.specs.List.{list_all};
+ghost use Rattle.std.specs.Prelude.{◌≡◌, Some, IfOk, OnOk, IfSome, IfNone, option_map};
+ghost use Rattle.std.specs.List.{list_any};
 ghost use Rattle.serde_json.specs.View.{view, items_view};
 ghost use Rattle.rd_marks.specs.BookViews.{book_state};
 ghost use Rattle.rd_marks.specs.Books.{mark_events};
@@ -9,7 +9,9 @@ ghost use Rattle.rd_marks.specs.Names.{same_name};
 ghost use Rattle.rd_marks.specs.Rules.{KeepsRules};
 ghost use Rattle.rd_step.specs.Run.{events};
 ghost use Rattle.rd_marks.specs.declared.names.MarkName.{MarkName};
-ghost use Rattle.rd_trace.specs.Bookmarks.{AreMarks, IsMark, ReadsMarks, ReadsMark, HasMarkName, marks_data, mark_data};
+ghost use Rattle.rd_trace.specs.Numbers.{text_at};
+ghost use Rattle.rd_trace.specs.Events.{ReadsEventsAt};
+ghost use Rattle.rd_trace.specs.Bookmarks.{AreMarks, IsMark, ReadsMarks, ReadsMark, HasMarkName, marks_data, mark_data, mark_object};
 
 use super::events::{events_in, events_value};
 use super::faults::FormFault;
@@ -40,10 +42,11 @@ pub struct SavedMark {
 pub fn marks_in(alloc: Global, list: &Vec<Value>) -> Result<Vec<SavedMark>, FormFault>
     ensures { ReadsMarks (items_view list.now.items) result }
 {
-    if list.len() > MOST_MARKS {
+    let count = list.len();
+    if count > MOST_MARKS {
         return Err(FormFault::BadForm);
     }
-    let mut marks = Vec::with_capacity(alloc, list.len())?;
+    let mut marks = Vec::with_capacity(alloc, count)?;
     for value in list {
         let mark = mark_in(alloc, value)?;
         if is_taken(&marks, mark.name) {
@@ -58,23 +61,32 @@ pub fn marks_in(alloc: Global, list: &Vec<Value>) -> Result<Vec<SavedMark>, Form
 
 /// Whether one of these bookmarks has this name.
 fn is_taken(marks: &[SavedMark], name: MarkName) -> bool
-    ensures { not result ≡ list_all (λ mark. not (same_name mark.name name)) marks.now }
+    ensures { result ≡ list_any (λ mark. same_name name mark.name) marks.now }
 {
-    marks.iter().any(|mark| mark.name == name)
+    marks.iter().any(|mark| name == mark.name)
 }
 
 /// The bookmark that a value spells.
 fn mark_in(alloc: Global, value: &Value) -> Result<SavedMark, FormFault>
     ensures { ReadsMark (view value.now) result }
 {
-    let list = value.get(EVENTS).and_then(Value::as_array);
-    let (Some(name), Some(list)) = (name_in(value), list) else {
+    let Some(name) = name_in(value) else {
         return Err(FormFault::BadForm);
     };
     Ok(SavedMark {
         name,
-        events: events_in(alloc, list)?,
+        events: events_at(alloc, value, EVENTS)?,
     })
+}
+
+/// The events that the list at a key of an object spells.
+pub fn events_at(alloc: Global, value: &Value, key: &str) -> Result<Vec<Event>, FormFault>
+    ensures { ReadsEventsAt key.now (view value.now) result }
+{
+    match value.get(key).and_then(Value::as_array) {
+        None => Err(FormFault::BadForm),
+        Some(list) => events_in(alloc, list),
+    }
 }
 
 /// The name of the bookmark that a value spells, if it has the members of one.
@@ -85,10 +97,18 @@ fn name_in(value: &Value) -> Option<MarkName>
     if member_count(value)? != MEMBERS {
         return None;
     }
-    match MarkName::new(value.get(NAME)?.as_str()?.as_bytes()) {
+    let text = text_at(value, NAME)?;
+    match MarkName::new(text.as_bytes()) {
         Err(_) => None,
         Ok(name) => Some(name),
     }
+}
+
+/// The text at a key of an object.
+fn text_at<'a>(value: &'a Value, key: &str) -> Option<&'a str>
+    ensures { option_map (λ text. text.now) result ≡ text_at key.now (view value.now) }
+{
+    value.get(key).and_then(Value::as_str)
 }
 
 /// The values of the bookmarks of a book, in order.
@@ -97,10 +117,11 @@ pub fn marks_value<const R: usize>(alloc: Global, book: &Book<R>) -> Result<Vec<
     ensures spelled { OnOk result (AreMarks (marks_data (book_state book.now).marks) (book_state book.now).marks) }
     ensures rules { KeepsRules R (book_state book.now) }
 {
-    let mut values = Vec::with_capacity(alloc, book.marks() as usize)?;
-    for i in 0..book.marks() {
-        if let Ok((name, _)) = book.mark_at(i + 1) {
-            values.push(mark_value(alloc, book, i + 1, name)?)?;
+    let count = book.marks();
+    let mut values = Vec::with_capacity(alloc, count as usize)?;
+    for i in 0..count {
+        if let Ok(mark) = book.mark_at(i + 1) {
+            values.push(mark_value(alloc, book, i + 1, mark.0)?)?;
         }
     }
     Ok(values)
@@ -120,7 +141,14 @@ fn mark_value<const R: usize>(
         return Err(AllocError);
     };
     let events = events_value(alloc, &events_of(alloc, &records)?)?;
-    json!(in alloc; {EVENTS: events, NAME: name.as_str()})
+    mark_object(alloc, events, name.as_str())
+}
+
+/// The object of the values of a bookmark's events and of its name.
+fn mark_object(alloc: Global, events: Vec<Value>, name: &str) -> Result<Value, AllocError>
+    ensures { IfOk result (λ value. view value ≡ mark_object (items_view events.items) name.now) }
+{
+    json!(in alloc; {EVENTS: events, NAME: name})
 }
 
 /// The events of records.

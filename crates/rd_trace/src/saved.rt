@@ -1,24 +1,24 @@
 //! Whole sessions: the object of version 1, which is only read, and that of version 2, which is read and written.
 
-ghost use Rattle.std.specs.Prelude.{◌≡◌, ◌≤◌, ℕ, Some, codes, IfOk, OnOk, IfSome, IfNone};
+ghost use Rattle.std.specs.Prelude.{◌≡◌, ◌≤◌, ◌++◌, ℕ, Some, codes, IfOk, OnOk, IfSome, IfNone};
 ghost use Rattle.serde_json.specs.Data.{Data};
-ghost use Rattle.serde_json.specs.View.{view};
+ghost use Rattle.serde_json.specs.View.{view, items_view};
 ghost use Rattle.rd_step.specs.Prelude.{MOST_CELLS};
 ghost use Rattle.rd_journal.specs.Sessions.{state};
 ghost use Rattle.rd_marks.specs.BookViews.{book_state};
+ghost use Rattle.rd_marks.specs.Rules.{GoThrough};
 ghost use Rattle.rd_trace.specs.Numbers.{member_count, number_at};
 ghost use Rattle.rd_trace.specs.Traces.{IsTraceRing, ring_length};
 ghost use Rattle.rd_trace.specs.Starts.{IsStartData, SpellsWorld};
-ghost use Rattle.rd_trace.specs.Events.{ReadsEventsAt};
-ghost use Rattle.rd_trace.specs.Saved.{ReadsTrace, ReadsFirst, ReadsSecond, SpellsBook, book_data};
+ghost use Rattle.rd_trace.specs.Saved.{ReadsTrace, ReadsFirst, ReadsSecond, SpellsBook, book_object, book_data};
 ghost use Rattle.rd_trace.specs.Loading.{IsReachable};
 
-use super::bookmarks::{SavedMark, marks_in, marks_value};
-use super::events::{events_in, events_value};
+use super::bookmarks::{SavedMark, events_at, marks_in, marks_value};
+use super::events::events_value;
 use super::faults::FormFault;
 use super::numbers::{member_count, number_at};
 use super::rings::Ring;
-use super::starts::{Start, actors_at, start_in, start_value};
+use super::starts::{Start, actors_at, list_at, start_in, start_value};
 use rd_journal::Session;
 use rd_marks::Book;
 use rd_step::Event;
@@ -122,8 +122,10 @@ fn second_session_in<const R: usize>(
     requires ring { number_at (codes "ring") (view value.now) ≡ Some R }
     ensures { ReadsSecond (view value.now) result }
 {
-    let parts = (value.get(START), value.get(MARKS).and_then(Value::as_array));
-    let (Some(start), Some(marks)) = parts else {
+    let Some(start) = value.get(START) else {
+        return Err(FormFault::BadForm);
+    };
+    let Some(marks) = list_at(value, MARKS) else {
         return Err(FormFault::BadForm);
     };
     Ok(SavedSession {
@@ -134,16 +136,6 @@ fn second_session_in<const R: usize>(
     })
 }
 
-/// The events that the list at a key of an object spells.
-fn events_at(alloc: Global, value: &Value, key: &str) -> Result<Vec<Event>, FormFault>
-    ensures { ReadsEventsAt key.now (view value.now) result }
-{
-    match value.get(key).and_then(Value::as_array) {
-        None => Err(FormFault::BadForm),
-        Some(list) => events_in(alloc, list),
-    }
-}
-
 /// The value of a book's session and bookmarks, of version 2.
 pub fn book_value<const R: usize>(alloc: Global, book: &Book<R>) -> Result<Value, AllocError>
     ensures value { IfOk result (λ value. (start : Data) × IsStartData R (book_state book.now).session.start start
@@ -152,18 +144,40 @@ pub fn book_value<const R: usize>(alloc: Global, book: &Book<R>) -> Result<Value
     ensures reachable { OnOk result (IsReachable R (book_state book.now)) }
 {
     let session = book.session();
+    events_go_through(session);
     let events = events_value(alloc, &live_events(alloc, session)?)?;
     let marks = marks_value(alloc, book)?;
     let start = start_of(alloc, session)?;
     let undone = events_value(alloc, &undone_events(alloc, session)?)?;
+    book_object(alloc, events, marks, R as u64, start, undone)
+}
+
+/// The object of the values of a book's parts.
+fn book_object(
+    alloc: Global,
+    events: Vec<Value>,
+    marks: Vec<Value>,
+    cells: u64,
+    start: Value,
+    undone: Vec<Value>,
+) -> Result<Value, AllocError>
+    ensures { IfOk result (λ value. view value ≡ book_object (items_view events.items) (items_view marks.items) cells (view start) (items_view undone.items)) }
+{
     json!(in alloc; {
         EVENTS: events,
         MARKS: marks,
-        RING: R as u64,
+        RING: cells,
         START: start,
         UNDONE: undone,
         VERSION: WRITTEN
     })
+}
+
+/// A session's live events and then its undone ones go through from its start: the contract of its world says so.
+fn events_go_through<const R: usize>(session: &Session<R>)
+    ensures { GoThrough R (state session.now).start ((state session.now).live ++ (state session.now).undone) }
+{
+    let _world = session.world();
 }
 
 /// The value of the start of a session.
@@ -187,11 +201,10 @@ fn live_events<const R: usize>(
 ) -> Result<Vec<Event>, AllocError>
     ensures { IfOk result (λ list. list.items ≡ (state session.now).live) }
 {
-    let mut events = Vec::with_capacity(alloc, session.len() as usize)?;
-    for done in 0..session.len() {
-        if let Ok(entry) = session.entry(done + 1) {
-            events.push(entry.event)?;
-        }
+    let live = session.live();
+    let mut events = Vec::with_capacity(alloc, live.len())?;
+    for k in 0..live.len() {
+        events.push(live.at(k).event)?;
     }
     Ok(events)
 }
@@ -203,9 +216,10 @@ fn undone_events<const R: usize>(
 ) -> Result<Vec<Event>, AllocError>
     ensures { IfOk result (λ list. list.items ≡ (state session.now).undone) }
 {
-    let mut events = Vec::with_capacity(alloc, session.undone_len() as usize)?;
-    for done in 0..session.undone_len() {
-        if let Some(event) = session.undone_event(done + 1) {
+    let count = session.undone_len();
+    let mut events = Vec::with_capacity(alloc, count as usize)?;
+    for k in 0..count {
+        if let Some(event) = session.undone_event(k + 1) {
             events.push(event)?;
         }
     }
