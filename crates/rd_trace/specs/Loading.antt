@@ -12,7 +12,7 @@ use Rattle.rd_trace.specs.declared.faults.FormFault.{FormFault}
 use Rattle.rd_trace.specs.declared.faults.FormFault.TheVariants.{NoMemory as FormNoMemory, BadForm}
 use Rattle.rd_step.specs.Starts.{fresh_world}
 use Rattle.rd_trace.specs.Starts.{start_world, start_flaw}
-use Rattle.rd_trace.specs.Saved.{Trace, IsFirstTrace, IsSecondTrace, IsTraceText, loaded_state}
+use Rattle.rd_trace.specs.Saved.{Trace, IsFirstTrace, IsSecondTrace, IsTraceText, loaded_state, IsSameBook}
 use Rattle.rd_marks.specs.Rules.{GoThrough, MarksGoThrough}
 use Rattle.rd_trace.specs.Traces.{IsRefusedAt, IsMarkRefusedAt}
 
@@ -83,7 +83,7 @@ pub record IsLoadable (R : ℕ) (b : BookState) (text : List ℕ) : Type 0 where
   pub reachable : IsReachable R b
   pub reads : (t : Trace R) × IsTraceText text t × (start_flaw t.start ≡ None) × (loaded_state t ≡ b)
 
--- what loading gives of a text that a book in this state is written as: a book in this state, unless memory was refused
+-- what loading gives of a text that a book in this state is written as: the same book, unless memory was refused
 abbrev pub LoadsAgain : ℕ → BookState → Result AnyBook LoadTraceFault → Type 0
-LoadsAgain R b (Ok book) = IsBookIn R b book
+LoadsAgain R b (Ok book) = (any_ring book ≡ R) × IsSameBook (any_state book) b
 LoadsAgain R b (Err fault) = fault ≡ NoMemory

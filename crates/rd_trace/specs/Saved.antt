@@ -7,6 +7,7 @@ use Rattle.serde_json.specs.View.{view}
 use Rattle.serde_json.specs.Written.{compact_text}
 use Rattle.serde_json.specs.declared.value.Value.{Value}
 use Rattle.rd_step.specs.declared.entries.Event.{Event}
+use Rattle.rd_marks.specs.Names.{bytes_of}
 use Rattle.rd_marks.specs.Books.{Mark, BookState}
 use Rattle.rd_trace.specs.Numbers.{member_count, number_at, list_at}
 use Rattle.rd_trace.specs.Events.{events_at, events_data}
@@ -36,6 +37,16 @@ loaded_state t = record {
   session = record { start = start_world t.start; live = t.live; undone = t.undone };
   marks = t.marks;
 }
+
+-- a bookmark as it is spelled: the bytes of its name, and its events. Names with the same bytes are equal, though the room that
+-- is left behind the bytes may differ, which no call shows
+abbrev pub seen_mark : Mark → List ℕ × List Event
+seen_mark m = (bytes_of m.name, m.events)
+
+-- two books are the same: they have one session, and bookmarks with equal names and the same events in the same order
+pub record IsSameBook (a b : BookState) : Type 0 where
+  pub session : a.session ≡ b.session
+  pub marks : map seen_mark a.marks ≡ map seen_mark b.marks
 
 -- a value is a trace of version 1: an object of four members; nothing is undone, and there is no bookmark
 pub record IsFirstTrace {R : ℕ} (d : Data) (t : Trace R) : Type 0 where

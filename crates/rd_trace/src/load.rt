@@ -67,7 +67,7 @@ fn value_of(alloc: Global, text: &[u8]) -> Result<Value, FormFault>
 fn book_of<const R: usize>(alloc: Global, value: Value) -> Result<Book<R>, LoadTraceFault>
     requires positive { 1 ≤ R }
     requires small { R ≤ MOST_CELLS }
-    requires ring { number_at (codes "ring") (view value.entry) ≡ Some R }
+    requires ring { number_at (codes "ring") (view value) ≡ Some R }
     ensures { LoadsValue (view value.entry) result }
 {
     let session: SavedSession<R> = session_in(alloc, &value)?;

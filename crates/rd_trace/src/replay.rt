@@ -7,7 +7,7 @@ ghost use Rattle.rd_journal.specs.Sessions.{state};
 ghost use Rattle.rd_marks.specs.BookViews.{book_state};
 ghost use Rattle.rd_marks.specs.NameBytes.{MOST_MARKS};
 ghost use Rattle.rd_trace.specs.Starts.{HasActorCount};
-ghost use Rattle.rd_marks.specs.Rules.{HaveDifferentNames};
+ghost use Rattle.rd_marks.specs.Rules.{GoThrough, HaveDifferentNames};
 ghost use Rattle.rd_trace.specs.Bookmarks.{saved_mark};
 ghost use Rattle.rd_trace.specs.Saved.{saved_trace, loaded_state};
 ghost use Rattle.rd_trace.specs.Loading.{Replays};
@@ -44,9 +44,9 @@ pub fn replay<const R: usize>(
 ) -> Result<Book<R>, LoadTraceFault>
     requires positive { 1 ≤ R }
     requires small { R ≤ MOST_CELLS }
-    requires counted { HasActorCount session.entry.start }
-    requires names { HaveDifferentNames (map saved_mark session.entry.marks.items) }
-    requires few { length session.entry.marks.items ≤ MOST_MARKS }
+    requires counted { HasActorCount session.start }
+    requires names { HaveDifferentNames (map saved_mark session.marks.items) }
+    requires few { length session.marks.items ≤ MOST_MARKS }
     ensures { Replays (λ book. book_state book ≡ loaded_state (saved_trace session.entry)) (saved_trace session.entry) result }
 {
     let world = world_of(alloc, session.start)?;
@@ -62,7 +62,7 @@ pub fn replay<const R: usize>(
 fn world_of<const R: usize>(alloc: Global, start: Start<R>) -> Result<World<R>, LoadTraceFault>
     requires positive { 1 ≤ R }
     requires small { R ≤ MOST_CELLS }
-    requires counted { HasActorCount start.entry }
+    requires counted { HasActorCount start }
     ensures { MakesWorld start.entry result }
 {
     match start {
@@ -89,8 +89,10 @@ fn set_marks<const R: usize>(book: &mut Book<R>, marks: &[SavedMark]) -> Result<
         if let Err(refused) = go_to(book, &marks[i].events) {
             return Err(refused.of_mark(i as u64 + 1));
         }
-        if book.mark(marks[i].name).is_err() {
-            return Err(LoadTraceFault::NoMemory);
+        match book.mark(marks[i].name) {
+            Ok(()) => {}
+            Err(Refusal::NoMemory) => return Err(LoadTraceFault::NoMemory),
+            Err(_) => unreachable!(),
         }
     }
     Ok(())
@@ -125,6 +127,7 @@ fn go_to<const R: usize>(book: &mut Book<R>, events: &[Event]) -> Result<(), Ref
 
 /// How many live events of a session are those that a list begins with.
 fn shared_beginning<const R: usize>(session: &Session<R>, events: &[Event]) -> usize
+    ensures through { GoThrough R (state session.now).start (state session.now).live }
     ensures live { result ≤ length (state session.now).live }
     ensures within { result ≤ length events.now }
     ensures same { take result (state session.now).live ≡ take result events.now }
@@ -152,6 +155,7 @@ fn go_back<const R: usize>(book: &mut Book<R>, n: u64)
 
 /// Makes events happen in order.
 fn step_all<const R: usize>(book: &mut Book<R>, events: &[Event]) -> Result<(), RefusedEvent>
+    requires { GoThrough R (book_state book.old).session.start (book_state book.old).session.live }
     ensures { StepsAll R (book_state book.old) events.now (book_state book.new) result }
 {
     for event in events {
