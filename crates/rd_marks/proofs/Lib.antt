@@ -17,3 +17,4 @@ pub mod Counting
 pub mod Here
 pub mod LevelNodes
 pub mod MarkedEvents
+pub mod RulesLemmas

@@ -45,6 +45,7 @@ pub struct Book<const R: usize> {
 impl<const R: usize> Book<R> {
     ghost use Rattle.rd_marks.specs.Beginnings.{CountsBeginnings};
     ghost use Rattle.rd_marks.specs.BookViews.{book_state};
+    ghost use Rattle.rd_marks.specs.Rules.{KeepsRules};
     ghost use Rattle.rd_marks.specs.Books.{marked_events, mark, drop_mark, goto_mark, mark_at, MakesSteps, AnswersSame};
 
     /// A book over a session, with no marks. It takes no memory.
@@ -163,9 +164,10 @@ impl<const R: usize> Book<R> {
         }
     }
 
-    /// How many bookmarks there are.
+    /// How many bookmarks there are: at most `MOST_MARKS`, with different names, each at events that go through from the session's start.
     pub fn marks(&self) -> u64
-        ensures { result ≡ length (book_state self.now).marks }
+        ensures count { result ≡ length (book_state self.now).marks }
+        ensures rules { KeepsRules R (book_state self.now) }
     {
         self.marks.len() as u64
     }
