@@ -24,11 +24,6 @@ pub fault_passed_up : {A : Type 0} (P : Result A ProgramFault → Type 0) (fault
 fault_passed_up P fault (Ok x) is p = absurd is
 fault_passed_up P fault (Err e) is p = subst (λ x. P (Err x)) (sym is) p
 
--- a run over the book that the program begins with
-pub runs_from_first : (R R' actors : ℕ) (s after : BookState) (d : Devices) (r : Result ℕ ScriptFault) → R' ≡ R → s ≡ first_state R actors → RunsScript R' s after d r → RunsScript R (first_state R actors) after d r
-runs_from_first R R' actors s after d r ring state runs =
-    subst (λ k. RunsScript k (first_state R actors) after d r) ring (subst (λ b. RunsScript R' b after d r) state runs)
-
 -- a fault of the script is the program's fault
 pub plays_to_fault : (R actors : ℕ) (traced : Bool) (d : Devices) (after : BookState) (fault : ScriptFault) → RunsScript R (first_state R actors) after d (Err fault) → PlaysScript R actors traced d (Err (program_fault fault))
 plays_to_fault R actors traced d after script.Read runs = (after, runs)
@@ -39,15 +34,15 @@ pub ran_with_writer : (R : ℕ) (before after : BookState) (d : Devices) (n : �
 ran_with_writer R before after d n ran = subst (λ failed. RanToEnd R before after (record d { out_failed = failed }) n) ran.out_works ran
 
 -- a run that came to its end over the fresh world, and what became of its trace
-pub ran_to_trace : (R R' R'' actors : ℕ) (traced : Bool) (d : Devices) (s after : BookState) (reported : Option (List ℕ)) (failed : Bool) (n : ℕ) (written : Result (Unit {0}) ProgramFault)
-    → R' ≡ R → R'' ≡ R → s ≡ first_state R actors → RanToEnd R' s after (record d { out_after = reported; out_failed = failed }) n
-    → WritesIf traced (trace_text (trace_of_state R'' actors after)) reported d.out_after d.out_failed written → RanToTrace R actors traced d n written
-ran_to_trace R R' R'' actors traced d s after reported failed n written ring ring' state ran trace = record {
+pub ran_to_trace : (R R' actors : ℕ) (traced : Bool) (d : Devices) (s after : BookState) (reported : Option (List ℕ)) (failed : Bool) (n : ℕ) (written : Result (Unit {0}) ProgramFault)
+    → R' ≡ R → s ≡ first_state R actors → RanToEnd R s after (record d { out_after = reported; out_failed = failed }) n
+    → WritesIf traced (trace_text (trace_of_state R' actors after)) reported d.out_after d.out_failed written → RanToTrace R actors traced d n written
+ran_to_trace R R' actors traced d s after reported failed n written ring state ran trace = record {
   after = after;
   reported = reported;
   ran = ran_with_writer R (first_state R actors) after (record d { out_after = reported; out_failed = failed }) n
-      (runs_from_first R R' actors s after (record d { out_after = reported; out_failed = failed }) (Ok n) ring state ran);
-  trace = subst (λ k. WritesIf traced (trace_text (trace_of_state k actors after)) reported d.out_after d.out_failed written) ring' trace;
+      (subst (λ b. RanToEnd R b after (record d { out_after = reported; out_failed = failed }) n) state ran);
+  trace = subst (λ k. WritesIf traced (trace_text (trace_of_state k actors after)) reported d.out_after d.out_failed written) ring trace;
 }
 
 -- a run whose trace was not written

@@ -7,7 +7,7 @@ ghost use Rattle.rd_trace.specs.Traces.{ring_length, trace_of_state};
 ghost use Rattle.rd_trace.specs.Text.{trace_text};
 ghost use Rattle.rd_trace.specs.Loading.{any_ring, any_state};
 ghost use Rattle.rd_trace.specs.Devices.{devices};
-ghost use Rattle.rd_program.specs.Program.{IsUnread, PlaysScript, ResumesTrace, WritesIf};
+ghost use Rattle.rd_program.specs.Program.{IsUnread, PlaysScript, ResumesTrace, RunsOver, WritesIf, first_state};
 
 use super::faults::ProgramFault;
 use rd_script::{Sink, Source};
@@ -40,8 +40,25 @@ pub fn play<S: Source, K: Sink>(
     let Ok(mut book) = AnyBook::fresh(alloc, ring, actors) else {
         return Err(ProgramFault::NoMemory);
     };
+    play_over(alloc, reader, writer, &mut book, trace)
+}
+
+/// Runs a script over a book in the state that the program begins with, and writes its report, and the trace behind it if it is
+/// asked for.
+fn play_over<S: Source, K: Sink>(
+    alloc: Global,
+    reader: &mut S,
+    writer: &mut K,
+    book: &mut AnyBook,
+    trace: bool,
+) -> Result<u64, ProgramFault>
+    requires reader_works { S.has_failed reader.old ≡ false }
+    requires writer_works { K.has_failed writer.old ≡ false }
+    ensures { (actors : ℕ) → any_state book.old ≡ first_state (any_ring book.old) actors
+        → PlaysScript (any_ring book.old) actors trace (devices S.Source K.Sink reader.old reader.new writer.old writer.new) result }
+{
     let lines = book.run(reader, writer)?;
-    write_if(alloc, writer, &book, trace)?;
+    write_if(alloc, writer, book, trace)?;
     Ok(lines)
 }
 
@@ -82,6 +99,20 @@ pub fn resume<S: Source, K: Sink>(
         (devices S.Source K.Sink reader.old reader.new writer.old writer.new) result }
 {
     let mut book = load_trace(alloc, text)?;
+    run_over(reader, writer, &mut book)
+}
+
+/// Runs a script over a book, and writes its report. Answers the number of the script's lines.
+fn run_over<S: Source, K: Sink>(
+    reader: &mut S,
+    writer: &mut K,
+    book: &mut AnyBook,
+) -> Result<u64, ProgramFault>
+    requires reader_works { S.has_failed reader.old ≡ false }
+    requires writer_works { K.has_failed writer.old ≡ false }
+    ensures { RunsOver (any_ring book.old) (any_state book.old)
+        (devices S.Source K.Sink reader.old reader.new writer.old writer.new) result }
+{
     let lines = book.run(reader, writer)?;
     Ok(lines)
 }
