@@ -27,11 +27,21 @@ use rd_step::{Entry, Event, World};
 use std::alloc::Global;
 
 /// A world of rings of `R` cells, with the steps that led to it and those that were undone.
-#[derive(Drop)]
 pub struct Session<const R: usize> {
     world: World<R>,
     records: IndexedRecords,
     ghost kept: { IsSession R (journal_of (model world) records) (world_room world) },
+}
+
+/// Written out and not derived, so that a proof of a function in which a session ends has one step for that, and not one for
+/// each list inside.
+impl<const R: usize> Drop for Session<R> {
+    fn drop(self) {
+        let Session {
+            world: _world,
+            records: _records,
+        } = self;
+    }
 }
 
 impl<const R: usize> Session<R> {
