@@ -2,7 +2,6 @@
 -- script's run over the run of a trace.
 use Rattle.std.specs.Prelude.{◌≡◌, ◌⊎◌, ℕ, Bool, true, false, List, [], ◌++◌, Option, Some, None, Result, Ok, Err}
 use Rattle.std.specs.Io.KnownBytes.{Keeps, Appends}
-use Rattle.rd_step.specs.Starts.{fresh_world}
 use Rattle.rd_marks.specs.Books.{BookState}
 use Rattle.rd_script.specs.declared.faults.ScriptFault.{ScriptFault}
 use Rattle.rd_script.specs.declared.faults.ScriptFault.TheVariants.{Read as AtRead, Write as AtWrite}
@@ -16,7 +15,7 @@ use Rattle.rd_trace.specs.Saved.{Trace, IsTraceText, loaded_state}
 use Rattle.rd_trace.specs.Writing.{IsTextOf}
 use Rattle.rd_trace.specs.Starts.{start_world, start_flaw}
 use Rattle.rd_trace.specs.Traces.{IsRefusedAt, IsMarkRefusedAt}
-use Rattle.rd_trace.specs.Loading.{HasMarks, IsPlayable}
+use Rattle.rd_trace.specs.Loading.{HasMarks, IsPlayable, fresh_state}
 use Rattle.rd_program.specs.declared.faults.ProgramFault.{ProgramFault}
 use Rattle.rd_program.specs.declared.faults.ProgramFault.TheVariants.{NoMemory, Read, Write, BadTrace, Flawed, TraceMark, TraceStep}
 
@@ -42,10 +41,6 @@ write_fault write.Write = Write
 abbrev pub IsUnread : ProgramFault → Type 0
 IsUnread fault = (fault ≡ NoMemory) ⊎ (fault ≡ Read)
 
--- the state that the program begins with: no step was made in the fresh world, and there is no bookmark
-abbrev pub first_state : ℕ → ℕ → BookState
-first_state R actors = record { session = record { start = fresh_world R actors; live = []; undone = [] }; marks = [] }
-
 -- neither device was touched
 pub record TouchesNothing (d : Devices) : Type 0 where
   pub gave_nothing : Keeps d.in_before d.in_after
@@ -60,36 +55,34 @@ RunsOver R before d (Err Read) = (after : BookState) × StoppedAtRead R before a
 RunsOver R before d (Err Write) = (after : BookState) × StoppedAtWrite R before after d
 RunsOver R before d (Err _) = ⊥
 
--- what a writer has behind what it had, if the text was asked for
-abbrev pub AppendsIf : Bool → Option (List ℕ) → Option (List ℕ) → List ℕ → Type 0
-AppendsIf true old new text = Appends old new text
-AppendsIf false old new text = new ≡ old
+-- what a writer has behind what it had, if a text of this kind was asked for
+abbrev pub AppendsIf : Bool → (List ℕ → Type 0) → Option (List ℕ) → Option (List ℕ) → Type 0
+AppendsIf true IsText old new = (text : List ℕ) × IsText text × Appends old new text
+AppendsIf false IsText old new = new ≡ old
 
--- what became of a text that may have been asked for: it was written whole, or not for want of memory, or a beginning of it
--- if the writer failed
-abbrev pub WritesIf : Bool → List ℕ → Option (List ℕ) → Option (List ℕ) → Bool → Result (Unit {0}) ProgramFault → Type 0
-WritesIf asked text old new failed (Ok _) = AppendsIf asked old new text × (failed ≡ false)
-WritesIf asked text old new failed (Err NoMemory) = (asked ≡ true) × Keeps old new × (failed ≡ false)
-WritesIf asked text old new failed (Err Write) = (asked ≡ true) × TakesBeginning old new text × (failed ≡ true)
-WritesIf asked text old new failed (Err _) = ⊥
+-- what became of a text of this kind that may have been asked for: it was written whole, or not for want of memory, or a beginning
+-- of it if the writer failed
+abbrev pub WritesIf : Bool → (List ℕ → Type 0) → Option (List ℕ) → Option (List ℕ) → Bool → Result (Unit {0}) ProgramFault → Type 0
+WritesIf asked IsText old new failed (Ok _) = AppendsIf asked IsText old new × (failed ≡ false)
+WritesIf asked IsText old new failed (Err NoMemory) = (asked ≡ true) × Keeps old new × (failed ≡ false)
+WritesIf asked IsText old new failed (Err Write) = (asked ≡ true) × ((text : List ℕ) × IsText text × TakesBeginning old new text) × (failed ≡ true)
+WritesIf asked IsText old new failed (Err _) = ⊥
 
 -- a script ran to its end over the fresh world, and this became of the trace of its run
 pub record RanToTrace (R actors : ℕ) (traced : Bool) (d : Devices) (n : ℕ) (written : Result (Unit {0}) ProgramFault) : Type 0 where
   pub after : BookState
   -- what the writer had when the report was whole
   pub reported : Option (List ℕ)
-  pub ran : RanToEnd R (first_state R actors) after (record d { out_after = reported; out_failed = false }) n
-  -- the text that its book is written as
-  pub text : List ℕ
-  pub is_text : (traced ≡ true) → IsTextOf R after text
-  pub trace : WritesIf traced text reported d.out_after d.out_failed written
+  pub ran : RanToEnd R (fresh_state R actors) after (record d { out_after = reported; out_failed = false }) n
+  -- the text that its book is written as, if it was asked for
+  pub trace : WritesIf traced (IsTextOf R after) reported d.out_after d.out_failed written
 
 -- what `run` did: the trace follows the report of a run that came to its end, if it was asked for
 abbrev pub PlaysScript : ℕ → ℕ → Bool → Devices → Result ℕ ProgramFault → Type 0
 PlaysScript R actors traced d (Ok n) = RanToTrace R actors traced d n (Ok tt)
 PlaysScript R actors traced d (Err NoMemory) = TouchesNothing d ⊎ ((n : ℕ) × RanToTrace R actors traced d n (Err NoMemory))
-PlaysScript R actors traced d (Err Read) = RunsOver R (first_state R actors) d (Err Read)
-PlaysScript R actors traced d (Err Write) = RunsOver R (first_state R actors) d (Err Write) ⊎ ((n : ℕ) × RanToTrace R actors traced d n (Err Write))
+PlaysScript R actors traced d (Err Read) = RunsOver R (fresh_state R actors) d (Err Read)
+PlaysScript R actors traced d (Err Write) = RunsOver R (fresh_state R actors) d (Err Write) ⊎ ((n : ℕ) × RanToTrace R actors traced d n (Err Write))
 PlaysScript R actors traced d (Err _) = ⊥
 
 -- the text is a trace all of whose events go through, and a script ran over the book that it is loaded as
