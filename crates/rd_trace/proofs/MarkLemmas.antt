@@ -1,5 +1,5 @@
 -- Bookmarks as values.
-use Rattle.std.proofs.Common.{◌≡◌, ◌≢◌, ℕ, zero, suc, ◌+◌, ◌<◌, ◌≤◌, Bool, true, false, ◌||◌, List, [], ◌∷◌, ◌++◌, map, length, get_or, take, drop, slice_get, codes, Decides, Option, Some, None, option_map, IfSome, Result, Ok, Err, inl, inr, refl, sym, ap, ap₂, ◌∙◌, subst, arith, length-take}
+use Rattle.std.proofs.Common.{◌≡◌, ◌≢◌, ℕ, nat_eq, zero, suc, ◌+◌, ◌<◌, ◌≤◌, Bool, true, false, ◌||◌, List, [], ◌∷◌, ◌++◌, map, length, get_or, take, drop, slice_get, codes, Decides, Option, Some, None, option_map, IfSome, Result, Ok, Err, inl, inr, refl, sym, ap, ap₂, ◌∙◌, subst, arith, length-take}
 use Rattle.std.specs.List.{AllByRecursion, list_any, IsDistinct}
 use Rattle.std.specs.Cmp.Lexicographic.{pointwise}
 use Rattle.std.specs.Cmp.{IsEquivalence}
@@ -40,7 +40,7 @@ name_laws = record {
       let there = name_decides a b in
       let back = name_decides b a in
       one_answer (same_name a b) (same_name b a) there ((λ h. sym (back.0 h)), (λ h. back.1 (sym h)));
-  congr = λ a b c h. ap (λ (bytes : List ℕ). pointwise _ bytes (bytes_of c)) ((name_decides a b).0 h);
+  congr = λ a b c h. ap (λ (bytes : List ℕ). pointwise nat_eq bytes (bytes_of c)) ((name_decides a b).0 h);
 }
 
 -- a value spells one name at most

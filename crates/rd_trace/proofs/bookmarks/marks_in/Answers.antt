@@ -1,8 +1,8 @@
-use Rattle.std.proofs.Common.{rules, ◌≡◌, ◌∷◌, ◌++◌, [], true, false, Err, List, length, sym, ap, ◌∙◌, subst, arith}
+use Rattle.std.proofs.Common.{rules, ◌≡◌, ◌∷◌, ◌++◌, [], true, false, Err, List, length, map, sym, ap, ◌∙◌, subst, arith}
 use Rattle.std.specs.List.{list_any}
 use Rattle.serde_json.specs.View.{items_view}
 use Rattle.rd_marks.specs.Names.{same_name}
-use Rattle.rd_trace.specs.Bookmarks.{ReadsMarks}
+use Rattle.rd_trace.specs.Bookmarks.{AreMarks, ReadsMarks, saved_mark}
 use Rattle.rd_trace.specs.declared.bookmarks.SavedMark.{SavedMark}
 use Rattle.rd_trace.specs.declared.faults.FormFault.TheVariants.{BadForm}
 use Rattle.rd_trace.proofs.StartLemmas.{passed_up}
@@ -44,5 +44,5 @@ loop-value-preserved c =
 pub returns : goal.returns
 returns c =
     let vs = c.deref-value-items.result.now in
-    subst (λ ws. ReadsMarks (items_view ws) _) c.deref-value-items.ensures.value
+    subst (λ ws. AreMarks (items_view ws) (map saved_mark c.loop-value.marks.items)) c.deref-value-items.ensures.value
     (all_read vs c.loop-value.value-index c.loop-value.marks.items (omega arith) (omega (arith, ap length c.deref-value-items.ensures.value)) c.loop-value.invariant)
