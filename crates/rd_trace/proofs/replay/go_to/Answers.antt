@@ -1,4 +1,4 @@
-use Rattle.std.proofs.Common.{◌≡◌, ◌+◌, length, take, arith}
+use Rattle.std.proofs.Common.{rules, ◌≡◌, ◌+◌, ◌-◌, length, take, arith}
 use Rattle.rd_marks.specs.BookViews.{book_state}
 use Rattle.rd_trace.proofs.ReplayLemmas.{to_none, goes_to, still_go}
 use Rattle.rd_trace.proofs.replay.go_to.Goals as goal
