@@ -64,55 +64,56 @@ both_ok P W (Err e) p q f = tt
 
 no_start-one : {R : ℕ} (d : Data) → member_count d ≡ Some 1 → ((count : ℕ) → IsActorCount (codes "fresh") d count → ⊥) → (start : Start R) → IsStart d start → ⊥
 no_start-one d one none (Fresh count) h = none count h.fresh
-no_start-one d one none (OfParts p) h = let e : 1 ≡ 5 = same_Some 1 5 (sym one ∙ h.members) in omega arith
+no_start-one d one none (OfParts p) h = let e : ◌≡◌ {A = ℕ} 1 5 = same_Some 1 5 (sym one ∙ h.members) in omega arith
 
 -- an object of one member that has no number of actors is no start
-pub no_fresh : {R : ℕ} (d : Data) → member_count d ≡ Some 1 → ((count : ℕ) → IsActorCount (codes "fresh") d count → ⊥) → ReadsStart {R} d (Err BadForm)
+pub no_fresh : {R : ℕ} (d : Data) → member_count d ≡ Some 1 → ((count : ℕ) → IsActorCount (codes "fresh") d count → ⊥) → ReadsStart {R = R} d (Err BadForm)
 no_fresh d one none = λ start h. no_start-one d one none start h
 
 no_start-five : {R : ℕ} (d : Data) → member_count d ≡ Some 5 → ((p : Parts R) → IsParts d p → ⊥) → (start : Start R) → IsStart d start → ⊥
-no_start-five d five none (Fresh count) h = let e : 5 ≡ 1 = same_Some 5 1 (sym five ∙ h.members) in omega arith
+no_start-five d five none (Fresh count) h = let e : ◌≡◌ {A = ℕ} 5 1 = same_Some 5 1 (sym five ∙ h.members) in omega arith
 no_start-five d five none (OfParts p) h = none p h
 
 -- nor is one of five whose members are no parts
-pub no_parts : {R : ℕ} (d : Data) (fault : FormFault) → member_count d ≡ Some 5 → ReadsParts {R} d (Err fault) → ReadsStart {R} d (Err fault)
-no_parts d NoMemory five h = tt
-no_parts d BadForm five h = λ start k. no_start-five d five h start k
+pub no_parts : (R : ℕ) (d : Data) (fault : FormFault) → member_count d ≡ Some 5 → ReadsParts {R = R} d (Err fault) → ReadsStart {R = R} d (Err fault)
+no_parts R d NoMemory five h = tt
+no_parts R d BadForm five h = λ start k. no_start-five d five h start k
 
 no_start : {R : ℕ} (d : Data) → (member_count d ≡ Some 1 → ⊥) → (member_count d ≡ Some 5 → ⊥) → (start : Start R) → IsStart d start → ⊥
 no_start d one five (Fresh count) h = one h.members
 no_start d one five (OfParts p) h = five h.members
 
 -- nor is a value of another number of members
-pub no_such_start : {R : ℕ} (d : Data) → (member_count d ≡ Some 1 → ⊥) → (member_count d ≡ Some 5 → ⊥) → ReadsStart {R} d (Err BadForm)
+pub no_such_start : {R : ℕ} (d : Data) → (member_count d ≡ Some 1 → ⊥) → (member_count d ≡ Some 5 → ⊥) → ReadsStart {R = R} d (Err BadForm)
 no_such_start d one five = λ start h. no_start d one five start h
 
 module _ {R : ℕ} (d : Data) where
   -- an object of which a member is not read has no parts
-  pub no_qhead : name_at (codes "qhead") d ≡ None → ReadsParts {R} d (Err BadForm)
+  pub no_qhead : name_at (codes "qhead") d ≡ None → ReadsParts {R = R} d (Err BadForm)
   no_qhead h = λ p k. none-some p.qhead (sym h ∙ k.qhead)
 
-  pub no_qtail : name_at (codes "qtail") d ≡ None → ReadsParts {R} d (Err BadForm)
+  pub no_qtail : name_at (codes "qtail") d ≡ None → ReadsParts {R = R} d (Err BadForm)
   no_qtail h = λ p k. none-some p.qtail (sym h ∙ k.qtail)
 
-  pub no_array : ((a : ArrayParts) → IsArrayAt d a → ⊥) → ReadsParts {R} d (Err BadForm)
+  pub no_array : ((a : ArrayParts) → IsArrayAt d a → ⊥) → ReadsParts {R = R} d (Err BadForm)
   no_array none = λ p k. none p.array k.array
 
-  pub no_actors : list_at (codes "actors") d ≡ None → ReadsParts {R} d (Err BadForm)
+  pub no_actors : list_at (codes "actors") d ≡ None → ReadsParts {R = R} d (Err BadForm)
   no_actors h = λ p k. none-some k.actors.0 (sym h ∙ k.actors.1)
 
-  pub no_segments : list_at (codes "segments") d ≡ None → ReadsParts {R} d (Err BadForm)
+  pub no_segments : list_at (codes "segments") d ≡ None → ReadsParts {R = R} d (Err BadForm)
   no_segments h = λ p k. none-some k.segments.0 (sym h ∙ k.segments.1)
 
-  pub no_actors_in : (ds : Items) → list_at (codes "actors") d ≡ Some ds → (fault : FormFault) → ReadsActors ds (Err fault) → ReadsParts {R} d (Err fault)
-  no_actors_in ds there NoMemory h = tt
-  no_actors_in ds there BadForm h = λ p k.
-      h p.actors.items (subst (λ (x : Items). SpellEach IsActor x p.actors.items) (same_Some k.actors.0 ds (sym k.actors.1 ∙ there)) k.actors.2)
+-- nor has one of which a list does not spell its members
+pub no_actors_in : (R : ℕ) (d : Data) (ds : Items) → list_at (codes "actors") d ≡ Some ds → (fault : FormFault) → ReadsActors ds (Err fault) → ReadsParts {R = R} d (Err fault)
+no_actors_in R d ds there NoMemory h = tt
+no_actors_in R d ds there BadForm h = λ p k.
+    h p.actors.items (subst (λ (x : Items). SpellEach IsActor x p.actors.items) (same_Some k.actors.0 ds (sym k.actors.1 ∙ there)) k.actors.2)
 
-  pub no_makers_in : (ds : Items) → list_at (codes "segments") d ≡ Some ds → (fault : FormFault) → ReadsMakers {R} ds (Err fault) → ReadsParts {R} d (Err fault)
-  no_makers_in ds there NoMemory h = tt
-  no_makers_in ds there BadForm h = λ p k.
-      h p.segments.items (subst (λ (x : Items). SpellEach IsSegmentList x p.segments.items) (same_Some k.segments.0 ds (sym k.segments.1 ∙ there)) k.segments.2)
+pub no_makers_in : (R : ℕ) (d : Data) (ds : Items) → list_at (codes "segments") d ≡ Some ds → (fault : FormFault) → ReadsMakers {R = R} ds (Err fault) → ReadsParts {R = R} d (Err fault)
+no_makers_in R d ds there NoMemory h = tt
+no_makers_in R d ds there BadForm h = λ p k.
+    h p.segments.items (subst (λ (x : Items). SpellEach IsSegmentList x p.segments.items) (same_Some k.segments.0 ds (sym k.segments.1 ∙ there)) k.segments.2)
 
 -- ---- what is written
 
