@@ -306,8 +306,8 @@ module _ (R : ℕ) (d : Data) (p q : Parts R) (h : IsParts d p) (k : IsParts d q
       let long = same_length p.segments.items q.segments.items makers_same in
       let roots = same_count p.segments.items q.segments.items makers_same 0 in
       λ i.
-          flaw_by R (actors_same i) (long i) (roots i) (all (λ l. nat_le (length l) MOST_SEGMENTS) i) (λ s. is_some (names_same s i))
-          (λ test. all (list_all test) i) (qhead_same i) (qtail_same i) (array_same i)
+      flaw_by R (actors_same i) (long i) (roots i) (all (λ l. nat_le (length l) MOST_SEGMENTS) i) (λ s. is_some (names_same s i))
+      (λ test. all (list_all test) i) (qhead_same i) (qtail_same i) (array_same i)
 
 two_counts : (d : Data) (n m : ℕ) → n ≢ m → member_count d ≡ Some n → member_count d ≡ Some m → ⊥
 two_counts d n m apart h k = apart (some_same (member_count d) n m h k)
@@ -412,7 +412,7 @@ module _ (none_refused : NoneRefused) (R : ℕ) (t u : Trace R) (same : IsSameTr
   still_reachable : IsReachable R (loaded_state u) → IsReachable R (loaded_state t)
   still_reachable h = record {
     marks = marks_go R (start_world t.start) t.marks
-      (subst₂ (SeenGoThrough R) (sym same.world) (sym same.marks) (seen_go R (start_world u.start) u.marks h.marks));
+        (subst₂ (SeenGoThrough R) (sym same.world) (sym same.marks) (seen_go R (start_world u.start) u.marks h.marks));
     through = subst₂ (GoThrough R) (sym same.world) (ap₂ (λ es fs. es ++ fs) (sym same.live) (sym same.undone)) h.through;
   }
 

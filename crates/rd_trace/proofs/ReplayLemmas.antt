@@ -361,9 +361,9 @@ goes_on : (R : ℕ) (old mid new : BookState) (es rest : List Event) (r : Result
     → mid.session.live ++ rest ≡ es → 1 ≤ length rest → StepsAll R mid rest new r → GoesTo R old es new r
 goes_on R old mid new es [] r start marks all some h = absurd (omega arith)
 goes_on R old mid new es (f ∷ fs) (Ok u) start marks all some h = (
-    h.0 ∙ same_book (with_session mid (session_at mid.session.start (mid.session.live ++ f ∷ fs))) (with_session old (session_at old.session.start es)) start all refl marks,
-    subst (λ (w : World). GoThrough R w es) start (subst (λ (gs : List Event). GoThrough R mid.session.start gs) all h.1),
-  )
+  h.0 ∙ same_book (with_session mid (session_at mid.session.start (mid.session.live ++ f ∷ fs))) (with_session old (session_at old.session.start es)) start all refl marks,
+  subst (λ (w : World). GoThrough R w es) start (subst (λ (gs : List Event). GoThrough R mid.session.start gs) all h.1),
+)
 goes_on R old mid new es (f ∷ fs) (Err refused) start marks all some h =
     subst (λ (w : World). RefusesOne R w es refused) start (subst (λ (gs : List Event). RefusesOne R mid.session.start gs refused) all h)
 
@@ -419,13 +419,13 @@ undone_refused R old mid new es (f ∷ fs) refused at h =
 all_behind : (R : ℕ) (old mid now : BookState) (es fs : List Event) → IsAt old es mid → GoThrough R old.session.start es → StepsAll R mid fs now (Ok tt)
     → IsAt old (es ++ fs) now × GoThrough R old.session.start (es ++ fs)
 all_behind R old mid now es [] at through h = (
-    h.1 ∙ at ∙ ap (λ (gs : List Event). with_session old (session_at old.session.start gs)) (sym (append-nil es)),
-    subst (λ (gs : List Event). GoThrough R old.session.start gs) (sym (append-nil es)) through,
-  )
+  h.1 ∙ at ∙ ap (λ (gs : List Event). with_session old (session_at old.session.start gs)) (sym (append-nil es)),
+  subst (λ (gs : List Event). GoThrough R old.session.start gs) (sym (append-nil es)) through,
+)
 all_behind R old mid now es (f ∷ fs) at through h = (
-    h.0 ∙ ap (λ (b : BookState). with_session b (session_at b.session.start (b.session.live ++ f ∷ fs))) at,
-    subst (λ (b : BookState). GoThrough R b.session.start (b.session.live ++ f ∷ fs)) at h.1,
-  )
+  h.0 ∙ ap (λ (b : BookState). with_session b (session_at b.session.start (b.session.live ++ f ∷ fs))) at,
+  subst (λ (b : BookState). GoThrough R b.session.start (b.session.live ++ f ∷ fs)) at h.1,
+)
 
 back_to : (w : World) (es fs : List Event) (t : State) → back (session_at w (es ++ fs)) (length fs) ≡ Ok t → t ≡ record { start = w; live = es; undone = fs }
 back_to w es fs t goes =
@@ -585,9 +585,9 @@ module _ {R : ℕ} {B : Type 0} (IsBook : B → Type 0) (t : Trace R) where
       -- all went through
       pub plays : (new : BookState) → MakesLive R now t.live t.undone new (Ok tt) → IsPlayable t × (new ≡ loaded_state t)
       plays new h = (
-          record { marks = has_marks; through = subst (λ (w : World). GoThrough R w (t.live ++ t.undone)) begins h.1 },
-          h.0 ∙ (λ i. record { session = record { start = begins i; live = t.live; undone = t.undone }; marks = set.0 i }),
-        )
+        record { marks = has_marks; through = subst (λ (w : World). GoThrough R w (t.live ++ t.undone)) begins h.1 },
+        h.0 ∙ (λ i. record { session = record { start = begins i; live = t.live; undone = t.undone }; marks = set.0 i }),
+      )
 
 -- What goes through is not refused
 

@@ -32,6 +32,17 @@ pub fn load_trace(alloc: Global, text: &[u8]) -> Result<AnyBook, LoadTraceFault>
     ensures loads { LoadsTrace text.now result }
     ensures again { (R : ℕ) (b : BookState) → IsTraceRing R → IsTextOf R b text.now → LoadsAgain R b result }
 {
+    loaded(alloc, text)
+}
+
+/// The book of the trace that a text is, over the ring that it names.
+///
+/// # Errors
+///
+/// As `load_trace`.
+fn loaded(alloc: Global, text: &[u8]) -> Result<AnyBook, LoadTraceFault>
+    ensures { LoadsTrace text.now result }
+{
     let value = value_of(alloc, text)?;
     match ring_in(&value) {
         None => Err(LoadTraceFault::BadTrace),
