@@ -6,7 +6,7 @@ use Rattle.std.proofs.lemmas.Bool.{cond-false}
 use Rattle.std.proofs.lemmas.Cmp.{nat_list_eq_equiv}
 use Rattle.std.proofs.lemmas.Map.Keys.{IsDistinct-head, IsDistinct-tail}
 use Rattle.std.proofs.Math.Seq.{take-append_seam, drop-append_seam}
-use Rattle.std.proofs.lemmas.List.{append-nil, length-map, map-append, map_more, get_or-map, take_more, drop_more, take_all, drop_all, take-take, take-append-drop, drop-append-le, length-take-le}
+use Rattle.std.proofs.lemmas.List.{append-nil, length-map, map-append, map_more, get_or-map, take_more, drop_more, take_all, drop_all, take-take, take-append-drop, drop-append-le, length-take-le, length-drop}
 use Rattle.rd_cell.specs.declared.refusal.Refusal.TheVariants.{NoMemory as OutOfMemory}
 use Rattle.rd_actor.specs.declared.actors.Act.TheVariants.{Enq as CallsEnq, Deq as CallsDeq, AEnq as CallsArrayEnq, ADeq as CallsArrayDeq, Go as GoesOn, Starve as Starves}
 use Rattle.rd_step.specs.Prelude.{World, Refusal, TooLong, MarkTaken, TooManyMarks, OpReply, Stepped, step, Ran, run, MOST_STEPS}
@@ -43,6 +43,13 @@ same_book b c start live undone marks = λ i. record { session = record { start 
 
 same_state : (s t : State) → s.start ≡ t.start → s.live ≡ t.live → s.undone ≡ t.undone → s ≡ t
 same_state s t start live undone = λ i. record { start = start i; live = live i; undone = undone i }
+
+-- a book that was opened over a session that was opened in a world
+pub opened : (b : BookState) (s : State) (v w : World) → b.session ≡ s → b.marks ≡ [] → s ≡ record { start = v; live = []; undone = [] } → v ≡ w
+    → b ≡ record { session = record { start = w; live = []; undone = [] }; marks = [] }
+opened b s v w session marks state world =
+    let at : b.session ≡ session_at w [] = session ∙ state ∙ ap (λ (u : World). session_at u []) world in
+    λ i. record { session = at i; marks = marks i }
 
 -- what is so of a fault is so of what passes it up
 pub passed_up : {A E : Type 0} (P : Result A E → Type 0) (r : Result A E) (x : E) → IsErrAnd r (λ e. e ≡ x) → P (Err x) → P r
@@ -344,7 +351,7 @@ one_shared xs es fs k x f all within below is same shared =
     ap (λ (y : Entry). y.event) is ∙ sym (get_or-map (λ (y : Entry). y.event) xs k x x.event within) ∙ ap (λ (gs : List Event). get_or gs k x.event) all in
     one_longer es k x.event long its ∙ ap₂ (λ (gs : List Event) (g : Event). gs ++ g ∷ []) shared same ∙ sym (take_more fs k f below)
 
-shared_less : (j k : ℕ) (es fs : List Event) → k ≤ j → take j es ≡ take j fs → take k es ≡ take k fs
+pub shared_less : (j k : ℕ) (es fs : List Event) → k ≤ j → take j es ≡ take j fs → take k es ≡ take k fs
 shared_less j k es fs h same = sym (take-take k j es h) ∙ ap (λ (gs : List Event). take k gs) same ∙ take-take k j fs h
 
 -- Making just these events live
@@ -367,6 +374,19 @@ goes_to R old mid new es rest n k j r enough within below shared back marks behi
     let all : mid.session.live ++ rest ≡ es =
     ap₂ (λ (fs gs : List Event). fs ++ gs) (ap (λ (s : State). s.live) left ∙ shared_less j k old.session.live es below shared) behind ∙ take-append-drop k es in
     goes_on R old mid new es rest r (ap (λ (s : State). s.start) left) marks all (omega (arith, ap length all, length-append mid.session.live rest, ap (λ (s : State). length s.live) left, length-take-le k old.session.live (omega arith))) h
+
+-- whether a list is empty, by its length
+pub none_in : (es : List Event) → true ≡ (length es == 0) → es ≡ []
+none_in [] h = refl
+none_in (e ∷ es) h = absurd (cc (h, ne_eqb (suc (length es)) 0 (omega arith)))
+
+pub some_in : (es : List Event) → false ≡ (length es == 0) → 1 ≤ length es
+some_in [] h = absurd (cc h)
+some_in (e ∷ es) h = omega arith
+
+-- all that is behind the first events
+pub rest_of : (k : ℕ) (es : List Event) → take (length es - k) (drop k es) ≡ drop k es
+rest_of k es = take_all (length es - k) (drop k es) (omega (arith, length-drop k es))
 
 -- no event is made live
 pub to_none : (R : ℕ) (old new : BookState) (es : List Event) → es ≡ [] → new ≡ with_session old (session_at old.session.start []) → GoesTo R old es new (Ok tt)

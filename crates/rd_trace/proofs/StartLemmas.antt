@@ -1,15 +1,12 @@
 -- The start of a session as a value, and when it is the fresh world.
-use Rattle.std.proofs.Common.{◌≡◌, ◌≢◌, ◌↔◌, ◌⊎◌, ℕ, zero, suc, ◌+◌, ◌-◌, ◌<◌, ◌≤◌, Bool, true, false, ◌&&◌, not, ◌==◌, if◌then◌else◌, nat_lt, nat_le, MatchBool, HoldsAt, All, List, [], ◌∷◌, length, get_or, take, drop, slice_get, Option, Some, None, option_map, Result, Ok, Err, Vec, codes, inl, inr, refl, sym, ap, ap₂, ◌∙◌, subst, arith, lt-ltb, le-ltb}
-use Rattle.std.specs.List.{AllWithin}
+use Rattle.std.proofs.Common.{◌≡◌, ◌≢◌, ◌↔◌, ℕ, zero, suc, ◌-◌, ◌<◌, ◌≤◌, Bool, true, false, ◌&&◌, not, if◌then◌else◌, nat_lt, nat_le, All, List, [], ◌∷◌, length, get_or, take, drop, slice_get, Option, Some, None, option_map, Result, Ok, Err, codes, inl, inr, refl, sym, ap, ap₂, ◌∙◌, subst, arith, lt-ltb, le-ltb}
 use Rattle.std.specs.Result.{IfOk, OnOk, IsErrAnd}
-use Rattle.std.specs.Global.{Global}
-use Rattle.std.proofs.lemmas.Bool.{cases_Bool, cases_lt, cond-true, cond-false, and_parts, not-false, leb-true, both_ways, true≢false, false≢true}
-use Rattle.std.proofs.lemmas.Option.{same_Some, none-some, slice_get-get_or, slice_get_past, slice_get_within}
-use Rattle.std.proofs.lemmas.List.Elements.{All-from_all_within, All-head, All-tail, All-from_get_or}
+use Rattle.std.proofs.lemmas.Bool.{cases_Bool, cases_lt, cond-true, cond-false, and_parts, leb-true, both_ways, true≢false}
+use Rattle.std.proofs.lemmas.Option.{same_Some, slice_get-get_or, slice_get_past}
+use Rattle.std.proofs.lemmas.List.Elements.{All-head, All-tail}
 use Rattle.std.proofs.lemmas.List.{take_rest}
 use mathlib.Core.Path.{fun_ext}
 use Rattle.serde_json.specs.Data.{Data, Items}
-use Rattle.rd_cell.specs.declared.cells.Cell.{Cell}
 use Rattle.rd_cell.specs.declared.contents.ArrSlot.TheVariants.{Empty}
 use Rattle.rd_cell.specs.Places.{root, is_name}
 use Rattle.rd_cell.specs.Cells.{new_cell}
@@ -18,29 +15,26 @@ use Rattle.rd_cell.proofs.PlaceLemmas.{is_name-true, is_name-refl}
 use Rattle.rd_ring.specs.Prelude.{SLOTS, MOST_ACTORS, SegName, Place, QHead, QTail, Head, Tail, Next, CellAt, WholeOf, ArrHead, ArrTail, ArrCell, Content, Name, Number, TailIs, NextIs, CellIs, Slot}
 use Rattle.rd_ring.specs.declared.parts.SegmentParts.{SegmentParts}
 use Rattle.rd_ring.specs.Segments.{part_from}
-use Rattle.rd_actor.specs.declared.actors.Actor.{Actor}
 use Rattle.rd_actor.specs.Actors.{idle}
 use Rattle.rd_segments.specs.declared.array.ArrayParts.{ArrayParts}
-use Rattle.rd_segments.specs.Array.{array_of, array_part, fresh_array}
+use Rattle.rd_segments.specs.Array.{array_part, fresh_array}
 use Rattle.rd_segments.specs.Lists.{by_number, by_name}
-use Rattle.rd_segments.specs.Parts.{PartsOf, part_of_parts, contents_of_parts}
+use Rattle.rd_segments.specs.Parts.{PartsOf, part_of_parts}
 use Rattle.rd_segments.specs.SpaceFields.{fresh_space}
 use Rattle.rd_step.specs.World.{World}
-use Rattle.rd_step.specs.Fields.{actor_at}
-use Rattle.rd_step.specs.Starts.{actors_by, fresh_world}
+use Rattle.rd_step.specs.Starts.{fresh_world}
 use Rattle.rd_step.specs.Parts.{world_of_parts, makers_fit, first_flaw}
 use Rattle.rd_step.specs.declared.parts.Parts.{Parts}
 use Rattle.rd_step.specs.declared.flaws.Flaw.{Flaw}
 use Rattle.rd_step.specs.declared.flaws.Flaw.TheVariants.{Makers}
 use Rattle.rd_step.proofs.Starts.{list_actors}
 use Rattle.rd_trace.proofs.ArrayLemmas.{array_spelled}
-use Rattle.rd_trace.specs.Numbers.{member_count, list_at, SpellEach}
-use Rattle.rd_trace.specs.Names.{name_of, name_at, name_data}
+use Rattle.rd_trace.specs.Numbers.{list_at, SpellEach}
+use Rattle.rd_trace.specs.Names.{name_of, name_data}
 use Rattle.rd_trace.specs.Actors.{IsActor, actors_data, ReadsActors}
 use Rattle.rd_trace.specs.Arrays.{array_data}
 use Rattle.rd_trace.specs.Segments.{IsSegmentList, makers_data, ReadsMakers}
-use Rattle.rd_trace.specs.Starts.{IsActorCount, IsFreshStart, IsArrayAt, IsParts, IsStart, IsStartData, SpellsWorld, ReadsStart, ReadsParts, fresh_data, parts_data, AreFreshCells, IsFreshAlone, HasFreshRootAlone}
-use Rattle.rd_trace.specs.declared.starts.Start.{Start}
+use Rattle.rd_trace.specs.Starts.{IsFreshStart, IsArrayAt, IsParts, IsStartData, SpellsWorld, ReadsParts, fresh_data, parts_data, AreFreshCells, IsFreshAlone, HasFreshRootAlone}
 use Rattle.rd_trace.specs.declared.starts.Start.TheVariants.{Fresh, Parts as OfParts}
 use Rattle.rd_trace.specs.declared.faults.FormFault.{FormFault}
 use Rattle.rd_trace.specs.declared.faults.FormFault.TheVariants.{NoMemory, BadForm}
@@ -62,57 +56,21 @@ both_ok P W (Err e) p q f = tt
 
 -- ---- what is read
 
-no_start-one : {R : ℕ} (d : Data) → member_count d ≡ Some 1 → ((count : ℕ) → IsActorCount (codes "fresh") d count → ⊥) → (start : Start R) → IsStart d start → ⊥
-no_start-one d one none (Fresh count) h = none count h.fresh
-no_start-one d one none (OfParts p) h = let e : 1 ≡ 5 = same_Some 1 5 (sym one ∙ h.members) in omega arith
+-- an object whose array is not read has no parts
+pub no_array : {R : ℕ} (d : Data) → ((a : ArrayParts) → IsArrayAt d a → ⊥) → ReadsParts {R = R} d (Err BadForm)
+no_array d none = λ p k. none p.array k.array
 
--- an object of one member that has no number of actors is no start
-pub no_fresh : {R : ℕ} (d : Data) → member_count d ≡ Some 1 → ((count : ℕ) → IsActorCount (codes "fresh") d count → ⊥) → ReadsStart {R} d (Err BadForm)
-no_fresh d one none = λ start h. no_start-one d one none start h
+-- what is read of the list of actors is read of the parts, if it is none
+pub no_actors_in : (R : ℕ) (d : Data) (ds : Items) → list_at (codes "actors") d ≡ Some ds → (fault : FormFault) → ReadsActors ds (Err fault) → ReadsParts {R = R} d (Err fault)
+no_actors_in R d ds there NoMemory h = tt
+no_actors_in R d ds there BadForm h = λ p k.
+    h p.actors.items (subst (λ (x : Items). SpellEach IsActor x p.actors.items) (same_Some k.actors.0 ds (sym k.actors.1 ∙ there)) k.actors.2)
 
-no_start-five : {R : ℕ} (d : Data) → member_count d ≡ Some 5 → ((p : Parts R) → IsParts d p → ⊥) → (start : Start R) → IsStart d start → ⊥
-no_start-five d five none (Fresh count) h = let e : 5 ≡ 1 = same_Some 5 1 (sym five ∙ h.members) in omega arith
-no_start-five d five none (OfParts p) h = none p h
-
--- nor is one of five whose members are no parts
-pub no_parts : {R : ℕ} (d : Data) (fault : FormFault) → member_count d ≡ Some 5 → ReadsParts {R} d (Err fault) → ReadsStart {R} d (Err fault)
-no_parts d NoMemory five h = tt
-no_parts d BadForm five h = λ start k. no_start-five d five h start k
-
-no_start : {R : ℕ} (d : Data) → (member_count d ≡ Some 1 → ⊥) → (member_count d ≡ Some 5 → ⊥) → (start : Start R) → IsStart d start → ⊥
-no_start d one five (Fresh count) h = one h.members
-no_start d one five (OfParts p) h = five h.members
-
--- nor is a value of another number of members
-pub no_such_start : {R : ℕ} (d : Data) → (member_count d ≡ Some 1 → ⊥) → (member_count d ≡ Some 5 → ⊥) → ReadsStart {R} d (Err BadForm)
-no_such_start d one five = λ start h. no_start d one five start h
-
-module _ {R : ℕ} (d : Data) where
-  -- an object of which a member is not read has no parts
-  pub no_qhead : name_at (codes "qhead") d ≡ None → ReadsParts {R} d (Err BadForm)
-  no_qhead h = λ p k. none-some p.qhead (sym h ∙ k.qhead)
-
-  pub no_qtail : name_at (codes "qtail") d ≡ None → ReadsParts {R} d (Err BadForm)
-  no_qtail h = λ p k. none-some p.qtail (sym h ∙ k.qtail)
-
-  pub no_array : ((a : ArrayParts) → IsArrayAt d a → ⊥) → ReadsParts {R} d (Err BadForm)
-  no_array none = λ p k. none p.array k.array
-
-  pub no_actors : list_at (codes "actors") d ≡ None → ReadsParts {R} d (Err BadForm)
-  no_actors h = λ p k. none-some k.actors.0 (sym h ∙ k.actors.1)
-
-  pub no_segments : list_at (codes "segments") d ≡ None → ReadsParts {R} d (Err BadForm)
-  no_segments h = λ p k. none-some k.segments.0 (sym h ∙ k.segments.1)
-
-  pub no_actors_in : (ds : Items) → list_at (codes "actors") d ≡ Some ds → (fault : FormFault) → ReadsActors ds (Err fault) → ReadsParts {R} d (Err fault)
-  no_actors_in ds there NoMemory h = tt
-  no_actors_in ds there BadForm h = λ p k.
-      h p.actors.items (subst (λ (x : Items). SpellEach IsActor x p.actors.items) (same_Some k.actors.0 ds (sym k.actors.1 ∙ there)) k.actors.2)
-
-  pub no_makers_in : (ds : Items) → list_at (codes "segments") d ≡ Some ds → (fault : FormFault) → ReadsMakers {R} ds (Err fault) → ReadsParts {R} d (Err fault)
-  no_makers_in ds there NoMemory h = tt
-  no_makers_in ds there BadForm h = λ p k.
-      h p.segments.items (subst (λ (x : Items). SpellEach IsSegmentList x p.segments.items) (same_Some k.segments.0 ds (sym k.segments.1 ∙ there)) k.segments.2)
+-- and what is read of the makers' lists
+pub no_makers_in : (R : ℕ) (d : Data) (ds : Items) → list_at (codes "segments") d ≡ Some ds → (fault : FormFault) → ReadsMakers {R = R} ds (Err fault) → ReadsParts {R = R} d (Err fault)
+no_makers_in R d ds there NoMemory h = tt
+no_makers_in R d ds there BadForm h = λ p k.
+    h p.segments.items (subst (λ (x : Items). SpellEach IsSegmentList x p.segments.items) (same_Some k.segments.0 ds (sym k.segments.1 ∙ there)) k.segments.2)
 
 -- ---- what is written
 
@@ -131,18 +89,6 @@ parts_spelled p actors qhead qtail segments = record {
 -- so does that of a number of actors
 fresh_spelled : (count : ℕ) → 1 ≤ count → count ≤ MOST_ACTORS → IsFreshStart (fresh_data count) count
 fresh_spelled count some few = record { members = refl; fresh = record { number = refl; some = some; few = few } }
-
--- ---- a test of each element of a list
-
-all_decided-cons : {X : Type 0} (P : X → Type 0) (x : X) (xs : List X) → (k : ℕ) × (k < length (x ∷ xs)) × HoldsAt (λ y. P y → ⊥) (x ∷ xs) k → All P (x ∷ xs) → ⊥
-all_decided-cons P x xs h all = h.2 x (all h.0 x h.1)
-
--- `all` over elements of which a test decides whether they have P
-pub all_decided : {X : Type 0} (P : X → Type 0) (r : Bool) (xs : List X)
-    → MatchBool r (AllWithin P xs 0 (length xs)) ((k : ℕ) × (k < length xs) × HoldsAt (λ y. P y → ⊥) xs k) → (r ≡ true) ↔ All P xs
-all_decided P true xs h = ((λ _. All-from_all_within P xs h), (λ _. refl))
-all_decided P false [] h = absurd (omega (arith, h.1))
-all_decided P false (x ∷ xs) h = ((λ e. absurd (false≢true e)), (λ all. absurd (all_decided-cons P x xs h all)))
 
 -- ---- two tests
 
@@ -250,7 +196,7 @@ module _ {R : ℕ} where
   pub others_empty : (first : PartsOf R) (lists : List (PartsOf R)) → HasFreshRootAlone (first ∷ lists) → All (λ list. list.items ≡ []) lists
   others_empty first lists h k d within =
       no_first (get_or lists k d).items (
-        ap (λ o. by_number o 0) (sym (slice_get-get_or lists k d within)) ∙ h.alone (record { maker = suc k; n = 0 }) (second_other k 0)
+      ap (λ o. by_number o 0) (sym (slice_get-get_or lists k d within)) ∙ h.alone (record { maker = suc k; n = 0 }) (second_other k 0)
       )
 
   -- the first list, and the others
@@ -438,8 +384,8 @@ module _ {R : ℕ} (p : Parts R) where
     pub actors_of_fresh : All (λ actor. actor ≡ idle) p.actors.items
     actors_of_fresh k d within =
         same_Some (get_or p.actors.items k d) idle (
-          sym (slice_get-get_or p.actors.items k d within) ∙ ap (λ (w : World). w.actor (suc k)) e
-          ∙ cond-true (nat_lt k (length p.actors.items)) (Some idle) None (lt-ltb k (length p.actors.items) within)
+        sym (slice_get-get_or p.actors.items k d within) ∙ ap (λ (w : World). w.actor (suc k)) e
+        ∙ cond-true (nat_lt k (length p.actors.items)) (Some idle) None (lt-ltb k (length p.actors.items) within)
         )
 
   -- the fresh world of another number of actors is another one

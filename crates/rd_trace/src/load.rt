@@ -68,7 +68,7 @@ fn book_of<const R: usize>(alloc: Global, value: Value) -> Result<Book<R>, LoadT
     requires positive { 1 ≤ R }
     requires small { R ≤ MOST_CELLS }
     requires ring { number_at (codes "ring") (view value) ≡ Some R }
-    ensures { LoadsValue (view value.entry) result }
+    ensures { LoadsValue (view value) result }
 {
     let session: SavedSession<R> = session_in(alloc, &value)?;
     drop(value);

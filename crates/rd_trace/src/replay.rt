@@ -1,6 +1,6 @@
 //! A session that was read, made to happen: its bookmarks one after another, then its live events, then its undone ones.
 
-ghost use Rattle.std.specs.Prelude.{◌≡◌, ◌≤◌, [], map, length, take, Ok};
+ghost use Rattle.std.specs.Prelude.{◌≡◌, ◌≤◌, ◌↔◌, [], map, length, take, Ok, IsTrue};
 ghost use Rattle.rd_step.specs.Prelude.{MOST_CELLS};
 ghost use Rattle.rd_journal.specs.State.{back};
 ghost use Rattle.rd_journal.specs.Sessions.{state};
@@ -89,10 +89,11 @@ fn set_marks<const R: usize>(book: &mut Book<R>, marks: &[SavedMark]) -> Result<
         if let Err(refused) = go_to(book, &marks[i].events) {
             return Err(refused.of_mark(i as u64 + 1));
         }
-        match book.mark(marks[i].name) {
-            Ok(()) => {}
-            Err(Refusal::NoMemory) => return Err(LoadTraceFault::NoMemory),
-            Err(_) => unreachable!(),
+        if let Err(refusal) = book.mark(marks[i].name) {
+            match refusal {
+                Refusal::NoMemory => return Err(LoadTraceFault::NoMemory),
+                _ => unreachable!(),
+            }
         }
     }
     Ok(())
@@ -134,11 +135,18 @@ fn shared_beginning<const R: usize>(session: &Session<R>, events: &[Event]) -> u
 {
     let live = session.live();
     for k in 0..live.len().min(events.len()) {
-        if live.at(k).event != events[k] {
+        if !is_same(&live.at(k).event, &events[k]) {
             return k;
         }
     }
     live.len().min(events.len())
+}
+
+/// Whether two events are the same.
+fn is_same(event: &Event, other: &Event) -> bool
+    ensures { IsTrue result ↔ (event.now ≡ other.now) }
+{
+    *event == *other
 }
 
 /// Undoes so many of the live steps.

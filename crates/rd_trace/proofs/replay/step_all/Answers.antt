@@ -1,4 +1,5 @@
 use Rattle.std.proofs.Common.{rules, ◌≡◌, ◌+◌, length, ap, ◌∙◌, arith}
+use Rattle.std.proofs.lemmas.List.{get_or_default}
 use Rattle.rd_journal.specs.State.{State}
 use Rattle.rd_marks.specs.Books.{BookState}
 use Rattle.rd_marks.specs.BookViews.{book_state}
@@ -16,15 +17,15 @@ returns-in-Err g c =
     let number : c.len.result + 1 ≡ length now.session.live + 1 =
     ap (λ n. n + 1) (c.len.ensures.count ∙ ap (λ (s : State). length s.live) (c.session.ensures.state ∙ ap (λ (b : BookState). b.session) c.in-Err.ensures.unchanged)) in
     some_refused g.row.R old after c.args.events.now (record { step = c.len.result + 1; cause = c.in-Err.cause }) (omega arith)
-    (one_refused g.row.R old now c.args.events.now c.loop-event.event-index c.event-item.result (omega arith) c.event-item.is c.loop-event.invariant (c.len.result + 1) c.in-Err.cause number
-    (not_happened g.row.R now after c.event-item.result c.in-Err.cause (event_happened g.row.R now c.of_event.result c.event-item.result _ c.of_event.ensures c.in-Err.ensures.answer)))
+    (one_refused g.row.R old now c.args.events.now c.loop-event.event-index _ c.loop-event-test.true (get_or_default c.args.events.now c.loop-event.event-index _ _ c.loop-event-test.true) c.loop-event.invariant (c.len.result + 1) c.in-Err.cause number
+    (not_happened g.row.R now after _ c.in-Err.cause (event_happened g.row.R now c.of_event.result _ _ c.of_event.ensures c.in-Err.ensures.answer)))
 
 pub loop-event-preserved : goal.loop-event-preserved
 loop-event-preserved g c =
     let now = book_state c.loop-event.book in
     let after = book_state c.obey.new.self in
-    let did = happened g.row.R now after c.event-item.result c.in_default.field-0 (event_happened g.row.R now c.of_event.result c.event-item.result _ c.of_event.ensures c.in_default.ensures.answer) in
-    one_stepped g.row.R (book_state c.args.book.now) now c.args.events.now c.loop-event.event-index c.event-item.result (omega arith) c.event-item.is c.loop-event.invariant after did.0 did.1
+    let did = happened g.row.R now after _ c.in_default.field-0 (event_happened g.row.R now c.of_event.result _ _ c.of_event.ensures c.in_default.ensures.answer) in
+    one_stepped g.row.R (book_state c.args.book.now) now c.args.events.now c.loop-event.event-index _ c.loop-event-test.true (get_or_default c.args.events.now c.loop-event.event-index _ _ c.loop-event-test.true) c.loop-event.invariant after did.0 did.1
 
 pub returns : goal.returns
 returns g c = all_of g.row.R (book_state c.args.book.now) (book_state c.loop-event.book) c.args.events.now c.loop-event.event-index (omega arith) c.loop-event.invariant
