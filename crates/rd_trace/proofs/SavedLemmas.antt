@@ -1,5 +1,5 @@
 -- Whole sessions as values.
-use Rattle.std.proofs.Common.{◌≡◌, ℕ, zero, suc, ◌+◌, ◌<◌, ◌≤◌, ◌⊎◌, List, [], ◌∷◌, ◌++◌, map, length, take, get_or, slice_get, codes, Option, Some, None, Result, Ok, Err, IsOk, inl, inr, refl, sym, ap, ◌∙◌, subst, arith, length-append}
+use Rattle.std.proofs.Common.{◌≡◌, ◌≢◌, ℕ, zero, suc, ◌+◌, ◌<◌, ◌≤◌, ◌⊎◌, List, [], ◌∷◌, ◌++◌, map, length, take, get_or, slice_get, codes, Option, Some, None, Result, Ok, Err, IsOk, inl, inr, refl, sym, ap, ◌∙◌, subst, arith, length-append}
 use Rattle.std.proofs.lemmas.List.{length-map, map-append, take_more, take_all, get_or-map}
 use Rattle.std.proofs.lemmas.Option.{same_Some, none-some}
 use Rattle.serde_json.specs.Data.{Data, Items}
@@ -25,7 +25,11 @@ use Rattle.rd_trace.specs.declared.faults.FormFault.TheVariants.{NoMemory, BadFo
 
 -- ---- what is read
 
-module _ {R : ℕ} (d : Data) where
+-- a value has one version at most
+two_versions : (d : Data) (n m : ℕ) → n ≢ m → number_at (codes "version") d ≡ Some n → number_at (codes "version") d ≡ Some m → ⊥
+two_versions d n m apart h k = apart (same_Some n m (sym h ∙ k))
+
+module _ (R : ℕ) (d : Data) where
   -- a trace of neither version
   no_trace : (number_at (codes "version") d ≡ Some 1 → member_count d ≡ Some 4 → ⊥) → (number_at (codes "version") d ≡ Some 2 → member_count d ≡ Some 6 → ⊥)
       → (t : Trace R) → IsFirstTrace d t ⊎ IsSecondTrace d t → ⊥
@@ -33,12 +37,12 @@ module _ {R : ℕ} (d : Data) where
   no_trace first second t (inr h) = second h.version h.members
 
   pub reads_none : (number_at (codes "version") d ≡ Some 1 → member_count d ≡ Some 4 → ⊥) → (number_at (codes "version") d ≡ Some 2 → member_count d ≡ Some 6 → ⊥)
-      → ReadsTrace {R} d (Err BadForm)
+      → ReadsTrace {R = R} d (Err BadForm)
   reads_none first second = λ t h. no_trace first second t h
 
   module _ (version : number_at (codes "version") d ≡ Some 1) where
     not_second : (t : Trace R) → IsSecondTrace d t → ⊥
-    not_second t h = let no : 1 ≡ 2 = same_Some 1 2 (sym version ∙ h.version) in omega arith
+    not_second t h = two_versions d 1 2 (λ e. omega (arith, e)) version h.version
 
     first_alone : ((t : Trace R) → IsFirstTrace d t → ⊥) → (t : Trace R) → IsFirstTrace d t ⊎ IsSecondTrace d t → ⊥
     first_alone none t (inl h) = none t h
@@ -52,7 +56,7 @@ module _ {R : ℕ} (d : Data) where
 
   module _ (version : number_at (codes "version") d ≡ Some 2) where
     not_first : (t : Trace R) → IsFirstTrace d t → ⊥
-    not_first t h = let no : 2 ≡ 1 = same_Some 2 1 (sym version ∙ h.version) in omega arith
+    not_first t h = two_versions d 2 1 (λ e. omega (arith, e)) version h.version
 
     second_alone : ((t : Trace R) → IsSecondTrace d t → ⊥) → (t : Trace R) → IsFirstTrace d t ⊎ IsSecondTrace d t → ⊥
     second_alone none t (inl h) = not_first t h
@@ -65,35 +69,35 @@ module _ {R : ℕ} (d : Data) where
     reads_second (Err BadForm) h = λ t k. second_alone h t k
 
   -- a trace of version 1 whose number of actors, or whose events, are not read
-  pub no_count : ((count : ℕ) → IsActorCount (codes "actors") d count → ⊥) → ReadsFirst {R} d (Err BadForm)
+  pub no_count : ((count : ℕ) → IsActorCount (codes "actors") d count → ⊥) → ReadsFirst {R = R} d (Err BadForm)
   no_count none = λ t h. none h.actors.0 h.actors.1
 
-  pub no_events : (fault : FormFault) → ReadsEventsAt (codes "events") d (Err fault) → ReadsFirst {R} d (Err fault)
+  pub no_events : (fault : FormFault) → ReadsEventsAt (codes "events") d (Err fault) → ReadsFirst {R = R} d (Err fault)
   no_events NoMemory h = tt
   no_events BadForm h = λ t k. none-some t.live (sym h ∙ k.live)
 
   -- a trace of version 2 of which a member is not read
-  pub no_start_at : get (codes "start") d ≡ None → ReadsSecond {R} d (Err BadForm)
+  pub no_start_at : get (codes "start") d ≡ None → ReadsSecond {R = R} d (Err BadForm)
   no_start_at h = λ t k. none-some k.start.0 (sym h ∙ k.start.1)
 
-  pub no_marks_at : list_at (codes "marks") d ≡ None → ReadsSecond {R} d (Err BadForm)
+  pub no_marks_at : list_at (codes "marks") d ≡ None → ReadsSecond {R = R} d (Err BadForm)
   no_marks_at h = λ t k. none-some k.marks.0 (sym h ∙ k.marks.1)
 
-  pub no_start_in : (e : Data) → get (codes "start") d ≡ Some e → (fault : FormFault) → ReadsStart {R} e (Err fault) → ReadsSecond {R} d (Err fault)
+  pub no_start_in : (e : Data) → get (codes "start") d ≡ Some e → (fault : FormFault) → ReadsStart {R = R} e (Err fault) → ReadsSecond {R = R} d (Err fault)
   no_start_in e there NoMemory h = tt
   no_start_in e there BadForm h = λ t k.
       h t.start (subst (λ (x : Data). IsStart x t.start) (same_Some k.start.0 e (sym k.start.1 ∙ there)) k.start.2)
 
-  pub no_marks_in : (ds : Items) → list_at (codes "marks") d ≡ Some ds → (fault : FormFault) → ReadsMarks ds (Err fault) → ReadsSecond {R} d (Err fault)
+  pub no_marks_in : (ds : Items) → list_at (codes "marks") d ≡ Some ds → (fault : FormFault) → ReadsMarks ds (Err fault) → ReadsSecond {R = R} d (Err fault)
   no_marks_in ds there NoMemory h = tt
   no_marks_in ds there BadForm h = λ t k.
       h t.marks (subst (λ (x : Items). AreMarks x t.marks) (same_Some k.marks.0 ds (sym k.marks.1 ∙ there)) k.marks.2)
 
-  pub no_live : (fault : FormFault) → ReadsEventsAt (codes "events") d (Err fault) → ReadsSecond {R} d (Err fault)
+  pub no_live : (fault : FormFault) → ReadsEventsAt (codes "events") d (Err fault) → ReadsSecond {R = R} d (Err fault)
   no_live NoMemory h = tt
   no_live BadForm h = λ t k. none-some t.live (sym h ∙ k.live)
 
-  pub no_undone : (fault : FormFault) → ReadsEventsAt (codes "undone") d (Err fault) → ReadsSecond {R} d (Err fault)
+  pub no_undone : (fault : FormFault) → ReadsEventsAt (codes "undone") d (Err fault) → ReadsSecond {R = R} d (Err fault)
   no_undone NoMemory h = tt
   no_undone BadForm h = λ t k. none-some t.undone (sym h ∙ k.undone)
 
