@@ -56,12 +56,12 @@ ring_of d t (inr h) = h.ring
 -- The value of a text
 
 -- no session is read of it
-pub none_read : {R : ℕ} (d : Data) (fault : FormFault) → ReadsTrace {R} d (Err fault) → LoadsValue {R} d (Err (form_fault fault))
+pub none_read : {R : ℕ} (d : Data) (fault : FormFault) → ReadsTrace {R = R} d (Err fault) → LoadsValue {R = R} d (Err (form_fault fault))
 none_read d FormNoMemory h = tt
 none_read d BadForm h = h
 
 -- the session that is read of it is made to happen
-pub replayed : {R : ℕ} (d : Data) (t : Trace R) (r : Result (Book R) LoadTraceFault) → IsEither d t → Replays (λ (book : Book R). book_state book ≡ loaded_state t) t r → LoadsValue {R} d r
+pub replayed : {R : ℕ} (d : Data) (t : Trace R) (r : Result (Book R) LoadTraceFault) → IsEither d t → Replays (λ (book : Book R). book_state book ≡ loaded_state t) t r → LoadsValue {R = R} d r
 replayed d t (Ok book) is h = (t, is, h)
 replayed d t (Err NoMemory) is h = tt
 replayed d t (Err BadTrace) is h = absurd h
@@ -98,14 +98,14 @@ module _ (text : List ℕ) (d : Data) (value : HasValue text d) (Q : ℕ) (ring 
   is_text : (t : Trace Q) → IsEither d t → IsTraceText text t
   is_text t is = (value.0, d, value.1, (is_ring, is))
 
-  pub loads_none : (fault : LoadTraceFault) → LoadsValue {Q} d (Err fault) → LoadsTrace text (Err fault)
+  pub loads_none : (fault : LoadTraceFault) → LoadsValue {R = Q} d (Err fault) → LoadsTrace text (Err fault)
   loads_none NoMemory h = tt
   loads_none BadTrace h = no_session h
   loads_none (Flawed flaw) h = (Q, h.0, is_text h.0 h.1, h.2)
   loads_none (TraceMark m n cause) h = (Q, h.0, is_text h.0 h.1, h.2)
   loads_none (TraceStep n cause) h = (Q, h.0, is_text h.0 h.1, h.2)
 
-  pub loads_one : (book : Book Q) (any : AnyBook) → any_ring any ≡ Q → any_state any ≡ book_state book → LoadsValue {Q} d (Ok book) → LoadsTrace text (Ok any)
+  pub loads_one : (book : Book Q) (any : AnyBook) → any_ring any ≡ Q → any_state any ≡ book_state book → LoadsValue {R = Q} d (Ok book) → LoadsTrace text (Ok any)
   loads_one book any over state h = (Q, h.0, is_text h.0 h.1, (h.2.0, (over, state ∙ h.2.1)))
 
 -- The text of a book
