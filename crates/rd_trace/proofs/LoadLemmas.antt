@@ -56,9 +56,9 @@ ring_of d t (inr h) = h.ring
 -- The value of a text
 
 -- no session is read of it
-pub none_read : {R : ℕ} (d : Data) (fault : FormFault) → ReadsTrace {R = R} d (Err fault) → LoadsValue {R = R} d (Err (form_fault fault))
-none_read d FormNoMemory h = tt
-none_read d BadForm h = h
+pub none_read : (R : ℕ) (d : Data) (fault : FormFault) → ReadsTrace {R = R} d (Err fault) → LoadsValue {R = R} d (Err (form_fault fault))
+none_read R d FormNoMemory h = tt
+none_read R d BadForm h = h
 
 -- the session that is read of it is made to happen
 pub replayed : {R : ℕ} (d : Data) (t : Trace R) (r : Result (Book R) LoadTraceFault) → IsEither d t → Replays (λ (book : Book R). book_state book ≡ loaded_state t) t r → LoadsValue {R = R} d r
