@@ -38,9 +38,6 @@ pub record AreValuesOf (vs : List Value) (es : List Event) : Type 0 where
   pub values : items_view vs ≡ events_data es
   pub spelled : events_of (events_data es) ≡ Some es
 
-pub no_values : AreValuesOf [] []
-no_values = record { values = refl; spelled = refl }
-
 pub one_more_value : (vs : List Value) (es : List Event) (v : Value) (e : Event) → AreValuesOf vs es → view v ≡ act_data e.actor e.act → event_of (act_data e.actor e.act) ≡ Some e → AreValuesOf (vs ++ v ∷ []) (es ++ e ∷ [])
 one_more_value vs es v e h is back = record {
   values = items_view-last vs v ∙ ap₂ then_item h.values is ∙ sym (events_data-last es e);

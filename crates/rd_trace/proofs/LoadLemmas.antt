@@ -55,20 +55,6 @@ ring_of d t (inr h) = h.ring
 
 -- The value of a text
 
--- no session is read of it
-pub none_read : (R : ℕ) (d : Data) (fault : FormFault) → ReadsTrace {R = R} d (Err fault) → LoadsValue {R = R} d (Err (form_fault fault))
-none_read R d FormNoMemory h = tt
-none_read R d BadForm h = h
-
--- the session that is read of it is made to happen
-pub replayed : {R : ℕ} (d : Data) (t : Trace R) (r : Result (Book R) LoadTraceFault) → IsEither d t → Replays (λ (book : Book R). book_state book ≡ loaded_state t) t r → LoadsValue {R = R} d r
-replayed d t (Ok book) is h = (t, is, h)
-replayed d t (Err NoMemory) is h = tt
-replayed d t (Err BadTrace) is h = absurd h
-replayed d t (Err (Flawed flaw)) is h = (t, is, h)
-replayed d t (Err (TraceMark m n cause)) is h = (t, is, h)
-replayed d t (Err (TraceStep n cause)) is h = (t, is, h)
-
 -- Texts
 
 -- a text is JSON, and its value is this one
@@ -79,13 +65,6 @@ is_value : {R : ℕ} (text : List ℕ) (d : Data) (t : Trace R) → HasValue tex
 is_value text d t value is =
     let same : is.1 ≡ d = cc (is.2, value.1) in
     subst (λ (e : Data). IsEither e t) same is.3.1
-
--- a text that is not read, and one that has no ring that a trace may have
-pub no_value : (text : List ℕ) → ((d : Data) → IsUtf8 text → read text ≡ Some d → ⊥) → LoadsTrace text (Err BadTrace)
-no_value text none = λ R t is. none is.1 is.0 is.2
-
-pub no_ring : (text : List ℕ) (d : Data) → HasValue text d → ((cells : ℕ) → number_at (codes "ring") d ≡ Some cells → IsTraceRing cells → ⊥) → LoadsTrace text (Err BadTrace)
-no_ring text d value none = λ R t is. none R (ring_of d t (is_value text d t value is)) is.3.0
 
 module _ (text : List ℕ) (d : Data) (value : HasValue text d) (Q : ℕ) (ring : number_at (codes "ring") d ≡ Some Q) (is_ring : IsTraceRing Q) where
   -- no session over this ring is spelled, and so none at all
@@ -104,9 +83,6 @@ module _ (text : List ℕ) (d : Data) (value : HasValue text d) (Q : ℕ) (ring 
   loads_none (Flawed flaw) h = (Q, h.0, is_text h.0 h.1, h.2)
   loads_none (TraceMark m n cause) h = (Q, h.0, is_text h.0 h.1, h.2)
   loads_none (TraceStep n cause) h = (Q, h.0, is_text h.0 h.1, h.2)
-
-  pub loads_one : (book : Book Q) (any : AnyBook) → any_ring any ≡ Q → any_state any ≡ book_state book → LoadsValue {R = Q} d (Ok book) → LoadsTrace text (Ok any)
-  loads_one book any over state h = (Q, h.0, is_text h.0 h.1, (h.2.0, (over, state ∙ h.2.1)))
 
 -- The text of a book
 

@@ -13,13 +13,6 @@ use Rattle.rd_trace.specs.Names.{name_of_items}
 pub member_count : (m : BTreeMap (String Global) Value) (d : Data) → Some (members_view m.entries) ≡ as_object d → option_map members_len (as_object d) ≡ Some (length m.entries)
 member_count m d is = ap (option_map members_len) (sym is) ∙ ap Some (members_len-members_view m.entries)
 
--- a small number is read as it was written
-pub byte_spelled : (n : ℕ) → n ≤ 255 → byte_number (number (unsigned n)) ≡ Some n
-byte_spelled n h = rw (le-leb n 255 h) refl
-
-pub word_spelled : (n : ℕ) → n ≤ 4294967295 → word_number (number (unsigned n)) ≡ Some n
-word_spelled n h = rw (le-leb n 4294967295 h) refl
-
 -- a list of another length than two spells no name
 pub no_name : (vs : List Value) → (length vs ≡ 2 → ⊥) → name_of_items (items_view vs) ≡ None
 no_name [] two = refl

@@ -119,12 +119,6 @@ first_go R w k es h =
       runs = first_run R w (take k es) (drop k es) (subst (λ (fs : List Event). IsOk (run R w fs)) (sym all) h.runs);
     }
 
--- the records of a session are of events that go through
-pub records_go : (R : ℕ) (w : World) (xs : List Entry) (es : List Event) → IsRunFrom R w xs → length xs ≤ MOST_STEPS → events xs ≡ es → GoThrough R w es
-records_go R w xs es ran few same =
-    subst (λ (fs : List Event). GoThrough R w fs) same
-    (record { few = omega (arith, few, length-map xs (λ (x : Entry). x.event)); runs = went (run R w (events xs)) xs ran })
-
 -- One event
 
 -- what an event does does not depend on what is undone
@@ -338,9 +332,6 @@ still_go R n k s t h goes through =
     subst (λ (u : State). GoThrough R u.start u.live) (sym (back_left n k s t h goes)) (first_go R s.start k s.live through)
 
 -- Which live events a list begins with
-
-pub none_shared : (xs ys : List Event) → take 0 xs ≡ take 0 ys
-none_shared xs ys = refl
 
 -- one more event that is the same in both
 pub one_shared : (xs : List Entry) (es fs : List Event) (k : ℕ) (x : Entry) (f : Event) → events xs ≡ es → k < length xs → k < length fs → x ≡ get_or xs k x

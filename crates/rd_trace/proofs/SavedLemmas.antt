@@ -36,10 +36,6 @@ module _ (R : ℕ) (d : Data) where
   no_trace first second t (inl h) = first h.version h.members
   no_trace first second t (inr h) = second h.version h.members
 
-  pub reads_none : (number_at (codes "version") d ≡ Some 1 → member_count d ≡ Some 4 → ⊥) → (number_at (codes "version") d ≡ Some 2 → member_count d ≡ Some 6 → ⊥)
-      → ReadsTrace {R = R} d (Err BadForm)
-  reads_none first second = λ t h. no_trace first second t h
-
   module _ (version : number_at (codes "version") d ≡ Some 1) where
     not_second : (t : Trace R) → IsSecondTrace d t → ⊥
     not_second t h = two_versions d 1 2 (λ e. omega (arith, e)) version h.version

@@ -27,9 +27,6 @@ no_cell (a ∷ b ∷ c ∷ d ∷ vs) three = refl
 
 -- ---- the cells that values spell
 
-pub reads_cells : ReadsEach cell_of cells_of
-reads_cells = record { nothing = refl; first = λ d ds. refl }
-
 -- the cells of a ring of n cells: the first i are those of the values at their places
 pub record AreRead (n : ℕ) (vs : List Value) (cells : List Cell) (i : ℕ) : Type 0 where
   pub count : length cells ≡ n
