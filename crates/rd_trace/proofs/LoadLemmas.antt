@@ -1,25 +1,21 @@
 -- What loading a text gives.
-use Rattle.std.proofs.Common.{◌≡◌, ◌≤◌, ◌⊎◌, inl, inr, ℕ, List, [], length, codes, Some, Result, Ok, Err, IsErrAnd, refl, sym, ◌∙◌, subst, arith, IsUtf8}
+use Rattle.std.proofs.Common.{◌≡◌, ◌≤◌, ◌⊎◌, inl, inr, ℕ, List, [], length, codes, Some, Result, Err, sym, subst, arith, IsUtf8}
 use Rattle.std.specs.List.{IsDistinct}
 use Rattle.serde_json.specs.Data.{Data}
 use Rattle.serde_json.specs.Read.{read}
-use Rattle.rd_marks.specs.declared.books.Book.{Book}
-use Rattle.rd_marks.specs.BookViews.{book_state}
 use Rattle.rd_marks.specs.Books.{Mark, BookState}
 use Rattle.rd_marks.specs.NameBytes.{MOST_MARKS}
 use Rattle.rd_marks.specs.Rules.{HaveDifferentNames}
 use Rattle.rd_trace.specs.declared.any_book.AnyBook.{AnyBook}
-use Rattle.rd_trace.specs.declared.faults.FormFault.{FormFault}
-use Rattle.rd_trace.specs.declared.faults.FormFault.TheVariants.{NoMemory as FormNoMemory, BadForm}
 use Rattle.rd_trace.specs.declared.faults.LoadTraceFault.{LoadTraceFault}
 use Rattle.rd_trace.specs.declared.faults.LoadTraceFault.TheVariants.{NoMemory, BadTrace, Flawed, TraceMark, TraceStep}
 use Rattle.rd_trace.specs.declared.starts.Start.{Start}
 use Rattle.rd_trace.specs.declared.starts.Start.TheVariants.{Fresh, Parts as OfParts}
 use Rattle.rd_trace.specs.Numbers.{number_at}
 use Rattle.rd_trace.specs.Starts.{IsStart, HasActorCount}
-use Rattle.rd_trace.specs.Saved.{Trace, IsFirstTrace, IsSecondTrace, IsTraceText, ReadsTrace, loaded_state}
+use Rattle.rd_trace.specs.Saved.{Trace, IsFirstTrace, IsSecondTrace, IsTraceText}
 use Rattle.rd_trace.specs.Traces.{IsTraceRing}
-use Rattle.rd_trace.specs.Loading.{any_ring, any_state, form_fault, Replays, LoadsValue, LoadsTrace, LoadsAgain}
+use Rattle.rd_trace.specs.Loading.{LoadsValue, LoadsTrace, LoadsAgain}
 use Rattle.rd_trace.specs.Writing.{IsTextOf}
 use Rattle.rd_trace.proofs.OneTrace.{loads_again}
 use Rattle.rd_trace.proofs.ReplayLemmas.{none_refused}

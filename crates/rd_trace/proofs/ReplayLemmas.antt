@@ -10,7 +10,7 @@ use Rattle.std.proofs.lemmas.List.{append-nil, length-map, map-append, map_more,
 use Rattle.rd_cell.specs.declared.refusal.Refusal.TheVariants.{NoMemory as OutOfMemory}
 use Rattle.rd_actor.specs.declared.actors.Act.TheVariants.{Enq as CallsEnq, Deq as CallsDeq, AEnq as CallsArrayEnq, ADeq as CallsArrayDeq, Go as GoesOn, Starve as Starves}
 use Rattle.rd_step.specs.Prelude.{World, Refusal, TooLong, MarkTaken, TooManyMarks, OpReply, Stepped, step, Ran, run, MOST_STEPS}
-use Rattle.rd_step.specs.Run.{events, run_entries, run_preceded_by, run_from_step, IsRunFrom}
+use Rattle.rd_step.specs.Run.{events, run_entries, run_preceded_by, run_from_step}
 use Rattle.rd_step.specs.declared.entries.Entry.{Entry}
 use Rattle.rd_step.specs.declared.entries.Event.{Event}
 use Rattle.rd_journal.specs.State.{State, run_of, step_after, with_event, apply, reply_to, back_one, times, back}

@@ -1,21 +1,21 @@
 -- Whole sessions as values.
-use Rattle.std.proofs.Common.{◌≡◌, ◌≢◌, ℕ, zero, suc, ◌+◌, ◌<◌, ◌≤◌, ◌⊎◌, List, [], ◌∷◌, ◌++◌, map, length, take, get_or, slice_get, codes, Option, Some, None, Result, Ok, Err, IsOk, inl, inr, refl, sym, ap, ◌∙◌, subst, arith, length-append}
-use Rattle.std.proofs.lemmas.List.{length-map, map-append, take_more, take_all, get_or-map}
+use Rattle.std.proofs.Common.{◌≡◌, ◌≢◌, ℕ, zero, suc, ◌+◌, ◌<◌, ◌≤◌, ◌⊎◌, List, [], ◌∷◌, ◌++◌, length, take, get_or, slice_get, codes, Some, None, Result, Ok, Err, IsOk, inl, inr, refl, sym, ap, ◌∙◌, subst, arith, length-append}
+use Rattle.std.proofs.lemmas.List.{length-map, map-append, take_more, get_or-map}
 use Rattle.std.proofs.lemmas.Option.{same_Some, none-some}
 use Rattle.serde_json.specs.Data.{Data, Items}
 use Rattle.serde_json.specs.Find.{get}
-use Rattle.rd_step.specs.Prelude.{World, Refusal, run, MOST_STEPS}
+use Rattle.rd_step.specs.Prelude.{Refusal, run, MOST_STEPS}
 use Rattle.rd_step.specs.Run.{Ran, run_entries}
 use Rattle.rd_step.specs.declared.entries.Entry.{Entry}
 use Rattle.rd_step.specs.declared.entries.Event.{Event}
 use Rattle.rd_journal.specs.Journal.{Journal, IsRun, start_of, events}
 use Rattle.rd_journal.specs.State.{State, state_of, event_at}
 use Rattle.rd_journal.proofs.RedoneLast.{one_run}
-use Rattle.rd_marks.specs.Books.{Mark, BookState}
+use Rattle.rd_marks.specs.Books.{BookState}
 use Rattle.rd_marks.specs.Rules.{GoThrough, KeepsRules}
 use Rattle.rd_trace.specs.Numbers.{member_count, number_at, list_at}
-use Rattle.rd_trace.specs.Events.{events_at, events_of, events_data, ReadsEventsAt}
-use Rattle.rd_trace.specs.Starts.{IsStart, IsActorCount, ReadsStart, IsStartData, SpellsWorld}
+use Rattle.rd_trace.specs.Events.{events_of, events_data, ReadsEventsAt}
+use Rattle.rd_trace.specs.Starts.{IsStart, IsActorCount, ReadsStart, SpellsWorld}
 use Rattle.rd_trace.specs.Bookmarks.{AreMarks, ReadsMarks, marks_data}
 use Rattle.rd_trace.specs.Saved.{Trace, IsFirstTrace, IsSecondTrace, ReadsTrace, ReadsFirst, ReadsSecond, SpellsBook, book_data}
 use Rattle.rd_trace.specs.Loading.{IsReachable}

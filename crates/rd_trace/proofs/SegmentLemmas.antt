@@ -1,5 +1,5 @@
 -- Segments as values: what is written of each part, and what is read again.
-use Rattle.std.proofs.Common.{◌≡◌, ℕ, suc, ◌+◌, ◌<◌, List, [], ◌∷◌, ◌++◌, length, get_or, take, drop, Option, Some, None, option_map, option_and_then, Result, Ok, Err, Vec, refl, sym, ap, ap₂, ◌∙◌, subst, Global}
+use Rattle.std.proofs.Common.{◌≡◌, ℕ, suc, ◌<◌, List, [], ◌∷◌, ◌++◌, length, get_or, take, drop, Option, Some, None, option_map, option_and_then, Result, Ok, Err, Vec, refl, sym, ap, ap₂, ◌∙◌, subst, Global}
 use Rattle.std.specs.Result.{IsErrAnd}
 use Rattle.serde_json.specs.Data.{Data, Items, array, no_items, item}
 use Rattle.serde_json.specs.Events.{items_len}
@@ -14,7 +14,7 @@ use Rattle.rd_trace.specs.Segments.{cell_of_items, cell_of, cells_of, cell_data,
 use Rattle.rd_trace.specs.Numbers.{SpellEach}
 use Rattle.rd_trace.specs.declared.faults.FormFault.{FormFault}
 use Rattle.rd_trace.specs.declared.faults.FormFault.TheVariants.{NoMemory, BadForm}
-use Rattle.rd_trace.proofs.SpellLemmas.{then_item, behind, ReadsEach, spell_each-none}
+use Rattle.rd_trace.proofs.SpellLemmas.{then_item, behind, spell_each-none}
 use Rattle.rd_trace.proofs.ActorLemmas.{value_spelled}
 
 -- a list of another length spells no cell

@@ -1,6 +1,6 @@
 -- What the parts of replaying a trace give: worlds, steps, bookmarks. No public clause cites them.
-use Rattle.std.specs.Prelude.{◌≡◌, ◌≢◌, ◌⊎◌, ◌++◌, ◌+◌, ℕ, List, [], length, Some, None, Result, Ok, Err}
-use Rattle.rd_step.specs.Prelude.{World, Refusal, model}
+use Rattle.std.specs.Prelude.{◌≡◌, ◌≢◌, ◌⊎◌, ◌++◌, ℕ, List, [], Some, None, Result, Ok, Err}
+use Rattle.rd_step.specs.Prelude.{World, model}
 use Rattle.rd_cell.specs.declared.refusal.Refusal.TheVariants.{NoMemory as NoMemoryRefused}
 use Rattle.rd_step.specs.declared.worlds.World.{World as CodeWorld}
 use Rattle.rd_step.specs.declared.entries.Event.{Event}

@@ -1,8 +1,4 @@
-use Rattle.std.proofs.Common.{ap, ◌∙◌}
-use Rattle.rd_step.specs.Prelude.{World}
-use Rattle.rd_marks.specs.Books.{BookState}
 use Rattle.rd_marks.specs.BookViews.{book_state}
-use Rattle.rd_trace.specs.Loading.{fresh_state}
 use Rattle.rd_trace.proofs.ReplayLemmas.{opened}
 use Rattle.rd_trace.proofs.any_book.fresh_book.Goals as goal
 

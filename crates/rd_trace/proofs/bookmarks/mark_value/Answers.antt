@@ -4,7 +4,6 @@ use Rattle.serde_json.specs.View.{view, items_view}
 use Rattle.serde_json.specs.declared.value.Value.{Value}
 use Rattle.rd_step.specs.Run.{events}
 use Rattle.rd_step.specs.declared.entries.Event.{Event}
-use Rattle.rd_marks.specs.Names.{bytes_of}
 use Rattle.rd_marks.specs.BookViews.{book_state}
 use Rattle.rd_marks.specs.Books.{mark_events}
 use Rattle.rd_trace.specs.Events.{events_of, events_data}

@@ -1,4 +1,4 @@
-use Rattle.std.proofs.Common.{Result, ◌++◌, arith}
+use Rattle.std.proofs.Common.{arith}
 use Rattle.rd_marks.specs.BookViews.{book_state}
 use Rattle.rd_trace.specs.Steps.{MakesLive}
 use Rattle.rd_trace.proofs.ReplayLemmas.{passed_up, live_refused, undone_refused, enough_live, made_live}

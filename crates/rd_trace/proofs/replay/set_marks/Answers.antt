@@ -1,4 +1,4 @@
-use Rattle.std.proofs.Common.{◌≡◌, ◌⊎◌, ◌+◌, Ok, Err, IsOk, ap, sym, subst, ◌∙◌, arith}
+use Rattle.std.proofs.Common.{◌≡◌, ◌⊎◌, Ok, Err, IsOk, ap, sym, subst, ◌∙◌, arith}
 use Rattle.rd_marks.specs.BookViews.{book_state}
 use Rattle.std.proofs.lemmas.List.{get_or_default}
 use Rattle.rd_cell.specs.declared.refusal.Refusal.TheVariants.{NoMemory as OutOfMemory}

@@ -1,6 +1,5 @@
-use Rattle.std.proofs.Common.{◌≡◌, length, take, sym, ap, ◌∙◌, arith}
+use Rattle.std.proofs.Common.{length, take, sym, ap, ◌∙◌, arith}
 use Rattle.std.proofs.lemmas.List.{take_all, length-map}
-use Rattle.rd_step.specs.Run.{events}
 use Rattle.rd_journal.specs.Sessions.{state}
 use Rattle.rd_trace.proofs.SavedLemmas.{one_more_live}
 use Rattle.rd_trace.proofs.saved.live_events.Goals as goal

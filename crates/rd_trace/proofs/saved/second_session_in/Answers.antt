@@ -1,4 +1,4 @@
-use Rattle.std.proofs.Common.{Some, sym}
+use Rattle.std.proofs.Common.{sym}
 use Rattle.serde_json.specs.View.{view, items_view}
 use Rattle.rd_trace.specs.Saved.{ReadsSecond}
 use Rattle.rd_trace.proofs.StartLemmas.{passed_up}
