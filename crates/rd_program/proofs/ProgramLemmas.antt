@@ -12,8 +12,7 @@ use Rattle.rd_trace.specs.declared.faults.LoadTraceFault.TheVariants as load
 use Rattle.rd_trace.specs.declared.faults.WriteTraceFault.{WriteTraceFault}
 use Rattle.rd_trace.specs.declared.faults.WriteTraceFault.TheVariants as write
 use Rattle.rd_trace.specs.Writing.{IsTextOf, WritesTrace, is_write_fault}
-use Rattle.rd_trace.specs.Saved.{Trace, IsTraceText, loaded_state}
-use Rattle.rd_trace.specs.Loading.{IsPlayable, LoadsTrace, any_ring, any_state, fresh_state}
+use Rattle.rd_trace.specs.Loading.{LoadsTrace, any_ring, any_state, fresh_state}
 use Rattle.rd_program.specs.declared.faults.ProgramFault.{ProgramFault}
 use Rattle.rd_program.specs.declared.faults.ProgramFault.TheVariants.{NoMemory, Read, Write, BadTrace, Flawed, TraceMark, TraceStep, Busy, TooManyFiles, Shown, Refused}
 use Rattle.rd_program.specs.Program.{load_fault, program_fault, write_fault, RunsOver, AppendsIf, WritesIf, RanToTrace, PlaysScript, ResumesTrace, TouchesNothing}
@@ -93,17 +92,15 @@ runs_to_fault R d start after script.Write runs = (after, runs)
 
 -- the run of a script over the book of a trace
 pub resumes_over : (text : List ℕ) (book : AnyBook) (d : Devices) (r : Result ℕ ProgramFault) → LoadsTrace text (Ok book) → RunsOver (any_ring book) (any_state book) d r → ResumesTrace text d r
-resumes_over text book d r (R, t, is_text, playable, same) runs = go r (subst (λ s. RunsOver R s d r) same.1 (subst (λ k. RunsOver k (any_state book) d r) same.0 runs)) where
-  go : (r : Result ℕ ProgramFault) → RunsOver R (loaded_state t) d r → ResumesTrace text d r
-  go (Ok n) over = record { ring = R; trace = t; is_text = is_text; playable = playable; runs = over }
-  go (Err Read) over = record { ring = R; trace = t; is_text = is_text; playable = playable; runs = over }
-  go (Err Write) over = record { ring = R; trace = t; is_text = is_text; playable = playable; runs = over }
-  go (Err NoMemory) over = absurd over
-  go (Err BadTrace) over = absurd over
-  go (Err (Flawed flaw)) over = absurd over
-  go (Err (TraceMark mark step cause)) over = absurd over
-  go (Err (TraceStep step cause)) over = absurd over
-  go (Err (Busy next served)) over = absurd over
-  go (Err TooManyFiles) over = absurd over
-  go (Err (Shown error)) over = absurd over
-  go (Err (Refused error)) over = absurd over
+resumes_over text book d (Ok n) loads runs = record { book = book; loads = loads; runs = runs }
+resumes_over text book d (Err Read) loads runs = record { book = book; loads = loads; runs = runs }
+resumes_over text book d (Err Write) loads runs = record { book = book; loads = loads; runs = runs }
+resumes_over text book d (Err NoMemory) loads runs = absurd runs
+resumes_over text book d (Err BadTrace) loads runs = absurd runs
+resumes_over text book d (Err (Flawed flaw)) loads runs = absurd runs
+resumes_over text book d (Err (TraceMark mark step cause)) loads runs = absurd runs
+resumes_over text book d (Err (TraceStep step cause)) loads runs = absurd runs
+resumes_over text book d (Err (Busy next served)) loads runs = absurd runs
+resumes_over text book d (Err TooManyFiles) loads runs = absurd runs
+resumes_over text book d (Err (Shown error)) loads runs = absurd runs
+resumes_over text book d (Err (Refused error)) loads runs = absurd runs

@@ -11,7 +11,7 @@ use Rattle.rd_trace.specs.declared.rings.Ring.TheVariants.{Two, Four, Eight}
 use Rattle.rd_trace.specs.Traces.{ring_length}
 use Rattle.rd_program.specs.declared.faults.ProgramFault.{ProgramFault}
 use Rattle.rd_trace.specs.Loading.{fresh_state}
-use Rattle.rd_program.specs.Viewers.{Tellings, ViewsFresh, ViewsOver, by_ring}
+use Rattle.rd_program.specs.Viewers.{ViewsFresh, ViewsOver, by_ring}
 
 module _ (two : Ghosts (BookWithHistory 2) Call (Book 2)) (four : Ghosts (BookWithHistory 4) Call (Book 4)) (eight : Ghosts (BookWithHistory 8) Call (Book 8))
     (actors : ℕ) (opened : BookState) (scripts : List (Vec ℕ Global)) (old new : Option (List ℕ)) (failed : Bool) (r : Result ℕ ProgramFault) where

@@ -1,6 +1,6 @@
 -- What the program does: a script's run over a fresh world, with the trace of it behind the report if one is asked for, and a
 -- script's run over the run of a trace.
-use Rattle.std.specs.Prelude.{◌≡◌, ◌⊎◌, ℕ, Bool, true, false, List, [], ◌++◌, Option, Some, None, Result, Ok, Err}
+use Rattle.std.specs.Prelude.{◌≡◌, ◌⊎◌, ℕ, Bool, true, false, List, Option, Result, Ok, Err}
 use Rattle.std.specs.Io.KnownBytes.{Keeps, Appends}
 use Rattle.rd_marks.specs.Books.{BookState}
 use Rattle.rd_script.specs.declared.faults.ScriptFault.{ScriptFault}
@@ -11,11 +11,9 @@ use Rattle.rd_trace.specs.declared.faults.LoadTraceFault.{LoadTraceFault}
 use Rattle.rd_trace.specs.declared.faults.LoadTraceFault.TheVariants as load
 use Rattle.rd_trace.specs.declared.faults.WriteTraceFault.{WriteTraceFault}
 use Rattle.rd_trace.specs.declared.faults.WriteTraceFault.TheVariants as write
-use Rattle.rd_trace.specs.Saved.{Trace, IsTraceText, loaded_state}
+use Rattle.rd_trace.specs.declared.any_book.AnyBook.{AnyBook}
 use Rattle.rd_trace.specs.Writing.{IsTextOf}
-use Rattle.rd_trace.specs.Starts.{start_world, start_flaw}
-use Rattle.rd_trace.specs.Traces.{IsRefusedAt, IsMarkRefusedAt}
-use Rattle.rd_trace.specs.Loading.{HasMarks, IsPlayable, fresh_state}
+use Rattle.rd_trace.specs.Loading.{LoadsTrace, any_ring, any_state, fresh_state}
 use Rattle.rd_program.specs.declared.faults.ProgramFault.{ProgramFault}
 use Rattle.rd_program.specs.declared.faults.ProgramFault.TheVariants.{NoMemory, Read, Write, BadTrace, Flawed, TraceMark, TraceStep}
 
@@ -85,26 +83,20 @@ PlaysScript R actors traced d (Err Read) = RunsOver R (fresh_state R actors) d (
 PlaysScript R actors traced d (Err Write) = RunsOver R (fresh_state R actors) d (Err Write) ⊎ ((n : ℕ) × RanToTrace R actors traced d n (Err Write))
 PlaysScript R actors traced d (Err _) = ⊥
 
--- the text is a trace all of whose events go through, and a script ran over the book that it is loaded as
+-- the text was loaded as a book, and a script ran over it
 pub record RunsOverTrace (text : List ℕ) (d : Devices) (result : Result ℕ ProgramFault) : Type 0 where
-  pub ring : ℕ
-  pub trace : Trace ring
-  pub is_text : IsTraceText text trace
-  pub playable : IsPlayable trace
-  pub runs : RunsOver ring (loaded_state trace) d result
+  pub book : AnyBook
+  pub loads : LoadsTrace text (Ok book)
+  pub runs : RunsOver (any_ring book) (any_state book) d result
 
--- what `load` did with the text of a file: neither device is touched unless the text is a trace all of whose events go through
+-- what `load` did with the text of a file: neither device is touched unless the text is loaded as a book
 abbrev pub ResumesTrace : List ℕ → Devices → Result ℕ ProgramFault → Type 0
 ResumesTrace text d (Ok n) = RunsOverTrace text d (Ok n)
 ResumesTrace text d (Err Read) = RunsOverTrace text d (Err Read)
 ResumesTrace text d (Err Write) = RunsOverTrace text d (Err Write)
 ResumesTrace text d (Err NoMemory) = TouchesNothing d
-ResumesTrace text d (Err BadTrace) = TouchesNothing d × ((R : ℕ) (t : Trace R) → IsTraceText text t → ⊥)
-ResumesTrace text d (Err (Flawed flaw)) = TouchesNothing d × ((R : ℕ) × (t : Trace R) × IsTraceText text t × (start_flaw t.start ≡ Some flaw))
-ResumesTrace text d (Err (TraceMark mark step cause)) =
-    TouchesNothing d
-    × ((R : ℕ) × (t : Trace R) × IsTraceText text t × (start_flaw t.start ≡ None) × IsMarkRefusedAt R (start_world t.start) t.marks mark step cause)
-ResumesTrace text d (Err (TraceStep step cause)) =
-    TouchesNothing d
-    × ((R : ℕ) × (t : Trace R) × IsTraceText text t × HasMarks t × IsRefusedAt R (start_world t.start) (t.live ++ t.undone) step cause)
+ResumesTrace text d (Err BadTrace) = TouchesNothing d × LoadsTrace text (Err load.BadTrace)
+ResumesTrace text d (Err (Flawed flaw)) = TouchesNothing d × LoadsTrace text (Err (load.Flawed flaw))
+ResumesTrace text d (Err (TraceMark mark step cause)) = TouchesNothing d × LoadsTrace text (Err (load.TraceMark mark step cause))
+ResumesTrace text d (Err (TraceStep step cause)) = TouchesNothing d × LoadsTrace text (Err (load.TraceStep step cause))
 ResumesTrace text d (Err _) = ⊥
