@@ -29,14 +29,18 @@ const PLACES: &[&str] = &[
     "cell 1.0 0",
     "cell 1.0 1",
     "whole 1.0",
+    "head 2.0",
     "tail 2.0",
+    "next 2.0",
     "cell 2.0 0",
+    "cell 2.0 1",
     "whole 2.0",
     "ahead",
     "atail",
     "acell 0",
     "acell 1",
     "acell 2",
+    "acell 63",
 ];
 
 /// Lines that ask, and then some that go on.
@@ -52,7 +56,7 @@ fn questions(alloc: Global) -> Result<String, Fail> {
         write!(script, "actor {number}\nmarkat {number}\n")?;
     }
     script.push_str(
-        "len\nmarks\nsame a b\nsame b a\nsame a a\nredo\nundo 3\ngoto b\nlen\ngoto a\nlen\n",
+        "len\nmarks\nsame a b\nsame b a\nsame a a\nredo\nstep 1\nforward 6\nstep 7\nundo 3\ngoto b\nlen\ngoto a\nlen\n",
     )?;
     Ok(script)
 }
@@ -251,4 +255,21 @@ fn steps_that_were_undone_alone(rt: HostRuntime) -> Result<(), Fail> {
             1,
         )],
     )
+}
+
+/// One run as traces of both versions.
+const BOTH: [&str; 2] = [
+    "{\"actors\":4,\"events\":[[\"enq\",1,7],[\"go\",1]],\"ring\":4,\"version\":1}\n",
+    "{\"events\":[[\"enq\",1,7],[\"go\",1]],\"marks\":[],\"ring\":4,\"start\":{\"fresh\":4},\"undone\":[],\"version\":2}\n",
+];
+
+#[test]
+fn both_versions_of_one_run(rt: HostRuntime) -> Result<(), Fail> {
+    let alloc = rt.alloc();
+    let script = questions(alloc)?;
+    let [first, second] = BOTH;
+    let given = loaded_report(alloc, &script, first.as_bytes())?;
+    let wanted = loaded_report(alloc, &script, second.as_bytes())?;
+    assert!(rt; given.as_slice() == wanted.as_slice());
+    Ok(())
 }

@@ -58,6 +58,16 @@ fn other_numbers_and_members_are_no_trace(rt: HostRuntime) -> Result<(), Fail> {
             ("\"start\":{\"fresh\":4}", "\"start\":{}"),
             ("\"start\":{\"fresh\":4}", "\"start\":4"),
             ("\"start\":{\"fresh\":4}", "\"actors\":4"),
+            ("\"events\":[[\"enq\",1,7],[\"go\",1]],", ""),
+            (
+                "\"marks\":[{\"events\":[[\"enq\",1,7]],\"name\":\"a\"}],",
+                "",
+            ),
+            ("\"marks\":[", "\"bookmarks\":["),
+            ("\"start\":{\"fresh\":4},", ""),
+            ("\"start\":{\"fresh\":4}", "\"start\":{\"fresh\":4.0}"),
+            ("\"start\":{\"fresh\":4}", "\"start\":{\"fresh\":\"4\"}"),
+            ("\"start\":{\"fresh\":4}", "\"start\":{\"flesh\":4}"),
             ("\"undone\":[],", ""),
             ("\"undone\":[]", "\"undone\":{}"),
             ("\"undone\":[]", "\"undone\":[],\"more\":[]"),
@@ -99,6 +109,37 @@ fn other_bookmarks_are_no_trace(rt: HostRuntime) -> Result<(), Fail> {
             ("\"marks\":[", "\"marks\":[null,"),
         ],
     )
+}
+
+#[test]
+fn texts_that_are_nested_too_deep_are_no_trace(rt: HostRuntime) -> Result<(), Fail> {
+    let alloc = rt.alloc();
+    let open = "[".repeat(alloc, 200)?;
+    let closed = format!(in alloc; "{open}{}", "]".repeat(alloc, 200)?)?;
+    for deep in [&open, &closed] {
+        with_is_bad(
+            &rt,
+            alloc,
+            &[
+                ("{\"fresh\":4}", deep),
+                ("[\"go\",1]", deep),
+                ("\"a\"", deep),
+                ("{\"events\":[[\"enq\",1,7]],\"name\":\"a\"}", deep),
+            ],
+        )?;
+    }
+    Ok(())
+}
+
+#[test]
+fn bytes_that_are_no_text_are_no_trace(rt: HostRuntime) {
+    let bad = LoadTraceFault::BadTrace;
+    let name =
+        b"{\"events\":[],\"marks\":[{\"events\":[],\"name\":\"a\xff\"}],\"ring\":4,\"start\":{\"fresh\":4},\"undone\":[],\"version\":2}";
+    fault_is(&rt, rt.alloc(), name, bad, "with a name that is no UTF-8");
+    let key =
+        b"{\"events\":[],\"marks\":[],\"ring\":4,\"start\":{\"fresh\xc0\x80\":4},\"undone\":[],\"version\":2}";
+    fault_is(&rt, rt.alloc(), key, bad, "with a key that is no UTF-8");
 }
 
 /// A trace of so many bookmarks of no event.

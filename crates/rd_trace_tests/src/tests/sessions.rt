@@ -105,6 +105,28 @@ fn the_first_refused_event_is_named(rt: HostRuntime) {
                 },
             ),
             (
+                "{\"events\":[],\"marks\":[{\"events\":[],\"name\":\"z\"},{\"events\":[[\"go\",0]],\"name\":\"a\"}],\"ring\":4,\"start\":{\"fresh\":16},\"undone\":[],\"version\":2}",
+                LoadTraceFault::TraceMark {
+                    mark: 2,
+                    step: 1,
+                    cause: Refusal::NoActor,
+                },
+            ),
+            (
+                "{\"events\":[[\"go\",0]],\"marks\":[],\"ring\":4,\"start\":{\"fresh\":4},\"undone\":[[\"go\",1]],\"version\":2}",
+                LoadTraceFault::TraceStep {
+                    step: 1,
+                    cause: Refusal::NoActor,
+                },
+            ),
+            (
+                "{\"events\":[],\"marks\":[],\"ring\":8,\"start\":{\"fresh\":1},\"undone\":[[\"adeq\",1],[\"aenq\",1,7]],\"version\":2}",
+                LoadTraceFault::TraceStep {
+                    step: 2,
+                    cause: Refusal::NotIdle,
+                },
+            ),
+            (
                 "{\"events\":[[\"go\",9]],\"marks\":[{\"events\":[[\"deq\",1]],\"name\":\"a\"},{\"events\":[[\"deq\",1],[\"go\",1],[\"deq\",1]],\"name\":\"b\"}],\"ring\":2,\"start\":{\"fresh\":1},\"undone\":[],\"version\":2}",
                 LoadTraceFault::TraceMark {
                     mark: 2,
@@ -130,26 +152,87 @@ fn the_first_refused_event_is_named(rt: HostRuntime) {
     );
 }
 
+/// The parts of a world without an actor.
+const FLAWED: &str =
+    "{\"actors\":[],\"array\":{\"cells\":[],\"head\":0,\"tail\":0},\"qhead\":[0,0],\"qtail\":[0,0],\"segments\":[]}";
+
+/// A trace of this start, with a bookmark at these events and these live and undone.
+fn trace_of(
+    alloc: Global,
+    start: &str,
+    marked: &str,
+    live: &str,
+    undone: &str,
+) -> Result<String, Fail> {
+    Ok(format!(in alloc;
+        "{{\"events\":[{live}],\"marks\":[{{\"events\":[{marked}],\"name\":\"a\"}}],\"ring\":2,\"start\":{start},\"undone\":[{undone}],\"version\":2}}"
+    )?)
+}
+
+/// Events of which each is refused in any world, and one that spells none.
+const REFUSED: &str = "[\"go\",0]";
+
+const NO_EVENT: &str = "[\"hop\",0]";
+
+/// The start, the events of a bookmark, the live and the undone ones of a trace, and why it is not loaded.
+const FAULTS: &[(&str, &str, &str, &str, LoadTraceFault)] = &[
+    (FLAWED, NO_EVENT, "", "", LoadTraceFault::BadTrace),
+    (FLAWED, REFUSED, NO_EVENT, "", LoadTraceFault::BadTrace),
+    (FLAWED, REFUSED, REFUSED, NO_EVENT, LoadTraceFault::BadTrace),
+    (
+        FLAWED,
+        REFUSED,
+        REFUSED,
+        REFUSED,
+        LoadTraceFault::Flawed(Flaw::Makers),
+    ),
+    (
+        FLAWED,
+        "",
+        REFUSED,
+        "",
+        LoadTraceFault::Flawed(Flaw::Makers),
+    ),
+    (
+        "{\"fresh\":1}",
+        REFUSED,
+        REFUSED,
+        REFUSED,
+        LoadTraceFault::TraceMark {
+            mark: 1,
+            step: 1,
+            cause: Refusal::NoActor,
+        },
+    ),
+    (
+        "{\"fresh\":1}",
+        "[\"deq\",1]",
+        "[\"go\",1]",
+        REFUSED,
+        LoadTraceFault::TraceStep {
+            step: 1,
+            cause: Refusal::Idle,
+        },
+    ),
+    (
+        "{\"fresh\":1}",
+        "[\"deq\",1]",
+        "[\"deq\",1],[\"go\",1]",
+        REFUSED,
+        LoadTraceFault::TraceStep {
+            step: 3,
+            cause: Refusal::NoActor,
+        },
+    ),
+];
+
 #[test]
-fn a_bad_form_comes_before_a_flaw_and_a_flaw_before_a_bookmark(rt: HostRuntime) {
-    let flawed =
-        "{\"actors\":[],\"array\":{\"cells\":[],\"head\":0,\"tail\":0},\"qhead\":[0,0],\"qtail\":[0,0],\"segments\":[]}";
-    let alloc = rt.alloc();
-    let refused = "{\"events\":[[\"go\",1]],\"name\":\"a\"}";
-    if let Ok(text) = format!(in alloc;
-        "{{\"events\":[],\"marks\":[{refused}],\"ring\":2,\"start\":{flawed},\"undone\":[],\"version\":2}}"
-    ) {
-        fault_is(
-            &rt,
-            alloc,
-            text.as_bytes(),
-            LoadTraceFault::Flawed(Flaw::Makers),
-            &text,
-        );
+fn bad_forms_flaws_bookmarks_live_and_undone_events_are_refused_in_this_order(
+    rt: HostRuntime,
+) -> Result<(), Fail> {
+    for (start, marked, live, undone, fault) in FAULTS {
+        let text = trace_of(rt.alloc(), *start, *marked, *live, *undone)?;
+        fault_is(&rt, rt.alloc(), text.as_bytes(), *fault, &text);
     }
-    if let Ok(text) = format!(in alloc;
-        "{{\"events\":[],\"marks\":[{refused}],\"ring\":2,\"start\":{flawed},\"undone\":[[\"hop\",1]],\"version\":2}}"
-    ) {
-        fault_is(&rt, alloc, text.as_bytes(), LoadTraceFault::BadTrace, &text);
-    }
+    Ok(())
 }
