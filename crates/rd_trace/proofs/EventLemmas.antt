@@ -1,10 +1,8 @@
 -- Events as values: what is read of a list, and what is written of one.
-use Rattle.std.proofs.Common.{◌≡◌, ℕ, ◌≤◌, List, [], ◌∷◌, ◌++◌, length, Some, None, option_map, refl, sym, ap, ap₂, ◌∙◌, le-leb}
+use Rattle.std.proofs.Common.{◌≡◌, List, [], ◌∷◌, ◌++◌, length, Some, None, option_map, refl, sym, ap, ap₂, ◌∙◌}
 use Rattle.serde_json.specs.Data.{item}
 use Rattle.serde_json.specs.View.{view, items_view}
 use Rattle.serde_json.specs.declared.value.Value.{Value}
-use Rattle.rd_step.specs.Prelude.{Act}
-use Rattle.rd_actor.specs.declared.actors.Act.TheVariants.{Enq, Deq, AEnq, ADeq, Go, Starve}
 use Rattle.rd_step.specs.declared.entries.Event.{Event}
 use Rattle.rd_trace.specs.Events.{event_of_items, event_of, events_of, act_data, events_data}
 use Rattle.rd_trace.proofs.SpellLemmas.{then_item, items_view-last, ReadsEach, read_last}
@@ -19,15 +17,6 @@ other_length (a ∷ b ∷ c ∷ d ∷ vs) two three = refl
 
 pub reads_events : ReadsEach event_of events_of
 reads_events = record { nothing = refl; first = λ d ds. refl }
-
--- the value of an event spells it
-pub act_spelled : (a : ℕ) (act : Act) → a ≤ 255 → event_of (act_data a act) ≡ Some (record { actor = a; act = act })
-act_spelled a (Enq x) h = rw (le-leb a 255 h) refl
-act_spelled a Deq h = rw (le-leb a 255 h) refl
-act_spelled a (AEnq x) h = rw (le-leb a 255 h) refl
-act_spelled a ADeq h = rw (le-leb a 255 h) refl
-act_spelled a Go h = rw (le-leb a 255 h) refl
-act_spelled a (Starve choice) h = rw (le-leb a 255 h) refl
 
 events_data-last : (es : List Event) (e : Event) → events_data (es ++ e ∷ []) ≡ then_item (events_data es) (act_data e.actor e.act)
 events_data-last [] e = refl

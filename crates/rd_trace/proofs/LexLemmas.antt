@@ -69,9 +69,6 @@ lex-comma true r = refl
 lex-comma false r = refl
 
 module _ (c : Bool) (t : Token) (ts : List Token) where
-  comma_text : List ℕ
-  comma_text = cond (c && begins t) (44 ∷ []) []
-
   -- what is behind the tokens shows in nothing but the last lexemes
   lex-first : (z : List ℕ) → ends_word z ≡ true → IsPrintable t
       → lex between (print_from c (t ∷ ts) ++ z) ≡ cond (c && begins t) (comma ∷ []) [] ++ (lexemes_of t ++ lex between (print_from (ends t) ts ++ z))

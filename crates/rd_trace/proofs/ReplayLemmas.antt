@@ -34,7 +34,7 @@ use Rattle.rd_trace.specs.Starts.{start_world, start_flaw}
 use Rattle.rd_trace.specs.Saved.{Trace, loaded_state}
 use Rattle.rd_trace.specs.Traces.{session_at, IsRefusedAt, IsMarkRefusedAt}
 use Rattle.rd_trace.specs.Loading.{HasMarks, IsPlayable, Replays}
-use Rattle.rd_trace.specs.Steps.{MakesWorld, IsAt, RefusesOne, StepsAll, GoesTo, MakesLive, SetsMarks, IsFaultOfStep, IsFaultOfMark}
+use Rattle.rd_trace.specs.Steps.{IsAt, RefusesOne, StepsAll, GoesTo, MakesLive, SetsMarks, IsFaultOfStep, IsFaultOfMark}
 
 -- Books and lists
 
@@ -540,14 +540,6 @@ all_set R old new ms i all h =
 -- Whole traces
 
 module _ {R : ℕ} {B : Type 0} (IsBook : B → Type 0) (t : Trace R) where
-  -- no world is made of its start
-  pub no_world : (fault : LoadTraceFault) → MakesWorld t.start (Err fault) → Replays IsBook t (Err fault)
-  no_world NoMemory h = tt
-  no_world BadTrace h = absurd h
-  no_world (Flawed flaw) h = h
-  no_world (TraceMark m n cause) h = absurd h
-  no_world (TraceStep n cause) h = absurd h
-
   module _ (flawless : start_flaw t.start ≡ None) (old : BookState) (start : old.session.start ≡ start_world t.start) where
     -- an event of a bookmark is refused
     pub no_marks : (new : BookState) (fault : LoadTraceFault) → SetsMarks R old t.marks new (Err fault) → Replays IsBook t (Err fault)

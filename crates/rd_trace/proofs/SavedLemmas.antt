@@ -1,5 +1,5 @@
 -- Whole sessions as values.
-use Rattle.std.proofs.Common.{◌≡◌, ◌≢◌, ℕ, zero, suc, ◌+◌, ◌<◌, ◌≤◌, ◌⊎◌, List, [], ◌∷◌, ◌++◌, length, take, get_or, slice_get, codes, Some, None, Result, Ok, Err, IsOk, inl, inr, refl, sym, ap, ◌∙◌, subst, arith, length-append}
+use Rattle.std.proofs.Common.{◌≡◌, ℕ, zero, suc, ◌+◌, ◌<◌, ◌≤◌, List, [], ◌∷◌, ◌++◌, length, take, get_or, slice_get, codes, Some, None, Result, Ok, Err, IsOk, refl, sym, ap, ◌∙◌, subst, arith, length-append}
 use Rattle.std.proofs.lemmas.List.{length-map, map-append, take_more, get_or-map}
 use Rattle.std.proofs.lemmas.Option.{same_Some, none-some}
 use Rattle.serde_json.specs.Data.{Data, Items}
@@ -13,57 +13,18 @@ use Rattle.rd_journal.specs.State.{State, state_of, event_at}
 use Rattle.rd_journal.proofs.RedoneLast.{one_run}
 use Rattle.rd_marks.specs.Books.{BookState}
 use Rattle.rd_marks.specs.Rules.{GoThrough, KeepsRules}
-use Rattle.rd_trace.specs.Numbers.{member_count, number_at, list_at}
+use Rattle.rd_trace.specs.Numbers.{list_at}
 use Rattle.rd_trace.specs.Events.{events_of, events_data, ReadsEventsAt}
 use Rattle.rd_trace.specs.Starts.{IsStart, IsActorCount, ReadsStart, SpellsWorld}
 use Rattle.rd_trace.specs.Bookmarks.{AreMarks, ReadsMarks, marks_data}
-use Rattle.rd_trace.specs.Saved.{Trace, IsFirstTrace, IsSecondTrace, ReadsTrace, ReadsFirst, ReadsSecond, SpellsBook, book_data}
+use Rattle.rd_trace.specs.Saved.{ReadsFirst, ReadsSecond, SpellsBook, book_data}
 use Rattle.rd_trace.specs.Loading.{IsReachable}
-use Rattle.rd_trace.specs.declared.saved.SavedSession.{SavedSession}
 use Rattle.rd_trace.specs.declared.faults.FormFault.{FormFault}
 use Rattle.rd_trace.specs.declared.faults.FormFault.TheVariants.{NoMemory, BadForm}
 
 -- ---- what is read
 
--- a value has one version at most
-two_versions : (d : Data) (n m : ℕ) → n ≢ m → number_at (codes "version") d ≡ Some n → number_at (codes "version") d ≡ Some m → ⊥
-two_versions d n m apart h k = apart (same_Some n m (sym h ∙ k))
-
 module _ (R : ℕ) (d : Data) where
-  -- a trace of neither version
-  no_trace : (number_at (codes "version") d ≡ Some 1 → member_count d ≡ Some 4 → ⊥) → (number_at (codes "version") d ≡ Some 2 → member_count d ≡ Some 6 → ⊥)
-      → (t : Trace R) → IsFirstTrace d t ⊎ IsSecondTrace d t → ⊥
-  no_trace first second t (inl h) = first h.version h.members
-  no_trace first second t (inr h) = second h.version h.members
-
-  module _ (version : number_at (codes "version") d ≡ Some 1) where
-    not_second : (t : Trace R) → IsSecondTrace d t → ⊥
-    not_second t h = two_versions d 1 2 (λ e. omega (arith, e)) version h.version
-
-    first_alone : ((t : Trace R) → IsFirstTrace d t → ⊥) → (t : Trace R) → IsFirstTrace d t ⊎ IsSecondTrace d t → ⊥
-    first_alone none t (inl h) = none t h
-    first_alone none t (inr h) = not_second t h
-
-    -- what is read of a trace of version 1
-    pub reads_first : (r : Result (SavedSession R) FormFault) → ReadsFirst d r → ReadsTrace d r
-    reads_first (Ok s) h = inl h
-    reads_first (Err NoMemory) h = tt
-    reads_first (Err BadForm) h = λ t k. first_alone h t k
-
-  module _ (version : number_at (codes "version") d ≡ Some 2) where
-    not_first : (t : Trace R) → IsFirstTrace d t → ⊥
-    not_first t h = two_versions d 2 1 (λ e. omega (arith, e)) version h.version
-
-    second_alone : ((t : Trace R) → IsSecondTrace d t → ⊥) → (t : Trace R) → IsFirstTrace d t ⊎ IsSecondTrace d t → ⊥
-    second_alone none t (inl h) = not_first t h
-    second_alone none t (inr h) = none t h
-
-    -- what is read of one of version 2
-    pub reads_second : (r : Result (SavedSession R) FormFault) → ReadsSecond d r → ReadsTrace d r
-    reads_second (Ok s) h = inr h
-    reads_second (Err NoMemory) h = tt
-    reads_second (Err BadForm) h = λ t k. second_alone h t k
-
   -- a trace of version 1 whose number of actors, or whose events, are not read
   pub no_count : ((count : ℕ) → IsActorCount (codes "actors") d count → ⊥) → ReadsFirst {R = R} d (Err BadForm)
   no_count none = λ t h. none h.actors.0 h.actors.1
