@@ -184,11 +184,10 @@ fn push_run<R: Files + Alloc<A = Global>>(
 ) -> Result<String> {
     let script = fs::read_to_string(rt, name)?;
     let report = report_from_start(alloc, Ring::Four, &script, true)?;
-    let mut last = "";
-    for line in report.lines() {
-        last = line;
-    }
-    let trace = format!(in alloc; "{last}\n")?;
+    let trace = match report.lines().last() {
+        None => String::new(alloc),
+        Some(line) => format!(in alloc; "{line}\n")?,
+    };
     blocks.push(table_of(alloc, &script, &report)?)?;
     blocks.push(block_of(alloc, &trace)?)?;
     Ok(trace)
