@@ -158,7 +158,7 @@ fn with_bookmarks(alloc: Global, number: u64) -> Result<String, Fail> {
 fn a_trace_has_64_bookmarks_at_most(rt: HostRuntime) -> Result<(), Fail> {
     let alloc = rt.alloc();
     let most = rd_trace::load::load_trace(alloc, with_bookmarks(alloc, 64)?.as_bytes())?;
-    assert!(rt; matches!(most, rd_trace::any_book::AnyBook::Eight(book) if book.marks() == 64));
+    assert!(rt; matches!(&most, rd_trace::any_book::AnyBook::Eight(book) if book.marks() == 64));
     are_bad(&rt, alloc, &[&with_bookmarks(alloc, 65)?]);
     Ok(())
 }
