@@ -327,60 +327,41 @@ fn the_words_of_a_start_are_those_of_its_text(rt: HostRuntime) -> Result<(), Fai
     Ok(())
 }
 
-#[test]
-fn a_flaw_is_named(rt: HostRuntime) -> Result<(), Fail> {
-    let alloc = rt.alloc();
-    flaw_is(
-        &rt,
-        alloc,
+/// A part of the start above, what stands for it, and the flaw that the start has then.
+const FLAWS: &[(&str, &str, Flaw)] = &[
+    (
         "\"head\":0,\"next\"",
         "\"head\":4611686018427387905,\"next\"",
         Flaw::Counters,
-    )?;
-    flaw_is(&rt, alloc, ",[]]}", "]}", Flaw::Makers)?;
-    flaw_is(
-        &rt,
-        alloc,
-        "\"qtail\":[0,0]",
-        "\"qtail\":[1,0]",
-        Flaw::PlaceNames,
-    )?;
-    flaw_is(
-        &rt,
-        alloc,
+    ),
+    (",[]]}", "]}", Flaw::Makers),
+    ("\"qtail\":[0,0]", "\"qtail\":[1,0]", Flaw::PlaceNames),
+    (
         "\"next\":null",
         "\"next\":[255,4294967295]",
         Flaw::PlaceNames,
-    )?;
-    flaw_is(
-        &rt,
-        alloc,
-        "\"crq\":[0,0]",
-        "\"crq\":[1,5]",
-        Flaw::ActorNames,
-    )?;
-    flaw_is(
-        &rt,
-        alloc,
+    ),
+    ("\"crq\":[0,0]", "\"crq\":[1,5]", Flaw::ActorNames),
+    (
         "[true,0,null]",
         "[true,4611686018427387907,null]",
         Flaw::Indexes,
-    )?;
-    flaw_is(
-        &rt,
-        alloc,
+    ),
+    (
         "\"cells\":[],\"head\":0,\"tail\":0",
         "\"cells\":[],\"head\":0,\"tail\":65",
         Flaw::ArrayCounters,
-    )?;
-    flaw_is(
-        &rt,
-        alloc,
-        "\"t\":0",
-        "\"t\":4611686018427387905",
-        Flaw::ActorNumbers,
-    )?;
-    flaw_is(&rt, alloc, "\"pass\":0", "\"pass\":255", Flaw::ActorWords)
+    ),
+    ("\"t\":0", "\"t\":4611686018427387905", Flaw::ActorNumbers),
+    ("\"pass\":0", "\"pass\":255", Flaw::ActorWords),
+];
+
+#[test]
+fn a_flaw_is_named(rt: HostRuntime) -> Result<(), Fail> {
+    for (old, new, flaw) in FLAWS {
+        flaw_is(&rt, rt.alloc(), *old, *new, *flaw)?;
+    }
+    Ok(())
 }
 
 #[test]
