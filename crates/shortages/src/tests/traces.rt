@@ -1,6 +1,7 @@
 //! Traces that are refused memory while they are written, and while they are loaded.
 
 use super::trials::{has_text, on_trial};
+use rd_marks::Book;
 use rd_script::{ReadSource, WriteSink};
 use rd_trace::{AnyBook, LoadTraceFault, WriteTraceFault, load_trace, write_trace};
 use std::alloc::Global;
@@ -23,8 +24,8 @@ pub(super) const STEPS: &[&[u8]] = &[
 pub(super) const TRACE: &[u8] =
     b"{\"events\":[[\"enq\",1,7],[\"go\",1],[\"aenq\",2,18446744073709551615],[\"deq\",3],[\"go\",3]],\"marks\":[{\"events\":[[\"enq\",1,7],[\"go\",1],[\"aenq\",2,18446744073709551615],[\"deq\",3],[\"go\",3],[\"go\",3],[\"go\",3]],\"name\":\"a\"}],\"ring\":2,\"start\":{\"fresh\":4},\"undone\":[[\"go\",3],[\"go\",3]],\"version\":2}\n";
 
-/// Whether a trace was written as it should be. If not, memory was refused, and nothing was written.
-fn is_written(
+/// Whether a trace was written whole, as this text. If not, memory was refused, and nothing was written.
+fn is_whole(
     rt: &impl Abort,
     answer: Result<(), WriteTraceFault>,
     page: &Vec<u8>,
@@ -42,18 +43,20 @@ fn is_written(
     }
 }
 
+/// Whether the trace of a book is written as it should be. If not, memory was refused, and nothing was written.
+fn is_written(rt: &impl Abort, alloc: Global, book: &Book<2>, page: &mut Vec<u8>) -> bool {
+    page.clear();
+    let answer = write_trace(alloc, &mut WriteSink::new(&mut *page), book);
+    is_whole(rt, answer, page, TRACE)
+}
+
 #[test]
 fn a_trace_that_was_refused_memory_is_not_begun_and_is_written_the_next_time(rt: HostRuntime) {
-    let alloc = rt.alloc();
-    let mut one = on_trial(&rt, alloc);
-    let mut twin = on_trial(&rt, alloc);
+    let mut one = on_trial(&rt, rt.alloc());
+    let mut twin = on_trial(&rt, rt.alloc());
     assert!(&rt; one.obeys_all(STEPS) && twin.obeys_all(STEPS));
-    one.report.clear();
-    let answer = write_trace(alloc, &mut WriteSink::new(&mut one.report), &one.book);
-    let written = is_written(&rt, answer, &one.report, TRACE);
-    one.report.clear();
-    let answer = write_trace(alloc, &mut WriteSink::new(&mut one.report), &one.book);
-    assert!(&rt; is_written(&rt, answer, &one.report, TRACE) || written);
+    let written = is_written(&rt, rt.alloc(), &one.book, &mut one.report);
+    assert!(&rt; written || is_written(&rt, rt.alloc(), &one.book, &mut one.report));
     assert!(&rt; one.is_as(&mut twin));
 }
 
@@ -150,7 +153,7 @@ fn comes_back(rt: &impl Abort, alloc: Global, trace: &[u8], page: &mut Vec<u8>) 
         None => false,
         Some(book) => {
             let answer = book.write_trace(alloc, &mut WriteSink::new(&mut *page));
-            is_written(rt, answer, page, trace)
+            is_whole(rt, answer, page, trace)
         }
     }
 }
