@@ -1,0 +1,211 @@
+"""The queue's machine, as far as the writer of a script must know it: which line each actor takes next.
+
+It follows the table of control points in docs/MODEL.md, a method a row. Segments are named by identity, and nothing is kept of a
+step but what it leaves behind.
+"""
+
+
+class Segment:
+    """A ring with its counters: a fresh one, or one that holds a value."""
+
+    __slots__ = ("head", "tail", "closed", "next", "cells")
+
+    def __init__(self, ring, held=None):
+        self.head = 0
+        self.tail = 0 if held is None else 1
+        self.closed = False
+        self.next = None
+        self.cells = [(True, index, held if index == 0 else None) for index in range(ring)]
+
+
+class Actor:
+    """An actor's words: the idle record."""
+
+    __slots__ = ("place", "value", "crq", "new", "next", "t", "h", "closed", "val", "safe", "idx", "times")
+
+    def __init__(self):
+        self.place = "Idle"
+        self.value = self.crq = self.new = self.next = self.val = None
+        self.t = self.h = self.idx = self.times = 0
+        self.closed = self.safe = False
+
+
+class Machine:
+    """The fresh world of so many actors, numbered from 1, over rings of so many cells."""
+
+    def __init__(self, actors, ring):
+        self.ring = ring
+        self.queue_head = self.queue_tail = Segment(ring)
+        self.actors = {number: Actor() for number in range(1, actors + 1)}
+
+    def place(self, number):
+        """Where an actor stands."""
+        return self.actors[number].place
+
+    def enqueue(self, number, value):
+        """An idle actor begins an enqueue."""
+        self.actors[number].place = "E1"
+        self.actors[number].value = value
+
+    def dequeue(self, number):
+        """An idle actor begins a dequeue."""
+        self.actors[number].place = "Q1"
+
+    def choose(self, number, starves):
+        """An actor at E10 chooses."""
+        self.actors[number].place = "E11" if starves else "E4"
+
+    def go(self, number):
+        """An actor that stands anywhere else makes its step. A row answers the next place, or Idle where the call is over."""
+        actor = self.actors[number]
+        place = ROWS[actor.place](self, actor)
+        if place == "Idle":
+            self.actors[number] = Actor()
+        else:
+            actor.place = place
+
+    def swap(self, actor, position, old, new):
+        """Compares and swaps the cell of a position on the actor's segment."""
+        cells = actor.crq.cells
+        if cells[position % self.ring] != old:
+            return False
+        cells[position % self.ring] = new
+        return True
+
+    # The enqueue.
+
+    def e1(self, actor):
+        actor.crq = self.queue_tail
+        return "E2"
+
+    def e2(self, actor):
+        if actor.crq.next is None:
+            return "E4"
+        actor.next = actor.crq.next
+        return "E3"
+
+    def e3(self, actor):
+        if self.queue_tail is actor.crq:
+            self.queue_tail = actor.next
+        return "E1"
+
+    def e4(self, actor):
+        actor.t = actor.crq.tail
+        actor.crq.tail += 1
+        return "E12" if actor.crq.closed else "E5"
+
+    def e5(self, actor):
+        actor.val = actor.crq.cells[actor.t % self.ring][2]
+        return "E6"
+
+    def e6(self, actor):
+        actor.safe, actor.idx, _ = actor.crq.cells[actor.t % self.ring]
+        if actor.val is None and actor.idx <= actor.t:
+            return "E8" if actor.safe else "E7"
+        return "E9"
+
+    def e7(self, actor):
+        return "E8" if actor.crq.head <= actor.t else "E9"
+
+    def e8(self, actor):
+        won = self.swap(actor, actor.t, (actor.safe, actor.idx, None), (True, actor.t, actor.value))
+        return "Idle" if won else "E9"
+
+    def e9(self, actor):
+        actor.h = actor.crq.head
+        return "E11" if actor.t >= actor.h + self.ring else "E10"
+
+    def e11(self, actor):
+        actor.crq.closed = True
+        return "E12"
+
+    def e12(self, actor):
+        actor.new = Segment(self.ring, actor.value)
+        return "E13"
+
+    def e13(self, actor):
+        if actor.crq.next is not None:
+            return "E1"
+        actor.crq.next = actor.new
+        return "E14"
+
+    def e14(self, actor):
+        if self.queue_tail is actor.crq:
+            self.queue_tail = actor.new
+        return "Idle"
+
+    # The dequeue.
+
+    def q1(self, actor):
+        actor.crq, actor.times = self.queue_head, 1
+        return "Q2"
+
+    def q2(self, actor):
+        actor.h = actor.crq.head
+        actor.crq.head += 1
+        return "Q3"
+
+    def q3(self, actor):
+        actor.val = actor.crq.cells[actor.h % self.ring][2]
+        return "Q4"
+
+    def q4(self, actor):
+        actor.safe, actor.idx, _ = actor.crq.cells[actor.h % self.ring]
+        if actor.idx > actor.h:
+            return "Q8"
+        if actor.val is None:
+            return "Q7"
+        return "Q5" if actor.idx == actor.h else "Q6"
+
+    def q5(self, actor):
+        won = self.swap(actor, actor.h, (actor.safe, actor.idx, actor.val), (actor.safe, actor.h + self.ring, None))
+        return "Idle" if won else "Q3"
+
+    def q6(self, actor):
+        won = self.swap(actor, actor.h, (actor.safe, actor.idx, actor.val), (False, actor.idx, actor.val))
+        return "Q8" if won else "Q3"
+
+    def q7(self, actor):
+        won = self.swap(actor, actor.h, (actor.safe, actor.idx, None), (actor.safe, actor.h + self.ring, None))
+        return "Q8" if won else "Q3"
+
+    def q8(self, actor):
+        actor.t = actor.crq.tail
+        return "Q9" if actor.t <= actor.h + 1 else "Q2"
+
+    def q9(self, actor):
+        actor.closed, actor.t = actor.crq.closed, actor.crq.tail
+        return "Q10"
+
+    def q10(self, actor):
+        actor.h = actor.crq.head
+        return "Q11"
+
+    def q11(self, actor):
+        if (actor.crq.closed, actor.crq.tail) != (actor.closed, actor.t):
+            return "Q9"
+        return self.after_empty(actor) if actor.closed or actor.h <= actor.t else "Q12"
+
+    def q12(self, actor):
+        if actor.crq.closed or actor.crq.tail != actor.t:
+            return "Q9"
+        actor.crq.tail = actor.h
+        return self.after_empty(actor)
+
+    def after_empty(self, actor):
+        """After a ring was found empty: look for the next one the first time, move the queue's head the second time."""
+        return "Q13" if actor.times == 1 else "Q14"
+
+    def q13(self, actor):
+        if actor.crq.next is None:
+            return "Idle"
+        actor.next, actor.times = actor.crq.next, 2
+        return "Q2"
+
+    def q14(self, actor):
+        if self.queue_head is actor.crq:
+            self.queue_head = actor.next
+        return "Q1"
+
+
+ROWS = {name.upper(): row for name, row in vars(Machine).items() if name[0] in "eq" and name[1:].isdigit()}

@@ -1,0 +1,33 @@
+-- The records that an actor may begin with.
+use Rattle.std.specs.Prelude.{ℕ, false, Some, None}
+use Rattle.rd_cell.specs.Places.{root}
+use Rattle.rd_actor.specs.declared.actors.Actor.{Actor}
+use Rattle.rd_actor.specs.declared.actors.Pc.TheVariants.{Idle, E4}
+use Rattle.rd_actor.specs.declared.actors.Pc.{Pc}
+use Rattle.rd_actor.specs.declared.actors.Op.{Op}
+use Rattle.rd_actor.specs.declared.actors.Op.TheVariants.{Enq}
+
+-- the record of an actor in no call
+abbrev pub idle : Actor
+idle = record {
+  pc = Idle;
+  op = None;
+  crq = root;
+  new = root;
+  next = root;
+  t = 0;
+  h = 0;
+  closed = false;
+  val = None;
+  safe = false;
+  idx = 0;
+  pass = 0;
+}
+
+-- the record of an actor whose next step draws a position for this value on the root
+abbrev pub poised : ℕ → Actor
+poised value = record idle { pc = E4; op = Some (Enq value) }
+
+-- the record of an actor that begins this call at this control point
+abbrev pub calling : Pc → Op → Actor
+calling pc op = record idle { pc = pc; op = Some op }

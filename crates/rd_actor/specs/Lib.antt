@@ -1,0 +1,3 @@
+pub mod Actors
+pub mod Table
+pub mod Words

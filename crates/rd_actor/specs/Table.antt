@@ -1,0 +1,235 @@
+-- The table of control points, one row a control point: what an actor asks for there, and how it goes on.
+use Rattle.std.specs.Prelude.{ℕ, ◌+◌, ◌%◌, ◌^◌, ◌<◌, Bool, true, false, ◌==◌, ◌&&◌, ◌||◌, nat_lt, nat_le, if◌then◌else◌, Option, Some, None, is_some, is_none, Result, Ok, Err}
+use Rattle.rd_cell.specs.declared.cells.Cell.{Cell}
+use Rattle.rd_cell.specs.declared.places.Place.{Place}
+use Rattle.rd_cell.specs.declared.places.Place.TheVariants.{QHead, QTail, Head, Tail, Next, Cell as CellAt, ArrHead, ArrTail, ArrCell}
+use Rattle.rd_cell.specs.declared.contents.ArrSlot.{ArrSlot}
+use Rattle.rd_cell.specs.declared.contents.ArrSlot.TheVariants.{Empty as NobodyYet, Top, Value as Held}
+use Rattle.rd_cell.specs.declared.contents.Content.TheVariants.{Name, Number, Tail as TailIs, Next as NextIs, Slot}
+use Rattle.rd_cell.specs.declared.access.Access.{Access}
+use Rattle.rd_cell.specs.declared.access.Access.TheVariants.{NoPlace, At, Make}
+use Rattle.rd_cell.specs.declared.operations.Operation.TheVariants.{Read, ReadValue, ReadSafeAndIndex, Add, AddArray, Close, CasName, CasNext, CasTail, Cas2, Swap}
+use Rattle.rd_cell.specs.declared.operations.Answer.{Answer}
+use Rattle.rd_cell.specs.declared.operations.Answer.TheVariants.{Found, Value, SafeAndIndex, Won, Lost, Made}
+use Rattle.rd_cell.specs.declared.refusal.Refusal.{Refusal}
+use Rattle.rd_cell.specs.declared.refusal.Refusal.TheVariants.{NotIdle, Idle as IsIdle, NeedsChoice, NoChoice}
+use Rattle.rd_cell.specs.Cells.{is_bit}
+use Rattle.rd_actor.specs.declared.actors.Act.{Act}
+use Rattle.rd_actor.specs.declared.actors.Act.TheVariants.{Enq, Deq, AEnq, ADeq, Go, Starve}
+use Rattle.rd_actor.specs.declared.actors.Actor.{Actor}
+use Rattle.rd_actor.specs.declared.actors.Op.{Op}
+use Rattle.rd_actor.specs.declared.actors.Op.TheVariants.{Enq as Enqueue, Deq as Dequeue, AEnq as EnqueueInArray, ADeq as DequeueFromArray}
+use Rattle.rd_actor.specs.declared.actors.OpReply.{OpReply}
+use Rattle.rd_actor.specs.declared.actors.OpReply.TheVariants.{Enqueued, Value as Dequeued, Empty}
+use Rattle.rd_actor.specs.declared.actors.Pc.{Pc}
+use Rattle.rd_actor.specs.declared.actors.Pc.TheVariants.{Idle, E1, E2, E3, E4, E5, E6, E7, E8, E9, E10, E11, E12, E13, E14, Q1, Q2, Q3, Q4, Q5, Q6, Q7, Q8, Q9, Q10, Q11, Q12, Q13, Q14, A1, A2, B1, B2, B3}
+use Rattle.rd_actor.specs.Actors.{idle, calling}
+
+-- the value that an enqueue is to put, on either queue
+abbrev pub value_of : Option Op → ℕ
+value_of (Some (Enqueue x)) = x
+value_of (Some (EnqueueInArray x)) = x
+value_of _ = 0
+
+-- the cell that an enqueue works on, and the one that a dequeue works on
+abbrev pub tail_cell : ℕ → Actor → Place
+tail_cell R a = CellAt a.crq (a.t % R)
+
+abbrev pub head_cell : ℕ → Actor → Place
+head_cell R a = CellAt a.crq (a.h % R)
+
+-- a cell of these words
+abbrev pub cell_of : Bool → ℕ → Option ℕ → Cell
+cell_of safe idx val = record { safe = safe; idx = idx; val = val }
+
+-- what an actor at this control point asks for
+abbrev pub need_at : ℕ → Pc → Actor → Result Access Refusal
+need_at R E1 a = Ok (At QTail Read)
+need_at R E2 a = Ok (At (Next a.crq) Read)
+need_at R E3 a = Ok (At QTail (CasName a.crq a.next))
+need_at R E4 a = Ok (At (Tail a.crq) Add)
+need_at R E5 a = Ok (At (tail_cell R a) ReadValue)
+need_at R E6 a = Ok (At (tail_cell R a) ReadSafeAndIndex)
+need_at R E7 a = Ok (At (Head a.crq) Read)
+need_at R E8 a = Ok (At (tail_cell R a) (Cas2 (cell_of a.safe a.idx None) (cell_of true a.t (Some (value_of a.op)))))
+need_at R E9 a = Ok (At (Head a.crq) Read)
+need_at R E10 a = Err NeedsChoice
+need_at R E11 a = Ok (At (Tail a.crq) Close)
+need_at R E12 a = Ok (Make (value_of a.op))
+need_at R E13 a = Ok (At (Next a.crq) (CasNext a.new))
+need_at R E14 a = Ok (At QTail (CasName a.crq a.new))
+need_at R Q1 a = Ok (At QHead Read)
+need_at R Q2 a = Ok (At (Head a.crq) Add)
+need_at R Q3 a = Ok (At (head_cell R a) ReadValue)
+need_at R Q4 a = Ok (At (head_cell R a) ReadSafeAndIndex)
+need_at R Q5 a = Ok (At (head_cell R a) (Cas2 (cell_of a.safe a.idx a.val) (cell_of a.safe (a.h + R) None)))
+need_at R Q6 a = Ok (At (head_cell R a) (Cas2 (cell_of a.safe a.idx a.val) (cell_of false a.idx a.val)))
+need_at R Q7 a = Ok (At (head_cell R a) (Cas2 (cell_of a.safe a.idx None) (cell_of a.safe (a.h + R) None)))
+need_at R Q8 a = Ok (At (Tail a.crq) Read)
+need_at R Q9 a = Ok (At (Tail a.crq) Read)
+need_at R Q10 a = Ok (At (Head a.crq) Read)
+need_at R Q11 a = Ok (At (Tail a.crq) Read)
+need_at R Q12 a = Ok (At (Tail a.crq) (CasTail a.t a.h))
+need_at R Q13 a = Ok (At (Next a.crq) Read)
+need_at R Q14 a = Ok (At QHead (CasName a.crq a.next))
+need_at R A1 a = Ok (At ArrTail AddArray)
+need_at R A2 a = Ok (At (ArrCell a.t) (Swap (Held (value_of a.op))))
+need_at R B1 a = Ok (At ArrHead AddArray)
+need_at R B2 a = Ok (At (ArrCell a.h) (Swap Top))
+need_at R B3 a = Ok (At ArrTail Read)
+need_at R Idle a = Err IsIdle
+
+-- a call needs an idle actor, and accesses no place
+abbrev pub need_call : Pc → Result Access Refusal
+need_call Idle = Ok NoPlace
+need_call _ = Err NotIdle
+
+-- a choice needs an actor that is to make one, and accesses no place
+abbrev pub need_choice : Pc → Result Access Refusal
+need_choice Idle = Err IsIdle
+need_choice E10 = Ok NoPlace
+need_choice _ = Err NoChoice
+
+-- the one access that an actor asks for over rings of R cells, or why it has none
+abbrev pub need : ℕ → Actor → Act → Result Access Refusal
+need R a (Enq x) = need_call a.pc
+need R a Deq = need_call a.pc
+need R a (AEnq x) = need_call a.pc
+need R a ADeq = need_call a.pc
+need R a Go = need_at R a.pc a
+need R a (Starve b) = need_choice a.pc
+
+-- the numbers that this row's access names are within the words of the program: the index of a cell that is moved on to
+-- its next round is below 2^64, and the number of a slot of the array is a byte
+abbrev pub IsRepresentableAt : ℕ → Pc → Actor → Type 0
+IsRepresentableAt R Q5 a = a.h + R < 2 ^ 64
+IsRepresentableAt R Q7 a = a.h + R < 2 ^ 64
+IsRepresentableAt R A2 a = a.t < 2 ^ 8
+IsRepresentableAt R B2 a = a.h < 2 ^ 8
+IsRepresentableAt R _ a = Unit {0}
+
+-- the same of what an actor asks for when it is told this act: calls and choices name no number
+abbrev pub IsRepresentable : ℕ → Actor → Act → Type 0
+IsRepresentable R a Go = IsRepresentableAt R a.pc a
+IsRepresentable R a _ = Unit {0}
+
+-- the actor at this control point, its other words as they are
+abbrev pub with_pc : Pc → Actor → Actor
+with_pc pc a = record a { pc = pc }
+
+-- the control point after a pass that found its segment empty: the first pass reads the next segment, the second moves
+-- the queue's head
+abbrev pub pc_after_empty_pass : Actor → Pc
+pc_after_empty_pass a = if a.pass == 1 then Q13 else Q14
+
+-- an enqueue that drew a position from a tail goes on to its cell, or to make a segment if the ring is closed
+abbrev pub after_tail_add : Actor → Bool → ℕ → Actor
+after_tail_add a closed count = record a { t = count; pc = if closed then E12 else E5 }
+
+-- an enqueue that read a cell's safe bit and index tries the cell if it is empty and its index is not past the position:
+-- at once if the cell is safe, else after a look at the head
+abbrev pub after_enqueue_reads_index : Actor → Bool → ℕ → Actor
+after_enqueue_reads_index a safe idx =
+    record a { safe = safe; idx = idx; pc = if is_none a.val && nat_le idx a.t then (if safe then E8 else E7) else E9 }
+
+-- a dequeue that read a cell's safe bit and index takes the value of its position, marks the cell unsafe if the value is
+-- older, moves an empty cell on to the next round, and passes by a cell whose index is past its position
+abbrev pub after_dequeue_reads_index : Actor → Bool → ℕ → Actor
+after_dequeue_reads_index a safe idx = record a {
+  safe = safe;
+  idx = idx;
+  pc = if nat_lt a.h idx then Q8 else (if is_some a.val then (if idx == a.h then Q5 else Q6) else Q7);
+}
+
+-- an enqueue that read the head because its cell is unsafe tries the cell if its position is not behind the head
+abbrev pub after_unsafe_check : Actor → ℕ → Actor
+after_unsafe_check a g = record a { pc = if nat_le g a.t then E8 else E9 }
+
+-- an enqueue that read the head closes the ring if that is full, else is to choose
+abbrev pub after_full_check : ℕ → Actor → ℕ → Actor
+after_full_check R a g = record a { h = g; pc = if nat_le (g + R) a.t then E11 else E10 }
+
+-- a dequeue that read the tail goes to repair it if nothing is enqueued behind its position, else it draws the next one
+abbrev pub after_empty_check : Actor → ℕ → Actor
+after_empty_check a count = record a { t = count; pc = if nat_le count (a.h + 1) then Q9 else Q2 }
+
+-- a repair that read the tail again starts over if the tail changed, ends if it is closed or not behind the head, and
+-- else tries to move it
+abbrev pub after_repair_check : Actor → Bool → ℕ → Actor
+after_repair_check a closed count =
+    record a { pc = if is_bit closed a.closed && (count == a.t) then (if a.closed || nat_le a.h a.t then pc_after_empty_pass a else Q12) else Q9 }
+
+-- a dequeue that took this value replies it, and its call is over
+abbrev pub after_take : Option ℕ → Actor → Actor × Option OpReply
+after_take (Some v) a = (idle, Some (Dequeued v))
+after_take None a = (a, None)
+
+-- an enqueue on the array that swapped its value in is over if nobody had come to the slot yet, else it draws the next
+-- position
+abbrev pub after_swap_in : Actor → ArrSlot → Actor × Option OpReply
+after_swap_in a NobodyYet = (idle, Some Enqueued)
+after_swap_in a _ = (with_pc A1 a, None)
+
+-- a dequeue on the array that swapped its slot out replies the value that it found, else it looks at the tail
+abbrev pub after_swap_out : Actor → ArrSlot → Actor × Option OpReply
+after_swap_out a (Held v) = (idle, Some (Dequeued v))
+after_swap_out a _ = (with_pc B3 a, None)
+
+-- a dequeue on the array that read the tail is over if nothing is enqueued behind its position, else it draws the next
+-- one
+abbrev pub after_array_empty_check : Actor → ℕ → Actor × Option OpReply
+after_array_empty_check a count = if nat_le count (a.h + 1) then (idle, Some Empty) else (with_pc B1 a, None)
+
+-- how an actor at this control point goes on with an answer, and what it replies; an answer of a kind that the row's
+-- access never gives changes nothing
+abbrev pub after_at : ℕ → Pc → Actor → Answer → Actor × Option OpReply
+after_at R E1 a (Found (Name s)) = (record a { crq = s; pc = E2 }, None)
+after_at R E2 a (Found (NextIs (Some m))) = (record a { next = m; pc = E3 }, None)
+after_at R E2 a (Found (NextIs None)) = (with_pc E4 a, None)
+after_at R E3 a answer = (with_pc E1 a, None)
+after_at R E4 a (Found (TailIs closed count)) = (after_tail_add a closed count, None)
+after_at R E5 a (Value v) = (record a { val = v; pc = E6 }, None)
+after_at R E6 a (SafeAndIndex safe idx) = (after_enqueue_reads_index a safe idx, None)
+after_at R E7 a (Found (Number g)) = (after_unsafe_check a g, None)
+after_at R E8 a Won = (idle, Some Enqueued)
+after_at R E8 a Lost = (with_pc E9 a, None)
+after_at R E9 a (Found (Number g)) = (after_full_check R a g, None)
+after_at R E11 a answer = (with_pc E12 a, None)
+after_at R E12 a (Made s) = (record a { new = s; pc = E13 }, None)
+after_at R E13 a Won = (with_pc E14 a, None)
+after_at R E13 a Lost = (with_pc E1 a, None)
+after_at R E14 a answer = (idle, Some Enqueued)
+after_at R Q1 a (Found (Name s)) = (record a { crq = s; pass = 1; pc = Q2 }, None)
+after_at R Q2 a (Found (Number g)) = (record a { h = g; pc = Q3 }, None)
+after_at R Q3 a (Value v) = (record a { val = v; pc = Q4 }, None)
+after_at R Q4 a (SafeAndIndex safe idx) = (after_dequeue_reads_index a safe idx, None)
+after_at R Q5 a Won = after_take a.val a
+after_at R Q5 a Lost = (with_pc Q3 a, None)
+after_at R Q6 a Won = (with_pc Q8 a, None)
+after_at R Q6 a Lost = (with_pc Q3 a, None)
+after_at R Q7 a Won = (with_pc Q8 a, None)
+after_at R Q7 a Lost = (with_pc Q3 a, None)
+after_at R Q8 a (Found (TailIs closed count)) = (after_empty_check a count, None)
+after_at R Q9 a (Found (TailIs closed count)) = (record a { closed = closed; t = count; pc = Q10 }, None)
+after_at R Q10 a (Found (Number g)) = (record a { h = g; pc = Q11 }, None)
+after_at R Q11 a (Found (TailIs closed count)) = (after_repair_check a closed count, None)
+after_at R Q12 a Won = (with_pc (pc_after_empty_pass a) a, None)
+after_at R Q12 a Lost = (with_pc Q9 a, None)
+after_at R Q13 a (Found (NextIs None)) = (idle, Some Empty)
+after_at R Q13 a (Found (NextIs (Some m))) = (record a { next = m; pass = 2; pc = Q2 }, None)
+after_at R Q14 a answer = (with_pc Q1 a, None)
+after_at R A1 a (Found (Number u)) = (record a { t = u; pc = A2 }, None)
+after_at R A2 a (Found (Slot slot)) = after_swap_in a slot
+after_at R B1 a (Found (Number g)) = (record a { h = g; pc = B2 }, None)
+after_at R B2 a (Found (Slot slot)) = after_swap_out a slot
+after_at R B3 a (Found (Number u)) = after_array_empty_check a u
+after_at R _ a _ = (a, None)
+
+-- the actor's next record, and what it replies if its call is over
+abbrev pub after : ℕ → Actor → Act → Answer → Actor × Option OpReply
+after R a (Enq x) answer = (calling E1 (Enqueue x), None)
+after R a Deq answer = (calling Q1 Dequeue, None)
+after R a (AEnq x) answer = (calling A1 (EnqueueInArray x), None)
+after R a ADeq answer = (calling B1 DequeueFromArray, None)
+after R a Go answer = after_at R a.pc a answer
+after R a (Starve b) answer = (with_pc (if b then E11 else E4) a, None)

@@ -1,0 +1,84 @@
+-- Which words fit an actor's control point, one row a control point.
+use Rattle.std.specs.Prelude.{Bool, true, false, not, ◌==◌, ◌&&◌, ◌||◌, nat_lt, nat_le, Option, Some, is_some, is_none}
+use Rattle.rd_cell.specs.declared.limits.TheConstants.{SLOTS}
+use Rattle.rd_cell.specs.Places.{root, is_name}
+use Rattle.rd_actor.specs.declared.actors.Actor.{Actor}
+use Rattle.rd_actor.specs.declared.actors.Op.{Op}
+use Rattle.rd_actor.specs.declared.actors.Op.TheVariants.{Enq, Deq, AEnq, ADeq}
+use Rattle.rd_actor.specs.declared.actors.Pc.{Pc}
+use Rattle.rd_actor.specs.declared.actors.Pc.TheVariants.{Idle, E1, E2, E3, E4, E5, E6, E7, E8, E9, E10, E11, E12, E13, E14, Q1, Q2, Q3, Q4, Q5, Q6, Q7, Q8, Q9, Q10, Q11, Q12, Q13, Q14, A1, A2, B1, B2, B3}
+
+-- whether the call is an enqueue
+abbrev pub enqueues : Option Op → Bool
+enqueues (Some (Enq x)) = true
+enqueues _ = false
+
+-- whether the call is a dequeue
+abbrev pub dequeues : Option Op → Bool
+dequeues (Some Deq) = true
+dequeues _ = false
+
+-- whether the call is an enqueue on the array
+abbrev pub array_enqueues : Option Op → Bool
+array_enqueues (Some (AEnq x)) = true
+array_enqueues _ = false
+
+-- whether the call is a dequeue on the array
+abbrev pub array_dequeues : Option Op → Bool
+array_dequeues (Some ADeq) = true
+array_dequeues _ = false
+
+-- whether the words, the control point apart, are those of the idle record
+abbrev pub is_idle : Actor → Bool
+is_idle a =
+    is_none a.op && is_name a.crq root && is_name a.new root && is_name a.next root && (a.t == 0) && (a.h == 0)
+    && not a.closed && is_none a.val && not a.safe && (a.idx == 0) && (a.pass == 0)
+
+-- whether this is an enqueue, which is in no pass
+abbrev pub enqueue_fits : Actor → Bool
+enqueue_fits a = enqueues a.op && (a.pass == 0)
+
+-- whether this is a dequeue in its first or second pass over a segment
+abbrev pub pass_fits : Actor → Bool
+pass_fits a = dequeues a.op && ((a.pass == 1) || (a.pass == 2))
+
+-- whether the words fit this control point
+abbrev pub words_fit_at : Pc → Actor → Bool
+words_fit_at Idle a = is_idle a
+words_fit_at E1 a = enqueue_fits a
+words_fit_at E2 a = enqueue_fits a
+words_fit_at E3 a = enqueue_fits a
+words_fit_at E4 a = enqueue_fits a
+words_fit_at E5 a = enqueue_fits a
+words_fit_at E6 a = enqueue_fits a
+words_fit_at E7 a = enqueue_fits a && is_none a.val && not a.safe && nat_le a.idx a.t
+words_fit_at E8 a = enqueue_fits a && is_none a.val && nat_le a.idx a.t
+words_fit_at E9 a = enqueue_fits a
+words_fit_at E10 a = enqueue_fits a
+words_fit_at E11 a = enqueue_fits a
+words_fit_at E12 a = enqueue_fits a
+words_fit_at E13 a = enqueue_fits a
+words_fit_at E14 a = enqueue_fits a
+words_fit_at Q1 a = dequeues a.op && nat_le a.pass 2
+words_fit_at Q2 a = pass_fits a
+words_fit_at Q3 a = pass_fits a
+words_fit_at Q4 a = pass_fits a
+words_fit_at Q5 a = pass_fits a && is_some a.val && (a.idx == a.h)
+words_fit_at Q6 a = pass_fits a && is_some a.val && nat_lt a.idx a.h
+words_fit_at Q7 a = pass_fits a && is_none a.val && nat_le a.idx a.h
+words_fit_at Q8 a = pass_fits a
+words_fit_at Q9 a = pass_fits a
+words_fit_at Q10 a = pass_fits a
+words_fit_at Q11 a = pass_fits a
+words_fit_at Q12 a = pass_fits a && not a.closed && nat_lt a.t a.h
+words_fit_at Q13 a = dequeues a.op && (a.pass == 1)
+words_fit_at Q14 a = dequeues a.op && (a.pass == 2)
+words_fit_at A1 a = array_enqueues a.op && (a.pass == 0)
+words_fit_at A2 a = array_enqueues a.op && (a.pass == 0) && nat_lt a.t SLOTS
+words_fit_at B1 a = array_dequeues a.op && (a.pass == 0)
+words_fit_at B2 a = array_dequeues a.op && (a.pass == 0) && nat_lt a.h SLOTS
+words_fit_at B3 a = array_dequeues a.op && (a.pass == 0) && nat_lt a.h SLOTS
+
+-- whether an actor's words fit the control point where it stands
+abbrev pub words_fit : Actor → Bool
+words_fit a = words_fit_at a.pc a

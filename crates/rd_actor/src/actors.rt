@@ -1,0 +1,194 @@
+//! An actor's record, what it may be asked to do, and what its calls reply.
+
+ghost use Rattle.std.specs.Prelude.{◌≡◌};
+ghost use Rattle.rd_actor.specs.Actors.{idle, poised, calling};
+
+use rd_cell::SegName;
+
+/// A control point: the label of the row of the table that an actor does next.
+#[derive(Clone, Copy, Debug, PartialEq, Eq)]
+pub enum Pc {
+    /// In no call.
+    Idle,
+    /// Enqueue: reads the queue's tail.
+    E1,
+    /// Enqueue: reads the segment's next.
+    E2,
+    /// Enqueue: tries to move the queue's tail to the next segment.
+    E3,
+    /// Enqueue: fetch-and-add on the segment's tail.
+    E4,
+    /// Enqueue: reads the cell's value.
+    E5,
+    /// Enqueue: reads the cell's safe bit and index.
+    E6,
+    /// Enqueue: reads the segment's head, because the cell is unsafe.
+    E7,
+    /// Enqueue: tries to put the value into the cell.
+    E8,
+    /// Enqueue: reads the segment's head, to see whether the ring is full.
+    E9,
+    /// Enqueue: the choice whether it starves.
+    E10,
+    /// Enqueue: closes the ring.
+    E11,
+    /// Enqueue: makes a segment that holds the value.
+    E12,
+    /// Enqueue: tries to link the new segment.
+    E13,
+    /// Enqueue: tries to move the queue's tail to the new segment.
+    E14,
+    /// Dequeue: reads the queue's head.
+    Q1,
+    /// Dequeue: fetch-and-add on the segment's head.
+    Q2,
+    /// Dequeue: reads the cell's value.
+    Q3,
+    /// Dequeue: reads the cell's safe bit and index.
+    Q4,
+    /// Dequeue: tries to take the value out.
+    Q5,
+    /// Dequeue: tries to mark the cell unsafe.
+    Q6,
+    /// Dequeue: tries to move the empty cell on.
+    Q7,
+    /// Dequeue: reads the tail, to see whether the ring is empty.
+    Q8,
+    /// Dequeue: the repair reads the tail.
+    Q9,
+    /// Dequeue: the repair reads the head.
+    Q10,
+    /// Dequeue: the repair reads the tail again.
+    Q11,
+    /// Dequeue: the repair tries to move the tail up to the head.
+    Q12,
+    /// Dequeue: reads the segment's next.
+    Q13,
+    /// Dequeue: tries to move the queue's head to the next segment.
+    Q14,
+    /// Enqueue on the array: fetch-and-add on its tail.
+    A1,
+    /// Enqueue on the array: swaps the value in.
+    A2,
+    /// Dequeue on the array: fetch-and-add on its head.
+    B1,
+    /// Dequeue on the array: swaps the slot out, and leaves top.
+    B2,
+    /// Dequeue on the array: reads its tail.
+    B3,
+}
+
+/// The call that an actor is in.
+#[derive(Clone, Copy, Debug, PartialEq, Eq)]
+pub enum Op {
+    /// Enqueue of this value.
+    Enq(u64),
+    /// Dequeue.
+    Deq,
+    /// Enqueue of this value on the array.
+    AEnq(u64),
+    /// Dequeue on the array.
+    ADeq,
+}
+
+/// What an actor is told to do in one step.
+#[derive(Clone, Copy, Debug, PartialEq, Eq)]
+pub enum Act {
+    /// The call of an enqueue of this value.
+    Enq(u64),
+    /// The call of a dequeue.
+    Deq,
+    /// The call of an enqueue of this value on the array.
+    AEnq(u64),
+    /// The call of a dequeue on the array.
+    ADeq,
+    /// The step of the row at which it stands.
+    Go,
+    /// The choice whether an enqueue starves and closes the ring.
+    Starve(bool),
+}
+
+/// What a call answers when it is over.
+#[derive(Clone, Copy, Debug, PartialEq, Eq)]
+pub enum OpReply {
+    /// The value was enqueued.
+    Enqueued,
+    /// This value was dequeued.
+    Value(u64),
+    /// There was nothing to dequeue.
+    Empty,
+}
+
+/// The words of one actor. The small ones stand together, so that the record is short: every step copies it, and every entry
+/// of a journal keeps one.
+#[derive(Clone, Copy, Debug, PartialEq, Eq)]
+pub struct Actor {
+    /// The control point where it stands.
+    pub pc: Pc,
+    /// The pass of a dequeue over its segment: 0 before the first, then 1 or 2.
+    pub pass: u8,
+    /// The closed bit that its repair read.
+    pub closed: bool,
+    /// The safe bit that it read from a cell.
+    pub safe: bool,
+    /// The segment on which it works.
+    pub crq: SegName,
+    /// The segment that it made last in this call.
+    pub new: SegName,
+    /// The next segment that it read last.
+    pub next: SegName,
+    /// The call that it is in, if any.
+    pub op: Option<Op>,
+    /// The tail position that it read or drew last, at most 2^62.
+    pub t: u64,
+    /// The head position that it read or drew last, at most 2^62.
+    pub h: u64,
+    /// The value that it read from a cell.
+    pub val: Option<u64>,
+    /// The index that it read from a cell, at most 2^62 plus the ring's size.
+    pub idx: u64,
+}
+
+impl Actor {
+    /// The record of an actor in no call: all names the root, all numbers 0, all bits 0, no value.
+    pub fn idle() -> Actor
+        ensures { result ≡ idle }
+    {
+        Actor {
+            pc: Pc::Idle,
+            pass: 0,
+            closed: false,
+            safe: false,
+            crq: SegName::ROOT,
+            new: SegName::ROOT,
+            next: SegName::ROOT,
+            op: None,
+            t: 0,
+            h: 0,
+            val: None,
+            idx: 0,
+        }
+    }
+
+    /// The record of an actor that stands at the fetch-and-add of an enqueue of this value, on the root.
+    pub fn poised(value: u64) -> Actor
+        ensures { result ≡ poised value }
+    {
+        Actor {
+            pc: Pc::E4,
+            op: Some(Op::Enq(value)),
+            ..Actor::idle()
+        }
+    }
+
+    /// The record of an actor that begins this call at this control point.
+    pub fn calling(pc: Pc, op: Op) -> Actor
+        ensures { result ≡ calling pc op }
+    {
+        Actor {
+            pc,
+            op: Some(op),
+            ..Actor::idle()
+        }
+    }
+}

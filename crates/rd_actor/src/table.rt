@@ -1,0 +1,521 @@
+//! The table of control points: what an actor asks for at each, and how it goes on.
+//!
+//! A row a control point, in the table's order. `need` has the column of accesses, `after` those of the words set and
+//! of the next control point. The helpers below have the rows that choose between control points.
+
+ghost use Rattle.std.specs.Prelude.{◌≡◌, ◌+◌, ◌%◌, ◌^◌, ◌<◌, ◌≤◌, true, false, Some, None};
+ghost use Rattle.rd_cell.specs.declared.limits.TheConstants.{MOST_CELLS};
+ghost use Rattle.rd_cell.specs.declared.places.Place.TheVariants.{Cell as CellAt, ArrCell};
+ghost use Rattle.rd_cell.specs.declared.operations.Operation.TheVariants.{CasName, CasTail, Cas2, Swap};
+ghost use Rattle.rd_cell.specs.declared.contents.ArrSlot.TheVariants.{Value as Held};
+ghost use Rattle.rd_actor.specs.Table.{value_of, cell_of, need, need_at, IsRepresentable, IsRepresentableAt, after, after_at, with_pc, pc_after_empty_pass, after_take, after_swap_in, after_swap_out, after_array_empty_check, after_tail_add, after_enqueue_reads_index, after_dequeue_reads_index, after_unsafe_check, after_full_check, after_empty_check, after_repair_check};
+
+use super::actors::{Act, Actor, Op, OpReply, Pc};
+use rd_cell::{Access, Answer, ArrSlot, Cell, Content, Operation, Place, Refusal, SegName};
+
+/// The one access that the actor's next step makes, over rings of `R` cells. The actors of a world name only indexes
+/// and slots that fit their words; for others two rows do not (`IsRepresentable`).
+///
+/// # Errors
+///
+/// In this order: `NotIdle` for a call by an actor that is in one; `Idle` for a step or a choice by an actor that is
+/// in no call; `NeedsChoice` for a step if a choice is due; `NoChoice` for a choice if none is.
+pub fn need<const R: usize>(actor: &Actor, act: Act) -> Result<Access, Refusal>
+    requires positive { 1 ≤ R }
+    requires small { R ≤ MOST_CELLS }
+    ensures { IsRepresentable R actor.now act → result ≡ need R actor.now act }
+{
+    match (act, actor.pc) {
+        (Act::Enq(_) | Act::Deq | Act::AEnq(_) | Act::ADeq, Pc::Idle) => Ok(Access::NoPlace),
+        (Act::Enq(_) | Act::Deq | Act::AEnq(_) | Act::ADeq, _) => Err(Refusal::NotIdle),
+        (Act::Go | Act::Starve(_), Pc::Idle) => Err(Refusal::Idle),
+        (Act::Go, Pc::E10) => Err(Refusal::NeedsChoice),
+        (Act::Starve(_), Pc::E10) => Ok(Access::NoPlace),
+        (Act::Starve(_), _) => Err(Refusal::NoChoice),
+        (Act::Go, _) => need_at::<R>(actor),
+    }
+}
+
+/// What an actor asks for at its control point.
+fn need_at<const R: usize>(actor: &Actor) -> Result<Access, Refusal>
+    requires positive { 1 ≤ R }
+    requires small { R ≤ MOST_CELLS }
+    ensures { IsRepresentableAt R actor.now.pc actor.now → result ≡ need_at R actor.now.pc actor.now }
+{
+    let crq = actor.crq;
+    match actor.pc {
+        Pc::E1 => Ok(Access::At(Place::QTail, Operation::Read)),
+        Pc::E2 | Pc::Q13 => Ok(Access::At(Place::Next(crq), Operation::Read)),
+        Pc::E3 => Ok(Access::At(Place::QTail, cas_name(actor, actor.next))),
+        Pc::E4 => Ok(Access::At(Place::Tail(crq), Operation::Add)),
+        Pc::E5 => Ok(Access::At(cell_at::<R>(actor, actor.t), Operation::ReadValue)),
+        Pc::E6 => Ok(Access::At(cell_at::<R>(actor, actor.t), Operation::ReadSafeAndIndex)),
+        Pc::E7 | Pc::E9 | Pc::Q10 => Ok(Access::At(Place::Head(crq), Operation::Read)),
+        Pc::E8 => Ok(Access::At(cell_at::<R>(actor, actor.t), put_value(actor))),
+        Pc::E10 => Err(Refusal::NeedsChoice),
+        Pc::E11 => Ok(Access::At(Place::Tail(crq), Operation::Close)),
+        Pc::E12 => Ok(Access::Make(value_of(actor.op))),
+        Pc::E13 => Ok(Access::At(Place::Next(crq), Operation::CasNext(actor.new))),
+        Pc::E14 => Ok(Access::At(Place::QTail, cas_name(actor, actor.new))),
+        Pc::Q1 => Ok(Access::At(Place::QHead, Operation::Read)),
+        Pc::Q2 => Ok(Access::At(Place::Head(crq), Operation::Add)),
+        Pc::Q3 => Ok(Access::At(cell_at::<R>(actor, actor.h), Operation::ReadValue)),
+        Pc::Q4 => Ok(Access::At(cell_at::<R>(actor, actor.h), Operation::ReadSafeAndIndex)),
+        Pc::Q5 => Ok(Access::At(cell_at::<R>(actor, actor.h), move_on::<R>(actor, actor.val))),
+        Pc::Q6 => Ok(Access::At(cell_at::<R>(actor, actor.h), mark_unsafe(actor))),
+        Pc::Q7 => Ok(Access::At(cell_at::<R>(actor, actor.h), move_on::<R>(actor, None))),
+        Pc::Q8 | Pc::Q9 | Pc::Q11 => Ok(Access::At(Place::Tail(crq), Operation::Read)),
+        Pc::Q12 => Ok(Access::At(Place::Tail(crq), move_tail(actor))),
+        Pc::Q14 => Ok(Access::At(Place::QHead, cas_name(actor, actor.next))),
+        Pc::A1 => Ok(Access::At(Place::ArrTail, Operation::AddArray)),
+        Pc::A2 => Ok(Access::At(slot_at(actor.t), swap_in(actor))),
+        Pc::B1 => Ok(Access::At(Place::ArrHead, Operation::AddArray)),
+        Pc::B2 => Ok(Access::At(slot_at(actor.h), Operation::Swap(ArrSlot::Top))),
+        Pc::B3 => Ok(Access::At(Place::ArrTail, Operation::Read)),
+        Pc::Idle => Err(Refusal::Idle),
+    }
+}
+
+/// The actor's record after a step, by what the access answered, and what the call replies if that ended it.
+pub fn after<const R: usize>(actor: &Actor, act: Act, answer: Answer) -> (Actor, Option<OpReply>)
+    requires { R ≤ MOST_CELLS }
+    ensures { result ≡ after R actor.now act answer }
+{
+    match act {
+        Act::Enq(value) => (Actor::calling(Pc::E1, Op::Enq(value)), None),
+        Act::Deq => (Actor::calling(Pc::Q1, Op::Deq), None),
+        Act::AEnq(value) => (Actor::calling(Pc::A1, Op::AEnq(value)), None),
+        Act::ADeq => (Actor::calling(Pc::B1, Op::ADeq), None),
+        Act::Go => after_at::<R>(actor, answer),
+        Act::Starve(starves) => (with_pc(actor, if starves { Pc::E11 } else { Pc::E4 }), None),
+    }
+}
+
+/// How an actor at its control point goes on. An answer that its row's access never gives leaves it as it is.
+fn after_at<const R: usize>(actor: &Actor, answer: Answer) -> (Actor, Option<OpReply>)
+    requires { R ≤ MOST_CELLS }
+    ensures { result ≡ after_at R actor.now.pc actor.now answer }
+{
+    let next = match (actor.pc, answer) {
+        (Pc::E1, Answer::Found(Content::Name(name))) => at_tail(actor, name),
+        (Pc::E2, Answer::Found(Content::Next(Some(name)))) => behind_tail(actor, name),
+        (Pc::E2, Answer::Found(Content::Next(None))) => with_pc(actor, Pc::E4),
+        (Pc::E3, _) => with_pc(actor, Pc::E1),
+        (Pc::E4, Answer::Found(Content::Tail { closed, count })) => after_tail_add(
+            actor, closed, count,
+        ),
+        (Pc::E5, Answer::Value(val)) => with_value(actor, val, Pc::E6),
+        (Pc::E6, Answer::SafeAndIndex { safe, idx }) => after_enqueue_reads_index(actor, safe, idx),
+        (Pc::E7, Answer::Found(Content::Number(head))) => after_unsafe_check(actor, head),
+        (Pc::E8, Answer::Won) => return (Actor::idle(), Some(OpReply::Enqueued)),
+        (Pc::E8, Answer::Lost) => with_pc(actor, Pc::E9),
+        (Pc::E9, Answer::Found(Content::Number(head))) => after_full_check::<R>(actor, head),
+        (Pc::E11, _) => with_pc(actor, Pc::E12),
+        (Pc::E12, Answer::Made(name)) => with_new(actor, name),
+        (Pc::E13, Answer::Won) => with_pc(actor, Pc::E14),
+        (Pc::E13, Answer::Lost) => with_pc(actor, Pc::E1),
+        (Pc::E14, _) => return (Actor::idle(), Some(OpReply::Enqueued)),
+        (Pc::Q1, Answer::Found(Content::Name(name))) => at_head(actor, name),
+        (Pc::Q2, Answer::Found(Content::Number(head))) => with_head(actor, head, Pc::Q3),
+        (Pc::Q3, Answer::Value(val)) => with_value(actor, val, Pc::Q4),
+        (Pc::Q4, Answer::SafeAndIndex { safe, idx }) => after_dequeue_reads_index(actor, safe, idx),
+        (Pc::Q5, Answer::Won) => return after_take(actor),
+        (Pc::Q5 | Pc::Q6 | Pc::Q7, Answer::Lost) => with_pc(actor, Pc::Q3),
+        (Pc::Q6 | Pc::Q7, Answer::Won) => with_pc(actor, Pc::Q8),
+        (Pc::Q8, Answer::Found(Content::Tail { count, .. })) => after_empty_check(actor, count),
+        (Pc::Q9, Answer::Found(Content::Tail { closed, count })) => with_repair_tail(
+            actor, closed, count,
+        ),
+        (Pc::Q10, Answer::Found(Content::Number(head))) => with_head(actor, head, Pc::Q11),
+        (Pc::Q11, Answer::Found(Content::Tail { closed, count })) => after_repair_check(
+            actor, closed, count,
+        ),
+        (Pc::Q12, Answer::Won) => with_pc(actor, pc_after_empty_pass(actor)),
+        (Pc::Q12, Answer::Lost) => with_pc(actor, Pc::Q9),
+        (Pc::Q13, Answer::Found(Content::Next(None))) => return (
+            Actor::idle(),
+            Some(OpReply::Empty),
+        ),
+        (Pc::Q13, Answer::Found(Content::Next(Some(name)))) => second_pass(actor, name),
+        (Pc::Q14, _) => with_pc(actor, Pc::Q1),
+        (Pc::A1, Answer::Found(Content::Number(tail))) => with_tail(actor, tail),
+        (Pc::A2, Answer::Found(Content::Slot(slot))) => return after_swap_in(actor, slot),
+        (Pc::B1, Answer::Found(Content::Number(head))) => with_head(actor, head, Pc::B2),
+        (Pc::B2, Answer::Found(Content::Slot(slot))) => return after_swap_out(actor, slot),
+        (Pc::B3, Answer::Found(Content::Number(tail))) => return after_array_empty_check(
+            actor, tail,
+        ),
+        (Pc::Idle | Pc::E10, _) => *actor,
+        _ => *actor,
+    };
+    (next, None)
+}
+
+/// The actor at this control point, its other words as they are.
+fn with_pc(actor: &Actor, pc: Pc) -> Actor
+    ensures { result ≡ with_pc pc actor.now }
+{
+    Actor { pc, ..*actor }
+}
+
+/// E1: the enqueue works on the segment at the tail.
+fn at_tail(actor: &Actor, name: SegName) -> Actor
+    ensures { result ≡ record actor.now { crq = name; pc = Pc.E2 } }
+{
+    Actor {
+        crq: name,
+        pc: Pc::E2,
+        ..*actor
+    }
+}
+
+/// E2: the tail is behind, and the enqueue helps it on to this segment.
+fn behind_tail(actor: &Actor, name: SegName) -> Actor
+    ensures { result ≡ record actor.now { next = name; pc = Pc.E3 } }
+{
+    Actor {
+        next: name,
+        pc: Pc::E3,
+        ..*actor
+    }
+}
+
+/// E4: the actor drew a position, and goes to its cell, or to make a segment if the ring is closed.
+fn after_tail_add(actor: &Actor, closed: bool, count: u64) -> Actor
+    ensures { result ≡ after_tail_add actor.now closed count }
+{
+    Actor {
+        t: count,
+        pc: if closed { Pc::E12 } else { Pc::E5 },
+        ..*actor
+    }
+}
+
+/// E5, Q3: the actor read a cell's value.
+fn with_value(actor: &Actor, val: Option<u64>, pc: Pc) -> Actor
+    ensures { result ≡ record actor.now { val = val; pc = pc } }
+{
+    Actor { val, pc, ..*actor }
+}
+
+/// E6: the enqueue tries the cell if it is empty and its index is not past the position; an unsafe cell only after a look
+/// at the head.
+fn after_enqueue_reads_index(actor: &Actor, safe: bool, idx: u64) -> Actor
+    ensures { result ≡ after_enqueue_reads_index actor.now safe idx }
+{
+    let pc = if actor.val.is_none() && idx <= actor.t {
+        if safe { Pc::E8 } else { Pc::E7 }
+    } else {
+        Pc::E9
+    };
+    Actor {
+        safe,
+        idx,
+        pc,
+        ..*actor
+    }
+}
+
+/// E7: the enqueue tries the unsafe cell if its position is not behind the head.
+fn after_unsafe_check(actor: &Actor, head: u64) -> Actor
+    ensures { result ≡ after_unsafe_check actor.now head }
+{
+    let pc = if head <= actor.t { Pc::E8 } else { Pc::E9 };
+    Actor { pc, ..*actor }
+}
+
+/// E9: the enqueue closes the ring if it is full, else it is to choose.
+fn after_full_check<const R: usize>(actor: &Actor, head: u64) -> Actor
+    requires { R ≤ MOST_CELLS }
+    ensures { result ≡ after_full_check R actor.now head }
+{
+    // This is `head + R <= t`, whose sum could overflow.
+    let full = head <= actor.t && R as u64 <= actor.t - head;
+    let pc = if full { Pc::E11 } else { Pc::E10 };
+    Actor {
+        h: head,
+        pc,
+        ..*actor
+    }
+}
+
+/// E12: the enqueue made this segment.
+fn with_new(actor: &Actor, name: SegName) -> Actor
+    ensures { result ≡ record actor.now { new = name; pc = Pc.E13 } }
+{
+    Actor {
+        new: name,
+        pc: Pc::E13,
+        ..*actor
+    }
+}
+
+/// Q1: the dequeue begins its first pass over the segment at the head.
+fn at_head(actor: &Actor, name: SegName) -> Actor
+    ensures { result ≡ record actor.now { crq = name; pass = 1; pc = Pc.Q2 } }
+{
+    Actor {
+        crq: name,
+        pass: 1,
+        pc: Pc::Q2,
+        ..*actor
+    }
+}
+
+/// Q2, Q10: the actor drew or read a head position.
+fn with_head(actor: &Actor, head: u64, pc: Pc) -> Actor
+    ensures { result ≡ record actor.now { h = head; pc = pc } }
+{
+    Actor {
+        h: head,
+        pc,
+        ..*actor
+    }
+}
+
+/// Q4: the dequeue takes the value of its position, marks the cell unsafe if the value is older, moves an empty cell on to
+/// the next round, and passes by a cell whose index is past its position.
+fn after_dequeue_reads_index(actor: &Actor, safe: bool, idx: u64) -> Actor
+    ensures { result ≡ after_dequeue_reads_index actor.now safe idx }
+{
+    let pc = if actor.h < idx {
+        Pc::Q8
+    } else if actor.val.is_none() {
+        Pc::Q7
+    } else if idx == actor.h {
+        Pc::Q5
+    } else {
+        Pc::Q6
+    };
+    Actor {
+        safe,
+        idx,
+        pc,
+        ..*actor
+    }
+}
+
+/// Q5: the dequeue took the value that it had read.
+fn after_take(actor: &Actor) -> (Actor, Option<OpReply>)
+    ensures { result ≡ after_take actor.now.val actor.now }
+{
+    match actor.val {
+        Some(value) => (Actor::idle(), Some(OpReply::Value(value))),
+        None => (*actor, None),
+    }
+}
+
+/// Q8: the dequeue goes to repair the tail if nothing is enqueued behind its position, else it draws the next one.
+fn after_empty_check(actor: &Actor, count: u64) -> Actor
+    ensures { result ≡ after_empty_check actor.now count }
+{
+    // This is `count <= h + 1`, whose sum could overflow.
+    let empty = count == 0 || count - 1 <= actor.h;
+    let pc = if empty { Pc::Q9 } else { Pc::Q2 };
+    Actor {
+        t: count,
+        pc,
+        ..*actor
+    }
+}
+
+/// Q9: the repair read the tail.
+fn with_repair_tail(actor: &Actor, closed: bool, count: u64) -> Actor
+    ensures { result ≡ record actor.now { closed = closed; t = count; pc = Pc.Q10 } }
+{
+    Actor {
+        closed,
+        t: count,
+        pc: Pc::Q10,
+        ..*actor
+    }
+}
+
+/// Q11: the repair starts over if the tail changed, ends if it is closed or not behind the head, and else tries to move
+/// it.
+fn after_repair_check(actor: &Actor, closed: bool, count: u64) -> Actor
+    ensures { result ≡ after_repair_check actor.now closed count }
+{
+    let pc = if closed == actor.closed && count == actor.t {
+        if actor.closed || actor.h <= actor.t {
+            pc_after_empty_pass(actor)
+        } else {
+            Pc::Q12
+        }
+    } else {
+        Pc::Q9
+    };
+    Actor { pc, ..*actor }
+}
+
+/// The control point after a pass that found its segment empty: the first pass reads the next segment, the second moves
+/// the queue's head.
+fn pc_after_empty_pass(actor: &Actor) -> Pc
+    ensures { result ≡ pc_after_empty_pass actor.now }
+{
+    if actor.pass == 1 { Pc::Q13 } else { Pc::Q14 }
+}
+
+/// Q13: a segment follows, and the dequeue passes over its own a second time.
+fn second_pass(actor: &Actor, name: SegName) -> Actor
+    ensures { result ≡ record actor.now { next = name; pass = 2; pc = Pc.Q2 } }
+{
+    Actor {
+        next: name,
+        pass: 2,
+        pc: Pc::Q2,
+        ..*actor
+    }
+}
+
+/// A1: the enqueue on the array drew a position.
+fn with_tail(actor: &Actor, tail: u64) -> Actor
+    ensures { result ≡ record actor.now { t = tail; pc = Pc.A2 } }
+{
+    Actor {
+        t: tail,
+        pc: Pc::A2,
+        ..*actor
+    }
+}
+
+/// A2: the enqueue on the array is over if nobody had come to its slot yet, else it draws the next position.
+fn after_swap_in(actor: &Actor, slot: ArrSlot) -> (Actor, Option<OpReply>)
+    ensures { result ≡ after_swap_in actor.now slot }
+{
+    match slot {
+        ArrSlot::Empty => (Actor::idle(), Some(OpReply::Enqueued)),
+        ArrSlot::Top | ArrSlot::Value(_) => (with_pc(actor, Pc::A1), None),
+    }
+}
+
+/// B2: the dequeue on the array replies the value that it found, else it looks at the tail.
+fn after_swap_out(actor: &Actor, slot: ArrSlot) -> (Actor, Option<OpReply>)
+    ensures { result ≡ after_swap_out actor.now slot }
+{
+    match slot {
+        ArrSlot::Value(value) => (Actor::idle(), Some(OpReply::Value(value))),
+        ArrSlot::Empty | ArrSlot::Top => (with_pc(actor, Pc::B3), None),
+    }
+}
+
+/// B3: the dequeue on the array is over if nothing is enqueued behind its position, else it draws the next one.
+fn after_array_empty_check(actor: &Actor, count: u64) -> (Actor, Option<OpReply>)
+    ensures { result ≡ after_array_empty_check actor.now count }
+{
+    // This is `count <= h + 1`, whose sum could overflow.
+    if count == 0 || count - 1 <= actor.h {
+        (Actor::idle(), Some(OpReply::Empty))
+    } else {
+        (with_pc(actor, Pc::B1), None)
+    }
+}
+
+/// The value that an enqueue is to put, on either queue.
+fn value_of(op: Option<Op>) -> u64
+    ensures { result ≡ value_of op }
+{
+    match op {
+        Some(Op::Enq(value) | Op::AEnq(value)) => value,
+        _ => 0,
+    }
+}
+
+/// The cell of this position on the actor's segment.
+fn cell_at<const R: usize>(actor: &Actor, position: u64) -> Place
+    requires positive { 1 ≤ R }
+    requires small { R ≤ MOST_CELLS }
+    ensures { result ≡ CellAt actor.now.crq (position % R) }
+{
+    Place::Cell(actor.crq, (position % R as u64) as u8)
+}
+
+/// The slot of the array at this position, which is 0 to 63 for the actors of a world.
+fn slot_at(position: u64) -> Place
+    ensures { position < 2 ^ 8 → result ≡ ArrCell position }
+{
+    Place::ArrCell(u8::try_from(position).unwrap_or(u8::MAX))
+}
+
+/// A2: the enqueue's value is put into the slot.
+fn swap_in(actor: &Actor) -> Operation
+    ensures { result ≡ Swap (Held (value_of actor.now.op)) }
+{
+    Operation::Swap(ArrSlot::Value(value_of(actor.op)))
+}
+
+/// A compare-and-swap of a name from the actor's segment.
+fn cas_name(actor: &Actor, new: SegName) -> Operation
+    ensures { result ≡ CasName actor.now.crq new }
+{
+    Operation::CasName {
+        old: actor.crq,
+        new,
+    }
+}
+
+/// E8: from the empty cell that was read to the value at the actor's position.
+fn put_value(actor: &Actor) -> Operation
+    ensures { result ≡ Cas2 (cell_of actor.now.safe actor.now.idx None) (cell_of true actor.now.t (Some (value_of actor.now.op))) }
+{
+    Operation::Cas2 {
+        old: Cell {
+            safe: actor.safe,
+            idx: actor.idx,
+            val: None,
+        },
+        new: Cell {
+            safe: true,
+            idx: actor.t,
+            val: Some(value_of(actor.op)),
+        },
+    }
+}
+
+/// Q5, Q7: from the cell that was read, with this value, to an empty one for the next round.
+fn move_on<const R: usize>(actor: &Actor, val: Option<u64>) -> Operation
+    requires { R ≤ MOST_CELLS }
+    ensures { actor.now.h + R < 2 ^ 64
+        → result ≡ Cas2 (cell_of actor.now.safe actor.now.idx val) (cell_of actor.now.safe (actor.now.h + R) None) }
+{
+    Operation::Cas2 {
+        old: Cell {
+            safe: actor.safe,
+            idx: actor.idx,
+            val,
+        },
+        new: Cell {
+            safe: actor.safe,
+            idx: actor.h.saturating_add(R as u64),
+            val: None,
+        },
+    }
+}
+
+/// Q6: from the cell that was read to the same, marked unsafe.
+fn mark_unsafe(actor: &Actor) -> Operation
+    ensures { result ≡ Cas2 (cell_of actor.now.safe actor.now.idx actor.now.val) (cell_of false actor.now.idx actor.now.val) }
+{
+    Operation::Cas2 {
+        old: Cell {
+            safe: actor.safe,
+            idx: actor.idx,
+            val: actor.val,
+        },
+        new: Cell {
+            safe: false,
+            idx: actor.idx,
+            val: actor.val,
+        },
+    }
+}
+
+/// Q12: the tail moves up to the head.
+fn move_tail(actor: &Actor) -> Operation
+    ensures { result ≡ CasTail actor.now.t actor.now.h }
+{
+    Operation::CasTail {
+        old: actor.t,
+        new: actor.h,
+    }
+}

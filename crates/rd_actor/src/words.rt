@@ -1,0 +1,96 @@
+//! Which words fit an actor's control point, one row a control point. Every step keeps an actor so, and no other actor
+//! comes into a world.
+
+ghost use Rattle.std.specs.Prelude.{◌≡◌};
+ghost use Rattle.rd_actor.specs.Words.{words_fit, is_idle, enqueues, dequeues, array_enqueues, array_dequeues, enqueue_fits, pass_fits};
+
+use super::actors::{Actor, Op, Pc};
+use rd_cell::SegName;
+use rd_cell::limits::SLOTS;
+
+impl Actor {
+    /// Whether the words fit the control point where the actor stands.
+    pub fn words_fit(&self) -> bool
+        ensures { result ≡ words_fit self.now }
+    {
+        match self.pc {
+            Pc::Idle => is_idle(self),
+            Pc::E1 | Pc::E2 | Pc::E3 | Pc::E4 | Pc::E5 | Pc::E6 => enqueue_fits(self),
+            Pc::E7 => enqueue_fits(self) && self.val.is_none() && !self.safe && self.idx <= self.t,
+            Pc::E8 => enqueue_fits(self) && self.val.is_none() && self.idx <= self.t,
+            Pc::E9 | Pc::E10 | Pc::E11 | Pc::E12 | Pc::E13 | Pc::E14 => enqueue_fits(self),
+            Pc::Q1 => dequeues(self.op) && self.pass <= 2,
+            Pc::Q2 | Pc::Q3 | Pc::Q4 => pass_fits(self),
+            Pc::Q5 => pass_fits(self) && self.val.is_some() && self.idx == self.h,
+            Pc::Q6 => pass_fits(self) && self.val.is_some() && self.idx < self.h,
+            Pc::Q7 => pass_fits(self) && self.val.is_none() && self.idx <= self.h,
+            Pc::Q8 | Pc::Q9 | Pc::Q10 | Pc::Q11 => pass_fits(self),
+            Pc::Q12 => pass_fits(self) && !self.closed && self.t < self.h,
+            Pc::Q13 => dequeues(self.op) && self.pass == 1,
+            Pc::Q14 => dequeues(self.op) && self.pass == 2,
+            Pc::A1 => array_enqueues(self.op) && self.pass == 0,
+            Pc::A2 => array_enqueues(self.op) && self.pass == 0 && self.t < SLOTS as u64,
+            Pc::B1 => array_dequeues(self.op) && self.pass == 0,
+            Pc::B2 | Pc::B3 => array_dequeues(self.op) && self.pass == 0 && self.h < SLOTS as u64,
+        }
+    }
+}
+
+/// Whether the words, the control point apart, are those of an actor in no call.
+fn is_idle(actor: &Actor) -> bool
+    ensures { result ≡ is_idle actor.now }
+{
+    actor.op.is_none()
+        && actor.crq == SegName::ROOT
+        && actor.new == SegName::ROOT
+        && actor.next == SegName::ROOT
+        && actor.t == 0
+        && actor.h == 0
+        && !actor.closed
+        && actor.val.is_none()
+        && !actor.safe
+        && actor.idx == 0
+        && actor.pass == 0
+}
+
+/// Whether this is an enqueue, which is in no pass.
+fn enqueue_fits(actor: &Actor) -> bool
+    ensures { result ≡ enqueue_fits actor.now }
+{
+    enqueues(actor.op) && actor.pass == 0
+}
+
+/// Whether this is a dequeue in its first or second pass over a segment.
+fn pass_fits(actor: &Actor) -> bool
+    ensures { result ≡ pass_fits actor.now }
+{
+    dequeues(actor.op) && (actor.pass == 1 || actor.pass == 2)
+}
+
+/// Whether the call is an enqueue.
+fn enqueues(op: Option<Op>) -> bool
+    ensures { result ≡ enqueues op }
+{
+    matches!(op, Some(Op::Enq(_)))
+}
+
+/// Whether the call is a dequeue.
+fn dequeues(op: Option<Op>) -> bool
+    ensures { result ≡ dequeues op }
+{
+    matches!(op, Some(Op::Deq))
+}
+
+/// Whether the call is an enqueue on the array.
+fn array_enqueues(op: Option<Op>) -> bool
+    ensures { result ≡ array_enqueues op }
+{
+    matches!(op, Some(Op::AEnq(_)))
+}
+
+/// Whether the call is a dequeue on the array.
+fn array_dequeues(op: Option<Op>) -> bool
+    ensures { result ≡ array_dequeues op }
+{
+    matches!(op, Some(Op::ADeq))
+}

@@ -1,0 +1,5 @@
+pub mod PlaceLemmas
+pub mod AccessLemmas
+pub mod ListLemmas
+pub mod CellLemmas
+pub mod EffectLemmas

@@ -1,0 +1,5 @@
+pub mod Places
+pub mod Cells
+pub mod Contents
+pub mod Operations
+pub mod Access

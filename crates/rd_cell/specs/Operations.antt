@@ -1,0 +1,81 @@
+-- What each operation does to one content.
+use Rattle.std.specs.Prelude.{ℕ, ◌+◌, Bool, true, false, not, ◌==◌, ◌&&◌, nat_lt, nat_le, if◌then◌else◌, Option, Some, None, Result, Ok, Err}
+use Rattle.rd_cell.specs.declared.limits.TheConstants.{COUNTER_END, SLOTS}
+use Rattle.rd_cell.specs.declared.places.Place.{Place}
+use Rattle.rd_cell.specs.declared.contents.Content.{Content}
+use Rattle.rd_cell.specs.declared.contents.Content.TheVariants.{Name, Number, Tail, Next, Cell, Slot}
+use Rattle.rd_cell.specs.declared.operations.Operation.{Operation}
+use Rattle.rd_cell.specs.declared.operations.Operation.TheVariants.{Read, ReadValue, ReadSafeAndIndex, Add, AddArray, Close, CasName, CasNext, CasTail, Cas2, Swap}
+use Rattle.rd_cell.specs.declared.operations.Answer.{Answer}
+use Rattle.rd_cell.specs.declared.operations.Answer.TheVariants.{Found, Value, SafeAndIndex, WasClosed, Won, Lost}
+use Rattle.rd_cell.specs.declared.refusal.Refusal.{Refusal}
+use Rattle.rd_cell.specs.declared.refusal.Refusal.TheVariants.{CounterEnd, ArrayEnd, NoSuchPlace}
+use Rattle.rd_cell.specs.Places.{is_name, is_array}
+use Rattle.rd_cell.specs.Cells.{is_cell}
+
+-- what an operation does to one content: what it answers, and the content that it writes, or none if it only reads
+pub record Effect : Type 0 where
+  pub answer : Answer
+  pub writes : Option Content
+
+-- an operation that answers this and writes nothing
+abbrev pub reads : Answer → Result Effect Refusal
+reads answer = Ok (record { answer = answer; writes = None })
+
+-- an operation that answers this and writes this content
+abbrev pub writes : Answer → Content → Result Effect Refusal
+writes answer c = Ok (record { answer = answer; writes = Some c })
+
+-- a compare-and-swap: if the test holds it wins and writes this content, else it loses and writes nothing
+abbrev pub swaps : Bool → Content → Result Effect Refusal
+swaps true c = writes Won c
+swaps false c = reads Lost
+
+-- a fetch-and-add on a counter at n, which ends at the limit
+abbrev pub adds : ℕ → ℕ → Refusal → Content → Content → Result Effect Refusal
+adds limit n refusal old new = if nat_lt n limit then writes (Found old) new else Err refusal
+
+-- the effect of an operation on a content; no well-formed world asks for one on a content of another kind
+abbrev pub effect : Operation → Content → Result Effect Refusal
+effect Read (Name s) = reads (Found (Name s))
+effect Read (Number n) = reads (Found (Number n))
+effect Read (Tail c n) = reads (Found (Tail c n))
+effect Read (Next m) = reads (Found (Next m))
+effect ReadValue (Cell c) = reads (Value c.val)
+effect ReadSafeAndIndex (Cell c) = reads (SafeAndIndex c.safe c.idx)
+effect Add (Number n) = adds COUNTER_END n CounterEnd (Number n) (Number (n + 1))
+effect Add (Tail c n) = adds COUNTER_END n CounterEnd (Tail c n) (Tail c (n + 1))
+effect AddArray (Number n) = adds SLOTS n ArrayEnd (Number n) (Number (n + 1))
+effect Close (Tail c n) = writes (WasClosed c) (Tail true n)
+effect (CasName old new) (Name s) = swaps (is_name s old) (Name new)
+effect (CasNext new) (Next None) = swaps true (Next (Some new))
+effect (CasNext new) (Next (Some m)) = swaps false (Next (Some new))
+effect (CasTail old new) (Tail c n) = swaps (not c && (n == old)) (Tail false new)
+effect (Cas2 old new) (Cell c) = swaps (is_cell c old) (Cell new)
+effect (Swap new) (Slot old) = writes (Found (Slot old)) (Slot new)
+effect _ _ = Err NoSuchPlace
+
+-- what a read answers on a content of its kind
+abbrev pub read_answer : Operation → Content → Option Answer
+read_answer Read (Name s) = Some (Found (Name s))
+read_answer Read (Number n) = Some (Found (Number n))
+read_answer Read (Tail c n) = Some (Found (Tail c n))
+read_answer Read (Next m) = Some (Found (Next m))
+read_answer ReadValue (Cell c) = Some (Value c.val)
+read_answer ReadSafeAndIndex (Cell c) = Some (SafeAndIndex c.safe c.idx)
+read_answer _ _ = None
+
+-- whether an operation is one for the places of a segment, and puts no counter past its end
+abbrev pub suits_segments : Operation → Bool
+suits_segments AddArray = false
+suits_segments (CasTail old new) = nat_le new COUNTER_END
+suits_segments _ = true
+
+-- whether an operation is one for the places of the array, whose counters end before a segment's
+abbrev pub suits_array : Operation → Bool
+suits_array Add = false
+suits_array _ = true
+
+-- whether an operation is one for this place, and puts no counter past its end
+abbrev pub suits : Place → Operation → Bool
+suits p op = if is_array p then suits_array op else suits_segments op

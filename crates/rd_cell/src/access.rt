@@ -1,0 +1,54 @@
+//! The one access of a step, and what the entry of the step records of it.
+
+ghost use Rattle.std.specs.Prelude.{◌≡◌, Some, if◌then◌else◌};
+ghost use Rattle.rd_cell.specs.declared.operations.Answer.TheVariants.{Won, Lost};
+
+use super::contents::Content;
+use super::operations::{Answer, Operation};
+use super::places::{Place, SegName};
+
+/// The one access of a step.
+#[derive(Clone, Copy, Debug, PartialEq, Eq)]
+pub enum Access {
+    /// None: a call or a choice.
+    NoPlace,
+    /// An operation on the content of one place.
+    At(Place, Operation),
+    /// The making of the actor's next segment, which holds this value.
+    Make(u64),
+}
+
+/// What an access did, as an entry of the journal records it.
+#[derive(Clone, Copy, Debug, PartialEq, Eq)]
+pub struct Done {
+    /// The place, or none if there was no access.
+    pub place: Option<Place>,
+    /// The whole content of the place before; none for a making, or if there is no place.
+    pub old: Option<Content>,
+    /// What the access answered.
+    pub answer: Answer,
+    /// Whether it wrote: each making and operation does, but for reads and compare-and-swaps that lost.
+    pub wrote: bool,
+}
+
+impl Done {
+    /// An operation that found this content, answered this, and wrote or not.
+    pub fn at(place: Place, found: Content, answer: Answer, wrote: bool) -> Done
+        ensures { result ≡ record { place = Some place; old = Some found; answer = answer; wrote = wrote } }
+    {
+        Done {
+            place: Some(place),
+            old: Some(found),
+            answer,
+            wrote,
+        }
+    }
+
+    /// A compare-and-swap that found this content, and won or lost.
+    pub fn swapped(place: Place, found: Content, won: bool) -> Done
+        ensures { result ≡ record { place = Some place; old = Some found; answer = if won then Won else Lost; wrote = won } }
+    {
+        let answer = if won { Answer::Won } else { Answer::Lost };
+        Done::at(place, found, answer, won)
+    }
+}

@@ -1,0 +1,32 @@
+//! One cell of a ring, and its double-word compare-and-swap.
+
+ghost use Rattle.std.specs.Prelude.{◌≡◌, ◌↔◌, IsTrue};
+ghost use Rattle.std.specs.Bool.{OnTrue, OnFalse};
+
+/// One cell of a ring (Morrison and Afek 2013). "No value" is the absent option.
+#[derive(Clone, Copy, Debug, PartialEq, Eq)]
+pub struct Cell {
+    /// Whether an enqueue may use the cell without looking at the ring's head.
+    pub safe: bool,
+    /// The position in the queue that the cell stands for, at most 2^62 plus the ring's size.
+    pub idx: u64,
+    /// The value that waits here, or none.
+    pub val: Option<u64>,
+}
+
+impl Cell {
+    /// Compare-and-swap of the whole cell (CAS2): if the cell equals `old` it becomes `new` and the answer is true, even
+    /// if `old` and `new` are equal; else it stays as it is and the answer is false.
+    pub fn cas2(&mut self, old: Cell, new: Cell) -> bool
+        ensures won { IsTrue result ↔ (self.old ≡ old) }
+        ensures swapped { OnTrue result (self.new ≡ new) }
+        ensures unchanged { OnFalse result (self.new ≡ self.old) }
+    {
+        if *self == old {
+            *self = new;
+            true
+        } else {
+            false
+        }
+    }
+}

@@ -1,0 +1,41 @@
+//! What a place has in it.
+
+ghost use Rattle.std.specs.Prelude.{◌≡◌};
+
+use super::cells::Cell;
+use super::places::SegName;
+
+/// A slot of the array queue.
+#[derive(Clone, Copy, Debug, PartialEq, Eq)]
+pub enum ArrSlot {
+    /// Nobody has come here yet.
+    Empty,
+    /// A dequeue was here first.
+    Top,
+    /// An enqueued value.
+    Value(u64),
+}
+
+/// The content of one place. Each kind of place has contents of one kind.
+#[derive(Clone, Copy, Debug, PartialEq, Eq)]
+pub enum Content {
+    /// The queue's head or tail: the name of a segment.
+    Name(SegName),
+    /// A counter that stands alone: a segment's head, or one of the array's.
+    Number(u64),
+    /// A segment's tail: its closed bit and its counter.
+    Tail {
+        /// Whether the ring is closed for enqueues.
+        closed: bool,
+        /// The counter, at most 2^62.
+        count: u64,
+    },
+    /// The segment that follows, or none.
+    Next(Option<SegName>),
+    /// A cell of a ring.
+    Cell(Cell),
+    /// That a segment is there.
+    Whole,
+    /// A slot of the array.
+    Slot(ArrSlot),
+}

@@ -1,0 +1,20 @@
+//! The words of the machine: cells, segment names, places, contents, accesses, refusals and limits.
+//!
+//! Everything here is plain `Copy` data. The definitions in `specs/` say when two places overlap, what each operation
+//! does to one content, and what an access leaves at each place; the crates above execute just that.
+#![tactic(auto)]
+
+pub mod access;
+pub mod cells;
+pub mod contents;
+pub mod limits;
+pub mod operations;
+pub mod places;
+pub mod refusal;
+
+pub use access::{Access, Done};
+pub use cells::Cell;
+pub use contents::{ArrSlot, Content};
+pub use operations::{Answer, Operation};
+pub use places::{Place, SegName, is_of, overlaps};
+pub use refusal::Refusal;

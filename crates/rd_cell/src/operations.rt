@@ -1,0 +1,96 @@
+//! The operations that a step may do on one content, and what an access answers.
+
+ghost use Rattle.std.specs.Prelude.{◌≡◌};
+ghost use Rattle.rd_cell.specs.Operations.{read_answer};
+
+use super::cells::Cell;
+use super::contents::{ArrSlot, Content};
+use super::places::SegName;
+
+/// What is done to one content.
+#[derive(Clone, Copy, Debug, PartialEq, Eq)]
+pub enum Operation {
+    /// Reads a name, a number, a tail or a next.
+    Read,
+    /// Reads the value of a cell.
+    ReadValue,
+    /// Reads the safe bit and the index of a cell.
+    ReadSafeAndIndex,
+    /// Fetch-and-add of 1 on a segment's counter, which ends at 2^62.
+    Add,
+    /// Fetch-and-add of 1 on a counter of the array, which ends at 64.
+    AddArray,
+    /// Sets the closed bit of a tail (test-and-set).
+    Close,
+    /// Compare-and-swap of a name.
+    CasName {
+        /// The name that has to be there.
+        old: SegName,
+        /// The name that is put there.
+        new: SegName,
+    },
+    /// Compare-and-swap of a next, from none.
+    CasNext(SegName),
+    /// Compare-and-swap of a tail, from open at one count to open at another.
+    CasTail {
+        /// The count that has to be there.
+        old: u64,
+        /// The count that is put there.
+        new: u64,
+    },
+    /// Compare-and-swap of a whole cell.
+    Cas2 {
+        /// The cell that has to be there.
+        old: Cell,
+        /// The cell that is put there.
+        new: Cell,
+    },
+    /// Swap of a slot of the array.
+    Swap(ArrSlot),
+}
+
+/// What an access tells the actor.
+#[derive(Clone, Copy, Debug, PartialEq, Eq)]
+pub enum Answer {
+    /// Nothing: there was no access.
+    Nothing,
+    /// The content that a read, a fetch-and-add or a swap found: a name, a number, a tail, a next or a slot.
+    Found(Content),
+    /// The value of a cell.
+    Value(Option<u64>),
+    /// The safe bit and the index of a cell.
+    SafeAndIndex {
+        /// The safe bit.
+        safe: bool,
+        /// The index.
+        idx: u64,
+    },
+    /// That a test-and-set found the ring closed, or open.
+    WasClosed(bool),
+    /// That a compare-and-swap won.
+    Won,
+    /// That a compare-and-swap lost.
+    Lost,
+    /// The segment that was made.
+    Made(SegName),
+}
+
+impl Operation {
+    /// What a read answers on this content; none if the content is of another kind, or if this is no read.
+    pub fn read(self, content: Content) -> Option<Answer>
+        ensures { result ≡ read_answer self content }
+    {
+        match (self, content) {
+            (
+                Operation::Read,
+                Content::Name(_) | Content::Number(_) | Content::Tail { .. } | Content::Next(_),
+            ) => Some(Answer::Found(content)),
+            (Operation::ReadValue, Content::Cell(cell)) => Some(Answer::Value(cell.val)),
+            (Operation::ReadSafeAndIndex, Content::Cell(cell)) => Some(Answer::SafeAndIndex {
+                safe: cell.safe,
+                idx: cell.idx,
+            }),
+            _ => None,
+        }
+    }
+}

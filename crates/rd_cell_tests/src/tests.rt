@@ -1,0 +1,145 @@
+//! The tests of the words: expected values are those of the tables in docs/MODEL.md.
+
+use rd_cell::access::Done;
+use rd_cell::cells::Cell;
+use rd_cell::contents::{ArrSlot, Content};
+use rd_cell::operations::{Answer, Operation};
+use rd_cell::places::{Place, SegName, is_of, overlaps};
+
+/// The first segment that actor 1 makes.
+const FIRST: SegName = SegName { maker: 1, n: 0 };
+
+/// A place, the segment that has it, and whether it is one of the array's.
+const PLACES: &[(Place, Option<SegName>, bool)] = &[
+    (Place::QHead, None, false),
+    (Place::QTail, None, false),
+    (Place::Head(FIRST), Some(FIRST), false),
+    (Place::Tail(FIRST), Some(FIRST), false),
+    (Place::Next(FIRST), Some(FIRST), false),
+    (Place::Cell(FIRST, 3), Some(FIRST), false),
+    (Place::Whole(FIRST), None, false),
+    (Place::ArrHead, None, true),
+    (Place::ArrTail, None, true),
+    (Place::ArrCell(63), None, true),
+];
+
+#[test]
+fn places_overlap_if_equal_or_if_one_is_the_whole_segment_of_the_other(rt: HostRuntime) {
+    assert_eq!(rt; SegName::ROOT, SegName { maker: 0, n: 0 });
+    for &(place, segment, array) in PLACES {
+        assert_eq!(rt; place.segment(), segment, "{place:?}");
+        assert_eq!(rt; place.is_array(), array, "{place:?}");
+        let of_first = segment.is_some() || place == Place::Whole(FIRST);
+        assert_eq!(rt; is_of(FIRST, place), of_first, "{place:?}");
+        assert!(rt; !is_of(SegName::ROOT, place), "{place:?}");
+        for &(other, of, _) in PLACES {
+            let whole_of_other = place == Place::Whole(FIRST) && of.is_some();
+            let whole_of_this = other == Place::Whole(FIRST) && segment.is_some();
+            let meet = place == other || whole_of_other || whole_of_this;
+            assert_eq!(rt; overlaps(place, other), meet, "{place:?} and {other:?}");
+        }
+    }
+    assert!(rt; !overlaps(Place::Cell(FIRST, 3), Place::Cell(FIRST, 2)));
+    assert!(rt; !overlaps(Place::Whole(SegName::ROOT), Place::Head(FIRST)));
+}
+
+/// A cell with a value, as a content.
+const FULL: Content = Content::Cell(Cell {
+    safe: false,
+    idx: 4,
+    val: Some(7),
+});
+
+const OPEN_2: Content = Content::Tail {
+    closed: false,
+    count: 2,
+};
+
+/// An operation, a content, and what it reads there.
+const READS: &[(Operation, Content, Option<Answer>)] = &[
+    (
+        Operation::Read,
+        Content::Name(FIRST),
+        Some(Answer::Found(Content::Name(FIRST))),
+    ),
+    (
+        Operation::Read,
+        Content::Number(3),
+        Some(Answer::Found(Content::Number(3))),
+    ),
+    (Operation::Read, OPEN_2, Some(Answer::Found(OPEN_2))),
+    (
+        Operation::Read,
+        Content::Next(None),
+        Some(Answer::Found(Content::Next(None))),
+    ),
+    (Operation::Read, FULL, None),
+    (Operation::Read, Content::Slot(ArrSlot::Top), None),
+    (Operation::ReadValue, FULL, Some(Answer::Value(Some(7)))),
+    (
+        Operation::ReadSafeAndIndex,
+        FULL,
+        Some(Answer::SafeAndIndex {
+            safe: false,
+            idx: 4,
+        }),
+    ),
+    (Operation::ReadSafeAndIndex, Content::Number(3), None),
+    (Operation::Add, Content::Number(3), None),
+];
+
+#[test]
+fn a_read_answers_what_is_there(rt: HostRuntime) {
+    for &(operation, content, answer) in READS {
+        assert_eq!(rt;
+            operation.read(content),
+            answer,
+            "{operation:?} of {content:?}"
+        );
+    }
+}
+
+#[test]
+fn what_was_done_says_what_it_found(rt: HostRuntime) {
+    let place = Place::Tail(FIRST);
+    let added = Done {
+        place: Some(place),
+        old: Some(OPEN_2),
+        answer: Answer::Found(OPEN_2),
+        wrote: true,
+    };
+    assert_eq!(rt; Done::at(place, OPEN_2, Answer::Found(OPEN_2), true), added);
+    for (won, answer) in [(true, Answer::Won), (false, Answer::Lost)] {
+        let swapped = Done {
+            answer,
+            wrote: won,
+            ..added
+        };
+        assert_eq!(rt; Done::swapped(place, OPEN_2, won), swapped);
+    }
+}
+
+#[test]
+fn a_double_word_swap_wins_if_all_three_words_are_equal(rt: HostRuntime) {
+    let before = Cell {
+        safe: true,
+        idx: 4,
+        val: None,
+    };
+    let after = Cell {
+        safe: true,
+        idx: 4,
+        val: Some(7),
+    };
+    let unsafe_before = Cell {
+        safe: false,
+        ..before
+    };
+    let mut cell = before;
+    assert!(rt; !cell.cas2(unsafe_before, after));
+    assert_eq!(rt; cell, before);
+    assert!(rt; cell.cas2(before, before));
+    assert_eq!(rt; cell, before);
+    assert!(rt; cell.cas2(before, after));
+    assert_eq!(rt; cell, after);
+}

@@ -1,0 +1,90 @@
+-- What clap's errors are to the program, and that the program's command is one of which clap's clauses are exact.
+use Rattle.std.proofs.Common.{◌≡◌, ◌∙◌, inl, inr, refl, sym, subst, ap, true, ℕ, List, [], Option, Some, None}
+use Rattle.clap.specs.Simple.{App, HasMatchesOf, is_simple, subcommand_rows_of, with_subcommand}
+use Rattle.clap.specs.Kinds.{HasKind}
+use Rattle.clap.specs.Faults.{fault_of, is_simple_and_free}
+use Rattle.clap.specs.Values.{kind_of}
+use Rattle.clap.specs.Walk.{Row, Text}
+use Rattle.clap.specs.declared.error.Error.{Error}
+use Rattle.clap.specs.declared.error.kind.ErrorKind.{ErrorKind}
+use Rattle.clap.specs.declared.error.kind.ErrorKind.TheVariants as kind
+use Rattle.clap.specs.declared.parser.matches.ArgMatches.{ArgMatches}
+use Rattle.rd_command_line.specs.declared.requests.Options.{Options}
+use Rattle.rd_command_line.specs.declared.requests.Options.TheVariants.{Run, View, Load}
+use Rattle.rd_command_line.specs.Options.{AreInRange, HasFewFiles, fault_by, options_fault}
+use Rattle.rd_command_line.specs.CommandLine.{AreRings, BothNames, EndsFor, HasFault, Reads, Tells, TellsNothing, is_request, program_app}
+
+-- clap's clauses on matches are exact of the program's command
+pub program_is_simple : (names : BothNames) → is_simple (program_app names) ≡ true
+program_is_simple names = refl
+
+-- and so are those on faults
+pub program_is_free : (names : BothNames) → is_simple_and_free (program_app names) ≡ true
+program_is_free names = refl
+
+-- an error of a kind that clap has for the words, by the kind
+EndsFor-fault_by : (words : List Text) (k : ErrorKind) (e : Error) → kind_of e ≡ k → HasFault words k → EndsFor words (fault_by k e)
+EndsFor-fault_by words kind.InvalidValue e is fault = (ap is_request is, inl (subst (HasFault words) (sym is) fault))
+EndsFor-fault_by words kind.UnknownArgument e is fault = (ap is_request is, inl (subst (HasFault words) (sym is) fault))
+EndsFor-fault_by words kind.InvalidSubcommand e is fault = (ap is_request is, inl (subst (HasFault words) (sym is) fault))
+EndsFor-fault_by words kind.NoEquals e is fault = (ap is_request is, inl (subst (HasFault words) (sym is) fault))
+EndsFor-fault_by words kind.ValueValidation e is fault = (ap is_request is, inl (subst (HasFault words) (sym is) fault))
+EndsFor-fault_by words kind.TooManyValues e is fault = (ap is_request is, inl (subst (HasFault words) (sym is) fault))
+EndsFor-fault_by words kind.TooFewValues e is fault = (ap is_request is, inl (subst (HasFault words) (sym is) fault))
+EndsFor-fault_by words kind.WrongNumberOfValues e is fault = (ap is_request is, inl (subst (HasFault words) (sym is) fault))
+EndsFor-fault_by words kind.ArgumentConflict e is fault = (ap is_request is, inl (subst (HasFault words) (sym is) fault))
+EndsFor-fault_by words kind.MissingRequiredArgument e is fault = (ap is_request is, inl (subst (HasFault words) (sym is) fault))
+EndsFor-fault_by words kind.MissingSubcommand e is fault = (ap is_request is, inl (subst (HasFault words) (sym is) fault))
+EndsFor-fault_by words kind.DisplayHelp e is fault = (ap is_request is, subst (HasFault words) (sym is) fault)
+EndsFor-fault_by words kind.DisplayHelpOnMissingArgumentOrSubcommand e is fault = (ap is_request is, inl (subst (HasFault words) (sym is) fault))
+EndsFor-fault_by words kind.DisplayVersion e is fault = (ap is_request is, subst (HasFault words) (sym is) fault)
+EndsFor-fault_by words kind.Io e is fault = (ap is_request is, inl (subst (HasFault words) (sym is) fault))
+EndsFor-fault_by words kind.Format e is fault = (ap is_request is, inl (subst (HasFault words) (sym is) fault))
+EndsFor-fault_by words kind.OutOfMemory e is fault = tt
+
+-- the program's fault at an error of clap's: memory ran out, or the kind is one that clap has for the words
+pub EndsFor-options_fault : (words : List Text) (names : BothNames) (e : Error) → AreRings names → HasKind (fault_of (program_app names) words) e → EndsFor words (options_fault e)
+EndsFor-options_fault words names e rings (inl memory) = subst (λ k. EndsFor words (fault_by k e)) (sym memory) tt
+EndsFor-options_fault words names e rings (inr among) =
+    EndsFor-fault_by words (kind_of e) e refl (record { names = names; rings = rings; among = among })
+
+-- the same, of a command that is the program's
+pub EndsFor-error : (words : List Text) (app : App) (names : BothNames) (e : Error) → AreRings names → app ≡ program_app names
+    → (is_simple_and_free app ≡ true → HasKind (fault_of app words) e) → EndsFor words (options_fault e)
+EndsFor-error words app names e rings is kinds =
+    EndsFor-options_fault words names e rings (subst (λ a. is_simple_and_free a ≡ true → HasKind (fault_of a words) e) is kinds (program_is_free names))
+
+-- matches of the program's command that tell these options
+pub Reads-matches : (words : List Text) (app : App) (names : BothNames) (m : ArgMatches) (o : Options) → AreRings names → app ≡ program_app names
+    → (is_simple_and_free app ≡ true → fault_of app words ≡ []) → HasMatchesOf app words m → Tells (subcommand_rows_of m) o → Reads words o
+Reads-matches words app names m o rings is faultless matches tells = record {
+  names = names;
+  rings = rings;
+  faultless = subst (λ a. is_simple_and_free a ≡ true → fault_of a words ≡ []) is faultless (program_is_free names);
+  told = subst (λ met. Tells met o) (subst (λ a. HasMatchesOf a words m) is matches (program_is_simple names)).1 tells;
+}
+
+-- matches of the program's command that tell no options
+pub TellsNothing-matches : (words : List Text) (app : App) (names : BothNames) (m : ArgMatches) → AreRings names → app ≡ program_app names
+    → (is_simple_and_free app ≡ true → fault_of app words ≡ []) → HasMatchesOf app words m → ((o : Options) → Tells (subcommand_rows_of m) o → ⊥) → TellsNothing words
+TellsNothing-matches words app names m rings is faultless matches nothing = record {
+  names = names;
+  rings = rings;
+  faultless = subst (λ a. is_simple_and_free a ≡ true → fault_of a words ≡ []) is faultless (program_is_free names);
+  nothing = λ o tells. nothing o (subst (λ met. Tells met o) (sym (subst (λ a. HasMatchesOf a words m) is matches (program_is_simple names)).1) tells);
+}
+
+-- a command that got a subcommand, of commands that are known
+pub added : (all old sub old' sub' : App) → all ≡ with_subcommand old sub.top → old ≡ old' → sub ≡ sub' → all ≡ with_subcommand old' sub'.top
+added all old sub old' sub' is same known = is ∙ ap (λ a. with_subcommand a sub.top) same ∙ ap (λ a. with_subcommand old' a.top) known
+
+-- options that are told are in their ranges, if they don't name too many files
+pub told_in_range : (met : Option (Text × List Row)) (o : Options) → Tells met o → HasFewFiles o → AreInRange o
+told_in_range None o tells few = absurd tells
+told_in_range (Some met) (Run file actors ring trace) (inl run) few = (run.1.1.some, run.1.1.few)
+told_in_range (Some met) (Run file actors ring trace) (inr (inl view)) few = absurd view.1
+told_in_range (Some met) (Run file actors ring trace) (inr (inr load)) few = absurd load.1
+told_in_range (Some met) (View files actors ring) (inl run) few = absurd run.1
+told_in_range (Some met) (View files actors ring) (inr (inl view)) few = ((view.1.2.some, view.1.2.few), (view.1.1, few))
+told_in_range (Some met) (View files actors ring) (inr (inr load)) few = absurd load.1
+told_in_range (Some met) (Load file) tells few = tt

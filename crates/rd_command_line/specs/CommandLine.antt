@@ -1,0 +1,159 @@
+-- What clap is told of the program's command line, and which words give which options.
+use Rattle.std.specs.Prelude.{◌≡◌, ◌≤◌, ◌⊎◌, ℕ, ⊤, true, false, Bool, List, [], ◌∷◌, Option, None, Some, codes, length, map, pos}
+use Rattle.std.specs.Borrow.{Bor}
+use Rattle.std.specs.Str.Parse.{IsNumeral, digits_value, without_leading_plus}
+use Rattle.clap.specs.Lexer.{usize_max}
+use Rattle.clap.specs.Walk.{Row, Rule, Text, all_of, first_of, one_of}
+use Rattle.clap.specs.Simple.{App, new_app, new_rule, on_top, subcommand_of, with_rule, with_subcommand}
+use Rattle.clap.specs.Words.{IsAmong, fault_of, kind_of}
+use Rattle.clap.specs.declared.builder.action.ArgAction.TheVariants.{SetTrue}
+use Rattle.clap.specs.declared.builder.value_parser.ValueParser.TheVariants.{Signed, Names}
+use Rattle.clap.specs.declared.error.kind.ErrorKind.{ErrorKind}
+use Rattle.clap.specs.declared.error.kind.ErrorKind.TheVariants.{DisplayHelp, DisplayVersion}
+use Rattle.rd_command_line.specs.declared.requests.Options.{Options}
+use Rattle.rd_command_line.specs.declared.requests.Options.TheVariants.{Run, View, Load}
+use Rattle.rd_command_line.specs.declared.requests.OptionsFault.{OptionsFault}
+use Rattle.rd_command_line.specs.declared.requests.OptionsFault.TheVariants.{Shown, Refused, TooManyFiles, NoMemory}
+use Rattle.rd_trace.specs.declared.rings.Ring.{Ring}
+use Rattle.rd_command_line.specs.Options.{HasManyFiles, ring_text, flag_text}
+
+-- names of values, as clap is given them
+abbrev pub ValueNames : Type 0
+ValueNames = Bor (List (Bor Text))
+
+-- these are the numbers of cells that a ring may have
+abbrev pub IsRings : ValueNames → Type 0
+IsRings names = map (λ name. name.now) names.now ≡ codes "2" ∷ codes "4" ∷ codes "8" ∷ []
+
+-- the file, which has to be there
+abbrev pub file_rule : Rule
+file_rule = record (new_rule (codes "file")) { value_names = 1; required = true }
+
+-- the files of the viewers, of which there has to be one
+abbrev pub files_rule : Rule
+files_rule = record (new_rule (codes "files")) { range = Some (record { start_inclusive = 1; end_inclusive = usize_max }); value_names = 1; required = true }
+
+-- `--actors`, a number from 1 to 16, and 4 where it is left out
+abbrev pub actors_rule : Rule
+actors_rule = record (new_rule (codes "actors")) {
+  long = Some (codes "actors");
+  value_names = 1;
+  parser = Some (Signed (pos 1) (pos 16));
+  defaults = codes "4" ∷ [];
+}
+
+-- `--ring`, one of these names, and 4 where it is left out
+abbrev pub ring_rule : ValueNames → Rule
+ring_rule names = record (new_rule (codes "ring")) {
+  long = Some (codes "ring");
+  value_names = 1;
+  parser = Some (Names names);
+  defaults = codes "4" ∷ [];
+}
+
+-- `--trace`, which takes no value
+abbrev pub trace_rule : Rule
+trace_rule = record (new_rule (codes "trace")) { long = Some (codes "trace"); action = Some SetTrue }
+
+-- the subcommand `run` but for `--trace`: what is run, and over which world
+abbrev pub run_over_app : ValueNames → App
+run_over_app names = with_rule (with_rule (with_rule (new_app (codes "run")) file_rule) actors_rule) (ring_rule names)
+
+-- the subcommand `run`
+abbrev pub run_app : ValueNames → App
+run_app names = with_rule (run_over_app names) trace_rule
+
+-- the subcommand `view`
+abbrev pub view_app : ValueNames → App
+view_app names = with_rule (with_rule (with_rule (new_app (codes "view")) files_rule) actors_rule) (ring_rule names)
+
+-- the subcommand `load`
+abbrev pub load_app : App
+load_app = with_rule (new_app (codes "load")) file_rule
+
+-- the names of the rings, as clap is given them for `run` and for `view`
+abbrev pub BothNames : Type 0
+BothNames = ValueNames × ValueNames
+
+-- both are the numbers of cells that a ring may have
+abbrev pub AreRings : BothNames → Type 0
+AreRings names = IsRings names.0 × IsRings names.1
+
+-- the program's command: it has a version, and does nothing without a subcommand
+abbrev pub program_app : BothNames → App
+program_app names = with_subcommand
+    (with_subcommand
+    (with_subcommand
+    (on_top (λ s. record s { has_version = true; subcommand_required = true }) (new_app (codes "lcrqdb")))
+    (run_app names.0).top)
+    (view_app names.1).top)
+    load_app.top
+
+-- the number in decimal digits, which a plus may precede
+abbrev pub IsNumber : Text → ℕ → Type 0
+IsNumber text n = IsNumeral 10 (without_leading_plus text) × (digits_value 10 (without_leading_plus text) ≡ n)
+
+-- what was found for `--actors` and `--ring` tells this world
+pub record TellsWorld (rows : List Row) (actors : ℕ) (ring : Ring) : Type 0 where
+  pub counted : (text : Text) × (one_of (codes "actors") rows ≡ Some text) × IsNumber text actors
+  pub some : 1 ≤ actors
+  pub few : actors ≤ 16
+  pub spelled : first_of (codes "ring") rows ≡ Some (ring_text ring)
+
+-- what was found for the arguments of `run` tells these options
+abbrev pub TellsRun : List Row → Options → Type 0
+TellsRun rows (Run file actors ring trace) =
+    (first_of (codes "file") rows ≡ Some file.now) × TellsWorld rows actors ring × (first_of (codes "trace") rows ≡ Some (flag_text trace))
+TellsRun rows _ = ⊥
+
+-- what was found for the arguments of `view` tells these options
+abbrev pub TellsView : List Row → Options → Type 0
+TellsView rows (View files actors ring) =
+    (all_of (codes "files") rows ≡ Some (map (λ file. file.now) files.items)) × (1 ≤ length files.items) × TellsWorld rows actors ring
+TellsView rows _ = ⊥
+
+-- what was found for the argument of `load` tells these options
+abbrev pub TellsLoad : List Row → Options → Type 0
+TellsLoad rows (Load file) = first_of (codes "file") rows ≡ Some file.now
+TellsLoad rows _ = ⊥
+
+-- the subcommand that was found, with what was found for its arguments, tells these options
+abbrev pub Tells : Option (Text × List Row) → Options → Type 0
+Tells None options = ⊥
+Tells (Some met) options =
+    ((met.0 ≡ codes "run") × TellsRun met.1 options)
+    ⊎ (((met.0 ≡ codes "view") × TellsView met.1 options)
+    ⊎ ((met.0 ≡ codes "load") × TellsLoad met.1 options))
+
+-- the words give these options: clap finds no fault in them, and what it finds tells the options
+pub record Reads (words : List Text) (options : Options) : Type 0 where
+  pub names : BothNames
+  pub rings : AreRings names
+  pub faultless : fault_of (program_app names) words ≡ []
+  pub told : Tells (subcommand_of (program_app names) words) options
+
+-- help or the version was asked for
+abbrev pub is_request : ErrorKind → Bool
+is_request DisplayHelp = true
+is_request DisplayVersion = true
+is_request _ = false
+
+-- clap names a fault of this kind in the words
+pub record HasFault (words : List Text) (kind : ErrorKind) : Type 0 where
+  pub names : BothNames
+  pub rings : AreRings names
+  pub among : IsAmong kind (fault_of (program_app names) words)
+
+-- clap finds no fault in the words, but what it finds tells no options
+pub record TellsNothing (words : List Text) : Type 0 where
+  pub names : BothNames
+  pub rings : AreRings names
+  pub faultless : fault_of (program_app names) words ≡ []
+  pub nothing : (options : Options) → Tells (subcommand_of (program_app names) words) options → ⊥
+
+-- why these words give no options
+abbrev pub EndsFor : List Text → OptionsFault → Type 0
+EndsFor words NoMemory = ⊤
+EndsFor words TooManyFiles = (options : Options) × Reads words options × HasManyFiles options
+EndsFor words (Shown error) = (is_request (kind_of error) ≡ true) × HasFault words (kind_of error)
+EndsFor words (Refused error) = (is_request (kind_of error) ≡ false) × (HasFault words (kind_of error) ⊎ TellsNothing words)

@@ -1,0 +1,63 @@
+-- What the command line may ask for.
+use Rattle.std.specs.Prelude.{◌≡◌, ◌≤◌, ◌<◌, ℕ, ⊤, Bool, true, false, List, codes, length}
+use Rattle.clap.specs.Words.{kind_of}
+use Rattle.clap.specs.declared.error.Error.{Error}
+use Rattle.clap.specs.declared.error.kind.ErrorKind.{ErrorKind}
+use Rattle.clap.specs.declared.error.kind.ErrorKind.TheVariants.{DisplayHelp, DisplayVersion, OutOfMemory}
+use Rattle.rd_trace.specs.declared.rings.Ring.{Ring}
+use Rattle.rd_trace.specs.declared.rings.Ring.TheVariants.{Two, Four, Eight}
+use Rattle.rd_command_line.specs.declared.requests.Options.{Options}
+use Rattle.rd_command_line.specs.declared.requests.Options.TheVariants.{Run, View, Load}
+use Rattle.rd_command_line.specs.declared.requests.OptionsFault.{OptionsFault}
+use Rattle.rd_command_line.specs.declared.requests.OptionsFault.TheVariants.{Shown, Refused, TooManyFiles, NoMemory}
+
+-- how the command line spells a ring
+abbrev pub ring_text : Ring → List ℕ
+ring_text Two = codes "2"
+ring_text Four = codes "4"
+ring_text Eight = codes "8"
+
+-- the text that clap keeps of a flag
+abbrev pub flag_text : Bool → List ℕ
+flag_text true = codes "true"
+flag_text false = codes "false"
+
+-- how many viewers there may be
+abbrev pub MOST_FILES : ℕ
+MOST_FILES = 64
+
+-- the number of actors that is asked for is one that a world may have, and that of the files one that there may be viewers
+abbrev pub AreInRange : Options → Type 0
+AreInRange (Run file actors ring trace) = (1 ≤ actors) × (actors ≤ 16)
+AreInRange (View files actors ring) = ((1 ≤ actors) × (actors ≤ 16)) × ((1 ≤ length files.items) × (length files.items ≤ MOST_FILES))
+AreInRange (Load file) = ⊤
+
+-- more files are named than there may be viewers
+abbrev pub HasManyFiles : Options → Type 0
+HasManyFiles (Run file actors ring trace) = ⊥
+HasManyFiles (View files actors ring) = MOST_FILES < length files.items
+HasManyFiles (Load file) = ⊥
+
+-- and not more
+abbrev pub HasFewFiles : Options → Type 0
+HasFewFiles (Run file actors ring trace) = ⊤
+HasFewFiles (View files actors ring) = length files.items ≤ MOST_FILES
+HasFewFiles (Load file) = ⊤
+
+-- the fault of a command line at which clap fails by an error of this kind
+abbrev pub fault_by : ErrorKind → Error → OptionsFault
+fault_by DisplayHelp error = Shown error
+fault_by DisplayVersion error = Shown error
+fault_by OutOfMemory error = NoMemory
+fault_by _ error = Refused error
+
+-- the fault of a command line at which clap fails by this error
+abbrev pub options_fault : Error → OptionsFault
+options_fault error = fault_by (kind_of error) error
+
+-- the command line is refused by a mistake of this kind, or for want of memory
+abbrev pub IsMistake : ErrorKind → OptionsFault → Type 0
+IsMistake kind (Refused error) = kind_of error ≡ kind
+IsMistake kind (Shown error) = ⊥
+IsMistake kind TooManyFiles = ⊥
+IsMistake kind NoMemory = ⊤

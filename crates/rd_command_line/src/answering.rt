@@ -1,0 +1,277 @@
+//! What the program does for the words of a command line: which files it opens, which streams it uses, and how it ends.
+
+ghost use Rattle.std.specs.Prelude.{◌≡◌, ◌≤◌, IfOk, IfErr, length, map, vec_len, true, false};
+ghost use Rattle.std.specs.Process.{exit_status};
+ghost use Rattle.rd_trace.specs.Traces.{ring_length};
+ghost use Rattle.rd_trace.specs.Devices.{devices};
+ghost use Rattle.rd_program.specs.declared.faults.ProgramFault.TheVariants.{Read};
+ghost use Rattle.rd_program.specs.Endings.{asks_for_output};
+ghost use Rattle.rd_program.specs.Program.{IsUnread};
+ghost use Rattle.rd_program.specs.Viewers.{by_ring};
+ghost use Rattle.rd_command_line.specs.Options.{AreInRange, MOST_FILES};
+ghost use Rattle.rd_command_line.specs.Answering.{Answers, DoesOptions, HasOutcome, IsFaultOf, LoadsFile, Performs, PlaysFile, PlaysNamed, ViewsFiles};
+
+use super::command_line::{not_text, options};
+use super::requests::{Options, OptionsFault};
+use rd_desk::BookWithHistory;
+use rd_lock::Recorded;
+use rd_program::{ProgramFault, end, play, resume, view, whole_text};
+use rd_script::{ReadSource, Sink, Source};
+use rd_trace::Ring;
+use std::alloc::{Alloc, Global};
+use std::convert::AsStr;
+use std::env::{self, Env};
+use std::fs::{self, Files};
+use std::io::ErrorKind;
+use std::process::ExitCode;
+use std::sync::Wait;
+use std::thread::Threads;
+
+/// Does what the words of a command line ask for over the files and the three streams, writes the messages of the end, and
+/// answers its status. For words that could not be taken there is the fault.
+pub fn perform<R: Files + Threads + Wait + Sync, S: AsStr + Drop, I: Source, O: Sink, E: Sink>(
+    rt: &R,
+    alloc: Global,
+    words: Result<Vec<S>, ProgramFault>,
+    input: &mut I,
+    output: &mut O,
+    errors: &mut E,
+) -> ExitCode
+    requires input_works { I.has_failed input.old ≡ false }
+    requires output_works { O.has_failed output.old ≡ false }
+    requires errors_work { E.has_failed errors.old ≡ false }
+    ensures performs { Performs (by_ring ⟦<BookWithHistory<2> as Recorded>⟧ ⟦<BookWithHistory<4> as Recorded>⟧ ⟦<BookWithHistory<8> as Recorded>⟧)
+        S.text words (exit_status result)
+        (devices I.Source O.Sink input.old input.new output.old output.new)
+        (E.contents errors.old) (E.contents errors.new) (E.has_failed errors.new) }
+{
+    let outcome = outcome_of(rt, alloc, words, input, output);
+    end(&outcome, output, errors)
+}
+
+/// Does what the words ask for.
+fn outcome_of<R: Files + Threads + Wait + Sync, S: AsStr + Drop, I: Source, O: Sink>(
+    rt: &R,
+    alloc: Global,
+    words: Result<Vec<S>, ProgramFault>,
+    input: &mut I,
+    output: &mut O,
+) -> Result<u64, ProgramFault>
+    requires input_works { I.has_failed input.old ≡ false }
+    requires output_works { O.has_failed output.old ≡ false }
+    ensures answers { HasOutcome (by_ring ⟦<BookWithHistory<2> as Recorded>⟧ ⟦<BookWithHistory<4> as Recorded>⟧ ⟦<BookWithHistory<8> as Recorded>⟧)
+        S.text words
+        (devices I.Source O.Sink input.old input.new output.old output.new) result }
+    ensures shown { asks_for_output result ≡ true → O.has_failed output.new ≡ false }
+{
+    match words {
+        Ok(words) => answer(rt, alloc, words.as_slice(), input, output),
+        Err(fault) => Err(fault),
+    }
+}
+
+/// Does what the words of a command line ask for, of which the first is the program's name. Answers the number of the lines
+/// of the script.
+///
+/// # Errors
+///
+/// `Shown` and `Refused` if the words give no options; `Read` if a file can't be opened; and as `play`, `resume` and `whole_text`.
+pub fn answer<R: Files + Threads + Wait + Sync, S: AsStr, I: Source, O: Sink>(
+    rt: &R,
+    alloc: Global,
+    words: &[S],
+    input: &mut I,
+    output: &mut O,
+) -> Result<u64, ProgramFault>
+    requires input_works { I.has_failed input.old ≡ false }
+    requires output_works { O.has_failed output.old ≡ false }
+    ensures answers { Answers (by_ring ⟦<BookWithHistory<2> as Recorded>⟧ ⟦<BookWithHistory<4> as Recorded>⟧ ⟦<BookWithHistory<8> as Recorded>⟧)
+        (map S.text words.now)
+        (devices I.Source O.Sink input.old input.new output.old output.new) result }
+    ensures shown { asks_for_output result ≡ true → O.has_failed output.new ≡ false }
+{
+    match options(alloc, words) {
+        Ok(asked) => do_options(rt, alloc, asked, input, output),
+        Err(fault) => Err(fault_of(alloc, fault)),
+    }
+}
+
+/// Does what the options ask for.
+fn do_options<R: Files + Threads + Wait + Sync, I: Source, O: Sink>(
+    rt: &R,
+    alloc: Global,
+    asked: Options<'_>,
+    input: &mut I,
+    output: &mut O,
+) -> Result<u64, ProgramFault>
+    requires input_works { I.has_failed input.old ≡ false }
+    requires output_works { O.has_failed output.old ≡ false }
+    requires actors { AreInRange asked }
+    ensures { DoesOptions (by_ring ⟦<BookWithHistory<2> as Recorded>⟧ ⟦<BookWithHistory<4> as Recorded>⟧ ⟦<BookWithHistory<8> as Recorded>⟧)
+        asked.entry (devices I.Source O.Sink input.old input.new output.old output.new) result }
+{
+    match asked {
+        Options::Run {
+            file,
+            actors,
+            ring,
+            trace,
+        } => play_named(rt, alloc, file, input, output, actors, ring, trace),
+        Options::View {
+            files,
+            actors,
+            ring,
+        } => view_files(rt, alloc, files.as_slice(), output, actors, ring),
+        Options::Load { file } => load_file(rt, alloc, file, input, output),
+    }
+}
+
+/// Runs the script on the input if the name is `-`, else the one in the file of this name.
+fn play_named<R: Files, I: Source, O: Sink>(
+    rt: &R,
+    alloc: Global,
+    name: &str,
+    input: &mut I,
+    output: &mut O,
+    actors: u8,
+    ring: Ring,
+    trace: bool,
+) -> Result<u64, ProgramFault>
+    requires input_works { I.has_failed input.old ≡ false }
+    requires output_works { O.has_failed output.old ≡ false }
+    requires some { 1 ≤ actors }
+    requires few { actors ≤ 16 }
+    ensures { PlaysNamed name.now (ring_length ring) actors trace
+        (devices I.Source O.Sink input.old input.new output.old output.new) result }
+{
+    match name {
+        "-" => play(alloc, input, output, actors, ring, trace),
+        _ => play_file(rt, alloc, name, output, actors, ring, trace),
+    }
+}
+
+/// Runs the script in the file of this name.
+fn play_file<R: Files, O: Sink>(
+    rt: &R,
+    alloc: Global,
+    name: &str,
+    output: &mut O,
+    actors: u8,
+    ring: Ring,
+    trace: bool,
+) -> Result<u64, ProgramFault>
+    requires output_works { O.has_failed output.old ≡ false }
+    requires some { 1 ≤ actors }
+    requires few { actors ≤ 16 }
+    ensures { PlaysFile (ring_length ring) actors trace (O.contents output.old) (O.contents output.new) (O.has_failed output.new) result }
+{
+    let file = opened(rt, name)?;
+    play(
+        alloc,
+        &mut ReadSource::new(file),
+        output,
+        actors,
+        ring,
+        trace,
+    )
+}
+
+/// Runs the scripts in the files of these names, each by a viewer of its own. All are read before the first command.
+fn view_files<R: Files + Threads + Wait + Sync, O: Sink>(
+    rt: &R,
+    alloc: Global,
+    names: &[&str],
+    output: &mut O,
+    actors: u8,
+    ring: Ring,
+) -> Result<u64, ProgramFault>
+    requires output_works { O.has_failed output.old ≡ false }
+    requires some_files { 1 ≤ length names.now }
+    requires few_files { length names.now ≤ MOST_FILES }
+    requires some { 1 ≤ actors }
+    requires few { actors ≤ 16 }
+    ensures { ViewsFiles (by_ring ⟦<BookWithHistory<2> as Recorded>⟧ ⟦<BookWithHistory<4> as Recorded>⟧ ⟦<BookWithHistory<8> as Recorded>⟧)
+        (length names.now) ring actors (O.contents output.old) (O.contents output.new) (O.has_failed output.new) result }
+{
+    let scripts = whole_files(rt, alloc, names)?;
+    view(rt, alloc, scripts.as_slice(), output, actors, ring)
+}
+
+/// The whole texts of the files of these names, in order.
+fn whole_files<R: Files>(
+    rt: &R,
+    alloc: Global,
+    names: &[&str],
+) -> Result<Vec<Vec<u8>>, ProgramFault>
+    ensures ok { IfOk result (λ texts. vec_len texts ≡ length names.now) }
+    ensures err { IfErr result IsUnread }
+{
+    let mut texts = Vec::new(alloc);
+    for name in names {
+        let mut file = opened(rt, name)?;
+        let text = whole_text(alloc, &mut file)?;
+        let Ok(()) = texts.push(text) else {
+            return Err(ProgramFault::NoMemory);
+        };
+    }
+    Ok(texts)
+}
+
+/// Loads the trace in the file of this name, and runs the script that the input gives over it.
+fn load_file<R: Files, I: Source, O: Sink>(
+    rt: &R,
+    alloc: Global,
+    name: &str,
+    input: &mut I,
+    output: &mut O,
+) -> Result<u64, ProgramFault>
+    requires input_works { I.has_failed input.old ≡ false }
+    requires output_works { O.has_failed output.old ≡ false }
+    ensures { LoadsFile (devices I.Source O.Sink input.old input.new output.old output.new) result }
+{
+    let mut file = opened(rt, name)?;
+    let text = whole_text(alloc, &mut file)?;
+    resume(alloc, text.as_slice(), input, output)
+}
+
+/// The file of this name, opened for reading.
+fn opened<R: Files>(rt: &R, name: &str) -> Result<R::File, ProgramFault>
+    ensures { IfErr result (λ fault. fault ≡ Read) }
+{
+    match fs::open(rt, name) {
+        Ok(file) => Ok(file),
+        Err(_) => Err(ProgramFault::Read),
+    }
+}
+
+/// The words of the program's command line.
+///
+/// # Errors
+///
+/// `NoMemory` if memory was refused; else `Refused`, since a word is no text.
+pub fn words_of<R: Env + Alloc<A = Global>>(rt: &R) -> Result<Vec<String>, ProgramFault> {
+    let alloc = rt.alloc();
+    match env::args(rt) {
+        Ok(words) => words.collect(alloc).map_err(|_| ProgramFault::NoMemory),
+        Err(error) if error.kind() == ErrorKind::OutOfMemory => Err(ProgramFault::NoMemory),
+        Err(_) => Err(fault_of(alloc, not_text(alloc))),
+    }
+}
+
+/// The program's fault at a command line that gives no options.
+pub fn fault_of(alloc: Global, fault: OptionsFault) -> ProgramFault
+    ensures { IsFaultOf fault result }
+{
+    match fault {
+        OptionsFault::Shown(error) => match error.to_string(alloc) {
+            Ok(text) => ProgramFault::Shown(text),
+            Err(_) => ProgramFault::NoMemory,
+        },
+        OptionsFault::Refused(error) => match error.to_string(alloc) {
+            Ok(text) => ProgramFault::Refused(text),
+            Err(_) => ProgramFault::NoMemory,
+        },
+        OptionsFault::TooManyFiles => ProgramFault::TooManyFiles,
+        OptionsFault::NoMemory => ProgramFault::NoMemory,
+    }
+}

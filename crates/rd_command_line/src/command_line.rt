@@ -1,0 +1,262 @@
+//! The command line of the program, read by `clap`.
+//!
+//! The contracts speak of the command that `clap` is told as a value of its specification (`program_app`), and of what
+//! `clap` makes of that command and the words: the rows of matches, or the kinds of fault that it may name.
+
+ghost use Rattle.std.specs.Prelude.{◌≡◌, ◌≢◌, ℕ, IfOk, IfErr, IfSome, IsNone, Bool, map, false};
+ghost use Rattle.clap.specs.Words.{app_of, found_of, kind_of, rows_of, rule_of, subcommand_rows_of};
+ghost use Rattle.clap.specs.declared.builder.command.Command.TheViews.{out-Command};
+ghost use Rattle.clap.specs.declared.error.kind.ErrorKind.TheVariants.{InvalidValue};
+ghost use Rattle.rd_command_line.specs.Options.{IsMistake, AreInRange, flag_text};
+ghost use Rattle.rd_command_line.specs.CommandLine.{AreRings, BothNames, IsRings, Tells, TellsWorld, TellsRun, TellsView, TellsLoad, Reads, EndsFor};
+ghost use Rattle.rd_command_line.specs.CommandLine.{file_rule, files_rule, actors_rule, ring_rule, trace_rule, run_over_app, run_app, view_app, load_app, program_app};
+
+use super::requests::{Options, OptionsFault, ring_of};
+use clap::error::ErrorKind;
+use clap::{Arg, ArgAction, ArgMatches, Command, Error, value_parser};
+use rd_trace::Ring;
+use std::alloc::{AllocError, Global};
+use std::convert::AsStr;
+
+/// The version that `--version` shows.
+const VERSION: &str = "0.1.0";
+
+/// The numbers of cells that a ring may have, as the command line spells them.
+static RINGS: [&str; 3] = ["2", "4", "8"];
+
+/// Reads the words of a command line, of which the first is the program's name.
+pub fn options<'a, S: AsStr>(alloc: Global, words: &'a [S]) -> Result<Options<'a>, OptionsFault>
+    ensures ok { IfOk result (Reads (map S.text words.entry.now)) }
+    ensures err { IfErr result (EndsFor (map S.text words.entry.now)) }
+    ensures actors { IfOk result AreInRange }
+{
+    let mut command = program(alloc)?;
+    let matches = command.try_get_matches_from_mut(words)?;
+    let Some(options) = told(alloc, &matches)? else {
+        let error = command.error(ErrorKind::MissingRequiredArgument, "an option is missing")?;
+        return Err(OptionsFault::Refused(error));
+    };
+    if options.has_many_files() {
+        return Err(OptionsFault::TooManyFiles);
+    }
+    Ok(options)
+}
+
+/// The fault of a command line of which a word is no text.
+pub fn not_text(alloc: Global) -> OptionsFault
+    ensures { IsMistake InvalidValue result }
+{
+    match mistake_in_text(alloc) {
+        Ok(error) => OptionsFault::Refused(error),
+        Err(_) => OptionsFault::NoMemory,
+    }
+}
+
+/// The text of `clap` on a word that is no text.
+fn mistake_in_text(alloc: Global) -> Result<Error, AllocError>
+    ensures { IfOk result (λ error. kind_of error ≡ InvalidValue) }
+{
+    let mut command = program(alloc)?;
+    command.error(
+        ErrorKind::InvalidValue,
+        "invalid UTF-8 was detected in one or more arguments",
+    )
+}
+
+/// The options that the matches of the whole command tell.
+fn told<'a>(alloc: Global, matches: &ArgMatches<'a>) -> Result<Option<Options<'a>>, AllocError>
+    ensures some { IfOk result (λ told. IfSome told (Tells (subcommand_rows_of matches.now))) }
+    ensures none { IfOk result (λ told. IsNone told → (o : Options) → Tells (subcommand_rows_of matches.now) o → ⊥) }
+{
+    if let Some(run) = matches.subcommand_matches("run") {
+        return Ok(told_by_run(run));
+    }
+    if let Some(view) = matches.subcommand_matches("view") {
+        return told_by_view(alloc, view);
+    }
+    match matches.subcommand_matches("load") {
+        Some(load) => Ok(told_by_load(load)),
+        None => Ok(None),
+    }
+}
+
+/// The options that the matches of `run` tell.
+fn told_by_run<'a>(run: &ArgMatches<'a>) -> Option<Options<'a>>
+    ensures some { IfSome result (TellsRun (rows_of (found_of run.now))) }
+    ensures none { IsNone result → (o : Options) → TellsRun (rows_of (found_of run.now)) o → ⊥ }
+{
+    let file = run.get_str("file")?;
+    let (actors, ring) = told_world(run)?;
+    let trace = choice_of(run.get_str("trace")?)?;
+    Some(Options::Run {
+        file,
+        actors,
+        ring,
+        trace,
+    })
+}
+
+/// The options that the matches of `view` tell.
+fn told_by_view<'a>(alloc: Global, view: &ArgMatches<'a>) -> Result<Option<Options<'a>>, AllocError>
+    ensures some { IfOk result (λ told. IfSome told (TellsView (rows_of (found_of view.now)))) }
+    ensures none { IfOk result (λ told. IsNone told → (o : Options) → TellsView (rows_of (found_of view.now)) o → ⊥) }
+{
+    let Some(files) = view.get_strs("files") else {
+        return Ok(None);
+    };
+    let Some((actors, ring)) = told_world(view) else {
+        return Ok(None);
+    };
+    if files.is_empty() {
+        return Ok(None);
+    }
+    let files = Vec::from_slice(alloc, files)?;
+    Ok(Some(Options::View {
+        files,
+        actors,
+        ring,
+    }))
+}
+
+/// The actors and the ring that matches tell.
+fn told_world<'a>(matches: &ArgMatches<'a>) -> Option<(u8, Ring)>
+    ensures some { IfSome result (λ world. TellsWorld (rows_of (found_of matches.now)) world.0 world.1) }
+    ensures none { IsNone result → (actors : ℕ) (ring : Ring) → TellsWorld (rows_of (found_of matches.now)) actors ring → ⊥ }
+{
+    let actors = matches.get_one::<u8>("actors")?;
+    let ring = ring_of(matches.get_str("ring")?)?;
+    if 1 <= actors && actors <= 16 {
+        Some((actors, ring))
+    } else {
+        None
+    }
+}
+
+/// The options that the matches of `load` tell.
+fn told_by_load<'a>(load: &ArgMatches<'a>) -> Option<Options<'a>>
+    ensures some { IfSome result (TellsLoad (rows_of (found_of load.now))) }
+    ensures none { IsNone result → (o : Options) → TellsLoad (rows_of (found_of load.now)) o → ⊥ }
+{
+    let file = load.get_str("file")?;
+    Some(Options::Load { file })
+}
+
+/// The choice that the text of a flag spells.
+fn choice_of(text: &str) -> Option<bool>
+    ensures some { IfSome result (λ choice. text.now ≡ flag_text choice) }
+    ensures none { IsNone result → (choice : Bool) → text.now ≢ flag_text choice }
+{
+    match text {
+        "true" => Some(true),
+        "false" => Some(false),
+        _ => None,
+    }
+}
+
+/// The program's command, with its subcommands.
+fn program<'a>(alloc: Global) -> Result<Command<'a>, AllocError>
+    ensures { IfOk result (λ c. (names : BothNames) × AreRings names × (app_of c ≡ program_app names)) }
+{
+    Command::new(alloc, "lcrqdb")
+        .version(VERSION)
+        .about("A causal reversible debugger for LCRQ")
+        .subcommand_required(true)
+        .subcommand(run(alloc)?)?
+        .subcommand(view(alloc)?)?
+        .subcommand(load(alloc)?)
+}
+
+/// The subcommand `run`.
+fn run<'a>(alloc: Global) -> Result<Command<'a>, AllocError>
+    ensures app { IfOk result (λ c. (names : _) × IsRings names × (app_of c ≡ run_app names)) }
+    ensures local { IfOk result (λ c. (out-Command c).has_globals ≡ false) }
+{
+    run_over(alloc)?.arg(trace(alloc))
+}
+
+/// The subcommand `run` but for `--trace`.
+fn run_over<'a>(alloc: Global) -> Result<Command<'a>, AllocError>
+    ensures app { IfOk result (λ c. (names : _) × IsRings names × (app_of c ≡ run_over_app names)) }
+    ensures local { IfOk result (λ c. (out-Command c).has_globals ≡ false) }
+{
+    Command::new(alloc, "run")
+        .about("Does the lines of a script and writes a reply to each")
+        .arg(file(alloc, "FILE").help("The script; - is standard input"))?
+        .arg(actors(alloc))?
+        .arg(ring(alloc))
+}
+
+/// The subcommand `view`.
+fn view<'a>(alloc: Global) -> Result<Command<'a>, AllocError>
+    ensures app { IfOk result (λ c. (names : _) × IsRings names × (app_of c ≡ view_app names)) }
+    ensures local { IfOk result (λ c. (out-Command c).has_globals ≡ false) }
+{
+    Command::new(alloc, "view")
+        .about("Does the lines of several scripts at once, each by a viewer of one world")
+        .arg(files(alloc))?
+        .arg(actors(alloc))?
+        .arg(ring(alloc))
+}
+
+/// The subcommand `load`.
+fn load<'a>(alloc: Global) -> Result<Command<'a>, AllocError>
+    ensures app { IfOk result (λ c. app_of c ≡ load_app) }
+    ensures local { IfOk result (λ c. (out-Command c).has_globals ≡ false) }
+{
+    Command::new(alloc, "load")
+        .about("Does the lines of standard input over the run of a trace")
+        .arg(file(alloc, "TRACE").help("A trace, as run --trace writes it"))
+}
+
+/// The argument that names a file.
+fn file<'a>(alloc: Global, name: &'a str) -> Arg<'a>
+    ensures { (rule_of result ≡ file_rule) × (result.global ≡ false) }
+{
+    Arg::new(alloc, "file").value_name(name).required(true)
+}
+
+/// The argument that names the files of the viewers.
+fn files<'a>(alloc: Global) -> Arg<'a>
+    ensures { (rule_of result ≡ files_rule) × (result.global ≡ false) }
+{
+    Arg::new(alloc, "files")
+        .value_name("FILE")
+        .num_args(1..)
+        .required(true)
+        .help("The scripts of the viewers, 1 to 64")
+}
+
+/// The option `--trace`.
+fn trace<'a>(alloc: Global) -> Arg<'a>
+    ensures { (rule_of result ≡ trace_rule) × (result.global ≡ false) }
+{
+    Arg::new(alloc, "trace")
+        .long("trace")
+        .action(ArgAction::SetTrue)
+        .help("Writes the trace of the run behind its report")
+}
+
+/// The option `--actors`.
+fn actors<'a>(alloc: Global) -> Arg<'a>
+    ensures { (rule_of result ≡ actors_rule) × (result.global ≡ false) }
+{
+    Arg::new(alloc, "actors")
+        .long("actors")
+        .value_name("COUNT")
+        .value_parser(value_parser!(u8).range(1..=16))
+        .default_value("4")
+        .help("How many actors the world has, 1 to 16")
+}
+
+/// The option `--ring`.
+fn ring<'a>(alloc: Global) -> Arg<'a>
+    ensures rule { (names : _) × IsRings names × (rule_of result ≡ ring_rule names) }
+    ensures local { result.global ≡ false }
+{
+    Arg::new(alloc, "ring")
+        .long("ring")
+        .value_name("CELLS")
+        .value_parser(RINGS.as_slice())
+        .default_value("4")
+        .help("How many cells each ring has")
+}

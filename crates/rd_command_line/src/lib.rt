@@ -1,0 +1,13 @@
+//! The command line of the program: its words read by `clap`, and what they ask for done over files and streams.
+//!
+//! `main` gives `perform` the words, the files and the three streams, and nothing else, so that whoever calls `perform` with streams
+//! of its own sees all that the program does.
+#![tactic(auto)]
+
+pub mod answering;
+pub mod command_line;
+pub mod requests;
+
+pub use answering::{answer, perform, words_of};
+pub use command_line::{not_text, options};
+pub use requests::{Options, OptionsFault};

@@ -1,0 +1,102 @@
+//! What a command line asks for, or why it asks for nothing that the program does.
+
+ghost use Rattle.std.specs.Prelude.{◌≡◌, ◌≢◌, true, false, IfSome, IsNone};
+ghost use Rattle.rd_command_line.specs.declared.requests.OptionsFault.TheVariants.{NoMemory};
+ghost use Rattle.rd_command_line.specs.Options.{HasFewFiles, HasManyFiles, ring_text, options_fault};
+
+use clap::Error;
+use clap::error::ErrorKind;
+use rd_trace::Ring;
+use std::alloc::AllocError;
+
+/// How many viewers there may be.
+const MOST_FILES: usize = 64;
+
+/// The ring that a text of the command line spells.
+pub fn ring_of(text: &str) -> Option<Ring>
+    ensures some { IfSome result (λ ring. text.now ≡ ring_text ring) }
+    ensures none { IsNone result → (ring : Ring) → text.now ≢ ring_text ring }
+{
+    match text {
+        "2" => Some(Ring::Two),
+        "4" => Some(Ring::Four),
+        "8" => Some(Ring::Eight),
+        _ => None,
+    }
+}
+
+/// What the command line asks for.
+#[derive(Debug, Drop, PartialEq, Eq)]
+pub enum Options<'a> {
+    /// `run FILE`: does the lines of one script.
+    Run {
+        /// The script's file; `-` is standard input.
+        file: &'a str,
+        /// How many actors the world has, 1 to 16.
+        actors: u8,
+        /// How many cells its rings have.
+        ring: Ring,
+        /// `--trace`: whether the trace of the run follows its report.
+        trace: bool,
+    },
+    /// `view FILE..`: runs several scripts over one world, each by a viewer of its own.
+    View {
+        /// The scripts' files, 1 to 64, in the order of their viewers.
+        files: Vec<&'a str>,
+        /// How many actors the world has, 1 to 16.
+        actors: u8,
+        /// How many cells its rings have.
+        ring: Ring,
+    },
+    /// `load TRACE`: does the lines of standard input over the run of a trace.
+    Load {
+        /// The trace's file.
+        file: &'a str,
+    },
+}
+
+impl<'a> Options<'a> {
+    /// Whether more files are named than there may be viewers.
+    pub(crate) fn has_many_files(&self) -> bool
+        ensures many { result ≡ true → HasManyFiles self.now }
+        ensures few { result ≡ false → HasFewFiles self.now }
+    {
+        match self {
+            Options::View { files, .. } => files.len() > MOST_FILES,
+            _ => false,
+        }
+    }
+}
+
+/// Why the command line gives no options.
+#[derive(Debug, Drop)]
+pub enum OptionsFault {
+    /// It asks for help or for the version: the text of `clap`.
+    Shown(Error),
+    /// It is not one that the program takes: the text of `clap` on the mistake.
+    Refused(Error),
+    /// It names more files than there may be viewers.
+    TooManyFiles,
+    /// There was no memory to read it.
+    NoMemory,
+}
+
+impl From<Error> for OptionsFault {
+    ghost from_gives = { λ error fault. fault ≡ options_fault error };
+
+    fn from(error: Error) -> OptionsFault {
+        match error.kind() {
+            ErrorKind::DisplayHelp | ErrorKind::DisplayVersion => OptionsFault::Shown(error),
+            ErrorKind::OutOfMemory => OptionsFault::NoMemory,
+            _ => OptionsFault::Refused(error),
+        }
+    }
+}
+
+impl From<AllocError> for OptionsFault {
+    ghost from_gives = { λ _ fault. fault ≡ NoMemory };
+
+    fn from(_error: AllocError) -> OptionsFault {
+        OptionsFault::NoMemory
+    }
+}

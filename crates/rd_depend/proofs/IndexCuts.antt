@@ -1,0 +1,64 @@
+-- The positions above a number taken out of all lists: the index is then that of the first entries.
+use Rattle.std.proofs.Common.{◌≡◌, ℕ, zero, suc, ◌+◌, ◌-◌, ◌<◌, ◌≤◌, Bool, true, false, nat_lt, if◌then◌else◌, List, [], ◌∷◌, ◌++◌, length, get_or, take, refl, sym, ap, ◌∙◌, arith}
+use Rattle.std.proofs.lemmas.Bool.Decides.{nat_tests}
+use Rattle.std.proofs.lemmas.List.{take_all, length-take-le}
+use Rattle.rd_step.specs.declared.entries.Entry.{Entry}
+use Rattle.rd_depend.specs.declared.index.DependIndex.{DependIndex}
+use Rattle.rd_depend.specs.Lists.{AscendsFrom, IsAscending, up_to}
+use Rattle.rd_depend.specs.Index.{positions_from, positions, touches, kept, IsIndexOf, CutsAll}
+use Rattle.rd_depend.proofs.IndexPositions.{positions-ascend}
+use Rattle.rd_depend.proofs.IndexLists.{ascends-at}
+use Rattle.rd_depend.proofs.IndexFirst.{kept-ascends}
+
+up_to_more : (n p : ℕ) (ps : List ℕ) → p ≤ n → up_to n (p ∷ ps) ≡ p ∷ up_to n ps
+up_to_more n p ps h = grind (arith, nat_tests)
+
+up_to_none : (n p : ℕ) (ps : List ℕ) → n < p → up_to n (p ∷ ps) ≡ []
+up_to_none n p ps h = grind (arith, nat_tests)
+
+-- one that is greater, at the end
+pub up_to-fewer : (n : ℕ) (xs : List ℕ) (e d : ℕ) → e < length xs → n < get_or xs e d → up_to n (take (suc e) xs) ≡ up_to n (take e xs)
+up_to-fewer n [] e d within gt = absurd (omega arith)
+up_to-fewer n (x ∷ xs) zero d within gt = up_to_none n x [] gt
+up_to-fewer n (x ∷ xs) (suc e) d within gt = by (nat_lt n x) (up_to-fewer n xs e d (omega arith) gt)
+  where
+    by : (b : Bool) → up_to n (take (suc e) xs) ≡ up_to n (take e xs)
+        → (if b then [] else x ∷ up_to n (take (suc e) xs)) ≡ (if b then [] else x ∷ up_to n (take e xs))
+    by true h = refl
+    by false h = ap (λ (l : List ℕ). x ∷ l) h
+
+-- where the last of ascending positions is at most n, all of them are
+pub up_to-all : (m n : ℕ) (xs : List ℕ) (e d : ℕ) → AscendsFrom m xs → e < length xs → get_or xs e d ≤ n → up_to n (take (suc e) xs) ≡ take (suc e) xs
+up_to-all m n [] e d h within le = absurd (omega arith)
+up_to-all m n (x ∷ xs) zero d h within le = up_to_more n x [] le
+up_to-all m n (x ∷ xs) (suc e) d h within le =
+    let at : suc x ≤ get_or xs e d = ascends-at (suc x) xs e d h.1 (omega arith) in
+    up_to_more n x (take (suc e) xs) (omega (arith, at, le)) ∙ ap (λ (l : List ℕ). x ∷ l) (up_to-all (suc x) n xs e d h.1 (omega arith) le)
+
+-- the positions of the first entries
+
+none_left : (m n : ℕ) (ps : List ℕ) → AscendsFrom m ps → n < m → up_to n ps ≡ []
+none_left m n [] h less = refl
+none_left m n (p ∷ ps) h less = up_to_none n p ps (omega (arith, h.0, less))
+
+positions-up_to : (test : Entry → Bool) (n m k : ℕ) (es : List Entry) → k + m ≡ n + 1 → up_to n (positions_from test m es) ≡ positions_from test m (take k es)
+positions-up_to test n m zero es h = none_left m n (positions_from test m es) (positions-ascend test m es) (omega arith)
+positions-up_to test n m (suc k) [] h = refl
+positions-up_to test n m (suc k) (x ∷ xs) h = by (test x) (positions-up_to test n (m + 1) k xs (omega arith))
+  where
+    by : (b : Bool) → up_to n (positions_from test (m + 1) xs) ≡ positions_from test (m + 1) (take k xs)
+        → up_to n (if b then m ∷ positions_from test (m + 1) xs else positions_from test (m + 1) xs)
+        ≡ (if b then m ∷ positions_from test (m + 1) (take k xs) else positions_from test (m + 1) (take k xs))
+    by true g = up_to_more n m (positions_from test (m + 1) xs) (omega arith) ∙ ap (λ (l : List ℕ). m ∷ l) g
+    by false g = g
+
+pub cut_index : (old new : DependIndex) (n : ℕ) (es : List Entry) → CutsAll n old new → n < old.len → IsIndexOf old es → IsIndexOf new (take n es)
+cut_index old new n es cuts less is = record {
+  lists = λ t. cuts.lists t (kept-ascends old es is t) ∙ ap (up_to n) (is.lists t) ∙ positions-up_to (touches t) n 1 n es refl;
+  len = cuts.len ∙ sym (length-take-le n es (omega (arith, is.len, less)));
+}
+
+pub uncut_index : (index : DependIndex) (n : ℕ) (es : List Entry) → index.len ≤ n → IsIndexOf index es → IsIndexOf index (take n es)
+uncut_index index n es more is =
+    let whole : es ≡ take n es = sym (take_all n es (omega (arith, is.len, more))) in
+    record { lists = λ t. is.lists t ∙ ap (positions (touches t)) whole; len = is.len ∙ ap length whole }

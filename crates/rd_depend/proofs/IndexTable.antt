@@ -1,0 +1,270 @@
+-- The table of keys: which key has which index, and what a change of the lists by index is for the keys.
+use Rattle.std.proofs.Common.{◌≡◌, ℕ, zero, suc, ◌+◌, ◌-◌, ◌<◌, ◌≤◌, Bool, true, false, ◌&&◌, ◌||◌, ◌==◌, if◌then◌else◌, nat_lt, cond, not, List, [], ◌∷◌, ◌++◌, length, take, Option, Some, None, slice_get, position, Vec, refl, sym, ap, subst, ◌∙◌, arith, eqb-true, eq-eqb}
+use Rattle.std.proofs.lemmas.Bool.{false_from_ne_true}
+use Rattle.std.proofs.lemmas.Bool.Decides.{nat_tests}
+use Rattle.std.specs.Cmp.{both_ways}
+use Rattle.std.specs.List.{list_any, position_or_len}
+use Rattle.std.specs.Option.{option_map}
+use Rattle.std.specs.declared.alloc.Global.{Global}
+use Rattle.rd_cell.proofs.ListLemmas.{slice_get-push_same, slice_get-push_other}
+use Rattle.rd_depend.specs.declared.index.keys.Key.{Key}
+use Rattle.rd_depend.specs.declared.index.table.Table.{Table}
+use Rattle.rd_depend.specs.Keys.{is_key, slot_in}
+use Rattle.rd_depend.specs.KeyLaws.{is_key-true, is_key-refl}
+use Rattle.rd_depend.specs.Lists.{Lists, items_of, room_of, list_at, capacity_at, spare_at, one_if, list_of, capacity_of}
+use Rattle.rd_depend.specs.Tables.{lists_of, kept_in, capacity_in, spare_in, counts, IsReady, KeepsLists, Puts, TakesLast, Closes}
+
+-- indices of keys
+
+suc_some : (o : Option ℕ) (i : ℕ) → option_map (λ n. suc n) o ≡ Some i → (j : ℕ) × (o ≡ Some j) × (suc j ≡ i)
+suc_some None i h = absurd cc
+suc_some (Some j) i h = (j, refl, cc)
+
+suc_none : (o : Option ℕ) → option_map (λ n. suc n) o ≡ None → o ≡ None
+suc_none None h = refl
+suc_none (Some j) h = absurd cc
+
+-- at its index stands the key
+pub slot-there : (keys : List Key) (k : Key) (i : ℕ) → slot_in keys k ≡ Some i → slice_get keys i ≡ Some k
+slot-there [] k i h = absurd cc
+slot-there (q ∷ qs) k i h = by (is_key k q) refl (slot-there qs k) h
+  where
+    by : (b : Bool) → is_key k q ≡ b → ((j : ℕ) → slot_in qs k ≡ Some j → slice_get qs j ≡ Some k) → (if b then Some 0 else option_map (λ n. suc n) (slot_in qs k)) ≡ Some i → slice_get (q ∷ qs) i ≡ Some k
+    by true e rest g = let z : 0 ≡ i = cc in subst (λ (n : ℕ). slice_get (q ∷ qs) n ≡ Some k) z (ap Some (sym (is_key-true k q e)))
+    by false e rest g = let s = suc_some (slot_in qs k) i g in subst (λ (n : ℕ). slice_get (q ∷ qs) n ≡ Some k) s.2 (rest s.0 s.1)
+
+pub slot-within : (keys : List Key) (k : Key) (i : ℕ) → slot_in keys k ≡ Some i → i < length keys
+slot-within [] k i h = absurd cc
+slot-within (q ∷ qs) k i h = by (is_key k q) (slot-within qs k) h
+  where
+    by : (b : Bool) → ((j : ℕ) → slot_in qs k ≡ Some j → j < length qs) → (if b then Some 0 else option_map (λ n. suc n) (slot_in qs k)) ≡ Some i → i < length (q ∷ qs)
+    by true rest g = let z : 0 ≡ i = cc in omega (arith, z)
+    by false rest g = let s = suc_some (slot_in qs k) i g in omega (arith, s.2, rest s.0 s.1)
+
+-- whether an index that may be there is this one
+abbrev pub is_slot : ℕ → Option ℕ → Bool
+is_slot i None = false
+is_slot i (Some j) = j == i
+
+-- the keys with this index are those that are equal to one with it
+pub slot-same : (keys : List Key) (k q : Key) (i : ℕ) → slot_in keys k ≡ Some i → is_slot i (slot_in keys q) ≡ is_key q k
+slot-same keys k q i h = both_ways (is_slot i (slot_in keys q)) (is_key q k) (to_key (slot_in keys q) refl)
+    (λ e. ap (λ (x : Key). is_slot i (slot_in keys x)) (is_key-true q k e) ∙ ap (is_slot i) h ∙ eq-eqb i i refl)
+  where
+    to_key : (o : Option ℕ) → slot_in keys q ≡ o → is_slot i o ≡ true → is_key q k ≡ true
+    to_key None e g = absurd cc
+    to_key (Some j) e g =
+        let same : j ≡ i = eqb-true j i g in
+        let there : slice_get keys i ≡ Some q = subst (λ (n : ℕ). slice_get keys n ≡ Some q) same (slot-there keys q j e) in
+        let own : slice_get keys i ≡ Some k = slot-there keys k i h in
+        let one : q ≡ k = cc in
+        subst (λ (x : Key). is_key q x ≡ true) one (is_key-refl q)
+
+-- the index is that which the set finds
+pub position-slot : (keys : List Key) (k : Key) → position (is_key k) keys ≡ slot_in keys k
+position-slot [] k = grind (arith, nat_tests)
+position-slot (q ∷ qs) k = by (is_key k q) (position-slot qs k)
+  where
+    more : (m n : ℕ) → cond (nat_lt (1 + m) (suc n)) (Some (1 + m)) None ≡ option_map (λ i. suc i) (cond (nat_lt m n) (Some m) None)
+    more m n = cases (nat_lt m n) refl
+      where
+        cases : (b : Bool) → nat_lt m n ≡ b → cond (nat_lt (1 + m) (suc n)) (Some (1 + m)) None ≡ option_map (λ i. suc i) (cond b (Some m) None)
+        cases true e = grind (arith, nat_tests)
+        cases false e = grind (arith, nat_tests)
+
+    by : (b : Bool) → cond (nat_lt (position_or_len (is_key k) qs) (length qs)) (Some (position_or_len (is_key k) qs)) None ≡ slot_in qs k
+        → cond (nat_lt (cond (not b) (1 + position_or_len (is_key k) qs) 0) (suc (length qs))) (Some (cond (not b) (1 + position_or_len (is_key k) qs) 0)) None
+        ≡ (if b then Some 0 else option_map (λ i. suc i) (slot_in qs k))
+    by true h = grind (arith, nat_tests)
+    by false h = more (position_or_len (is_key k) qs) (length qs) ∙ ap (option_map (λ i. suc i)) h
+
+-- a change at one index, as a change under a key
+
+pub changed_at : (old new : Lists) (f : List ℕ → List ℕ) (b : Bool) (i : ℕ)
+    → ((j : ℕ) → list_at new j ≡ (if b && (j == i) then f (list_at old j) else list_at old j))
+    → (o : Option ℕ) → list_of new o ≡ (if b && is_slot i o then f (list_of old o) else list_of old o)
+changed_at old new f b i h None = elim b as (λ c. [] ≡ (if c && false then f [] else [])) [ true ↦ refl | false ↦ refl ]
+changed_at old new f b i h (Some j) = h j
+
+pub changed : (keys : List Key) (k q : Key) (i : ℕ) → slot_in keys k ≡ Some i → (old new : Lists) (f : List ℕ → List ℕ) (b : Bool)
+    → ((j : ℕ) → list_at new j ≡ (if b && (j == i) then f (list_at old j) else list_at old j))
+    → list_of new (slot_in keys q) ≡ (if b && is_key q k then f (list_of old (slot_in keys q)) else list_of old (slot_in keys q))
+changed keys k q i slot old new f b h =
+    changed_at old new f b i h (slot_in keys q)
+    ∙ ap (λ (c : Bool). if b && c then f (list_of old (slot_in keys q)) else list_of old (slot_in keys q)) (slot-same keys k q i slot)
+
+-- how many more a list has room for
+abbrev room_left : Lists → Option ℕ → ℕ
+room_left lists o = capacity_of lists o - length (list_of lists o)
+
+pub used_at : (old new : Lists) (b : Bool) (i : ℕ) → ((j : ℕ) → spare_at old j ≤ spare_at new j + one_if (b && (j == i)))
+    → (o : Option ℕ) → room_left old o ≤ room_left new o + one_if (b && is_slot i o)
+used_at old new b i h None = omega arith
+used_at old new b i h (Some j) = h j
+
+pub used : (keys : List Key) (k q : Key) (i : ℕ) → slot_in keys k ≡ Some i → (old new : Lists) (b : Bool)
+    → ((j : ℕ) → spare_at old j ≤ spare_at new j + one_if (b && (j == i)))
+    → room_left old (slot_in keys q) ≤ room_left new (slot_in keys q) + one_if (b && is_key q k)
+used keys k q i slot old new b h =
+    subst (λ (c : Bool). room_left old (slot_in keys q) ≤ room_left new (slot_in keys q) + one_if (b && c)) (slot-same keys k q i slot)
+    (used_at old new b i h (slot_in keys q))
+
+pub freed_at : (old new : Lists) (b : Bool) (i : ℕ) → ((j : ℕ) → spare_at new j ≡ spare_at old j + one_if (b && (j == i)))
+    → (o : Option ℕ) → room_left new o ≡ room_left old o + one_if (b && is_slot i o)
+freed_at old new b i h None = elim b as (λ c. 0 - 0 ≡ (0 - 0) + one_if (c && false)) [ true ↦ refl | false ↦ refl ]
+freed_at old new b i h (Some j) = h j
+
+pub freed : (keys : List Key) (k q : Key) (i : ℕ) → slot_in keys k ≡ Some i → (old new : Lists) (b : Bool)
+    → ((j : ℕ) → spare_at new j ≡ spare_at old j + one_if (b && (j == i)))
+    → room_left new (slot_in keys q) ≡ room_left old (slot_in keys q) + one_if (b && is_key q k)
+freed keys k q i slot old new b h =
+    subst (λ (c : Bool). room_left new (slot_in keys q) ≡ room_left old (slot_in keys q) + one_if (b && c)) (slot-same keys k q i slot)
+    (freed_at old new b i h (slot_in keys q))
+
+-- what the table's calls ask for
+
+pub ready_room : (t : Table) (k : Key) (wrote : Bool) (i : ℕ) → IsReady t k wrote i → (w : Bool) → counts w wrote ≡ true → 0 < spare_at (lists_of t w) i
+ready_room t k wrote i r w c = subst (λ (o : Option ℕ). 0 < room_left (lists_of t w) o) r.at (r.room w c)
+
+pub last_there : (t : Table) (k : Key) (wrote : Bool) (i : ℕ) → slot_in t.keys.keys k ≡ Some i → ((w : Bool) → counts w wrote ≡ true → 1 ≤ length (kept_in t w k))
+    → (w : Bool) → counts w wrote ≡ true → 1 ≤ length (list_at (lists_of t w) i)
+last_there t k wrote i slot h w c = subst (λ (o : Option ℕ). 1 ≤ length (list_of (lists_of t w) o)) slot (h w c)
+
+pub spare_there : (t : Table) (k : Key) (w : Bool) (i : ℕ) → slot_in t.keys.keys k ≡ Some i → 0 < spare_in t w k → 0 < spare_at (lists_of t w) i
+spare_there t k w i slot h = subst (λ (o : Option ℕ). 0 < room_left (lists_of t w) o) slot h
+
+pub spare_back : (t : Table) (k : Key) (w : Bool) (i : ℕ) → slot_in t.keys.keys k ≡ Some i → 0 < spare_at (lists_of t w) i → 0 < spare_in t w k
+spare_back t k w i slot h = subst (λ (o : Option ℕ). 0 < room_left (lists_of t w) o) (sym slot) h
+
+-- a new key, with empty lists
+
+pub absent : (keys : List Key) (k : Key) → slot_in keys k ≡ None → list_any (is_key k) keys ≡ false
+absent [] k h = refl
+absent (q ∷ qs) k h = by (is_key k q) refl (absent qs k) h
+  where
+    by : (b : Bool) → is_key k q ≡ b → (slot_in qs k ≡ None → list_any (is_key k) qs ≡ false) → (if b then Some 0 else option_map (λ n. suc n) (slot_in qs k)) ≡ None → list_any (is_key k) (q ∷ qs) ≡ false
+    by true e rest g = absurd cc
+    by false e rest g = ap (λ (c : Bool). c || list_any (is_key k) qs) e ∙ rest (suc_none (slot_in qs k) g)
+
+-- the index itself, or this one if the test holds
+abbrev or_slot : Option ℕ → Bool → ℕ → Option ℕ
+or_slot (Some i) b n = Some i
+or_slot None true n = Some n
+or_slot None false n = None
+
+slot_pushed : (keys : List Key) (k q : Key) → slot_in (keys ++ k ∷ []) q ≡ or_slot (slot_in keys q) (is_key q k) (length keys)
+slot_pushed [] k q = one (is_key q k)
+  where
+    one : (b : Bool) → (if b then Some 0 else option_map (λ n. suc n) None) ≡ or_slot None b 0
+    one true = refl
+    one false = refl
+slot_pushed (x ∷ xs) k q = by (is_key q x) (slot_in xs q) (is_key q k) (slot_pushed xs k q)
+  where
+    by : (b : Bool) (o : Option ℕ) (c : Bool) → slot_in (xs ++ k ∷ []) q ≡ or_slot o c (length xs)
+        → (if b then Some 0 else option_map (λ n. suc n) (slot_in (xs ++ k ∷ []) q))
+        ≡ or_slot (if b then Some 0 else option_map (λ n. suc n) o) c (suc (length xs))
+    by true o c h = refl
+    by false None true h = ap (option_map (λ n. suc n)) h
+    by false None false h = ap (option_map (λ n. suc n)) h
+    by false (Some i) c h = ap (option_map (λ n. suc n)) h
+
+kept_pushed : (keys : List Key) (k q : Key) (lists : Lists) (v : Vec ℕ Global) → v.items ≡ [] → length lists ≡ length keys
+    → list_of (lists ++ v ∷ []) (slot_in (keys ++ k ∷ []) q) ≡ list_of lists (slot_in keys q)
+kept_pushed keys k q lists v empty len = ap (list_of (lists ++ v ∷ [])) (slot_pushed keys k q) ∙ by (slot_in keys q) (is_key q k) (slot-within keys q)
+  where
+    by : (o : Option ℕ) (b : Bool) → ((i : ℕ) → o ≡ Some i → i < length keys) → list_of (lists ++ v ∷ []) (or_slot o b (length keys)) ≡ list_of lists o
+    by None true w = ap (list_at (lists ++ v ∷ [])) (sym len) ∙ ap items_of (slice_get-push_same lists v) ∙ empty
+    by None false w = refl
+    by (Some i) b w = ap items_of (slice_get-push_other lists v i (λ e. omega (arith, e, w i refl, len)))
+
+room_pushed : (keys : List Key) (k q : Key) (lists : Lists) (v : Vec ℕ Global) → length lists ≡ length keys
+    → room_left lists (slot_in keys q) ≤ room_left (lists ++ v ∷ []) (slot_in (keys ++ k ∷ []) q)
+room_pushed keys k q lists v len =
+    subst (λ (o : Option ℕ). room_left lists (slot_in keys q) ≤ room_left (lists ++ v ∷ []) o) (sym (slot_pushed keys k q))
+    (by (slot_in keys q) (is_key q k) (slot-within keys q))
+  where
+    by : (o : Option ℕ) (b : Bool) → ((i : ℕ) → o ≡ Some i → i < length keys) → room_left lists o ≤ room_left (lists ++ v ∷ []) (or_slot o b (length keys))
+    by None b w = omega arith
+    by (Some i) b w =
+        let same : spare_at (lists ++ v ∷ []) i ≡ spare_at lists i =
+        ap (λ (o : Option (Vec ℕ Global)). room_of o - length (items_of o)) (slice_get-push_other lists v i (λ e. omega (arith, e, w i refl, len))) in
+        omega (arith, same)
+
+pub keeps_pushed : (old new : Table) (k : Key) (v u : Vec ℕ Global) → new.keys.keys ≡ old.keys.keys ++ k ∷ []
+    → new.all.items ≡ old.all.items ++ v ∷ [] → new.writes.items ≡ old.writes.items ++ u ∷ [] → v.items ≡ [] → u.items ≡ []
+    → length old.all.items ≡ length old.keys.keys → length old.writes.items ≡ length old.keys.keys → KeepsLists old new
+keeps_pushed old new k v u keys all writes none_v none_u in_all in_writes = record {
+  lists = lists;
+  room = room;
+  slots = λ q i h. ap (λ (ks : List Key). slot_in ks q) keys ∙ slot_pushed old.keys.keys k q ∙ ap (λ (o : Option ℕ). or_slot o (is_key q k) (length old.keys.keys)) h;
+}
+  where
+    lists : (w : Bool) (q : Key) → kept_in new w q ≡ kept_in old w q
+    lists false q = (λ i. list_of (all i) (slot_in (keys i) q)) ∙ kept_pushed old.keys.keys k q old.all.items v none_v in_all
+    lists true q = (λ i. list_of (writes i) (slot_in (keys i) q)) ∙ kept_pushed old.keys.keys k q old.writes.items u none_u in_writes
+
+    room : (w : Bool) (q : Key) → spare_in old w q ≤ spare_in new w q
+    room false q =
+        let same : spare_in new false q ≡ room_left (old.all.items ++ v ∷ []) (slot_in (old.keys.keys ++ k ∷ []) q) = λ i. room_left (all i) (slot_in (keys i) q) in
+        omega (arith, same, room_pushed old.keys.keys k q old.all.items v in_all)
+    room true q =
+        let same : spare_in new true q ≡ room_left (old.writes.items ++ u ∷ []) (slot_in (old.keys.keys ++ k ∷ []) q) = λ i. room_left (writes i) (slot_in (keys i) q) in
+        omega (arith, same, room_pushed old.keys.keys k q old.writes.items u in_writes)
+
+-- a key that was not there stands last
+pub key_last : (keys new : List Key) (k : Key) → slot_in keys k ≡ None → new ≡ (if list_any (is_key k) keys then keys else keys ++ k ∷ []) → new ≡ keys ++ k ∷ []
+key_last keys new k none h = h ∙ ap (λ (b : Bool). if b then keys else keys ++ k ∷ []) (absent keys k none)
+
+pub slot_last : (keys new : List Key) (k : Key) (n : ℕ) → slot_in keys k ≡ None → new ≡ keys ++ k ∷ [] → n ≡ length keys → slot_in new k ≡ Some n
+slot_last keys new k n none h len =
+    ap (λ (ks : List Key). slot_in ks k) h ∙ slot_pushed keys k k ∙ (λ i. or_slot (none i) (is_key-refl k i) (length keys)) ∙ ap Some (sym len)
+
+pub one_longer : (keys new : List Key) (k : Key) (lists more : Lists) (v : Vec ℕ Global) → new ≡ keys ++ k ∷ [] → more ≡ lists ++ v ∷ []
+    → length lists ≡ length keys → length more ≡ length new
+one_longer keys new k lists more v e f len = ap length f ∙ longer lists v ∙ ap suc len ∙ sym (longer keys k) ∙ sym (ap length e)
+  where
+    longer : {X : Type 0} (xs : List X) (x : X) → length (xs ++ x ∷ []) ≡ suc (length xs)
+    longer [] x = refl
+    longer (y ∷ xs) x = ap suc (longer xs x)
+
+-- the table's changes, from those of its lists
+
+pub puts : (old new : Table) (k : Key) (wrote : Bool) (p i : ℕ) → new.keys.keys ≡ old.keys.keys
+    → ((j : ℕ) → list_at new.all.items j ≡ (if j == i then list_at old.all.items j ++ p ∷ [] else list_at old.all.items j))
+    → ((j : ℕ) → list_at new.writes.items j ≡ (if wrote && (j == i) then list_at old.writes.items j ++ p ∷ [] else list_at old.writes.items j))
+    → ((j : ℕ) → spare_at old.all.items j ≤ spare_at new.all.items j + one_if (j == i))
+    → ((j : ℕ) → spare_at old.writes.items j ≤ spare_at new.writes.items j + one_if (wrote && (j == i)))
+    → slot_in old.keys.keys k ≡ Some i → Puts (Some k) wrote p old new
+puts old new k wrote p i keys all writes room_all room_writes slot = record {
+  lists = λ w q. ap (λ (ks : List Key). list_of (lists_of new w) (slot_in ks q)) keys ∙ lists w q;
+  room = λ w q. subst (λ (ks : List Key). spare_in old w q ≤ room_left (lists_of new w) (slot_in ks q) + one_if (counts w wrote && is_key q k)) (sym keys) (room w q);
+  slots = λ q. ap (λ (ks : List Key). slot_in ks q) keys;
+}
+  where
+    lists : (w : Bool) (q : Key) → list_of (lists_of new w) (slot_in old.keys.keys q) ≡ (if counts w wrote && is_key q k then kept_in old w q ++ p ∷ [] else kept_in old w q)
+    lists false q = changed old.keys.keys k q i slot old.all.items new.all.items (λ l. l ++ p ∷ []) true all
+    lists true q = changed old.keys.keys k q i slot old.writes.items new.writes.items (λ l. l ++ p ∷ []) wrote writes
+
+    room : (w : Bool) (q : Key) → spare_in old w q ≤ room_left (lists_of new w) (slot_in old.keys.keys q) + one_if (counts w wrote && is_key q k)
+    room false q = used old.keys.keys k q i slot old.all.items new.all.items true room_all
+    room true q = used old.keys.keys k q i slot old.writes.items new.writes.items wrote room_writes
+
+pub takes_last : (old new : Table) (k : Key) (wrote : Bool) (i : ℕ) → new.keys.keys ≡ old.keys.keys
+    → ((j : ℕ) → list_at new.all.items j ≡ (if j == i then take (length (list_at old.all.items j) - 1) (list_at old.all.items j) else list_at old.all.items j))
+    → ((j : ℕ) → list_at new.writes.items j ≡ (if wrote && (j == i) then take (length (list_at old.writes.items j) - 1) (list_at old.writes.items j) else list_at old.writes.items j))
+    → ((j : ℕ) → spare_at new.all.items j ≡ spare_at old.all.items j + one_if (j == i))
+    → ((j : ℕ) → spare_at new.writes.items j ≡ spare_at old.writes.items j + one_if (wrote && (j == i)))
+    → slot_in old.keys.keys k ≡ Some i → TakesLast (Some k) wrote old new
+takes_last old new k wrote i keys all writes room_all room_writes slot = record {
+  lists = λ w q. ap (λ (ks : List Key). list_of (lists_of new w) (slot_in ks q)) keys ∙ lists w q;
+  room = λ w q. ap (λ (ks : List Key). room_left (lists_of new w) (slot_in ks q)) keys ∙ room w q;
+}
+  where
+    lists : (w : Bool) (q : Key) → list_of (lists_of new w) (slot_in old.keys.keys q)
+        ≡ (if counts w wrote && is_key q k then take (length (kept_in old w q) - 1) (kept_in old w q) else kept_in old w q)
+    lists false q = changed old.keys.keys k q i slot old.all.items new.all.items (λ l. take (length l - 1) l) true all
+    lists true q = changed old.keys.keys k q i slot old.writes.items new.writes.items (λ l. take (length l - 1) l) wrote writes
+
+    room : (w : Bool) (q : Key) → room_left (lists_of new w) (slot_in old.keys.keys q) ≡ spare_in old w q + one_if (counts w wrote && is_key q k)
+    room false q = freed old.keys.keys k q i slot old.all.items new.all.items true room_all
+    room true q = freed old.keys.keys k q i slot old.writes.items new.writes.items wrote room_writes

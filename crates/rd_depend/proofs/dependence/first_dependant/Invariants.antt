@@ -1,0 +1,7 @@
+use Rattle.std.proofs.Common.{◌≡◌, ◌+◌, drop}
+use Rattle.rd_step.specs.Dependence.{first_from}
+use Rattle.rd_step.specs.Prelude.{first_dependant}
+use Rattle.rd_depend.proofs.dependence.first_dependant.Given as goal
+
+abbrev pub invariant-loop-later : goal.invariant-loop-later
+invariant-loop-later l = first_dependant l.entries l.k ≡ first_from l.entry (l.later + 1) (drop l.later l.entries)

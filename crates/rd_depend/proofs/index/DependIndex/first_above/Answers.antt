@@ -1,0 +1,18 @@
+use Rattle.std.proofs.Common.{◌∙◌}
+use Rattle.rd_depend.specs.Lists.{earlier}
+use Rattle.rd_depend.specs.Index.{By}
+use Rattle.rd_depend.proofs.IndexFirst.{found_in, found_by, found_either}
+use Rattle.rd_depend.proofs.index.DependIndex.first_above.Goals as goal
+
+pub returns-in-None-clause-answer : goal.returns-in-None-clause-answer
+returns-in-None-clause-answer c = λ es is.
+    found_in c.args.self.now es is c.requires.few (By c.args.entry.now.event.actor) c.args.k c.first_by-by_actor.result c.first_by-by_actor.ensures.answer
+    ∙ found_by c.args.entry.now c.in-None.is c.args.k es
+
+pub returns-in-Some-clause-answer : goal.returns-in-Some-clause-answer
+returns-in-Some-clause-answer c = λ es is.
+    c.earlier.ensures
+    ∙ (λ i. earlier
+    (found_in c.args.self.now es is c.requires.few (By c.args.entry.now.event.actor) c.args.k c.first_by-by_actor.result c.first_by-by_actor.ensures.answer i)
+    (c.first_at.ensures.answer es is i))
+    ∙ found_either c.args.entry.now c.in-Some.place c.in-Some.is c.args.k es

@@ -1,0 +1,13 @@
+use Rattle.std.proofs.Common.{◌+◌, ◌-◌, ◌^◌, ◌<◌, ◌≤◌, length}
+use Rattle.rd_depend.specs.Lists.{IsAscending, number_up_to}
+use Rattle.rd_depend.proofs.index.positions.Positions.count_up_to.Given as goal
+
+abbrev pub invariant-loop-round : goal.invariant-loop-round
+invariant-loop-round l = record {
+  order : l.low ≤ l.high;
+  within : l.high ≤ length l.self.items.now;
+  cost : l.probes.count ≤ l.fn.probes.count + l.round;
+  small : length l.self.items.now < 2 ^ 17 → l.high - l.low < 2 ^ (17 - l.round);
+  below : IsAscending l.self.items.now → l.low ≤ number_up_to l.k l.self.items.now;
+  above : IsAscending l.self.items.now → number_up_to l.k l.self.items.now ≤ l.high;
+}

@@ -1,0 +1,16 @@
+use Rattle.std.proofs.Common.{true, false, refl, sym}
+use Rattle.rd_depend.proofs.IndexTable.{takes_last, last_there}
+use Rattle.rd_depend.proofs.index.table.Table.take_last_under.Goals as goal
+
+pub take_last_in-requires : goal.take_last_in-requires
+take_last_in-requires c =
+    last_there c.args.self.now c.args.key c.args.wrote c.in-Some.slot (sym c.in-Some.ensures.slot) (λ w. c.requires w c.args.key refl) false refl
+
+pub take_last_if-requires : goal.take_last_if-requires
+take_last_if-requires c = λ h.
+    last_there c.args.self.now c.args.key c.args.wrote c.in-Some.slot (sym c.in-Some.ensures.slot) (λ w. c.requires w c.args.key refl) true h
+
+pub returns-in-Some : goal.returns-in-Some
+returns-in-Some c =
+    takes_last _ _ c.args.key c.args.wrote c.in-Some.slot refl c.take_last_in.ensures.lists c.take_last_if.ensures.lists c.take_last_in.ensures.room
+    c.take_last_if.ensures.room (sym c.in-Some.ensures.slot)

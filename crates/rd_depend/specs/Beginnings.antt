@@ -1,0 +1,10 @@
+-- Whether one list begins another.
+use Rattle.std.specs.Prelude.{◌≡◌, List, length, take}
+
+-- the second list begins with the first one
+abbrev pub Begins : {X : Type 0} → List X → List X → Type 0
+Begins xs ys = take (length xs) ys ≡ xs
+
+-- neither list begins with the other one
+abbrev pub IsBegunByNeither : {X : Type 0} → List X → List X → Type 0
+IsBegunByNeither xs ys = (Begins xs ys → ⊥) × (Begins ys xs → ⊥)

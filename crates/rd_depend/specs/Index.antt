@@ -1,0 +1,118 @@
+-- What an index keeps: of the entries of a list, the positions of those that touch an actor, a place or a segment.
+use Rattle.std.specs.Prelude.{◌≡◌, ℕ, ◌+◌, ◌-◌, ◌≤◌, Bool, true, false, ◌==◌, ◌&&◌, if◌then◌else◌, List, [], ◌∷◌, ◌++◌, length, take, drop, Some, ◌<◌}
+use Rattle.rd_step.specs.declared.entries.Entry.{Entry}
+use Rattle.rd_step.specs.Dependence.{numbered}
+use Rattle.rd_depend.specs.declared.index.DependIndex.{DependIndex}
+use Rattle.rd_depend.specs.declared.index.changing.Slots.{Slots}
+use Rattle.rd_depend.specs.declared.index.keys.Key.{Key}
+use Rattle.rd_depend.specs.Keys.{is_under, place_key, segment_key}
+use Rattle.rd_depend.specs.Lists.{list_at, capacity_at, one_if, spare_at, closed, up_to, IsAscending}
+use Rattle.rd_depend.specs.Tables.{counts, kept_in, capacity_in, spare_in, AreReady}
+
+-- what a list of positions is kept for: an actor, or a place or a segment, of all steps there or of those that wrote
+pub data Touch : Type 0 where
+  By : ℕ → Touch
+  Under : Bool → Key → Touch
+
+-- whether an entry is to be kept there
+abbrev pub touches : Touch → Entry → Bool
+touches (By a) x = a == x.event.actor
+touches (Under w k) x = counts w x.wrote && is_under k x.place
+
+-- the positions of the entries that pass the test, the first entry being at n
+abbrev pub positions_from : (Entry → Bool) → ℕ → List Entry → List ℕ
+positions_from test n [] = []
+positions_from test n (x ∷ xs) = if test x then n ∷ positions_from test (n + 1) xs else positions_from test (n + 1) xs
+
+-- the positions of the entries that pass the test, counted from 1
+abbrev pub positions : (Entry → Bool) → List Entry → List ℕ
+positions test entries = positions_from test 1 entries
+
+-- how many of the entries pass the test
+abbrev pub number_of : (Entry → Bool) → List Entry → ℕ
+number_of test [] = 0
+number_of test (x ∷ xs) = one_if (test x) + number_of test xs
+
+-- the positions that the index keeps there
+abbrev pub kept : DependIndex → Touch → List ℕ
+kept index (By a) = list_at index.by_actor.items a
+kept index (Under w k) = kept_in index.by_key w k
+
+-- how many more it has room for there
+abbrev pub spare : DependIndex → Touch → ℕ
+spare index (By a) = spare_at index.by_actor.items a
+spare index (Under w k) = spare_in index.by_key w k
+
+-- the index is that of these entries: it keeps just the positions of those that are to be kept at each list
+pub record IsIndexOf (index : DependIndex) (entries : List Entry) : Type 0 where
+  pub lists : (t : Touch) → kept index t ≡ positions (touches t) entries
+  pub len : index.len ≡ length entries
+
+-- in each list there is room for the positions of these entries
+pub record HasRoomFor (index : DependIndex) (entries : List Entry) : Type 0 where
+  pub lists : (t : Touch) → number_of (touches t) entries ≤ spare index t
+
+-- the index is that of some entries, and the last of them is this one
+pub record IsLast (index : DependIndex) (x : Entry) : Type 0 where
+  pub before : List Entry
+  pub is : IsIndexOf index (before ++ x ∷ [])
+
+-- the index is that of some entries, and that at position k is this one
+pub record IsHeld (index : DependIndex) (k : ℕ) (x : Entry) : Type 0 where
+  pub entries : List Entry
+  pub is : IsIndexOf index entries
+  pub at : numbered entries k ≡ Some x
+
+-- the index is that of some entries
+pub record IsIndex (index : DependIndex) : Type 0 where
+  pub entries : List Entry
+  pub is : IsIndexOf index entries
+
+-- the list is as before where the entry is not to be kept, and has one more position at its end where it is
+pub record Adds (x : Entry) (old new : DependIndex) : Type 0 where
+  pub lists : (t : Touch) → kept new t ≡ (if touches t x then kept old t ++ (old.len + 1) ∷ [] else kept old t)
+  pub room : (t : Touch) → spare old t ≤ spare new t + one_if (touches t x)
+  pub len : new.len ≡ old.len + 1
+
+-- nothing changed except that there may be more room
+pub record Keeps (old new : DependIndex) : Type 0 where
+  pub lists : (t : Touch) → kept new t ≡ kept old t
+  pub room : (t : Touch) → spare old t ≤ spare new t
+  pub len : new.len ≡ old.len
+
+-- there is room for the entry's position wherever it is to be kept, and the keys have these indices
+pub record IsReadyFor (index : DependIndex) (x : Entry) (slots : Slots) : Type 0 where
+  pub actor : 0 < spare_at index.by_actor.items x.event.actor
+  pub place : AreReady index.by_key (place_key x.place) x.wrote slots.place
+  pub segment : AreReady index.by_key (segment_key x.place) x.wrote slots.segment
+
+-- the list is as before where the entry is not kept, and lost its last position where it is
+pub record Drops (x : Entry) (old new : DependIndex) : Type 0 where
+  pub lists : (t : Touch) → kept new t ≡ (if touches t x then take (length (kept old t) - 1) (kept old t) else kept old t)
+  pub room : (t : Touch) → spare new t ≡ spare old t + one_if (touches t x)
+  pub len : new.len + 1 ≡ old.len
+
+-- the entries with that at position k taken out, counted from 1
+abbrev pub without_entry : List Entry → ℕ → List Entry
+without_entry entries k = take (k - 1) entries ++ drop k entries
+
+-- how many positions it can have there before it has to grow
+abbrev pub capacity : DependIndex → Touch → ℕ
+capacity index (By a) = capacity_at index.by_actor.items a
+capacity index (Under w k) = capacity_in index.by_key w k
+
+-- the position is gone from each list, and the later ones are one less
+pub record ClosesAll (k : ℕ) (old new : DependIndex) : Type 0 where
+  pub lists : (t : Touch) → IsAscending (kept old t) → kept new t ≡ closed k (kept old t)
+  pub capacity_stays : (t : Touch) → capacity new t ≡ capacity old t
+  pub len : new.len + 1 ≡ old.len
+
+-- the index is that of some entries, which end with these
+pub record EndsWith (index : DependIndex) (last : List Entry) : Type 0 where
+  pub before : List Entry
+  pub is : IsIndexOf index (before ++ last)
+
+-- the positions above n are gone from each list
+pub record CutsAll (n : ℕ) (old new : DependIndex) : Type 0 where
+  pub lists : (t : Touch) → IsAscending (kept old t) → kept new t ≡ up_to n (kept old t)
+  pub len : new.len ≡ n

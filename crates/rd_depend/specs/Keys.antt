@@ -1,0 +1,72 @@
+-- Keys: what a list of positions is kept for, apart from the actors.
+use Rattle.std.specs.Prelude.{ℕ, ◌+◌, ◌*◌, Bool, true, false, List, [], ◌∷◌, Option, Some, None, suc, if◌then◌else◌}
+use Rattle.std.specs.Option.{option_map}
+use Rattle.rd_cell.specs.declared.places.SegName.{SegName}
+use Rattle.rd_cell.specs.declared.places.Place.{Place}
+use Rattle.rd_cell.specs.declared.places.Place.TheVariants.{QHead, QTail, Head, Tail, Next, Cell, Whole, ArrHead, ArrTail, ArrCell}
+use Rattle.rd_cell.specs.Places.{is_name, is_of, is_place, root}
+use Rattle.rd_depend.specs.declared.index.keys.Key.{Key}
+use Rattle.rd_depend.specs.declared.index.keys.Key.TheVariants.{At, In}
+
+-- whether two keys are equal
+abbrev pub is_key : Key → Key → Bool
+is_key (At p) (At q) = is_place p q
+is_key (In s) (In t) = is_name s t
+is_key _ _ = false
+
+-- whether a key, if there is one, is equal to the first
+abbrev pub is_that : Key → Option Key → Bool
+is_that q None = false
+is_that q (Some k) = is_key q k
+
+-- whether a step at this place, if it has one, is kept under the key
+abbrev pub is_under : Key → Option Place → Bool
+is_under k None = false
+is_under (At p) (Some q) = is_place p q
+is_under (In s) (Some q) = is_of s q
+
+-- the key of a place, if there is one
+abbrev pub place_key : Option Place → Option Key
+place_key None = None
+place_key (Some p) = Some (At p)
+
+-- the key of the segment that a place is one of, or the whole of
+abbrev pub segment_of_place : Place → Option Key
+segment_of_place (Head s) = Some (In s)
+segment_of_place (Tail s) = Some (In s)
+segment_of_place (Next s) = Some (In s)
+segment_of_place (Cell s i) = Some (In s)
+segment_of_place (Whole s) = Some (In s)
+segment_of_place _ = None
+
+-- the same of a place, if there is one
+abbrev pub segment_key : Option Place → Option Key
+segment_key None = None
+segment_key (Some p) = segment_of_place p
+
+-- the index of the first of these keys that is equal to this one
+abbrev pub slot_in : List Key → Key → Option ℕ
+slot_in [] k = None
+slot_in (q ∷ qs) k = if is_key k q then Some 0 else option_map (λ i. suc i) (slot_in qs k)
+
+-- a number for a part of a segment
+abbrev pub packed : ℕ → SegName → ℕ → ℕ
+packed part s i = ((part * 256 + i) * 256 + s.maker) * 4294967296 + s.n
+
+-- the number that the key of a place is hashed as
+abbrev pub place_number : Place → ℕ
+place_number QHead = 0
+place_number QTail = 1
+place_number (Head s) = packed 2 s 0
+place_number (Tail s) = packed 3 s 0
+place_number (Next s) = packed 4 s 0
+place_number (Cell s i) = packed 5 s i
+place_number (Whole s) = packed 6 s 0
+place_number ArrHead = 7
+place_number ArrTail = 8
+place_number (ArrCell i) = packed 9 root i
+
+-- the number that a key is hashed as
+abbrev pub key_number : Key → ℕ
+key_number (At p) = place_number p
+key_number (In s) = packed 10 s 0

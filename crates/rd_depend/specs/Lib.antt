@@ -1,0 +1,9 @@
+pub mod Beginnings
+pub mod Moved
+pub mod Equivalence
+pub mod Remaining
+pub mod Keys
+pub mod Lists
+pub mod Tables
+pub mod Index
+pub mod KeyLaws

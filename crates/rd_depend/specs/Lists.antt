@@ -1,0 +1,82 @@
+-- Lists of positions: what one holds, and what is found in it.
+use Rattle.std.specs.Prelude.{◌≡◌, ℕ, suc, ◌+◌, ◌-◌, ◌≤◌, Bool, true, false, nat_lt, ◌==◌, if◌then◌else◌, List, [], ◌∷◌, length, min, Option, Some, None, Vec, slice_get, vec_capacity}
+use Rattle.std.specs.declared.alloc.Global.{Global}
+
+-- lists by number
+abbrev pub Lists : Type 0
+Lists = List (Vec ℕ Global)
+
+-- the positions of a list, if it is there
+abbrev pub items_of : Option (Vec ℕ Global) → List ℕ
+items_of None = []
+items_of (Some list) = list.items
+
+-- how many positions it can have before it has to grow
+abbrev pub room_of : Option (Vec ℕ Global) → ℕ
+room_of None = 0
+room_of (Some list) = vec_capacity list
+
+-- the positions of the list of this number
+abbrev pub list_at : Lists → ℕ → List ℕ
+list_at lists i = items_of (slice_get lists i)
+
+-- how many it can have before it has to grow
+abbrev pub capacity_at : Lists → ℕ → ℕ
+capacity_at lists i = room_of (slice_get lists i)
+
+-- how many more it has room for
+abbrev pub spare_at : Lists → ℕ → ℕ
+spare_at lists i = capacity_at lists i - length (list_at lists i)
+
+-- one if it holds, else none
+abbrev pub one_if : Bool → ℕ
+one_if b = if b then 1 else 0
+
+-- how many more positions a list has room for
+abbrev pub spare_of : Vec ℕ Global → ℕ
+spare_of list = vec_capacity list - length list.items
+
+-- the positions of the list of this number, if there is one
+abbrev pub list_of : Lists → Option ℕ → List ℕ
+list_of lists None = []
+list_of lists (Some i) = list_at lists i
+
+-- how many it can have before it has to grow
+abbrev pub capacity_of : Lists → Option ℕ → ℕ
+capacity_of lists None = 0
+capacity_of lists (Some i) = capacity_at lists i
+
+-- each is greater than the one before it, and the first is at least n
+abbrev pub AscendsFrom : ℕ → List ℕ → Type 0
+AscendsFrom n [] = Unit {0}
+AscendsFrom n (p ∷ ps) = (n ≤ p) × AscendsFrom (suc p) ps
+
+-- each is greater than the one before it
+abbrev pub IsAscending : List ℕ → Type 0
+IsAscending ps = AscendsFrom 0 ps
+
+-- k taken out, and the greater ones one less
+abbrev pub closed : ℕ → List ℕ → List ℕ
+closed k [] = []
+closed k (p ∷ ps) = if nat_lt p k then p ∷ closed k ps else if p == k then closed k ps else (p - 1) ∷ closed k ps
+
+-- those before the first that is greater than n
+abbrev pub up_to : ℕ → List ℕ → List ℕ
+up_to n [] = []
+up_to n (p ∷ ps) = if nat_lt n p then [] else p ∷ up_to n ps
+
+-- how many there are before the first that is greater than k
+abbrev pub number_up_to : ℕ → List ℕ → ℕ
+number_up_to k [] = 0
+number_up_to k (p ∷ ps) = if nat_lt k p then 0 else suc (number_up_to k ps)
+
+-- the first that is greater than k
+abbrev pub first_above : ℕ → List ℕ → Option ℕ
+first_above k [] = None
+first_above k (p ∷ ps) = if nat_lt k p then Some p else first_above k ps
+
+-- the lesser of two positions, or the one that is there
+abbrev pub earlier : Option ℕ → Option ℕ → Option ℕ
+earlier None o = o
+earlier (Some m) None = Some m
+earlier (Some m) (Some n) = Some (min m n)

@@ -1,0 +1,139 @@
+//! An index of the entries of a list: it finds the first dependant of a step by look-ups in place of a scan.
+//!
+//! For each actor, each place and each segment it keeps the positions of the entries that touch it, from 1 and ascending, and
+//! apart from these the positions that wrote. It holds no entries, so who calls it gives those that it speaks of.
+
+ghost use Rattle.std.specs.Prelude.{◌≡◌, ◌+◌, ◌-◌, ◌<◌, ◌≤◌, ◌^◌, ◌++◌, ◌∷◌, [], length, take, true, List, Some, IsOk, OnOk, OnErr};
+ghost use Rattle.rd_step.specs.declared.entries.Entry.{Entry as Record};
+ghost use Rattle.rd_step.specs.Dependence.{numbered};
+ghost use Rattle.rd_step.specs.Prelude.{first_dependant};
+ghost use Rattle.rd_depend.specs.Index.{IsIndexOf, IsIndex, IsHeld, IsLast, HasRoomFor, without_entry};
+
+mod changing;
+mod finding;
+mod keys;
+mod lists;
+mod positions;
+mod probes;
+mod searching;
+mod table;
+
+pub use probes::Probes;
+use rd_cell::limits::MOST_STEPS;
+use rd_step::Entry;
+use std::alloc::{AllocError, Global};
+use table::Table;
+
+/// The positions of the entries of a list, by what they touch.
+#[derive(Drop)]
+pub struct DependIndex {
+    /// The positions of each actor, by its number.
+    by_actor: Vec<Vec<u32>>,
+    /// The positions of each place and of each segment.
+    by_key: Table,
+    /// How many positions there are.
+    len: usize,
+    alloc: Global,
+}
+
+impl DependIndex {
+    /// The index of no entries. It takes no memory.
+    pub fn new(alloc: Global) -> DependIndex
+        ensures { IsIndexOf result [] }
+    {
+        DependIndex {
+            by_actor: Vec::new(alloc),
+            by_key: Table::new(alloc),
+            len: 0,
+            alloc,
+        }
+    }
+
+    /// How many positions are held.
+    pub fn len(&self) -> u64
+        ensures { result ≡ self.now.len }
+    {
+        self.len as u64
+    }
+
+    /// Puts the entry at the next position. It costs one access by the actor's number and one look-up of the place and of its
+    /// segment.
+    ///
+    /// # Errors
+    ///
+    /// If memory was refused. No position has changed then.
+    pub fn push(&mut self, entry: &Entry) -> Result<(), AllocError>
+        requires { self.old.len < MOST_STEPS }
+        ensures ok { OnOk result ((es : List Record) → IsIndexOf self.old es → IsIndexOf self.new (es ++ entry.now ∷ [])) }
+        ensures err { OnErr result ((es : List Record) → IsIndexOf self.old es → IsIndexOf self.new es) }
+        ensures succeeds { (rest : List Record) → HasRoomFor self.old (entry.now ∷ rest) → IsOk result }
+        ensures room { OnOk result ((rest : List Record) → HasRoomFor self.old (entry.now ∷ rest) → HasRoomFor self.new rest) }
+        ensures room_stays { OnErr result ((rest : List Record) → HasRoomFor self.old rest → HasRoomFor self.new rest) }
+    {
+        self.add(entry)
+    }
+
+    /// Takes the last position away, which is the entry's. It makes room for that entry again, and takes no memory.
+    pub fn pop(&mut self, entry: &Entry)
+        requires { IsLast self.old entry.now }
+        ensures left { (es : List Record) → IsIndexOf self.old (es ++ entry.now ∷ []) → IsIndexOf self.new es }
+        ensures room { (rest : List Record) → HasRoomFor self.old rest → HasRoomFor self.new (entry.now ∷ rest) }
+    {
+        self.drop_last(entry);
+    }
+
+    /// Takes position k away, which is the entry's; later positions are one less. It goes over all lists, makes room for
+    /// that entry again, and takes no memory.
+    pub fn remove(&mut self, k: u64, entry: &Entry)
+        requires held { IsHeld self.old k entry.now }
+        requires few { self.old.len ≤ MOST_STEPS }
+        ensures left { (es : List Record) → IsIndexOf self.old es → numbered es k ≡ Some entry.now → IsIndexOf self.new (without_entry es k) }
+        ensures room { (rest : List Record) → HasRoomFor self.old rest → HasRoomFor self.new (entry.now ∷ rest) }
+    {
+        let _of = entry;
+        self.close(k as u32);
+    }
+
+    /// Takes all positions above the `n`-th away. It goes over all lists, and takes no memory. Of the room nothing is promised.
+    pub fn truncate(&mut self, n: u64)
+        requires few { self.old.len ≤ MOST_STEPS }
+        ensures left { (es : List Record) → IsIndexOf self.old es → IsIndexOf self.new (take n es) }
+    {
+        if n < self.len() {
+            self.cut(n as u32);
+        }
+    }
+
+    /// Makes room for these entries: pushing them in order, at once or after positions were taken away, is not refused. Room
+    /// that there was stays.
+    ///
+    /// # Errors
+    ///
+    /// If memory was refused. No position has changed then.
+    pub fn make_room(&mut self, entries: &[Entry]) -> Result<(), AllocError>
+        requires index { IsIndex self.old }
+        requires few { self.old.len + length entries.now ≤ MOST_STEPS }
+        ensures same { (es : List Record) → IsIndexOf self.old es → IsIndexOf self.new es }
+        ensures room { OnOk result (HasRoomFor self.new entries.now) }
+        ensures room_stays { (rest : List Record) → HasRoomFor self.old rest → HasRoomFor self.new rest }
+    {
+        let added = self.add_some(entries);
+        self.drop_all(&entries[..added]);
+        if added < entries.len() {
+            return Err(AllocError);
+        }
+        Ok(())
+    }
+
+    /// The first position after k whose entry depends on that at k, which is the entry given, or none. It makes at most 96
+    /// probes, and takes no memory.
+    pub fn first(&self, k: u64, entry: &Entry, probes: &mut Probes) -> Option<u64>
+        requires held { IsHeld self.now k entry.now }
+        requires few { self.now.len ≤ MOST_STEPS }
+        requires counted { probes.old.count < 2 ^ 32 }
+        ensures answer { (es : List Record) → IsIndexOf self.now es → numbered es k ≡ Some entry.now → result ≡ first_dependant es k }
+        ensures cost { probes.new.count ≤ probes.old.count + 96 }
+    {
+        self.first_above(k as u32, entry, probes)
+    }
+}

@@ -1,0 +1,145 @@
+//! What the calls of the index do to its lists.
+
+ghost use Rattle.std.specs.Prelude.{◌≡◌, ◌+◌, ◌<◌, ◌≤◌, ◌++◌, length, take, true, ℕ, List, IsOk, IfOk, OnOk, OnErr};
+ghost use Rattle.rd_step.specs.declared.entries.Entry.{Entry as Record};
+ghost use Rattle.rd_depend.specs.Keys.{place_key, segment_key};
+ghost use Rattle.rd_depend.specs.Index.{Touch, Adds, Keeps, Drops, ClosesAll, CutsAll, IsIndexOf, IsIndex, IsLast, IsReadyFor, EndsWith, number_of, touches, spare};
+
+use super::DependIndex;
+use super::keys::Key;
+use super::lists::{close_all, cut_all, grow, put_in, reserve_in, take_last_in};
+use rd_cell::Place;
+use rd_cell::limits::MOST_STEPS;
+use rd_step::Entry;
+use std::alloc::AllocError;
+
+/// Where an entry's positions are kept: the indices of its keys.
+#[derive(Clone, Copy)]
+struct Slots {
+    place: Option<usize>,
+    segment: Option<usize>,
+}
+
+impl DependIndex {
+    /// Puts the entry at the next position.
+    pub(super) fn add(&mut self, entry: &Entry) -> Result<(), AllocError>
+        requires { self.old.len < MOST_STEPS }
+        ensures ok { OnOk result (Adds entry.now self.old self.new) }
+        ensures err { OnErr result (Keeps self.old self.new) }
+        ensures succeeds { ((t : Touch) → touches t entry.now ≡ true → 0 < spare self.old t) → IsOk result }
+    {
+        let slots = self.reserve(entry)?;
+        self.put(entry, slots);
+        Ok(())
+    }
+
+    /// Makes room for one more position wherever the entry's is to be kept, and finds its keys.
+    fn reserve(&mut self, entry: &Entry) -> Result<Slots, AllocError>
+        ensures same { Keeps self.old self.new }
+        ensures ready { IfOk result (λ slots. IsReadyFor self.new entry.now slots) }
+        ensures succeeds { ((t : Touch) → touches t entry.now ≡ true → 0 < spare self.old t) → IsOk result }
+    {
+        let actor = usize::from(entry.event.actor);
+        grow(&mut self.by_actor, self.alloc, actor + 1)?;
+        reserve_in(&mut self.by_actor, actor)?;
+        let place = self
+            .by_key
+            .reserve(self.alloc, place_key(entry.place), entry.wrote)?;
+        let segment = self
+            .by_key
+            .reserve(self.alloc, segment_key(entry.place), entry.wrote)?;
+        Ok(Slots { place, segment })
+    }
+
+    /// Puts the entry at the next position, for which there is room.
+    fn put(&mut self, entry: &Entry, slots: Slots)
+        requires few { self.old.len < MOST_STEPS }
+        requires ready { IsReadyFor self.old entry.now slots }
+        ensures { Adds entry.now self.old self.new }
+    {
+        self.len += 1;
+        let position = self.len as u32;
+        let actor = usize::from(entry.event.actor);
+        put_in(&mut self.by_actor, actor, position);
+        self.by_key.put(slots.place, position, entry.wrote);
+        self.by_key.put(slots.segment, position, entry.wrote);
+    }
+
+    /// Takes the last position away, which is the entry's.
+    pub(super) fn drop_last(&mut self, entry: &Entry)
+        requires { IsLast self.old entry.now }
+        ensures { Drops entry.now self.old self.new }
+    {
+        self.len -= 1;
+        take_last_in(&mut self.by_actor, usize::from(entry.event.actor));
+        self.by_key.take_last(place_key(entry.place), entry.wrote);
+        self.by_key.take_last(segment_key(entry.place), entry.wrote);
+    }
+
+    /// Takes a position away; later ones are one less.
+    pub(super) fn close(&mut self, k: u32)
+        requires { 1 ≤ self.old.len }
+        ensures { ClosesAll k self.old self.new }
+    {
+        self.len -= 1;
+        close_all(&mut self.by_actor, k);
+        self.by_key.close(k);
+    }
+
+    /// Takes the positions above `n` away.
+    pub(super) fn cut(&mut self, n: u32)
+        ensures { CutsAll n self.old self.new }
+    {
+        self.len = n as usize;
+        cut_all(&mut self.by_actor, n);
+        self.by_key.cut(n);
+    }
+
+    /// Pushes these entries until one is refused, and gives how many were not.
+    pub(super) fn add_some(&mut self, entries: &[Entry]) -> usize
+        requires { self.old.len + length entries.now ≤ MOST_STEPS }
+        ensures within { result ≤ length entries.now }
+        ensures index { (es : List Record) → IsIndexOf self.old es → IsIndexOf self.new (es ++ take result entries.now) }
+        ensures room { (t : Touch) → spare self.old t ≤ spare self.new t + number_of (touches t) (take result entries.now) }
+    {
+        for count in 0..entries.len() {
+            if self.add(&entries[count]).is_err() {
+                return count;
+            }
+        }
+        entries.len()
+    }
+
+    /// Takes the positions of these entries away, which are the last ones.
+    pub(super) fn drop_all(&mut self, entries: &[Entry])
+        requires { EndsWith self.old entries.now }
+        ensures index { (es : List Record) → IsIndexOf self.old (es ++ entries.now) → IsIndexOf self.new es }
+        ensures room { (t : Touch) → spare self.new t ≡ spare self.old t + number_of (touches t) entries.now }
+    {
+        let mut left = entries.len();
+        while left > 0 {
+            left -= 1;
+            self.drop_last(&entries[left]);
+        }
+    }
+}
+
+/// The key of the place, if there is one.
+fn place_key(place: Option<Place>) -> Option<Key>
+    ensures { result ≡ place_key place }
+{
+    match place {
+        None => None,
+        Some(place) => Some(Key::At(place)),
+    }
+}
+
+/// The key of the segment that the place is one of, if there is one.
+fn segment_key(place: Option<Place>) -> Option<Key>
+    ensures { result ≡ segment_key place }
+{
+    match place {
+        None => None,
+        Some(place) => Key::of_segment(place),
+    }
+}

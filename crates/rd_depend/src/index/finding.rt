@@ -1,0 +1,99 @@
+//! The first dependant by look-ups: the first later position of the actor, and the first one at a place that overlaps, if so
+//! of those that wrote.
+
+ghost use Rattle.std.specs.Prelude.{◌≡◌, ◌+◌, ◌<◌, ◌≤◌, ◌^◌, ◌&&◌, List, Some, length};
+ghost use Rattle.rd_cell.specs.Places.{some_overlap};
+ghost use Rattle.rd_step.specs.declared.entries.Entry.{Entry as Record};
+ghost use Rattle.rd_step.specs.Prelude.{depends};
+ghost use Rattle.rd_depend.specs.Lists.{list_at, first_above, earlier, IsAscending};
+ghost use Rattle.rd_depend.specs.Tables.{counts, kept_in};
+ghost use Rattle.rd_depend.specs.Index.{IsIndexOf, positions};
+
+use super::DependIndex;
+use super::keys::Key;
+use super::positions::Positions;
+use super::probes::Probes;
+use rd_cell::Place;
+use rd_cell::limits::MOST_STEPS;
+use rd_step::Entry;
+
+impl DependIndex {
+    /// The first position greater than `k` that depends on the entry.
+    pub(super) fn first_above(&self, k: u32, entry: &Entry, probes: &mut Probes) -> Option<u64>
+        requires few { self.now.len ≤ MOST_STEPS }
+        requires counted { probes.old.count < 2 ^ 32 }
+        ensures answer { (es : List Record) → IsIndexOf self.now es → result ≡ first_above k (positions (depends entry.now) es) }
+        ensures cost { probes.new.count ≤ probes.old.count + 96 }
+    {
+        let by_actor = self.first_by(k, entry.event.actor, probes);
+        match entry.place {
+            None => by_actor,
+            Some(place) => earlier(by_actor, self.first_at(k, place, !entry.wrote, probes)),
+        }
+    }
+
+    /// The first position greater than `k` at a place that overlaps this one, of all or of those that wrote.
+    fn first_at(&self, k: u32, place: Place, writes: bool, probes: &mut Probes) -> Option<u64>
+        requires few { self.now.len ≤ MOST_STEPS }
+        requires counted { probes.old.count < 2 ^ 33 }
+        ensures answer { (es : List Record) → IsIndexOf self.now es
+            → result ≡ first_above k (positions (λ y. counts writes y.wrote && some_overlap (Some place) y.place) es) }
+        ensures cost { probes.new.count ≤ probes.old.count + 38 }
+    {
+        if let Place::Whole(name) = place {
+            return self.first_under(k, Key::In(name), writes, probes);
+        }
+        let own = self.first_under(k, Key::At(place), writes, probes);
+        let Some(name) = place.segment() else {
+            return own;
+        };
+        earlier(
+            own,
+            self.first_under(k, Key::At(Place::Whole(name)), writes, probes),
+        )
+    }
+
+    /// The first position greater than `k` that is kept under the key; at most 19 probes.
+    fn first_under(&self, k: u32, key: Key, writes: bool, probes: &mut Probes) -> Option<u64>
+        requires { probes.old.count < 2 ^ 34 }
+        ensures answer { IsAscending (kept_in self.now.by_key writes key) → length (kept_in self.now.by_key writes key) < 2 ^ 17
+            → result ≡ first_above k (kept_in self.now.by_key writes key) }
+        ensures cost { probes.new.count ≤ probes.old.count + 19 }
+    {
+        Positions::found(self.by_key.list(key, writes), probes).first_above(k, probes)
+    }
+
+    /// The first position greater than `k` of the actor; at most 19 probes.
+    fn first_by(&self, k: u32, actor: u8, probes: &mut Probes) -> Option<u64>
+        requires { probes.old.count < 2 ^ 34 }
+        ensures answer { IsAscending (list_at self.now.by_actor.items actor) → length (list_at self.now.by_actor.items actor) < 2 ^ 17
+            → result ≡ first_above k (list_at self.now.by_actor.items actor) }
+        ensures cost { probes.new.count ≤ probes.old.count + 19 }
+    {
+        let list = positions_of(&self.by_actor, actor);
+        Positions::found(list, probes).first_above(k, probes)
+    }
+}
+
+/// The actor's positions.
+fn positions_of(by_actor: &[Vec<u32>], actor: u8) -> &[u32]
+    ensures { result.now ≡ list_at by_actor.now actor }
+{
+    let index = usize::from(actor);
+    if index < by_actor.len() {
+        &by_actor[index]
+    } else {
+        &[]
+    }
+}
+
+/// The lesser of two positions, or the one that is there.
+fn earlier(a: Option<u64>, b: Option<u64>) -> Option<u64>
+    ensures { result ≡ earlier a b }
+{
+    match (a, b) {
+        (Some(m), Some(n)) => Some(m.min(n)),
+        (Some(_), None) => a,
+        (None, _) => b,
+    }
+}

@@ -1,0 +1,103 @@
+//! What a list of positions is kept for, apart from the actors: a place or a segment.
+//!
+//! Keys are hashed as one number, since all of them are looked up at each step.
+
+ghost use Rattle.std.specs.Prelude.{◌≡◌, ◌+◌, ◌*◌, ◌^◌, ◌<◌, Bool, Some, None};
+ghost use Rattle.std.proofs.Common.{ap};
+ghost use Rattle.std.specs.Hash as fed;
+ghost use Rattle.std.specs.Cmp.{partial_equiv_from_equiv};
+ghost use Rattle.rd_depend.specs.Keys.{is_key, key_number, place_number, packed, segment_of_place};
+ghost use Rattle.rd_depend.specs.KeyLaws.{key_equiv, key_number-same};
+
+use rd_cell::{Place, SegName};
+use std::hash::{Hash, Hasher};
+
+/// A place or a segment.
+#[derive(Clone, Copy, Debug)]
+pub(crate) enum Key {
+    /// For the steps at this place alone.
+    At(Place),
+    /// For the steps at each place of this segment, the whole of it included.
+    In(SegName),
+}
+
+impl Key {
+    /// The key of the segment that the place is one of, or the whole of.
+    pub(crate) fn of_segment(place: Place) -> Option<Key>
+        ensures { result ≡ segment_of_place place }
+    {
+        match place {
+            Place::Head(name)
+            | Place::Tail(name)
+            | Place::Next(name)
+            | Place::Cell(name, _)
+            | Place::Whole(name) => Some(Key::In(name)),
+            Place::QHead | Place::QTail | Place::ArrHead | Place::ArrTail | Place::ArrCell(_) =>
+                None,
+        }
+    }
+
+    /// The number that the key is hashed as.
+    fn number(&self) -> u64
+        ensures { result ≡ key_number self.now }
+    {
+        match *self {
+            Key::At(place) => place_number(place),
+            Key::In(name) => packed(10, name, 0),
+        }
+    }
+}
+
+/// The number of the key of a place.
+fn place_number(place: Place) -> u64
+    ensures { result ≡ place_number place }
+{
+    match place {
+        Place::QHead => 0,
+        Place::QTail => 1,
+        Place::Head(name) => packed(2, name, 0),
+        Place::Tail(name) => packed(3, name, 0),
+        Place::Next(name) => packed(4, name, 0),
+        Place::Cell(name, index) => packed(5, name, index),
+        Place::Whole(name) => packed(6, name, 0),
+        Place::ArrHead => 7,
+        Place::ArrTail => 8,
+        Place::ArrCell(index) => packed(9, SegName::ROOT, index),
+    }
+}
+
+/// A number for a part of a segment.
+fn packed(part: u8, name: SegName, index: u8) -> u64
+    ensures { result ≡ packed part name index }
+{
+    let within = u64::from(part) * 256 + u64::from(index);
+    (within * 256 + u64::from(name.maker)) * 4_294_967_296 + u64::from(name.n)
+}
+
+impl PartialEq for Key {
+    ghost eq = { is_key };
+
+    ghost laws = { partial_equiv_from_equiv key_equiv };
+
+    fn eq(&self, other: &Key) -> bool {
+        match (*self, *other) {
+            (Key::At(p), Key::At(q)) => p == q,
+            (Key::In(s), Key::In(t)) => s == t,
+            _ => false,
+        }
+    }
+}
+
+impl Eq for Key {
+    ghost laws = { key_equiv };
+}
+
+impl Hash for Key {
+    ghost hash_input = { λ k. fed.u64 (key_number k) };
+
+    ghost respects_eq = { key_number-same };
+
+    fn hash<H: Hasher>(&self, state: &mut H) {
+        state.write_u64(self.number());
+    }
+}

@@ -1,0 +1,46 @@
+//! The search among ascending positions, by halving.
+
+ghost use Rattle.std.specs.Prelude.{◌≡◌, ◌+◌, ◌<◌, ◌≤◌, ◌^◌, length};
+ghost use Rattle.rd_depend.specs.Lists.{IsAscending, first_above, number_up_to};
+
+use super::positions::Positions;
+use super::probes::Probes;
+
+impl<'a> Positions<'a> {
+    /// How many of them are at most `k`, by halving; at most 17 probes.
+    fn count_up_to(&self, k: u32, probes: &mut Probes) -> usize
+        requires { probes.old.count < 2 ^ 62 }
+        ensures within { result ≤ length self.now.items.now }
+        ensures cost { probes.new.count ≤ probes.old.count + 17 }
+        ensures count { IsAscending self.now.items.now → length self.now.items.now < 2 ^ 17 → result ≡ number_up_to k self.now.items.now }
+    {
+        let mut low = 0;
+        let mut high = self.len();
+        for round in 0..17_usize {
+            if low >= high {
+                return low;
+            }
+            let middle = low + (high - low) / 2;
+            if self.look(middle, probes) <= k {
+                low = middle + 1;
+            } else {
+                high = middle;
+            }
+        }
+        low
+    }
+
+    /// The least of them that is greater than `k`; at most 18 probes.
+    pub(crate) fn first_above(&self, k: u32, probes: &mut Probes) -> Option<u64>
+        requires { probes.old.count < 2 ^ 61 }
+        ensures first { IsAscending self.now.items.now → length self.now.items.now < 2 ^ 17 → result ≡ first_above k self.now.items.now }
+        ensures cost { probes.new.count ≤ probes.old.count + 18 }
+    {
+        let index = self.count_up_to(k, probes);
+        if index < self.len() {
+            Some(u64::from(self.look(index, probes)))
+        } else {
+            None
+        }
+    }
+}

@@ -1,0 +1,174 @@
+//! The lists of places and of segments: of each, the positions that touch it, and apart from these those that wrote.
+
+ghost use Rattle.std.specs.Prelude.{◌≡◌, length};
+
+use super::keys::Key;
+use super::lists::{
+    close_all, cut_all, put_if, put_in, reserve_if, reserve_in, take_last_if, take_last_in,
+};
+use indexmap::IndexSet;
+use std::alloc::{AllocError, Global};
+
+/// Keys with their lists, each by the index of its key. A key stays when its lists are empty.
+#[derive(Drop)]
+pub(crate) struct Table {
+    keys: IndexSet<Key>,
+    all: Vec<Vec<u32>>,
+    writes: Vec<Vec<u32>>,
+    ghost all_there: { length all.items ≡ length keys.keys },
+    ghost writes_there: { length writes.items ≡ length keys.keys },
+}
+
+impl Table {
+    ghost use Rattle.std.specs.Prelude.{◌<◌, ◌≤◌, Option, Some, Bool, true, IsOk, IfOk, IfSome, false, []};
+    ghost use Rattle.rd_depend.specs.Keys.{slot_in};
+    ghost use Rattle.rd_depend.specs.Tables.{kept_in, spare_in, counts, IsReady, IsReadyAt, AreReady, AreReadyAt, KeepsLists, Puts, HasLast, TakesLast, Closes, Cuts};
+    ghost use Rattle.rd_depend.specs.declared.index.keys.Key.{Key as Kept};
+
+    /// No key; it takes no memory.
+    pub(crate) fn new(alloc: Global) -> Table
+        ensures { (w : Bool) (k : Kept) → kept_in result w k ≡ [] }
+    {
+        Table {
+            keys: IndexSet::new(alloc),
+            all: Vec::new(alloc),
+            writes: Vec::new(alloc),
+        }
+    }
+
+    /// The index of the key, if it is there.
+    pub(crate) fn slot(&self, key: Key) -> Option<usize>
+        ensures slot { result ≡ slot_in self.now.keys.keys key }
+        ensures within { IfSome result (λ i. i < length self.now.keys.keys) }
+    {
+        self.keys.get_index_of(&key)
+    }
+
+    /// The positions kept for the key: all of them, or those that wrote.
+    pub(crate) fn list(&self, key: Key, writes: bool) -> &[u32]
+        ensures { result.now ≡ kept_in self.now writes key }
+    {
+        let Some(slot) = self.slot(key) else {
+            return &[];
+        };
+        if writes {
+            &self.writes[slot]
+        } else {
+            &self.all[slot]
+        }
+    }
+
+    /// Makes room under a key, if there is one, for one more position, and gives its index.
+    ///
+    /// # Errors
+    ///
+    /// If memory was refused. No position has changed then.
+    pub(crate) fn reserve(
+        &mut self,
+        alloc: Global,
+        key: Option<Key>,
+        wrote: bool,
+    ) -> Result<Option<usize>, AllocError>
+        ensures same { KeepsLists self.old self.new }
+        ensures ready { IfOk result (AreReady self.new key wrote) }
+        ensures succeeds { ((w : Bool) (k : Kept) → key ≡ Some k → counts w wrote ≡ true → 0 < spare_in self.old w k) → IsOk result }
+    {
+        match key {
+            None => Ok(None),
+            Some(key) => Ok(Some(self.reserve_under(alloc, key, wrote)?)),
+        }
+    }
+
+    /// The index of the key, which is put there if it isn't yet, with room for one more position in its list, and in that of
+    /// its writes if the step wrote.
+    ///
+    /// # Errors
+    ///
+    /// If memory was refused. No position has changed then.
+    fn reserve_under(&mut self, alloc: Global, key: Key, wrote: bool) -> Result<usize, AllocError>
+        ensures same { KeepsLists self.old self.new }
+        ensures ready { IfOk result (IsReady self.new key wrote) }
+        ensures succeeds { ((w : Bool) → counts w wrote ≡ true → 0 < spare_in self.old w key) → IsOk result }
+    {
+        let slot = self.slot_or_new(alloc, key)?;
+        reserve_in(&mut self.all, slot)?;
+        reserve_if(&mut self.writes, wrote, slot)?;
+        Ok(slot)
+    }
+
+    /// The index of the key, which is put there with empty lists if it isn't yet.
+    fn slot_or_new(&mut self, alloc: Global, key: Key) -> Result<usize, AllocError>
+        ensures same { KeepsLists self.old self.new }
+        ensures slot { IfOk result (λ i. slot_in self.new.keys.keys key ≡ Some i) }
+        ensures within { IfOk result (λ i. i < length self.new.keys.keys) }
+        ensures succeeds { 0 < spare_in self.old false key → IsOk result }
+    {
+        if let Some(slot) = self.slot(key) {
+            return Ok(slot);
+        }
+        self.all.reserve(1)?;
+        self.writes.reserve(1)?;
+        let slot = self.keys.len();
+        self.keys.insert(key)?;
+        self.all.push_reserved(Vec::new(alloc));
+        self.writes.push_reserved(Vec::new(alloc));
+        Ok(slot)
+    }
+
+    /// Puts a position at the end of the list of the key of this index, if there is one, and of that of its writes if the step
+    /// wrote.
+    pub(crate) fn put(&mut self, slot: Option<usize>, position: u32, wrote: bool)
+        requires { AreReadyAt self.old wrote slot }
+        ensures { (k : Option Kept) → AreReady self.old k wrote slot → Puts k wrote position self.old self.new }
+    {
+        if let Some(slot) = slot {
+            self.put_at(slot, position, wrote);
+        }
+    }
+
+    /// The same at an index that is there.
+    fn put_at(&mut self, slot: usize, position: u32, wrote: bool)
+        requires { IsReadyAt self.old wrote slot }
+        ensures { (k : Kept) → IsReady self.old k wrote slot → Puts (Some k) wrote position self.old self.new }
+    {
+        put_in(&mut self.all, slot, position);
+        put_if(&mut self.writes, wrote, slot, position);
+    }
+
+    /// Takes the last position out of the list of the key, if there is one, and out of that of its writes if the step wrote.
+    pub(crate) fn take_last(&mut self, key: Option<Key>, wrote: bool)
+        requires { HasLast self.old key wrote }
+        ensures { TakesLast key wrote self.old self.new }
+    {
+        if let Some(key) = key {
+            self.take_last_under(key, wrote);
+        }
+    }
+
+    /// The same under a key that is there.
+    fn take_last_under(&mut self, key: Key, wrote: bool)
+        requires { HasLast self.old (Some key) wrote }
+        ensures { TakesLast (Some key) wrote self.old self.new }
+    {
+        if let Some(slot) = self.slot(key) {
+            take_last_in(&mut self.all, slot);
+            take_last_if(&mut self.writes, wrote, slot);
+        }
+    }
+
+    /// Takes a position out of each list that has it, and 1 off the positions above it.
+    pub(crate) fn close(&mut self, k: u32)
+        ensures { Closes k self.old self.new }
+    {
+        close_all(&mut self.all, k);
+        close_all(&mut self.writes, k);
+    }
+
+    /// Takes the positions above `n` out of each list.
+    pub(crate) fn cut(&mut self, n: u32)
+        ensures { Cuts n self.old self.new }
+    {
+        cut_all(&mut self.all, n);
+        cut_all(&mut self.writes, n);
+    }
+}

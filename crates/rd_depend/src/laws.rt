@@ -1,0 +1,18 @@
+//! Laws of dependence and of equivalence: each is the contract of a function that does nothing.
+
+ghost use Rattle.std.specs.Prelude.{◌≡◌, ℕ, List, Ok};
+ghost use Rattle.rd_step.specs.declared.entries.Event.{Event};
+ghost use Rattle.rd_step.specs.declared.entries.Entry.{Entry as Record};
+ghost use Rattle.rd_step.specs.Prelude.{World, Ran, run, depends};
+ghost use Rattle.rd_step.specs.Equivalence.{IsEquivalent};
+
+/// Dependence is the same either way round.
+pub fn dependence_is_symmetric()
+    ensures { (x y : Record) → depends x y ≡ depends y x }
+{}
+
+/// Causal equivalence of two runs from one start is the same either way round.
+pub fn equivalence_is_symmetric()
+    ensures { (R : ℕ) (w : World) (es fs : List Event) (r q : Ran) → run R w es ≡ Ok r → run R w fs ≡ Ok q → IsEquivalent R w es fs
+        → IsEquivalent R w fs es }
+{}

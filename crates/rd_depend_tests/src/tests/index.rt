@@ -1,0 +1,221 @@
+//! Tests of the index: whatever is pushed, taken from the end or taken out, the first dependant that it finds is that of the
+//! scan.
+
+ghost use Rattle.rd_depend.specs.Index.{IsIndexOf};
+
+use super::{Access, MADE, OTHER, record};
+use rd_cell::Place;
+use rd_cell::limits::MOST_STEPS;
+use rd_depend::dependence::first_dependant;
+use rd_depend::index::{DependIndex, Probes};
+use rd_step::Entry;
+use std::alloc::Global;
+use std::process::Abort;
+use std::test::Fail;
+
+/// An index beside the entries that it is of.
+#[derive(Drop)]
+struct Both {
+    index: DependIndex,
+    entries: Vec<Entry>,
+    ghost same: { IsIndexOf index entries.items },
+}
+
+impl Both {
+    ghost use Rattle.std.specs.Prelude.{◌≡◌, ◌<◌, ◌≤◌, length};
+
+    /// No entry.
+    fn new(alloc: Global) -> Both {
+        Both {
+            index: DependIndex::new(alloc),
+            entries: Vec::new(alloc),
+        }
+    }
+
+    /// Pushes an entry.
+    fn push(&mut self, entry: Entry) -> Result<(), Fail> {
+        if self.entries.len() < MOST_STEPS {
+            self.entries.reserve(1)?;
+            self.index.push(&entry)?;
+            self.entries.push_reserved(entry);
+        }
+        Ok(())
+    }
+
+    /// Takes the last entry away, if there is one.
+    fn pop(&mut self) {
+        if let Some(entry) = self.entries.pop() {
+            self.index.pop(&entry);
+        }
+    }
+
+    /// Takes the entry of this index out.
+    fn remove(&mut self, at: usize) {
+        if at < self.entries.len() && self.entries.len() <= MOST_STEPS {
+            let entry = self.entries.remove(at);
+            self.index.remove(at as u64 + 1, &entry);
+        }
+    }
+
+    /// Makes room for these, if they are not too many.
+    fn make_room(&mut self, entries: &[Entry]) -> Result<(), Fail> {
+        let len = self.entries.len();
+        if len <= MOST_STEPS && entries.len() <= MOST_STEPS - len {
+            self.index.make_room(entries)?;
+        }
+        Ok(())
+    }
+
+    /// Compares the first dependant of the entry of this index with what the scan finds; gives the probes.
+    fn compare(&self, rt: &impl Abort, at: usize) -> u64 {
+        let mut probes = Probes::new();
+        if at < self.entries.len() && self.entries.len() <= MOST_STEPS {
+            let k = at as u64 + 1;
+            let found = self.index.first(k, &self.entries[at], &mut probes);
+            assert_eq!(rt; found, first_dependant(&self.entries, k), "at {k}");
+        }
+        probes.count()
+    }
+
+    /// Compares each.
+    fn compare_all(&self, rt: &impl Abort) {
+        assert_eq!(rt; self.index.len(), self.entries.len() as u64);
+        for at in 0..self.entries.len() {
+            assert!(rt; self.compare(rt, at) <= 96);
+        }
+    }
+}
+
+/// Places of which some overlap.
+const PLACES: [Option<Place>; 16] = [
+    None,
+    Some(Place::QHead),
+    Some(Place::QTail),
+    Some(Place::Head(MADE)),
+    Some(Place::Tail(MADE)),
+    Some(Place::Next(MADE)),
+    Some(Place::Cell(MADE, 0)),
+    Some(Place::Cell(MADE, 1)),
+    Some(Place::Whole(MADE)),
+    Some(Place::Head(OTHER)),
+    Some(Place::Cell(OTHER, 1)),
+    Some(Place::Whole(OTHER)),
+    Some(Place::ArrHead),
+    Some(Place::ArrTail),
+    Some(Place::ArrCell(1)),
+    Some(Place::ArrCell(63)),
+];
+
+/// Numbers that follow no pattern.
+#[derive(Drop)]
+struct Draws {
+    state: u32,
+}
+
+impl Draws {
+    ghost use Rattle.std.specs.Prelude.{◌<◌};
+
+    /// A number below this one.
+    fn below(&mut self, end: u32) -> u32
+        requires { 0 < end }
+        ensures { result < end }
+    {
+        self.state = self
+            .state
+            .wrapping_mul(1_664_525)
+            .wrapping_add(1_013_904_223);
+        (self.state >> 8) % end
+    }
+
+    /// An access by one of the actors up to this number.
+    fn access(&mut self, actors: u8) -> Access {
+        let actor = self.below(u32::from(actors) + 1).min(255) as u8;
+        let place = PLACES[self.below(16) as usize];
+        (actor, place, self.below(3) == 0)
+    }
+}
+
+/// Makes a change: pushes, pops or takes out, as it is drawn.
+fn change(both: &mut Both, draws: &mut Draws, actors: u8) -> Result<(), Fail> {
+    let len = both.entries.len();
+    match draws.below(8) {
+        0 => both.pop(),
+        1 => {
+            let at = draws.below(64) as usize;
+            both.remove(at.min(len));
+        }
+        _ => both.push(record(draws.access(actors)))?,
+    }
+    Ok(())
+}
+
+#[test]
+fn the_index_finds_what_the_scan_finds(rt: HostRuntime) -> Result<(), Fail> {
+    let mut draws = Draws { state: 1 };
+    for actors in [0, 2, 40] {
+        let mut both = Both::new(rt.alloc());
+        for _ in 0..120 {
+            change(&mut both, &mut draws, actors)?;
+            both.compare_all(&rt);
+        }
+    }
+    Ok(())
+}
+
+/// The last entries of a long list and the first ones.
+const AT: [usize; 7] = [0, 1, 255, 256, 32_767, 65_533, 65_534];
+
+#[test]
+fn as_many_entries_as_there_may_be_are_found_by_few_probes(rt: HostRuntime) -> Result<(), Fail> {
+    let mut both = Both::new(rt.alloc());
+    for _ in 0..MOST_STEPS {
+        both.push(record((1, Some(Place::Tail(MADE)), true)))?;
+    }
+    for at in AT {
+        assert!(rt; both.compare(&rt, at) <= 96);
+    }
+    both.remove(0);
+    both.pop();
+    for at in AT {
+        assert!(rt; both.compare(&rt, at) <= 96);
+    }
+    Ok(())
+}
+
+/// Reads of a segment's cells by several actors, and a write of the whole of it between them.
+const WHOLE: [Access; 7] = [
+    (1, Some(Place::Cell(MADE, 0)), false),
+    (2, Some(Place::Cell(MADE, 1)), false),
+    (3, Some(Place::Whole(MADE)), true),
+    (4, Some(Place::Cell(OTHER, 0)), true),
+    (5, Some(Place::Cell(MADE, 0)), false),
+    (6, Some(Place::Whole(MADE)), false),
+    (7, Some(Place::Cell(MADE, 1)), true),
+];
+
+#[test]
+fn the_whole_of_a_segment_is_found_between_its_cells(rt: HostRuntime) -> Result<(), Fail> {
+    let mut both = Both::new(rt.alloc());
+    for access in WHOLE {
+        both.push(record(access))?;
+        both.compare_all(&rt);
+    }
+    for _ in 0..WHOLE.len() {
+        both.remove(1);
+        both.compare_all(&rt);
+    }
+    Ok(())
+}
+
+#[test]
+fn room_that_was_made_is_there_for_the_entries(rt: HostRuntime) -> Result<(), Fail> {
+    let entries = WHOLE.map(record);
+    let mut both = Both::new(rt.alloc());
+    both.make_room(&entries)?;
+    assert_eq!(rt; both.index.len(), 0);
+    for entry in entries {
+        both.push(entry)?;
+    }
+    both.compare_all(&rt);
+    Ok(())
+}

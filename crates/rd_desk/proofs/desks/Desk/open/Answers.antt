@@ -1,0 +1,12 @@
+use Rattle.std.proofs.Common.{ap, ◌∙◌}
+use Rattle.rd_marks.specs.BookViews.{book_state}
+use Rattle.rd_desk.proofs.PassLemmas.{are_new_viewers}
+use Rattle.rd_desk.proofs.desks.Desk.open.Goals as goal
+
+pub returns-in-Ok-clause-ok : goal.returns-in-Ok-clause-ok
+returns-in-Ok-clause-ok g c = let h = c.in-Ok.ensures.ok in record {
+  counted = h.counted;
+  state = ap book_state (h.rooted ∙ c.new-kept.ensures.opened);
+  are_new = are_new_viewers record { lock = c.in-Ok.lock } c.in-Ok.passes.items h.are_new;
+  numbered = h.numbered;
+}

@@ -1,0 +1,57 @@
+-- What contracts say of a desk and of its passes. A pass is the lock's: what it has seen and asked are `seen` and `own` of the lock.
+use Rattle.std.specs.Prelude.{◌≡◌, ℕ, List, [], map}
+use mathlib.Core.List.{IsPrefix}
+use Rattle.rd_lock.specs.declared.views.Recorded.{Ghosts}
+use Rattle.rd_lock.specs.declared.passes.Pass.{Pass}
+use Rattle.rd_lock.specs.Histories.{Every, named, numbers, NamesUpTo, AreAll}
+use Rattle.rd_lock.specs.Locks.{number, seen, own, seats, root, IsOut, IsPassOf}
+use Rattle.rd_marks.specs.Books.{BookState}
+use Rattle.rd_marks.specs.BookViews.{book_state}
+use Rattle.rd_marks.specs.declared.books.Book.{Book}
+use Rattle.rd_desk.specs.declared.desks.Desk.{Desk}
+use Rattle.rd_desk.specs.declared.histories.Call.{Call}
+use Rattle.rd_desk.specs.declared.histories.History.{History}
+use Rattle.rd_desk.specs.declared.recording.BookWithHistory.{BookWithHistory}
+use Rattle.rd_desk.specs.Histories.{entries, IsLeftBy}
+
+module _ {R : ℕ} where
+  -- how many viewers the desk was opened for
+  abbrev pub viewers : Desk R → ℕ
+  viewers desk = seats desk.lock
+
+  -- the state of the book that the desk was opened with
+  abbrev pub opened_state : Desk R → BookState
+  opened_state desk = book_state (root (λ kept. kept.opened.value) desk.lock)
+
+  module _ {K : Ghosts (BookWithHistory R) Call (Book R)} where
+    -- the pass is one of the desk's, and is in no call
+    abbrev pub IsViewerOf : Desk R → Pass (BookWithHistory R) Call (Book R) K → Type 0
+    IsViewerOf desk pass = IsPassOf desk.lock pass × IsOut pass
+
+    -- a pass of a desk that has just been opened
+    pub record IsNewViewer (desk : Desk R) (pass : Pass (BookWithHistory R) Call (Book R) K) : Type 0 where
+      pub is_viewer : IsViewerOf desk pass
+      pub has_seen : seen pass ≡ []
+      pub has_own : own pass ≡ []
+
+    -- the desk has this book and so many viewers, and its passes are new and have the numbers from 1 on
+    pub record IsOpened (book : Book R) (count : ℕ) (desk : Desk R) (passes : List (Pass (BookWithHistory R) Call (Book R) K)) : Type 0 where
+      pub counted : viewers desk ≡ count
+      pub state : opened_state desk ≡ book_state book
+      pub are_new : Every (IsNewViewer desk) passes
+      pub numbered : map number passes ≡ numbers 1 count
+
+    -- the history begins with what the pass had seen, and its entries that name the pass are its own
+    abbrev pub Tells : History → Pass (BookWithHistory R) Call (Book R) K → Type 0
+    Tells history pass = IsPrefix (seen pass) (entries history) × (own pass ≡ named (number pass) 0 (entries history))
+
+    -- The history is legal from the book that was opened and leaves this book; each entry names a viewer of the desk; and it tells of
+    -- each pass that was handed in.
+    pub record IsClosedOver (desk : Desk R) (passes : List (Pass (BookWithHistory R) Call (Book R) K)) (book : Book R) (history : History) : Type 0 where
+      pub leaves : IsLeftBy R (opened_state desk) (entries history) (book_state book)
+      pub names : NamesUpTo (viewers desk) (entries history)
+      pub tells : Every (Tells history) passes
+
+    -- these are all passes of the desk
+    abbrev pub AreAllOf : Desk R → List (Pass (BookWithHistory R) Call (Book R) K) → Type 0
+    AreAllOf desk passes = AreAll (viewers desk) (map number passes)

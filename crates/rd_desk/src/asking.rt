@@ -1,0 +1,85 @@
+//! The calls of a desk: a viewer asks one command.
+//!
+//! A call takes the lock, has the book obey the command and record the call, and puts the book back. The call happens as it is put
+//! back, at the one add to the word `served`.
+
+ghost use Rattle.std.specs.Prelude.{◌≡◌, IfOk, IfErr};
+ghost use Rattle.rd_lock.specs.Locks.{IsPassOf, IsTaken};
+ghost use Rattle.rd_desk.specs.Desks.{opened_state, viewers, IsViewerOf};
+ghost use Rattle.rd_desk.specs.Asking.{HasAsked, IsRefused, IsWaitedOut};
+
+use super::desks::{Desk, DeskPass};
+use super::gates::DeskRefusal;
+use super::recording::BookWithHistory;
+use rd_cell::Refusal;
+use rd_lock::Missed;
+use rd_marks::{Command, Reply};
+use std::sync::Wait;
+
+impl<const R: usize> Desk<R> {
+    /// Asks one command. It waits for the viewers before it.
+    ///
+    /// # Errors
+    ///
+    /// `TicketsEnded` if all tickets of the lock are drawn, as this pass saw it. Under the lock, in this order: `HistoryFull` if the
+    /// history has `MOST_CALLS` calls; `NotRecorded` if the room for one more was refused. The book has not changed then.
+    pub fn ask<W: Wait>(
+        &self,
+        rt: &W,
+        pass: &mut DeskPass<R>,
+        command: Command,
+    ) -> Result<Result<Reply, Refusal>, DeskRefusal>
+        requires own { IsViewerOf self.now pass.old }
+        ensures own { IsViewerOf self.now pass.new }
+        ensures ok { IfOk result (λ answer. HasAsked R (opened_state self.now) pass.old pass.new command answer) }
+        ensures err { IfErr result (λ refusal. IsRefused R (opened_state self.now) pass.old pass.new refusal) }
+        ensures waits { IfErr result IsWaitedOut }
+    {
+        match self.lock.take(rt, pass) {
+            Ok(kept) => self.record_and_put_back(pass, kept, command),
+            Err(_) => Err(DeskRefusal::TicketsEnded),
+        }
+    }
+
+    /// Asks one command if the lock is free. It waits for nobody.
+    ///
+    /// # Errors
+    ///
+    /// `Busy` if the lock isn't free; otherwise those of `ask`.
+    pub fn try_ask(
+        &self,
+        pass: &mut DeskPass<R>,
+        command: Command,
+    ) -> Result<Result<Reply, Refusal>, DeskRefusal>
+        requires own { IsViewerOf self.now pass.old }
+        ensures own { IsViewerOf self.now pass.new }
+        ensures ok { IfOk result (λ answer. HasAsked R (opened_state self.now) pass.old pass.new command answer) }
+        ensures err { IfErr result (λ refusal. IsRefused R (opened_state self.now) pass.old pass.new refusal) }
+        ensures succeeds { viewers self.now ≡ 1 → IfErr result IsWaitedOut }
+    {
+        match self.lock.try_take(pass) {
+            Ok(kept) => self.record_and_put_back(pass, kept, command),
+            Err(Missed::Busy(words)) => Err(DeskRefusal::Busy(words)),
+            Err(Missed::TicketsEnded) => Err(DeskRefusal::TicketsEnded),
+        }
+    }
+
+    /// Has the book that the pass took obey a command, records the call if there is room, and puts the book back.
+    fn record_and_put_back(
+        &self,
+        pass: &mut DeskPass<R>,
+        mut kept: BookWithHistory<R>,
+        command: Command,
+    ) -> Result<Result<Reply, Refusal>, DeskRefusal>
+        requires own { IsPassOf self.now.lock pass.old }
+        requires taken { IsTaken self.now.lock pass.old pass.old kept }
+        ensures own { IsViewerOf self.now pass.new }
+        ensures ok { IfOk result (λ answer. HasAsked R (opened_state self.now) pass.old pass.new command answer) }
+        ensures err { IfErr result (λ refusal. IsRefused R (opened_state self.now) pass.old pass.new refusal) }
+        ensures waits { IfErr result IsWaitedOut }
+    {
+        let answer = kept.record(pass.number(), command);
+        self.lock.put_back(pass, kept);
+        answer
+    }
+}

@@ -1,0 +1,87 @@
+//! The desk: a book with its history under the ticket lock. Opening, meeting and closing; the calls are in `asking`.
+
+ghost use Rattle.std.specs.Prelude.{◌≡◌, ◌<◌, ◌≤◌, ◌^◌, IfOk, IfErr, IsOk};
+ghost use Rattle.rd_lock.specs.Histories.{Every};
+ghost use Rattle.rd_lock.specs.Locks.{served_seen, IsSamePass};
+ghost use Rattle.rd_lock.specs.Opening.{AreInLine, HasSeenUpTo};
+ghost use Rattle.rd_desk.specs.Desks.{IsViewerOf, IsOpened, IsClosedOver, AreAllOf};
+
+use super::histories::History;
+use super::recording::BookWithHistory;
+use rd_lock::{Busy, NoMemory, Pass, TicketLock};
+use rd_marks::Book;
+use std::alloc::Global;
+
+/// A desk has no more viewers than these.
+pub const MOST_VIEWERS: u64 = 64;
+
+/// A viewer's right to ask: a pass of the desk's lock. Its number is the viewer's, from 1.
+pub type DeskPass<const R: usize> = Pass<BookWithHistory<R>>;
+
+/// One debugger that several viewers share.
+#[derive(Drop)]
+pub struct Desk<const R: usize> {
+    pub(crate) lock: TicketLock<BookWithHistory<R>>,
+}
+
+impl<const R: usize> Desk<R> {
+    /// A desk over the book, with an empty history, and a pass for each viewer, numbered from 1 on.
+    ///
+    /// # Errors
+    ///
+    /// `NoMemory` with the book if memory was refused.
+    pub fn open(
+        alloc: Global,
+        book: Book<R>,
+        viewers: u64,
+    ) -> Result<(Desk<R>, Vec<DeskPass<R>>), (NoMemory, Book<R>)>
+        requires viewers { (1 ≤ viewers) × (viewers ≤ MOST_VIEWERS) }
+        ensures ok { IfOk result (λ opened. IsOpened book.entry viewers opened.0 opened.1.items) }
+        ensures err { IfErr result (λ refused. refused.1 ≡ book.entry) }
+    {
+        let kept = BookWithHistory::new(alloc, book);
+        match TicketLock::open(alloc, kept, viewers) {
+            Ok((lock, passes)) => Ok((Desk { lock }, passes)),
+            Err((refused, kept)) => {
+                let BookWithHistory { book, .. } = kept;
+                Err((refused, book))
+            }
+        }
+    }
+
+    /// Two passes learn that of what they have seen one begins the other. The number is that of the ticket that is served
+    /// then, which is how many calls were made and are done with.
+    pub fn meet(&self, one: DeskPass<R>, other: DeskPass<R>) -> (u64, DeskPass<R>, DeskPass<R>)
+        requires own { IsViewerOf self.now one × IsViewerOf self.now other }
+        ensures own { IsViewerOf self.now result.1 × IsViewerOf self.now result.2 }
+        ensures unchanged { IsSamePass one.entry result.1 × IsSamePass other.entry result.2 }
+        ensures order { AreInLine one.entry other.entry }
+        ensures newest { (served_seen one.entry ≤ result.0) × (served_seen other.entry ≤ result.0) }
+        ensures told { (served_seen result.1 ≡ result.0) × (served_seen result.2 ≡ result.0) }
+    {
+        self.lock.meet(one, other)
+    }
+
+    /// Ends the desk, and gives the book and the history that leaves it.
+    ///
+    /// # Errors
+    ///
+    /// `Busy` with the lock's words, if they differ, as they do where a pass that wasn't handed in waits or was lost inside a call. Book
+    /// and history are lost then.
+    pub fn close(self, passes: Vec<DeskPass<R>>) -> Result<(Book<R>, History), Busy>
+        requires own { Every (IsViewerOf self) passes.items }
+        ensures ok { IfOk result (λ closed. IsClosedOver self.entry passes.entry.items closed.0 closed.1) }
+        ensures err { IfErr result (λ words. (words.served < words.next) × (words.next ≤ 2 ^ 63)) }
+        ensures newest { IfErr result (λ words. Every (HasSeenUpTo words) passes.entry.items) }
+        ensures succeeds { AreAllOf self.entry passes.entry.items → IsOk result }
+    {
+        let Desk { lock } = self;
+        match lock.close(passes) {
+            Ok(kept) => {
+                let BookWithHistory { book, history, .. } = kept;
+                Ok((book, history))
+            }
+            Err(words) => Err(words),
+        }
+    }
+}

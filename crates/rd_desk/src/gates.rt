@@ -1,0 +1,70 @@
+//! What viewers ask: a desk, or what stands in its place.
+
+ghost use Rattle.std.specs.Prelude.{Result};
+ghost use Rattle.rd_cell.specs.declared.refusal.Refusal.{Refusal};
+ghost use Rattle.rd_marks.specs.declared.commands.Command.{Command};
+ghost use Rattle.rd_marks.specs.declared.replies.Reply.{Reply};
+ghost use Rattle.rd_desk.specs.declared.gates.DeskRefusal.{DeskRefusal};
+
+use super::desks::{Desk, DeskPass};
+use rd_cell::Refusal;
+use rd_lock::Busy;
+use rd_marks::{Command, Reply};
+use std::sync::Wait;
+
+/// Why a desk did not have its book obey a command.
+#[derive(Clone, Copy, Debug, PartialEq, Eq)]
+pub enum DeskRefusal {
+    /// 21: the history has as many calls as it may have.
+    HistoryFull,
+    /// 31: the room for one more call in the history was refused.
+    NotRecorded,
+    /// 29: all tickets of the lock are drawn.
+    TicketsEnded,
+    /// 30: the lock isn't free. Only `try_ask` answers it.
+    Busy(Busy),
+}
+
+/// What a viewer is answered: by the book, or that the desk refused.
+pub type Answer = Result<Result<Reply, Refusal>, DeskRefusal>;
+
+/// What viewers can ask, each with a pass of its own.
+pub trait Gate {
+    /// What a viewer asks with.
+    type Pass: Send + Drop;
+
+    ghost takes: { Self → Self.Pass → Type 0 };
+
+    ghost told: { Self → Self.Pass → Command → Result (Result Reply Refusal) DeskRefusal → Self.Pass → Type 0 };
+
+    /// Asks one command. It may wait.
+    fn ask<R: Wait>(
+        &self,
+        rt: &R,
+        pass: &mut Self::Pass,
+        command: Command,
+    ) -> Result<Result<Reply, Refusal>, DeskRefusal>
+        requires own { takes self.now pass.old }
+        ensures own { takes self.now pass.new }
+        ensures told { told self.now pass.old command result pass.new };
+}
+
+impl<const N: usize> Gate for Desk<N> {
+    ghost use Rattle.rd_desk.specs.Desks.{opened_state, IsViewerOf};
+    ghost use Rattle.rd_desk.specs.Asking.{IsTold};
+
+    type Pass = DeskPass<N>;
+
+    ghost takes = { λ desk pass. IsViewerOf desk pass };
+
+    ghost told = { λ desk pass command answer after. IsTold N (opened_state desk) pass after command answer };
+
+    fn ask<R: Wait>(
+        &self,
+        rt: &R,
+        pass: &mut DeskPass<N>,
+        command: Command,
+    ) -> Result<Result<Reply, Refusal>, DeskRefusal> {
+        Desk::ask(self, rt, pass, command)
+    }
+}

@@ -1,0 +1,25 @@
+//! The desk: several viewers share one debugger, and each may rely on what its contract says of the one history that all of
+//! them made.
+//!
+//! A call is one command that the book obeys under the lock, and one entry of the history. A viewer's contract says how the
+//! history that it has seen grows, whatever the other viewers did in between.
+#![tactic(auto)]
+
+mod asking;
+pub mod desks;
+pub mod gates;
+pub mod histories;
+mod recording;
+mod rooms;
+mod threads;
+pub mod viewers;
+
+pub use desks::{Desk, DeskPass, MOST_VIEWERS};
+pub use gates::{Answer, DeskRefusal, Gate};
+pub use histories::{Call, History, MOST_CALLS};
+pub use rd_lock::{Busy, NoMemory};
+pub use recording::BookWithHistory;
+pub use viewers::{Ran, run_viewers};
+
+#[cfg(test)]
+mod tests;

@@ -1,0 +1,83 @@
+//! What the lock guards: a book, and the history that leaves it.
+//!
+//! That the history is legal from the book that was opened, and leaves the book that is there, is a fact of the type, so it
+//! holds whenever the lock is taken. A command is obeyed only where there is room to record it.
+
+ghost use Rattle.std.specs.Prelude.{◌≡◌, ◌<◌, ◌≤◌, ◌++◌, ◌∷◌, [], length, IfOk, IfErr, OnOk, OnErr};
+ghost use Rattle.rd_marks.specs.BookViews.{book_state};
+ghost use Rattle.rd_desk.specs.Histories.{MOST_CALLS, entries, IsLeftBy, IsUnrecorded};
+ghost use Rattle.rd_desk.specs.Histories.{entry as recorded};
+
+use super::gates::DeskRefusal;
+use super::histories::{Call, History};
+use rd_cell::Refusal;
+use rd_lock::Recorded;
+use rd_marks::{Book, Command, Reply};
+use std::alloc::Global;
+use std::snapshot::Snapshot;
+
+/// A book with its history, and, for contracts alone, the book that was opened.
+#[derive(Drop)]
+pub struct BookWithHistory<const R: usize> {
+    pub(crate) book: Book<R>,
+    pub(crate) history: History,
+    pub(crate) opened: Snapshot<Book<R>>,
+    ghost legal: { IsLeftBy R (book_state opened.value) (entries history) (book_state book) },
+    ghost few: { length (entries history) ≤ MOST_CALLS },
+}
+
+impl<const R: usize> Recorded for BookWithHistory<R> {
+    type Entry = Call;
+
+    type Origin = Book<R>;
+
+    ghost history = { λ kept. entries kept.history };
+
+    ghost origin = { λ kept. kept.opened.value };
+}
+
+impl<const R: usize> BookWithHistory<R> {
+    /// A book with no history yet.
+    pub(crate) fn new(alloc: Global, book: Book<R>) -> BookWithHistory<R>
+        ensures book { result.book ≡ book.entry }
+        ensures opened { result.opened.value ≡ book.entry }
+        ensures empty { entries result.history ≡ [] }
+    {
+        let opened = Snapshot::of(&book);
+        BookWithHistory {
+            book,
+            history: History::new(alloc),
+            opened,
+        }
+    }
+
+    /// Has the book obey a command, and records the call as the viewer's.
+    ///
+    /// # Errors
+    ///
+    /// In this order: `HistoryFull` if there are `MOST_CALLS` calls; `NotRecorded` if the room for one more was refused. Book and
+    /// history have not changed then.
+    pub(crate) fn record(
+        &mut self,
+        viewer: u64,
+        command: Command,
+    ) -> Result<Result<Reply, Refusal>, DeskRefusal>
+        ensures ok { IfOk result (λ answer. entries self.new.history ≡ entries self.old.history ++ recorded viewer command answer ∷ []) }
+        ensures few { OnOk result (length (entries self.old.history) < MOST_CALLS) }
+        ensures err { IfErr result (λ refusal. IsUnrecorded (entries self.old.history) refusal) }
+        ensures unchanged { OnErr result (entries self.new.history ≡ entries self.old.history) }
+        ensures opened { self.new.opened.value ≡ self.old.opened.value }
+    {
+        if self.history.is_full() {
+            return Err(DeskRefusal::HistoryFull);
+        }
+        if self.history.make_room().is_err() {
+            return Err(DeskRefusal::NotRecorded);
+        }
+        let asked = command;
+        let answer = self.book.obey(command);
+        let given = answer;
+        self.history.push(viewer, asked, answer);
+        Ok(given)
+    }
+}

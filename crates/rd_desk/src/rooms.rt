@@ -1,0 +1,45 @@
+//! The room that a run of viewers takes, all of it made before the first command is asked.
+
+ghost use Rattle.std.specs.Prelude.{◌≡◌, ◌≤◌, [], length, vec_capacity, IfOk};
+ghost use Rattle.rd_desk.specs.Viewers.{Pairs};
+ghost use Rattle.rd_desk.specs.Rooms.{IsRoomFor};
+
+use super::gates::{DeskRefusal, Gate};
+use super::threads::Started;
+use super::viewers::Ran;
+use rd_cell::Refusal;
+use rd_marks::{Command, Reply};
+use std::alloc::{AllocError, Global};
+
+/// Room for what a run of viewers makes.
+pub(crate) struct Room<G: Gate> {
+    /// Of each viewer, for its answers.
+    pub(crate) answers: Vec<Vec<Result<Result<Reply, Refusal>, DeskRefusal>>>,
+    /// For the handles of the threads.
+    pub(crate) started: Vec<Started<G>>,
+    /// For what became of each viewer.
+    pub(crate) rans: Vec<Ran<G::Pass>>,
+}
+
+/// Makes all the room that a run of these viewers takes.
+pub(crate) fn make_rooms<G: Gate>(
+    alloc: Global,
+    work: &Vec<(G::Pass, Vec<Command>)>,
+) -> Result<Room<G>, AllocError>
+    ensures answers { IfOk result (λ room. Pairs IsRoomFor work.now.items room.answers.items) }
+    ensures started { IfOk result (λ room. (room.started.items ≡ []) × (length work.now.items ≤ vec_capacity room.started)) }
+    ensures rans { IfOk result (λ room. (room.rans.items ≡ []) × (length work.now.items ≤ vec_capacity room.rans)) }
+{
+    let mut answers = Vec::with_capacity(alloc, work.len())?;
+    let started = Vec::with_capacity(alloc, work.len())?;
+    let rans = Vec::with_capacity(alloc, work.len())?;
+    for i in 0..work.len() {
+        let room = Vec::with_capacity(alloc, work[i].1.len())?;
+        answers.push_reserved(room);
+    }
+    Ok(Room {
+        answers,
+        started,
+        rans,
+    })
+}

@@ -1,0 +1,154 @@
+//! The threads of a run of viewers.
+//!
+//! What a thread gives back is known by the promise that its handle carries: which pass it was given, and which commands.
+
+ghost use Rattle.std.specs.Prelude.{◌≡◌, ◌≤◌, List, [], ◌∷◌, length, take, reverse, vec_capacity};
+ghost use Rattle.std.specs.Thread.{IsSync};
+ghost use Rattle.rd_lock.specs.Histories.{Every};
+ghost use Rattle.rd_desk.specs.Viewers.{Pairs, IsChain, IsRan};
+ghost use Rattle.rd_desk.specs.Rooms.{IsRoomFor};
+ghost use Rattle.rd_desk.specs.Threads.{IsStarted};
+
+use super::gates::{DeskRefusal, Gate};
+use super::rooms::Room;
+use super::viewers::Ran;
+use rd_cell::Refusal;
+use rd_marks::{Command, Reply};
+use std::snapshot::Snapshot;
+use std::sync::Wait;
+use std::thread;
+use std::thread::{Promise, PromisedHandle, Scope, Threads};
+
+/// What a viewer's thread gives back: its pass, and the answers.
+type Done<G> = (
+    <G as Gate>::Pass,
+    Vec<Result<Result<Reply, Refusal>, DeskRefusal>>,
+);
+
+/// A viewer's thread, or none if it was refused.
+pub(crate) type Started<G> = Option<PromisedHandle<Done<G>, Asked<G>>>;
+
+/// The promise that each of these commands was asked, beginning with this pass.
+#[derive(Drop)]
+pub(crate) struct Asked<G: Gate> {
+    gate: Snapshot<G>,
+    pass: Snapshot<G::Pass>,
+    commands: Snapshot<Vec<Command>>,
+}
+
+impl<G: Gate> Promise<Done<G>> for Asked<G> {
+    ghost kept_by = { λ asked done. G.takes asked.gate.value done.0 × IsChain (G.told asked.gate.value) asked.pass.value asked.commands.value.items done.1.items done.0 };
+}
+
+/// Asks each command in order.
+fn ask_all<R: Wait, G: Gate>(
+    rt: &R,
+    gate: &G,
+    mut pass: G::Pass,
+    commands: Vec<Command>,
+    mut answers: Vec<Result<Result<Reply, Refusal>, DeskRefusal>>,
+) -> Done<G>
+    requires own { G.takes gate.now pass }
+    requires empty { answers.items ≡ [] }
+    requires room { length commands.items ≤ vec_capacity answers }
+    ensures own { G.takes gate.now result.0 }
+    ensures chain { IsChain (G.told gate.now) pass commands.items result.1.items result.0 }
+{
+    for i in 0..commands.len() {
+        let answer = gate.ask(rt, &mut pass, commands[i]);
+        answers.push_reserved(answer);
+    }
+    (pass, answers)
+}
+
+/// Starts a thread for each viewer, from the last one to the first. One whose thread is refused is asked nothing.
+fn start_all<'s, E: 's, R: Threads + Wait + Sync, G: Gate + Sync>(
+    scope: &'s Scope<'s, E>,
+    rt: &'s R,
+    gate: &'s G,
+    mut work: Vec<(G::Pass, Vec<Command>)>,
+    mut answers: Vec<Vec<Result<Result<Reply, Refusal>, DeskRefusal>>>,
+    mut started: Vec<Started<G>>,
+) -> Vec<Started<G>>
+    requires own { Every (λ viewer. G.takes gate.now viewer.0) work.items }
+    requires answers { Pairs IsRoomFor work.items answers.items }
+    requires started { (started.items ≡ []) × (length work.items ≤ vec_capacity started) }
+    ensures { Pairs (IsStarted gate.now) work.items (reverse result.items) }
+{
+    while let Some((pass, commands)) = work.pop() {
+        let Some(room) = answers.pop() else {
+            unreachable!()
+        };
+        let asked = Asked {
+            gate: Snapshot::of(gate),
+            pass: Snapshot::of(&pass),
+            commands: Snapshot::of(&commands),
+        };
+        let handle = scope.spawn_with(
+            asked,
+            move || -> Done<G>
+                requires { G.takes gate.now pass × (room.items ≡ []) × (length commands.items ≤ vec_capacity room) }
+                ensures own { G.takes gate.entry.now result.0 }
+                ensures chain { IsChain (G.told gate.entry.now) pass commands.items result.1.items result.0 }
+            { ask_all(rt, gate, pass, commands, room) },
+        );
+        started.push_reserved(handle.ok());
+    }
+    started
+}
+
+/// Waits for each thread, from the last one that was started to the first, and gives what became of the viewers.
+fn join_all<R: Threads, G: Gate>(
+    rt: &R,
+    mut started: Vec<Started<G>>,
+    mut rans: Vec<Ran<G::Pass>>,
+) -> Vec<Ran<G::Pass>>
+    requires rans { (rans.items ≡ []) × (length started.items ≤ vec_capacity rans) }
+    ensures { (gate : G) (work : List _) → Pairs (IsStarted gate) work (reverse started.items) → Pairs (IsRan (G.takes gate) (G.told gate)) work result.items }
+{
+    while let Some(handle) = started.pop() {
+        let ran = match handle {
+            None => Ran::NoMemory,
+            Some(handle) => {
+                let (pass, answers) = handle.join(rt);
+                Ran::Answered { pass, answers }
+            }
+        };
+        rans.push_reserved(ran);
+    }
+    rans
+}
+
+/// Runs all viewers in one scope.
+pub(crate) fn run_all<R: Threads + Wait + Sync, G: Gate + Sync>(
+    rt: &R,
+    gate: &G,
+    work: Vec<(G::Pass, Vec<Command>)>,
+    room: Room<G>,
+) -> Vec<Ran<G::Pass>>
+    requires own { Every (λ viewer. G.takes gate.now viewer.0) work.items }
+    requires answers { Pairs IsRoomFor work.items room.answers.items }
+    requires started { (room.started.items ≡ []) × (length work.items ≤ vec_capacity room.started) }
+    requires rans { (room.rans.items ≡ []) × (length work.items ≤ vec_capacity room.rans) }
+    ensures { Pairs (IsRan (G.takes gate.now) (G.told gate.now)) work.items result.items }
+{
+    let Room {
+        answers,
+        started,
+        rans,
+    } = room;
+    thread::scope(
+        thread::scope_env(),
+        rt,
+        move |scope| -> Vec<Ran<G::Pass>>
+            requires own { Every (λ viewer. G.takes gate.now viewer.0) work.items }
+            requires answers { Pairs IsRoomFor work.items answers.items }
+            requires started { (started.items ≡ []) × (length work.items ≤ vec_capacity started) }
+            requires rans { (rans.items ≡ []) × (length work.items ≤ vec_capacity rans) }
+            ensures { Pairs (IsRan (G.takes gate.entry.now) (G.told gate.entry.now)) work.items result.items }
+        {
+            let started = start_all(scope, rt, gate, work, answers, started);
+            join_all(rt, started, rans)
+        },
+    )
+}

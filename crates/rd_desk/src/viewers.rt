@@ -1,0 +1,54 @@
+//! Viewers that each ask a list of commands, in threads of their own.
+//!
+//! All room for answers is made before the first command is asked. Then each viewer gets a thread in one scope, from the last
+//! viewer to the first, so that the threads' handles, a stack, come back in the viewers' order.
+
+ghost use Rattle.std.specs.Prelude.{◌≡◌, IfOk, IfErr};
+ghost use Rattle.rd_lock.specs.Histories.{Every};
+ghost use Rattle.rd_desk.specs.Viewers.{Pairs, IsRan};
+ghost use Rattle.std.specs.Thread.{IsSync};
+
+use super::gates::{DeskRefusal, Gate};
+use super::rooms::{Room, make_rooms};
+use super::threads::run_all;
+use rd_cell::Refusal;
+use rd_lock::NoMemory;
+use rd_marks::{Command, Reply};
+use std::alloc::Global;
+use std::sync::Wait;
+use std::thread::Threads;
+
+/// What became of a viewer.
+#[derive(Drop)]
+pub enum Ran<P> {
+    /// Each of its commands was asked.
+    Answered {
+        /// The viewer's pass.
+        pass: P,
+        /// The answers, one for each command, in order.
+        answers: Vec<Result<Result<Reply, Refusal>, DeskRefusal>>,
+    },
+    /// 20: its thread was refused. It was asked nothing, and its pass is dropped.
+    NoMemory,
+}
+
+/// Asks each viewer's commands in order, each viewer in a thread of its own, and waits for all of them.
+///
+/// # Errors
+///
+/// `NoMemory` with the work if the room for the answers was refused. Nobody was asked then.
+pub fn run_viewers<R: Threads + Wait + Sync, G: Gate + Sync>(
+    rt: &R,
+    alloc: Global,
+    gate: &G,
+    work: Vec<(G::Pass, Vec<Command>)>,
+) -> Result<Vec<Ran<G::Pass>>, (NoMemory, Vec<(G::Pass, Vec<Command>)>)>
+    requires own { Every (λ viewer. G.takes gate.now viewer.0) work.items }
+    ensures ok { IfOk result (λ rans. Pairs (IsRan (G.takes gate.now) (G.told gate.now)) work.items rans.items) }
+    ensures err { IfErr result (λ refused. refused.1 ≡ work) }
+{
+    match make_rooms(alloc, &work) {
+        Ok(room) => Ok(run_all(rt, gate, work, room)),
+        Err(_) => Err((NoMemory, work)),
+    }
+}

@@ -1,0 +1,24 @@
+//! The inverse of the plain step.
+
+ghost use Rattle.std.specs.Prelude.{◌≡◌, ◌+◌, ℕ};
+ghost use Rattle.rd_step.specs.Room.{room_returned};
+ghost use Rattle.rd_step.specs.Prelude.{model, room, unstep};
+ghost use Rattle.rd_step.specs.Laws.{WasStepped, IsTakenOut};
+
+use rd_step::{Entry, World};
+
+/// Undoes the step of an entry: puts back the old content of its place and the old words of its actor, and changes
+/// nothing else. It can't fail, and takes no memory. What a read found is still there, so its place isn't touched.
+///
+/// The step was made in a run that gave this world, and no step that was made after it and remains depends on it
+/// (Danos and Krivine 2004). What is left is the run without it, whichever run that was.
+pub fn unstep<const R: usize>(world: &mut World<R>, entry: &Entry)
+    requires { WasStepped R (model world.old) entry.now }
+    ensures back { model world.new ≡ unstep (model world.old) entry.now }
+    ensures taken_out { (was : WasStepped R (model world.old) entry.now)
+        → IsTakenOut R (model world.old) (model world.new) entry.now was }
+    ensures room { (m : ℕ) → room world.new m ≡ room world.old m + room_returned entry.now.place entry.now.old_content m }
+{
+    let (place, content) = entry.overwritten();
+    world.revert(entry.event.actor, entry.old_actor, place, content);
+}

@@ -1,0 +1,101 @@
+-- Lists cut in two, the last element of a list, and one moved behind others.
+use Rattle.std.proofs.Common.{◌≡◌, ℕ, zero, suc, ◌+◌, ◌-◌, ◌<◌, ◌≤◌, List, [], ◌∷◌, ◌++◌, length, get_or, take, drop, refl, sym, ◌∙◌, ap, arith, length-append, length-drop}
+use borrow.Rule.Slice.PartMut.{put_mid, mid_of}
+use Rattle.std.proofs.Math.Seq.{drop-cons, take-append_seam, drop-append_seam, take-add}
+use Rattle.std.proofs.lemmas.List.{append_assoc, take-append-drop, length-take-le, take-take, drop-take, drop-append-le, drop-drop}
+use Rattle.rd_journal.specs.Numbers.{moved_behind}
+
+-- all but the last
+pub front_of : {X : Type 0} (l : List X) (x : X) → take (length (l ++ x ∷ []) - 1) (l ++ x ∷ []) ≡ l
+front_of {X} l x =
+    let e : length (l ++ x ∷ []) - 1 ≡ length l = omega (arith, length-append l (x ∷ [])) in
+    ap (λ (k : ℕ). take k (l ++ x ∷ [])) e ∙ take-append_seam l (x ∷ [])
+
+-- the last alone
+pub last_of : {X : Type 0} (l : List X) (x : X) → drop (length (l ++ x ∷ []) - 1) (l ++ x ∷ []) ≡ x ∷ []
+last_of {X} l x =
+    let e : length (l ++ x ∷ []) - 1 ≡ length l = omega (arith, length-append l (x ∷ [])) in
+    ap (λ (k : ℕ). drop k (l ++ x ∷ [])) e ∙ drop-append_seam l (x ∷ [])
+
+-- an element that stands there
+pub nth : {X : Type 0} (l : List X) (k : ℕ) → k < length l → (x : X) × (x ≡ get_or l k x)
+nth [] k h = absurd (omega arith)
+nth (x ∷ l) zero h = (x, refl)
+nth (x ∷ l) (suc k) h = nth l k (omega arith)
+
+-- what stands behind the cut
+pub drop_one_less : {X : Type 0} (l : List X) (k : ℕ) (x : X) → k < length l → x ≡ get_or l k x → drop k l ≡ x ∷ drop (k + 1) l
+drop_one_less {X} l k x h e =
+    let n : suc k ≡ k + 1 = omega arith in
+    drop-cons l k x h ∙ (λ i. sym e i ∷ drop (n i) l)
+
+-- a cut moved back within what stands before it
+pub drop_before : {X : Type 0} (l : List X) (k m n : ℕ) → m ≤ length l → k + n ≡ m
+    → drop k l ≡ drop (length (take m l) - n) (take m l) ++ drop m l
+drop_before {X} l k m n h e =
+    let len : k ≡ length (take m l) - n = omega (arith, length-take-le m l h) in
+    let within : k ≤ length (take m l) = omega (arith, length-take-le m l h) in
+    sym (ap (drop k) (take-append-drop m l)) ∙ drop-append-le k (take m l) (drop m l) within
+    ∙ ap (λ (j : ℕ). drop j (take m l) ++ drop m l) len
+
+-- a cut moved on
+pub take_behind : {X : Type 0} (l : List X) (k m n : ℕ) → m ≡ k + n → take m l ≡ take k l ++ take n (drop k l)
+take_behind {X} l k m n e = ap (λ (j : ℕ). take j l) e ∙ take-add k n l
+
+pub drop_behind : {X : Type 0} (l : List X) (k m n : ℕ) → m ≡ k + n → drop m l ≡ drop n (drop k l)
+drop_behind {X} l k m n e = ap (λ (j : ℕ). drop j l) e ∙ sym (drop-drop n k l)
+
+-- The k-th of the first l elements moved behind the others of them
+
+others_length : {X : Type 0} (es : List X) (k l : ℕ) → 1 ≤ k → k ≤ l → l ≤ length es
+    → length (take (k - 1) (take l es) ++ drop k (take l es)) ≡ l - 1
+others_length es k l some below within =
+    let L = take l es in
+    let len : length L ≡ l = length-take-le l es within in
+    let a : length (take (k - 1) L) ≡ k - 1 = length-take-le (k - 1) L (omega arith) in
+    omega (arith, length-append (take (k - 1) L) (drop k L), length-drop k L)
+
+pub moved_behind-length : {X : Type 0} (es : List X) (k l : ℕ) → 1 ≤ k → k ≤ l → l ≤ length es → length (moved_behind es k l) ≡ length es
+moved_behind-length es k l some below within =
+    let L = take l es in
+    let len : length L ≡ l = length-take-le l es within in
+    let c : length (take 1 (drop (k - 1) L)) ≡ 1 = length-take-le 1 (drop (k - 1) L) (omega (arith, length-drop (k - 1) L)) in
+    let d : length (drop l es) ≡ length es - l = length-drop l es in
+    omega (
+      arith,
+      length-append (take (k - 1) L ++ drop k L) (take 1 (drop (k - 1) L) ++ drop l es),
+      others_length es k l some below within,
+      length-append (take 1 (drop (k - 1) L)) (drop l es),
+    )
+
+-- the rest of the first l elements, from the k-th on, turned by one
+pub turned : {X : Type 0} (es : List X) (k l : ℕ) → 1 ≤ k → k ≤ l
+    → put_mid (k - 1) (l - (k - 1)) es (drop 1 (mid_of (k - 1) (l - (k - 1)) es) ++ take 1 (mid_of (k - 1) (l - (k - 1)) es)) ≡ moved_behind es k l
+turned {X} es k l some below =
+    let i = k - 1 in
+    let m = l - i in
+    let L = take l es in
+    let all : i + m ≡ l = omega arith in
+    let next : i + 1 ≡ k = omega arith in
+    let mid : take m (drop i es) ≡ drop i L = sym (drop-take i m es) ∙ ap (λ (n : ℕ). drop i (take n es)) all in
+    let rest : drop 1 (take m (drop i es)) ≡ drop k L = ap (λ (ys : List X). drop 1 ys) mid ∙ drop-drop 1 i L ∙ ap (λ (n : ℕ). drop n L) next in
+    let one : take 1 (take m (drop i es)) ≡ take 1 (drop i L) = ap (λ (ys : List X). take 1 ys) mid in
+    let front : take i es ≡ take i L = sym (take-take i l es (omega arith)) in
+    let post : drop m (drop i es) ≡ drop l es = drop-drop m i es ∙ ap (λ (n : ℕ). drop n es) all in
+    (λ j. front j ++ ((rest j ++ one j) ++ post j))
+    ∙ ap (λ (ys : List X). take i L ++ ys) (append_assoc (drop k L) (take 1 (drop i L)) (drop l es))
+    ∙ sym (append_assoc (take i L) (drop k L) (take 1 (drop i L) ++ drop l es))
+
+pub behind_before : {X : Type 0} (es : List X) (k l : ℕ) → 1 ≤ k → k ≤ l → l ≤ length es
+    → take (l - 1) (moved_behind es k l) ≡ take (k - 1) (take l es) ++ drop k (take l es)
+behind_before {X} es k l some below within =
+    let xs = take (k - 1) (take l es) ++ drop k (take l es) in
+    let ys = take 1 (drop (k - 1) (take l es)) ++ drop l es in
+    ap (λ (n : ℕ). take n (xs ++ ys)) (sym (others_length es k l some below within)) ∙ take-append_seam xs ys
+
+pub behind_from : {X : Type 0} (es : List X) (k l : ℕ) → 1 ≤ k → k ≤ l → l ≤ length es
+    → drop (l - 1) (moved_behind es k l) ≡ take 1 (drop (k - 1) (take l es)) ++ drop l es
+behind_from {X} es k l some below within =
+    let xs = take (k - 1) (take l es) ++ drop k (take l es) in
+    let ys = take 1 (drop (k - 1) (take l es)) ++ drop l es in
+    ap (λ (n : ℕ). drop n (xs ++ ys)) (sym (others_length es k l some below within)) ∙ drop-append_seam xs ys

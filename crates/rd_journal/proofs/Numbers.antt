@@ -1,0 +1,225 @@
+-- Entries at numbers: parts of them, one more and one written over; and orders of slots, as their numbers move.
+use Rattle.std.proofs.Common.{◌≡◌, ℕ, zero, suc, ◌+◌, ◌-◌, ◌<◌, ◌≤◌, ◌==◌, nat_lt, Bool, true, false, cond, if◌then◌else◌, List, [], ◌∷◌, ◌++◌, length, get_or, take, drop, set, refl, sym, ◌∙◌, ap, subst, arith, length-append, length-drop}
+use Rattle.std.specs.List.{All, count_by}
+use Rattle.std.proofs.lemmas.Bool.Decides.{nat_tests}
+use Rattle.std.proofs.lemmas.Grind.{flat_map-append}
+use Rattle.std.proofs.lemmas.List.{drop_more, length-take-le, take-append-drop, drop-append-le, length-set, get_or-set_same, drop_at, take_all, drop_all, drop-drop, take-take, get_or_default}
+use Rattle.std.proofs.lemmas.List.Elements.{All-take, All-drop}
+use Rattle.std.proofs.lemmas.List.Sums.{sum_by-append, sum_by-cons, sum_by_push, sum_by-take-drop, get_or-le-sum_by}
+use Rattle.rd_depend.specs.Moved.{moved_to}
+use Rattle.rd_journal.specs.Numbers.{at_numbers, moved_behind, IsOrder}
+use Rattle.rd_journal.proofs.ListLemmas.{nth}
+
+-- the numbers are of slots
+abbrev pub AreBelow : ℕ → List ℕ → Type 0
+AreBelow n ns = All (λ m. m < n) ns
+
+-- the entry of a slot, as a list
+pub one : {X : Type 0} (es : List X) (n : ℕ) (x : X) → n < length es → x ≡ get_or es n x → take 1 (drop n es) ≡ x ∷ []
+one {X} es n x h e = ap (λ (ys : List X). take 1 ys) (drop_more es n x h) ∙ (λ i. sym e i ∷ [])
+
+-- parts
+
+pub at-append : {X : Type 0} (es : List X) (ms ns : List ℕ) → at_numbers es (ms ++ ns) ≡ at_numbers es ms ++ at_numbers es ns
+at-append es ms ns = flat_map-append (λ n. take 1 (drop n es)) ms ns
+
+pub at-length : {X : Type 0} (es : List X) (ns : List ℕ) → AreBelow (length es) ns → length (at_numbers es ns) ≡ length ns
+at-length es [] h = refl
+at-length {X} es (n ∷ ns) h =
+    let here : n < length es = h zero n (omega arith) in
+    omega (
+      arith,
+      length-append (take 1 (drop n es)) (at_numbers es ns),
+      length-take-le 1 (drop n es) (omega (arith, length-drop n es)),
+      at-length es ns (λ k d below. h (suc k) d (omega arith)),
+    )
+
+pub at-take : {X : Type 0} (es : List X) (k : ℕ) (ns : List ℕ) → AreBelow (length es) ns → take k (at_numbers es ns) ≡ at_numbers es (take k ns)
+at-take es zero ns h = refl
+at-take es (suc k) [] h = refl
+at-take {X} es (suc k) (n ∷ ns) h =
+    let here : n < length es = h zero n (omega arith) in
+    let x = nth es n here in
+    let first = one es n x.0 here x.1 in
+    ap (λ (ys : List X). take (suc k) (ys ++ at_numbers es ns)) first
+    ∙ ap (λ (ys : List X). x.0 ∷ ys) (at-take es k ns (λ j d below. h (suc j) d (omega arith)))
+    ∙ ap (λ (ys : List X). ys ++ at_numbers es (take k ns)) (sym first)
+
+pub at-drop : {X : Type 0} (es : List X) (k : ℕ) (ns : List ℕ) → AreBelow (length es) ns → drop k (at_numbers es ns) ≡ at_numbers es (drop k ns)
+at-drop es zero ns h = refl
+at-drop es (suc k) [] h = refl
+at-drop {X} es (suc k) (n ∷ ns) h =
+    let here : n < length es = h zero n (omega arith) in
+    let x = nth es n here in
+    ap (λ (ys : List X). drop (suc k) (ys ++ at_numbers es ns)) (one es n x.0 here x.1)
+    ∙ at-drop es k ns (λ j d below. h (suc j) d (omega arith))
+
+pub at-get : {X : Type 0} (es : List X) (ns : List ℕ) (k : ℕ) (d : X) (e : ℕ) → AreBelow (length es) ns → k < length ns
+    → get_or (at_numbers es ns) k d ≡ get_or es (get_or ns k e) d
+at-get es [] k d e h below = absurd (omega arith)
+at-get {X} es (n ∷ ns) zero d e h below =
+    let here : n < length es = h zero n (omega arith) in
+    ap (λ (ys : List X). get_or (take 1 ys ++ at_numbers es ns) zero d) (drop_more es n d here)
+at-get {X} es (n ∷ ns) (suc k) d e h below =
+    let here : n < length es = h zero n (omega arith) in
+    ap (λ (ys : List X). get_or (take 1 ys ++ at_numbers es ns) (suc k) d) (drop_more es n d here)
+    ∙ at-get es ns k d e (λ j f low. h (suc j) f (omega arith)) (omega arith)
+
+-- one slot written over, and one more
+
+apart : {X : Type 0} (es : List X) (n v : ℕ) (x : X) → (n ≡ v → ⊥) → take 1 (drop n (set es v x)) ≡ take 1 (drop n es)
+apart [] n v x h = refl
+apart (y ∷ es) zero zero x h = absurd (h refl)
+apart (y ∷ es) zero (suc v) x h = refl
+apart (y ∷ es) (suc n) zero x h = refl
+apart (y ∷ es) (suc n) (suc v) x h = apart es n v x (λ e. h (ap (λ (m : ℕ). suc m) e))
+
+-- a number that is there stands once at least
+count-same : (v : ℕ) → 1 ≤ cond (v == v) 1 0
+count-same v = grind (arith, nat_tests)
+
+pub at-set : {X : Type 0} (es : List X) (v : ℕ) (x : X) (ns : List ℕ) → count_by (λ m. m == v) ns ≡ 0 → at_numbers (set es v x) ns ≡ at_numbers es ns
+at-set es v x [] h = refl
+at-set {X} es v x (n ∷ ns) h =
+    let parts = sum_by-cons (λ m. cond (m == v) 1 0) n ns in
+    let rest : count_by (λ m. m == v) ns ≡ 0 = omega (arith, parts) in
+    let other : n ≡ v → ⊥ = λ e. let here : 1 ≤ cond (n == v) 1 0 = subst (λ (m : ℕ). 1 ≤ cond (m == v) 1 0) (sym e) (count-same v) in omega (arith, parts) in
+    (λ i. apart es n v x other i ++ at-set es v x ns rest i)
+
+pub at-push : {X : Type 0} (es : List X) (x : X) (ns : List ℕ) → AreBelow (length es) ns → at_numbers (es ++ x ∷ []) ns ≡ at_numbers es ns
+at-push es x [] h = refl
+at-push {X} es x (n ∷ ns) h =
+    let here : n < length es = h zero n (omega arith) in
+    let y = nth es n here in
+    let first : take 1 (drop n (es ++ x ∷ [])) ≡ take 1 (drop n es) =
+    ap (λ (ys : List X). take 1 ys) (drop-append-le n es (x ∷ []) (omega arith) ∙ ap (λ (ys : List X). ys ++ x ∷ []) (drop_more es n y.0 here))
+    ∙ ap (λ (ys : List X). take 1 ys) (sym (drop_more es n y.0 here)) in
+    (λ i. first i ++ at-push es x ns (λ j d below. h (suc j) d (omega arith)) i)
+
+-- orders
+
+pub order_below : (slots : ℕ) (ns : List ℕ) → IsOrder slots ns → AreBelow slots ns
+order_below slots ns o = λ k d within.
+    let v = get_or ns k d in
+    let there : cond (v == v) 1 0 ≤ count_by (λ m. m == v) ns = get_or-le-sum_by (λ m. cond (m == v) 1 0) ns k d within in
+    by v (nat_lt v slots) refl (omega (arith, there, count-same v, o.once v))
+  where
+    by : (v : ℕ) (b : Bool) → nat_lt v slots ≡ b → 1 ≤ (if b then 1 else 0) → v < slots
+    by v true e h = grind (arith, nat_tests)
+    by v false e h = absurd (omega arith)
+
+pub order_moved : (slots : ℕ) (ns ms : List ℕ) → IsOrder slots ns → ((test : ℕ → Bool) → count_by test ms ≡ count_by test ns) → length ms ≡ length ns
+    → IsOrder slots ms
+order_moved slots ns ms o same len = record { once = λ n. same (λ m. m == n) ∙ o.once n; all = len ∙ o.all }
+
+next_once : (slots n c : ℕ) → c ≡ (if nat_lt n slots then 1 else 0) → c + cond (slots == n) 1 0 ≡ (if nat_lt n (slots + 1) then 1 else 0)
+next_once slots n c h = grind (arith, nat_tests)
+
+pub order_push : (slots : ℕ) (ns : List ℕ) → IsOrder slots ns → IsOrder (slots + 1) (ns ++ slots ∷ [])
+order_push slots ns o = record {
+  once = λ n. sum_by_push (λ m. cond (m == n) 1 0) ns slots ∙ next_once slots n (count_by (λ m. m == n) ns) (o.once n);
+  all = omega (arith, length-append ns (slots ∷ []), o.all);
+}
+
+-- what is put at a place of an order
+
+pub put_over : {X : Type 0} (es : List X) (ns : List ℕ) (place v : ℕ) (x : X) → IsOrder (length es) ns → place < length ns → v ≡ get_or ns place v
+    → at_numbers (set es v x) ns ≡ take place (at_numbers es ns) ++ x ∷ drop (place + 1) (at_numbers es ns)
+put_over {X} es ns place v x o within here =
+    let below = order_below (length es) ns o in
+    let there : v < length es = subst (λ (m : ℕ). m < length es) (sym here) (below place v within) in
+    let before = take place ns in
+    let after = drop (place + 1) ns in
+    let around : ns ≡ before ++ v ∷ after = sym (take-append-drop place ns) ∙ ap (λ (ys : List ℕ). before ++ ys) (drop_more ns place v within ∙ (λ i. sym here i ∷ after)) in
+    let test : ℕ → ℕ = λ m. cond (m == v) 1 0 in
+    let all : count_by (λ m. m == v) ns ≡ 1 = o.once v ∙ grind (arith, nat_tests) in
+    let split : count_by (λ m. m == v) ns ≡ count_by (λ m. m == v) before + count_by (λ m. m == v) (v ∷ after) = ap (count_by (λ m. m == v)) around ∙ sum_by-append test before (v ∷ after) in
+    let its : count_by (λ m. m == v) (v ∷ after) ≡ cond (v == v) 1 0 + count_by (λ m. m == v) after = sum_by-cons test v after in
+    let none_before : count_by (λ m. m == v) before ≡ 0 = omega (arith, all, split, its, count-same v) in
+    let none_after : count_by (λ m. m == v) after ≡ 0 = omega (arith, all, split, its, count-same v) in
+    let written : take 1 (drop v (set es v x)) ≡ x ∷ [] = one (set es v x) v x (omega (arith, length-set es v x)) (sym (get_or-set_same es v x x there)) in
+    ap (at_numbers (set es v x)) around
+    ∙ at-append (set es v x) before (v ∷ after)
+    ∙ (λ i. at-set es v x before none_before i ++ (written i ++ at-set es v x after none_after i))
+    ∙ (λ i. sym (at-take es place ns below) i ++ x ∷ sym (at-drop es (place + 1) ns below) i)
+
+pub put_new : {X : Type 0} (es : List X) (ns : List ℕ) (place : ℕ) (x : X) → IsOrder (length es) ns → place ≡ length ns
+    → at_numbers (es ++ x ∷ []) (ns ++ length es ∷ []) ≡ take place (at_numbers es ns) ++ x ∷ drop (place + 1) (at_numbers es ns)
+put_new {X} es ns place x o end =
+    let below = order_below (length es) ns o in
+    let len = at-length es ns below in
+    at-append (es ++ x ∷ []) ns (length es ∷ [])
+    ∙ (λ i. at-push es x ns below i ++ (take 1 (drop_at es (x ∷ []) (length es) refl i) ++ []))
+    ∙ (λ i. sym (take_all place (at_numbers es ns) (omega (arith, len, end))) i ++ x ∷ sym (drop_all (place + 1) (at_numbers es ns) (omega (arith, len, end))) i)
+
+-- moves
+
+pub count-moved_behind : (test : ℕ → Bool) (ns : List ℕ) (k l : ℕ) → 1 ≤ k → count_by test (moved_behind ns k l) ≡ count_by test ns
+count-moved_behind test ns k l some =
+    let f : ℕ → ℕ = λ m. cond (test m) 1 0 in
+    let L = take l ns in
+    let rest = drop (k - 1) L in
+    let next : (k - 1) + 1 ≡ k = omega arith in
+    let later : drop 1 rest ≡ drop k L = drop-drop 1 (k - 1) L ∙ ap (λ (m : ℕ). drop m L) next in
+    omega (
+      arith,
+      sum_by-append f (take (k - 1) L ++ drop k L) (take 1 rest ++ drop l ns),
+      sum_by-append f (take (k - 1) L) (drop k L),
+      sum_by-append f (take 1 rest) (drop l ns),
+      sum_by-take-drop f ns l,
+      sum_by-take-drop f L (k - 1),
+      sum_by-take-drop f rest 1,
+      ap (count_by test) later,
+    )
+
+pub count-moved_to : (test : ℕ → Bool) (ns : List ℕ) (f n : ℕ) → f ≤ n → count_by test (moved_to ns f n) ≡ count_by test ns
+count-moved_to test ns f n order =
+    let g : ℕ → ℕ = λ m. cond (test m) 1 0 in
+    let rest = drop n ns in
+    let later : drop 1 rest ≡ drop (n + 1) ns = drop-drop 1 n ns in
+    omega (
+      arith,
+      sum_by-append g (take f ns) (take 1 rest ++ (drop f (take n ns) ++ drop (n + 1) ns)),
+      sum_by-append g (take 1 rest) (drop f (take n ns) ++ drop (n + 1) ns),
+      sum_by-append g (drop f (take n ns)) (drop (n + 1) ns),
+      sum_by-take-drop g ns n,
+      sum_by-take-drop g (take n ns) f,
+      ap (count_by test) (take-take f n ns order),
+      sum_by-take-drop g rest 1,
+      ap (count_by test) later,
+    )
+
+pub at-moved_behind : {X : Type 0} (es : List X) (ns : List ℕ) (k l : ℕ) → AreBelow (length es) ns
+    → at_numbers es (moved_behind ns k l) ≡ moved_behind (at_numbers es ns) k l
+at-moved_behind {X} es ns k l below =
+    let L = take l ns in
+    let first : AreBelow (length es) L = All-take (λ (m : ℕ). m < length es) l ns below in
+    let turned : AreBelow (length es) (drop (k - 1) L) = All-drop (λ (m : ℕ). m < length es) (k - 1) L first in
+    at-append es (take (k - 1) L ++ drop k L) (take 1 (drop (k - 1) L) ++ drop l ns)
+    ∙ (λ i. at-append es (take (k - 1) L) (drop k L) i ++ at-append es (take 1 (drop (k - 1) L)) (drop l ns) i)
+    ∙ (λ i. (sym (at-take es (k - 1) L first) i ++ sym (at-drop es k L first) i)
+    ++ (sym (at-take es 1 (drop (k - 1) L) turned) i ++ sym (at-drop es l ns below) i))
+    ∙ (λ i. (take (k - 1) (sym (at-take es l ns below) i) ++ drop k (sym (at-take es l ns below) i))
+    ++ (take 1 (sym (at-drop es (k - 1) L first) i) ++ drop l (at_numbers es ns)))
+    ∙ (λ i. (take (k - 1) (take l (at_numbers es ns)) ++ drop k (take l (at_numbers es ns)))
+    ++ (take 1 (drop (k - 1) (sym (at-take es l ns below) i)) ++ drop l (at_numbers es ns)))
+
+pub at-moved_to : {X : Type 0} (es : List X) (ns : List ℕ) (f n : ℕ) → AreBelow (length es) ns
+    → at_numbers es (moved_to ns f n) ≡ moved_to (at_numbers es ns) f n
+at-moved_to {X} es ns f n below =
+    let P = λ (m : ℕ). m < length es in
+    let first : AreBelow (length es) (take n ns) = All-take P n ns below in
+    let rest : AreBelow (length es) (drop n ns) = All-drop P n ns below in
+    at-append es (take f ns) (take 1 (drop n ns) ++ (drop f (take n ns) ++ drop (n + 1) ns))
+    ∙ ap (λ (ys : List X). at_numbers es (take f ns) ++ ys) (at-append es (take 1 (drop n ns)) (drop f (take n ns) ++ drop (n + 1) ns))
+    ∙ ap (λ (ys : List X). at_numbers es (take f ns) ++ (at_numbers es (take 1 (drop n ns)) ++ ys)) (at-append es (drop f (take n ns)) (drop (n + 1) ns))
+    ∙ (λ i. sym (at-take es f ns below) i ++ (sym (at-take es 1 (drop n ns) rest) i ++ (sym (at-drop es f (take n ns) first) i ++ sym (at-drop es (n + 1) ns below) i)))
+    ∙ (λ i. take f (at_numbers es ns) ++ (take 1 (sym (at-drop es n ns below) i) ++ (drop f (sym (at-take es n ns below) i) ++ drop (n + 1) (at_numbers es ns))))
+
+-- what is read there
+pub at_entry : {X : Type 0} (es : List X) (ns : List ℕ) (k : ℕ) (d : X) → AreBelow (length es) ns → k < length ns
+    → let x = get_or es (get_or ns k 0) d in x ≡ get_or (at_numbers es ns) k x
+at_entry {X} es ns k d below within =
+    let v = get_or ns k 0 in
+    let x = get_or es v d in
+    sym (at-get es ns k x 0 below within ∙ get_or_default es v x d (below k 0 within))

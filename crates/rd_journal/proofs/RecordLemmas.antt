@@ -1,0 +1,90 @@
+-- The records of a session as one list that is cut twice: how long its parts are, and how they change.
+use Rattle.std.proofs.Common.{◌≡◌, ℕ, ◌+◌, ◌-◌, ◌≤◌, List, [], ◌∷◌, ◌++◌, length, get_or, take, drop, sym, ◌∙◌, ap, arith, length-append, length-drop}
+use Rattle.std.proofs.Math.Seq.{take-add}
+use Rattle.std.proofs.lemmas.List.{length-take-le, take-take, drop-take, drop-drop, take_more, take_at, drop_at, take-append-le, drop-append-le}
+use Rattle.rd_journal.specs.declared.records.Records.{Records}
+use Rattle.rd_journal.specs.Numbers.{moved_behind}
+use Rattle.rd_journal.specs.Records.{all_records, live_records, undone_records}
+use Rattle.rd_journal.proofs.ListLemmas.{behind_from, drop_before}
+use Rattle.rd_journal.proofs.Numbers.{at-length, order_below}
+
+-- how many there are
+
+pub all-length : (r : Records) → length (all_records r) ≡ length r.order.items
+unfolding all_records
+all-length r = at-length r.slots.items r.order.items (order_below (length r.slots.items) r.order.items r.order_of_all)
+
+pub live-length : (r : Records) → length (live_records r) ≡ r.live
+live-length r = length-take-le r.live (all_records r) (omega (arith, all-length r, r.within))
+
+pub undone-length : (r : Records) → length (undone_records r) ≡ r.undone
+undone-length r =
+    length-take-le r.undone (drop r.live (all_records r)) (omega (arith, all-length r, r.within, length-drop r.live (all_records r)))
+
+-- a list cut behind its first m elements, and again u elements behind them
+
+-- the last of the first part
+pub last_taken : {X : Type 0} (l : List X) (m : ℕ) (x : X) → 1 ≤ m → m ≤ length l → x ≡ get_or l (m - 1) x
+    → take m l ≡ take (length (take m l) - 1) (take m l) ++ x ∷ []
+last_taken {X} l m x some within here =
+    let before : m ≡ (m - 1) + 1 = omega arith in
+    let len : m - 1 ≡ length (take m l) - 1 = omega (arith, length-take-le m l within) in
+    ap (λ (n : ℕ). take n l) before ∙ take_more l (m - 1) x (omega arith)
+    ∙ (λ i. sym (take-take (m - 1) m l (omega arith)) i ++ sym here i ∷ [])
+    ∙ ap (λ (n : ℕ). take n (take m l) ++ x ∷ []) len
+
+-- some elements before others
+pub take_over : {X : Type 0} (xs ys : List X) (n u : ℕ) → length xs ≡ n → take (u + n) (xs ++ ys) ≡ xs ++ take u ys
+take_over {X} xs ys n u h =
+    let turn : u + n ≡ n + u = omega arith in
+    ap (λ (m : ℕ). take m (xs ++ ys)) turn ∙ take-add n u (xs ++ ys)
+    ∙ (λ i. take_at xs ys n h i ++ take u (drop_at xs ys n h i))
+
+pub cut_back : {X : Type 0} (l : List X) (m u : ℕ) → 1 ≤ m → m ≤ length l
+    → take (u + 1) (drop (m - 1) l) ≡ drop (length (take m l) - 1) (take m l) ++ take u (drop m l)
+cut_back {X} l m u some within =
+    let one : length (drop (length (take m l) - 1) (take m l)) ≡ 1 =
+    omega (arith, length-take-le m l within, length-drop (length (take m l) - 1) (take m l)) in
+    ap (λ (ys : List X). take (u + 1) ys) (drop_before l (m - 1) m 1 within (omega arith))
+    ∙ take_over (drop (length (take m l) - 1) (take m l)) (drop m l) 1 u one
+
+pub cut_on : {X : Type 0} (l : List X) (m u : ℕ) → 1 ≤ u → take (m + 1) l ≡ take m l ++ take 1 (take u (drop m l))
+cut_on {X} l m u some = take-add m 1 l ∙ ap (λ (ys : List X). take m l ++ ys) (sym (take-take 1 u (drop m l) some))
+
+pub cut_on_rest : {X : Type 0} (l : List X) (m u : ℕ) → 1 ≤ u → take (u - 1) (drop (m + 1) l) ≡ drop 1 (take u (drop m l))
+cut_on_rest {X} l m u some =
+    let more : u ≡ 1 + (u - 1) = omega arith in
+    sym (ap (λ (n : ℕ). drop 1 (take n (drop m l))) more ∙ drop-take 1 (u - 1) (drop m l) ∙ ap (λ (ys : List X). take (u - 1) ys) (drop-drop 1 m l))
+
+-- the k-th of the first part goes to the front of the second
+pub taken_out : {X : Type 0} (l : List X) (k m u : ℕ) → 1 ≤ k → k ≤ m → m ≤ length l
+    → take (u + 1) (drop (m - 1) (moved_behind l k m)) ≡ take 1 (drop (k - 1) (take m l)) ++ take u (drop m l)
+taken_out {X} l k m u some position within =
+    let one : length (take 1 (drop (k - 1) (take m l))) ≡ 1 =
+    length-take-le 1 (drop (k - 1) (take m l)) (omega (arith, length-take-le m l within, length-drop (k - 1) (take m l))) in
+    ap (λ (ys : List X). take (u + 1) ys) (behind_from l k m some position within)
+    ∙ take_over (take 1 (drop (k - 1) (take m l))) (drop m l) 1 u one
+
+-- one more is put behind both parts
+pub put_stays : {X : Type 0} (l new : List X) (m u : ℕ) (x : X) → m + u ≤ length l → new ≡ take (m + u) l ++ x ∷ drop (m + u + 1) l
+    → take m new ≡ take m l
+put_stays {X} l new m u x within is =
+    ap (take m) is ∙ take-append-le m (take (m + u) l) (x ∷ drop (m + u + 1) l) (omega (arith, length-take-le (m + u) l within))
+    ∙ take-take m (m + u) l (omega arith)
+
+pub put_last : {X : Type 0} (l new : List X) (m u : ℕ) (x : X) → m + u ≤ length l → new ≡ take (m + u) l ++ x ∷ drop (m + u + 1) l
+    → take (u + 1) (drop m new) ≡ take u (drop m l) ++ x ∷ []
+put_last {X} l new m u x within is =
+    let rest = drop (m + u + 1) l in
+    let len : length (take (m + u) l) ≡ m + u = length-take-le (m + u) l within in
+    let behind : drop m new ≡ take u (drop m l) ++ x ∷ rest =
+    ap (drop m) is ∙ drop-append-le m (take (m + u) l) (x ∷ rest) (omega arith) ∙ ap (λ (ys : List X). ys ++ x ∷ rest) (drop-take m u l) in
+    let turn : u + 1 ≡ 1 + u = omega arith in
+    let short : length (take u (drop m l)) ≡ u = length-take-le u (drop m l) (omega (arith, length-drop m l)) in
+    ap (λ (ys : List X). take (u + 1) ys) behind ∙ ap (λ (n : ℕ). take n (take u (drop m l) ++ x ∷ rest)) turn
+    ∙ take_over (take u (drop m l)) (x ∷ rest) u 1 short
+
+pub cut_short : {X : Type 0} (l : List X) (m : ℕ) → m ≤ length l → take (m - 1) l ≡ take (length (take m l) - 1) (take m l)
+cut_short {X} l m within =
+    let len : m - 1 ≡ length (take m l) - 1 = omega (arith, length-take-le m l within) in
+    sym (take-take (m - 1) m l (omega arith)) ∙ ap (λ (n : ℕ). take n (take m l)) len

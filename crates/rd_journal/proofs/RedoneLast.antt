@@ -1,0 +1,122 @@
+-- Live followed by undone is one run, and what is undone alone and redone is the last step of the same world.
+use Rattle.std.proofs.Common.{◌≡◌, ℕ, zero, suc, ◌-◌, ◌<◌, ◌≤◌, ◌==◌, nat_lt, inl, inr, refl, sym, ◌∙◌, ap, arith, List, [], ◌∷◌, ◌++◌, length, take, drop, Option, Some, None, Result, Ok, Err}
+use Rattle.std.proofs.lemmas.Bool.{cases_Bool, cond-true, cond-false, ltb-true}
+use Rattle.std.proofs.lemmas.List.{map-append, length-map}
+use Rattle.rd_step.specs.Prelude.{Refusal, NothingToRedo, NoSuchStep, first_dependant, Ran, run, step, unstep}
+use Rattle.rd_step.specs.declared.entries.Event.{Event}
+use Rattle.rd_step.specs.declared.entries.Entry.{Entry}
+use Rattle.rd_step.specs.Laws.{IsTakenOut}
+use Rattle.rd_step.proofs.Removal.{taken_out}
+use Rattle.rd_journal.specs.Journal.{Journal, events, start_of, run_entries, IsRun}
+use Rattle.rd_journal.specs.Laws.{IsMovedLast, IsOneRun}
+use Rattle.rd_journal.specs.Moves.{IsTakenOutAt}
+use Rattle.rd_journal.specs.State.{State, state_of, run_of, dependant_in, forward_one, one_out, one_out_unless, undo_at, redo}
+use Rattle.rd_journal.proofs.ListLemmas.{nth}
+use Rattle.rd_journal.proofs.LoneUndo.{IsNumber, from_it, may_undo_at, one_out_state}
+use Rattle.rd_journal.proofs.Runs.{as_ok, as_ok-same, step_event, run_joined, grown}
+use Rattle.rd_journal.proofs.There.{one_journal}
+use Rattle.rd_journal.proofs.Walks.{forward_state}
+
+-- One run
+
+one_run_of : (R : ℕ) (j : Journal) (o : Result Ran Refusal) → IsRun R j → run R j.world (events j.undone) ≡ o → run_entries o ≡ Ok j.undone
+    → IsOneRun R j
+one_run_of R j (Err refusal) runs h k = cc
+one_run_of R j (Ok r) runs h k =
+    let same : r.entries ≡ j.undone = as_ok-same r.entries j.undone k in
+    ap (λ (es : List Event). run_entries (run R (start_of j) es)) (map-append (λ (x : Entry). x.event) j.live j.undone)
+    ∙ ap run_entries (run_joined R (start_of j) (events j.live) (events j.undone) (record { world = j.world; entries = j.live }) r runs.live_ran h)
+    ∙ ap (λ (ys : List Entry). Ok (j.live ++ ys)) same
+
+pub one_run : (R : ℕ) (j : Journal) → IsRun R j → IsOneRun R j
+one_run R j runs = one_run_of R j (run R j.world (events j.undone)) runs refl runs.undone_run_on
+
+-- Calls that were not refused
+
+-- a lone undo that was not refused
+pub record WentOut (R : ℕ) (s t : State) (n : ℕ) : Type 0 where
+  pub some : 1 ≤ n
+  pub within : n ≤ length s.live
+  pub free : dependant_in n (run_of R s) ≡ None
+  pub goes : t ≡ one_out s n
+
+unless_none : (s t : State) (n : ℕ) (o : Option ℕ) → one_out_unless s n o ≡ Ok t → (o ≡ None) × (t ≡ one_out s n)
+unless_none s t n None h = let same : as_ok (one_out s n) ≡ Ok t = h in (refl, sym (as_ok-same (one_out s n) t same))
+unless_none s t n (Some j) h = cc
+
+went_out : (R : ℕ) (s t : State) (n : ℕ) → undo_at R s n ≡ Ok t → WentOut R s t n
+went_out R s t zero h = cc
+went_out R s t (suc i) h =
+    let some_out = one_out_unless s (suc i) (dependant_in (suc i) (run_of R s)) in
+    elim (cases_Bool (nat_lt i (length s.live))) [
+      | inl e ↦
+          let out : some_out ≡ Ok t = sym (cond-true (nat_lt i (length s.live)) some_out (Err (NoSuchStep (length s.live))) e) ∙ h in
+          let both = unless_none s t (suc i) (dependant_in (suc i) (run_of R s)) out in
+          let below : i < length s.live = ltb-true i (length s.live) e in
+          record { some = omega arith; within = omega arith; free = both.0; goes = both.1 }
+      | inr e ↦
+          let no : Err (NoSuchStep (length s.live)) ≡ Ok t = sym (cond-false (nat_lt i (length s.live)) some_out (Err (NoSuchStep (length s.live))) e) ∙ h in
+          cc
+    ]
+
+-- a redo that was not refused
+went_forward : (s t : State) → redo s ≡ Ok t → t ≡ forward_one s
+went_forward s t h =
+    elim (cases_Bool (length s.undone == 0)) [
+      | inl e ↦
+          let no : Err NothingToRedo ≡ Ok t = sym (cond-true (length s.undone == 0) (Err NothingToRedo) (Ok (forward_one s)) e) ∙ h in
+          cc
+      | inr e ↦
+          let same : as_ok (forward_one s) ≡ Ok t = sym (cond-false (length s.undone == 0) (Err NothingToRedo) (Ok (forward_one s)) e) ∙ h in
+          sym (as_ok-same (forward_one s) t same)
+    ]
+
+-- Redone last
+
+-- the journal where the n-th live step, which is x, was undone alone and redone
+abbrev pub again_journal : Journal → ℕ → Entry → Journal
+again_journal old n x = record { world = old.world; live = (take (n - 1) old.live ++ drop n old.live) ++ x ∷ []; undone = old.undone }
+
+record IsAgain (R : ℕ) (old : Journal) (n : ℕ) (x : Entry) : Type 0 where
+  pub runs : IsRun R (again_journal old n x)
+  pub state : state_of (again_journal old n x) ≡ forward_one (one_out (state_of old) n)
+
+again : (R : ℕ) (old : Journal) (n : ℕ) (x : Entry) → IsNumber old.live n x → first_dependant old.live n ≡ None → IsRun R old → IsAgain R old n x
+again R old n x at none runs =
+    let may = may_undo_at R old n x at none runs in
+    let v = unstep old.world x in
+    let out : IsTakenOut R old.world v x may.was = taken_out R old.world x may.was in
+    let xs = take (n - 1) old.live ++ drop n old.live in
+    let left : Journal = record { world = v; live = xs; undone = x ∷ old.undone } in
+    let moved : IsTakenOutAt n old left = record { live = refl; undone = sym (ap (λ (ys : List Entry). take 1 ys ++ old.undone) (from_it old.live n x at)) } in
+    let left_runs : IsRun R left = may.runs left out moved in
+    let its : x.event ≡ may.was.event = step_event R v may.was.event (record { world = old.world; entry = x }) out.again in
+    let goes : step R v x.event ≡ Ok (record { world = old.world; entry = x }) = ap (step R v) its ∙ out.again in
+    record {
+      runs = grown R v old.world xs (x ∷ old.undone) old.undone x x.event left_runs goes runs.undone_run_on;
+      state =
+          forward_state R v old.world xs old.undone x left_runs goes
+          ∙ ap forward_one (one_out_state n old left moved (may.start left out moved));
+    }
+
+pub redone_last : (R : ℕ) (i j k : Journal) (n : ℕ) → IsRun R i → IsRun R k → undo_at R (state_of i) n ≡ Ok (state_of j)
+    → redo (state_of j) ≡ Ok (state_of k) → IsMovedLast n i k
+redone_last R i j k n ri rk undone redone =
+    let went = went_out R (state_of i) (state_of j) n undone in
+    let len = length-map i.live (λ (x : Entry). x.event) in
+    let within : n ≤ length i.live = omega (arith, went.within) in
+    let some : 1 ≤ n = went.some in
+    let found = nth i.live (n - 1) (omega arith) in
+    let at : IsNumber i.live n found.0 = record { some = some; within = within; here = found.1 } in
+    let none : first_dependant i.live n ≡ None = sym (ap (dependant_in n) ri.live_ran) ∙ went.free in
+    let is = again R i n found.0 at none ri in
+    let same : state_of k ≡ state_of (again_journal i n found.0) =
+    went_forward (state_of j) (state_of k) redone ∙ ap forward_one went.goes ∙ sym is.state in
+    let one : k ≡ again_journal i n found.0 = one_journal R k (again_journal i n found.0) rk is.runs same in
+    record {
+      world = ap (λ (l : Journal). l.world) one;
+      live =
+          ap (λ (l : Journal). l.live) one
+          ∙ ap (λ (ys : List Entry). (take (n - 1) i.live ++ drop n i.live) ++ take 1 ys) (sym (from_it i.live n found.0 at));
+      undone = ap (λ (l : Journal). l.undone) one;
+    }

@@ -1,0 +1,179 @@
+-- Rolling back a live step with all that depends on it, over whole journals.
+use Rattle.std.proofs.Common.{◌≡◌, ℕ, zero, suc, ◌+◌, ◌-◌, ◌<◌, ◌≤◌, ◌⊎◌, inl, inr, Bool, true, false, nat_lt, refl, sym, ◌∙◌, ap, subst, arith, List, [], ◌∷◌, ◌++◌, length, take, drop, Result, Ok, Err, length-append}
+use Rattle.std.proofs.Math.Seq.{take-append_seam, drop-append_seam}
+use Rattle.std.proofs.lemmas.Bool.{cond-true, cond-false, lt-ltb, le-ltb}
+use Rattle.std.proofs.lemmas.List.{append_assoc, map-append, take-append-drop, length-map}
+use Rattle.rd_step.specs.Prelude.{Refusal, NoSuchStep, World, Ran, run, IsWellFormed, closure, marked, unmarked, closure_of, without_closure}
+use Rattle.rd_step.specs.Dependence.{closure_from}
+use Rattle.rd_step.specs.declared.entries.Event.{Event}
+use Rattle.rd_step.specs.declared.entries.Entry.{Entry}
+use Rattle.rd_step.proofs.Inverse.{run-cons}
+use Rattle.rd_journal.specs.Journal.{Journal, events, world_before, start_of, IsRun}
+use Rattle.rd_journal.specs.Moves.{IsMovedBack, IsRolledBack, IsWithoutClosure, roll_answer}
+use Rattle.rd_journal.specs.Kept.{IsSession}
+use Rattle.rd_journal.specs.Room.{HasRoom}
+use Rattle.rd_journal.specs.State.{State, state_of, run_of, back_one, times, closure_in, marked_out, roll}
+use Rattle.rd_journal.proofs.Calls.{back_start}
+use Rattle.rd_journal.proofs.Gathering.{cut_at, gathered_run}
+use Rattle.rd_journal.proofs.ListLemmas.{nth, drop_one_less}
+use Rattle.rd_step.proofs.RunParts.{middle}
+use Rattle.rd_journal.proofs.Runs.{run_joined, goes_back}
+
+-- The closure gathered last
+
+-- the journal with the closure of k behind the other live records
+abbrev pub closure_last : Journal → ℕ → Journal
+closure_last j k = record { world = j.world; live = without_closure j.live k ++ closure_of j.live k; undone = j.undone }
+
+-- it is a run of the same start
+pub record IsReordered (R : ℕ) (j : Journal) (k : ℕ) : Type 0 where
+  pub start : start_of (closure_last j k) ≡ start_of j
+  pub runs : IsRun R (closure_last j k)
+
+reordered_run : (R : ℕ) (s w : World) (l : List Entry) (i : ℕ) → i < length l → run R s (events l) ≡ Ok (record { world = w; entries = l })
+    → let zs = without_closure l (suc i) ++ closure_of l (suc i) in run R s (events zs) ≡ Ok (record { world = w; entries = zs })
+reordered_run R s w l i low h =
+    let found = nth l i low in
+    let x = found.0 in
+    let c = cut_at l i x low found.1 in
+    let xs = take i l in
+    let ys = drop (suc i) l in
+    let one : i + 1 ≡ suc i = omega arith in
+    let around : l ≡ xs ++ x ∷ ys = sym (take-append-drop i l) ∙ ap (λ (zs : List Entry). xs ++ zs) (drop_one_less l i x low found.1 ∙ ap (λ (n : ℕ). x ∷ drop n l) one) in
+    let m = middle R s xs x ys w (subst (λ (zs : List Entry). run R s (events zs) ≡ Ok (record { world = w; entries = zs })) around h) in
+    let from : run R m.before (events (x ∷ ys)) ≡ Ok (record { world = w; entries = x ∷ ys }) =
+    run-cons R m.before x.event (events ys) (record { world = m.after; entry = x }) (record { world = w; entries = ys }) m.goes m.rest in
+    let ms = closure_from (x ∷ []) ys in
+    let zs = unmarked ms ys ++ ((x ∷ []) ++ marked ms ys) in
+    let turned = gathered_run R m.before w (x ∷ []) ys from in
+    let all : run R s (events (xs ++ zs)) ≡ Ok (record { world = w; entries = xs ++ zs }) =
+    ap (run R s) (map-append (λ (y : Entry). y.event) xs zs)
+    ∙ run_joined R s (events xs) (events zs) (record { world = m.before; entries = xs }) (record { world = w; entries = zs }) m.ran turned in
+    let same : xs ++ zs ≡ without_closure l (suc i) ++ closure_of l (suc i) =
+    sym (append_assoc xs (unmarked ms ys) (x ∷ marked ms ys)) ∙ (λ t. sym c.outside t ++ sym c.inside t) in
+    subst (λ (qs : List Entry). run R s (events qs) ≡ Ok (record { world = w; entries = qs })) same all
+
+reordered_at : (R : ℕ) (j : Journal) (i : ℕ) → i < length j.live → IsRun R j → IsReordered R j (suc i)
+reordered_at R j i low runs =
+    let s = start_of j in
+    let zs = without_closure j.live (suc i) ++ closure_of j.live (suc i) in
+    let ran = reordered_run R s j.world j.live i low runs.live_ran in
+    let back : world_before j.world zs ≡ s = goes_back R s j.world zs runs.well_formed ran in
+    record {
+      start = back;
+      runs = record {
+        well_formed = subst (λ (u : World). IsWellFormed R u) (sym back) runs.well_formed;
+        live_ran = ap (λ (u : World). run R u (events zs)) back ∙ ran;
+        undone_run_on = runs.undone_run_on;
+      };
+    }
+
+pub reordered : (R : ℕ) (j : Journal) (k : ℕ) → 1 ≤ k → k ≤ length j.live → IsRun R j → IsReordered R j k
+reordered R j zero some within runs = absurd (omega arith)
+reordered R j (suc i) some within runs = reordered_at R j i (omega arith) runs
+
+-- The session with the closure gathered last
+
+-- the closure is behind the other live records, and all else is as it was
+pub record IsGatheredLast (k : ℕ) (old new : Journal) : Type 0 where
+  pub world : new.world ≡ old.world
+  pub live : new.live ≡ without_closure old.live k ++ closure_of old.live k
+  pub undone : new.undone ≡ old.undone
+  pub len : length new.live ≡ length old.live
+
+gathered_journal : (k : ℕ) (old new : Journal) → IsGatheredLast k old new → new ≡ closure_last old k
+gathered_journal k old new g = λ i. record { world = g.world i; live = g.live i; undone = g.undone i }
+
+pub gathered_session : (R k : ℕ) (old new : Journal) (room : ℕ → ℕ) → IsSession R old room → 1 ≤ k → k ≤ length old.live → IsGatheredLast k old new
+    → IsSession R new room
+gathered_session R k old new room session some within g =
+    let re = reordered R old k some within session.runs in
+    record {
+      few = omega (arith, g.len, ap length g.undone, session.few);
+      runs = subst (λ (j : Journal). IsRun R j) (sym (gathered_journal k old new g)) re.runs;
+      has_room = subst (λ (ys : List Entry). HasRoom ys room) (sym g.undone) session.has_room;
+    }
+
+-- undoing as many steps as are in the closure is the rollback
+pub rolled_back : (k n : ℕ) (old mid new : Journal) → n ≡ length (closure_of old.live k) → IsGatheredLast k old mid → IsMovedBack n mid new
+    → IsRolledBack k old new
+rolled_back k n old mid new count gathered moved =
+    let xs = without_closure old.live k in
+    let ys = closure_of old.live k in
+    let cut : length (xs ++ ys) - n ≡ length xs = omega (arith, count, length-append xs ys) in
+    record {
+      live =
+          moved.live ∙ ap (λ (l : List Entry). take (length l - n) l) gathered.live ∙ ap (λ (m : ℕ). take m (xs ++ ys)) cut
+          ∙ take-append_seam xs ys;
+      undone =
+          moved.undone ∙ (λ i. drop (length (gathered.live i) - n) (gathered.live i) ++ gathered.undone i)
+          ∙ ap (λ (m : ℕ). drop m (xs ++ ys) ++ old.undone) cut
+          ∙ ap (λ (zs : List Entry). zs ++ old.undone) (drop-append_seam xs ys);
+    }
+
+pub rolled_start : (R k n : ℕ) (old mid new : Journal) → IsRun R old → 1 ≤ k → k ≤ length old.live → IsGatheredLast k old mid
+    → state_of new ≡ times n back_one (state_of mid) → start_of new ≡ start_of old
+rolled_start R k n old mid new runs some within g state =
+    ap (λ (s : State). s.start) state ∙ back_start n (state_of mid) ∙ ap start_of (gathered_journal k old mid g)
+    ∙ (reordered R old k some within runs).start
+
+-- The state
+
+pub marked-map : (bs : List Bool) (xs : List Entry) → marked bs (events xs) ≡ events (marked bs xs)
+marked-map [] xs = refl
+marked-map (b ∷ bs) [] = refl
+marked-map (true ∷ bs) (x ∷ xs) = ap (λ (es : List Event). x.event ∷ es) (marked-map bs xs)
+marked-map (false ∷ bs) (x ∷ xs) = marked-map bs xs
+
+pub unmarked-map : (bs : List Bool) (xs : List Entry) → unmarked bs (events xs) ≡ events (unmarked bs xs)
+unmarked-map [] xs = refl
+unmarked-map (b ∷ bs) [] = refl
+unmarked-map (true ∷ bs) (x ∷ xs) = unmarked-map bs xs
+unmarked-map (false ∷ bs) (x ∷ xs) = ap (λ (es : List Event). x.event ∷ es) (unmarked-map bs xs)
+
+pub rolled_state : (k : ℕ) (old new : Journal) → IsRolledBack k old new → start_of new ≡ start_of old → state_of new ≡ marked_out (state_of old) (closure old.live k)
+rolled_state k old new is start =
+    let ms = closure old.live k in
+    let live : events new.live ≡ unmarked ms (events old.live) = ap events is.live ∙ sym (unmarked-map ms old.live) in
+    let undone : events new.undone ≡ marked ms (events old.live) ++ events old.undone =
+    ap events is.undone ∙ map-append (λ (x : Entry). x.event) (marked ms old.live) old.undone
+    ∙ ap (λ (es : List Event). es ++ events old.undone) (sym (marked-map ms old.live)) in
+    λ i. record { start = start i; live = live i; undone = undone i }
+
+pub rolled_run : (R k : ℕ) (old new : Journal) → IsRolledBack k old new → start_of new ≡ start_of old → IsRun R new → IsWithoutClosure R k old new
+rolled_run R k old new is start runs =
+    let live : unmarked (closure old.live k) (events old.live) ≡ events new.live = unmarked-map (closure old.live k) old.live ∙ ap events (sym is.live) in
+    (λ i. run R (sym start i) (live i)) ∙ runs.live_ran
+
+-- The answers
+
+pub roll_answer_missing : (j : Journal) (k n : ℕ) → n ≡ length j.live → (k ≡ 0) ⊎ (n < k) → Err (NoSuchStep n) ≡ roll_answer j k
+roll_answer_missing j zero n len _ = ap (λ (m : ℕ). Err (NoSuchStep m)) len
+roll_answer_missing j (suc i) n len (inl e) = absurd (omega arith)
+roll_answer_missing j (suc i) n len (inr past) =
+    let out : nat_lt i (length j.live) ≡ false = le-ltb i (length j.live) (omega arith) in
+    ap (λ (m : ℕ). Err (NoSuchStep m)) len ∙ sym (cond-false (nat_lt i (length j.live)) (Ok tt) (Err (NoSuchStep (length j.live))) out)
+
+pub roll_answer_there : (j : Journal) (k : ℕ) → 1 ≤ k → k ≤ length j.live → Ok tt ≡ roll_answer j k
+roll_answer_there j zero some within = absurd (omega arith)
+roll_answer_there j (suc i) some within =
+    sym (cond-true (nat_lt i (length j.live)) (Ok tt) (Err (NoSuchStep (length j.live))) (lt-ltb i (length j.live) (omega arith)))
+
+pub roll_missing : (R : ℕ) (j : Journal) (k n : ℕ) → n ≡ length j.live → (k ≡ 0) ⊎ (n < k) → roll R (state_of j) k ≡ Err (NoSuchStep n)
+roll_missing R j zero n len _ = ap (λ (m : ℕ). Err (NoSuchStep m)) (length-map j.live (λ (x : Entry). x.event) ∙ sym len)
+roll_missing R j (suc i) n len (inl e) = absurd (omega arith)
+roll_missing R j (suc i) n len (inr past) =
+    let s = state_of j in
+    let same : length s.live ≡ n = length-map j.live (λ (x : Entry). x.event) ∙ sym len in
+    let out : nat_lt i (length s.live) ≡ false = le-ltb i (length s.live) (omega arith) in
+    cond-false (nat_lt i (length s.live)) (Ok (marked_out s (closure_in (suc i) (run_of R s)))) (Err (NoSuchStep (length s.live))) out
+    ∙ ap (λ (m : ℕ). Err (NoSuchStep m)) same
+
+pub roll_there : (R : ℕ) (j : Journal) (k : ℕ) → IsRun R j → 1 ≤ k → k ≤ length j.live → roll R (state_of j) k ≡ Ok (marked_out (state_of j) (closure j.live k))
+roll_there R j zero runs some within = absurd (omega arith)
+roll_there R j (suc i) runs some within =
+    let s = state_of j in
+    let len : length s.live ≡ length j.live = length-map j.live (λ (x : Entry). x.event) in
+    cond-true (nat_lt i (length s.live)) (Ok (marked_out s (closure_in (suc i) (run_of R s)))) (Err (NoSuchStep (length s.live)))
+    (lt-ltb i (length s.live) (omega arith))
+    ∙ ap (λ (r : Result Ran Refusal). Ok (marked_out s (closure_in (suc i) r))) runs.live_ran

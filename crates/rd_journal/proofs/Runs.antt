@@ -1,0 +1,174 @@
+-- Runs and their records: two runs joined, the last step of a run, and a journal that gains or loses a step.
+use Rattle.std.proofs.Common.{◌≡◌, ℕ, refl, sym, ◌∙◌, ap, subst, List, [], ◌∷◌, ◌++◌, Result, Ok, Err}
+use Rattle.std.proofs.lemmas.List.{append-nil, map-append}
+use Rattle.rd_step.specs.Prelude.{Refusal, World, Stepped, step, unstep, Ran, run, IsFree, IsWellFormed}
+use Rattle.rd_step.specs.declared.entries.Event.{Event}
+use Rattle.rd_step.specs.declared.entries.Entry.{Entry}
+use Rattle.rd_step.specs.Run.{run_preceded_by, run_from_step}
+use Rattle.rd_step.specs.Laws.{WasStepped, IsTakenOut}
+use Rattle.rd_step.proofs.Steps.{took}
+use Rattle.rd_step.proofs.Inverse.{undoes, ran_on, run-cons}
+use Rattle.rd_step.proofs.Keeps.{keeps}
+use Rattle.rd_step.proofs.Removal.{run_keeps, taken_out}
+use Rattle.rd_step.proofs.RunParts.{beginning, Middle, middle, first_step}
+use Rattle.rd_journal.specs.Journal.{Journal, events, world_before, start_of, run_entries, IsRun}
+
+-- an answer that is no refusal
+abbrev pub as_ok : {X : Type 0} → X → Result X Refusal
+as_ok x = Ok x
+
+-- equal answers are of equal values
+pub as_ok-same : {X : Type 0} (x y : X) → as_ok x ≡ Ok y → x ≡ y
+as_ok-same x y h = cc
+
+-- a step's record names its event
+pub step_event : (R : ℕ) (w : World) (e : Event) (s : Stepped) → step R w e ≡ Ok s → s.entry.event ≡ e
+step_event R w e s h = let t = took R w e s h in ap (λ (x : Stepped). x.entry.event) (sym t.ends)
+
+-- a run and one that goes on from its last world are one run
+pub run_joined : (R : ℕ) (s : World) (es fs : List Event) (r q : Ran) → run R s es ≡ Ok r → run R r.world fs ≡ Ok q
+    → run R s (es ++ fs) ≡ Ok (record { world = q.world; entries = r.entries ++ q.entries })
+run_joined R s [] fs r q h k =
+    let p : record { world = s; entries = [] } ≡ r = cc in
+    subst (λ (x : Ran). run R x.world fs ≡ Ok q → run R s fs ≡ Ok (record { world = q.world; entries = x.entries ++ q.entries })) p (λ l. l) k
+run_joined R s (e ∷ es) fs r q h k =
+    let ran = ran_on R s e es r h in
+    let goes : run R ran.rest.world fs ≡ Ok q = ap (λ (x : Ran). run R x.world fs) ran.joins ∙ k in
+    let joined = run_joined R ran.one.world es fs ran.rest q ran.goes_on goes in
+    run-cons R s e (es ++ fs) ran.one (record { world = q.world; entries = ran.rest.entries ++ q.entries }) ran.goes joined
+    ∙ ap (λ (x : Ran). Ok (record { world = q.world; entries = x.entries ++ q.entries })) ran.joins
+
+-- the loop lemma for runs: putting back the old words of a run's records gives the world that it began in
+pub goes_back : (R : ℕ) (s w : World) (xs : List Entry) → IsWellFormed R s → run R s (events xs) ≡ Ok (record { world = w; entries = xs })
+    → world_before w xs ≡ s
+goes_back R s w [] formed h =
+    let last : as_ok (record { world = s; entries = [] }) ≡ Ok (record { world = w; entries = [] }) = h in
+    sym (ap (λ (y : Ran). y.world) (as_ok-same (record { world = s; entries = [] }) (record { world = w; entries = [] }) last))
+goes_back R s w (x ∷ xs) formed h =
+    let first = beginning R s x xs w h in
+    let one : Stepped = record { world = first.after; entry = x } in
+    ap (λ (u : World). unstep u x) (goes_back R first.after w xs (keeps R s x.event one formed first.goes) first.rest)
+    ∙ undoes R s x.event one formed first.goes
+
+-- putting back begins with the last record
+pub world_before-last : (w : World) (xs : List Entry) (x : Entry) → world_before w (xs ++ x ∷ []) ≡ world_before (unstep w x) xs
+world_before-last w [] x = refl
+world_before-last w (y ∷ ys) x = ap (λ (v : World). unstep v y) (world_before-last w ys x)
+
+-- a step leaves the start as it was
+pub start_stays : (R : ℕ) (w v : World) (xs : List Entry) (x : Entry) (e : Event) → IsWellFormed R w
+    → step R w e ≡ Ok (record { world = v; entry = x }) → world_before v (xs ++ x ∷ []) ≡ world_before w xs
+start_stays R w v xs x e formed h =
+    world_before-last v xs x ∙ ap (λ (u : World). world_before u xs) (undoes R w e (record { world = v; entry = x }) formed h)
+
+-- a journal's world is well-formed
+pub now_formed : (R : ℕ) (j : Journal) → IsRun R j → IsWellFormed R j.world
+now_formed R j runs = run_keeps R (start_of j) (events j.live) (record { world = j.world; entries = j.live }) runs.well_formed runs.live_ran
+
+-- a step from a journal's world, with its record put last, makes a journal, whatever runs on from there being undone
+pub grown : (R : ℕ) (w v : World) (xs zs ys : List Entry) (x : Entry) (e : Event) → IsRun R (record { world = w; live = xs; undone = zs })
+    → step R w e ≡ Ok (record { world = v; entry = x }) → run_entries (run R v (events ys)) ≡ Ok ys
+    → IsRun R (record { world = v; live = xs ++ x ∷ []; undone = ys })
+grown R w v xs zs ys x e runs h rest =
+    let formed = now_formed R (record { world = w; live = xs; undone = zs }) runs in
+    let same = start_stays R w v xs x e formed h in
+    let its : x.event ≡ e = step_event R w e (record { world = v; entry = x }) h in
+    let goes : step R w x.event ≡ Ok (record { world = v; entry = x }) = ap (step R w) its ∙ h in
+    let last : run R w (x.event ∷ []) ≡ Ok (record { world = v; entries = x ∷ [] }) =
+    run-cons R w x.event [] (record { world = v; entry = x }) (record { world = v; entries = [] }) goes refl in
+    record {
+      well_formed = subst (λ (u : World). IsWellFormed R u) (sym same) runs.well_formed;
+      live_ran =
+          ap (λ (u : World). run R u (events (xs ++ x ∷ []))) same
+          ∙ ap (run R (world_before w xs)) (map-append (λ (y : Entry). y.event) xs (x ∷ []))
+          ∙ run_joined R (world_before w xs) (events xs) (x.event ∷ []) (record { world = w; entries = xs })
+          (record { world = v; entries = x ∷ [] }) runs.live_ran last;
+      undone_run_on = rest;
+    }
+
+-- records that run on from a step's world run on, after the step's record, from the world before it
+preceded_entries : (x : Entry) (r : Result Ran Refusal) (ys : List Entry) → run_entries r ≡ Ok ys → run_entries (run_preceded_by x r) ≡ Ok (x ∷ ys)
+preceded_entries x (Err refusal) ys h = cc
+preceded_entries x (Ok r) ys h = let e : r.entries ≡ ys = cc in ap (λ (zs : List Entry). Ok (x ∷ zs)) e
+
+-- where a live step on which no later one depends is taken out of a run, what is left is a run of the same start, with
+-- the step's record in front of the undone ones
+pub record MayTakeOut (R : ℕ) (w : World) (xs ys zs : List Entry) (x : Entry) : Type 0 where
+  pub was : WasStepped R w x
+  pub start : (v : World) → IsTakenOut R w v x was → world_before v (xs ++ ys) ≡ world_before w (xs ++ x ∷ ys)
+  pub runs : (v : World) → IsTakenOut R w v x was → IsRun R (record { world = v; live = xs ++ ys; undone = x ∷ zs })
+
+pub may_take_out : (R : ℕ) (w : World) (xs ys zs : List Entry) (x : Entry) → IsRun R (record { world = w; live = xs ++ x ∷ ys; undone = zs })
+    → IsFree x ys → MayTakeOut R w xs ys zs x
+may_take_out R w xs ys zs x runs free = record { was = was; start = start; runs = left }
+  where
+    s : World
+    s = world_before w (xs ++ x ∷ ys)
+
+    m : Middle R s xs x ys w
+    m = middle R s xs x ys w runs.live_ran
+
+    was : WasStepped R w x
+    was = record {
+      start = m.before;
+      well_formed = run_keeps R s (events xs) (record { world = m.before; entries = xs }) runs.well_formed m.ran;
+      event = x.event;
+      stepped = record { world = m.after; entry = x };
+      goes = m.goes;
+      its_entry = refl;
+      later = events ys;
+      ran = record { world = w; entries = ys };
+      went_on = m.rest;
+      here = refl;
+      free = free;
+    }
+
+    others : (v : World) → IsTakenOut R w v x was → run R s (events (xs ++ ys)) ≡ Ok (record { world = v; entries = xs ++ ys })
+    others v out =
+        ap (run R s) (map-append (λ (y : Entry). y.event) xs ys)
+        ∙ run_joined R s (events xs) (events ys) (record { world = m.before; entries = xs }) (record { world = v; entries = ys }) m.ran out.rest
+
+    start : (v : World) → IsTakenOut R w v x was → world_before v (xs ++ ys) ≡ s
+    start v out = goes_back R s v (xs ++ ys) runs.well_formed (others v out)
+
+    left : (v : World) → IsTakenOut R w v x was → IsRun R (record { world = v; live = xs ++ ys; undone = x ∷ zs })
+    left v out = record {
+      well_formed = subst (λ (u : World). IsWellFormed R u) (sym (start v out)) runs.well_formed;
+      live_ran = ap (λ (u : World). run R u (events (xs ++ ys))) (start v out) ∙ others v out;
+      undone_run_on =
+          ap (λ (r : Result Stepped Refusal). run_entries (run_from_step (λ u. run R u (events zs)) r)) out.again
+          ∙ preceded_entries x (run R w (events zs)) zs runs.undone_run_on;
+    }
+
+-- the last live step of a journal may be undone, and the journal that is left, with its record in front of the undone
+-- ones, is one of the same start
+pub record MayUndo (R : ℕ) (w : World) (xs ys : List Entry) (x : Entry) : Type 0 where
+  pub was : WasStepped R w x
+  pub runs : IsRun R (record { world = unstep w x; live = xs; undone = x ∷ ys })
+
+pub shrunk : (R : ℕ) (w : World) (xs ys : List Entry) (x : Entry) → IsRun R (record { world = w; live = xs ++ x ∷ []; undone = ys })
+    → MayUndo R w xs ys x
+shrunk R w xs ys x runs =
+    let may = may_take_out R w xs [] ys x runs tt in
+    record {
+      was = may.was;
+      runs =
+          subst (λ (l : List Entry). IsRun R (record { world = unstep w x; live = l; undone = x ∷ ys })) (append-nil xs)
+          (may.runs (unstep w x) (taken_out R w x may.was));
+    }
+
+-- the first undone step of a journal: it goes, with its stored record, and the rest run on from there
+pub record MayRedo (R : ℕ) (w : World) (xs ys : List Entry) (y : Entry) : Type 0 where
+  pub after : World
+  pub goes : step R w y.event ≡ Ok (record { world = after; entry = y })
+  pub runs : IsRun R (record { world = after; live = xs ++ y ∷ []; undone = ys })
+
+pub may_redo : (R : ℕ) (w : World) (xs ys : List Entry) (y : Entry) → IsRun R (record { world = w; live = xs; undone = y ∷ ys })
+    → MayRedo R w xs ys y
+may_redo R w xs ys y runs =
+    let first = first_step R w y ys runs.undone_run_on in
+    record {
+      after = first.after;
+      goes = first.goes;
+      runs = grown R w first.after xs (y ∷ ys) ys y y.event runs first.goes first.rest;
+    }

@@ -1,0 +1,186 @@
+-- Records of a run put behind the first live ones, and the room that their makings ask for.
+use Rattle.std.proofs.Common.{◌≡◌, ◌≢◌, ℕ, zero, suc, ◌+◌, ◌-◌, ◌<◌, ◌≤◌, ◌==◌, Bool, true, false, refl, sym, ◌∙◌, ap, subst, arith, inl, inr, List, [], ◌∷◌, ◌++◌, length, take, drop, get_or, Option, Some, None, is_some, IsSome, Ok, ne_eqb}
+use Rattle.std.proofs.Math.Seq.{take-length, drop-length, take-suc}
+use Rattle.std.proofs.lemmas.Bool.{cases_Bool, cases_eq, cond-false}
+use Rattle.std.proofs.lemmas.List.{map-append, take-map}
+use Rattle.rd_step.specs.Prelude.{Place, Content, after, World, Stepped, step, Ran, run, MOST_STEPS}
+use Rattle.rd_step.specs.declared.entries.Event.{Event}
+use Rattle.rd_step.specs.declared.entries.Entry.{Entry}
+use Rattle.rd_step.specs.Room.{makes_segment, room_used, room_returned}
+use Rattle.rd_step.proofs.Steps.{took, with_actor-other}
+use Rattle.rd_step.proofs.Room.{room_used_returned}
+use Rattle.rd_journal.specs.Journal.{Journal, events, world_before, start_of, IsRunFrom}
+use Rattle.rd_journal.specs.Moves.{IsMovedBack, IsMovedForward, IsSwitched}
+use Rattle.rd_journal.specs.Kept.{IsSession}
+use Rattle.rd_journal.specs.Room.{room_returned_by, HasRoom, HasRoomForAll}
+use Rattle.rd_journal.specs.State.{State, state_of, back_one, forward_one, times, switch}
+use Rattle.rd_journal.proofs.Calls.{back_start}
+use Rattle.rd_step.proofs.Removal.{run_stays_actor}
+use Rattle.rd_step.proofs.RunParts.{beginning, first_step}
+use Rattle.rd_journal.proofs.Runs.{as_ok-same}
+
+-- Counting makings
+
+pub returned_once : (p : Option Place) (c : Option Content) (m : ℕ) → room_returned p c m ≤ 1
+returned_once p (Some c) m = omega arith
+returned_once None None m = omega arith
+returned_once (Some p) None m = grind arith
+
+pub returned_few : (xs : List Entry) (m : ℕ) → room_returned_by xs m ≤ length xs
+returned_few [] m = omega arith
+returned_few (x ∷ xs) m = omega (arith, returned_few xs m, returned_once x.place x.old_content m)
+
+pub returned_joined : (xs ys : List Entry) (m : ℕ) → room_returned_by (xs ++ ys) m ≡ room_returned_by xs m + room_returned_by ys m
+returned_joined [] ys m = omega arith
+returned_joined (x ∷ xs) ys m = omega (arith, returned_joined xs ys m)
+
+-- the makings among one more record
+pub returned_next : (xs : List Entry) (i m count more next : ℕ) (d : Entry) → i < length xs → count ≡ room_returned_by (take i xs) m
+    → more ≡ room_returned (get_or xs i d).place (get_or xs i d).old_content m → next ≡ count + more → next ≡ room_returned_by (take (i + 1) xs) m
+returned_next xs i m count more next d h counted one is =
+    let x = get_or xs i d in
+    let after : i + 1 ≡ suc i = omega arith in
+    let all : take (i + 1) xs ≡ take i xs ++ x ∷ [] = ap (λ (n : ℕ). take n xs) after ∙ take-suc xs i d h in
+    let sum : room_returned_by (take (i + 1) xs) m ≡ room_returned_by (take i xs ++ x ∷ []) m = ap (λ (ys : List Entry). room_returned_by ys m) all in
+    let two : room_returned_by (take i xs ++ x ∷ []) m ≡ room_returned_by (take i xs) m + (room_returned x.place x.old_content m + 0) = returned_joined (take i xs) (x ∷ []) m in
+    omega arith
+
+-- Who makes
+
+-- a step brings no actor, and its own is there
+not_its_actor : (R : ℕ) (w : World) (e : Event) (s : Stepped) (m : ℕ) → step R w e ≡ Ok s → is_some (w.actor m) ≡ false → m ≢ e.actor
+not_its_actor R w e s m h none same =
+    let t = took R w e s h in
+    let there : is_some (w.actor m) ≡ true = ap (λ (n : ℕ). is_some (w.actor n)) same ∙ ap is_some t.has in
+    cc
+
+brings_no_actor : (R : ℕ) (w : World) (e : Event) (s : Stepped) (m : ℕ) → step R w e ≡ Ok s → is_some (w.actor m) ≡ false
+    → is_some (s.world.actor m) ≡ false
+brings_no_actor R w e s m h none =
+    let t = took R w e s h in
+    let next = after R t.a e.act t.did.answer in
+    subst (λ (x : Stepped). is_some (x.world.actor m) ≡ false) t.ends
+    (ap is_some (with_actor-other e.actor next.0 w.actor m (not_its_actor R w e s m h none)) ∙ none)
+
+used_by_other : (made : Bool) (n m : ℕ) → m ≢ n → room_used made n m ≡ 0
+used_by_other true n m ne = cond-false (m == n) 1 0 (ne_eqb m n ne)
+used_by_other false n m ne = refl
+
+-- who is no actor makes nothing
+none_made : (R : ℕ) (w : World) (xs : List Entry) (m : ℕ) → IsRunFrom R w xs → is_some (w.actor m) ≡ false → room_returned_by xs m ≡ 0
+none_made R w [] m h none = refl
+none_made R w (x ∷ xs) m h none =
+    let first = first_step R w x xs h in
+    let s : Stepped = record { world = first.after; entry = x } in
+    let used = room_used_returned R w x.event s m first.goes in
+    let other = used_by_other (makes_segment R w x.event) x.event.actor m (not_its_actor R w x.event s m first.goes none) in
+    let rest = none_made R first.after xs m first.rest (brings_no_actor R w x.event s m first.goes none) in
+    omega (arith, used, other, rest)
+
+-- Runs cut in two
+
+-- where the first records' run is known, the others run on from its world
+pub runs_on : (R : ℕ) (s w : World) (xs ys : List Entry) → run R s (events xs) ≡ Ok (record { world = w; entries = xs }) → IsRunFrom R s (xs ++ ys)
+    → IsRunFrom R w ys
+runs_on R s w [] ys h k =
+    let same : record { world = s; entries = [] } ≡ record { world = w; entries = [] } =
+    as_ok-same (record { world = s; entries = [] }) (record { world = w; entries = [] }) h in
+    subst (λ (v : World). IsRunFrom R v ys) (ap (λ (r : Ran). r.world) same) k
+runs_on R s w (x ∷ xs) ys h k =
+    let first = first_step R s x (xs ++ ys) k in
+    let known = beginning R s x xs w h in
+    let both : record { world = first.after; entry = x } ≡ record { world = known.after; entry = x } = cc (first.goes, known.goes) in
+    let there : first.after ≡ known.after = ap (λ (t : Stepped). t.world) both in
+    runs_on R known.after w xs ys known.rest (subst (λ (v : World). IsRunFrom R v (xs ++ ys)) there first.rest)
+
+-- The session with these records behind the border
+
+-- there is room for every maker where there is for those that are actors after the live steps
+pub room_for_all : (R : ℕ) (w : World) (xs ys : List Entry) (room : ℕ → ℕ) → run R (world_before w xs) (events xs) ≡ Ok (record { world = w; entries = xs })
+    → (n : ℕ) → IsRunFrom R (world_before w xs) (take n xs ++ ys) → HasRoomForAll w ys room → HasRoom ys room
+room_for_all R w xs ys room ran n h has = record { at = each }
+  where
+    each : (m : ℕ) → room_returned_by ys m ≤ room m
+    each m =
+        elim (cases_Bool (is_some ((world_before w xs).actor m))) [
+          | inl e ↦
+              let there : is_some (w.actor m) ≡ true = run_stays_actor R (world_before w xs) (events xs) (record { world = w; entries = xs }) m ran e in
+              has.at m there
+          | inr e ↦ omega (arith, none_made R (world_before w xs) (take n xs ++ ys) m h e, returned_joined (take n xs) ys m)
+        ]
+
+-- these are the undone records, and all else is as it was
+pub record IsReplaced (given : List Entry) (old new : Journal) : Type 0 where
+  pub world : new.world ≡ old.world
+  pub live : new.live ≡ old.live
+  pub undone : new.undone ≡ given
+
+pub replaced_session : (R : ℕ) (given : List Entry) (old new : Journal) (before after : ℕ → ℕ) → IsSession R old before
+    → IsRunFrom R (start_of old) (old.live ++ given) → length old.live + length given ≤ MOST_STEPS → HasRoom given after → IsReplaced given old new
+    → IsSession R new after
+replaced_session R given old new before after session h few has is =
+    let whole : new ≡ record { world = old.world; live = old.live; undone = given } =
+    λ i. record { world = is.world i; live = is.live i; undone = is.undone i } in
+    subst (λ (j : Journal). IsSession R j after) (sym whole) (record {
+      few = few;
+      runs = record {
+        well_formed = session.runs.well_formed;
+        live_ran = session.runs.live_ran;
+        undone_run_on = runs_on R (start_of old) old.world old.live given session.runs.live_ran h;
+      };
+      has_room = has;
+    })
+
+-- redoing leaves the start
+pub forward_start : (n : ℕ) (s : State) → (times n forward_one s).start ≡ s.start
+forward_start zero s = refl
+forward_start (suc n) s = forward_start n s
+
+-- undoing, putting other records in place of the undone ones and redoing them leave the start
+pub switched_start : (a b : ℕ) (old mid put new : Journal) (given : List Entry) → state_of mid ≡ times a back_one (state_of old) → IsReplaced given mid put
+    → state_of new ≡ times b forward_one (state_of put) → start_of new ≡ start_of old
+switched_start a b old mid put new given undone is redone =
+    ap (λ (s : State). s.start) redone ∙ forward_start b (state_of put) ∙ (λ i. world_before (is.world i) (is.live i))
+    ∙ ap (λ (s : State). s.start) undone ∙ back_start a (state_of old)
+
+pub switched_state : (given : List Entry) (kept : ℕ) (old new : Journal) → start_of new ≡ start_of old → IsSwitched kept given old new
+    → state_of new ≡ switch (state_of old) kept (events given)
+switched_state given kept old new start is =
+    let its = λ (x : Entry). x.event in
+    let live : events new.live ≡ take kept (events old.live) ++ events given =
+    ap events is.live ∙ map-append its (take kept old.live) given ∙ ap (λ (es : List Event). es ++ events given) (sym (take-map its kept old.live)) in
+    λ i. record { start = start i; live = live i; undone = events (is.undone i) }
+
+-- room that was made for one actor after the other
+pub room_for_one_more : (xs : List Entry) (number : ℕ) (before after : ℕ → ℕ) → ((n : ℕ) → n < number → room_returned_by xs (suc n) ≤ before (suc n))
+    → ((m : ℕ) → before m ≤ after m) → room_returned_by xs (number + 1) ≤ after (number + 1)
+    → (n : ℕ) → n < number + 1 → room_returned_by xs (suc n) ≤ after (suc n)
+room_for_one_more xs number before after had more one n h =
+    elim (cases_eq n number) [
+      | inl e ↦
+          let same : number + 1 ≡ suc n = omega arith in
+          subst (λ (m : ℕ). room_returned_by xs m ≤ after m) same one
+      | inr ne ↦ let a = had n (omega arith) in let b = more (suc n) in omega arith
+    ]
+
+pub room_for_actors : (w v : World) (xs : List Entry) (number : ℕ) (room : ℕ → ℕ) → v ≡ w
+    → ((n : ℕ) → n < number → room_returned_by xs (suc n) ≤ room (suc n))
+    → (IsSome (w.actor zero) → ⊥) → ((n : ℕ) → IsSome (w.actor (suc n)) → n < number) → HasRoomForAll v xs room
+room_for_actors w v xs number room same made none count =
+    subst (λ (u : World). HasRoomForAll u xs room) (sym same) (record { at = each })
+  where
+    each : (m : ℕ) → IsSome (w.actor m) → room_returned_by xs m ≤ room m
+    each zero there = absurd (none there)
+    each (suc n) there = made n (count n there)
+
+pub switched_records : (n kept : ℕ) (old mid put new : Journal) (given : List Entry) → kept + n ≡ length old.live → IsMovedBack n old mid → IsReplaced given mid put
+    → IsMovedForward (length given) put new → IsSwitched kept given old new
+switched_records n kept old mid put new given all back is forward =
+    let low : length old.live - n ≡ kept = omega arith in
+    record {
+      live =
+          forward.live
+          ∙ (λ i. (is.live ∙ back.live ∙ ap (λ (m : ℕ). take m old.live) low) i ++ take (length given) (is.undone i))
+          ∙ ap (λ (xs : List Entry). take kept old.live ++ xs) (take-length given);
+      undone = forward.undone ∙ ap (drop (length given)) is.undone ∙ drop-length given;
+    }

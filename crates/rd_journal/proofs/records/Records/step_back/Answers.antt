@@ -1,0 +1,17 @@
+use Rattle.std.proofs.Common.{◌-◌, ℕ, length, take, arith, sym, ◌∙◌, ap}
+use Rattle.rd_step.specs.declared.entries.Entry.{Entry}
+use Rattle.rd_journal.specs.Records.{all_records}
+use Rattle.rd_journal.proofs.RecordLemmas.{all-length, live-length, cut_back, cut_short}
+use Rattle.rd_journal.proofs.records.Records.step_back.Goals as goal
+
+pub returns-clause-live : goal.returns-clause-live
+unfolding all_records
+returns-clause-live c =
+    let self = c.args.self.now in
+    cut_short (all_records self) self.live (omega (arith, all-length self, self.within))
+
+pub returns-clause-undone : goal.returns-clause-undone
+unfolding all_records
+returns-clause-undone c =
+    let self = c.args.self.now in
+    cut_back (all_records self) self.live self.undone (omega (arith, live-length self, c.requires)) (omega (arith, all-length self, self.within))

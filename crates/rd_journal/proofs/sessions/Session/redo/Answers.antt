@@ -1,0 +1,9 @@
+use Rattle.std.proofs.Common.{arith}
+use Rattle.rd_journal.specs.Sessions.{journal, state}
+use Rattle.rd_journal.proofs.Calls.{undone_len, redo_goes}
+use Rattle.rd_journal.proofs.sessions.Session.redo.Goals as goal
+
+pub returns-clause-ok : goal.returns-clause-ok
+returns-clause-ok g c =
+    redo_goes (state c.args.self.now) (state c.redo_first.new.self)
+    (omega (arith, undone_len (journal c.args.self.now), c.undone_len.ensures.records, c.if-undone_len-eq0.false)) c.redo_first.ensures.state

@@ -1,0 +1,19 @@
+use Rattle.std.proofs.Common.{◌++◌, ◌≤◌, length, take, sym, ◌∙◌, ap, subst, arith}
+use Rattle.rd_step.proofs.PassedUp.{fact_passed_up}
+use Rattle.rd_journal.specs.Journal.{Journal, events, start_of, IsRunFrom}
+use Rattle.rd_journal.specs.State.{state_of, switch}
+use Rattle.rd_journal.proofs.sessions.Session.switch.Goals as goal
+
+pub returns-in_err-make_room_to_switch-clause-unchanged : goal.returns-in_err-make_room_to_switch-clause-unchanged
+returns-in_err-make_room_to_switch-clause-unchanged g c = fact_passed_up c.from_residual.result c.make_room_to_switch.ensures.unchanged
+
+pub exchange-requires : goal.exchange-requires
+exchange-requires g c =
+    let same = sym c.make_room_to_switch.ensures.unchanged in
+    let within = subst (λ (j : Journal). c.args.n ≤ length j.live) same c.requires.within in
+    let run = subst (λ (j : Journal). IsRunFrom g.row.R (start_of j) (take c.args.n j.live ++ c.args.entries.now)) same c.requires.run in
+    (omega arith, (within, (c.requires.few, (run, (c.in_ok-make_room_to_switch.ensures.ok, c.in_ok-make_room_to_switch.ensures.makings)))))
+
+pub returns-clause-ok : goal.returns-clause-ok
+returns-clause-ok g c =
+    c.exchange.ensures.state ∙ ap (λ (j : Journal). switch (state_of j) c.args.n (events c.args.entries.now)) c.make_room_to_switch.ensures.unchanged

@@ -1,0 +1,9 @@
+use Rattle.std.proofs.Common.{arith}
+use Rattle.rd_journal.specs.Sessions.{journal, state}
+use Rattle.rd_journal.proofs.Calls.{live_len, undo_goes}
+use Rattle.rd_journal.proofs.sessions.Session.undo.Goals as goal
+
+pub returns-clause-ok : goal.returns-clause-ok
+returns-clause-ok g c =
+    undo_goes (state c.args.self.now) (state c.undo_last.new.self) (omega (arith, live_len (journal c.args.self.now), c.live_len.ensures, c.if-live_len-eq0.false))
+    c.undo_last.ensures.state

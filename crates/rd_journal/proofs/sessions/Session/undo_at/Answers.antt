@@ -1,0 +1,68 @@
+use Rattle.std.proofs.Common.{◌≡◌, ◌≤◌, ◌∙◌, Some, None, Ok, length, inl, inr, sym, ap, arith}
+use Rattle.rd_step.specs.Prelude.{first_dependant}
+use Rattle.rd_journal.specs.Moves.{answer_unless}
+use Rattle.rd_journal.specs.Sessions.{journal, state}
+use Rattle.rd_journal.specs.State.{State, one_out_unless}
+use Rattle.rd_journal.proofs.LoneUndo.{answer_missing, undo_at_missing, answer_there, undo_at_there, without_it}
+use Rattle.rd_journal.proofs.sessions.Session.undo_at.Goals as goal
+use Rattle.rd_journal.proofs.sessions.Session.undo_at.Goals.{then-len-k-via-then-len-k, then-len-k-via-else-len-k+then-k-eq0}
+
+pub returns-then-len-k-clause-answer : goal.returns-then-len-k-clause-answer
+returns-then-len-k-clause-answer g c =
+    answer_missing (journal c.args.self.now) c.args.k c.len-len.result c.len-len.ensures.records
+    (elim c.then-len-k.branch [ then-len-k-via-then-len-k w ↦ inr (omega arith) | then-len-k-via-else-len-k+then-k-eq0 w ↦ inl (omega arith) ])
+
+pub returns-then-len-k-clause-err : goal.returns-then-len-k-clause-err
+returns-then-len-k-clause-err g c =
+    undo_at_missing g.row.R (journal c.args.self.now) c.args.k c.len-len.result c.len-len.ensures.records
+    (elim c.then-len-k.branch [ then-len-k-via-then-len-k w ↦ inr (omega arith) | then-len-k-via-else-len-k+then-k-eq0 w ↦ inl (omega arith) ])
+
+pub returns-in-Some-clause-answer : goal.returns-in-Some-clause-answer
+returns-in-Some-clause-answer g c =
+    let old = journal c.args.self.now in
+    let within : c.args.k ≤ length old.live = omega (arith, c.len-len.ensures.records) in
+    let first : first_dependant old.live c.args.k ≡ Some c.in-Some.dependant =
+    sym c.in-Some.ensures in
+    sym (answer_there old c.args.k (omega arith) within ∙ ap answer_unless first)
+
+pub returns-in-Some-clause-err : goal.returns-in-Some-clause-err
+returns-in-Some-clause-err g c =
+    let old = journal c.args.self.now in
+    let within : c.args.k ≤ length old.live = omega (arith, c.len-len.ensures.records) in
+    let first : first_dependant old.live c.args.k ≡ Some c.in-Some.dependant =
+    sym c.in-Some.ensures in
+    undo_at_there g.row.R old c.args.k c.args.self.now.kept.runs (omega arith) within ∙ ap (one_out_unless (state c.args.self.now) c.args.k) first
+
+pub undo_alone-requires : goal.undo_alone-requires
+undo_alone-requires g c = (
+  omega arith,
+  (
+    omega arith,
+    (
+      omega (arith, c.len-len.ensures.records),
+      sym c.first_dependant.ensures ∙ c.in_default.is,
+    ),
+  ),
+)
+
+pub returns-clause-ok : goal.returns-clause-ok
+returns-clause-ok g c =
+    let old = journal c.args.self.now in
+    let within : c.args.k ≤ length old.live = omega (arith, c.len-len.ensures.records) in
+    let first : first_dependant old.live c.args.k ≡ None =
+    sym c.first_dependant.ensures ∙ c.in_default.is in
+    undo_at_there g.row.R old c.args.k c.args.self.now.kept.runs (omega arith) within
+    ∙ ap (one_out_unless (state c.args.self.now) c.args.k) first ∙ ap (λ (s : State). Ok s) (sym c.undo_alone.ensures.state)
+
+pub returns-clause-answer : goal.returns-clause-answer
+returns-clause-answer g c =
+    let old = journal c.args.self.now in
+    let within : c.args.k ≤ length old.live = omega (arith, c.len-len.ensures.records) in
+    let first : first_dependant old.live c.args.k ≡ None =
+    sym c.first_dependant.ensures ∙ c.in_default.is in
+    sym (answer_there old c.args.k (omega arith) within ∙ ap answer_unless first)
+
+pub returns-clause-run : goal.returns-clause-run
+returns-clause-run g c =
+    without_it g.row.R c.args.k (journal c.args.self.now) (journal c.undo_alone.new.self) c.undo_alone.ensures.records
+    c.undo_alone.ensures.state c.undo_alone.new.self.kept.runs

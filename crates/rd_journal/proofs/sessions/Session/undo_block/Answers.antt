@@ -1,0 +1,31 @@
+use Rattle.std.proofs.Common.{refl}
+use Rattle.rd_step.specs.Prelude.{model, room}
+use Rattle.rd_journal.specs.Kept.{journal_of}
+use Rattle.rd_journal.specs.Sessions.{journal}
+use Rattle.rd_journal.proofs.RolledBack.{IsGatheredLast, gathered_session, rolled_back, rolled_start}
+use Rattle.rd_journal.proofs.sessions.Session.undo_block.Goals as goal
+
+pub invariant_of-self : goal.invariant_of-self
+invariant_of-self g c =
+    let self = c.args.self.now in
+    let mid = journal_of (model self.world) c.put_closure_last-count.new.self in
+    let said = c.put_closure_last-count.ensures in
+    let gathered : IsGatheredLast c.args.k (journal self) mid = record { world = refl; live = said.live; undone = said.undone; len = said.len } in
+    record { kept = gathered_session g.row.R c.args.k (journal self) mid (room self.world) self.kept c.requires.some c.requires.position gathered }
+
+pub returns-clause-records : goal.returns-clause-records
+returns-clause-records g c =
+    let self = c.args.self.now in
+    let mid = journal_of (model self.world) c.put_closure_last-count.new.self in
+    let said = c.put_closure_last-count.ensures in
+    let gathered : IsGatheredLast c.args.k (journal self) mid = record { world = refl; live = said.live; undone = said.undone; len = said.len } in
+    rolled_back c.args.k c.put_closure_last-count.result (journal self) mid (journal c.undo_many.new.self) said.count gathered c.undo_many.ensures.records
+
+pub returns-clause-start : goal.returns-clause-start
+returns-clause-start g c =
+    let self = c.args.self.now in
+    let mid = journal_of (model self.world) c.put_closure_last-count.new.self in
+    let said = c.put_closure_last-count.ensures in
+    let gathered : IsGatheredLast c.args.k (journal self) mid = record { world = refl; live = said.live; undone = said.undone; len = said.len } in
+    rolled_start g.row.R c.args.k c.put_closure_last-count.result (journal self) mid (journal c.undo_many.new.self) self.kept.runs c.requires.some
+    c.requires.position gathered c.undo_many.ensures.state

@@ -1,0 +1,15 @@
+use Rattle.std.proofs.Common.{◌≡◌, None, sym, ◌∙◌, ap, arith}
+use Rattle.rd_step.specs.Prelude.{first_dependant}
+use Rattle.rd_journal.specs.Sessions.{journal, state}
+use Rattle.rd_journal.specs.State.{State}
+use Rattle.rd_journal.proofs.Closures.{alone, alone_rolled}
+use Rattle.rd_journal.proofs.sessions.Session.undo_closure.Goals as goal
+
+pub returns-in-None-clause-records : goal.returns-in-None-clause-records
+returns-in-None-clause-records g c =
+    let old = journal c.args.self.now in
+    let free : first_dependant old.live c.args.k ≡ None = sym c.first_dependant.ensures ∙ c.in-None.is in
+    alone_rolled c.args.k old (journal c.undo_alone.new.self) (alone old.live c.args.k c.requires.some c.requires.position free) c.undo_alone.ensures.records
+
+pub returns-in-None-clause-start : goal.returns-in-None-clause-start
+returns-in-None-clause-start g c = ap (λ (s : State). s.start) c.undo_alone.ensures.state

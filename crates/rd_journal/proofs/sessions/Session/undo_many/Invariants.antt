@@ -1,0 +1,13 @@
+use Rattle.std.proofs.Common.{◌≡◌, ℕ, ◌≤◌}
+use Rattle.rd_journal.specs.Moves.{IsMovedBack}
+use Rattle.rd_journal.specs.Sessions.{journal, state, room, capacity}
+use Rattle.rd_journal.specs.State.{back_one, times}
+use Rattle.rd_journal.proofs.sessions.Session.undo_many.Given as goal
+
+abbrev pub invariant-loop : goal.invariant-loop
+invariant-loop g l = record {
+  records : IsMovedBack l.counter (journal l.fn.self) (journal l.self);
+  state : state l.self ≡ times l.counter back_one (state l.fn.self);
+  room : (m : ℕ) → room l.fn.self m ≤ room l.self m;
+  capacity : capacity l.self ≡ capacity l.fn.self;
+}

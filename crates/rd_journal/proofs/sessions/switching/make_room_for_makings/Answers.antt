@@ -1,0 +1,40 @@
+use Rattle.std.proofs.Common.{◌≡◌, ℕ, zero, suc, ◌+◌, ◌∙◌, IsSome, subst, sym, arith}
+use Rattle.rd_step.specs.Prelude.{World, model, room}
+use Rattle.rd_step.proofs.PassedUp.{error_passed_up}
+use Rattle.rd_journal.proofs.Switching.{room_for_one_more, room_for_actors}
+use Rattle.rd_journal.proofs.sessions.switching.make_room_for_makings.Goals as goal
+
+pub make_room-requires : goal.make_room-requires
+make_room-requires g c =
+    let next : suc c.loop-number.number ≡ c.loop-number.number + 1 = omega arith in
+    let there : IsSome ((model c.args.world.now).actor (suc c.loop-number.number)) = (c.actors-number-end.ensures.count c.loop-number.number).1 c.loop-number-test.true in (
+      omega arith,
+      subst (λ (n : ℕ). IsSome ((model c.loop-number.world).actor n)) next
+          (subst (λ (w : World). IsSome (w.actor (suc c.loop-number.number))) (sym c.loop-number.invariant.same) there),
+    )
+
+pub returns-in_err-make_room-clause-unchanged : goal.returns-in_err-make_room-clause-unchanged
+returns-in_err-make_room-clause-unchanged g c = c.in_err-make_room.ensures.unchanged ∙ c.loop-number.invariant.same
+
+pub loop-number-preserved : goal.loop-number-preserved
+loop-number-preserved g c = record {
+  same = c.make_room.ensures.unchanged ∙ c.loop-number.invariant.same;
+  made =
+      room_for_one_more c.args.given.now c.loop-number.number (room c.loop-number.world) (room c.make_room.new.self) c.loop-number.invariant.made
+      c.make_room.ensures.room (let h = c.in_ok-make_room.ensures.ok in omega (arith, c.makings_by.ensures));
+  more = λ m. let a = c.loop-number.invariant.more m in let b = c.make_room.ensures.room m in omega arith;
+}
+
+pub returns-clause-ok : goal.returns-clause-ok
+returns-clause-ok g c =
+    room_for_actors (model c.args.world.now) (model c.loop-number.world) c.args.given.now c.loop-number.number (room c.loop-number.world)
+    c.loop-number.invariant.same c.loop-number.invariant.made
+    (λ (h : IsSome ((model c.args.world.now).actor zero)). cc)
+    (λ n h. let low = (c.actors-number-end.ensures.count n).0 h in omega arith)
+
+pub returns-in_err-make_room-clause-err : goal.returns-in_err-make_room-clause-err
+returns-in_err-make_room-clause-err g c =
+    let more = c.loop-number.invariant.more (c.loop-number.number + 1) in
+    let lacks = c.in_err-make_room.ensures.err in
+    error_passed_up _ c.in_err-make_room.field-0.0 c.from_residual.result c.from_residual.ensures.1
+    (lacks.0, (c.loop-number.number + 1, omega (arith, lacks.1, more, c.makings_by.ensures)))

@@ -1,0 +1,9 @@
+pub mod Numbers
+pub mod Journal
+pub mod State
+pub mod Room
+pub mod Records
+pub mod Kept
+pub mod Moves
+pub mod Sessions
+pub mod Laws

@@ -1,0 +1,25 @@
+-- The records of a session as two lists, with their room.
+use Rattle.std.specs.Prelude.{ℕ, List, ◌++◌, take, drop, min, vec_capacity}
+use Rattle.rd_step.specs.declared.entries.Entry.{Entry}
+use Rattle.rd_journal.specs.declared.records.Records.{Records}
+use Rattle.rd_journal.specs.Numbers.{at_numbers}
+
+-- the records in the order of their slots' numbers: those of the live steps, of the undone ones, and those that were discarded
+unfoldable pub all_records : Records → List Entry
+all_records r = at_numbers r.slots.items r.order.items
+
+-- the records of the live steps, in their order
+abbrev pub live_records : Records → List Entry
+live_records r = take r.live (all_records r)
+
+-- those of the undone steps, the one undone last in front
+abbrev pub undone_records : Records → List Entry
+undone_records r = take r.undone (drop r.live (all_records r))
+
+-- the live ones, and behind them the undone ones
+abbrev pub kept_records : Records → List Entry
+kept_records r = live_records r ++ undone_records r
+
+-- for how many records, live and undone ones, there is room
+abbrev pub records_capacity : Records → ℕ
+records_capacity r = min (vec_capacity r.slots) (vec_capacity r.order)

@@ -1,0 +1,24 @@
+-- The code's session, as its journal, as its state, and with its room: what public clauses cite.
+use Rattle.std.specs.Prelude.{ℕ}
+use Rattle.rd_step.specs.Prelude.{model, room as world_room}
+use Rattle.rd_journal.specs.declared.sessions.Session.{Session}
+use Rattle.rd_journal.specs.Journal.{Journal}
+use Rattle.rd_journal.specs.Kept.{journal_of}
+use Rattle.rd_journal.specs.Records.{records_capacity}
+use Rattle.rd_journal.specs.State.{State, state_of}
+
+-- the session's world and records
+abbrev pub journal : {R : ℕ} → Session R → Journal
+journal s = journal_of (model s.world) s.records
+
+-- the session's start, live events and undone events
+abbrev pub state : {R : ℕ} → Session R → State
+state s = state_of (journal s)
+
+-- how many makings of an actor can't be refused for memory
+abbrev pub room : {R : ℕ} → Session R → ℕ → ℕ
+room s m = world_room s.world m
+
+-- for how many records, live and undone ones, there is room
+abbrev pub capacity : {R : ℕ} → Session R → ℕ
+capacity s = records_capacity s.records.records

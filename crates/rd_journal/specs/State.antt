@@ -1,0 +1,118 @@
+-- What a session is to its callers: a start world, the live events and the undone events. No record, no old word and no
+-- place in a run is in it: it knows only the run of a list.
+use Rattle.std.specs.Prelude.{ℕ, zero, suc, Bool, ◌-◌, ◌==◌, nat_lt, if◌then◌else◌, List, [], ◌∷◌, ◌++◌, length, take, drop, Option, Some, None, Result, Ok, Err}
+use Rattle.rd_step.specs.Prelude.{Refusal, TooLong, NothingToUndo, NothingToRedo, NoSuchStep, Depended, OpReply, World, Stepped, step, Ran, run, first_dependant, without, closure, marked, unmarked, MOST_STEPS}
+use Rattle.rd_step.specs.declared.entries.Event.{Event}
+use Rattle.rd_journal.specs.Journal.{Journal, start_of, events}
+
+-- the start, the live events in their order, and the undone events, the one undone last in front
+pub record State : Type 0 where
+  pub start : World
+  pub live : List Event
+  pub undone : List Event
+
+-- the state that a journal is of
+abbrev pub state_of : Journal → State
+state_of j = record { start = start_of j; live = events j.live; undone = events j.undone }
+
+-- the run of the live events from the start
+abbrev pub run_of : ℕ → State → Result Ran Refusal
+run_of R s = run R s.start s.live
+
+-- the step that an event makes in the last world of a run
+abbrev pub step_after : ℕ → Result Ran Refusal → Event → Result Stepped Refusal
+step_after R (Err refusal) e = Err refusal
+step_after R (Ok r) e = step R r.world e
+
+-- what a step replies, if it ends a call
+abbrev pub reply_in : Result Stepped Refusal → Option OpReply
+reply_in (Err refusal) = None
+reply_in (Ok stepped) = stepped.entry.reply
+
+-- what the event replies in the last world of the live events
+abbrev pub reply_to : ℕ → State → Event → Option OpReply
+reply_to R s e = reply_in (step_after R (run_of R s) e)
+
+-- the state with the event put last in live and nothing undone, or the refusal of its step
+abbrev pub with_event : State → Event → Result Stepped Refusal → Result State Refusal
+with_event s e (Err refusal) = Err refusal
+with_event s e (Ok stepped) = Ok (record { start = s.start; live = s.live ++ e ∷ []; undone = [] })
+
+-- an event: refused if as many steps are live as may be, and else as its step is refused in the last world of the live
+-- events
+abbrev pub apply : ℕ → State → Event → Result State Refusal
+apply R s e = if length s.live == MOST_STEPS then Err TooLong else with_event s e (step_after R (run_of R s) e)
+
+-- the last of live becomes the front of undone, if there is one
+abbrev pub back_one : State → State
+back_one s = record {
+  start = s.start;
+  live = take (length s.live - 1) s.live;
+  undone = drop (length s.live - 1) s.live ++ s.undone;
+}
+
+-- the front of undone becomes the last of live, if there is one
+abbrev pub forward_one : State → State
+forward_one s = record { start = s.start; live = s.live ++ take 1 s.undone; undone = drop 1 s.undone }
+
+-- so many times
+abbrev pub times : ℕ → (State → State) → State → State
+times zero f s = s
+times (suc n) f s = f (times n f s)
+
+-- undoing the last live step
+abbrev pub undo : State → Result State Refusal
+undo s = if length s.live == 0 then Err (NothingToUndo 0) else Ok (back_one s)
+
+-- n times undo, all or none
+abbrev pub back : State → ℕ → Result State Refusal
+back s n = if nat_lt (length s.live) n then Err (NothingToUndo (length s.live)) else Ok (times n back_one s)
+
+-- redoing the step that was undone last
+abbrev pub redo : State → Result State Refusal
+redo s = if length s.undone == 0 then Err NothingToRedo else Ok (forward_one s)
+
+-- n times redo, all or none
+abbrev pub forward : State → ℕ → Result State Refusal
+forward s n = if nat_lt (length s.undone) n then Err NothingToRedo else Ok (times n forward_one s)
+
+-- the number of the first step of a run that depends on its k-th
+abbrev pub dependant_in : ℕ → Result Ran Refusal → Option ℕ
+dependant_in k (Err refusal) = None
+dependant_in k (Ok r) = first_dependant r.entries k
+
+-- the k-th of live becomes the front of undone, and all others stay in their order
+abbrev pub one_out : State → ℕ → State
+one_out s k = record { start = s.start; live = without s.live k; undone = take 1 (drop (k - 1) s.live) ++ s.undone }
+
+-- the state without the k-th live step, if no later one depends on it
+abbrev pub one_out_unless : State → ℕ → Option ℕ → Result State Refusal
+one_out_unless s k (Some j) = Err (Depended j)
+one_out_unless s k None = Ok (one_out s k)
+
+-- undoing the k-th live step alone: refused if there is none, and with the number of the first live step that depends on
+-- it, if there is one
+abbrev pub undo_at : ℕ → State → ℕ → Result State Refusal
+undo_at R s zero = Err (NoSuchStep (length s.live))
+undo_at R s (suc i) =
+    if nat_lt i (length s.live) then one_out_unless s (suc i) (dependant_in (suc i) (run_of R s)) else Err (NoSuchStep (length s.live))
+
+-- of each step of a run, whether it is in the causal closure of the k-th
+abbrev pub closure_in : ℕ → Result Ran Refusal → List Bool
+closure_in k (Err refusal) = []
+closure_in k (Ok r) = closure r.entries k
+
+-- the marked live events become the front of undone, in their order, and all others stay in their order
+abbrev pub marked_out : State → List Bool → State
+marked_out s marks = record { start = s.start; live = unmarked marks s.live; undone = marked marks s.live ++ s.undone }
+
+-- rolling back the k-th live step: it and just the later ones that depend on it, directly or through others, become the
+-- front of undone; refused if there is none
+abbrev pub roll : ℕ → State → ℕ → Result State Refusal
+roll R s zero = Err (NoSuchStep (length s.live))
+roll R s (suc i) =
+    if nat_lt i (length s.live) then Ok (marked_out s (closure_in (suc i) (run_of R s))) else Err (NoSuchStep (length s.live))
+
+-- live becomes its first n events and then these, and nothing is undone
+abbrev pub switch : State → ℕ → List Event → State
+switch s n es = record { start = s.start; live = take n s.live ++ es; undone = [] }

@@ -1,0 +1,229 @@
+//! The records of a session. A record stays in the slot that it was put in; their order is a list of the slots' numbers: those of the
+//! live steps, then those of the undone ones, the one undone last in front, then those whose records were discarded.
+//!
+//! Only the border between the first two moves when a step is undone or redone last. A record that leaves the middle first has its
+//! number moved behind those of the other live ones. So the room that an undo needs was made by the step that it undoes.
+
+#![tactic(auto, unfolding(crate::specs::Records::all_records))]
+
+ghost use Rattle.std.specs.Prelude.{◌≡◌, ◌++◌, ◌+◌, ◌-◌, ◌<◌, ◌≤◌, ◌∷◌, [], length, get_or, take, drop, vec_capacity, OnOk, OnErr};
+ghost use Rattle.rd_step.specs.Prelude.{closure_of, without_closure, MOST_STEPS};
+ghost use Rattle.rd_journal.specs.Numbers.{IsOrder};
+
+mod slots;
+
+use super::live_records::{LiveRecords, entry_at};
+use rd_step::Entry;
+use slots::{make_room_in, move_behind, move_closure_last, put_at};
+use std::alloc::{AllocError, Global};
+
+/// The records of the live steps, in their order, and those of the undone ones, the one undone last in front.
+#[derive(Drop)]
+pub(crate) struct Records {
+    /// The records, each where it was put, and those that were discarded and not yet written over.
+    slots: Vec<Entry>,
+    /// The numbers of the slots: of the live records, of the undone ones, and of the discarded ones.
+    order: Vec<u32>,
+    /// How many are live.
+    live: usize,
+    /// How many are undone.
+    undone: usize,
+    ghost order_of_all: { IsOrder (length slots.items) order.items },
+    ghost within: { live + undone ≤ length order.items },
+}
+
+impl Records {
+    ghost use Rattle.rd_journal.specs.Records.{all_records, live_records, undone_records, kept_records, records_capacity};
+
+    /// No record. It takes no memory.
+    pub(crate) fn new(alloc: Global) -> Records
+        ensures live { live_records result ≡ [] }
+        ensures undone { undone_records result ≡ [] }
+        ensures capacity { records_capacity result ≡ 0 }
+    {
+        Records {
+            slots: Vec::new(alloc),
+            order: Vec::new(alloc),
+            live: 0,
+            undone: 0,
+        }
+    }
+
+    /// Those of the live steps.
+    pub(crate) fn live(&self) -> LiveRecords<'_>
+        ensures { result ≡ live_records self.now }
+    {
+        LiveRecords::new(&self.slots, &self.order[..self.live])
+    }
+
+    /// How many steps are live.
+    pub(crate) fn live_len(&self) -> usize
+        ensures { result ≡ length (live_records self.now) }
+    {
+        self.live
+    }
+
+    /// How many steps are undone.
+    pub(crate) fn undone_len(&self) -> usize
+        ensures { result ≡ length (undone_records self.now) }
+    {
+        self.undone
+    }
+
+    /// The record of the live step at this position, from 0.
+    pub(crate) fn live_at(&self, position: usize) -> &Entry
+        requires within { position < length (live_records self.now) }
+        ensures { result.now ≡ get_or (live_records self.now) position result.now }
+    {
+        self.at(position)
+    }
+
+    /// The record of the last live step.
+    pub(crate) fn last_live(&self) -> &Entry
+        requires some { 1 ≤ length (live_records self.now) }
+        ensures { live_records self.now ≡ take (length (live_records self.now) - 1) (live_records self.now) ++ result.now ∷ [] }
+    {
+        self.at(self.live - 1)
+    }
+
+    /// The record of the step that was undone last.
+    pub(crate) fn first_undone(&self) -> &Entry
+        requires some { 1 ≤ length (undone_records self.now) }
+        ensures { undone_records self.now ≡ result.now ∷ drop 1 (undone_records self.now) }
+    {
+        self.at(self.live)
+    }
+
+    /// The record at this position, from 0, of the live ones and of the undone ones behind them.
+    pub(crate) fn kept_at(&self, position: usize) -> &Entry
+        requires within { position < length (kept_records self.now) }
+        ensures { result.now ≡ get_or (kept_records self.now) position result.now }
+    {
+        self.at(position)
+    }
+
+    /// The record whose slot's number stands at this place of the order.
+    fn at(&self, place: usize) -> &Entry
+        requires { place < length (all_records self.now) }
+        ensures { result.now ≡ get_or (all_records self.now) place result.now }
+    {
+        entry_at(&self.slots, &self.order, place)
+    }
+
+    /// Makes the last live record the front of the undone ones.
+    pub(crate) fn step_back(&mut self)
+        requires some { 1 ≤ length (live_records self.old) }
+        ensures live { live_records self.new ≡ take (length (live_records self.old) - 1) (live_records self.old) }
+        ensures undone { undone_records self.new
+            ≡ drop (length (live_records self.old) - 1) (live_records self.old) ++ undone_records self.old }
+        ensures capacity { records_capacity self.new ≡ records_capacity self.old }
+    {
+        self.live -= 1;
+        self.undone += 1;
+    }
+
+    /// Makes the front of the undone records the last live one.
+    pub(crate) fn step_forward(&mut self)
+        requires some { 1 ≤ length (undone_records self.old) }
+        ensures live { live_records self.new ≡ live_records self.old ++ take 1 (undone_records self.old) }
+        ensures undone { undone_records self.new ≡ drop 1 (undone_records self.old) }
+        ensures capacity { records_capacity self.new ≡ records_capacity self.old }
+    {
+        self.live += 1;
+        self.undone -= 1;
+    }
+
+    /// Makes the `k`-th live record the front of the undone ones. All others stay in their order.
+    pub(crate) fn take_out(&mut self, k: usize)
+        requires some { 1 ≤ k }
+        requires position { k ≤ length (live_records self.old) }
+        ensures live { live_records self.new ≡ take (k - 1) (live_records self.old) ++ drop k (live_records self.old) }
+        ensures undone { undone_records self.new ≡ take 1 (drop (k - 1) (live_records self.old)) ++ undone_records self.old }
+        ensures capacity { records_capacity self.new ≡ records_capacity self.old }
+    {
+        move_behind(&mut self.order, k, self.live);
+        self.live -= 1;
+        self.undone += 1;
+    }
+
+    /// Puts the `k`-th live record and those that depend on it, directly or through others, behind the other live ones, all in
+    /// their order. Answers how many these are.
+    pub(crate) fn put_closure_last(&mut self, k: usize) -> usize
+        requires some { 1 ≤ k }
+        requires position { k ≤ length (live_records self.old) }
+        ensures count { result ≡ length (closure_of (live_records self.old) k) }
+        ensures live { live_records self.new ≡ without_closure (live_records self.old) k ++ closure_of (live_records self.old) k }
+        ensures undone { undone_records self.new ≡ undone_records self.old }
+        ensures len { length (live_records self.new) ≡ length (live_records self.old) }
+        ensures capacity { records_capacity self.new ≡ records_capacity self.old }
+    {
+        move_closure_last(&self.slots, &mut self.order, k, self.live)
+    }
+
+    /// Makes room for one more live record: if a record is undone, or the room is there, it asks for none.
+    pub(crate) fn make_room(&mut self) -> Result<(), AllocError>
+        ensures live { live_records self.new ≡ live_records self.old }
+        ensures undone { undone_records self.new ≡ undone_records self.old }
+        ensures ok { OnOk result (length (live_records self.new) < records_capacity self.new) }
+        ensures none { OnErr result (undone_records self.old ≡ []) }
+        ensures full { OnErr result (records_capacity self.old ≡ length (live_records self.old)) }
+    {
+        if self.live < self.order.len() {
+            return Ok(());
+        }
+        self.slots.reserve(1)?;
+        self.order.reserve(1)
+    }
+
+    /// Makes room for so many records. Room that is there is not asked for.
+    pub(crate) fn make_room_for(&mut self, needed: usize) -> Result<(), AllocError>
+        ensures live { live_records self.new ≡ live_records self.old }
+        ensures undone { undone_records self.new ≡ undone_records self.old }
+        ensures ok { OnOk result (needed ≤ records_capacity self.new) }
+        ensures err { OnErr result (records_capacity self.old < needed) }
+        ensures same { needed ≤ records_capacity self.old → records_capacity self.new ≡ records_capacity self.old }
+    {
+        make_room_in(&mut self.slots, needed)?;
+        make_room_in(&mut self.order, needed)
+    }
+
+    /// Puts a record last among the live ones, and discards the undone ones.
+    pub(crate) fn push(&mut self, entry: Entry)
+        requires room { length (live_records self.old) < records_capacity self.old }
+        requires few { length (live_records self.old) < MOST_STEPS }
+        ensures live { live_records self.new ≡ live_records self.old ++ entry ∷ [] }
+        ensures undone { undone_records self.new ≡ [] }
+        ensures capacity { records_capacity self.new ≡ records_capacity self.old }
+    {
+        self.undone = 0;
+        self.put_behind(entry);
+        self.step_forward();
+    }
+
+    /// Exchanges the undone records for these, the first of which is in front, inside the room that there is.
+    pub(crate) fn replace_undone(&mut self, given: &[Entry])
+        requires room { length (live_records self.old) + length given.now ≤ records_capacity self.old }
+        requires few { length (live_records self.old) + length given.now ≤ MOST_STEPS }
+        ensures live { live_records self.new ≡ live_records self.old }
+        ensures undone { undone_records self.new ≡ given.now }
+        ensures capacity { records_capacity self.new ≡ records_capacity self.old }
+    {
+        self.undone = 0;
+        for entry in given {
+            self.put_behind(*entry);
+        }
+    }
+
+    /// Puts a record last among the undone ones: over the first discarded one, or where none is, into a new slot.
+    fn put_behind(&mut self, entry: Entry)
+        requires room { length (live_records self.old) + length (undone_records self.old) < records_capacity self.old }
+        requires few { length (live_records self.old) + length (undone_records self.old) < MOST_STEPS }
+        ensures live { live_records self.new ≡ live_records self.old }
+        ensures undone { undone_records self.new ≡ undone_records self.old ++ entry ∷ [] }
+        ensures capacity { records_capacity self.new ≡ records_capacity self.old }
+    {
+        let place = self.live + self.undone;
+        put_at(&mut self.slots, &mut self.order, place, entry);
+        self.undone += 1;
+    }
+}

@@ -1,0 +1,292 @@
+//! The session: the world and the records of its live and undone steps.
+//!
+//! Undoing puts the old words of a live record back, and the record goes to the front of the undone ones: the last one, or any
+//! other on which no later one depends, or a record with all that depend on it. Redoing steps again. So the room that an undo
+//! needs was made by the step that it undoes. A switch exchanges the undone records for others and redoes them.
+
+mod moving;
+mod removal;
+mod switching;
+
+ghost use Rattle.std.specs.Prelude.{◌≡◌, ◌⊎◌, ◌++◌, ◌+◌, ◌≤◌, ◌<◌, ◌-◌, [], length, take, drop, Ok, Err, IsOk, OnOk, OnErr, IfOk, IfErr};
+ghost use Rattle.rd_step.specs.Prelude.{model, room as world_room, step};
+ghost use Rattle.rd_journal.specs.Journal.{entry_of, events, start_of, IsRunFrom, IsRun};
+ghost use Rattle.rd_journal.specs.Kept.{journal_of, IsSession};
+ghost use Rattle.rd_journal.specs.Room.{MayBeOutOfMemory, IsOutOfMemory, ComesAfterRoom, LacksRoom};
+ghost use Rattle.rd_journal.specs.State.{run_of, apply, reply_to, undo, undo_at, back, redo, forward, roll, switch};
+ghost use Rattle.rd_journal.specs.Laws.{IsStepAfter};
+ghost use Rattle.rd_journal.specs.Moves.{IsLengthened, IsMovedBack, IsMovedForward, IsBeforeLast, IsTakenOutAt, IsWithout, IsSwitched, IsRolledBack, IsWithoutClosure, answer_at, roll_answer};
+
+use super::indexed_records::IndexedRecords;
+use super::live_records::LiveRecords;
+use rd_cell::Refusal;
+use rd_cell::limits::MOST_STEPS;
+use rd_step::{Entry, Event, World};
+use std::alloc::Global;
+
+/// A world of rings of `R` cells, with the steps that led to it and those that were undone.
+#[derive(Drop)]
+pub struct Session<const R: usize> {
+    world: World<R>,
+    records: IndexedRecords,
+    ghost kept: { IsSession R (journal_of (model world) records) (world_room world) },
+}
+
+impl<const R: usize> Session<R> {
+    ghost use Rattle.rd_journal.specs.Sessions.{journal, state, room, capacity};
+
+    /// Opens a session in a world, which is its start. It takes no memory.
+    pub fn open(alloc: Global, world: World<R>) -> Session<R>
+        ensures state { state result ≡ record { start = model world.entry; live = []; undone = [] } }
+        ensures journal { journal result ≡ record { world = model world.entry; live = []; undone = [] } }
+        ensures capacity { capacity result ≡ 0 }
+    {
+        Session {
+            world,
+            records: IndexedRecords::new(alloc),
+        }
+    }
+
+    /// Makes an event happen as the last live step, and discards what was undone. Answers the step's number and its
+    /// record.
+    ///
+    /// # Errors
+    ///
+    /// In this order: `TooLong` if `MOST_STEPS` steps are live; `NoMemory` if the room for one more record was refused,
+    /// which is asked for only if no step is undone and the records fill their room; what the step is refused for, `NoMemory` for a making whose maker
+    /// has no room, so not if an undone step is a making by the same actor. Nothing has changed then.
+    pub fn apply(&mut self, event: Event) -> Result<(u64, Entry), Refusal>
+        ensures ok { OnOk result (apply R (state self.old) event ≡ Ok (state self.new)) }
+        ensures step { IfOk result (λ done. step R (journal self.old).world event
+            ≡ Ok (record { world = (journal self.new).world; entry = done.1 })) }
+        ensures records { IfOk result (λ done. IsLengthened done.1 (journal self.old) (journal self.new)) }
+        ensures number { IfOk result (λ done. done.0 ≡ length (journal self.new).live) }
+        ensures reply { IfOk result (λ done. reply_to R (state self.old) event ≡ done.1.reply) }
+        ensures err { IfErr result (λ refusal. (apply R (state self.old) event ≡ Err refusal)
+            ⊎ ((refusal ≡ Refusal.NoMemory) × MayBeOutOfMemory R (state self.old) event)) }
+        ensures memory { IfErr result (λ refusal. (apply R (state self.old) event ≡ Err refusal)
+            ⊎ ((refusal ≡ Refusal.NoMemory) × IsOutOfMemory R (journal self.old) (capacity self.old) (room self.old) event)) }
+        ensures order { IfErr result (λ refusal. ComesAfterRoom (length (journal self.new).live) (capacity self.new) refusal) }
+        ensures unchanged { OnErr result (journal self.new ≡ journal self.old) }
+    {
+        if self.records.live_len() == MOST_STEPS {
+            return Err(Refusal::TooLong);
+        }
+        self.records.make_room()?;
+        let entry = self.world.step(event)?;
+        self.records.push(entry);
+        Ok((self.len(), entry))
+    }
+
+    /// Undoes the last live step. It takes no memory.
+    ///
+    /// # Errors
+    ///
+    /// `NothingToUndo(0)` if no step is live. Nothing has changed then.
+    pub fn undo(&mut self) -> Result<(), Refusal>
+        ensures ok { OnOk result (undo (state self.old) ≡ Ok (state self.new)) }
+        ensures records { OnOk result (IsMovedBack 1 (journal self.old) (journal self.new)) }
+        ensures succeeds { 1 ≤ length (journal self.old).live → IsOk result }
+        ensures err { IfErr result (λ refusal. undo (state self.old) ≡ Err refusal) }
+        ensures unchanged { OnErr result (journal self.new ≡ journal self.old) }
+        ensures capacity { capacity self.new ≡ capacity self.old }
+    {
+        if self.records.live_len() == 0 {
+            return Err(Refusal::NothingToUndo(0));
+        }
+        self.undo_last();
+        Ok(())
+    }
+
+    /// Undoes the `k`-th live step alone, counted from 1, if no later live step depends on it. It becomes the front of the
+    /// undone steps, and all other steps stay as they are. It takes no memory and makes no step again; it looks for the
+    /// first later step that depends on it, and moves the records behind it.
+    ///
+    /// # Errors
+    ///
+    /// `NoSuchStep`, with the number of live steps, if `k` is not from 1 to it; `Depended`, with the number of the first
+    /// live step that depends on the `k`-th, if there is one. Nothing has changed then.
+    pub fn undo_at(&mut self, k: u64) -> Result<(), Refusal>
+        ensures ok { OnOk result (undo_at R (state self.old) k ≡ Ok (state self.new)) }
+        ensures records { OnOk result (IsTakenOutAt k (journal self.old) (journal self.new)) }
+        ensures run { OnOk result (IsWithout R k (journal self.old) (journal self.new)) }
+        ensures answer { result ≡ answer_at (journal self.old) k }
+        ensures err { IfErr result (λ refusal. undo_at R (state self.old) k ≡ Err refusal) }
+        ensures unchanged { OnErr result (journal self.new ≡ journal self.old) }
+        ensures capacity { capacity self.new ≡ capacity self.old }
+    {
+        let len = self.len();
+        if len < k || k == 0 {
+            return Err(Refusal::NoSuchStep(len));
+        }
+        if let Some(dependant) = self.records.first_dependant(k) {
+            return Err(Refusal::Depended(dependant));
+        }
+        self.undo_alone(k);
+        Ok(())
+    }
+
+    /// Undoes the `k`-th live step, counted from 1, and just the later ones that depend on it, directly or through others.
+    /// In their order they become the front of the undone steps, and all other steps stay as they are. It takes no memory
+    /// and makes no step again.
+    ///
+    /// Its time is one pass over the later live steps for each step that is undone, at most: each later one is compared with
+    /// the steps before it that are undone, and if it stays, moved before them.
+    ///
+    /// # Errors
+    ///
+    /// `NoSuchStep`, with the number of live steps, if `k` is not from 1 to it. Nothing has changed then.
+    pub fn roll(&mut self, k: u64) -> Result<(), Refusal>
+        ensures ok { OnOk result (roll R (state self.old) k ≡ Ok (state self.new)) }
+        ensures records { OnOk result (IsRolledBack k (journal self.old) (journal self.new)) }
+        ensures run { OnOk result (IsWithoutClosure R k (journal self.old) (journal self.new)) }
+        ensures answer { result ≡ roll_answer (journal self.old) k }
+        ensures err { IfErr result (λ refusal. roll R (state self.old) k ≡ Err refusal) }
+        ensures unchanged { OnErr result (journal self.new ≡ journal self.old) }
+        ensures capacity { capacity self.new ≡ capacity self.old }
+    {
+        let len = self.len();
+        if len < k || k == 0 {
+            return Err(Refusal::NoSuchStep(len));
+        }
+        self.undo_closure(k);
+        Ok(())
+    }
+
+    /// Undoes the last `n` live steps, all or none. It takes no memory, and time that grows with `n` alone.
+    ///
+    /// # Errors
+    ///
+    /// `NothingToUndo`, with the number of live steps, if `n` is above it. Nothing has changed then.
+    pub fn back(&mut self, n: u64) -> Result<(), Refusal>
+        ensures ok { OnOk result (back (state self.old) n ≡ Ok (state self.new)) }
+        ensures records { OnOk result (IsMovedBack n (journal self.old) (journal self.new)) }
+        ensures run { OnOk result (IsBeforeLast R n (journal self.old) (journal self.new)) }
+        ensures succeeds { n ≤ length (journal self.old).live → IsOk result }
+        ensures err { IfErr result (λ refusal. back (state self.old) n ≡ Err refusal) }
+        ensures unchanged { OnErr result (journal self.new ≡ journal self.old) }
+        ensures capacity { capacity self.new ≡ capacity self.old }
+    {
+        let len = self.len();
+        if n > len {
+            return Err(Refusal::NothingToUndo(len));
+        }
+        self.undo_many(n);
+        Ok(())
+    }
+
+    /// Steps the event again that was undone last. It leaves the record that it left before.
+    ///
+    /// # Errors
+    ///
+    /// `NothingToRedo` if no step is undone. Nothing has changed then.
+    pub fn redo(&mut self) -> Result<(), Refusal>
+        ensures ok { OnOk result (redo (state self.old) ≡ Ok (state self.new)) }
+        ensures records { OnOk result (IsMovedForward 1 (journal self.old) (journal self.new)) }
+        ensures err { IfErr result (λ refusal. redo (state self.old) ≡ Err refusal) }
+        ensures unchanged { OnErr result (journal self.new ≡ journal self.old) }
+        ensures capacity { capacity self.new ≡ capacity self.old }
+    {
+        if self.undone_len() == 0 {
+            return Err(Refusal::NothingToRedo);
+        }
+        self.redo_first();
+        Ok(())
+    }
+
+    /// Redoes the `n` steps that were undone last, all or none. It takes time that grows with `n` alone.
+    ///
+    /// # Errors
+    ///
+    /// `NothingToRedo` if fewer than `n` steps are undone. Nothing has changed then.
+    pub fn forward(&mut self, n: u64) -> Result<(), Refusal>
+        ensures ok { OnOk result (forward (state self.old) n ≡ Ok (state self.new)) }
+        ensures records { OnOk result (IsMovedForward n (journal self.old) (journal self.new)) }
+        ensures err { IfErr result (λ refusal. forward (state self.old) n ≡ Err refusal) }
+        ensures unchanged { OnErr result (journal self.new ≡ journal self.old) }
+        ensures capacity { capacity self.new ≡ capacity self.old }
+    {
+        if n > self.undone_len() {
+            return Err(Refusal::NothingToRedo);
+        }
+        self.redo_many(n);
+        Ok(())
+    }
+
+    /// Keeps the first `n` live steps, undoes the others, discards what was undone, and makes the steps of the given records
+    /// again, which become the last live ones. All memory that this takes is asked for first: room for the records, and for
+    /// each maker room for the makings among them.
+    ///
+    /// # Errors
+    ///
+    /// `NoMemory` if room was refused, which is asked for only where it is missing; so not if no record is given. Nothing has
+    /// changed then.
+    pub fn switch(&mut self, n: u64, entries: &[Entry]) -> Result<(), Refusal>
+        requires within { n ≤ length (journal self.old).live }
+        requires few { n + length entries.now ≤ MOST_STEPS }
+        requires run { IsRunFrom R (start_of (journal self.old)) (take n (journal self.old).live ++ entries.now) }
+        ensures ok { OnOk result (state self.new ≡ switch (state self.old) n (events entries.now)) }
+        ensures records { OnOk result (IsSwitched n entries.now (journal self.old) (journal self.new)) }
+        ensures err { IfErr result (λ refusal. (refusal ≡ Refusal.NoMemory) × LacksRoom n entries.now (capacity self.old) (room self.old)) }
+        ensures unchanged { OnErr result (journal self.new ≡ journal self.old) }
+        ensures succeeds { entries.now ≡ [] → IsOk result }
+        ensures capacity { n + length entries.now ≤ capacity self.old → capacity self.new ≡ capacity self.old }
+    {
+        self.make_room_to_switch(n, entries)?;
+        self.exchange(n, entries);
+        Ok(())
+    }
+
+    /// The number of live steps.
+    pub fn len(&self) -> u64
+        ensures count { result ≡ length (state self.now).live }
+        ensures records { result ≡ length (journal self.now).live }
+    {
+        self.records.live_len() as u64
+    }
+
+    /// The number of undone steps.
+    pub fn undone_len(&self) -> u64
+        ensures count { result ≡ length (state self.now).undone }
+        ensures records { result ≡ length (journal self.now).undone }
+    {
+        self.records.undone_len() as u64
+    }
+
+    /// The records of the live steps, in their order. They are those of a run from the start.
+    pub fn live(&self) -> LiveRecords<'_>
+        ensures records { result ≡ (journal self.now).live }
+        ensures run { IsRunFrom R (state self.now).start result }
+        ensures events { events result ≡ (state self.now).live }
+        ensures few { length result ≤ MOST_STEPS }
+    {
+        self.records.live()
+    }
+
+    /// The record of the live step of this number, from 1.
+    ///
+    /// # Errors
+    ///
+    /// `NoSuchStep`, with the number of live steps, if `k` is not from 1 to it.
+    pub fn entry(&self, k: u64) -> Result<Entry, Refusal>
+        ensures found { result ≡ entry_of (journal self.now) k }
+        ensures step { IfOk result (λ entry. IsStepAfter R (k - 1) (journal self.now) entry) }
+        ensures runs { IsRun R (journal self.now) }
+    {
+        let len = self.len();
+        if k == 0 || k > len {
+            return Err(Refusal::NoSuchStep(len));
+        }
+        Ok(*self.records.live_at(k as usize - 1))
+    }
+
+    /// The world: that of the run of the live events from the start.
+    pub fn world(&self) -> &World<R>
+        ensures value { model result.now ≡ (journal self.now).world }
+        ensures run { run_of R (state self.now) ≡ Ok (record { world = model result.now; entries = (journal self.now).live }) }
+        ensures runs { IsRun R (journal self.now) }
+        ensures few { length (journal self.now).live + length (journal self.now).undone ≤ MOST_STEPS }
+    {
+        &self.world
+    }
+}

@@ -1,0 +1,195 @@
+//! The tests of the journal: runs as data, and the small helper that plays them.
+//!
+//! A run is a list of lines. Most do something to a session that must be accepted, or refused as the line says; the
+//! others say what must be so then.
+
+mod agreement;
+mod lone_undo;
+mod long_runs;
+mod rollback;
+mod switching;
+mod walks;
+mod whole_runs;
+
+use rd_actor::{Act, Actor, OpReply, Pc};
+use rd_cell::{Answer, Content, Place, Refusal};
+use rd_journal::sessions::Session;
+use rd_step::Event;
+use std::process::Abort;
+
+/// One line of a run.
+#[derive(Clone, Copy)]
+enum Line {
+    /// This actor does this act, which ends no call.
+    Act(u8, Act),
+    /// This actor is refused this act.
+    Refused(u8, Act, Refusal),
+    /// This actor steps along these control points, each of which it stands at before its step there; the last step
+    /// replies this, the others nothing.
+    Walk(u8, &'static [Pc], Option<OpReply>),
+    /// This move through the run is made.
+    Moves(Move),
+    /// This move through the run is refused.
+    Stays(Move, Refusal),
+    /// So many steps are live, and so many undone.
+    At(u64, u64),
+    /// This is at the place.
+    Is(Place, Content),
+    /// The place is not there.
+    Gone(Place),
+    /// This actor's words are these.
+    Actor(u8, Actor),
+    /// This actor stands at this control point.
+    Stands(u8, Pc),
+    /// The live step of this number was made by this actor at this place; it wrote or not, and was answered this.
+    Step(u64, u8, Place, bool, Answer),
+    /// There is no live step of this number, and the refusal says so.
+    NoStep(u64, Refusal),
+}
+
+/// A move through the run.
+#[derive(Clone, Copy)]
+enum Move {
+    Undo,
+    Back(u64),
+    Redo,
+    Forward(u64),
+}
+
+/// Plays a run, line by line. A line that is not so ends the test, with the run's name and the line's index.
+fn play<const R: usize>(rt: &impl Abort, session: &mut Session<R>, run: &str, lines: &[Line]) {
+    for i in 0..lines.len() {
+        play_line(rt, session, run, i, lines[i]);
+    }
+}
+
+/// Plays the line of this index: does what it says, or looks whether it is so.
+fn play_line<const R: usize>(
+    rt: &impl Abort,
+    session: &mut Session<R>,
+    run: &str,
+    i: usize,
+    line: Line,
+) {
+    match line {
+        Line::Act(actor, act) => {
+            let number = session.len() + 1;
+            assert_eq!(rt;
+                applied(session, actor, act),
+                Ok((number, None)),
+                "{run}, line {i}"
+            );
+        }
+        Line::Refused(actor, act, refusal) => {
+            assert_eq!(rt;
+                applied(session, actor, act),
+                Err(refusal),
+                "{run}, line {i}"
+            );
+        }
+        Line::Walk(actor, points, reply) => {
+            assert_eq!(rt;
+                walk(session, actor, points),
+                Some(reply),
+                "{run}, line {i}"
+            );
+        }
+        Line::Moves(to) => assert_eq!(rt; moved(session, to), Ok(()), "{run}, line {i}"),
+        Line::Stays(to, refusal) => assert_eq!(rt;
+            moved(session, to),
+            Err(refusal),
+            "{run}, line {i}"
+        ),
+        Line::At(live, undone) => {
+            assert_eq!(rt;
+                (session.len(), session.undone_len()),
+                (live, undone),
+                "{run}, line {i}"
+            );
+        }
+        Line::Is(place, content) => {
+            assert_eq!(rt;
+                session.world().content(place),
+                Some(content),
+                "{run}, line {i}"
+            );
+        }
+        Line::Gone(place) => assert_eq!(rt;
+            session.world().content(place),
+            None,
+            "{run}, line {i}"
+        ),
+        Line::Actor(actor, words) => {
+            assert_eq!(rt;
+                session.world().actor(actor),
+                Some(words),
+                "{run}, line {i}"
+            );
+        }
+        Line::Stands(actor, pc) => assert_eq!(rt;
+            stands(session, actor),
+            Some(pc),
+            "{run}, line {i}"
+        ),
+        Line::Step(k, actor, place, wrote, answer) => {
+            let step = Some((actor, Some(place), wrote, answer));
+            assert_eq!(rt; step_of(session, k), step, "{run}, line {i}");
+        }
+        Line::NoStep(k, refusal) => assert_eq!(rt;
+            session.entry(k),
+            Err(refusal),
+            "{run}, line {i}"
+        ),
+    }
+}
+
+/// Lets an actor do one act, and answers the step's number and what its call replied.
+fn applied<const R: usize>(
+    session: &mut Session<R>,
+    actor: u8,
+    act: Act,
+) -> Result<(u64, Option<OpReply>), Refusal> {
+    let (number, entry) = session.apply(Event { actor, act })?;
+    Ok((number, entry.reply))
+}
+
+/// Lets an actor step along these control points. Answers what the last step replied; none if the actor stood at
+/// another control point, was refused, or had a reply before the last step.
+fn walk<const R: usize>(
+    session: &mut Session<R>,
+    actor: u8,
+    points: &[Pc],
+) -> Option<Option<OpReply>> {
+    let mut reply = None;
+    for pc in points {
+        if reply.is_some() || stands(session, actor) != Some(*pc) {
+            return None;
+        }
+        reply = applied(session, actor, Act::Go).ok()?.1;
+    }
+    Some(reply)
+}
+
+/// Makes a move through the run.
+fn moved<const R: usize>(session: &mut Session<R>, to: Move) -> Result<(), Refusal> {
+    match to {
+        Move::Undo => session.undo(),
+        Move::Back(n) => session.back(n),
+        Move::Redo => session.redo(),
+        Move::Forward(n) => session.forward(n),
+    }
+}
+
+/// The control point where an actor stands.
+fn stands<const R: usize>(session: &Session<R>, actor: u8) -> Option<Pc> {
+    Some(session.world().actor(actor)?.pc)
+}
+
+/// Whose step this was, at which place, whether it wrote, and what it was answered.
+fn step_of<const R: usize>(
+    session: &Session<R>,
+    k: u64,
+) -> Option<(u8, Option<Place>, bool, Answer)> {
+    let entry = session.entry(k).ok()?;
+    Some((entry.event.actor, entry.place, entry.wrote, entry.answer))
+}

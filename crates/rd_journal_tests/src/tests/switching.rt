@@ -1,0 +1,49 @@
+//! Going over to the records that a session has, all of them stepped again, and to none.
+
+ghost use Rattle.std.specs.Prelude.{◌≡◌, IfOk};
+ghost use Rattle.rd_journal.specs.Sessions.{journal};
+
+use super::lone_undo::{STEPS, is_stepped_afresh, mixed_run};
+use rd_cell::Refusal;
+use rd_journal::sessions::Session;
+use rd_step::Entry;
+use std::alloc::{AllocError, Global};
+use std::test::Fail;
+
+/// A copy of the records of the live steps.
+pub(super) fn live_records<const R: usize>(
+    alloc: Global,
+    session: &Session<R>,
+) -> Result<Vec<Entry>, AllocError>
+    ensures { IfOk result (λ records. records.items ≡ (journal session.now).live) }
+{
+    let live = session.live();
+    let mut records = Vec::new(alloc);
+    for position in 0..live.len() {
+        records.push(*live.at(position))?;
+    }
+    Ok(records)
+}
+
+/// Undoes all steps and makes them again, from their records.
+pub(super) fn step_all_again(alloc: Global, session: &mut Session<2>) -> Result<(), Refusal> {
+    let records = live_records(alloc, session)?;
+    let _world = session.world();
+    session.switch(0, &records)
+}
+
+#[test]
+fn a_session_goes_over_to_its_own_records_and_to_none(rt: HostRuntime) -> Result<(), Fail> {
+    let mut session = mixed_run(rt.alloc(), STEPS, 4)?;
+    session.roll(7)?;
+    let live = session.len();
+    assert!(rt; live < STEPS);
+    step_all_again(rt.alloc(), &mut session)?;
+    assert_eq!(rt; (session.len(), session.undone_len()), (live, 0));
+    assert!(rt; is_stepped_afresh(rt.alloc(), &session)?);
+    session.switch(0, &[])?;
+    assert_eq!(rt; (session.len(), session.undone_len()), (0, 0));
+    assert!(rt; is_stepped_afresh(rt.alloc(), &session)?);
+    assert_eq!(rt; session.redo(), Err(Refusal::NothingToRedo));
+    Ok(())
+}

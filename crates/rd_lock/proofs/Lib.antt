@@ -1,0 +1,15 @@
+pub mod Lists
+pub mod Facts
+pub mod Lock
+pub mod Keeps
+pub mod Looks
+pub mod Draws
+pub mod Waits
+pub mod Releases
+pub mod Seats
+pub mod Calls
+pub mod TryCalls
+pub mod TakeCalls
+pub mod Ends
+pub mod PassLists
+pub mod Meetings

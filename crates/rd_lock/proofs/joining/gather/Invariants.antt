@@ -1,0 +1,17 @@
+use Rattle.std.proofs.Common.{◌≡◌, [], ◌++◌, vec_len}
+use Rattle.rd_lock.specs.declared.views.Stage.TheVariants.{Out}
+use Rattle.rd_lock.specs.Histories.{Every}
+use Rattle.rd_lock.specs.Opening.{people_of, IsSeatOf}
+use Rattle.rd_lock.proofs.joining.gather.Given as goal
+
+abbrev pub invariant-loop-pass : goal.invariant-loop-pass
+invariant-loop-pass g l = record {
+  table : l.seat.table_id ≡ l.shared.table_id;
+  out : l.seat.me.0.stage ≡ Out;
+  hand : l.seat.me.1 ≡ [];
+  own : Every (IsSeatOf l.shared.table_id) l.passes.items;
+  people : people_of l.passes.items ++ l.seat.me.0.people ≡ people_of l.fn.passes.items;
+}
+
+abbrev pub decreases-loop-pass : goal.decreases-loop-pass
+decreases-loop-pass g l = vec_len l.passes

@@ -1,0 +1,34 @@
+use Rattle.std.proofs.Common.{rules, map, subst, ap, ◌∙◌}
+use Rattle.rd_lock.specs.Rule.{in_hand}
+use Rattle.rd_lock.proofs.Lock.{lock_of}
+use Rattle.rd_lock.proofs.Looks.{looks_served}
+use Rattle.rd_lock.proofs.PassLists.{joins_it, splits_it}
+use Rattle.rd_lock.proofs.Meetings.{some_both, in_line}
+use Rattle.rd_lock.specs.Steps.{knows_served, AreInLine}
+use Rattle.rd_lock.specs.Histories.{Pairwise}
+use Rattle.rd_lock.proofs.locks.TicketLock.meet.Goals as goal
+
+pub join_seat-requires : goal.join_seat-requires
+join_seat-requires g c = let one = c.args.one in let other = c.args.other in (
+  c.requires.own.0.table,
+  c.requires.own.1.table,
+  other.hand ∙ ap in_hand c.requires.out.1,
+  search rules,
+  joins_it (lock_of g.T.Recorded.history g.T.Recorded.origin _ _) _ _ one.seat.me.0 other.seat.me.0 c.requires.out.0 c.requires.out.1,
+)
+
+pub load-served-requires : goal.load-served-requires
+load-served-requires g c = (search rules, search rules, looks_served (lock_of g.T.Recorded.history g.T.Recorded.origin _ _) _ _ c.join_seat.new.seat.me)
+
+pub split_seat-second-requires : goal.split_seat-second-requires
+split_seat-second-requires g c = (
+  search rules,
+  search rules,
+  splits_it (lock_of g.T.Recorded.history g.T.Recorded.origin _ _) _ c.load-served.new.seat.me.0 (ap (λ m. m.0.stage) c.load-served.ensures.2.1 ∙ ap (λ m. m.0.stage) c.join_seat.ensures.2)
+      (some_both c.args.one.seat.me.0.people c.args.other.seat.me.0.people c.load-served.new.seat.me.0.people c.load-served.result c.args.one.alone
+      (ap (λ m. m.0.people) c.load-served.ensures.2.1 ∙ ap (λ m. map (knows_served c.load-served.result) m.0.people) c.join_seat.ensures.2)),
+)
+
+pub returns-clause-order : goal.returns-clause-order
+returns-clause-order g c = in_line c.args.one.seat.me.0.people c.args.other.seat.me.0.people c.args.one.alone c.args.other.alone
+    (subst (λ m. Pairwise AreInLine m.0.people) c.join_seat.ensures.2 c.load-served.ensures.2.2)

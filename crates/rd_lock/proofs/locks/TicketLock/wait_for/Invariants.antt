@@ -1,0 +1,9 @@
+use Rattle.rd_lock.specs.Locks.{IsWaiting, IsPassOf, IsSamePass}
+use Rattle.rd_lock.proofs.locks.TicketLock.wait_for.Given as goal
+
+abbrev pub invariant-looks : goal.invariant-looks
+invariant-looks g l = record {
+  own : IsPassOf l.self l.pass;
+  waits : IsWaiting l.pass l.ticket;
+  same : IsSamePass l.fn.pass l.pass;
+}

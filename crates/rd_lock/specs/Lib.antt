@@ -1,0 +1,6 @@
+pub mod Histories
+pub mod Rule
+pub mod Steps
+pub mod Locks
+pub mod Seats
+pub mod Opening

@@ -1,0 +1,144 @@
+-- What is always so of the lock's words, of its slot, and of what each seat knows.
+use Rattle.std.specs.Prelude.{◌≡◌, ◌≢◌, ℕ, zero, suc, ◌^◌, ◌<◌, ◌≤◌, List, [], ◌∷◌, map, Option, Some, None}
+use mathlib.Core.Option.{some, none}
+use mathlib.Core.Option as maybe
+use mathlib.Core.List.{IsPrefix}
+use lib.ListN.{get_elem?}
+use Rattle.atomic_table.specs.Table.{State}
+use Rattle.rd_lock.specs.declared.views.Person.{Person}
+use Rattle.rd_lock.specs.declared.views.View.{View}
+use Rattle.rd_lock.specs.declared.views.Stage.{Stage}
+use Rattle.rd_lock.specs.declared.views.Stage.TheVariants.{Out, Waits, Holds}
+use Rattle.rd_lock.specs.Histories.{Every, Pairwise, IsIn, named, NamesUpTo}
+
+-- where the value is: in the slot, or with the seat of this number
+pub data Place (T : Type 0) : Type 0 where
+  home : T → Place T
+  away : ℕ → Place T
+
+-- What no thread knows whole: the words, the history at home or found by the holder, the seat of each pass, the seat of each ticket
+-- that is drawn and not done with, and where the value is.
+pub record Facts (T E : Type 0) : Type 0 where
+  pub next : ℕ
+  pub served : ℕ
+  pub log : List (ℕ × E)
+  pub owner : ℕ → ℕ
+  pub taker : ℕ → ℕ
+  pub place : Place T
+
+module _ {E : Type 0} where
+  -- the ticket of a seat that waits or holds
+  abbrev pub ticket : Stage E → maybe.Option ℕ
+  ticket Out = none
+  ticket (Waits t) = some t
+  ticket (Holds t found) = some t
+
+module _ {E O : Type 0} where
+  abbrev pub view_of : List (Person E O) → Stage E → View E O
+  view_of people stage = record { people = people; stage = stage }
+
+  -- the number of the first of the people
+  abbrev pub number_in : List (Person E O) → ℕ
+  number_in [] = 0
+  number_in (p ∷ ps) = p.pass
+
+  -- the first of the people, alone
+  abbrev pub first_of_people : List (Person E O) → List (Person E O)
+  first_of_people [] = []
+  first_of_people (p ∷ ps) = p ∷ []
+
+  -- all of the people but the first
+  abbrev pub other_people : List (Person E O) → List (Person E O)
+  other_people [] = []
+  other_people (p ∷ ps) = ps
+
+  -- no two people are one pass
+  abbrev pub Apart : List (Person E O) → Type 0
+  Apart ps = Pairwise (λ (p q : Person E O). q.pass ≢ p.pass) ps
+
+  -- who waits or holds is alone in its seat
+  abbrev pub IsAloneAt : Stage E → List (Person E O) → Type 0
+  IsAloneAt Out ps = Unit {0}
+  IsAloneAt (Waits t) ps = (p : Person E O) × (ps ≡ p ∷ [])
+  IsAloneAt (Holds t found) ps = (p : Person E O) × (ps ≡ p ∷ [])
+
+  -- the seat of this number has the ticket
+  abbrev pub HasTicket : List (View E O) → ℕ → ℕ → Type 0
+  HasTicket views seat t = (v : View E O) × (get_elem? views seat ≡ some v) × (ticket v.stage ≡ some t)
+
+  -- the numbers of these people
+  abbrev pub numbers_of : List (Person E O) → List ℕ
+  numbers_of ps = map (λ (p : Person E O). p.pass) ps
+
+  -- the pass is in the seat of this number
+  abbrev pub HasPass : List (View E O) → ℕ → ℕ → Type 0
+  HasPass views seat pass = (v : View E O) × (get_elem? views seat ≡ some v) × IsIn pass (numbers_of v.people)
+
+  -- a pass of a lock that has just been opened, with both words at `first`
+  abbrev pub newcomer : ℕ → O → ℕ → ℕ → Person E O
+  newcomer seats root first pass = record { pass = pass; seats = seats; origin = root; seen = []; own = []; next = first; served = first }
+
+  -- the passes from a number on, so many of them
+  abbrev pub newcomers : ℕ → O → ℕ → ℕ → ℕ → List (Person E O)
+  newcomers seats root first pass zero = []
+  newcomers seats root first pass (suc n) = newcomer seats root first pass ∷ newcomers seats root first (suc pass) n
+
+  -- the first seat's view, which has all the passes
+  abbrev pub opening_view : ℕ → O → ℕ → View E O
+  opening_view seats root first = view_of (newcomers seats root first 1 seats) Out
+
+module _ {T E : Type 0} where
+  -- what a seat has taken out of the slot between two calls, the slot being left empty
+  abbrev pub in_hand : Stage E → List (ℕ × Option T)
+  in_hand Out = []
+  in_hand (Waits t) = []
+  in_hand (Holds t found) = (0, None) ∷ []
+
+module _ {T : Type 0} where
+  -- the one slot of the table
+  abbrev pub slot_of : Place T → List (maybe.Option (Option T))
+  slot_of (home x) = some (Some x) ∷ []
+  slot_of (away seat) = none ∷ []
+
+module _ {T E O : Type 0} (history : T → List (ℕ × E)) (origin : T → O) (seats : ℕ) (root : O) where
+  -- what is so of a pass whose seat has this number
+  pub record PersonFits (f : Facts T E) (seat : ℕ) (p : Person E O) : Type 0 where
+    pub owned : f.owner p.pass ≡ seat
+    pub numbered : (0 < p.pass) × (p.pass ≤ seats)
+    pub informed : (p.seats ≡ seats) × (p.origin ≡ root)
+    pub has_seen : IsPrefix p.seen f.log
+    pub has_put : p.own ≡ named p.pass 0 f.log
+    pub words : (p.next ≤ f.next) × (p.served ≤ f.served)
+    pub only : seats ≡ 1 → (p.next ≡ f.next) × (p.served ≡ f.served)
+
+  -- what is so of a seat at this stage
+  abbrev pub StageFits : Facts T E → ℕ → Stage E → Type 0
+  StageFits f seat Out = Unit {0}
+  StageFits f seat (Waits t) = (f.served ≤ t) × (t < f.next) × (f.taker t ≡ seat)
+  StageFits f seat (Holds t found) = (t ≡ f.served) × (t < f.next) × (f.taker t ≡ seat) × (f.place ≡ away seat) × (found ≡ f.log)
+
+  -- what is so of the seat of this number
+  pub record ViewFits (f : Facts T E) (seat : ℕ) (v : View E O) : Type 0 where
+    pub people : Every (PersonFits f seat) v.people
+    pub apart : Apart v.people
+    pub stage : StageFits f seat v.stage
+    pub alone : IsAloneAt v.stage v.people
+
+  -- at home the value has the history and the lock's origin; away it is with a seat that holds
+  abbrev pub IsPlaced : Facts T E → List (View E O) → Place T → Type 0
+  IsPlaced f views (home x) = (history x ≡ f.log) × (origin x ≡ root)
+  IsPlaced f views (away seat) = (v : View E O) × (get_elem? views seat ≡ some v) × (v.stage ≡ Holds f.served f.log)
+
+  -- the rule, beside the words and the slot
+  pub record IsKept (f : Facts T E) (views : List (View E O)) : Type 0 where
+    pub order : f.served ≤ f.next
+    pub limit : f.next ≤ 2 ^ 63
+    pub names : NamesUpTo seats f.log
+    pub each_view : (seat : ℕ) (v : View E O) → get_elem? views seat ≡ some v → ViewFits f seat v
+    pub each_pass : (pass : ℕ) → 0 < pass → pass ≤ seats → HasPass views (f.owner pass) pass
+    pub each_ticket : (t : ℕ) → f.served ≤ t → t < f.next → HasTicket views (f.taker t) t
+    pub is_placed : IsPlaced f views f.place
+
+  -- the words and the slot are those of facts that are kept
+  abbrev pub LockRule : State (Option T) (View E O) → Type 0
+  LockRule s = (f : Facts T E) × (s.words ≡ f.served ∷ f.next ∷ []) × (s.homes ≡ slot_of f.place) × IsKept f s.views

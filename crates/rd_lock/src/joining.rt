@@ -1,0 +1,57 @@
+//! Seats that are split and joined: at the opening, at a meeting, at the end.
+ghost use Rattle.std.specs.Prelude.{◌≡◌, ◌<◌, ◌≤◌, [], IfSome, IfNone, vec_len, vec_capacity};
+ghost use Rattle.rd_lock.specs.Histories.{Every};
+ghost use Rattle.rd_lock.specs.Rule.{newcomers, opening_view, view_of};
+ghost use Rattle.rd_lock.specs.Opening.{people_of, IsSeatOf};
+ghost use Rattle.rd_lock.specs.declared.views.Stage.TheVariants.{Out};
+
+use super::passes::{LockSeat, Pass};
+use super::plays::{Joined, Parted};
+use super::slot::LockShared;
+use super::views::Recorded;
+
+/// Splits the first seat into one for each pass.
+pub(crate) fn hand_out<T: Recorded>(
+    shared: &LockShared<T>,
+    mut seat: LockSeat<T>,
+    seats: u64,
+    passes: &mut Vec<Pass<T>>,
+)
+    requires table { (seat.table_id ≡ shared.now.table_id) × (0 < shared.now.table_id.words) }
+    requires seat { seat.me ≡ (opening_view seats (T.origin shared.now.key.value.value) shared.now.key.first, []) }
+    requires empty { passes.old.items ≡ [] }
+    requires room { seats ≤ vec_capacity passes.old }
+    ensures own { Every (IsSeatOf shared.now.table_id) passes.new.items }
+    ensures people { people_of passes.new.items ≡ newcomers seats (T.origin shared.now.key.value.value) shared.now.key.first 1 seats }
+{
+    for number in 0..seats {
+        let new = shared.split_seat::<Parted>(&mut seat);
+        let Ok(()) = passes.push(Pass {
+            seat: new,
+            number: number + 1,
+        }) else {
+            unreachable!()
+        };
+    }
+}
+
+/// One seat for all these passes, if there are any.
+pub(crate) fn gather<T: Recorded>(
+    shared: &LockShared<T>,
+    mut passes: Vec<Pass<T>>,
+) -> Option<LockSeat<T>>
+    requires table { 0 < shared.now.table_id.words }
+    requires own { Every (IsSeatOf shared.now.table_id) passes.items }
+    ensures some { IfSome result (λ seat. (seat.table_id ≡ shared.now.table_id) × (seat.me ≡ (view_of (people_of passes.items) Out, []))) }
+    ensures none { IfNone result (passes.items ≡ []) }
+{
+    let Some(last) = passes.pop() else {
+        return None;
+    };
+    let Pass { mut seat, .. } = last;
+    while let Some(pass) = passes.pop() {
+        let Pass { seat: other, .. } = pass;
+        shared.join_seat::<Joined>(&mut seat, other);
+    }
+    Some(seat)
+}

@@ -1,0 +1,22 @@
+//! The ticket lock: several passes share one value, and each has it alone between a take and the put back.
+//!
+//! What is guarded tells, for contracts alone, an origin that stays and a history that only grows. A contract says how the
+//! history that a pass finds stands to what it had seen before, whatever the other passes did in between.
+#![tactic(auto)]
+
+mod joining;
+mod locks;
+mod meeting;
+mod opening;
+mod passes;
+mod plays;
+mod rule;
+mod slot;
+mod tables;
+mod tickets;
+mod views;
+
+pub use locks::{NoMemory, TicketLock};
+pub use passes::Pass;
+pub use tickets::{Busy, Missed, TICKETS, TicketsEnded};
+pub use views::Recorded;

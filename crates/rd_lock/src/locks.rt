@@ -1,0 +1,30 @@
+//! What a lock is: its table, which its passes step on.
+ghost use Rattle.std.specs.Prelude.{◌≡◌, ◌<◌};
+
+use super::rule::Tickets;
+use super::views::{Opened, Recorded, View};
+use atomic_table::Table;
+use std::alloc::Global;
+
+/// The table of a lock.
+pub(crate) type LockTable<T> = Table<
+    Option<T>,
+    View<<T as Recorded>::Entry, <T as Recorded>::Origin>,
+    Opened<T>,
+    Tickets,
+    Global,
+>;
+
+/// A value that several passes share, one at a time.
+///
+/// A lock that is dropped drops the value, if no pass holds it.
+#[derive(Drop)]
+pub struct TicketLock<T: Recorded> {
+    pub(crate) table: LockTable<T>,
+    ghost sized: { (table.shared.table_id.words ≡ 2) × (table.shared.table_id.slots ≡ 1) },
+    ghost seated: { 0 < table.shared.key.seats },
+}
+
+/// Memory was refused.
+#[derive(Debug, Clone, Copy, PartialEq, Eq)]
+pub struct NoMemory;

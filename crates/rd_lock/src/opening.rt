@@ -1,0 +1,89 @@
+//! Opening a lock, and closing it.
+ghost use Rattle.std.specs.Prelude.{◌≡◌, ◌<◌, ◌≤◌, ◌^◌, [], IfOk, IfErr, IsOk};
+ghost use Rattle.rd_lock.specs.Opening.{IsOpened, IsClosedOver, HasSeenUpTo, AreAllOf};
+ghost use Rattle.rd_lock.specs.Histories.{Every};
+ghost use Rattle.rd_lock.specs.Locks.{IsPassOf, IsOut};
+
+use super::joining::{gather, hand_out};
+use super::locks::{NoMemory, TicketLock};
+use super::passes::Pass;
+use super::tables::{close_table, close_with_seat, lay};
+use super::tickets::Busy;
+use super::views::{Opened, Recorded};
+use std::alloc::Global;
+use std::snapshot::Snapshot;
+
+impl<T: Recorded> TicketLock<T> {
+    /// A lock over the value, and its passes, whose numbers are 1 to `seats`.
+    ///
+    /// # Errors
+    ///
+    /// `NoMemory` with the value if memory was refused.
+    pub fn open(
+        alloc: Global,
+        value: T,
+        seats: u64,
+    ) -> Result<(TicketLock<T>, Vec<Pass<T>>), (NoMemory, T)>
+        requires seats { 0 < seats }
+        requires empty { T.history value ≡ [] }
+        ensures ok { IfOk result (λ opened. IsOpened value seats 0 opened.0 opened.1.items) }
+        ensures err { IfErr result (λ refused. refused.1 ≡ value) }
+    {
+        TicketLock::open_at(alloc, value, seats, 0)
+    }
+
+    /// The same with both words at `first`, so that `2^63 - first` tickets are left.
+    ///
+    /// # Errors
+    ///
+    /// `NoMemory` with the value if memory was refused.
+    pub fn open_at(
+        alloc: Global,
+        value: T,
+        seats: u64,
+        first: u64,
+    ) -> Result<(TicketLock<T>, Vec<Pass<T>>), (NoMemory, T)>
+        requires seats { 0 < seats }
+        requires first { first ≤ 2 ^ 63 }
+        requires empty { T.history value ≡ [] }
+        ensures ok { IfOk result (λ opened. IsOpened value seats first opened.0 opened.1.items) }
+        ensures err { IfErr result (λ refused. refused.1 ≡ value) }
+    {
+        let Ok(mut passes) = Vec::with_capacity(alloc, seats as usize) else {
+            return Err((NoMemory, value));
+        };
+        let about = Opened {
+            seats,
+            first,
+            value: Snapshot::of(&value),
+        };
+        match lay(alloc, value, &about) {
+            Ok((table, seat)) => {
+                hand_out(&table.shared, seat, seats, &mut passes);
+                Ok((TicketLock { table }, passes))
+            }
+            Err(value) => Err((NoMemory, value)),
+        }
+    }
+
+    /// Ends the lock and gives the value.
+    ///
+    /// # Errors
+    ///
+    /// `Busy` with the words as they are at the end, if they differ, so that some ticket is drawn and not done with. The value is lost
+    /// then.
+    pub fn close(self, passes: Vec<Pass<T>>) -> Result<T, Busy>
+        requires own { Every (IsPassOf self) passes.items }
+        requires out { Every IsOut passes.items }
+        ensures ok { IfOk result (IsClosedOver self passes.items) }
+        ensures err { IfErr result (λ words. (words.served < words.next) × (words.next ≤ 2 ^ 63)) }
+        ensures newest { IfErr result (λ words. Every (HasSeenUpTo words) passes.items) }
+        ensures succeeds { AreAllOf self passes.items → IsOk result }
+    {
+        let TicketLock { table } = self;
+        match gather(&table.shared, passes) {
+            Some(seat) => close_with_seat(table, seat),
+            None => close_table(table),
+        }
+    }
+}

@@ -1,0 +1,35 @@
+//! A pass: the right of one party to take what the lock guards.
+ghost use Rattle.std.specs.Prelude.{◌≡◌, length};
+ghost use Rattle.rd_lock.specs.Rule.{in_hand, number_in};
+
+use super::views::{Recorded, View};
+use atomic_table::Seat;
+
+/// A seat at the table of a lock.
+pub(crate) type LockSeat<T> = Seat<
+    Option<T>,
+    View<<T as Recorded>::Entry, <T as Recorded>::Origin>,
+>;
+
+/// The right of one party to take what the lock guards. It has a number, from 1.
+///
+/// A pass that is dropped while it holds keeps the value from all others, for good.
+#[derive(Drop)]
+pub struct Pass<T: Recorded> {
+    pub(crate) seat: LockSeat<T>,
+    pub(crate) number: u64,
+    ghost alone: { length seat.me.0.people ≡ 1 },
+    ghost hand: { seat.me.1 ≡ in_hand seat.me.0.stage },
+    ghost numbered: { number ≡ number_in seat.me.0.people },
+}
+
+impl<T: Recorded> Pass<T> {
+    ghost use Rattle.rd_lock.specs.Locks.{number};
+
+    /// The pass's number, from 1.
+    pub fn number(&self) -> u64
+        ensures { result ≡ number self.now }
+    {
+        self.number
+    }
+}

@@ -1,0 +1,26 @@
+//! The rule of the table.
+//!
+//! Word 0 is `served`, the ticket whose pass may hold; word 1 is `next`, the ticket that is drawn next. Slot 0 has the value, or
+//! nothing while a pass holds.
+use crate::views::{Opened, Recorded, View};
+use atomic_table::TableRule;
+
+/// The word `served`. A join and a split of seats load it too.
+pub const SERVED: usize = 0;
+
+/// The word `next`.
+pub const NEXT: usize = 1;
+
+/// The slot of the value.
+pub const SLOT: usize = 0;
+
+/// The rule of the lock.
+pub struct Tickets;
+
+impl<T: Recorded> TableRule<Option<T>, View<T::Entry, T::Origin>, Opened<T>> for Tickets {
+    ghost use Rattle.rd_lock.specs.Rule.{LockRule, opening_view};
+
+    ghost holds = { λ key. LockRule T.history T.origin key.seats (T.origin key.value.value) };
+
+    ghost first = { λ key. opening_view key.seats (T.origin key.value.value) key.first };
+}

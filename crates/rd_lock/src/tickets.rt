@@ -1,0 +1,147 @@
+//! The tickets: draw, wait, hold, release.
+ghost use Rattle.std.specs.Prelude.{◌≡◌, ◌≢◌, ℕ, ◌^◌, ◌<◌, ◌≤◌, IfOk, IfErr, OnErr, MatchResult};
+ghost use Rattle.rd_lock.specs.Histories.{Adds};
+ghost use Rattle.rd_lock.specs.Locks.{number, seen, own, next_seen, served_seen, seats, root, IsOut, IsWaiting, IsPassOf, IsSamePass, IsTaken, IsMissed, IsDue, HasPut};
+
+use super::locks::TicketLock;
+use super::passes::Pass;
+use super::plays::{Drew, Listened, Released, SawNext, SawServed, Tried};
+use super::rule::{NEXT, SERVED};
+use super::slot::{put_in, take_out};
+use super::views::Recorded;
+use crossbeam_utils::Backoff;
+use std::sync::Wait;
+
+/// The tickets are the numbers below it.
+pub const TICKETS: u64 = 1 << 63;
+
+/// All tickets are drawn.
+#[derive(Debug, Clone, Copy, PartialEq, Eq)]
+pub struct TicketsEnded;
+
+/// The words as a pass saw them last, or as they are when the lock is closed: some ticket is drawn and not done with.
+#[derive(Debug, Clone, Copy, PartialEq, Eq)]
+pub struct Busy {
+    /// The ticket that is drawn next.
+    pub next: u64,
+    /// The ticket that is served.
+    pub served: u64,
+}
+
+/// Why `try_take` gave nothing.
+#[derive(Debug, Clone, Copy, PartialEq, Eq)]
+pub enum Missed {
+    /// The lock isn't free.
+    Busy(Busy),
+    /// All tickets are drawn.
+    TicketsEnded,
+}
+
+impl<T: Recorded> TicketLock<T> {
+    ghost use Rattle.rd_lock.specs.declared.tickets.Missed.TheVariants as Missed;
+
+    /// Takes the value if it is free, by one load and at most one compare-and-exchange. It waits for nobody.
+    ///
+    /// # Errors
+    ///
+    /// `TicketsEnded` if all tickets are drawn, as this pass saw it. `Busy` if a ticket is drawn and not done with.
+    pub fn try_take(&self, pass: &mut Pass<T>) -> Result<T, Missed>
+        requires own { IsPassOf self.now pass.old }
+        requires out { IsOut pass.old }
+        ensures pass { IsPassOf self.now pass.new }
+        ensures unchanged { IsSamePass pass.old pass.new }
+        ensures ok { IfOk result (IsTaken self.now pass.old pass.new) }
+        ensures err { IfErr result (IsMissed pass.new) }
+        ensures out { OnErr result (IsOut pass.new) }
+        ensures succeeds { seats self.now ≡ 1 → IfErr result (λ missed. missed ≡ Missed.TicketsEnded) }
+    {
+        let shared = &self.table.shared;
+        let served = shared.load::<SawServed>(&mut pass.seat, SERVED);
+        if served >= TICKETS {
+            return Err(Missed::TicketsEnded);
+        }
+        let next = shared.compare_exchange::<Tried>(&mut pass.seat, NEXT, served, served + 1);
+        if next == served {
+            return Ok(take_out(shared, &mut pass.seat));
+        }
+        if next >= TICKETS {
+            return Err(Missed::TicketsEnded);
+        }
+        Err(Missed::Busy(Busy { next, served }))
+    }
+
+    /// Draws a ticket and waits until it is served, by loads of the word `served`.
+    ///
+    /// # Errors
+    ///
+    /// `TicketsEnded` if all tickets are drawn, as this pass saw it.
+    pub fn take<R: Wait>(&self, rt: &R, pass: &mut Pass<T>) -> Result<T, TicketsEnded>
+        requires own { IsPassOf self.now pass.old }
+        requires out { IsOut pass.old }
+        ensures pass { IsPassOf self.now pass.new }
+        ensures unchanged { IsSamePass pass.old pass.new }
+        ensures ok { IfOk result (IsTaken self.now pass.old pass.new) }
+        ensures err { OnErr result ((next_seen pass.new ≡ 2 ^ 63) × IsOut pass.new) }
+    {
+        match self.draw(rt, pass) {
+            Ok(ticket) => Ok(self.wait_for(rt, pass, ticket)),
+            Err(ended) => Err(ended),
+        }
+    }
+
+    /// Draws a ticket, and tries again as long as another pass draws it first.
+    fn draw<R: Wait>(&self, rt: &R, pass: &mut Pass<T>) -> Result<u64, TicketsEnded>
+        requires own { IsPassOf self.now pass.old }
+        requires out { IsOut pass.old }
+        ensures pass { IsPassOf self.now pass.new }
+        ensures unchanged { IsSamePass pass.old pass.new }
+        ensures ok { IfOk result (λ ticket. (ticket < 2 ^ 63) × IsWaiting pass.new ticket) }
+        ensures err { OnErr result ((next_seen pass.new ≡ 2 ^ 63) × IsOut pass.new) }
+    {
+        let shared = &self.table.shared;
+        let mut ticket = shared.load::<SawNext>(&mut pass.seat, NEXT);
+        'draws: for _ in rt.forever() {
+            if ticket >= TICKETS {
+                return Err(TicketsEnded);
+            }
+            let next = shared.compare_exchange::<Drew>(&mut pass.seat, NEXT, ticket, ticket + 1);
+            if next == ticket {
+                return Ok(ticket);
+            }
+            ticket = next;
+        }
+        unreachable!()
+    }
+
+    /// Waits until the pass's ticket is served, and takes the value.
+    fn wait_for<R: Wait>(&self, rt: &R, pass: &mut Pass<T>, ticket: u64) -> T
+        requires own { IsPassOf self.now pass.old }
+        requires ticket { (ticket < 2 ^ 63) × IsWaiting pass.old ticket }
+        ensures pass { IsPassOf self.now pass.new }
+        ensures unchanged { IsSamePass pass.old pass.new }
+        ensures ok { IsTaken self.now pass.old pass.new result }
+    {
+        let shared = &self.table.shared;
+        let pause = Backoff::new();
+        'looks: for _ in rt.forever() {
+            if shared.load::<Listened>(&mut pass.seat, SERVED) == ticket {
+                return take_out(shared, &mut pass.seat);
+            }
+            pause.snooze();
+        }
+        unreachable!()
+    }
+
+    /// Puts the value back and lets the next ticket be served.
+    pub fn put_back(&self, pass: &mut Pass<T>, value: T)
+        requires own { IsPassOf self.now pass.old }
+        requires value { IsDue self.now pass.old value }
+        ensures pass { IsPassOf self.now pass.new }
+        ensures out { IsOut pass.new }
+        ensures ok { HasPut pass.old pass.new value }
+    {
+        let shared = &self.table.shared;
+        put_in(shared, &mut pass.seat, value);
+        shared.fetch_add::<Released>(&mut pass.seat, SERVED, 1);
+    }
+}

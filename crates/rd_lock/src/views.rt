@@ -1,0 +1,62 @@
+//! What the rule of the lock speaks of: passes as the seats at the table know them. No value of these types is made.
+ghost use Rattle.std.specs.Prelude.{ℕ, List};
+
+use std::collections::LinkedList;
+use std::snapshot::Snapshot;
+
+/// What a lock can guard. Its origin stays, and its history only grows; each entry names the pass, from 1, that put it.
+pub trait Recorded: Drop {
+    /// What the history has, beside the pass that put it.
+    type Entry;
+    /// What stays the same from the opening on.
+    type Origin;
+
+    ghost history: { Self → List (ℕ × Self.Entry) };
+
+    ghost origin: { Self → Self.Origin };
+}
+
+/// One pass.
+pub struct Person<E, O> {
+    /// Its number, from 1.
+    pub pass: u64,
+    /// How many seats the lock was opened with.
+    pub seats: u64,
+    /// The origin of what the lock was opened with.
+    pub origin: O,
+    /// The history that it has seen last.
+    pub seen: LinkedList<(u64, E)>,
+    /// The entries that it put, each with its position in the history.
+    pub own: LinkedList<(u64, E)>,
+    /// The greatest value of the word `next` that it knows of.
+    pub next: u64,
+    /// The greatest value of the word `served` that it has seen.
+    pub served: u64,
+}
+
+/// Where a seat stands.
+pub enum Stage<E> {
+    /// It neither waits nor holds.
+    Out,
+    /// It has drawn this ticket.
+    Waits(u64),
+    /// It has the value, by this ticket; the value had this history when it came.
+    Holds(u64, LinkedList<(u64, E)>),
+}
+
+/// What a seat at the table knows: a pass's seat has one person, a joined seat has several, and a spent one none.
+pub struct View<E, O> {
+    pub people: LinkedList<Person<E, O>>,
+    pub stage: Stage<E>,
+}
+
+/// What the table is told when it is made.
+#[derive(Drop)]
+pub struct Opened<T> {
+    /// How many passes there are.
+    pub seats: u64,
+    /// The value of both words.
+    pub first: u64,
+    /// The value that the lock was opened with.
+    pub value: Snapshot<T>,
+}

@@ -1,0 +1,17 @@
+pub mod NameLemmas
+pub mod Starts
+pub mod MarkLemmas
+pub mod RecordLemmas
+pub mod AnswerLemmas
+pub mod ObeyLemmas
+pub mod TreeLemmas
+pub mod NodeLemmas
+pub mod CommonNode
+pub mod TreeChanges
+pub mod FollowLemmas
+pub mod Uses
+pub mod Sharing
+pub mod Switches
+pub mod SameLemmas
+pub mod Counting
+pub mod Here

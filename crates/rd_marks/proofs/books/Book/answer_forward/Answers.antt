@@ -1,0 +1,29 @@
+use Rattle.std.proofs.Common.{refl}
+use Rattle.rd_journal.specs.Sessions.{journal, state}
+use Rattle.rd_journal.specs.State.{forward}
+use Rattle.rd_marks.specs.BookViews.{book_state}
+use Rattle.rd_marks.specs.TreeViews.{mark_tree}
+use Rattle.rd_marks.proofs.AnswerLemmas.{move_answered}
+use Rattle.rd_marks.proofs.Here.{after_redo, forward_leaves}
+use Rattle.rd_marks.proofs.Starts.{forward_start, start_stays, marks_stay}
+use Rattle.rd_marks.proofs.books.Book.answer_forward.Goals as goal
+
+pub invariant_of-self : goal.invariant_of-self
+invariant_of-self g c =
+    let book = c.args.self.now in
+    let old = state book.session in
+    let start =
+    start_stays c.forward-done.result (journal c.args.self.now.session) (journal c.forward-done.new.self) (forward old c.args.n)
+    (forward_start old c.args.n) c.forward-done.ensures.ok c.forward-done.ensures.unchanged in
+    record {
+      kept = marks_stay g.row.R old.start (state c.forward-done.new.self).start c.args.self.now.tree.nodes c.args.self.now.marks.entries start c.args.self.now.kept;
+      stands =
+          after_redo (mark_tree book.tree) c.forward-done.result book.here (journal book.session) (journal c.forward-done.new.self) book.stands c.forward-done.ensures.unchanged
+          c.forward-done.ensures.records (forward_leaves c.args.n (journal book.session) (journal c.forward-done.new.self));
+    }
+
+pub returns : goal.returns
+returns g c =
+    let b = book_state c.args.self.now in
+    move_answered c.forward-done.result b (journal c.args.self.now.session) (journal c.forward-done.new.self) (forward b.session c.args.n)
+    c.counts_after.result refl c.forward-done.ensures.ok c.forward-done.ensures.err c.forward-done.ensures.unchanged c.counts_after.ensures.ok c.counts_after.ensures.err

@@ -1,0 +1,30 @@
+use Rattle.std.proofs.Common.{refl, arith}
+use Rattle.rd_journal.specs.Sessions.{journal, state}
+use Rattle.rd_journal.specs.State.{roll}
+use Rattle.rd_marks.specs.BookViews.{book_state}
+use Rattle.rd_marks.specs.TreeViews.{mark_tree}
+use Rattle.rd_marks.proofs.AnswerLemmas.{move_answered}
+use Rattle.rd_marks.proofs.Here.{after_undo, roll_leaves}
+use Rattle.rd_marks.proofs.Starts.{roll_start, start_stays, marks_stay}
+use Rattle.rd_marks.proofs.books.Book.answer_roll.Goals as goal
+
+pub invariant_of-self : goal.invariant_of-self
+invariant_of-self g c =
+    let book = c.args.self.now in
+    let old = state book.session in
+    let start =
+    start_stays c.roll-done.result (journal c.args.self.now.session) (journal c.roll-done.new.self) (roll g.row.R old c.args.k)
+    (roll_start g.row.R old c.args.k) c.roll-done.ensures.ok c.roll-done.ensures.unchanged in
+    record {
+      kept = marks_stay g.row.R old.start (state c.roll-done.new.self).start c.args.self.now.tree.nodes c.args.self.now.marks.entries start c.args.self.now.kept;
+      stands =
+          after_undo (mark_tree book.tree) book.tree.kept.tree c.roll-done.result book.here c.cut_back-self.result c.saturating_sub.result (journal book.session) (journal c.roll-done.new.self)
+          book.stands c.cut_back-self.ensures.present c.cut_back-self.ensures.begins c.cut_back-self.ensures.ok c.roll-done.ensures.unchanged c.roll-done.ensures.records
+          (roll_leaves c.args.k c.saturating_sub.result (journal book.session) (journal c.roll-done.new.self) (omega arith));
+    }
+
+pub returns : goal.returns
+returns g c =
+    let b = book_state c.args.self.now in
+    move_answered c.roll-done.result b (journal c.args.self.now.session) (journal c.roll-done.new.self) (roll g.row.R b.session c.args.k)
+    c.counts_after.result refl c.roll-done.ensures.ok c.roll-done.ensures.err c.roll-done.ensures.unchanged c.counts_after.ensures.ok c.counts_after.ensures.err

@@ -1,0 +1,30 @@
+use Rattle.std.proofs.Common.{refl}
+use Rattle.rd_journal.specs.Sessions.{journal, state}
+use Rattle.rd_journal.specs.State.{undo}
+use Rattle.rd_marks.specs.BookViews.{book_state}
+use Rattle.rd_marks.specs.TreeViews.{mark_tree}
+use Rattle.rd_marks.proofs.AnswerLemmas.{move_answered}
+use Rattle.rd_marks.proofs.Here.{after_undo, back_leaves}
+use Rattle.rd_marks.proofs.Starts.{undo_start, start_stays, marks_stay}
+use Rattle.rd_marks.proofs.books.Book.answer_undo.Goals as goal
+
+pub invariant_of-self : goal.invariant_of-self
+invariant_of-self g c =
+    let book = c.args.self.now in
+    let old = state book.session in
+    let start =
+    start_stays c.undo-done.result (journal c.args.self.now.session) (journal c.undo-done.new.self) (undo old)
+    (undo_start old) c.undo-done.ensures.ok c.undo-done.ensures.unchanged in
+    record {
+      kept = marks_stay g.row.R old.start (state c.undo-done.new.self).start c.args.self.now.tree.nodes c.args.self.now.marks.entries start c.args.self.now.kept;
+      stands =
+          after_undo (mark_tree book.tree) book.tree.kept.tree c.undo-done.result book.here c.cut_back-self.result c.len.result (journal book.session) (journal c.undo-done.new.self)
+          book.stands c.cut_back-self.ensures.present c.cut_back-self.ensures.begins c.cut_back-self.ensures.ok c.undo-done.ensures.unchanged c.undo-done.ensures.records
+          (back_leaves 1 c.len.result (journal book.session) (journal c.undo-done.new.self) c.len.ensures.records);
+    }
+
+pub returns : goal.returns
+returns g c =
+    let b = book_state c.args.self.now in
+    move_answered c.undo-done.result b (journal c.args.self.now.session) (journal c.undo-done.new.self) (undo b.session)
+    c.counts_after.result refl c.undo-done.ensures.ok c.undo-done.ensures.err c.undo-done.ensures.unchanged c.counts_after.ensures.ok c.counts_after.ensures.err

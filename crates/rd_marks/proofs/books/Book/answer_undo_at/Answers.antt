@@ -1,0 +1,30 @@
+use Rattle.std.proofs.Common.{refl}
+use Rattle.rd_journal.specs.Sessions.{journal, state}
+use Rattle.rd_journal.specs.State.{undo_at}
+use Rattle.rd_marks.specs.BookViews.{book_state}
+use Rattle.rd_marks.specs.TreeViews.{mark_tree}
+use Rattle.rd_marks.proofs.AnswerLemmas.{move_answered}
+use Rattle.rd_marks.proofs.Here.{after_undo, one_out_leaves}
+use Rattle.rd_marks.proofs.Starts.{undo_at_start, start_stays, marks_stay}
+use Rattle.rd_marks.proofs.books.Book.answer_undo_at.Goals as goal
+
+pub invariant_of-self : goal.invariant_of-self
+invariant_of-self g c =
+    let book = c.args.self.now in
+    let old = state book.session in
+    let start =
+    start_stays c.undo_at-done.result (journal c.args.self.now.session) (journal c.undo_at-done.new.self) (undo_at g.row.R old c.args.k)
+    (undo_at_start g.row.R old c.args.k) c.undo_at-done.ensures.ok c.undo_at-done.ensures.unchanged in
+    record {
+      kept = marks_stay g.row.R old.start (state c.undo_at-done.new.self).start c.args.self.now.tree.nodes c.args.self.now.marks.entries start c.args.self.now.kept;
+      stands =
+          after_undo (mark_tree book.tree) book.tree.kept.tree c.undo_at-done.result book.here c.cut_back-self.result c.saturating_sub.result (journal book.session) (journal c.undo_at-done.new.self)
+          book.stands c.cut_back-self.ensures.present c.cut_back-self.ensures.begins c.cut_back-self.ensures.ok c.undo_at-done.ensures.unchanged c.undo_at-done.ensures.records
+          (one_out_leaves c.args.k c.saturating_sub.result (journal book.session) (journal c.undo_at-done.new.self) c.saturating_sub.ensures);
+    }
+
+pub returns : goal.returns
+returns g c =
+    let b = book_state c.args.self.now in
+    move_answered c.undo_at-done.result b (journal c.args.self.now.session) (journal c.undo_at-done.new.self) (undo_at g.row.R b.session c.args.k)
+    c.counts_after.result refl c.undo_at-done.ensures.ok c.undo_at-done.ensures.err c.undo_at-done.ensures.unchanged c.counts_after.ensures.ok c.counts_after.ensures.err

@@ -1,0 +1,12 @@
+use Rattle.std.proofs.Common.{◌≡◌, take, length, vec_len, vec_capacity}
+use Rattle.rd_marks.specs.BookViews.{book_state}
+use Rattle.rd_marks.specs.Commands.{AreObeyed}
+use Rattle.rd_marks.proofs.books.Book.apply_all.Given as goal
+
+abbrev pub invariant-loop-i : goal.invariant-loop-i
+invariant-loop-i g l = record {
+  obeyed : AreObeyed g.row.R (book_state l.fn.self) (take l.i l.commands) l.answers.items (book_state l.self);
+  start : (book_state l.self).session.start ≡ (book_state l.fn.self).session.start;
+  len : vec_len l.answers ≡ l.i;
+  capacity : vec_capacity l.answers ≡ length l.commands;
+}

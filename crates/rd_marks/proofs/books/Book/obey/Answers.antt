@@ -1,0 +1,20 @@
+use Rattle.std.proofs.Common.{sym, ◌∙◌}
+use Rattle.rd_marks.specs.BookViews.{book_state}
+use Rattle.rd_marks.proofs.ObeyLemmas.{happened_leaves, obeyed_leaves, event_obeyed}
+use Rattle.rd_marks.proofs.books.Book.obey.Goals as goal
+
+pub returns-in-Some-clause-answer : goal.returns-in-Some-clause-answer
+returns-in-Some-clause-answer g c =
+    event_obeyed g.row.R (book_state c.args.self.now) c.args.command c.in-Some.event _ (sym c.event.ensures ∙ c.in-Some.is) c.answer_event.ensures
+
+pub returns-in-Some-clause-start : goal.returns-in-Some-clause-start
+returns-in-Some-clause-start g c = (happened_leaves g.row.R (book_state c.args.self.now) c.in-Some.event _ c.answer_event.ensures).start
+
+pub returns-in-Some-clause-unchanged : goal.returns-in-Some-clause-unchanged
+returns-in-Some-clause-unchanged g c = (happened_leaves g.row.R (book_state c.args.self.now) c.in-Some.event _ c.answer_event.ensures).unchanged
+
+pub returns-in-None-clause-start : goal.returns-in-None-clause-start
+returns-in-None-clause-start g c = (obeyed_leaves g.row.R (book_state c.args.self.now) c.args.command _ c.answer_to.ensures).start
+
+pub returns-in-None-clause-unchanged : goal.returns-in-None-clause-unchanged
+returns-in-None-clause-unchanged g c = (obeyed_leaves g.row.R (book_state c.args.self.now) c.args.command _ c.answer_to.ensures).unchanged

@@ -1,0 +1,25 @@
+-- How many different lists begin the events of some mark.
+use Rattle.std.specs.Prelude.{◌≡◌, ◌↔◌, ℕ, ◌<◌, List, [], ◌∷◌, length}
+use Rattle.std.specs.List.{Contains}
+use Rattle.rd_step.specs.declared.entries.Event.{Event}
+use Rattle.rd_depend.specs.Beginnings.{Begins}
+use Rattle.rd_marks.specs.Books.{Mark}
+
+-- the list is not empty and begins the events of some mark
+pub record IsBeginning (marks : List Mark) (es : List Event) : Type 0 where
+  pub some : 0 < length es
+  pub mark : Mark
+  pub kept : Contains marks mark
+  pub begins : Begins es mark.events
+
+-- no element comes twice
+abbrev pub AreDistinct : {X : Type 0} → List X → Type 0
+AreDistinct [] = Unit {0}
+AreDistinct (x ∷ xs) = (Contains xs x → ⊥) × AreDistinct xs
+
+-- there are just so many different lists that begin the events of some mark, the empty one apart
+pub record CountsBeginnings (marks : List Mark) (count : ℕ) : Type 0 where
+  pub lists : List (List Event)
+  pub distinct : AreDistinct lists
+  pub all : (es : List Event) → Contains lists es ↔ IsBeginning marks es
+  pub counted : count ≡ length lists

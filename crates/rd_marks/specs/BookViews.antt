@@ -1,0 +1,11 @@
+-- The code's book as its state: what public clauses cite.
+use Rattle.std.specs.Prelude.{ℕ}
+use Rattle.rd_journal.specs.Sessions.{state}
+use Rattle.rd_marks.specs.declared.books.Book.{Book}
+use Rattle.rd_marks.specs.Books.{BookState}
+use Rattle.rd_marks.specs.Marks.{marks_of}
+use Rattle.rd_marks.specs.TreeViews.{mark_tree}
+
+-- the session's state and the marks' events
+abbrev pub book_state : {R : ℕ} → Book R → BookState
+book_state b = record { session = state b.session; marks = marks_of (mark_tree b.tree) b.marks.entries }

@@ -1,0 +1,81 @@
+-- What a book is to its callers: its session's state, and a list of marks.
+use Rattle.std.specs.Prelude.{◌≡◌, ◌↔◌, IsTrue, Bool, ℕ, zero, suc, ◌==◌, if◌then◌else◌, is_some, List, [], ◌∷◌, ◌++◌, length, slice_get, Option, Some, None, Result, Ok, Err}
+use Rattle.rd_step.specs.Prelude.{World, Refusal, NoMark, MarkTaken, TooManyMarks, NoMemory}
+use Rattle.rd_step.specs.Equivalence.{IsEquivalent}
+use Rattle.rd_step.specs.declared.entries.Event.{Event}
+use Rattle.rd_depend.specs.Beginnings.{Begins, IsBegunByNeither}
+use Rattle.rd_journal.specs.State.{State}
+use Rattle.rd_marks.specs.declared.names.MarkName.{MarkName}
+use Rattle.rd_marks.specs.NameBytes.{MOST_MARKS}
+use Rattle.rd_marks.specs.Names.{same_name}
+
+-- a bookmark: its name, and the events that were live when it was set
+pub record Mark : Type 0 where
+  pub name : MarkName
+  pub events : List Event
+
+-- the session's start, live and undone events, and the marks in the order in which they were set
+pub record BookState : Type 0 where
+  pub session : State
+  pub marks : List Mark
+
+-- the book with this session, and its marks as they are
+abbrev pub with_session : BookState → State → BookState
+with_session b s = record { session = s; marks = b.marks }
+
+-- the book with these marks, and its session as it is
+abbrev pub with_marks : BookState → List Mark → BookState
+with_marks b ms = record { session = b.session; marks = ms }
+
+-- the events of the mark of this name, if there is one
+abbrev pub marked_events : List Mark → MarkName → Option (List Event)
+marked_events [] name = None
+marked_events (m ∷ ms) name = if same_name name m.name then Some m.events else marked_events ms name
+
+-- the marks without that of this name; the others stay in their order
+abbrev pub without_mark : List Mark → MarkName → List Mark
+without_mark [] name = []
+without_mark (m ∷ ms) name = if same_name name m.name then ms else m ∷ without_mark ms name
+
+-- setting a mark: it has the live events and is the last one; refused if there is one of its name, and else if there are as
+-- many as there may be
+abbrev pub mark : BookState → MarkName → Result BookState Refusal
+mark b name =
+    if is_some (marked_events b.marks name) then Err MarkTaken
+    else if length b.marks == MOST_MARKS then Err TooManyMarks
+    else Ok (with_marks b (b.marks ++ record { name = name; events = b.session.live } ∷ []))
+
+-- dropping a mark, if there is one of its name
+abbrev pub drop_mark : BookState → MarkName → Result BookState Refusal
+drop_mark b name = if is_some (marked_events b.marks name) then Ok (with_marks b (without_mark b.marks name)) else Err NoMark
+
+-- the events of a mark are live and nothing is undone, if there is such a mark
+abbrev pub at_events : BookState → Option (List Event) → Result BookState Refusal
+at_events b None = Err NoMark
+at_events b (Some es) = Ok (with_session b (record { start = b.session.start; live = es; undone = [] }))
+
+-- going to the mark of this name, if there is one
+abbrev pub goto_mark : BookState → MarkName → Result BookState Refusal
+goto_mark b name = at_events b (marked_events b.marks name)
+
+-- going to the mark of this name makes steps: its events do not begin the live ones
+abbrev pub MakesSteps : BookState → MarkName → Type 0
+MakesSteps b name = (es : List Event) × (marked_events b.marks name ≡ Some es) × (Begins es b.session.live → ⊥)
+
+-- what may be answered of the events of two marks: whether they are causally equivalent from the start; that a mark is missing; or,
+-- if neither list begins the other, that memory was refused
+abbrev pub AnswersSame : ℕ → World → Option (List Event) → Option (List Event) → Result Bool Refusal → Type 0
+AnswersSame R start (Some es) (Some fs) (Ok same) = IsTrue same ↔ IsEquivalent R start es fs
+AnswersSame R start (Some es) (Some fs) (Err refusal) = (refusal ≡ NoMemory) × IsBegunByNeither es fs
+AnswersSame R start (Some es) None said = said ≡ Err NoMark
+AnswersSame R start None fs said = said ≡ Err NoMark
+
+-- the name of a mark and the number of its events
+abbrev pub name_and_length : Option Mark → Result (MarkName × ℕ) Refusal
+name_and_length None = Err NoMark
+name_and_length (Some m) = Ok (m.name, length m.events)
+
+-- the mark of this number, from 1
+abbrev pub mark_at : BookState → ℕ → Result (MarkName × ℕ) Refusal
+mark_at b zero = Err NoMark
+mark_at b (suc i) = name_and_length (slice_get b.marks i)

@@ -1,0 +1,131 @@
+-- What each command answers and leaves, by the state of the book alone. The queries look at the run of the live events; there
+-- is no inverse and no old content here.
+use Rattle.std.specs.Prelude.{◌≡◌, ℕ, zero, suc, ◌⊎◌, Bool, List, [], ◌∷◌, length, slice_get, ok_or, Option, Result, Ok, Err, IsOk}
+use Rattle.rd_step.specs.Prelude.{Refusal, NoActor, NoSuchPlace, NoSuchStep, NoMemory, Place, Content, content_at, Actor as Words, OpReply, Act, Ran}
+use Rattle.rd_actor.specs.declared.actors.Act.TheVariants.{Enq as CallsEnq, Deq as CallsDeq, AEnq as CallsArrayEnq, ADeq as CallsArrayDeq, Go as GoesOn, Starve as Starves}
+use Rattle.rd_step.specs.declared.entries.Event.{Event}
+use Rattle.rd_step.specs.declared.entries.Entry.{Entry}
+use Rattle.rd_journal.specs.Room.{MayBeOutOfMemory}
+use Rattle.rd_journal.specs.State.{State, run_of, apply, reply_to, undo, undo_at, roll, back, redo, forward}
+use Rattle.rd_origin.specs.Origins.{origin_in}
+use Rattle.rd_origin.specs.Writers.{last_writer_in}
+use Rattle.rd_marks.specs.declared.names.MarkName.{MarkName}
+use Rattle.rd_marks.specs.declared.commands.Command.{Command}
+use Rattle.rd_marks.specs.declared.commands.Command.TheVariants.{Enq, Deq, ArrayEnq, ArrayDeq, Go, Starve, Undo, UndoAt, Roll, Back, Redo, Forward, Mark, DropMark, GotoMark, Marks, MarkAt, Same, Origin, Writer, Show, Actor, Step, Len}
+use Rattle.rd_marks.specs.declared.replies.Reply.{Reply}
+use Rattle.rd_marks.specs.declared.replies.Reply.TheVariants.{Applied, At, Marked, Dropped, Marks as MarksAre, Mark as MarkIs, Same as SameIs, Origin as OriginIs, Writer as WriterIs, Content as ContentIs, Actor as ActorIs, Step as StepIs}
+use Rattle.rd_marks.specs.Books.{BookState, with_session, marked_events, mark, drop_mark, goto_mark, mark_at, MakesSteps, AnswersSame}
+
+-- what a command answers, and the state after it
+pub record Answered : Type 0 where
+  pub answer : Result Reply Refusal
+  pub state : BookState
+
+-- a query leaves the state as it is
+abbrev pub query_answer : BookState → Result Reply Refusal → Answered
+query_answer b answer = record { answer = answer; state = b }
+
+-- a refused command changes nothing
+abbrev pub refused : BookState → Refusal → Answered
+refused b refusal = query_answer b (Err refusal)
+
+-- this event of this actor
+abbrev pub event : ℕ → Act → Event
+event actor act = record { actor = actor; act = act }
+
+-- how many steps are live and how many are undone
+abbrev pub step_counts : State → Reply
+step_counts s = At (length s.live) (length s.undone)
+
+-- an event is answered by the number of its step, the last live one, and by the reply of the call that it ends, if it ends one
+abbrev pub event_answer : BookState → Option OpReply → Result State Refusal → Answered
+event_answer b reply (Err refusal) = refused b refusal
+event_answer b reply (Ok s) = record { answer = Ok (Applied (length s.live) reply); state = with_session b s }
+
+-- a move through the run is answered by the numbers of steps after it
+abbrev pub move_answer : BookState → Result State Refusal → Answered
+move_answer b (Err refusal) = refused b refusal
+move_answer b (Ok s) = record { answer = Ok (step_counts s); state = with_session b s }
+
+-- setting, dropping or going to a mark is answered by what the state after it says
+abbrev pub mark_answer : BookState → (BookState → Reply) → Result BookState Refusal → Answered
+mark_answer b reply (Err refusal) = refused b refusal
+mark_answer b reply (Ok c) = record { answer = Ok (reply c); state = c }
+
+-- the reply that is made of what was found, or the refusal
+abbrev pub reply_with : {X : Type 0} → (X → Reply) → Result X Refusal → Result Reply Refusal
+reply_with f (Err refusal) = Err refusal
+reply_with f (Ok x) = Ok (f x)
+
+-- what is at the place in the last world of a run
+abbrev pub content_in : Place → Result Ran Refusal → Result Content Refusal
+content_in p (Err refusal) = Err refusal
+content_in p (Ok ran) = ok_or (content_at ran.world.at p) NoSuchPlace
+
+-- an actor's words in the last world of a run
+abbrev pub words_in : ℕ → Result Ran Refusal → Result Words Refusal
+words_in n (Err refusal) = Err refusal
+words_in n (Ok ran) = ok_or (ran.world.actor n) NoActor
+
+-- the record of this number, from 1
+abbrev pub record_at : List Entry → ℕ → Result Entry Refusal
+record_at entries zero = Err (NoSuchStep (length entries))
+record_at entries (suc k) = ok_or (slice_get entries k) (NoSuchStep (length entries))
+
+-- the record of this number in a run
+abbrev pub record_in : ℕ → Result Ran Refusal → Result Entry Refusal
+record_in k (Err refusal) = Err refusal
+record_in k (Ok ran) = record_at ran.entries k
+
+-- an event happens in the last world of the live events
+abbrev pub happens : ℕ → BookState → Event → Answered
+happens R b e = event_answer b (reply_to R b.session e) (apply R b.session e)
+
+-- what an event may be answered, and what it may leave: what happens, or NoMemory with nothing changed, as the journal says
+abbrev pub Happened : ℕ → BookState → Event → Answered → Type 0
+Happened R b e answered = (answered ≡ happens R b e) ⊎ (MayBeOutOfMemory R b.session e × (answered ≡ refused b NoMemory))
+
+-- what setting or going to a mark may be answered, and what it may leave: what it makes, or, only if it asks for room, NoMemory with
+-- nothing changed
+abbrev pub IsMade : BookState → (BookState → Reply) → Result BookState Refusal → Type 0 → Answered → Type 0
+IsMade b reply made AsksForRoom answered = (answered ≡ mark_answer b reply made) ⊎ (AsksForRoom × (answered ≡ refused b NoMemory))
+
+-- what the comparison of two marks may be answered
+pub record IsCompared (R : ℕ) (b : BookState) (one other : MarkName) (answered : Answered) : Type 0 where
+  pub said : Result Bool Refusal
+  pub compared : AnswersSame R b.session.start (marked_events b.marks one) (marked_events b.marks other) said
+  pub answers : answered ≡ query_answer b (reply_with (λ same. SameIs same) said)
+
+-- what a command is answered, and what it leaves
+abbrev pub IsObeyed : ℕ → BookState → Command → Answered → Type 0
+IsObeyed R b (Enq actor value) answered = Happened R b (event actor (CallsEnq value)) answered
+IsObeyed R b (Deq actor) answered = Happened R b (event actor CallsDeq) answered
+IsObeyed R b (ArrayEnq actor value) answered = Happened R b (event actor (CallsArrayEnq value)) answered
+IsObeyed R b (ArrayDeq actor) answered = Happened R b (event actor CallsArrayDeq) answered
+IsObeyed R b (Go actor) answered = Happened R b (event actor GoesOn) answered
+IsObeyed R b (Starve actor choice) answered = Happened R b (event actor (Starves choice)) answered
+IsObeyed R b Undo answered = answered ≡ move_answer b (undo b.session)
+IsObeyed R b (UndoAt k) answered = answered ≡ move_answer b (undo_at R b.session k)
+IsObeyed R b (Roll k) answered = answered ≡ move_answer b (roll R b.session k)
+IsObeyed R b (Back n) answered = answered ≡ move_answer b (back b.session n)
+IsObeyed R b Redo answered = answered ≡ move_answer b (redo b.session)
+IsObeyed R b (Forward n) answered = answered ≡ move_answer b (forward b.session n)
+IsObeyed R b (Mark name) answered = IsMade b (λ c. Marked (length c.session.live)) (mark b name) (IsOk (mark b name)) answered
+IsObeyed R b (DropMark name) answered = answered ≡ mark_answer b (λ c. Dropped) (drop_mark b name)
+IsObeyed R b (GotoMark name) answered = IsMade b (λ c. step_counts c.session) (goto_mark b name) (MakesSteps b name) answered
+IsObeyed R b Marks answered = answered ≡ query_answer b (Ok (MarksAre (length b.marks)))
+IsObeyed R b (MarkAt i) answered = answered ≡ query_answer b (reply_with (λ m. MarkIs m.0 m.1) (mark_at b i))
+IsObeyed R b (Same one other) answered = IsCompared R b one other answered
+IsObeyed R b (Origin k) answered = answered ≡ query_answer b (reply_with (λ found. OriginIs found) (origin_in k (run_of R b.session)))
+IsObeyed R b (Writer place) answered = answered ≡ query_answer b (reply_with (λ writer. WriterIs writer) (last_writer_in place (run_of R b.session)))
+IsObeyed R b (Show place) answered = answered ≡ query_answer b (reply_with (λ content. ContentIs content) (content_in place (run_of R b.session)))
+IsObeyed R b (Actor n) answered = answered ≡ query_answer b (reply_with (λ words. ActorIs words) (words_in n (run_of R b.session)))
+IsObeyed R b (Step k) answered = answered ≡ query_answer b (reply_with (λ entry. StepIs k entry) (record_in k (run_of R b.session)))
+IsObeyed R b Len answered = answered ≡ query_answer b (Ok (step_counts b.session))
+
+-- what commands one after another are answered, and what they leave
+abbrev pub AreObeyed : ℕ → BookState → List Command → List (Result Reply Refusal) → BookState → Type 0
+AreObeyed R b [] [] last = last ≡ b
+AreObeyed R b [] (answer ∷ answers) last = ⊥
+AreObeyed R b (c ∷ cs) [] last = ⊥
+AreObeyed R b (c ∷ cs) (answer ∷ answers) last = (next : BookState) × IsObeyed R b c (record { answer = answer; state = next }) × AreObeyed R next cs answers last

@@ -1,0 +1,17 @@
+-- Which commands are events. No public clause cites it: what a command that is an event is answered stands in `Commands.antt`.
+use Rattle.std.specs.Prelude.{Option, Some, None}
+use Rattle.rd_actor.specs.declared.actors.Act.TheVariants.{Enq as CallsEnq, Deq as CallsDeq, AEnq as CallsArrayEnq, ADeq as CallsArrayDeq, Go as GoesOn, Starve as Starves}
+use Rattle.rd_step.specs.declared.entries.Event.{Event}
+use Rattle.rd_marks.specs.declared.commands.Command.{Command}
+use Rattle.rd_marks.specs.declared.commands.Command.TheVariants.{Enq, Deq, ArrayEnq, ArrayDeq, Go, Starve}
+use Rattle.rd_marks.specs.Commands.{event}
+
+-- the event that a command is, if it is one
+abbrev pub event_of : Command → Option Event
+event_of (Enq actor value) = Some (event actor (CallsEnq value))
+event_of (Deq actor) = Some (event actor CallsDeq)
+event_of (ArrayEnq actor value) = Some (event actor (CallsArrayEnq value))
+event_of (ArrayDeq actor) = Some (event actor CallsArrayDeq)
+event_of (Go actor) = Some (event actor GoesOn)
+event_of (Starve actor choice) = Some (event actor (Starves choice))
+event_of _ = None

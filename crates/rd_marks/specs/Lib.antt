@@ -1,0 +1,13 @@
+pub mod NameBytes
+pub mod Names
+pub mod Books
+pub mod Beginnings
+pub mod Tree
+pub mod TreeLayout
+pub mod TreeViews
+pub mod Marks
+pub mod Layout
+pub mod Uses
+pub mod BookViews
+pub mod Commands
+pub mod Events

@@ -1,0 +1,12 @@
+-- Names of bookmarks: their bytes, and when two are equal.
+use Rattle.std.specs.Prelude.{ℕ, Bool, nat_eq, List}
+use Rattle.std.specs.Cmp.Lexicographic.{pointwise}
+use Rattle.rd_marks.specs.declared.names.MarkName.{MarkName}
+
+-- the bytes of a name
+abbrev pub bytes_of : MarkName → List ℕ
+bytes_of name = name.text.bytes
+
+-- whether two names are equal: byte by byte
+abbrev pub same_name : MarkName → MarkName → Bool
+same_name a b = pointwise nat_eq (bytes_of a) (bytes_of b)

@@ -1,0 +1,56 @@
+//! The commands on bookmarks: the call of the book, and its answer.
+
+ghost use Rattle.std.specs.Prelude.{◌≡◌, length, IsOk};
+
+use super::super::names::MarkName;
+use super::super::replies::Reply;
+use super::Book;
+use rd_cell::Refusal;
+
+impl<const R: usize> Book<R> {
+    ghost use Rattle.rd_marks.specs.BookViews.{book_state};
+    ghost use Rattle.rd_marks.specs.Books.{mark, drop_mark, goto_mark, mark_at, MakesSteps};
+    ghost use Rattle.rd_marks.specs.Commands.{IsMade, IsCompared, step_counts, mark_answer, reply_with};
+    ghost use Rattle.rd_marks.specs.declared.replies.Reply.TheVariants.{Marked, Dropped, Mark as MarkIs};
+
+    /// Sets a bookmark, and answers how many steps are live.
+    pub(super) fn answer_mark(&mut self, name: MarkName) -> Result<Reply, Refusal>
+        ensures { IsMade (book_state self.old) (λ c. Marked (length c.session.live)) (mark (book_state self.old) name)
+            (IsOk (mark (book_state self.old) name)) (record { answer = result; state = book_state self.new }) }
+    {
+        self.mark(name)?;
+        Ok(Reply::Marked(self.session.len()))
+    }
+
+    /// Drops a bookmark, and answers that it is gone.
+    pub(super) fn answer_drop_mark(&mut self, name: MarkName) -> Result<Reply, Refusal>
+        ensures { record { answer = result; state = book_state self.new } ≡ mark_answer (book_state self.old) (λ c. Dropped) (drop_mark (book_state self.old) name) }
+    {
+        self.drop_mark(name)?;
+        Ok(Reply::Dropped)
+    }
+
+    /// Goes to a bookmark, and answers how many steps are live and undone then.
+    pub(super) fn answer_goto_mark(&mut self, name: MarkName) -> Result<Reply, Refusal>
+        ensures { IsMade (book_state self.old) (λ c. step_counts c.session) (goto_mark (book_state self.old) name)
+            (MakesSteps (book_state self.old) name) (record { answer = result; state = book_state self.new }) }
+    {
+        self.goto_mark(name)?;
+        Ok(self.step_counts())
+    }
+
+    /// The name and the length of the bookmark of this number.
+    pub(super) fn answer_mark_at(&self, i: u64) -> Result<Reply, Refusal>
+        ensures { result ≡ reply_with (λ m. MarkIs m.0 m.1) (mark_at (book_state self.now) i) }
+    {
+        let (name, len) = self.mark_at(i)?;
+        Ok(Reply::Mark { name, len })
+    }
+
+    /// Whether two bookmarks have equivalent steps.
+    pub(super) fn answer_same(&self, one: MarkName, other: MarkName) -> Result<Reply, Refusal>
+        ensures { IsCompared R (book_state self.now) one other (record { answer = result; state = book_state self.now }) }
+    {
+        Ok(Reply::Same(self.same(one, other)?))
+    }
+}

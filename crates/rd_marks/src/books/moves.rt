@@ -1,0 +1,88 @@
+//! Events, undos and redos as commands: the call of the session, and its answer.
+
+ghost use Rattle.std.specs.Prelude.{◌≡◌, Ok, Err, OnOk, IfErr};
+
+use super::super::marks::cut_back;
+use super::super::replies::Reply;
+use super::Book;
+use rd_cell::Refusal;
+use rd_step::Event;
+
+impl<const R: usize> Book<R> {
+    ghost use Rattle.rd_journal.specs.State.{undo, undo_at, roll, back, redo, forward};
+    ghost use Rattle.rd_marks.specs.BookViews.{book_state};
+    ghost use Rattle.rd_marks.specs.Commands.{Happened, move_answer, step_counts};
+
+    /// Makes an event happen, and answers the number of its step and the reply of the call that it ends.
+    pub(super) fn answer_event(&mut self, event: Event) -> Result<Reply, Refusal>
+        ensures { Happened R (book_state self.old) event (record { answer = result; state = book_state self.new }) }
+    {
+        let (step, entry) = self.session.apply(event)?;
+        Ok(Reply::Applied {
+            step,
+            reply: entry.reply,
+        })
+    }
+
+    /// Undoes the last live step. Answers how many steps are live and undone then.
+    pub(super) fn answer_undo(&mut self) -> Result<Reply, Refusal>
+        ensures { record { answer = result; state = book_state self.new } ≡ move_answer (book_state self.old) (undo (book_state self.old).session) }
+    {
+        let done = self.session.undo();
+        self.here = cut_back(&self.tree, self.here, &done, self.session.len());
+        self.counts_after(done)
+    }
+
+    /// Undoes the live step of this number alone. Answers how many steps are live and undone then.
+    pub(super) fn answer_undo_at(&mut self, k: u64) -> Result<Reply, Refusal>
+        ensures { record { answer = result; state = book_state self.new } ≡ move_answer (book_state self.old) (undo_at R (book_state self.old).session k) }
+    {
+        let done = self.session.undo_at(k);
+        self.here = cut_back(&self.tree, self.here, &done, k.saturating_sub(1));
+        self.counts_after(done)
+    }
+
+    /// Undoes the live step of this number and just the later ones that depend on it. Answers how many steps are live and
+    /// undone then.
+    pub(super) fn answer_roll(&mut self, k: u64) -> Result<Reply, Refusal>
+        ensures { record { answer = result; state = book_state self.new } ≡ move_answer (book_state self.old) (roll R (book_state self.old).session k) }
+    {
+        let done = self.session.roll(k);
+        self.here = cut_back(&self.tree, self.here, &done, k.saturating_sub(1));
+        self.counts_after(done)
+    }
+
+    /// Undoes the last `n` live steps, all or none. Answers how many steps are live and undone then.
+    pub(super) fn answer_back(&mut self, n: u64) -> Result<Reply, Refusal>
+        ensures { record { answer = result; state = book_state self.new } ≡ move_answer (book_state self.old) (back (book_state self.old).session n) }
+    {
+        let done = self.session.back(n);
+        self.here = cut_back(&self.tree, self.here, &done, self.session.len());
+        self.counts_after(done)
+    }
+
+    /// Makes the step again that was undone last. Answers how many steps are live and undone then.
+    pub(super) fn answer_redo(&mut self) -> Result<Reply, Refusal>
+        ensures { record { answer = result; state = book_state self.new } ≡ move_answer (book_state self.old) (redo (book_state self.old).session) }
+    {
+        let done = self.session.redo();
+        self.counts_after(done)
+    }
+
+    /// Makes the `n` steps again that were undone last, all or none. Answers how many steps are live and undone then.
+    pub(super) fn answer_forward(&mut self, n: u64) -> Result<Reply, Refusal>
+        ensures { record { answer = result; state = book_state self.new } ≡ move_answer (book_state self.old) (forward (book_state self.old).session n) }
+    {
+        let done = self.session.forward(n);
+        self.counts_after(done)
+    }
+
+    /// The answer to a move through the run, which is over.
+    fn counts_after(&self, done: Result<(), Refusal>) -> Result<Reply, Refusal>
+        ensures ok { OnOk done (result ≡ Ok (step_counts (book_state self.now).session)) }
+        ensures err { IfErr done (λ refusal. result ≡ Err refusal) }
+    {
+        done?;
+        Ok(self.step_counts())
+    }
+}

@@ -1,0 +1,85 @@
+//! A book obeys commands: each call of a book and of its session as one value, and lists of them.
+
+ghost use Rattle.std.specs.Prelude.{◌≡◌, [], None, IsOk, OnErr, IfOk, IfErr};
+
+use super::super::commands::Command;
+use super::super::replies::Reply;
+use super::Book;
+use rd_cell::Refusal;
+use std::alloc::Global;
+
+impl<const R: usize> Book<R> {
+    ghost use Rattle.rd_marks.specs.BookViews.{book_state};
+    ghost use Rattle.rd_marks.specs.Commands.{IsObeyed, AreObeyed};
+    ghost use Rattle.rd_marks.specs.Events.{event_of};
+
+    /// Does what a command says, and answers it.
+    ///
+    /// # Errors
+    ///
+    /// As the call says that the command is. Nothing has changed then.
+    pub fn obey(&mut self, command: Command) -> Result<Reply, Refusal>
+        ensures answer { IsObeyed R (book_state self.old) command (record { answer = result; state = book_state self.new }) }
+        ensures start { (book_state self.new).session.start ≡ (book_state self.old).session.start }
+        ensures unchanged { OnErr result (book_state self.new ≡ book_state self.old) }
+    {
+        match command.event() {
+            Some(event) => self.answer_event(event),
+            None => self.answer_to(command),
+        }
+    }
+
+    /// Obeys commands one after another, and answers each. A refused command changes nothing, and the next one is obeyed.
+    ///
+    /// # Errors
+    ///
+    /// `NoMemory` if the room for the answers was refused, so not if there is no command. No command was obeyed then.
+    pub fn apply_all(
+        &mut self,
+        alloc: Global,
+        commands: &[Command],
+    ) -> Result<Vec<Result<Reply, Refusal>>, Refusal>
+        ensures ok { IfOk result (λ answers. AreObeyed R (book_state self.old) commands.now answers.items (book_state self.new)) }
+        ensures err { IfErr result (λ refusal. refusal ≡ Refusal.NoMemory) }
+        ensures succeeds { commands.now ≡ [] → IsOk result }
+        ensures start { (book_state self.new).session.start ≡ (book_state self.old).session.start }
+        ensures unchanged { OnErr result (book_state self.new ≡ book_state self.old) }
+    {
+        let Ok(mut answers) = Vec::with_capacity(alloc, commands.len()) else {
+            return Err(Refusal::NoMemory);
+        };
+        for i in 0..commands.len() {
+            let answer = self.obey(commands[i]);
+            answers.push_reserved(answer);
+        }
+        Ok(answers)
+    }
+
+    /// Does what a command says that is no event, and answers it.
+    fn answer_to(&mut self, command: Command) -> Result<Reply, Refusal>
+        requires no_event { event_of command ≡ None }
+        ensures { IsObeyed R (book_state self.old) command (record { answer = result; state = book_state self.new }) }
+    {
+        match command {
+            Command::Undo => self.answer_undo(),
+            Command::UndoAt(k) => self.answer_undo_at(k),
+            Command::Roll(k) => self.answer_roll(k),
+            Command::Back(n) => self.answer_back(n),
+            Command::Redo => self.answer_redo(),
+            Command::Forward(n) => self.answer_forward(n),
+            Command::Mark(name) => self.answer_mark(name),
+            Command::DropMark(name) => self.answer_drop_mark(name),
+            Command::GotoMark(name) => self.answer_goto_mark(name),
+            Command::Marks => Ok(Reply::Marks(self.marks())),
+            Command::MarkAt(i) => self.answer_mark_at(i),
+            Command::Same(one, other) => self.answer_same(one, other),
+            Command::Origin(k) => self.answer_origin(k),
+            Command::Writer(place) => self.answer_writer(place),
+            Command::Show(place) => self.answer_show(place),
+            Command::Actor(actor) => self.answer_actor(actor),
+            Command::Step(number) => self.answer_step(number),
+            Command::Len => Ok(self.step_counts()),
+            _ => unreachable!(),
+        }
+    }
+}

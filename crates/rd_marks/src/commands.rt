@@ -1,0 +1,80 @@
+//! The commands of a book, as values.
+
+ghost use Rattle.std.specs.Prelude.{◌≡◌};
+ghost use Rattle.rd_marks.specs.Events.{event_of};
+
+use super::names::MarkName;
+use rd_actor::Act;
+use rd_cell::Place;
+use rd_step::Event;
+
+/// One command. It is plain data: copying it takes no memory.
+#[derive(Clone, Copy, Debug, PartialEq, Eq)]
+pub enum Command {
+    /// `enq A X`: the actor calls an enqueue of the value.
+    Enq(u8, u64),
+    /// `deq A`: the actor calls a dequeue.
+    Deq(u8),
+    /// `aenq A X`: the actor calls an enqueue of the value on the array.
+    ArrayEnq(u8, u64),
+    /// `adeq A`: the actor calls a dequeue on the array.
+    ArrayDeq(u8),
+    /// `go A`: the actor makes the step of the row at which it stands.
+    Go(u8),
+    /// `starve A yes`, `starve A no`: the actor chooses whether it starves.
+    Starve(u8, bool),
+    /// `undo`: the last live step is undone.
+    Undo,
+    /// `undo K`: the live step of this number is undone alone, if no later one depends on it.
+    UndoAt(u64),
+    /// `roll K`: the live step of this number is undone, and just the later ones that depend on it, directly or through others.
+    Roll(u64),
+    /// `back N`: the last N live steps are undone, all or none.
+    Back(u64),
+    /// `redo`: the step that was undone last is made again.
+    Redo,
+    /// `forward N`: the N steps that were undone last are made again, all or none.
+    Forward(u64),
+    /// `mark NAME`: the live steps get a bookmark of this name.
+    Mark(MarkName),
+    /// `drop NAME`: the bookmark of this name goes.
+    DropMark(MarkName),
+    /// `goto NAME`: the live steps are those of the bookmark of this name, and none is undone.
+    GotoMark(MarkName),
+    /// `marks`: how many bookmarks there are.
+    Marks,
+    /// `markat I`: the name and the length of the I-th bookmark.
+    MarkAt(u64),
+    /// `same NAME NAME`: whether the steps of two bookmarks are causally equivalent.
+    Same(MarkName, MarkName),
+    /// `origin K`: where the value came from that the live step of this number took.
+    Origin(u64),
+    /// `writer PLACE`: the live step that last wrote the place, or one that overlaps it.
+    Writer(Place),
+    /// `show PLACE`: what is at the place.
+    Show(Place),
+    /// `actor A`: the words of the actor.
+    Actor(u8),
+    /// `step K`: the record of the live step of this number.
+    Step(u64),
+    /// `len`: how many steps are live and how many are undone.
+    Len,
+}
+
+impl Command {
+    /// The event that it is, if it is one.
+    pub(crate) fn event(&self) -> Option<Event>
+        ensures { result ≡ event_of self.now }
+    {
+        let (actor, act) = match *self {
+            Command::Enq(actor, value) => (actor, Act::Enq(value)),
+            Command::Deq(actor) => (actor, Act::Deq),
+            Command::ArrayEnq(actor, value) => (actor, Act::AEnq(value)),
+            Command::ArrayDeq(actor) => (actor, Act::ADeq),
+            Command::Go(actor) => (actor, Act::Go),
+            Command::Starve(actor, choice) => (actor, Act::Starve(choice)),
+            _ => return None,
+        };
+        Some(Event { actor, act })
+    }
+}

@@ -1,0 +1,20 @@
+//! One user's debugger: a session with bookmarks, and each of its commands as a value.
+//!
+//! A book is seen as its session's state and a list of marks, each a name and the events that were live when it was set.
+//! How a mark is kept is known here alone.
+#![tactic(auto)]
+
+pub mod books;
+pub mod commands;
+mod marks;
+pub mod names;
+pub mod replies;
+mod tree;
+
+pub use books::Book;
+pub use commands::Command;
+pub use names::MarkName;
+pub use replies::Reply;
+
+#[cfg(test)]
+mod tests;

@@ -1,0 +1,200 @@
+//! The bookmarks by name, each with its node, which nodes they use, and where the live steps stand.
+
+ghost use Rattle.std.specs.Prelude.{◌≡◌, ◌<◌, ◌↔◌, ◌++◌, [], ◌∷◌, ℕ, None, Some, false, min, length, is_some, IsTrue, IsOk, IfOk, OnOk, IfErr, OnErr};
+ghost use Rattle.std.specs.List.{All};
+ghost use Rattle.rd_depend.specs.Beginnings.{Begins, IsBegunByNeither};
+ghost use Rattle.rd_depend.specs.Equivalence.{DecidesEquivalence};
+ghost use Rattle.rd_journal.specs.Journal.{events};
+ghost use Rattle.rd_journal.specs.Sessions.{state, journal};
+ghost use Rattle.rd_marks.specs.Books.{Mark, marked_events};
+ghost use Rattle.rd_marks.specs.Layout.{IsRecordOfRun, KeepsMarks, IsHere, has_mark};
+ghost use Rattle.rd_marks.specs.Marks.{marks_of};
+ghost use Rattle.rd_marks.specs.Tree.{MarkTree, IsIn, IsPartOf, depth_in, path_in};
+ghost use Rattle.rd_marks.specs.TreeViews.{mark_tree};
+ghost use Rattle.rd_marks.specs.Uses.{IsUsed, AreUsedExcept};
+
+use super::names::MarkName;
+use super::tree::Tree;
+use indexmap::IndexMap;
+use rd_cell::Refusal;
+use rd_cell::limits::MOST_MARKS;
+use rd_depend::are_equivalent;
+use rd_journal::Session;
+use std::alloc::{AllocError, Global};
+
+/// Whether there is a bookmark of this name.
+pub(crate) fn is_marked(marks: &IndexMap<MarkName, Option<usize>>, name: &MarkName) -> bool
+    ensures { (t : MarkTree) → result ≡ is_some (marked_events (marks_of t marks.now.entries) name.now) }
+{
+    marks.contains_key(name)
+}
+
+/// Sets a bookmark of this name, which none has, at the live steps, which stand there then. It is the last one. Its nodes are those that
+/// are there of its beginning, and new ones for the rest of it; all memory is asked for before the first is put.
+///
+/// # Errors
+///
+/// If the room for its nodes or for itself was refused. The bookmarks stay.
+pub(crate) fn put_mark<const R: usize>(
+    tree: &mut Tree,
+    marks: &mut IndexMap<MarkName, Option<usize>>,
+    here: &mut Option<usize>,
+    session: &Session<R>,
+    name: MarkName,
+) -> Result<(), AllocError>
+    requires new { is_some (marked_events (marks_of (mark_tree tree.old) marks.old.entries) name) ≡ false }
+    requires few { length marks.old.entries < MOST_MARKS }
+    requires kept { KeepsMarks R (state session.now).start tree.old.nodes marks.old.entries }
+    requires here { IsHere (mark_tree tree.old) here.old (state session.now).live }
+    ensures ok { OnOk result (marks_of (mark_tree tree.new) marks.new.entries
+        ≡ marks_of (mark_tree tree.old) marks.old.entries ++ record { name = name; events = (state session.now).live } ∷ []) }
+    ensures kept { KeepsMarks R (state session.now).start tree.new.nodes marks.new.entries }
+    ensures here { IsHere (mark_tree tree.new) here.new (state session.now).live }
+    ensures unchanged { OnErr result (marks_of (mark_tree tree.new) marks.new.entries ≡ marks_of (mark_tree tree.old) marks.old.entries) }
+{
+    let live = session.live();
+    let beginning = tree.follow(*here, &live);
+    let rest = live.behind(tree.depth(beginning));
+    tree.reserve(rest.len())?;
+    marks.reserve(1)?;
+    let node = tree.grow(beginning, &rest);
+    *here = node;
+    match marks.insert(name, node) {
+        Err(_) => unreachable!(),
+        Ok(_) => Ok(()),
+    }
+}
+
+/// Makes the steps of this node's path the live ones, with none undone: what they begin with in common with the live ones stays. What
+/// the live ones have in common with the tree is looked for from where they stand in it.
+///
+/// # Errors
+///
+/// `NoMemory` if room for the others was refused, so not if there are none. Nothing has changed then.
+pub(crate) fn switch_to<const R: usize>(
+    session: &mut Session<R>,
+    tree: &Tree,
+    alloc: Global,
+    here: Option<usize>,
+    node: Option<usize>,
+) -> Result<(), Refusal>
+    requires here { IsHere (mark_tree tree.now) here (state session.old).live }
+    requires present { IsIn (mark_tree tree.now) node }
+    requires run { IsRecordOfRun R (state session.old).start (path_in (mark_tree tree.now) node) }
+    ensures ok { OnOk result (state session.new
+        ≡ record { start = (state session.old).start; live = events (path_in (mark_tree tree.now) node); undone = [] }) }
+    ensures err { IfErr result (λ refusal. refusal ≡ Refusal.NoMemory) }
+    ensures succeeds { Begins (events (path_in (mark_tree tree.now) node)) (state session.old).live → IsOk result }
+    ensures unchanged { OnErr result (journal session.new ≡ journal session.old) }
+{
+    let beginning = tree.follow(here, &session.live());
+    let common = tree.depth(tree.common(beginning, node));
+    match tree.records(alloc, node, common) {
+        Err(_) => Err(Refusal::NoMemory),
+        Ok(records) => session.switch(common as u64, &records),
+    }
+}
+
+/// Where the live steps stand once a call that undoes steps has answered: where they stood if it was refused, and else at the deepest
+/// node on the way there whose path is no longer than the first `n` steps, which stayed.
+pub(crate) fn cut_back(
+    tree: &Tree,
+    here: Option<usize>,
+    done: &Result<(), Refusal>,
+    n: u64,
+) -> Option<usize>
+    requires present { IsIn (mark_tree tree.now) here }
+    ensures present { IsIn (mark_tree tree.now) result }
+    ensures begins { Begins (path_in (mark_tree tree.now) result) (path_in (mark_tree tree.now) here) }
+    ensures ok { OnOk done.now (depth_in (mark_tree tree.now) result ≡ min n (depth_in (mark_tree tree.now) here)) }
+    ensures err { OnErr done.now (result ≡ here) }
+{
+    match done {
+        Err(_) => here,
+        Ok(()) => tree.ancestor(here, n as usize),
+    }
+}
+
+/// Whether the paths of two nodes are of equivalent events. What they have in common is not looked at.
+///
+/// # Errors
+///
+/// If memory was refused for the comparison, so not if one path begins the other.
+pub(crate) fn are_same(
+    tree: &Tree,
+    alloc: Global,
+    one: Option<usize>,
+    other: Option<usize>,
+) -> Result<bool, AllocError>
+    requires one { IsIn (mark_tree tree.now) one }
+    requires other { IsIn (mark_tree tree.now) other }
+    ensures answer { IfOk result (DecidesEquivalence (path_in (mark_tree tree.now) one) (path_in (mark_tree tree.now) other)) }
+    ensures memory { OnErr result (IsBegunByNeither (events (path_in (mark_tree tree.now) one)) (events (path_in (mark_tree tree.now) other))) }
+{
+    let common = tree.common(one, other);
+    if common == one || common == other {
+        return Ok(one == other);
+    }
+    let shared = tree.depth(common);
+    let ones = tree.records(alloc, one, shared)?;
+    let others = tree.records(alloc, other, shared)?;
+    are_equivalent(alloc, &ones, &others)
+}
+
+/// Takes away this node and those above it that no bookmark uses, if this is the only one that may not be used. What stood at one of
+/// them stands at the deepest above it that is left.
+pub(crate) fn prune(
+    tree: &mut Tree,
+    marks: &IndexMap<MarkName, Option<usize>>,
+    here: &mut Option<usize>,
+    from: Option<usize>,
+)
+    requires present { IsIn (mark_tree tree.old) from }
+    requires here { IsIn (mark_tree tree.old) here.old }
+    requires marked { All (λ m. IsIn (mark_tree tree.old) m.1) marks.now.entries }
+    requires used { AreUsedExcept (mark_tree tree.old) marks.now.entries from }
+    ensures part { IsPartOf (mark_tree tree.new) (mark_tree tree.old) }
+    ensures marked { All (λ m. IsIn (mark_tree tree.new) m.1) marks.now.entries }
+    ensures used { AreUsedExcept (mark_tree tree.new) marks.now.entries None }
+    ensures here { IsIn (mark_tree tree.new) here.new }
+    ensures begins { Begins (path_in (mark_tree tree.new) here.new) (path_in (mark_tree tree.old) here.old) }
+{
+    let mut at = from;
+    while let Some(key) = at {
+        if is_used(tree, marks, at) {
+            return;
+        }
+        at = tree.remove(key);
+        *here = moved_up(*here, key, at);
+    }
+}
+
+/// Where something stands that stood here, when the node at this key has gone that was right below the other.
+fn moved_up(here: Option<usize>, key: usize, above: Option<usize>) -> Option<usize>
+    ensures gone { here ≡ Some key → result ≡ above }
+    ensures others { (here ≡ Some key → ⊥) → result ≡ here }
+{
+    if here == Some(key) { above } else { here }
+}
+
+/// Whether a node has a child or a bookmark.
+fn is_used(tree: &Tree, marks: &IndexMap<MarkName, Option<usize>>, at: Option<usize>) -> bool
+    ensures { IsTrue result ↔ IsUsed (mark_tree tree.now) marks.now.entries at }
+{
+    tree.is_parent(at) || has_mark(marks, at)
+}
+
+/// Whether a bookmark is at the node.
+fn has_mark(marks: &IndexMap<MarkName, Option<usize>>, at: Option<usize>) -> bool
+    ensures { result ≡ has_mark marks.now.entries at }
+{
+    for index in 0..marks.len() {
+        let Some((_, node)) = marks.get_index(index) else {
+            unreachable!();
+        };
+        if *node == at {
+            return true;
+        }
+    }
+    false
+}

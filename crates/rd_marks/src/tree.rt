@@ -1,0 +1,300 @@
+//! The records of all bookmarks as one tree, in which lists that begin alike share what they have in common.
+//!
+//! A node has the record of one step; the records from the root down to it are its path, which is the list of a bookmark that is
+//! at it. Children of one parent are of different events. The root is no node: it is `None`, and its path is empty.
+//!
+//! A node knows one of its children, the one it got first; later ones are in `forks`, of which there are few. What is known of a
+//! child is looked at before it is believed, so nothing has to be set right when a node goes.
+
+ghost use Rattle.std.specs.Prelude.{◌≡◌, ◌≢◌, ◌↔◌, ◌⊎◌, ◌<◌, ◌≤◌, ◌+◌, ◌++◌, [], ◌∷◌, Some, None, suc, length, take, drop, IsTrue, MatchOption, IfOk, OnOk, OnErr, IsOk, get_or, option_copied, ℕ, true, false, Option, not, ◌==◌};
+ghost use Rattle.std.specs.List.{All, filter};
+ghost use Rattle.slab.specs.Slab.{slab_len};
+ghost use Rattle.rd_step.specs.Prelude.{MOST_STEPS};
+ghost use Rattle.rd_marks.specs.Tree.{IsIn};
+ghost use Rattle.rd_marks.specs.TreeLayout.{tree_of, known_in, IsKept};
+
+mod walks;
+
+use rd_step::{Entry, Event};
+use slab::Slab;
+use std::alloc::{AllocError, Global};
+
+/// A node: the record of its step, and where it is.
+#[derive(Clone, Copy)]
+struct Node {
+    /// The record.
+    entry: Entry,
+    /// The node above it; none if that is the root.
+    parent: Option<usize>,
+    /// How many records its path has.
+    depth: usize,
+    /// Where a child of it is, if there is one and it is no fork.
+    child: Option<usize>,
+}
+
+/// The tree.
+#[derive(Drop)]
+pub(crate) struct Tree {
+    nodes: Slab<Node>,
+    /// Where a child of the root is, if there is one and it is no fork.
+    top: Option<usize>,
+    /// Nodes whose parents had a child before.
+    forks: Vec<usize>,
+    ghost kept: { IsKept nodes top forks.items },
+}
+
+impl Tree {
+    ghost use Rattle.rd_marks.specs.Tree.{depth_in, parent_in, entry_in, IsChild, IsChildBy, HasChild, HasNoChildBy, ChangesAt};
+    ghost use Rattle.rd_marks.specs.TreeViews.{mark_tree, next_key, HasRoom, HasForkRoom};
+
+    /// A tree of the root alone. It takes no memory.
+    pub(crate) fn new(alloc: Global) -> Tree
+        ensures empty { (key : ℕ) → mark_tree result key ≡ None }
+    {
+        Tree {
+            nodes: Slab::new(alloc),
+            top: None,
+            forks: Vec::new(alloc),
+        }
+    }
+
+    /// How many nodes there are, the root apart.
+    pub(crate) fn len(&self) -> usize
+        ensures { result ≡ slab_len self.now.nodes }
+    {
+        self.nodes.len()
+    }
+
+    /// How many records the path of a node has.
+    pub(crate) fn depth(&self, at: Option<usize>) -> usize
+        ensures { result ≡ depth_in (mark_tree self.now) at }
+    {
+        match at {
+            None => 0,
+            Some(key) => match self.nodes.get(key) {
+                None => 0,
+                Some(node) => node.depth,
+            },
+        }
+    }
+
+    /// The node above this one.
+    pub(crate) fn parent(&self, at: Option<usize>) -> Option<usize>
+        ensures { result ≡ parent_in (mark_tree self.now) at }
+    {
+        match at {
+            None => None,
+            Some(key) => match self.nodes.get(key) {
+                None => None,
+                Some(node) => node.parent,
+            },
+        }
+    }
+
+    /// The record of a node.
+    pub(crate) fn entry(&self, at: Option<usize>) -> Option<&Entry>
+        ensures { option_copied result ≡ entry_in (mark_tree self.now) at }
+    {
+        match at {
+            None => None,
+            Some(key) => match self.nodes.get(key) {
+                None => None,
+                Some(node) => Some(&node.entry),
+            },
+        }
+    }
+
+    /// Whether a node has a child.
+    pub(crate) fn is_parent(&self, at: Option<usize>) -> bool
+        ensures { IsTrue result ↔ HasChild (mark_tree self.now) at }
+    {
+        if self.knows_child(at) {
+            return true;
+        }
+        self.has_fork(at)
+    }
+
+    /// The child of a node that is of this event.
+    pub(crate) fn child_by(&self, at: Option<usize>, event: &Event) -> Option<usize>
+        ensures { MatchOption result (HasNoChildBy (mark_tree self.now) at event.now)
+            (λ key. IsChildBy (mark_tree self.now) key at event.now) }
+    {
+        match self.known_by(at, event) {
+            None => self.fork_by(at, event),
+            Some(key) => Some(key),
+        }
+    }
+
+    /// Makes room for so many more nodes, of which the first may be a fork.
+    ///
+    /// # Errors
+    ///
+    /// If memory was refused. The nodes stay.
+    pub(crate) fn reserve(&mut self, more: usize) -> Result<(), AllocError>
+        ensures nodes { mark_tree self.new ≡ mark_tree self.old }
+        ensures ok { OnOk result (HasRoom self.new more) }
+        ensures forks { OnOk result (HasForkRoom self.new) }
+    {
+        self.nodes.reserve(more)?;
+        self.forks.reserve(1)
+    }
+
+    /// Puts a node with this record below another, which has no child of its event, in the room that was made.
+    pub(crate) fn add(&mut self, at: Option<usize>, entry: Entry) -> usize
+        requires present { IsIn (mark_tree self.old) at }
+        requires few { depth_in (mark_tree self.old) at < MOST_STEPS }
+        requires new { HasNoChildBy (mark_tree self.old) at entry.event }
+        requires room { HasRoom self.old 1 }
+        requires forks { HasChild (mark_tree self.old) at → HasForkRoom self.old }
+        ensures vacant { mark_tree self.old result ≡ None }
+        ensures next { result ≡ next_key self.old }
+        ensures put { ChangesAt (mark_tree self.old) (mark_tree self.new) result
+            (Some (record { entry = entry; parent = at; depth = suc (depth_in (mark_tree self.old) at) })) }
+        ensures room { (more : ℕ) → HasRoom self.old (suc more) → HasRoom self.new more }
+    {
+        let is_fork = self.is_parent(at);
+        let depth = self.depth(at) + 1;
+        let key = self.nodes.insert_reserved(Node {
+            entry,
+            parent: at,
+            depth,
+            child: None,
+        });
+        if is_fork {
+            self.forks.push_reserved(key);
+        } else {
+            link(&mut self.nodes, &mut self.top, at, key);
+        }
+        key
+    }
+
+    /// Takes a node away that has no child, and answers the one above it.
+    pub(crate) fn remove(&mut self, key: usize) -> Option<usize>
+        requires present { IsIn (mark_tree self.old) (Some key) }
+        requires leaf { HasChild (mark_tree self.old) (Some key) → ⊥ }
+        ensures parent { result ≡ parent_in (mark_tree self.old) (Some key) }
+        ensures taken { ChangesAt (mark_tree self.old) (mark_tree self.new) key None }
+        ensures next { next_key self.new ≡ key }
+    {
+        let node = self.nodes.remove(key);
+        forget(&mut self.forks, key);
+        node.parent
+    }
+
+    /// Where a child of a node may be.
+    fn known_child(&self, at: Option<usize>) -> Option<usize>
+        ensures { result ≡ known_in self.now.nodes self.now.top at }
+    {
+        match at {
+            None => self.top,
+            Some(key) => match self.nodes.get(key) {
+                None => None,
+                Some(node) => node.child,
+            },
+        }
+    }
+
+    /// Whether the child is there that a node knows.
+    fn knows_child(&self, at: Option<usize>) -> bool
+        ensures none { result ≡ false → (key : ℕ) → known_in self.now.nodes self.now.top at ≡ Some key → IsChild (mark_tree self.now) key at → ⊥ }
+        ensures some { result ≡ true → HasChild (mark_tree self.now) at }
+    {
+        match self.known_child(at) {
+            None => false,
+            Some(key) => self.is_child(key, at),
+        }
+    }
+
+    /// The child that a node knows, if it is there and is of this event.
+    fn known_by(&self, at: Option<usize>, event: &Event) -> Option<usize>
+        ensures { MatchOption result
+            ((key : ℕ) → known_in self.now.nodes self.now.top at ≡ Some key → IsChildBy (mark_tree self.now) key at event.now → ⊥)
+            (λ key. IsChildBy (mark_tree self.now) key at event.now) }
+    {
+        let key = self.known_child(at)?;
+        if !self.is_child_by(key, at, event) {
+            return None;
+        }
+        Some(key)
+    }
+
+    /// Whether a fork is a child of this node.
+    fn has_fork(&self, at: Option<usize>) -> bool
+        ensures none { result ≡ false → All (λ fork. IsChild (mark_tree self.now) fork at → ⊥) self.now.forks.items }
+        ensures some { result ≡ true → HasChild (mark_tree self.now) at }
+    {
+        for index in 0..self.forks.len() {
+            if self.is_child(self.forks[index], at) {
+                return true;
+            }
+        }
+        false
+    }
+
+    /// The fork that is a child of this node and is of this event.
+    fn fork_by(&self, at: Option<usize>, event: &Event) -> Option<usize>
+        ensures { MatchOption result (All (λ fork. IsChildBy (mark_tree self.now) fork at event.now → ⊥) self.now.forks.items)
+            (λ key. IsChildBy (mark_tree self.now) key at event.now) }
+    {
+        for index in 0..self.forks.len() {
+            let key = self.forks[index];
+            if self.is_child_by(key, at, event) {
+                return Some(key);
+            }
+        }
+        None
+    }
+
+    /// Whether there is a node here whose parent is the other.
+    fn is_child(&self, key: usize, at: Option<usize>) -> bool
+        ensures { IsTrue result ↔ IsChild (mark_tree self.now) key at }
+    {
+        match self.nodes.get(key) {
+            None => false,
+            Some(node) => node.parent == at,
+        }
+    }
+
+    /// Whether there is a node here of this event whose parent is the other.
+    fn is_child_by(&self, key: usize, at: Option<usize>, event: &Event) -> bool
+        ensures { IsTrue result ↔ IsChildBy (mark_tree self.now) key at event.now }
+    {
+        match self.nodes.get(key) {
+            None => false,
+            Some(node) => node.parent == at && is_same(&node.entry.event, event),
+        }
+    }
+}
+
+/// Whether the two are one event.
+fn is_same(a: &Event, b: &Event) -> bool
+    ensures { IsTrue result ↔ (a.now ≡ b.now) }
+{
+    a == b
+}
+
+/// Takes a node out of the forks, if it is one.
+fn forget(forks: &mut Vec<usize>, key: usize)
+    ensures { forks.new.items ≡ filter (λ fork. not (fork == key)) forks.old.items }
+{
+    forks.retain(|fork| *fork != key);
+}
+
+/// Lets a node know its child.
+fn link(nodes: &mut Slab<Node>, top: &mut Option<usize>, at: Option<usize>, key: usize)
+    requires { IsIn (tree_of nodes.old) at }
+    ensures nodes { (other : ℕ) → tree_of nodes.new other ≡ tree_of nodes.old other }
+    ensures known { known_in nodes.new top.new at ≡ Some key }
+    ensures others { (other : Option ℕ) → (other ≡ at → ⊥) → known_in nodes.new top.new other ≡ known_in nodes.old top.old other }
+    ensures len { slab_len nodes.new ≡ slab_len nodes.old }
+    ensures capacity { nodes.new.capacity ≡ nodes.old.capacity }
+{
+    match at {
+        None => *top = Some(key),
+        Some(parent) => {
+            if let Some(node) = nodes.get_mut(parent) {
+                node.child = Some(key);
+            }
+        }
+    }
+}

@@ -1,0 +1,121 @@
+//! Walks up and down the tree.
+
+ghost use Rattle.std.specs.Prelude.{◌≡◌, ◌≤◌, ◌+◌, ◌++◌, length, take, drop, min, IfOk, IsOk};
+ghost use Rattle.rd_step.specs.Prelude.{MOST_STEPS};
+ghost use Rattle.rd_step.specs.Run.{events};
+ghost use Rattle.rd_depend.specs.Beginnings.{Begins};
+
+use super::Tree;
+use rd_journal::LiveRecords;
+use rd_step::Entry;
+use std::alloc::{AllocError, Global};
+
+impl Tree {
+    ghost use Rattle.rd_marks.specs.Tree.{IsIn, depth_in, path_in, IsNew, IsPartOf, AreLinkedBelow};
+    ghost use Rattle.rd_marks.specs.TreeViews.{mark_tree, HasRoom, HasForkRoom};
+
+    /// The deepest node whose path begins these records, found from one whose path does.
+    pub(crate) fn follow(&self, from: Option<usize>, records: &LiveRecords) -> Option<usize>
+        requires present { IsIn (mark_tree self.now) from }
+        requires within { depth_in (mark_tree self.now) from ≤ length records.now }
+        requires begins { events (path_in (mark_tree self.now) from) ≡ take (depth_in (mark_tree self.now) from) (events records.now) }
+        ensures present { IsIn (mark_tree self.now) result }
+        ensures within { depth_in (mark_tree self.now) result ≤ length records.now }
+        ensures begins { events (path_in (mark_tree self.now) result) ≡ take (depth_in (mark_tree self.now) result) (events records.now) }
+        ensures deepest { IsNew (mark_tree self.now) result (drop (depth_in (mark_tree self.now) result) records.now) }
+    {
+        let mut at = from;
+        for index in self.depth(from)..records.len() {
+            let Some(key) = self.child_by(at, &records.at(index).event) else {
+                return at;
+            };
+            at = Some(key);
+        }
+        at
+    }
+
+    /// Puts nodes with these records below one another, the first below this node, in the room that was made. Answers the last.
+    pub(crate) fn grow(&mut self, from: Option<usize>, records: &LiveRecords) -> Option<usize>
+        requires present { IsIn (mark_tree self.old) from }
+        requires few { depth_in (mark_tree self.old) from + length records.now ≤ MOST_STEPS }
+        requires new { IsNew (mark_tree self.old) from records.now }
+        requires room { HasRoom self.old (length records.now) }
+        requires forks { HasForkRoom self.old }
+        ensures present { IsIn (mark_tree self.new) result }
+        ensures kept { IsPartOf (mark_tree self.old) (mark_tree self.new) }
+        ensures path { path_in (mark_tree self.new) result ≡ path_in (mark_tree self.old) from ++ records.now }
+        ensures used { AreLinkedBelow (mark_tree self.old) (mark_tree self.new) result }
+    {
+        let mut at = from;
+        for index in 0..records.len() {
+            at = Some(self.add(at, *records.at(index)));
+        }
+        at
+    }
+
+    /// The deepest node on the way from the root to this one whose path has no more than `n` records.
+    pub(crate) fn ancestor(&self, from: Option<usize>, n: usize) -> Option<usize>
+        requires present { IsIn (mark_tree self.now) from }
+        ensures present { IsIn (mark_tree self.now) result }
+        ensures begins { Begins (path_in (mark_tree self.now) result) (path_in (mark_tree self.now) from) }
+        ensures depth { depth_in (mark_tree self.now) result ≡ min n (depth_in (mark_tree self.now) from) }
+    {
+        let mut at = from;
+        while self.depth(at) > n {
+            at = self.parent(at);
+        }
+        at
+    }
+
+    /// The deepest node that is above both or one of them.
+    pub(crate) fn common(&self, one: Option<usize>, other: Option<usize>) -> Option<usize>
+        requires one { IsIn (mark_tree self.now) one }
+        requires other { IsIn (mark_tree self.now) other }
+        ensures present { IsIn (mark_tree self.now) result }
+        ensures first { Begins (path_in (mark_tree self.now) result) (path_in (mark_tree self.now) one) }
+        ensures second { Begins (path_in (mark_tree self.now) result) (path_in (mark_tree self.now) other) }
+        ensures first_begins { Begins (events (path_in (mark_tree self.now) one)) (events (path_in (mark_tree self.now) other)) → result ≡ one }
+        ensures second_begins { Begins (events (path_in (mark_tree self.now) other)) (events (path_in (mark_tree self.now) one)) → result ≡ other }
+    {
+        let mut a = one;
+        let mut b = other;
+        while a != b {
+            if self.depth(a) < self.depth(b) {
+                b = self.parent(b);
+            } else {
+                a = self.parent(a);
+            }
+        }
+        a
+    }
+
+    /// The records of a node's path behind the first `n`.
+    ///
+    /// # Errors
+    ///
+    /// If memory was refused for them, so not if there are none.
+    pub(crate) fn records(
+        &self,
+        alloc: Global,
+        from: Option<usize>,
+        n: usize,
+    ) -> Result<Vec<Entry>, AllocError>
+        requires present { IsIn (mark_tree self.now) from }
+        requires within { n ≤ depth_in (mark_tree self.now) from }
+        ensures ok { IfOk result (λ records. records.items ≡ drop n (path_in (mark_tree self.now) from)) }
+        ensures succeeds { depth_in (mark_tree self.now) from ≡ n → IsOk result }
+    {
+        let depth = self.depth(from);
+        let mut records = Vec::with_capacity(alloc, depth - n)?;
+        let mut at = from;
+        for index in n..depth {
+            let Some(entry) = self.entry(at) else {
+                unreachable!();
+            };
+            records.push_reserved(*entry);
+            at = self.parent(at);
+        }
+        records.reverse();
+        Ok(records)
+    }
+}

@@ -1,0 +1,73 @@
+-- Along a run an actor that makes no other call is in its call or idle, and a cell into which nothing is put has its value or none.
+use Rattle.std.proofs.Common.{◌≡◌, ℕ, Bool, true, false, ◌==◌, ◌&&◌, inl, inr, sym, ◌∙◌, ap, subst, eqb-true, List, [], ◌∷◌, Option, Some, None, Ok}
+use Rattle.std.proofs.lemmas.Bool.{cond_both, and_parts, cond-true}
+use Rattle.rd_step.specs.Prelude.{Place, Actor, after, World, Stepped, step, Ran, run}
+use Rattle.rd_actor.specs.declared.actors.Op.{Op}
+use Rattle.rd_step.specs.declared.entries.Event.{Event}
+use Rattle.rd_step.specs.declared.entries.Entry.{Entry}
+use Rattle.rd_step.proofs.Steps.{took}
+use Rattle.rd_journal.specs.Journal.{events}
+use Rattle.rd_step.proofs.RunParts.{beginning}
+use Rattle.rd_journal.proofs.Runs.{as_ok, as_ok-same}
+use Rattle.rd_origin.specs.Origins.{is_call, puts_into, calls_by}
+use Rattle.rd_origin.proofs.Split.{NonePasses}
+use Rattle.rd_origin.proofs.Rows.{IsStill}
+use Rattle.rd_origin.proofs.Ops.{called, after_still, after_call}
+use Rattle.rd_origin.proofs.Values.{HoldsOnly}
+use Rattle.rd_origin.proofs.Steps.{value_stays}
+
+-- the actor, if there is one, is in this call or idle
+abbrev pub IsIn : Option Op → Option Actor → Type 0
+IsIn o None = Unit {0}
+IsIn o (Some a) = IsStill o a.op
+
+still-trans : (o p r : Option Op) → IsStill o p → IsStill p r → IsStill o r
+still-trans o p r h (inl same) = elim h [ inl e ↦ inl (same ∙ e) | inr e ↦ inr (same ∙ e) ]
+still-trans o p r h (inr none) = inr none
+
+-- a call begins itself
+pub begun : (R : ℕ) (w : World) (e : Event) (s : Stepped) (n : ℕ) → step R w e ≡ Ok s → calls_by n s.entry ≡ true
+    → IsIn (called s.entry.event.act) (s.world.actor n)
+begun R w e s n goes h =
+    let t = took R w e s goes in
+    subst (λ (x : Stepped). calls_by n x.entry ≡ true → IsIn (called x.entry.event.act) (x.world.actor n)) t.ends
+    (λ k.
+    let parts = and_parts (n == e.actor) (is_call e.act) k in
+    subst (IsIn (called e.act)) (sym (cond-true (n == e.actor) (Some (after R t.a e.act t.did.answer).0) (w.actor n) parts.0))
+    (inl (after_call R t.a e.act t.did.answer parts.1))) h
+
+-- a step that is no call by the actor leaves it there
+call_stays : (R : ℕ) (w : World) (e : Event) (s : Stepped) (n : ℕ) (o : Option Op) → step R w e ≡ Ok s → calls_by n s.entry ≡ false
+    → IsIn o (w.actor n) → IsIn o (s.world.actor n)
+call_stays R w e s n o goes h was =
+    let t = took R w e s goes in
+    let next : Actor = (after R t.a e.act t.did.answer).0 in
+    subst (λ (x : Stepped). calls_by n x.entry ≡ false → IsIn o (x.world.actor n)) t.ends
+    (λ k.
+    cond_both (n == e.actor) (Some next) (w.actor n) (IsIn o)
+    (λ same.
+    let its : w.actor n ≡ Some t.a = ap w.actor (eqb-true n e.actor same) ∙ t.has in
+    let no_call : is_call e.act ≡ false = ap (λ (b : Bool). b && is_call e.act) (sym same) ∙ k in
+    still-trans o t.a.op next.op (subst (IsIn o) its was) (after_still R t.a e.act t.did.answer no_call))
+    (λ other. was)) h
+
+-- the same along a run
+pub call_stays_along : (R : ℕ) (n : ℕ) (o : Option Op) (w v : World) (xs : List Entry) → run R w (events xs) ≡ Ok (record { world = v; entries = xs })
+    → NonePasses (calls_by n) xs → IsIn o (w.actor n) → IsIn o (v.actor n)
+call_stays_along R n o w v [] h none was =
+    let last : as_ok (record { world = w; entries = [] }) ≡ Ok (record { world = v; entries = [] }) = h in
+    subst (λ (u : World). IsIn o (u.actor n)) (ap (λ (y : Ran). y.world) (as_ok-same (record { world = w; entries = [] }) (record { world = v; entries = [] }) last)) was
+call_stays_along R n o w v (x ∷ xs) h none was =
+    let first = beginning R w x xs v h in
+    call_stays_along R n o first.after v xs first.rest none.1
+    (call_stays R w x.event (record { world = first.after; entry = x }) n o first.goes none.0 was)
+
+pub value_stays_along : (R : ℕ) (q : Place) (u : ℕ) (w v : World) (xs : List Entry) → run R w (events xs) ≡ Ok (record { world = v; entries = xs })
+    → NonePasses (puts_into q) xs → HoldsOnly u (w.at q) → HoldsOnly u (v.at q)
+value_stays_along R q u w v [] h none was =
+    let last : as_ok (record { world = w; entries = [] }) ≡ Ok (record { world = v; entries = [] }) = h in
+    subst (λ (z : World). HoldsOnly u (z.at q)) (ap (λ (y : Ran). y.world) (as_ok-same (record { world = w; entries = [] }) (record { world = v; entries = [] }) last)) was
+value_stays_along R q u w v (x ∷ xs) h none was =
+    let first = beginning R w x xs v h in
+    value_stays_along R q u first.after v xs first.rest none.1
+    (value_stays R w x.event (record { world = first.after; entry = x }) q u first.goes none.0 was)

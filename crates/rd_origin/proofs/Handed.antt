@@ -1,0 +1,184 @@
+-- What is taken is the argument of the call whose put it was.
+use Rattle.std.proofs.Common.{◌≡◌, ℕ, suc, ◌-◌, Bool, true, false, if◌then◌else◌, inl, inr, refl, sym, ◌∙◌, ap, subst, append_assoc, List, ◌∷◌, ◌++◌, length, take, ok_or, Option, Some, None, Ok, Err}
+use Rattle.rd_step.specs.Prelude.{Place, Content, NoSuchStep, NotATake, OpReply, World, Stepped, Ran, run, IsWellFormed}
+use Rattle.rd_step.specs.Dependence.{numbered}
+use Rattle.rd_actor.specs.declared.actors.OpReply.TheVariants.{Value as Dequeued}
+use Rattle.rd_actor.specs.Table.{value_of}
+use Rattle.rd_step.specs.declared.entries.Event.{Event}
+use Rattle.rd_step.specs.declared.entries.Entry.{Entry}
+use Rattle.rd_step.proofs.Keeps.{keeps}
+use Rattle.rd_step.proofs.Removal.{run_keeps}
+use Rattle.rd_step.proofs.Equivalence.{run_events}
+use Rattle.rd_journal.specs.Journal.{events}
+use Rattle.rd_step.proofs.RunParts.{middle}
+use Rattle.rd_journal.proofs.Runs.{as_ok-same}
+use Rattle.rd_origin.specs.declared.origins.Origin.{Origin}
+use Rattle.rd_origin.specs.Positions.{last_position}
+use Rattle.rd_origin.specs.Origins.{takes_value, puts_into, calls_by, put_of, call_before, call_of, origin_by, origin_at, origin, argument}
+use Rattle.rd_origin.specs.Laws.{IsHandedOver}
+use Rattle.rd_origin.proofs.Split.{at_seam, before_seam, apart, NonePasses, apart_at_last}
+use Rattle.rd_origin.proofs.Rows.{IsStill}
+use Rattle.rd_origin.proofs.Ops.{called, argued}
+use Rattle.rd_origin.proofs.Values.{held, HoldsOnly}
+use Rattle.rd_origin.proofs.Puts.{put}
+use Rattle.rd_origin.proofs.Takes.{taken_held}
+use Rattle.rd_origin.proofs.Calls.{IsIn, begun, call_stays_along, value_stays_along}
+
+-- What an origin says of the records
+
+-- call and put of the taken value are both named
+record Named (xs : List Entry) (c p k : ℕ) : Type 0 where
+  pub taken : Entry
+  pub there : numbered xs k ≡ Some taken
+  pub takes : takes_value taken.reply ≡ true
+  pub its_put : put_of xs k taken.place ≡ Some p
+  pub its_call : call_of xs (Some p) ≡ Some c
+
+named_by : (xs : List Entry) (c p k : ℕ) (x : Entry) (b : Bool) → numbered xs k ≡ Some x → takes_value x.reply ≡ b
+    → (if b then Ok (origin_by xs k (put_of xs k x.place)) else Err NotATake) ≡ Ok (record { call = Some c; put = Some p; take = k }) → Named xs c p k
+named_by xs c p k x false there is h = cc
+named_by xs c p k x true there is h =
+    let same : origin_by xs k (put_of xs k x.place) ≡ record { call = Some c; put = Some p; take = k } =
+    as_ok-same (origin_by xs k (put_of xs k x.place)) (record { call = Some c; put = Some p; take = k }) h in
+    let its_put : put_of xs k x.place ≡ Some p = ap (λ (o : Origin). o.put) same in
+    record {
+      taken = x;
+      there = there;
+      takes = is;
+      its_put = its_put;
+      its_call = ap (call_of xs) (sym its_put) ∙ ap (λ (o : Origin). o.call) same;
+    }
+
+named_at : (xs : List Entry) (c p k : ℕ) (o : Option Entry) → numbered xs k ≡ o
+    → origin_at xs k (ok_or o (NoSuchStep (length xs))) ≡ Ok (record { call = Some c; put = Some p; take = k }) → Named xs c p k
+named_at xs c p k None there h = cc
+named_at xs c p k (Some x) there h = named_by xs c p k x (takes_value x.reply) there refl h
+
+-- the cell of the put
+record PutIn (xs : List Entry) (p k : ℕ) (place : Option Place) : Type 0 where
+  pub cell : Place
+  pub is : place ≡ Some cell
+  pub last : last_position (puts_into cell) (take (k - 1) xs) ≡ Some p
+
+put_in : (xs : List Entry) (p k : ℕ) (place : Option Place) → put_of xs k place ≡ Some p → PutIn xs p k place
+put_in xs p k None h = cc
+put_in xs p k (Some cell) h = record { cell = cell; is = refl; last = h }
+
+-- the value that is handed out
+value_out : (r : Option OpReply) → takes_value r ≡ true → (u : ℕ) × (r ≡ Some (Dequeued u))
+value_out (Some (Dequeued u)) h = (u, refl)
+value_out _ h = cc
+
+-- The records taken apart at call, put and take
+
+record Apart (xs : List Entry) (c p k : ℕ) : Type 0 where
+  pub before : List Entry
+  pub call : Entry
+  pub between : List Entry
+  pub put : Entry
+  pub behind : List Entry
+  pub taken : Entry
+  pub later : List Entry
+  pub cell : Place
+  pub value : ℕ
+  pub whole : xs ≡ before ++ call ∷ (between ++ put ∷ (behind ++ taken ∷ later))
+  pub call_there : numbered xs c ≡ Some call
+  pub taken_there : numbered xs k ≡ Some taken
+  pub calls : calls_by put.event.actor call ≡ true
+  pub no_call : NonePasses (calls_by put.event.actor) between
+  pub puts : puts_into cell put ≡ true
+  pub no_put : NonePasses (puts_into cell) behind
+  pub place : taken.place ≡ Some cell
+  pub replies : taken.reply ≡ Some (Dequeued value)
+
+-- an element behind the beginning has the number after its length
+seam_number : (xs before behind : List Entry) (x : Entry) (j : ℕ) → xs ≡ before ++ x ∷ behind → suc (length before) ≡ j → numbered xs j ≡ Some x
+seam_number xs before behind x j whole e =
+    subst (λ (n : ℕ). numbered xs n ≡ Some x) e (ap (λ (l : List Entry). numbered l (suc (length before))) whole ∙ at_seam before behind x)
+
+seam_before : (xs before behind : List Entry) (x : Entry) (j : ℕ) → xs ≡ before ++ x ∷ behind → suc (length before) ≡ j → take (j - 1) xs ≡ before
+seam_before xs before behind x j whole e =
+    subst (λ (n : ℕ). take (n - 1) xs ≡ before) e (ap (λ (l : List Entry). take (suc (length before) - 1) l) whole ∙ before_seam before (x ∷ behind))
+
+taken_apart : (xs : List Entry) (c p k : ℕ) → Named xs c p k → Apart xs c p k
+taken_apart xs c p k n =
+    let i = put_in xs p k n.taken.place n.its_put in
+    let v = value_out n.taken.reply n.takes in
+    let a = apart xs k n.taken n.there in
+    let b = apart_at_last (puts_into i.cell) (take (k - 1) xs) p i.last in
+    let rest : List Entry = b.behind ++ n.taken ∷ a.behind in
+    let second : xs ≡ b.before ++ b.element ∷ rest =
+    a.whole ∙ ap (λ (l : List Entry). l ++ n.taken ∷ a.behind) b.whole ∙ append_assoc b.before (b.element ∷ b.behind) (n.taken ∷ a.behind) in
+    let put_there : numbered xs p ≡ Some b.element = seam_number xs b.before rest b.element p second b.number in
+    let its_call : last_position (calls_by b.element.event.actor) (take (p - 1) xs) ≡ Some c =
+    ap (call_before xs p) (sym put_there) ∙ n.its_call in
+    let last_call : last_position (calls_by b.element.event.actor) b.before ≡ Some c =
+    ap (last_position (calls_by b.element.event.actor)) (sym (seam_before xs b.before rest b.element p second b.number)) ∙ its_call in
+    let d = apart_at_last (calls_by b.element.event.actor) b.before c last_call in
+    let third : xs ≡ d.before ++ d.element ∷ (d.behind ++ b.element ∷ rest) =
+    second ∙ ap (λ (l : List Entry). l ++ b.element ∷ rest) d.whole ∙ append_assoc d.before (d.element ∷ d.behind) (b.element ∷ rest) in
+    record {
+      before = d.before;
+      call = d.element;
+      between = d.behind;
+      put = b.element;
+      behind = b.behind;
+      taken = n.taken;
+      later = a.behind;
+      cell = i.cell;
+      value = v.0;
+      whole = third;
+      call_there = seam_number xs d.before (d.behind ++ b.element ∷ rest) d.element c third d.number;
+      taken_there = n.there;
+      calls = d.passes;
+      no_call = d.none;
+      puts = b.passes;
+      no_put = b.none;
+      place = i.is;
+      replies = v.1;
+    }
+
+-- The value
+
+same_value : (v u : ℕ) (o : Option Content) → HoldsOnly v o → held o ≡ Some u → Some v ≡ Some u
+same_value v u o (inl is) h = sym is ∙ h
+same_value v u o (inr none) h = let wrong : None ≡ Some u = sym none ∙ h in cc
+
+argument_taken : (R : ℕ) (w v : World) (xs : List Entry) (c p k : ℕ) (a : Apart xs c p k) → IsWellFormed R w
+    → run R w (events xs) ≡ Ok (record { world = v; entries = xs }) → argument a.call.event.act ≡ Some a.value
+argument_taken R w v xs c p k a formed ran =
+    let all = subst (λ (l : List Entry). run R w (events l) ≡ Ok (record { world = v; entries = l })) a.whole ran in
+    let one = middle R w a.before a.call (a.between ++ a.put ∷ (a.behind ++ a.taken ∷ a.later)) v all in
+    let two = middle R one.after a.between a.put (a.behind ++ a.taken ∷ a.later) v one.rest in
+    let three = middle R two.after a.behind a.taken a.later v two.rest in
+    let called_step : Stepped = record { world = one.after; entry = a.call } in
+    let put_step : Stepped = record { world = two.after; entry = a.put } in
+    let taken_step : Stepped = record { world = three.after; entry = a.taken } in
+    let formed_one = run_keeps R w (events a.before) (record { world = one.before; entries = a.before }) formed one.ran in
+    let formed_after = keeps R one.before a.call.event called_step formed_one one.goes in
+    let formed_two = run_keeps R one.after (events a.between) (record { world = two.before; entries = a.between }) formed_after two.ran in
+    let in_call : IsIn (called a.call.event.act) (two.before.actor a.put.event.actor) =
+    call_stays_along R a.put.event.actor (called a.call.event.act) one.after two.before a.between two.ran a.no_call
+    (begun R one.before a.call.event called_step a.put.event.actor one.goes a.calls) in
+    let p = put R two.before a.put.event put_step a.cell formed_two two.goes a.puts in
+    let still : IsStill (called a.call.event.act) p.a.op = subst (IsIn (called a.call.event.act)) p.has in_call in
+    let holds : HoldsOnly (value_of p.a.op) (three.before.at a.cell) =
+    value_stays_along R a.cell (value_of p.a.op) two.after three.before a.behind three.ran a.no_put p.holds in
+    let found : held (three.before.at a.cell) ≡ Some a.value =
+    taken_held R three.before a.taken.event taken_step a.cell a.value three.goes a.replies a.place in
+    argued a.call.event.act p.a.op p.puts still ∙ same_value (value_of p.a.op) a.value (three.before.at a.cell) holds found
+
+pub handed_over : (R : ℕ) (w : World) (es : List Event) (ran : Ran) (c p k : ℕ) → IsWellFormed R w → run R w es ≡ Ok ran
+    → origin ran.entries k ≡ Ok (record { call = Some c; put = Some p; take = k }) → IsHandedOver ran.entries c k
+handed_over R w es ran c p k formed goes h =
+    let a = taken_apart ran.entries c p k (named_at ran.entries c p k (numbered ran.entries k) refl h) in
+    let all : run R w (events ran.entries) ≡ Ok ran = ap (run R w) (run_events R w es ran goes) ∙ goes in
+    record {
+      call = a.call;
+      called = a.call_there;
+      taken = a.taken;
+      took = a.taken_there;
+      value = a.value;
+      replies = a.replies;
+      argued = argument_taken R w ran.world ran.entries c p k a formed all;
+    }

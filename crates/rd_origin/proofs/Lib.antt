@@ -1,0 +1,12 @@
+pub mod Positions
+pub mod Search
+pub mod Found
+pub mod Split
+pub mod Rows
+pub mod Ops
+pub mod Values
+pub mod Steps
+pub mod Puts
+pub mod Takes
+pub mod Calls
+pub mod Handed

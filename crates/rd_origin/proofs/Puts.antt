@@ -1,0 +1,124 @@
+-- A put leaves the value of the enqueue that its actor is in, or none.
+use Rattle.std.proofs.Common.{◌≡◌, ℕ, ◌%◌, Bool, true, false, ◌==◌, ◌&&◌, nat_lt, nat_le, inl, inr, refl, sym, ◌∙◌, ap, subst, Option, Some, None, is_none, Result, Ok, IfOk}
+use Rattle.std.proofs.lemmas.Bool.{cond_both, and_parts, cond-true}
+use Rattle.std.proofs.lemmas.Result.{IfOk-at_ok}
+use Rattle.rd_step.specs.Prelude.{SLOTS, MOST_SEGMENTS, Cell, SegName, Place, CellAt, WholeOf, ArrCell, Held, Content, CellIs, Slot, Access, Refusal, Contents, is_name, is_of, is_place, is_there, Performed, perform, Actor, Act, need, after, World, Stepped, step, IsWellFormed}
+use Rattle.rd_cell.specs.declared.operations.Operation.TheVariants.{Cas2, Swap}
+use Rattle.rd_cell.specs.Cells.{is_cell, new_cell, value_in_cell}
+use Rattle.rd_cell.specs.Contents.{holding}
+use Rattle.rd_cell.specs.Operations.{swaps}
+use Rattle.rd_cell.specs.Access.{no_access, perform_effect, operate, make, number_made}
+use Rattle.rd_actor.specs.declared.actors.Act.TheVariants.{Enq, Deq, AEnq, ADeq, Go, Starve}
+use Rattle.rd_actor.specs.declared.actors.Pc.{Pc}
+use Rattle.rd_actor.specs.declared.actors.Pc.TheVariants.{E8, E12, A2}
+use Rattle.rd_actor.specs.Table.{need_at, value_of, cell_of, tail_cell}
+use Rattle.rd_actor.specs.Words.{words_fit_at, enqueue_fits, enqueues, array_enqueues}
+use Rattle.rd_step.specs.declared.entries.Event.{Event}
+use Rattle.rd_step.specs.WellFormed.{record_fits, actor_fits}
+use Rattle.rd_step.proofs.Fits.{words_of}
+use Rattle.rd_step.proofs.Steps.{took}
+use Rattle.rd_origin.specs.Origins.{is_first_cell, puts_into}
+use Rattle.rd_origin.proofs.Ops.{puts_values, enqueue_puts, array_enqueue_puts}
+use Rattle.rd_origin.proofs.Values.{HoldsOnly, LeavesOnly}
+use Rattle.rd_origin.proofs.Steps.{IsPutter, puts_by, same_puts, none_puts, AtNone, call_at_none, choice_at_none}
+
+abbrev PutsOnly : ℕ → Contents → Pc → Place → Performed → Type 0
+PutsOnly v at pc q did = puts_by pc q did ≡ true → LeavesOnly v at q did
+
+putter : (pc : Pc) (q : Place) (did : Performed) → puts_by pc q did ≡ true → IsPutter pc
+putter E8 q did h = inl refl
+putter A2 q did h = inr (inl refl)
+putter E12 q did h = inr (inr refl)
+putter _ q did h = cc
+
+cas_puts : (v : ℕ) (s : SegName) (i : ℕ) (old new : Cell) (o : Option Content) (at : Contents) (q : Place) → new.val ≡ Some v
+    → IfOk (operate (CellAt s i) (Cas2 old new) o) (PutsOnly v at E8 q)
+cas_puts v s i old new None at q h = tt
+cas_puts v s i old new (Some (CellIs c)) at q h = by (is_cell c old)
+  where
+    by : (b : Bool) → IfOk (perform_effect (CellAt s i) (CellIs c) (swaps b (CellIs new))) (PutsOnly v at E8 q)
+    by false = λ e. cc
+    by true = λ e. subst (HoldsOnly v) (sym (cond-true (is_place (CellAt s i) q) (Some (CellIs new)) (at q) e)) (inl h)
+cas_puts v s i old new (Some _) at q h = tt
+
+swap_puts : (v i : ℕ) (o : Option Content) (at : Contents) (q : Place) → IfOk (operate (ArrCell i) (Swap (Held v)) o) (PutsOnly v at A2 q)
+swap_puts v i None at q = tt
+swap_puts v i (Some (Slot old)) at q =
+    λ e. subst (HoldsOnly v) (sym (cond-true (is_place (ArrCell i) q) (Some (Slot (Held v))) (at q) e)) (inl refl)
+swap_puts v i (Some _) at q = tt
+
+-- a new segment has its value in its cell 0
+first_holds : (R x : ℕ) (s : SegName) (q : Place) → is_first_cell (Some (WholeOf s)) q ≡ true → (is_of s q ≡ true) × HoldsOnly x (holding R x q)
+first_holds R x s (CellAt t i) e =
+    let parts = and_parts (is_name s t) (i == 0) e in (
+      parts.0,
+      cond_both (nat_lt i R) (Some (CellIs (new_cell i (value_in_cell x i)))) None (HoldsOnly x)
+          (λ l. inl (cond-true (i == 0) (Some x) None parts.1)) (λ l. inr refl),
+    )
+first_holds R x s _ e = cc
+
+make_puts : (R x : ℕ) (s : SegName) (at : Contents) (q : Place) → IfOk (make R s x) (PutsOnly x at E12 q)
+make_puts R x s at q =
+    cond_both (nat_lt s.n MOST_SEGMENTS) _ _ (λ (r : Result Performed Refusal). IfOk r (PutsOnly x at E12 q))
+    (λ below e.
+    let first = first_holds R x s q e in
+    subst (HoldsOnly x) (sym (cond-true (is_of s q) (holding R x q) (at q) first.0)) first.1) (λ e. tt)
+
+abbrev RowPuts : ℕ → ℕ → Contents → Place → Actor → Pc → Type 0
+RowPuts R n at q a pc = AtNone R n at (PutsOnly (value_of a.op) at pc q) (need_at R pc a)
+
+row_puts : (R n : ℕ) (at : Contents) (q : Place) (a : Actor) (pc : Pc) → IsPutter pc → RowPuts R n at q a pc
+row_puts R n at q a pc (inl e) =
+    subst (RowPuts R n at q a) (sym e)
+    (cas_puts (value_of a.op) a.crq (a.t % R) (cell_of a.safe a.idx None) (cell_of true a.t (Some (value_of a.op))) (at (tail_cell R a)) at q refl)
+row_puts R n at q a pc (inr (inl e)) = subst (RowPuts R n at q a) (sym e) (swap_puts (value_of a.op) a.t (at (ArrCell a.t)) at q)
+row_puts R n at q a pc (inr (inr e)) =
+    subst (RowPuts R n at q a) (sym e) (make_puts R (value_of a.op) (record { maker = n; n = number_made at n }) at q)
+
+no_put : (v : ℕ) (at : Contents) (q : Place) (pc : Pc) → PutsOnly v at pc q no_access
+no_put v at q pc = λ e. let wrong : false ≡ true = sym (none_puts pc q) ∙ e in cc
+
+act_puts : (R n : ℕ) (at : Contents) (q : Place) (a : Actor) (act : Act) → IsPutter a.pc → AtNone R n at (PutsOnly (value_of a.op) at a.pc q) (need R a act)
+act_puts R n at q a (Enq x) k = call_at_none R n at (PutsOnly (value_of a.op) at a.pc q) (no_put (value_of a.op) at q a.pc) a.pc
+act_puts R n at q a Deq k = call_at_none R n at (PutsOnly (value_of a.op) at a.pc q) (no_put (value_of a.op) at q a.pc) a.pc
+act_puts R n at q a (AEnq x) k = call_at_none R n at (PutsOnly (value_of a.op) at a.pc q) (no_put (value_of a.op) at q a.pc) a.pc
+act_puts R n at q a ADeq k = call_at_none R n at (PutsOnly (value_of a.op) at a.pc q) (no_put (value_of a.op) at q a.pc) a.pc
+act_puts R n at q a Go k = row_puts R n at q a a.pc k
+act_puts R n at q a (Starve b) k = choice_at_none R n at (PutsOnly (value_of a.op) at a.pc q) (no_put (value_of a.op) at q a.pc) a.pc
+
+-- an actor that may put a value is in an enqueue
+putter_op : (pc : Pc) (a : Actor) → IsPutter pc → words_fit_at pc a ≡ true → puts_values a.op ≡ true
+putter_op pc a (inl e) h =
+    let fits : words_fit_at E8 a ≡ true = subst (λ (x : Pc). words_fit_at x a ≡ true) e h in
+    let enq = (and_parts (enqueue_fits a) (is_none a.val) (and_parts (enqueue_fits a && is_none a.val) (nat_le a.idx a.t) fits).0).0 in
+    enqueue_puts a.op (and_parts (enqueues a.op) (a.pass == 0) enq).0
+putter_op pc a (inr (inl e)) h =
+    let fits : words_fit_at A2 a ≡ true = subst (λ (x : Pc). words_fit_at x a ≡ true) e h in
+    array_enqueue_puts a.op (and_parts (array_enqueues a.op) (a.pass == 0) (and_parts (array_enqueues a.op && (a.pass == 0)) (nat_lt a.t SLOTS) fits).0).0
+putter_op pc a (inr (inr e)) h =
+    let fits : words_fit_at E12 a ≡ true = subst (λ (x : Pc). words_fit_at x a ≡ true) e h in
+    enqueue_puts a.op (and_parts (enqueues a.op) (a.pass == 0) fits).0
+
+-- a put into the cell: its actor is in an enqueue, and the cell has the enqueue's value afterwards, or none
+pub record Put (w : World) (e : Event) (s : Stepped) (q : Place) : Type 0 where
+  pub a : Actor
+  pub has : w.actor e.actor ≡ Some a
+  pub puts : puts_values a.op ≡ true
+  pub holds : HoldsOnly (value_of a.op) (s.world.at q)
+
+pub put : (R : ℕ) (w : World) (e : Event) (s : Stepped) (q : Place) → IsWellFormed R w → step R w e ≡ Ok s → puts_into q s.entry ≡ true → Put w e s q
+put R w e s q formed goes h =
+    let t = took R w e s goes in
+    let puts : puts_by t.a.pc q t.did ≡ true =
+    sym (same_puts R w e t.a t.did (after R t.a e.act t.did.answer) q t.a.pc) ∙ ap (λ (x : Stepped). puts_into q x.entry) t.ends ∙ h in
+    let stands = putter t.a.pc q t.did puts in
+    let fits : record_fits R (is_there w.at) t.a ≡ true = subst (λ (o : Option Actor). actor_fits R (is_there w.at) o ≡ true) t.has (formed.actors e.actor) in
+    let by_access : IfOk (perform R e.actor w.at t.access) (PutsOnly (value_of t.a.op) w.at t.a.pc q) =
+    IfOk-at_ok (λ (x : Access). IfOk (perform R e.actor w.at x) (PutsOnly (value_of t.a.op) w.at t.a.pc q)) t.needs (act_puts R e.actor w.at q t.a e.act stands) in
+    let holds : PutsOnly (value_of t.a.op) w.at t.a.pc q t.did = IfOk-at_ok (PutsOnly (value_of t.a.op) w.at t.a.pc q) t.does by_access in
+    record {
+      a = t.a;
+      has = t.has;
+      puts = putter_op t.a.pc t.a stands (words_of R (is_there w.at) t.a fits);
+      holds = subst (λ (x : Stepped). HoldsOnly (value_of t.a.op) (x.world.at q)) t.ends (holds puts);
+    }

@@ -1,0 +1,122 @@
+-- A list taken apart at a position, and at the last position that passes a test.
+use Rattle.std.proofs.Common.{sym, subst, ◌<◌, ◌≡◌, ℕ, zero, suc, ◌-◌, Bool, true, false, refl, ap, ◌∙◌, List, [], ◌∷◌, ◌++◌, length, take, drop, slice_get, Option, Some, None, arith}
+use Rattle.rd_step.specs.Dependence.{numbered}
+use Rattle.rd_origin.specs.Positions.{behind, last_position, IsGreatest}
+
+-- the element behind the beginning
+pub at_seam : {X : Type 0} (xs ys : List X) (x : X) → numbered (xs ++ x ∷ ys) (suc (length xs)) ≡ Some x
+at_seam {X} [] ys x = refl
+at_seam {X} (y ∷ xs) ys x = at_seam xs ys x
+
+-- the beginning
+pub before_seam : {X : Type 0} (xs ys : List X) → take (suc (length xs) - 1) (xs ++ ys) ≡ xs
+before_seam {X} xs ys = let e : suc (length xs) - 1 ≡ length xs = omega arith in ap (λ (n : ℕ). take n (xs ++ ys)) e ∙ all xs ys
+  where
+    all : {X : Type 0} (xs ys : List X) → take (length xs) (xs ++ ys) ≡ xs
+    all {X} [] ys = refl
+    all {X} (x ∷ xs) ys = ap (λ (zs : List X). x ∷ zs) (all xs ys)
+
+-- a list taken apart at one of its positions
+pub record ApartAt {X : Type 0} (xs : List X) (k : ℕ) (x : X) : Type 0 where
+  pub behind : List X
+  pub whole : xs ≡ take (k - 1) xs ++ x ∷ behind
+
+apart_by : {X : Type 0} (xs : List X) (i : ℕ) (x : X) → slice_get xs i ≡ Some x → xs ≡ take i xs ++ x ∷ drop (suc i) xs
+apart_by {X} [] i x h = cc
+apart_by {X} (y ∷ ys) zero x h = let same : y ≡ x = cc in ap (λ (z : X). z ∷ ys) same
+apart_by {X} (y ∷ ys) (suc i) x h = ap (λ (zs : List X). y ∷ zs) (apart_by ys i x h)
+
+pub apart : {X : Type 0} (xs : List X) (k : ℕ) (x : X) → numbered xs k ≡ Some x → ApartAt xs k x
+apart {X} xs zero x h = cc
+apart {X} xs (suc i) x h =
+    let e : i ≡ suc i - 1 = omega arith in
+    record { behind = drop (suc i) xs; whole = apart_by xs i x h ∙ ap (λ (n : ℕ). take n xs ++ x ∷ drop (suc i) xs) e }
+
+-- no element passes
+abbrev pub NonePasses : {X : Type 0} → (X → Bool) → List X → Type 0
+NonePasses test [] = Unit {0}
+NonePasses test (x ∷ xs) = (test x ≡ false) × NonePasses test xs
+
+-- a list taken apart at the last element that passes
+pub record ApartAtLast {X : Type 0} (test : X → Bool) (xs : List X) (j : ℕ) : Type 0 where
+  pub before : List X
+  pub element : X
+  pub behind : List X
+  pub whole : xs ≡ before ++ element ∷ behind
+  pub number : suc (length before) ≡ j
+  pub passes : test element ≡ true
+  pub none : NonePasses test behind
+
+some_behind : (b : Bool) (n : Option ℕ) → behind b n ≡ None → (b ≡ false) × (n ≡ None)
+some_behind b (Some n) h = cc
+some_behind true None h = cc
+some_behind false None h = (refl, refl)
+
+pub none_passes : {X : Type 0} (test : X → Bool) (xs : List X) → last_position test xs ≡ None → NonePasses test xs
+none_passes {X} test [] h = tt
+none_passes {X} test (x ∷ xs) h =
+    let both = some_behind (test x) (last_position test xs) h in
+    (both.0, none_passes test xs both.1)
+
+apart_first : {X : Type 0} (test : X → Bool) (x : X) (xs : List X) (j : ℕ) (b : Bool) → test x ≡ b → last_position test xs ≡ None
+    → behind b None ≡ Some j → ApartAtLast test (x ∷ xs) j
+apart_first {X} test x xs j false is none h = cc
+apart_first {X} test x xs j true is none h =
+    record { before = []; element = x; behind = xs; whole = refl; number = cc; passes = is; none = none_passes test xs none }
+
+apart_later : {X : Type 0} (test : X → Bool) (x : X) (xs : List X) (n j : ℕ) → suc n ≡ j → ApartAtLast test xs n → ApartAtLast test (x ∷ xs) j
+apart_later {X} test x xs n j e a = record {
+  before = x ∷ a.before;
+  element = a.element;
+  behind = a.behind;
+  whole = ap (λ (ys : List X). x ∷ ys) a.whole;
+  number = ap suc a.number ∙ e;
+  passes = a.passes;
+  none = a.none;
+}
+
+apart_on : {X : Type 0} (test : X → Bool) (x : X) (xs : List X) (j : ℕ) (o : Option ℕ) → last_position test xs ≡ o
+    → ((n : ℕ) → last_position test xs ≡ Some n → ApartAtLast test xs n) → behind (test x) o ≡ Some j → ApartAtLast test (x ∷ xs) j
+apart_on {X} test x xs j None is rest h = apart_first test x xs j (test x) refl is h
+apart_on {X} test x xs j (Some n) is rest h = let e : suc n ≡ j = cc in apart_later test x xs n j e (rest n is)
+
+pub apart_at_last : {X : Type 0} (test : X → Bool) (xs : List X) (j : ℕ) → last_position test xs ≡ Some j → ApartAtLast test xs j
+apart_at_last {X} test [] j h = cc
+apart_at_last {X} test (x ∷ xs) j h = apart_on test x xs j (last_position test xs) refl (λ n k. apart_at_last test xs n k) h
+
+-- What the last position is
+
+none_at : {X : Type 0} (test : X → Bool) (xs : List X) (i : ℕ) (y : X) → NonePasses test xs → slice_get xs i ≡ Some y → test y ≡ false
+none_at {X} test [] i y h k = cc
+none_at {X} test (x ∷ xs) zero y h k = let same : x ≡ y = cc in ap test (sym same) ∙ h.0
+none_at {X} test (x ∷ xs) (suc i) y h k = none_at test xs i y h.1 k
+
+none_behind : {X : Type 0} (test : X → Bool) (before behind : List X) (x y : X) (i : ℕ) → NonePasses test behind → length before < i
+    → slice_get (before ++ x ∷ behind) i ≡ Some y → test y ≡ false
+none_behind {X} test [] behind x y zero h below k = absurd (omega (arith, below))
+none_behind {X} test [] behind x y (suc i) h below k = none_at test behind i y h k
+none_behind {X} test (b ∷ bs) behind x y zero h below k = absurd (omega (arith, below))
+none_behind {X} test (b ∷ bs) behind x y (suc i) h below k = none_behind test bs behind x y i h (omega (arith, below)) k
+
+none_numbered : {X : Type 0} (test : X → Bool) (before behind : List X) (x y : X) (i : ℕ) → NonePasses test behind → suc (length before) < i
+    → numbered (before ++ x ∷ behind) i ≡ Some y → test y ≡ false
+none_numbered {X} test before behind x y zero h below k = cc
+none_numbered {X} test before behind x y (suc i) h below k = none_behind test before behind x y i h (omega (arith, below)) k
+
+pub is_greatest : {X : Type 0} (test : X → Bool) (xs : List X) (j : ℕ) → last_position test xs ≡ Some j → IsGreatest test xs j
+is_greatest {X} test xs j h =
+    let a = apart_at_last test xs j h in
+    record {
+      element = a.element;
+      there =
+          subst (λ (n : ℕ). numbered xs n ≡ Some a.element) a.number
+          (ap (λ (l : List X). numbered l (suc (length a.before))) a.whole ∙ at_seam a.before a.behind a.element);
+      passes = a.passes;
+      last = λ i y below k.
+          none_numbered test a.before a.behind a.element y i a.none (subst (λ (n : ℕ). n < i) (sym a.number) below)
+          (ap (λ (l : List X). numbered l i) (sym a.whole) ∙ k);
+    }
+
+pub has_none : {X : Type 0} (test : X → Bool) (xs : List X) → last_position test xs ≡ None → (i : ℕ) (y : X) → numbered xs i ≡ Some y → test y ≡ false
+has_none {X} test xs h zero y k = cc
+has_none {X} test xs h (suc i) y k = none_at test xs i y (none_passes test xs h) k

@@ -1,0 +1,16 @@
+-- What the laws of origins say.
+use Rattle.std.specs.Prelude.{◌≡◌, ℕ, List, Some}
+use Rattle.rd_step.specs.Dependence.{numbered}
+use Rattle.rd_step.specs.declared.entries.Entry.{Entry}
+use Rattle.rd_actor.specs.declared.actors.OpReply.TheVariants.{Value as Dequeued}
+use Rattle.rd_origin.specs.Origins.{argument}
+
+-- the step at position k took the value that the step at position c called an enqueue of
+pub record IsHandedOver (entries : List Entry) (c k : ℕ) : Type 0 where
+  pub call : Entry
+  pub called : numbered entries c ≡ Some call
+  pub taken : Entry
+  pub took : numbered entries k ≡ Some taken
+  pub value : ℕ
+  pub replies : taken.reply ≡ Some (Dequeued value)
+  pub argued : argument call.event.act ≡ Some value

@@ -1,0 +1,5 @@
+pub mod Positions
+pub mod Origins
+pub mod Writers
+pub mod Searches
+pub mod Laws

@@ -1,0 +1,13 @@
+//! Who wrote this: the origin of a value that was taken, and the step that last wrote a place.
+//!
+//! Both make one pass at most over the records of the live steps, from the back, and take no memory. Neither looks at the
+//! world, but for whether a place is there.
+#![tactic(auto)]
+
+pub mod laws;
+pub mod origins;
+pub mod queries;
+mod searches;
+
+pub use origins::Origin;
+pub use queries::{last_writer, origin};

@@ -1,0 +1,82 @@
+//! The two queries of a session: the origin of a value that a step took, and the last writer of a place.
+
+ghost use Rattle.std.specs.Prelude.{◌≡◌};
+ghost use Rattle.rd_journal.specs.Sessions.{state};
+ghost use Rattle.rd_journal.specs.State.{run_of};
+ghost use Rattle.rd_origin.specs.Origins.{takes_value, put_of, call_of, origin_in};
+ghost use Rattle.rd_origin.specs.Writers.{last_writer_in};
+
+use super::origins::Origin;
+use super::searches::{Sought, last_below, step_of};
+use rd_actor::OpReply;
+use rd_cell::{Place, Refusal};
+use rd_journal::{LiveRecords, Session};
+
+/// The origin of the value that the live step of this number took, from 1: the last step before it that put a value into
+/// the same cell, and the call that this put was made in.
+///
+/// A put is a compare-and-swap that won a cell for an enqueue, a swap by an enqueue on the array, or the making of a segment,
+/// which puts into its first cell. Marking a cell unsafe leaves its value, and is no put. It takes no memory, and makes one pass
+/// over the earlier steps at most, from the back.
+///
+/// # Errors
+///
+/// `NoSuchStep`, with the number of live steps, if `k` is not from 1 to it; `NotATake` if the step took no value.
+pub fn origin<const R: usize>(session: &Session<R>, k: u64) -> Result<Origin, Refusal>
+    ensures answer { result ≡ origin_in k (run_of R (state session.now)) }
+{
+    let taken = session.entry(k)?;
+    if !takes_value(taken.reply) {
+        return Err(Refusal::NotATake);
+    }
+    let steps = session.live();
+    let put = last_put(&steps, k, taken.place);
+    Ok(Origin {
+        call: last_call(&steps, put),
+        put,
+        take: k,
+    })
+}
+
+/// Whether a reply hands out a value.
+fn takes_value(reply: Option<OpReply>) -> bool
+    ensures { result ≡ takes_value reply }
+{
+    matches!(reply, Some(OpReply::Value(_)))
+}
+
+/// The last step before the `k`-th that put a value into the cell, if there is a cell.
+fn last_put(steps: &LiveRecords, k: u64, cell: Option<Place>) -> Option<u64>
+    ensures { result ≡ put_of steps.now k cell }
+{
+    last_below(steps, k, Sought::PutInto(cell?))
+}
+
+/// The last call before the step of this number by the actor of that step, if there is one.
+fn last_call(steps: &LiveRecords, number: Option<u64>) -> Option<u64>
+    ensures { result ≡ call_of steps.now number }
+{
+    let number = number?;
+    let step = step_of(steps, number)?;
+    last_below(steps, number, Sought::CallBy(step.event.actor))
+}
+
+/// The last live step that wrote this place, or one that overlaps it; none if no live step did. It takes no memory, and makes
+/// one pass over the live steps at most, from the back.
+///
+/// # Errors
+///
+/// `NoSuchPlace` if the place is not there in the session's world.
+pub fn last_writer<const R: usize>(
+    session: &Session<R>,
+    place: Place,
+) -> Result<Option<u64>, Refusal>
+    ensures answer { result ≡ last_writer_in place (run_of R (state session.now)) }
+{
+    let Some(_) = session.world().content(place) else {
+        return Err(Refusal::NoSuchPlace);
+    };
+    let steps = session.live();
+    let behind = steps.len() as u64 + 1;
+    Ok(last_below(&steps, behind, Sought::WriteOf(place)))
+}

@@ -1,0 +1,122 @@
+//! The one search that both queries make: back from a step to the last one before it that is what they look for.
+
+ghost use Rattle.std.specs.Prelude.{◌≡◌, ◌-◌, take, Some, None, MatchOption};
+ghost use Rattle.rd_step.specs.Dependence.{numbered};
+ghost use Rattle.rd_origin.specs.Origins.{is_call, is_at, is_first_cell, puts_into, calls_by};
+ghost use Rattle.rd_origin.specs.Positions.{last_position};
+ghost use Rattle.rd_origin.specs.Writers.{writes_to};
+ghost use Rattle.rd_origin.specs.Searches.{is_sought, is_sought_in};
+
+use rd_actor::{Act, Pc};
+use rd_cell::{Place, overlaps};
+use rd_journal::LiveRecords;
+use rd_step::Entry;
+
+/// What is looked for.
+#[derive(Clone, Copy, Debug, PartialEq, Eq)]
+pub enum Sought {
+    /// A step that put a value into this cell of a segment, or slot of the array.
+    PutInto(Place),
+    /// A call by this actor.
+    CallBy(u8),
+    /// A step that wrote this place, or one that overlaps it.
+    WriteOf(Place),
+}
+
+impl Sought {
+    /// Whether the step is what is looked for.
+    fn is(self, step: &Entry) -> bool
+        ensures { result ≡ is_sought self step.now }
+    {
+        match self {
+            Sought::PutInto(cell) => puts_into(cell, step),
+            Sought::CallBy(actor) => calls_by(actor, step),
+            Sought::WriteOf(place) => writes_to(place, step),
+        }
+    }
+}
+
+/// The greatest number below this one of a step that is what is looked for.
+pub(crate) fn last_below(steps: &LiveRecords, below: u64, sought: Sought) -> Option<u64>
+    ensures { result ≡ last_position (is_sought sought) (take (below - 1) steps.now) }
+{
+    for number in (1..below).rev() {
+        if is_at_number(steps, number, sought) {
+            return Some(number);
+        }
+    }
+    None
+}
+
+/// Whether there is a step of this number, and it is what is looked for.
+fn is_at_number(steps: &LiveRecords, number: u64, sought: Sought) -> bool
+    ensures { result ≡ is_sought_in sought steps.now number }
+{
+    match step_of(steps, number) {
+        None => false,
+        Some(step) => sought.is(step),
+    }
+}
+
+/// The step of this number, from 1, if there is one.
+pub(crate) fn step_of<'a>(steps: &LiveRecords<'a>, number: u64) -> Option<&'a Entry>
+    ensures { MatchOption result (numbered steps.now number ≡ None) (λ step. numbered steps.now number ≡ Some step.now) }
+{
+    if number == 0 {
+        return None;
+    }
+    steps.get(number as usize - 1)
+}
+
+/// Whether the step put a value into this cell.
+fn puts_into(cell: Place, step: &Entry) -> bool
+    ensures { result ≡ puts_into cell step.now }
+{
+    match step.old_actor.pc {
+        Pc::E8 => step.wrote && is_at(step.place, cell),
+        Pc::A2 => is_at(step.place, cell),
+        Pc::E12 => is_first_cell(step.place, cell),
+        _ => false,
+    }
+}
+
+/// Whether an access has this place.
+fn is_at(place: Option<Place>, cell: Place) -> bool
+    ensures { result ≡ is_at place cell }
+{
+    match place {
+        Some(place) => place == cell,
+        None => false,
+    }
+}
+
+/// Whether the cell is the first one of the segment that this is the whole of.
+fn is_first_cell(place: Option<Place>, cell: Place) -> bool
+    ensures { result ≡ is_first_cell place cell }
+{
+    match (place, cell) {
+        (Some(Place::Whole(made)), Place::Cell(name, index)) => made == name && index == 0,
+        _ => false,
+    }
+}
+
+/// Whether the step is a call by this actor.
+fn calls_by(actor: u8, step: &Entry) -> bool
+    ensures { result ≡ calls_by actor step.now }
+{
+    actor == step.event.actor && is_call(step.event.act)
+}
+
+/// Whether an act is a call.
+fn is_call(act: Act) -> bool
+    ensures { result ≡ is_call act }
+{
+    !matches!(act, Act::Go | Act::Starve(_))
+}
+
+/// Whether the step wrote this place, or one that overlaps it.
+fn writes_to(place: Place, step: &Entry) -> bool
+    ensures { result ≡ writes_to place step.now }
+{
+    step.wrote && step.place.is_some_and(|written| overlaps(written, place))
+}

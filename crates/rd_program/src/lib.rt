@@ -1,0 +1,15 @@
+//! The program without its command line: what it does over the devices that it is given, and how it ends.
+//!
+//! A script runs over a fresh world, with the trace of the run behind the report if one is asked for, or over the run of a trace
+//! that is loaded; or several scripts run over one fresh world, each by a viewer of its own. How it went, as a `Result`, determines the end: an exit status, and what goes to standard output and to standard error.
+#![tactic(auto)]
+
+pub mod endings;
+pub mod faults;
+pub mod program;
+pub mod viewers;
+
+pub use endings::{Ending, Message, end};
+pub use faults::ProgramFault;
+pub use program::{play, resume, whole_text};
+pub use viewers::view;

@@ -1,0 +1,109 @@
+//! Traces that the program loads, each with a script over it and its report, or with the fault that it comes to.
+
+use rd_cell::Refusal;
+use rd_program::faults::ProgramFault;
+use rd_program::program::{resume, whole_text};
+use rd_script::{ReadSource, WriteSink};
+use std::alloc::Global;
+use std::io;
+use std::process::Abort;
+use std::test::Fail;
+
+/// The trace of an enqueue's first two steps.
+const BEGUN: &str =
+    "{\"actors\":4,\"events\":[[\"enq\",1,7],[\"go\",1]],\"ring\":4,\"version\":1}\n";
+
+/// Loads the trace, runs the script over it, and answers how it ended; the report must be the wanted.
+fn loaded(
+    rt: &impl Abort,
+    alloc: Global,
+    trace: &str,
+    script: &str,
+    report: &str,
+) -> Result<u64, ProgramFault> {
+    let mut written = Vec::new(alloc);
+    let lines = resume(
+        alloc,
+        trace.as_bytes(),
+        &mut ReadSource::new(script.as_bytes()),
+        &mut WriteSink::new(&mut written),
+    );
+    assert_eq!(rt; written.as_slice(), report.as_bytes(), "trace {trace}");
+    lines
+}
+
+#[test]
+fn a_script_goes_on_with_the_run_of_a_trace(rt: HostRuntime) {
+    let lines = loaded(
+        &rt,
+        rt.alloc(),
+        BEGUN,
+        "len\nstep 2\nback 2\nshow cell 0.0 4\n",
+        "at 2 0\nstep 2; go 1; qtail; read; 0.0; -\nat 0 2\nrefused 19 NoSuchPlace\n",
+    );
+    assert!(rt; matches!(lines, Ok(4)));
+}
+
+#[test]
+fn the_ring_and_the_actors_are_those_of_the_trace(rt: HostRuntime) {
+    let lines = loaded(
+        &rt,
+        rt.alloc(),
+        "{\"version\": 1, \"ring\": 8, \"events\": [], \"actors\": 2}",
+        "deq 2\ndeq 3\nshow cell 0.0 7\n",
+        "ok 1\nrefused 1 NoActor\nis 1 7 none\n",
+    );
+    assert!(rt; matches!(lines, Ok(3)));
+}
+
+#[test]
+fn a_text_that_is_no_trace_runs_no_script(rt: HostRuntime) {
+    let lines = loaded(&rt, rt.alloc(), "{\"actors\":4,\"ev", "len\n", "");
+    assert!(rt; matches!(lines, Err(ProgramFault::BadTrace)));
+}
+
+#[test]
+fn a_trace_with_a_refused_event_runs_no_script(rt: HostRuntime) {
+    let trace =
+        "{\"actors\":4,\"events\":[[\"enq\",1,7],[\"go\",1],[\"starve\",1,true]],\"ring\":4,\"version\":1}";
+    let lines = loaded(&rt, rt.alloc(), trace, "len\n", "");
+    assert!(rt;
+        matches!(
+            lines,
+            Err(ProgramFault::TraceStep {
+                step: 3,
+                cause: Refusal::NoChoice
+            })
+        )
+    );
+}
+
+/// Fails at each read, by an error of this kind.
+#[derive(Drop)]
+struct BrokenReader {
+    kind: io::ErrorKind,
+}
+
+impl io::Read for BrokenReader {
+    fn read(&mut self, _buf: &mut [u8]) -> io::Result<usize> {
+        Err(io::Error::from(self.kind))
+    }
+}
+
+#[test]
+fn a_file_is_read_whole_or_not_at_all(rt: HostRuntime) -> Result<(), Fail> {
+    let text = whole_text(rt.alloc(), &mut BEGUN.as_bytes())?;
+    assert_eq!(rt; text.as_slice(), BEGUN.as_bytes());
+    for kind in [io::ErrorKind::Other, io::ErrorKind::IsADirectory] {
+        let unread = whole_text(rt.alloc(), &mut BrokenReader { kind });
+        assert!(rt; matches!(unread, Err(ProgramFault::Read)), "{kind:?}");
+    }
+    Ok(())
+}
+
+#[test]
+fn a_file_that_finds_no_memory_is_no_failed_read(rt: HostRuntime) {
+    let kind = io::ErrorKind::OutOfMemory;
+    let unread = whole_text(rt.alloc(), &mut BrokenReader { kind });
+    assert!(rt; matches!(unread, Err(ProgramFault::NoMemory)));
+}

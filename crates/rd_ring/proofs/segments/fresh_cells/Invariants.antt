@@ -1,0 +1,6 @@
+use Rattle.std.proofs.Common.{◌≡◌, ℕ, ◌<◌, length, slice_get, Some, None}
+use Rattle.rd_ring.specs.Prelude.{new_cell}
+use Rattle.rd_ring.proofs.segments.fresh_cells.Given as goal
+
+abbrev pub invariant-loop-i : goal.invariant-loop-i
+invariant-loop-i g l = (length l.cells ≡ l.i-end) × ((u : ℕ) → u < l.i → slice_get l.cells u ≡ Some (new_cell u None))

@@ -1,0 +1,51 @@
+-- What a segment has at each of its places, and what its operations do.
+use Rattle.std.specs.Prelude.{◌≡◌, ℕ, Bool, ◌&&◌, nat_le, if◌then◌else◌, List, Option, Some, None, option_map, slice_get, Err}
+use Rattle.rd_ring.specs.Prelude.{COUNTER_END, Cell, SegName, Place, Head, Tail, Next, CellAt, Content, Number, TailIs, NextIs, CellIs, Operation, Answer, Won, Lost, Refusal, is_of, Contents, operand, operate, Operates, Restores}
+use Rattle.rd_ring.specs.declared.segments.Segment.{Segment}
+use Rattle.rd_ring.specs.declared.parts.SegmentParts.{SegmentParts}
+
+-- what a segment with these words has at each of its places, whatever it is named there
+abbrev pub part_with : ℕ → ℕ → Bool → Option SegName → List Cell → Contents
+part_with head tail closed next cells (Head name) = Some (Number head)
+part_with head tail closed next cells (Tail name) = Some (TailIs closed tail)
+part_with head tail closed next cells (Next name) = Some (NextIs next)
+part_with head tail closed next cells (CellAt name i) = option_map CellIs (slice_get cells i)
+part_with head tail closed next cells _ = None
+
+-- the content of a segment's place
+abbrev pub part : {R : ℕ} → Segment R → Contents
+part s = part_with s.head s.tail s.closed s.next s.cells
+
+-- the content that a segment's place is to have
+abbrev pub part_from : {R : ℕ} → SegmentParts R → Contents
+part_from s = part_with s.head s.tail s.closed s.next s.cells
+
+-- whether both counters are within their end
+abbrev pub counters_fit : {R : ℕ} → SegmentParts R → Bool
+counters_fit s = nat_le s.head COUNTER_END && nat_le s.tail COUNTER_END
+
+-- the head counter
+abbrev pub head_count : {R : ℕ} → Segment R → ℕ
+head_count s = s.head
+
+-- the tail counter
+abbrev pub tail_count : {R : ℕ} → Segment R → ℕ
+tail_count s = s.tail
+
+-- whatever the segment is named, an operation at this place of it found this content, answered this, wrote or not, and
+-- left every other place of it as it was
+pub record OperatesAt {R : ℕ} (place : SegName → Place) (op : Operation) (found : Content) (answer : Answer) (wrote : Bool) (old new : Segment R) : Type 0 where
+  pub named : (s : SegName)
+      → Operates (is_of s) (place s) op (record { place = Some (place s); old = Some found; answer = answer; wrote = wrote }) (part old) (part new)
+
+-- whatever the segment is named, the operation is refused at this place of it
+abbrev pub RefusesAt : {R : ℕ} → (SegName → Place) → Operation → Segment R → Refusal → Type 0
+RefusesAt place op old refusal = (s : SegName) → operate (place s) op (operand (part old) (place s)) ≡ Err refusal
+
+-- whatever the segment is named, this content was put back at this place of it, and every other place of it is as it was
+pub record RestoresAt {R : ℕ} (place : SegName → Place) (content : Content) (old new : Segment R) : Type 0 where
+  pub named : (s : SegName) → Restores (is_of s) (place s) (Some content) (part old) (part new)
+
+-- the answer of a compare-and-swap
+abbrev pub swap_answer : Bool → Answer
+swap_answer won = if won then Won else Lost

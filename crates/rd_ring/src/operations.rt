@@ -1,0 +1,75 @@
+//! Any operation at any place of a segment, done by the segment's own operations.
+
+ghost use Rattle.std.specs.Prelude.{◌≡◌, Some, is_some, IsTrue, IfOk, IfErr, OnErr, Err};
+ghost use Rattle.rd_ring.specs.Prelude.{is_beside, may_have, operand, operate, Operates, Restores};
+ghost use Rattle.rd_cell.specs.Operations.{suits_segments};
+
+use super::segments::Segment;
+use rd_cell::{Answer, Content, Done, Operation, Place, Refusal};
+
+impl<const R: usize> Segment<R> {
+    ghost use Rattle.rd_ring.specs.Segments.{part};
+
+    /// Does an operation at a place, and answers what the entry of the step records of it.
+    ///
+    /// # Errors
+    ///
+    /// `CounterEnd` for a fetch-and-add on a counter that is 2^62; `NoSuchPlace` if the segment has no such place,
+    /// or a content of another kind there, which no actor asks for. The segment is then as before.
+    pub fn operate(&mut self, place: Place, operation: Operation) -> Result<Done, Refusal>
+        requires { IsTrue (suits_segments operation) }
+        ensures ok { IfOk result (λ done. Operates (is_beside place) place operation done (part self.old) (part self.new)) }
+        ensures err { IfErr result (λ e. operate place operation (operand (part self.old) place) ≡ Err e) }
+        ensures unchanged { OnErr result (self.new ≡ self.old) }
+    {
+        let found = match self.content(place) {
+            None => return Err(Refusal::NoSuchPlace),
+            Some(found) => found,
+        };
+        if let Some(answer) = operation.read(found) {
+            return Ok(Done::at(place, found, answer, false));
+        }
+        match (place, operation) {
+            (Place::Head(_), Operation::Add) => match self.add_head() {
+                Err(refusal) => Err(refusal),
+                Ok(_) => Ok(Done::at(place, found, Answer::Found(found), true)),
+            },
+            (Place::Tail(_), Operation::Add) => match self.add_tail() {
+                Err(refusal) => Err(refusal),
+                Ok(_) => Ok(Done::at(place, found, Answer::Found(found), true)),
+            },
+            (Place::Tail(_), Operation::Close) => {
+                let closed = self.close();
+                Ok(Done::at(place, found, Answer::WasClosed(closed), true))
+            }
+            (Place::Tail(_), Operation::CasTail { old, new }) => {
+                let won = self.cas_tail(old, new);
+                Ok(Done::swapped(place, found, won))
+            }
+            (Place::Next(_), Operation::CasNext(new)) => {
+                let won = self.cas_next(new);
+                Ok(Done::swapped(place, found, won))
+            }
+            (Place::Cell(_, i), Operation::Cas2 { old, new }) => {
+                let won = self.cas2_cell(i, old, new);
+                Ok(Done::swapped(place, found, won))
+            }
+            _ => Err(Refusal::NoSuchPlace),
+        }
+    }
+
+    /// Puts the content from before back at one of the segment's places: the inverse of each operation that writes.
+    pub fn restore(&mut self, place: Place, content: Content)
+        requires there { IsTrue (is_some (part self.old place)) }
+        requires kind { IsTrue (may_have place content) }
+        ensures { Restores (is_beside place) place (Some content) (part self.old) (part self.new) }
+    {
+        match (place, content) {
+            (Place::Head(_), Content::Number(count)) => self.restore_head(count),
+            (Place::Tail(_), Content::Tail { closed, count }) => self.restore_tail(closed, count),
+            (Place::Next(_), Content::Next(next)) => self.restore_next(next),
+            (Place::Cell(_, i), Content::Cell(cell)) => self.restore_cell(i, cell),
+            _ => unreachable!(),
+        }
+    }
+}

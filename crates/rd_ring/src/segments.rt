@@ -1,0 +1,274 @@
+//! The segment and its operations.
+
+ghost use Rattle.std.specs.Prelude.{◌≡◌, ℕ, ◌<◌, ◌≤◌, ◌↔◌, true, false, Some, None, Err, IsSome, IsTrue, IfOk, IfErr, OnErr, option_map, slice_get, length};
+ghost use Rattle.rd_ring.specs.Prelude.{COUNTER_END, MOST_CELLS, SegName, Head, Tail, Next, CellAt, Content, Number, TailIs, NextIs, CellIs, Add, Close, CasTail, CasNext, Cas2, Found, WasClosed, root, fresh, holding, new_cell};
+
+use super::parts::SegmentParts;
+use rd_cell::limits::COUNTER_END;
+use rd_cell::{Cell, Content, Place, Refusal, SegName};
+
+/// A segment: a ring of `R` cells, 1 to 64.
+#[derive(Debug, Drop)]
+pub struct Segment<const R: usize> {
+    head: u64,
+    tail: u64,
+    closed: bool,
+    next: Option<SegName>,
+    cells: [Cell; R],
+    ghost small: { R ≤ MOST_CELLS },
+    ghost sized: { length cells ≡ R },
+    ghost head_within: { head ≤ COUNTER_END },
+    ghost tail_within: { tail ≤ COUNTER_END },
+}
+
+impl<const R: usize> Segment<R> {
+    ghost use Rattle.rd_ring.specs.Segments.{part, part_from, counters_fit, head_count, tail_count, swap_answer, OperatesAt, RefusesAt, RestoresAt};
+
+    /// A fresh segment: both counters are 0, it is open, no segment follows, and cell u is safe at index u and empty.
+    pub fn fresh() -> Self
+        requires { R ≤ MOST_CELLS }
+        ensures { (q : Place) → part result q ≡ fresh R q }
+    {
+        Segment {
+            head: 0,
+            tail: 0,
+            closed: false,
+            next: None,
+            cells: fresh_cells(),
+        }
+    }
+
+    /// A new segment that holds a value already: the fresh one, but its tail is 1 and the value is in cell 0.
+    pub fn holding(value: u64) -> Self
+        requires positive { 1 ≤ R }
+        requires small { R ≤ MOST_CELLS }
+        ensures { (q : Place) → part result q ≡ holding R value q }
+    {
+        let mut cells = fresh_cells();
+        cells[0].val = Some(value);
+        Segment {
+            head: 0,
+            tail: 1,
+            closed: false,
+            next: None,
+            cells,
+        }
+    }
+
+    /// The segment with these words.
+    pub fn from_parts(parts: SegmentParts<R>) -> Self
+        requires { IsTrue (counters_fit parts) }
+        ensures { (q : Place) → part result q ≡ part_from parts.entry q }
+    {
+        Segment {
+            head: parts.head,
+            tail: parts.tail,
+            closed: parts.closed,
+            next: parts.next,
+            cells: same_cells(&parts.cells[..]),
+        }
+    }
+
+    /// What is at a place of the segment, whatever the segment is named there; none if it has no such place.
+    pub fn content(&self, place: Place) -> Option<Content>
+        ensures { result ≡ part self.now place }
+    {
+        match place {
+            Place::Head(_) => Some(Content::Number(self.head)),
+            Place::Tail(_) => Some(Content::Tail {
+                closed: self.closed,
+                count: self.tail,
+            }),
+            Place::Next(_) => Some(Content::Next(self.next)),
+            Place::Cell(_, i) => match self.cell(i) {
+                None => None,
+                Some(cell) => Some(Content::Cell(cell)),
+            },
+            _ => None,
+        }
+    }
+
+    /// The head counter, at most 2^62.
+    pub fn head(&self) -> u64
+        ensures value { (s : SegName) → part self.now (Head s) ≡ Some (Number result) }
+        ensures within { result ≤ COUNTER_END }
+    {
+        self.head
+    }
+
+    /// The closed bit and the tail counter, at most 2^62.
+    pub fn tail(&self) -> (bool, u64)
+        ensures value { (s : SegName) → part self.now (Tail s) ≡ Some (TailIs result.0 result.1) }
+        ensures within { result.1 ≤ COUNTER_END }
+    {
+        (self.closed, self.tail)
+    }
+
+    /// The name of the segment that follows, or none.
+    pub fn next(&self) -> Option<SegName>
+        ensures { (s : SegName) → part self.now (Next s) ≡ Some (NextIs result) }
+    {
+        self.next
+    }
+
+    /// The cell of this index, or none from `R` on.
+    pub fn cell(&self, i: u8) -> Option<Cell>
+        ensures value { (s : SegName) → part self.now (CellAt s i) ≡ option_map CellIs result }
+        ensures there { IsSome result ↔ (i < R) }
+    {
+        self.cells.get(i as usize).copied()
+    }
+
+    /// Fetch-and-add of 1 on the head: answers the counter from before.
+    ///
+    /// # Errors
+    ///
+    /// `CounterEnd` exactly if the counter is 2^62; the segment is then as before.
+    pub fn add_head(&mut self) -> Result<u64, Refusal>
+        ensures ok { IfOk result (λ n. OperatesAt Head Add (Number n) (Found (Number n)) true self.old self.new) }
+        ensures err { IfErr result (λ e. RefusesAt Head Add self.old e) }
+        ensures end { (result ≡ Err Refusal.CounterEnd) ↔ (head_count self.old ≡ COUNTER_END) }
+        ensures unchanged { OnErr result (self.new ≡ self.old) }
+    {
+        if self.head == COUNTER_END {
+            return Err(Refusal::CounterEnd);
+        }
+        let old = self.head;
+        self.head += 1;
+        Ok(old)
+    }
+
+    /// Fetch-and-add of 1 on the tail: answers the closed bit and the counter from before.
+    ///
+    /// # Errors
+    ///
+    /// `CounterEnd` exactly if the counter is 2^62; the segment is then as before.
+    pub fn add_tail(&mut self) -> Result<(bool, u64), Refusal>
+        ensures ok { IfOk result (λ old. OperatesAt Tail Add (TailIs old.0 old.1) (Found (TailIs old.0 old.1)) true self.old self.new) }
+        ensures err { IfErr result (λ e. RefusesAt Tail Add self.old e) }
+        ensures end { (result ≡ Err Refusal.CounterEnd) ↔ (tail_count self.old ≡ COUNTER_END) }
+        ensures unchanged { OnErr result (self.new ≡ self.old) }
+    {
+        if self.tail == COUNTER_END {
+            return Err(Refusal::CounterEnd);
+        }
+        let old = (self.closed, self.tail);
+        self.tail += 1;
+        Ok(old)
+    }
+
+    /// Test-and-set of the closed bit: answers the old bit.
+    pub fn close(&mut self) -> bool
+        ensures { OperatesAt Tail Close (TailIs result (tail_count self.old)) (WasClosed result) true self.old self.new }
+    {
+        let old = self.closed;
+        self.closed = true;
+        old
+    }
+
+    /// Compare-and-swap of the tail, from open at one count to open at another: answers whether it won.
+    pub fn cas_tail(&mut self, old: u64, new: u64) -> bool
+        requires { new ≤ COUNTER_END }
+        ensures { (c : Content) → part self.old (Tail root) ≡ Some c
+            → OperatesAt Tail (CasTail old new) c (swap_answer result) result self.old self.new }
+    {
+        let won = !self.closed && self.tail == old;
+        if won {
+            self.tail = new;
+        }
+        won
+    }
+
+    /// Compare-and-swap of the next, from none: answers whether it won.
+    pub fn cas_next(&mut self, new: SegName) -> bool
+        ensures { (c : Content) → part self.old (Next root) ≡ Some c
+            → OperatesAt Next (CasNext new) c (swap_answer result) result self.old self.new }
+    {
+        let won = self.next.is_none();
+        if won {
+            self.next = Some(new);
+        }
+        won
+    }
+
+    /// Compare-and-swap of a whole cell: answers whether it won.
+    pub fn cas2_cell(&mut self, i: u8, old: Cell, new: Cell) -> bool
+        requires { i < R }
+        ensures { (c : Content) → part self.old (CellAt root i) ≡ Some c
+            → OperatesAt (λ s. CellAt s i) (Cas2 old new) c (swap_answer result) result self.old self.new }
+    {
+        let mut cell = self.cells[usize::from(i)];
+        let won = cell.cas2(old, new);
+        self.cells[usize::from(i)] = cell;
+        won
+    }
+
+    /// The inverse of what writes the head: the counter becomes the one from before.
+    pub fn restore_head(&mut self, count: u64)
+        requires { count ≤ COUNTER_END }
+        ensures { RestoresAt Head (Number count) self.old self.new }
+    {
+        self.head = count;
+    }
+
+    /// The inverse of what writes a tail: the closed bit and the counter become those from before.
+    pub fn restore_tail(&mut self, closed: bool, count: u64)
+        requires { count ≤ COUNTER_END }
+        ensures { RestoresAt Tail (TailIs closed count) self.old self.new }
+    {
+        self.closed = closed;
+        self.tail = count;
+    }
+
+    /// The inverse of what writes the next: it becomes the one from before.
+    pub fn restore_next(&mut self, next: Option<SegName>)
+        ensures { RestoresAt Next (NextIs next) self.old self.new }
+    {
+        self.next = next;
+    }
+
+    /// The inverse of what writes a cell: it becomes the one from before.
+    pub fn restore_cell(&mut self, i: u8, cell: Cell)
+        requires { i < R }
+        ensures { RestoresAt (λ s. CellAt s i) (CellIs cell) self.old self.new }
+    {
+        self.cells[usize::from(i)] = cell;
+    }
+}
+
+/// The cells of a fresh segment.
+fn fresh_cells<const R: usize>() -> [Cell; R]
+    requires { R ≤ MOST_CELLS }
+    ensures { (u : ℕ) → u < R → slice_get result u ≡ Some (new_cell u None) }
+{
+    let mut cells = [Cell {
+        safe: true,
+        idx: 0,
+        val: None,
+    }; R];
+    for i in 0..R {
+        cells[i] = Cell {
+            safe: true,
+            idx: i as u64,
+            val: None,
+        };
+    }
+    cells
+}
+
+/// The cells that are handed in, in an array of their own.
+fn same_cells<const R: usize>(given: &[Cell]) -> [Cell; R]
+    requires small { R ≤ MOST_CELLS }
+    requires sized { length given.now ≡ R }
+    ensures { (u : ℕ) → u < R → slice_get result u ≡ slice_get given.now u }
+{
+    let mut cells = [Cell {
+        safe: true,
+        idx: 0,
+        val: None,
+    }; R];
+    for i in 0..R {
+        cells[i] = given[i];
+    }
+    cells
+}

@@ -1,0 +1,56 @@
+-- Bytes that a device tells, over several calls in a row.
+use Rattle.std.proofs.Common.{ℕ, List, [], ◌++◌, Option, Some, None, refl, sym, ◌∙◌, ap, append_assoc}
+use Rattle.std.proofs.lemmas.List.{append-nil}
+use Rattle.std.specs.Io.KnownBytes.{Keeps, Consumes, Appends}
+
+-- what is kept is given nothing of
+pub Consumes-from_keeps : (a b : Option (List ℕ)) → Keeps a b → Consumes a b []
+Consumes-from_keeps None b k = tt
+Consumes-from_keeps (Some xs) None k = absurd k
+Consumes-from_keeps (Some xs) (Some ys) k = sym k
+
+-- nothing was given
+pub Consumes-nil : (a : Option (List ℕ)) → Consumes a a []
+Consumes-nil None = tt
+Consumes-nil (Some xs) = refl
+
+-- some bytes were given, and then some more
+pub Consumes-join : (a b c : Option (List ℕ)) (x y : List ℕ) → Consumes a b x → Consumes b c y → Consumes a c (x ++ y)
+Consumes-join None b c x y h k = tt
+Consumes-join (Some xs) None c x y h k = absurd h
+Consumes-join (Some xs) (Some ys) None x y h k = absurd k
+Consumes-join (Some xs) (Some ys) (Some zs) x y h k = h ∙ ap (λ t. x ++ t) k ∙ sym (append_assoc x y zs)
+
+-- nothing was taken
+pub Appends-from_keeps : (a b : Option (List ℕ)) → Keeps a b → Appends a b []
+Appends-from_keeps None b k = tt
+Appends-from_keeps (Some xs) None k = absurd k
+Appends-from_keeps (Some xs) (Some ys) k = k ∙ sym (append-nil xs)
+
+-- some bytes were taken, and then some more
+pub Appends-join : (a b c : Option (List ℕ)) (x y : List ℕ) → Appends a b x → Appends b c y → Appends a c (x ++ y)
+Appends-join None b c x y h k = tt
+Appends-join (Some xs) None c x y h k = absurd h
+Appends-join (Some xs) (Some ys) None x y h k = absurd k
+Appends-join (Some xs) (Some ys) (Some zs) x y h k = k ∙ ap (λ t. t ++ y) h ∙ append_assoc xs x y
+
+-- nothing was taken
+pub Appends-nil : (a : Option (List ℕ)) → Appends a a []
+Appends-nil None = tt
+Appends-nil (Some xs) = sym (append-nil xs)
+
+-- what is kept twice is kept
+pub Keeps-join : (a b c : Option (List ℕ)) → Keeps a b → Keeps b c → Keeps a c
+Keeps-join None b c h k = tt
+Keeps-join (Some xs) None c h k = absurd h
+Keeps-join (Some xs) (Some ys) None h k = absurd k
+Keeps-join (Some xs) (Some ys) (Some zs) h k = k ∙ h
+
+-- what is known is kept where nothing happens
+pub Keeps-same : (a : Option (List ℕ)) → Keeps a a
+Keeps-same None = tt
+Keeps-same (Some xs) = refl
+
+-- bytes are given of what was kept
+pub Consumes-kept : (a b c : Option (List ℕ)) (x : List ℕ) → Keeps a b → Consumes b c x → Consumes a c x
+Consumes-kept a b c x h k = Consumes-join a b c [] x (Consumes-from_keeps a b h) k

@@ -1,0 +1,40 @@
+-- Words that spell numbers, and the parts of a segment's name.
+use Rattle.std.proofs.Common.{◌≡◌, ◌≢◌, ℕ, ◌^◌, ◌<◌, ◌==◌, List, [], ◌∷◌, length, Option, Some, None, IfSome, IfNone, arith, sym, ◌∙◌, ap, append_assoc}
+use Rattle.std.specs.Fmt.{decimal}
+use Rattle.std.specs.List.{slice_split, join_with_byte}
+use Rattle.std.specs.Str.{IsUtf8}
+use Rattle.std.proofs.lemmas.Str.{IsUtf8-from_ascii}
+use Rattle.std.proofs.lemmas.Fmt.{IsAscii-decimal}
+use Rattle.rd_step.specs.Prelude.{SegName}
+use Rattle.rd_script.specs.Contents.{name_words}
+use Rattle.rd_script.specs.Spelling.{IsSegmentInRange}
+use Rattle.rd_script.proofs.SplitLemmas.{parts_of_join, join_of_parts, is_free_decimal}
+
+-- the digits of a number are UTF-8
+pub IsUtf8-decimal : (n : ℕ) → n < 2 ^ 64 → IsUtf8 (decimal n)
+IsUtf8-decimal n h = IsUtf8-from_ascii (decimal n) (IsAscii-decimal n h)
+
+-- a segment's name is its two parts, joined by a full stop
+name_join : (s : SegName) → name_words s ≡ join_with_byte 46 (decimal s.maker ∷ decimal s.n ∷ [])
+name_join s = append_assoc (decimal s.maker) (46 ∷ []) (decimal s.n)
+
+-- a segment's name has two parts
+pub name_parts : (s : SegName) → IsSegmentInRange s → slice_split (λ byte. byte == 46) (name_words s) ≡ decimal s.maker ∷ decimal s.n ∷ []
+name_parts s small =
+    ap (slice_split (λ byte. byte == 46)) (name_join s)
+    ∙ parts_of_join 46 (decimal s.maker) (decimal s.n ∷ [])
+    (is_free_decimal 46 s.maker (omega arith) (omega (arith, small.0)), (is_free_decimal 46 s.n (omega arith) (omega (arith, small.1)), tt))
+
+-- what the parts spell, the word spells
+pub name_from_parts : (word : List ℕ) (parts : List (List ℕ)) (r : Option SegName) → parts ≡ slice_split (λ byte. byte == 46) word → IfSome r (λ s. parts ≡ decimal s.maker ∷ decimal s.n ∷ []) → IfSome r (λ s. word ≡ name_words s)
+name_from_parts word parts None cut is = tt
+name_from_parts word parts (Some s) cut is = join_of_parts 46 word (decimal s.maker ∷ decimal s.n ∷ []) (sym is ∙ cut) ∙ sym (name_join s)
+
+-- where the parts spell no segment's name, the word spells none
+pub no_name_from_parts : (word : List ℕ) (parts : List (List ℕ)) (r : Option SegName) → parts ≡ slice_split (λ byte. byte == 46) word → IfNone r ((s : SegName) → IsSegmentInRange s → parts ≢ decimal s.maker ∷ decimal s.n ∷ []) → IfNone r ((s : SegName) → IsSegmentInRange s → word ≢ name_words s)
+no_name_from_parts word parts (Some s) cut is = tt
+no_name_from_parts word parts None cut is = λ s small e. is s small (cut ∙ ap (slice_split (λ byte. byte == 46)) e ∙ name_parts s small)
+
+-- a word of more than four parts spells none
+pub no_name_of_many : (word : List ℕ) → 4 < length (slice_split (λ byte. byte == 46) word) → (s : SegName) → IsSegmentInRange s → word ≢ name_words s
+no_name_of_many word many s small e = absurd (omega (arith, many, ap length (ap (slice_split (λ byte. byte == 46)) e ∙ name_parts s small)))

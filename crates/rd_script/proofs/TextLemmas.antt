@@ -1,0 +1,38 @@
+-- The lines of a whole text, as the parts between its line feeds, and what they say.
+use Rattle.std.proofs.Common.{◌≡◌, ◌≢◌, ℕ, Bool, true, false, ◌==◌, if◌then◌else◌, List, [], ◌∷◌, ◌++◌, refl, ◌∙◌, ap, Result}
+use Rattle.std.proofs.lemmas.Bool.{ne_eqb}
+use Rattle.std.specs.List.{slice_split, onto_first}
+use Rattle.rd_marks.specs.declared.commands.Command.{Command}
+use Rattle.rd_script.specs.declared.faults.LineFault.{LineFault}
+use Rattle.rd_script.specs.Spelling.{Says}
+use Rattle.rd_script.specs.Lines.{with_first_byte, lines_of, AreSaid}
+
+first-same : (x : ℕ) (parts : List (List ℕ)) → onto_first x parts ≡ with_first_byte x parts
+first-same x [] = refl
+first-same x (part ∷ parts) = refl
+
+-- one byte more before the text
+one-more : (ends : Bool) (x : ℕ) (parts lines : List (List ℕ)) → parts ≡ lines
+    → (if ends then [] ∷ parts else onto_first x parts) ≡ (if ends then [] ∷ lines else with_first_byte x lines)
+one-more true x parts lines same = ap (λ ls. [] ∷ ls) same
+one-more false x parts lines same = ap (onto_first x) same ∙ first-same x lines
+
+-- the parts of a text are the lines of it with a line feed behind it
+pub parts-of_ended : (text : List ℕ) → slice_split (λ byte. byte == 10) text ≡ lines_of (text ++ 10 ∷ [])
+parts-of_ended [] = refl
+parts-of_ended (x ∷ xs) = one-more (x == 10) x (slice_split (λ byte. byte == 10) xs) (lines_of (xs ++ 10 ∷ [])) (parts-of_ended xs)
+
+-- the parts of a text that no line feed ends are its lines
+pub parts-of_unended : (text : List ℕ) → text ≢ [] → ((front : List ℕ) → text ≢ front ++ 10 ∷ []) → slice_split (λ byte. byte == 10) text ≡ lines_of text
+parts-of_unended [] some unended = absurd (some refl)
+parts-of_unended (x ∷ []) some unended = rw (ne_eqb x 10 (λ e. unended [] (ap (λ y. y ∷ []) e))) refl
+parts-of_unended (x ∷ y ∷ ys) some unended =
+    one-more (x == 10) x (slice_split (λ byte. byte == 10) (y ∷ ys)) (lines_of (y ∷ ys))
+    (parts-of_unended (y ∷ ys) (λ e. cc) (λ front e. unended (x ∷ front) (ap (λ t. x ∷ t) e)))
+
+-- one line more, with what it says
+pub AreSaid-more : (lines : List (List ℕ)) (said : List (Result Command LineFault)) (line : List ℕ) (r : Result Command LineFault) → AreSaid lines said → Says line r → AreSaid (lines ++ line ∷ []) (said ++ r ∷ [])
+AreSaid-more [] [] line r are says = (says, tt)
+AreSaid-more [] (y ∷ ys) line r are says = absurd are
+AreSaid-more (x ∷ xs) [] line r are says = absurd are
+AreSaid-more (x ∷ xs) (y ∷ ys) line r are says = (are.0, AreSaid-more xs ys line r are.1 says)

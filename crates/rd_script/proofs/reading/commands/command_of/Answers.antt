@@ -1,0 +1,32 @@
+use Rattle.std.proofs.Common.{◌≡◌, ℕ, List, Result, Err, map, sym, subst}
+use Rattle.std.specs.Result.{IsErrAnd}
+use Rattle.rd_marks.specs.declared.commands.Command.{Command}
+use Rattle.rd_script.specs.declared.faults.LineFault.{LineFault}
+use Rattle.rd_script.specs.declared.reading.keywords.Keyword.{Keyword}
+use Rattle.rd_script.specs.Words.{ReadsCommand}
+use Rattle.rd_script.proofs.ResultLemmas.{Err-from_error}
+use Rattle.rd_script.proofs.NameReadLemmas.{mark_refused, drop_refused, goto_refused, same_refused}
+use Rattle.rd_script.proofs.reading.commands.command_of.Goals as goal
+
+-- a fault that is passed up behind a keyword
+passed_up : (k m : Keyword) (words : List (List ℕ)) (fault : LineFault) (r : Result Command LineFault) → k ≡ m → IsErrAnd r (λ e. e ≡ fault) → ReadsCommand m words (Err fault) → ReadsCommand k words r
+passed_up k m words fault r is passed reads =
+    subst (λ x. ReadsCommand k words x) (sym (Err-from_error fault r passed)) (subst (λ x. ReadsCommand x words (Err fault)) (sym is) reads)
+
+pub returns-in_err-name_alone-in-Mark : goal.returns-in_err-name_alone-in-Mark
+returns-in_err-name_alone-in-Mark c =
+    passed_up _ _ _ _ _ c.in-Mark.is c.from_residual.ensures.1 (mark_refused (map (λ word. word.now) c.args.words.now) _ c.in_err-name_alone-in-Mark.ensures)
+
+pub returns-in_err-name_alone-in-Drop : goal.returns-in_err-name_alone-in-Drop
+returns-in_err-name_alone-in-Drop c =
+    passed_up _ _ _ _ _ c.in-Drop.is c.from_residual-in_err-name_alone-in-Drop.ensures.1
+    (drop_refused (map (λ word. word.now) c.args.words.now) _ c.in_err-name_alone-in-Drop.ensures)
+
+pub returns-in_err-name_alone-in-Goto : goal.returns-in_err-name_alone-in-Goto
+returns-in_err-name_alone-in-Goto c =
+    passed_up _ _ _ _ _ c.in-Goto.is c.from_residual-in_err-name_alone-in-Goto.ensures.1
+    (goto_refused (map (λ word. word.now) c.args.words.now) _ c.in_err-name_alone-in-Goto.ensures)
+
+pub returns-in_err-one-in-Same : goal.returns-in_err-one-in-Same
+returns-in_err-one-in-Same c =
+    passed_up _ _ _ _ _ c.in-Same.is c.from_residual-in_err-one-in-Same.ensures.1 (same_refused (map (λ word. word.now) c.args.words.now) _ c.in_err-one-in-Same.ensures)

@@ -1,0 +1,14 @@
+use Rattle.std.proofs.Common.{Some, None, [], ◌∷◌, ap, ◌∙◌, sym}
+use Rattle.std.proofs.lemmas.Bool.Decides.{Decides-eqb}
+use Rattle.std.proofs.lemmas.Slice.Eq.{strip_suffix_is}
+use Rattle.rd_script.specs.Lines.{lines_of}
+use Rattle.rd_script.proofs.TextLemmas.{parts-of_ended, parts-of_unended}
+use Rattle.rd_script.proofs.reading.whole_texts.without_last_feed.Goals as goal
+
+pub returns-in-Some : goal.returns-in-Some
+returns-in-Some c =
+    let ended = strip_suffix_is Decides-eqb c.args.text.now (10 ∷ []) (Some c.in-Some.rest) c.in-Some.ensures.cases in
+    parts-of_ended c.in-Some.rest.now ∙ ap lines_of (sym ended)
+
+pub returns-in-None : goal.returns-in-None
+returns-in-None c = parts-of_unended c.args.text.now c.requires (strip_suffix_is Decides-eqb c.args.text.now (10 ∷ []) None c.in-None.ensures.cases)

@@ -1,0 +1,83 @@
+use Rattle.std.proofs.Common.{Ok, subst, arith, ◌∙◌}
+use Rattle.rd_marks.specs.BookViews.{book_state}
+use Rattle.rd_script.specs.Lines.{Reads}
+use Rattle.rd_script.specs.declared.faults.ScriptFault.TheVariants.{Read, Write}
+use Rattle.rd_script.proofs.ScriptLemmas.{starts, ran_to_end, stopped_at_read, stopped_endless, goes_on, ran_to_last, RunsScript-at_fault, stopped_at_write, stopped_at_last_write}
+use Rattle.rd_script.proofs.script.run.Goals as goal
+
+pub loop-done-init : goal.loop-done-init
+loop-done-init g c =
+    starts g.row.R (book_state c.args.book.now)
+    (g.S.Source.bytes c.args.reader.now) (g.S.Source.has_failed c.args.reader.now)
+    (g.K.Sink.contents c.args.writer.now) (g.K.Sink.has_failed c.args.writer.now)
+    c.requires.reader_works c.requires.writer_works
+
+pub returns-in_err-next_line : goal.returns-in_err-next_line
+returns-in_err-next_line g c =
+    let stopped =
+    stopped_at_read _ _ _ _ _ _ _ _ _ _ c.loop-done.invariant
+    (g.S.Source.bytes c.next_line.new.reader) (g.S.Source.has_failed c.next_line.new.reader) c.in_err-next_line.ensures.reads in
+    record { runs = RunsScript-at_fault _ _ _ _ Read c.from_residual.result c.from_residual.ensures.1 stopped; start = c.loop-done.invariant.start }
+
+pub returns-in-End : goal.returns-in-End
+returns-in-End g c =
+    let failed = g.S.Source.has_failed c.next_line.new.reader in
+    let old = g.S.Source.bytes c.loop-done.reader in
+    let new = g.S.Source.bytes c.next_line.new.reader in
+    let read = subst (λ r. Reads old new failed c.next_line.new.line (Ok r)) c.in-End.is c.in_ok-next_line.ensures.reads in
+    record { runs = ran_to_end _ _ _ _ _ _ _ _ _ _ c.loop-done.invariant new failed read.0 read.1 c.in_ok-next_line.ensures.works; start = c.loop-done.invariant.start }
+
+pub returns : goal.returns
+returns g c = record { runs = stopped_endless _ _ _ _ _ _ _ _ _ _ c.loop-done.invariant (omega arith); start = c.loop-done.invariant.start }
+
+pub loop-done-preserved : goal.loop-done-preserved
+loop-done-preserved g c =
+    let failed = g.S.Source.has_failed c.next_line.new.reader in
+    let old = g.S.Source.bytes c.loop-done.reader in
+    let new = g.S.Source.bytes c.next_line.new.reader in
+    let read = subst (λ r. Reads old new failed c.next_line.new.line (Ok r)) c.in-Ended.is c.in_ok-next_line.ensures.reads in
+    let did = c.in_ok-do_line-in-Ended.ensures.does read.text read.held in
+    goes_on _ _ _ _ _ _ _ _ _ _ c.loop-done.invariant new (g.K.Sink.contents c.do_line-in-Ended.new.writer)
+    failed (g.K.Sink.has_failed c.do_line-in-Ended.new.writer) c.next_line.new.line read did.0 did.1
+    (book_state c.do_line-in-Ended.new.book)
+    did.2 did.3 c.in_ok-next_line.ensures.works c.in_ok-do_line-in-Ended.ensures.works c.in_ok-do_line-in-Ended.ensures.start
+
+pub returns-in-Last : goal.returns-in-Last
+returns-in-Last g c =
+    let failed = g.S.Source.has_failed c.next_line.new.reader in
+    let old = g.S.Source.bytes c.loop-done.reader in
+    let new = g.S.Source.bytes c.next_line.new.reader in
+    let last = subst (λ r. Reads old new failed c.next_line.new.line (Ok r)) c.in-Last.is c.in_ok-next_line.ensures.reads in
+    let did = c.in_ok-do_line-in-Last.ensures.does last.read.text last.read.held in
+    record {
+      runs = ran_to_last _ _ _ _ _ _ _ _ _ _ c.loop-done.invariant new (g.K.Sink.contents c.do_line.new.writer)
+          failed (g.K.Sink.has_failed c.do_line.new.writer) c.next_line.new.line last did.0 did.1
+          (book_state c.do_line.new.book) did.2 did.3 c.in_ok-next_line.ensures.works c.in_ok-do_line-in-Last.ensures.works;
+      start = c.in_ok-do_line-in-Last.ensures.start ∙ c.loop-done.invariant.start;
+    }
+
+pub returns-in_err-do_line-in-Last : goal.returns-in_err-do_line-in-Last
+returns-in_err-do_line-in-Last g c =
+    let failed = g.S.Source.has_failed c.next_line.new.reader in
+    let old = g.S.Source.bytes c.loop-done.reader in
+    let new = g.S.Source.bytes c.next_line.new.reader in
+    let last = subst (λ r. Reads old new failed c.next_line.new.line (Ok r)) c.in-Last.is c.in_ok-next_line.ensures.reads in
+    let did = c.in_err-do_line-in-Last.ensures.does last.read.text last.read.held in
+    let stopped =
+    stopped_at_last_write _ _ _ _ _ _ _ _ _ _ c.loop-done.invariant new (g.K.Sink.contents c.do_line.new.writer)
+    failed (g.K.Sink.has_failed c.do_line.new.writer) c.next_line.new.line last did.0 did.1
+    (book_state c.do_line.new.book) did.2 did.3 c.in_ok-next_line.ensures.works c.in_err-do_line-in-Last.ensures.fails in
+    record { runs = RunsScript-at_fault _ _ _ _ Write c.from_residual-in_err-do_line-in-Last.result c.from_residual-in_err-do_line-in-Last.ensures.1 stopped; start = c.in_err-do_line-in-Last.ensures.start ∙ c.loop-done.invariant.start }
+
+pub returns-in_err-do_line-in-Ended : goal.returns-in_err-do_line-in-Ended
+returns-in_err-do_line-in-Ended g c =
+    let failed = g.S.Source.has_failed c.next_line.new.reader in
+    let old = g.S.Source.bytes c.loop-done.reader in
+    let new = g.S.Source.bytes c.next_line.new.reader in
+    let read = subst (λ r. Reads old new failed c.next_line.new.line (Ok r)) c.in-Ended.is c.in_ok-next_line.ensures.reads in
+    let did = c.in_err-do_line-in-Ended.ensures.does read.text read.held in
+    let stopped =
+    stopped_at_write _ _ _ _ _ _ _ _ _ _ c.loop-done.invariant new (g.K.Sink.contents c.do_line-in-Ended.new.writer)
+    failed (g.K.Sink.has_failed c.do_line-in-Ended.new.writer) c.next_line.new.line read did.0 did.1
+    (book_state c.do_line-in-Ended.new.book) did.2 did.3 c.in_ok-next_line.ensures.works c.in_err-do_line-in-Ended.ensures.fails in
+    record { runs = RunsScript-at_fault _ _ _ _ Write c.from_residual-in_err-do_line-in-Ended.result c.from_residual-in_err-do_line-in-Ended.ensures.1 stopped; start = c.in_err-do_line-in-Ended.ensures.start ∙ c.loop-done.invariant.start }

@@ -1,0 +1,59 @@
+-- The words that spell segments' names, places, and what places have in them.
+use Rattle.std.specs.Prelude.{ℕ, Bool, true, false, List, ◌++◌, codes, Option, Some, None}
+use Rattle.std.specs.Fmt.{decimal}
+use Rattle.rd_step.specs.Prelude.{SegName, Place, Content, Cell, ArrSlot}
+use Rattle.rd_step.specs.Prelude.{QHead, QTail, Head, Tail, Next, CellAt, WholeOf, ArrHead, ArrTail, ArrCell}
+use Rattle.rd_step.specs.Prelude.{Name, Number, TailIs, NextIs, CellIs, Whole, Slot, Empty, Top, Held}
+use Rattle.rd_script.specs.Texts.{spaced_number, bit_number}
+
+-- a segment's name: its maker, a full stop, and its number
+abbrev pub name_words : SegName → List ℕ
+name_words s = decimal s.maker ++ codes "." ++ decimal s.n
+
+-- a value, if any
+abbrev pub value_words : Option ℕ → List ℕ
+value_words None = codes "none"
+value_words (Some x) = decimal x
+
+-- the segment that follows, if any
+abbrev pub next_words : Option SegName → List ℕ
+next_words None = codes "none"
+next_words (Some s) = name_words s
+
+-- whether a ring is closed for enqueues
+abbrev pub tail_word : Bool → List ℕ
+tail_word false = codes "open"
+tail_word true = codes "closed"
+
+-- a cell: its safe bit, its index, and its value
+abbrev pub cell_words : Cell → List ℕ
+cell_words c = decimal (bit_number c.safe) ++ spaced_number c.idx ++ codes " " ++ value_words c.val
+
+-- a slot of the array
+abbrev pub slot_words : ArrSlot → List ℕ
+slot_words Empty = codes "empty"
+slot_words Top = codes "top"
+slot_words (Held x) = codes "value" ++ spaced_number x
+
+-- what a place has in it
+abbrev pub content_words : Content → List ℕ
+content_words (Name s) = name_words s
+content_words (Number n) = decimal n
+content_words (TailIs closed count) = tail_word closed ++ spaced_number count
+content_words (NextIs next) = next_words next
+content_words (CellIs c) = cell_words c
+content_words Whole = codes "exists"
+content_words (Slot slot) = slot_words slot
+
+-- a place
+abbrev pub place_words : Place → List ℕ
+place_words QHead = codes "qhead"
+place_words QTail = codes "qtail"
+place_words (Head s) = codes "head " ++ name_words s
+place_words (Tail s) = codes "tail " ++ name_words s
+place_words (Next s) = codes "next " ++ name_words s
+place_words (CellAt s i) = codes "cell " ++ name_words s ++ spaced_number i
+place_words (WholeOf s) = codes "whole " ++ name_words s
+place_words ArrHead = codes "ahead"
+place_words ArrTail = codes "atail"
+place_words (ArrCell i) = codes "acell" ++ spaced_number i

@@ -1,0 +1,14 @@
+-- The lines of a view that answer nothing.
+use Rattle.std.specs.Prelude.{ℕ, List, [], ◌∷◌, ◌++◌, codes}
+use Rattle.rd_script.specs.declared.writing.headings.Heading.{Heading}
+use Rattle.rd_script.specs.declared.writing.headings.Heading.TheVariants.{Viewer, History}
+use Rattle.rd_script.specs.Texts.{spaced_number}
+
+-- the words of a heading: what is counted, and its number
+abbrev pub heading_words : Heading → List ℕ
+heading_words (Viewer number) = codes "viewer" ++ spaced_number number
+heading_words (History calls) = codes "history" ++ spaced_number calls
+
+-- the line of a heading
+abbrev pub heading_text : Heading → List ℕ
+heading_text heading = heading_words heading ++ 10 ∷ []

@@ -1,0 +1,77 @@
+-- The lines of a text and what they say, and the reading of one line: which bytes the source gave for it.
+use Rattle.std.specs.Prelude.{◌≡◌, ◌≢◌, ℕ, ◌+◌, ◌^◌, ◌<◌, ◌≤◌, ◌⊎◌, ◌==◌, if◌then◌else◌, Bool, true, List, [], ◌∷◌, ◌++◌, length, Option, Result, Ok, Err, MatchBool}
+use Rattle.std.specs.Io.KnownBytes.{Consumes, IsAtEnd}
+use Rattle.rd_script.specs.declared.reading.lines.Line.{Line}
+use Rattle.rd_script.specs.declared.reading.lines.Reading.{Reading}
+use Rattle.rd_script.specs.declared.reading.lines.Reading.TheVariants.{Ended, Last, End}
+use Rattle.rd_script.specs.declared.devices.sources.ReadFault.{ReadFault}
+use Rattle.rd_marks.specs.declared.commands.Command.{Command}
+use Rattle.rd_script.specs.declared.faults.LineFault.{LineFault}
+use Rattle.rd_script.specs.declared.reading.commands.TheConstants.{MOST_LINE_BYTES}
+use Rattle.rd_script.specs.Spelling.{Says}
+
+-- the lines with this byte put before the first; a byte before no line makes one
+abbrev pub with_first_byte : ℕ → List (List ℕ) → List (List ℕ)
+with_first_byte byte [] = (byte ∷ []) ∷ []
+with_first_byte byte (line ∷ lines) = (byte ∷ line) ∷ lines
+
+-- the lines of a text, without their line feeds: a last line that isn't empty may lack its own
+abbrev pub lines_of : List ℕ → List (List ℕ)
+lines_of [] = []
+lines_of (byte ∷ bytes) = if byte == 10 then [] ∷ lines_of bytes else with_first_byte byte (lines_of bytes)
+
+-- these are what the lines say, one by one
+abbrev pub AreSaid : List (List ℕ) → List (Result Command LineFault) → Type 0
+AreSaid [] [] = Unit {0}
+AreSaid (line ∷ lines) (said ∷ others) = Says line said × AreSaid lines others
+AreSaid [] (said ∷ others) = ⊥
+AreSaid (line ∷ lines) [] = ⊥
+
+-- the ended lines with this byte put before the first; a byte before no ended line ends none
+abbrev pub ended_with_first_byte : ℕ → List (List ℕ) → List (List ℕ)
+ended_with_first_byte byte [] = []
+ended_with_first_byte byte (line ∷ lines) = (byte ∷ line) ∷ lines
+
+-- the lines of a text that a line feed ends, without it
+abbrev pub ended_lines_of : List ℕ → List (List ℕ)
+ended_lines_of [] = []
+ended_lines_of (byte ∷ bytes) = if byte == 10 then [] ∷ ended_lines_of bytes else ended_with_first_byte byte (ended_lines_of bytes)
+
+-- no byte of the text is a line feed
+abbrev pub IsOneLine : List ℕ → Type 0
+IsOneLine [] = Unit {0}
+IsOneLine (byte ∷ bytes) = (byte ≢ 10) × IsOneLine bytes
+
+-- the line was made of this text: it keeps all of it, or knows that there are more bytes than a line may have
+abbrev pub Holds : Line → List ℕ → Type 0
+Holds line text = MatchBool line.is_too_long (MOST_LINE_BYTES < length text) (line.kept.items ≡ text)
+
+-- a source that had the old bytes left gave this line and what ended it, and has the new bytes left
+pub record ReadsLine (old new : Option (List ℕ)) (line : Line) (ending : List ℕ) : Type 0 where
+  -- the bytes of the line
+  pub text : List ℕ
+  pub is_one : IsOneLine text
+  pub held : Holds line text
+  pub took : Consumes old new (text ++ ending)
+
+-- a source gave a line that isn't empty, and then the end
+pub record ReadsLast (old new : Option (List ℕ)) (line : Line) : Type 0 where
+  pub read : ReadsLine old new line []
+  pub some : read.text ≢ []
+  pub ended : IsAtEnd new
+
+-- a source gave a beginning of a line, and then failed, or had given 2^64 - 1 bytes without an end
+pub record ReadsPart (old new : Option (List ℕ)) (failed : Bool) : Type 0 where
+  -- the bytes of that beginning
+  pub text : List ℕ
+  pub is_one : IsOneLine text
+  pub took : Consumes old new text
+  pub cause : (failed ≡ true) ⊎ (2 ^ 64 ≤ length text + 1)
+
+-- what the reading of a line says of the bytes that were left before and are left after, of the source's failing, and of
+-- the line that was read
+abbrev pub Reads : Option (List ℕ) → Option (List ℕ) → Bool → Line → Result Reading ReadFault → Type 0
+Reads old new failed line (Ok Ended) = ReadsLine old new line (10 ∷ [])
+Reads old new failed line (Ok Last) = ReadsLast old new line
+Reads old new failed line (Ok End) = Consumes old new [] × IsAtEnd new
+Reads old new failed line (Err _) = ReadsPart old new failed

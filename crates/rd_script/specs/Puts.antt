@@ -1,0 +1,7 @@
+-- What putting words behind a text of fixed capacity does.
+use Rattle.std.specs.Prelude.{◌≡◌, ℕ, ◌+◌, ◌≤◌, List, ◌++◌, length}
+use Rattle.rd_script.specs.declared.writing.texts.TheConstants.{MOST_BYTES}
+
+-- the words stand behind the old text of a line, if there is room for both
+abbrev pub Puts : List ℕ → List ℕ → List ℕ → Type 0
+Puts old new words = length old + length words ≤ MOST_BYTES → new ≡ old ++ words

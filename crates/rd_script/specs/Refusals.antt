@@ -1,0 +1,53 @@
+-- The number, the name and the data of each refusal.
+use Rattle.std.specs.Prelude.{ℕ, List, [], ◌++◌, codes}
+use Rattle.rd_step.specs.Prelude.{Refusal, NoActor, NotIdle, ActorIdle as Idle, NeedsChoice, NoChoice, CounterEnd, SegmentsEnd, ArrayEnd, TooLong, NothingToUndo, NothingToRedo, NoSuchStep, Depended, NoMark, MarkTaken, TooManyMarks, BadName, NotATake, NoSuchPlace, NoMemory}
+use Rattle.rd_script.specs.declared.faults.LineFault.{LineFault}
+use Rattle.rd_script.specs.declared.faults.LineFault.TheVariants.{BadLine, LineTooLong, BadName as LineBadName}
+use Rattle.rd_script.specs.declared.faults.ScriptFault.{ScriptFault}
+use Rattle.rd_script.specs.declared.faults.ScriptFault.TheVariants.{Read, Write}
+use Rattle.rd_script.specs.Texts.{spaced_number}
+
+-- the number and the name of a refusal
+abbrev pub refusal_name : Refusal → List ℕ
+refusal_name NoActor = codes "1 NoActor"
+refusal_name NotIdle = codes "2 NotIdle"
+refusal_name Idle = codes "3 Idle"
+refusal_name NeedsChoice = codes "4 NeedsChoice"
+refusal_name NoChoice = codes "5 NoChoice"
+refusal_name CounterEnd = codes "6 CounterEnd"
+refusal_name SegmentsEnd = codes "7 SegmentsEnd"
+refusal_name ArrayEnd = codes "8 ArrayEnd"
+refusal_name TooLong = codes "9 TooLong"
+refusal_name (NothingToUndo live) = codes "10 NothingToUndo"
+refusal_name NothingToRedo = codes "11 NothingToRedo"
+refusal_name (NoSuchStep live) = codes "12 NoSuchStep"
+refusal_name (Depended step) = codes "13 Depended"
+refusal_name NoMark = codes "14 NoMark"
+refusal_name MarkTaken = codes "15 MarkTaken"
+refusal_name TooManyMarks = codes "16 TooManyMarks"
+refusal_name BadName = codes "17 BadName"
+refusal_name NotATake = codes "18 NotATake"
+refusal_name NoSuchPlace = codes "19 NoSuchPlace"
+refusal_name NoMemory = codes "20 NoMemory"
+
+-- the data of a refusal, behind its name: the number of live steps, or of a step
+abbrev pub refusal_data : Refusal → List ℕ
+refusal_data (NothingToUndo live) = spaced_number live
+refusal_data (NoSuchStep live) = spaced_number live
+refusal_data (Depended step) = spaced_number step
+refusal_data _ = []
+
+-- a refusal: its number, its name, and its data
+abbrev pub refusal_words : Refusal → List ℕ
+refusal_words refusal = refusal_name refusal ++ refusal_data refusal
+
+-- the number and the name of a line's fault
+abbrev pub fault_name : LineFault → List ℕ
+fault_name BadLine = codes "22 BadLine"
+fault_name LineTooLong = codes "23 LineTooLong"
+fault_name LineBadName = codes "17 BadName"
+
+-- the number and the name of what stopped a run
+abbrev pub stop_name : ScriptFault → List ℕ
+stop_name Read = codes "24 Read"
+stop_name Write = codes "25 Write"

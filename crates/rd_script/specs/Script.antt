@@ -1,0 +1,87 @@
+-- What a run of a script did: which lines it read, obeyed and reported, by how it ended.
+use Rattle.std.specs.Prelude.{◌≡◌, ℕ, ◌+◌, ◌^◌, ◌≤◌, ◌⊎◌, Bool, true, false, List, [], ◌∷◌, ◌++◌, length, Option, Result, Ok, Err}
+use Rattle.std.specs.Io.KnownBytes.{Consumes, Appends, IsAtEnd}
+use Rattle.rd_marks.specs.Books.{BookState}
+use Rattle.rd_script.specs.declared.devices.sinks.WriteFault.{WriteFault}
+use Rattle.rd_script.specs.declared.answers.LineAnswer.{LineAnswer}
+use Rattle.rd_script.specs.declared.faults.ScriptFault.{ScriptFault}
+use Rattle.rd_script.specs.declared.faults.ScriptFault.TheVariants.{Read, Write}
+use Rattle.rd_script.specs.Device.{IsBeginning, TakesBeginning}
+use Rattle.rd_script.specs.Lines.{lines_of, ended_lines_of}
+use Rattle.rd_script.specs.Answers.{Answered, AnswersLine}
+use Rattle.rd_script.specs.Replies.{text_of}
+
+-- an answer was written, or a beginning of it if the writer failed
+abbrev pub WritesAnswer : Option (List ℕ) → Option (List ℕ) → LineAnswer → Result (Unit {0}) WriteFault → Type 0
+WritesAnswer old new answer (Ok _) = Appends old new (text_of answer)
+WritesAnswer old new answer (Err _) = TakesBeginning old new (text_of answer)
+
+-- lines may be answered by this report, each by the text of its answer, and leave this state
+abbrev pub HasReport : ℕ → BookState → List (List ℕ) → List ℕ → BookState → Type 0
+HasReport R s [] report after = (report ≡ []) × (after ≡ s)
+HasReport R s (line ∷ lines) report after =
+    (answered : Answered) × (rest : List ℕ) × AnswersLine R s line answered
+    × (report ≡ text_of answered.answer ++ rest) × HasReport R answered.state lines rest after
+
+-- what a reader has left and a writer has, before a run and after it, and whether each has failed then
+pub record Devices : Type 0 where
+  pub in_before : Option (List ℕ)
+  pub in_after : Option (List ℕ)
+  pub in_failed : Bool
+  pub out_before : Option (List ℕ)
+  pub out_after : Option (List ℕ)
+  pub out_failed : Bool
+
+-- the run came to the end: the reader gave n lines and then the end, and their report was written; neither device failed
+pub record RanToEnd (R : ℕ) (before after : BookState) (d : Devices) (n : ℕ) : Type 0 where
+  pub in_works : d.in_failed ≡ false
+  pub out_works : d.out_failed ≡ false
+  pub given : List ℕ
+  pub took : Consumes d.in_before d.in_after given
+  pub ended : IsAtEnd d.in_after
+  pub counted : length (lines_of given) ≡ n
+  pub report : List ℕ
+  pub wrote : Appends d.out_before d.out_after report
+  pub reports : HasReport R before (lines_of given) report after
+
+-- the reader failed, or gave 2^64 - 1 bytes without an end, and the writer has not failed: the lines that a line feed
+-- ended were obeyed, and their report was written
+pub record StoppedAtRead (R : ℕ) (before after : BookState) (d : Devices) : Type 0 where
+  pub out_works : d.out_failed ≡ false
+  pub given : List ℕ
+  pub took : Consumes d.in_before d.in_after given
+  pub cause : (d.in_failed ≡ true) ⊎ (2 ^ 64 ≤ length given + 1)
+  pub report : List ℕ
+  pub wrote : Appends d.out_before d.out_after report
+  pub reports : HasReport R before (ended_lines_of given) report after
+
+-- the writer failed at the answer to the last line that was read, and the reader has not failed: all lines were obeyed,
+-- and the report of those before the last was written, and a beginning of its answer
+pub record StoppedAtWrite (R : ℕ) (before after : BookState) (d : Devices) : Type 0 where
+  pub in_works : d.in_failed ≡ false
+  pub out_failed : d.out_failed ≡ true
+  pub given : List ℕ
+  pub took : Consumes d.in_before d.in_after given
+  -- the lines that were read: none is incomplete
+  pub lines : List (List ℕ)
+  pub last : List ℕ
+  pub all : lines_of given ≡ lines ++ last ∷ []
+  pub whole : (ended_lines_of given ≡ lines_of given) ⊎ IsAtEnd d.in_after
+  -- the report of the lines before the last
+  pub report : List ℕ
+  pub reached : BookState
+  pub reports : HasReport R before lines report reached
+  -- the last line's answer
+  pub answered : Answered
+  pub answers : AnswersLine R reached last answered
+  pub leaves : answered.state ≡ after
+  -- the beginning of its text
+  pub part : List ℕ
+  pub begins : IsBeginning part (text_of answered.answer)
+  pub wrote : Appends d.out_before d.out_after (report ++ part)
+
+-- what a run of a script did, by how it ended
+abbrev pub RunsScript : ℕ → BookState → BookState → Devices → Result ℕ ScriptFault → Type 0
+RunsScript R before after d (Ok n) = RanToEnd R before after d n
+RunsScript R before after d (Err Read) = StoppedAtRead R before after d
+RunsScript R before after d (Err Write) = StoppedAtWrite R before after d

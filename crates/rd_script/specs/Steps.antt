@@ -1,0 +1,51 @@
+-- The words of a step: its event, the place of its access, whether it wrote, what it answered, and what its call replied.
+use Rattle.std.specs.Prelude.{ℕ, Bool, true, false, List, ◌++◌, codes, Option, Some, None}
+use Rattle.std.specs.Fmt.{decimal}
+use Rattle.rd_cell.specs.declared.operations.Answer.TheVariants.{Nothing, Found, Value as ValueRead, SafeAndIndex, WasClosed, Won, Lost, Made}
+use Rattle.rd_actor.specs.declared.actors.OpReply.TheVariants.{Enqueued, Value, Empty}
+use Rattle.rd_step.specs.Prelude.{Answer, OpReply, Place}
+use Rattle.rd_step.specs.declared.entries.Entry.{Entry}
+use Rattle.rd_script.specs.Texts.{spaced_number, bit_number}
+use Rattle.rd_script.specs.Events.{event_words}
+use Rattle.rd_script.specs.Contents.{name_words, value_words, tail_word, content_words, place_words}
+
+-- the place of a step, if it has one
+abbrev pub step_place : Option Place → List ℕ
+step_place None = codes "-"
+step_place (Some place) = place_words place
+
+-- how a step touched its place, if it has one
+abbrev pub access_word : Option Place → Bool → List ℕ
+access_word None wrote = codes "none"
+access_word (Some place) false = codes "read"
+access_word (Some place) true = codes "wrote"
+
+-- what an access answered
+abbrev pub access_answer : Answer → List ℕ
+access_answer Nothing = codes "-"
+access_answer (Found content) = content_words content
+access_answer (ValueRead value) = value_words value
+access_answer (SafeAndIndex safe idx) = decimal (bit_number safe) ++ spaced_number idx
+access_answer (WasClosed closed) = codes "was " ++ tail_word closed
+access_answer Won = codes "won"
+access_answer Lost = codes "lost"
+access_answer (Made s) = codes "made " ++ name_words s
+
+-- what a call replied
+abbrev pub reply_word : OpReply → List ℕ
+reply_word Enqueued = codes "enqueued"
+reply_word (Value x) = codes "value" ++ spaced_number x
+reply_word Empty = codes "empty"
+
+-- what the call replied that a step ended, if it ended one
+abbrev pub step_reply : Option OpReply → List ℕ
+step_reply None = codes "-"
+step_reply (Some reply) = reply_word reply
+
+-- what the access of a step did
+abbrev pub done_words : Entry → List ℕ
+done_words e = step_place e.place ++ codes "; " ++ access_word e.place e.wrote ++ codes "; " ++ access_answer e.answer
+
+-- all words of a step
+abbrev pub step_words : ℕ → Entry → List ℕ
+step_words number e = codes "step" ++ spaced_number number ++ codes "; " ++ event_words e.event ++ codes "; " ++ done_words e ++ codes "; " ++ step_reply e.reply

@@ -1,0 +1,17 @@
+-- Words, bits and numbers in a text.
+use Rattle.std.specs.Prelude.{ℕ, Bool, true, false, List, ◌∷◌, codes}
+use Rattle.std.specs.Fmt.{decimal}
+
+-- a number behind a space
+abbrev pub spaced_number : ℕ → List ℕ
+spaced_number n = 32 ∷ decimal n
+
+-- a bit as a number
+abbrev pub bit_number : Bool → ℕ
+bit_number false = 0
+bit_number true = 1
+
+-- a choice as a word
+abbrev pub yes_or_no : Bool → List ℕ
+yes_or_no false = codes "no"
+yes_or_no true = codes "yes"

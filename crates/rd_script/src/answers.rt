@@ -1,0 +1,43 @@
+//! The answer to one line.
+
+use super::faults::{LineFault, ScriptFault};
+use rd_cell::Refusal;
+use rd_marks::Reply;
+use rd_step::Flaw;
+
+/// The answer to one line: a reply, or any refusal that there is.
+#[derive(Clone, Copy, Debug, PartialEq, Eq)]
+pub enum LineAnswer {
+    /// The command was obeyed.
+    Reply(Reply),
+    /// 1 to 20: the command was refused.
+    Refused(Refusal),
+    /// 17, 22 or 23: the line spells no command.
+    Unread(LineFault),
+    /// 24 or 25: a device failed, and the run stopped.
+    Stopped(ScriptFault),
+    /// 26: parts make no world.
+    Flawed(Flaw),
+    /// 21: the history takes no more.
+    HistoryFull,
+    /// 27: a text is no trace.
+    BadTrace,
+    /// 28: an event of a trace was refused.
+    TraceStep {
+        /// The event's number in the trace, from 1.
+        step: u64,
+        /// Why it was refused.
+        cause: Refusal,
+    },
+    /// 29: no more tickets can be drawn.
+    TicketsEnded,
+    /// 30: another one holds the desk, or waits for it.
+    Busy {
+        /// The ticket that is drawn next.
+        next: u64,
+        /// The ticket that is served.
+        served: u64,
+    },
+    /// 31: the history was refused its memory, and the command was not obeyed.
+    NotRecorded,
+}

@@ -1,0 +1,89 @@
+//! Bytes that were read from a reader in one call and are given one at a time.
+
+ghost use Rattle.std.specs.Prelude.{◌≡◌, ◌≤◌, ◌<◌, ◌↔◌, [], Some, IsTrue, length, take, IfOk, OnOk, OnErr};
+ghost use Rattle.std.specs.Io.KnownBytes.{Keeps, Consumes, IsAtEnd};
+ghost use Rattle.rd_script.specs.Device.{Gives};
+ghost use Rattle.rd_script.specs.declared.devices.portions.TheConstants.{MOST_PORTION_BYTES};
+
+use super::sources::ReadFault;
+use std::io::{ErrorKind, Read};
+
+/// How many bytes a reader is asked for at once.
+pub const MOST_PORTION_BYTES: usize = 4096;
+
+/// The bytes of one read.
+#[derive(Drop)]
+pub struct Portion {
+    bytes: [u8; MOST_PORTION_BYTES],
+    given: usize,
+    filled: usize,
+    ghost ordered: { given ≤ filled },
+    ghost within: { filled ≤ MOST_PORTION_BYTES },
+}
+
+impl Portion {
+    ghost use Rattle.rd_script.specs.Portions.{left};
+
+    /// The portion with no byte.
+    pub fn new() -> Portion
+        ensures { left result ≡ [] }
+    {
+        Portion {
+            bytes: [0; MOST_PORTION_BYTES],
+            given: 0,
+            filled: 0,
+        }
+    }
+
+    /// Whether all its bytes were given.
+    pub fn is_empty(&self) -> bool
+        ensures { IsTrue result ↔ (left self.now ≡ []) }
+    {
+        self.given == self.filled
+    }
+
+    /// Gives its next byte, or none after the last one.
+    pub fn next(&mut self) -> Option<u8>
+        ensures { Gives (Some (left self.old)) (Some (left self.new)) result }
+    {
+        if self.given == self.filled {
+            return None;
+        }
+        let byte = self.bytes[self.given];
+        self.given += 1;
+        Some(byte)
+    }
+
+    /// Forgets the bytes that it had and takes others: the next ones of the reader, of which there are none at the end alone.
+    pub fn fill<R: Read>(&mut self, reader: &mut R) -> Result<(), ReadFault>
+        ensures ok { OnOk result (Consumes (R.remaining reader.old) (R.remaining reader.new) (left self.new)) }
+        ensures end { OnOk result (left self.new ≡ [] → IsAtEnd (R.remaining reader.new)) }
+        ensures err { OnErr result (Keeps (R.remaining reader.old) (R.remaining reader.new)) }
+        ensures none { OnErr result (left self.new ≡ []) }
+    {
+        self.given = 0;
+        self.filled = 0;
+        self.filled = read_some(reader, &mut self.bytes)?;
+        Ok(())
+    }
+}
+
+/// Reads the next bytes of a reader, none at the end alone, and says how many. A read that a signal interrupts is made
+/// again, up to 2^64 - 1 times.
+fn read_some<R: Read>(reader: &mut R, bytes: &mut [u8]) -> Result<usize, ReadFault>
+    requires room { 0 < length bytes.old }
+    ensures len { length bytes.new ≡ length bytes.old }
+    ensures count { IfOk result (λ n. n ≤ length bytes.new) }
+    ensures ok { IfOk result (λ n. Consumes (R.remaining reader.old) (R.remaining reader.new) (take n bytes.new)) }
+    ensures end { IfOk result (λ n. n ≡ 0 → IsAtEnd (R.remaining reader.new)) }
+    ensures err { OnErr result (Keeps (R.remaining reader.old) (R.remaining reader.new)) }
+{
+    for _ in 0..u64::MAX {
+        match reader.read(bytes) {
+            Ok(count) => return Ok(count),
+            Err(error) if error.kind() == ErrorKind::Interrupted => {}
+            Err(_) => return Err(ReadFault),
+        }
+    }
+    Err(ReadFault)
+}

@@ -1,0 +1,97 @@
+//! Sinks: what takes the bytes of a report.
+
+ghost use Rattle.std.specs.Prelude.{◌≡◌, ◌<◌, ◌≤◌, ℕ, Bool, true, false, List, Option, IfOk, OnOk, OnErr, length, take};
+ghost use Rattle.std.specs.Io.KnownBytes.{Keeps, Appends};
+ghost use Rattle.rd_script.specs.Device.{TakesBeginning};
+
+use std::io::{ErrorKind, Write};
+
+/// A sink failed, or took nothing.
+#[derive(Clone, Copy, Debug, PartialEq, Eq)]
+pub struct WriteFault;
+
+/// Takes bytes, one or more of a slice at a time.
+pub trait Sink {
+    // The bytes that it was given so far; None tells nothing.
+    ghost contents: { Self → Option (List ℕ) };
+
+    // Whether a call failed.
+    ghost has_failed: { Self → Bool };
+
+    /// Takes the first bytes of a slice, one at least, and says how many: to take none is a fault. After a fault there
+    /// is no further call.
+    fn take(&mut self, given: &[u8]) -> Result<usize, WriteFault>
+        requires working { has_failed self.old ≡ false }
+        requires some { 0 < length given.now }
+        ensures count { IfOk result (λ n. (0 < n) × (n ≤ length given.now)) }
+        ensures takes { IfOk result (λ n. Appends (contents self.old) (contents self.new) (take n given.now)) }
+        ensures keeps { OnErr result (Keeps (contents self.old) (contents self.new)) }
+        ensures works { OnOk result (has_failed self.new ≡ false) }
+        ensures fails { OnErr result (has_failed self.new ≡ true) };
+}
+
+/// Hands the whole of a text to a sink, in as few calls as it takes.
+pub fn hand_over<K: Sink>(writer: &mut K, text: &[u8]) -> Result<(), WriteFault>
+    requires { K.has_failed writer.old ≡ false }
+    ensures ok { OnOk result (Appends (K.contents writer.old) (K.contents writer.new) text.now) }
+    ensures err { OnErr result (TakesBeginning (K.contents writer.old) (K.contents writer.new) text.now) }
+    ensures works { OnOk result (K.has_failed writer.new ≡ false) }
+    ensures fails { OnErr result (K.has_failed writer.new ≡ true) }
+{
+    let mut done = 0;
+    while done < text.len() {
+        done += writer.take(&text[done..])?;
+    }
+    Ok(())
+}
+
+/// A writer that takes what it is given at once: it should have no buffer that is flushed later.
+#[derive(Drop)]
+pub struct WriteSink<W> {
+    inner: W,
+    failed: bool,
+}
+
+impl<W: Write> WriteSink<W> {
+    /// A sink that hands everything to the writer.
+    pub fn new(inner: W) -> Self
+        ensures contents { ⟦<WriteSink<W> as Sink>⟧.contents result ≡ W.contents inner }
+        ensures works { ⟦<WriteSink<W> as Sink>⟧.has_failed result ≡ false }
+    {
+        WriteSink {
+            inner,
+            failed: false,
+        }
+    }
+}
+
+impl<W: Write> Sink for WriteSink<W> {
+    ghost contents = { λ s. W.contents s.inner };
+
+    ghost has_failed = { λ s. s.failed };
+
+    fn take(&mut self, given: &[u8]) -> Result<usize, WriteFault> {
+        let taken = some_bytes(&mut self.inner, given);
+        self.failed = taken.is_err();
+        taken
+    }
+}
+
+/// Hands the writer the bytes once, and says how many of the first ones it took: to take none is a fault. A write that
+/// a signal interrupts is made again, up to 2^64 - 1 times.
+fn some_bytes<W: Write>(writer: &mut W, given: &[u8]) -> Result<usize, WriteFault>
+    requires some { 0 < length given.now }
+    ensures count { IfOk result (λ n. (0 < n) × (n ≤ length given.now)) }
+    ensures ok { IfOk result (λ n. Appends (W.contents writer.old) (W.contents writer.new) (take n given.now)) }
+    ensures err { OnErr result (Keeps (W.contents writer.old) (W.contents writer.new)) }
+{
+    for _ in 0..u64::MAX {
+        match writer.write(given) {
+            Ok(0) => return Err(WriteFault),
+            Ok(count) => return Ok(count),
+            Err(error) if error.kind() == ErrorKind::Interrupted => {}
+            Err(_) => return Err(WriteFault),
+        }
+    }
+    Err(WriteFault)
+}

@@ -1,0 +1,25 @@
+//! Scripts: the lines that spell commands, the lines that say what each was answered, and the run of a script over a book.
+//!
+//! There are three rooms: `devices` gives the bytes of a script and takes those of its report, `reading` finds the command that a line
+//! spells, and `writing` puts the line of an answer together. `script` runs a script with them: each line is obeyed when it is complete,
+//! and its reply is written at once. Lines and replies are kept in buffers of fixed capacity, so no memory is taken except by the commands
+//! themselves. What the lines of a whole text say is given as a list, which takes memory.
+#![tactic(auto)]
+
+pub mod answers;
+pub mod devices;
+pub mod faults;
+pub mod reading;
+pub mod script;
+pub mod writing;
+
+pub use answers::LineAnswer;
+pub use devices::sinks::{Sink, WriteFault, WriteSink, hand_over};
+pub use devices::sources::{ReadFault, ReadSource, Source};
+pub use faults::{LineFault, ScriptFault};
+pub use reading::commands::command_in;
+pub use reading::whole_texts::lines;
+pub use script::{run, write_answer};
+pub use writing::headings::{Heading, write_heading};
+pub use writing::lines::set_text;
+pub use writing::texts::{MOST_BYTES, Text};

@@ -1,0 +1,11 @@
+//! What lines say: a line is read into a buffer and cut into words; the first word is its keyword, and the others are read as that
+//! keyword needs them.
+
+mod arguments;
+pub mod commands;
+mod keywords;
+pub mod lines;
+mod numbers;
+mod places;
+pub mod whole_texts;
+mod words;

@@ -1,0 +1,141 @@
+//! The words behind a keyword, read as what the command needs there.
+
+ghost use Rattle.std.specs.Prelude.{◌≡◌, ◌≢◌, ℕ, Bool, ◌^◌, ◌<◌, [], ◌∷◌, map, codes, IfSome, IfNone, IfOk};
+ghost use Rattle.std.specs.Char.{is_ascii_graphic};
+ghost use Rattle.std.specs.Fmt.{decimal};
+ghost use Rattle.std.specs.List.{list_all};
+ghost use Rattle.rd_script.specs.Texts.{yes_or_no};
+ghost use Rattle.rd_script.specs.Spelling.{is_word};
+ghost use Rattle.rd_script.specs.Words.{NamesAlone, NamesTwo, ReadsName};
+
+use super::numbers::{byte_in, number_in};
+use crate::faults::LineFault;
+use rd_marks::MarkName;
+
+/// The number from 0 to 255 that stands alone.
+pub fn byte_alone(words: &[&[u8]]) -> Option<u8>
+    ensures some { IfSome result (λ n. map (λ word. word.now) words.now ≡ decimal n ∷ []) }
+    ensures none { IfNone result ((n : ℕ) → n < 256 → map (λ word. word.now) words.now ≢ decimal n ∷ []) }
+{
+    let [number] = words else {
+        return None;
+    };
+    byte_in(number)
+}
+
+/// The number that stands alone.
+pub fn number_alone(words: &[&[u8]]) -> Option<u64>
+    ensures some { IfSome result (λ n. map (λ word. word.now) words.now ≡ decimal n ∷ []) }
+    ensures none { IfNone result ((n : ℕ) → n < 2 ^ 64 → map (λ word. word.now) words.now ≢ decimal n ∷ []) }
+{
+    let [number] = words else {
+        return None;
+    };
+    number_in(number)
+}
+
+/// An actor and a value.
+pub fn actor_and_value(words: &[&[u8]]) -> Option<(u8, u64)>
+    ensures some { IfSome result (λ r. map (λ word. word.now) words.now ≡ decimal r.0 ∷ decimal r.1 ∷ []) }
+    ensures none { IfNone result ((actor x : ℕ) → actor < 256 → x < 2 ^ 64 → map (λ word. word.now) words.now ≢ decimal actor ∷ decimal x ∷ []) }
+{
+    let [actor, value] = words else {
+        return None;
+    };
+    Some((byte_in(actor)?, number_in(value)?))
+}
+
+/// An actor and its choice.
+pub fn actor_and_choice(words: &[&[u8]]) -> Option<(u8, bool)>
+    ensures some { IfSome result (λ r. map (λ word. word.now) words.now ≡ decimal r.0 ∷ yes_or_no r.1 ∷ []) }
+    ensures none { IfNone result ((actor : ℕ) (choice : Bool) → actor < 256 → map (λ word. word.now) words.now ≢ decimal actor ∷ yes_or_no choice ∷ []) }
+{
+    let [actor, choice] = words else {
+        return None;
+    };
+    Some((byte_in(actor)?, choice_in(choice)?))
+}
+
+/// The choice that a word is.
+fn choice_in(word: &[u8]) -> Option<bool>
+    ensures some { IfSome result (λ choice. word.now ≡ yes_or_no choice) }
+    ensures none { IfNone result ((choice : Bool) → word.now ≢ yes_or_no choice) }
+{
+    if word == b"yes".as_slice() {
+        return Some(true);
+    }
+    if word == b"no".as_slice() {
+        return Some(false);
+    }
+    None
+}
+
+/// The bookmark's name that stands alone.
+///
+/// # Errors
+///
+/// `BadLine` if there is not one word alone; else `BadName` if it is no bookmark's name.
+pub fn name_alone(words: &[&[u8]]) -> Result<MarkName, LineFault>
+    ensures { NamesAlone (map (λ word. word.now) words.now) result }
+{
+    let [name] = words else {
+        return Err(LineFault::BadLine);
+    };
+    name_in(name)
+}
+
+/// Two bookmarks' names.
+///
+/// # Errors
+///
+/// `BadLine` if there are not two words; else `BadName` if one of them is no bookmark's name.
+pub fn two_names(words: &[&[u8]]) -> Result<(MarkName, MarkName), LineFault>
+    ensures { NamesTwo (map (λ word. word.now) words.now) result }
+{
+    let [one, other] = words else {
+        return Err(LineFault::BadLine);
+    };
+    // A word that is none makes a bad line, whatever the other one is.
+    if !is_word(one) || !is_word(other) {
+        return Err(LineFault::BadLine);
+    }
+    Ok((name_in(one)?, name_in(other)?))
+}
+
+/// The bookmark's name that a word is.
+///
+/// # Errors
+///
+/// `BadLine` if it is no word; else `BadName` if it is no bookmark's name.
+fn name_in(word: &[u8]) -> Result<MarkName, LineFault>
+    ensures { ReadsName word.now result }
+{
+    if !is_word(word) {
+        return Err(LineFault::BadLine);
+    }
+    let Ok(name) = MarkName::new(word) else {
+        return Err(LineFault::BadName);
+    };
+    Ok(name)
+}
+
+/// Whether this is a word: bytes from 33 to 126, one at least.
+fn is_word(text: &[u8]) -> bool
+    ensures { result ≡ is_word text.now }
+{
+    !text.is_empty() && are_graphic(text)
+}
+
+/// Whether each of these bytes is from 33 to 126.
+fn are_graphic(text: &[u8]) -> bool
+    ensures { result ≡ list_all is_ascii_graphic text.now }
+{
+    text.iter().all(|byte| is_graphic(*byte))
+}
+
+/// Whether the byte is from 33 to 126.
+fn is_graphic(byte: u8) -> bool
+    ensures { result ≡ is_ascii_graphic byte }
+{
+    byte.is_ascii_graphic()
+}

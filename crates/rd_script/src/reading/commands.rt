@@ -1,0 +1,114 @@
+//! Commands, and the one line that spells each.
+//!
+//! A line is cut into words once. Its first word says what kind of command it spells, and the others are read as that
+//! kind of command needs them.
+
+ghost use Rattle.std.specs.Prelude.{◌≡◌, ◌≢◌, ◌≤◌, [], length, map, IfSome, IfNone};
+ghost use Rattle.std.specs.Result.{IsOkAnd};
+ghost use Rattle.rd_marks.specs.declared.commands.Command.{Command as SomeCommand};
+ghost use Rattle.rd_script.specs.Spelling.{spelling, IsInRange, AreOne, Says};
+ghost use Rattle.rd_script.specs.declared.reading.commands.TheConstants.{MOST_LINE_BYTES};
+ghost use Rattle.rd_script.specs.Words.{ReadsCommand, ReadsNameless};
+
+use super::arguments::{
+    actor_and_choice, actor_and_value, byte_alone, name_alone, number_alone, two_names,
+};
+use super::keywords::Keyword;
+use super::places::place_in;
+use super::words::parts_of;
+use crate::faults::LineFault;
+use rd_marks::Command;
+
+/// How many bytes a line may have, without its line feed.
+pub const MOST_LINE_BYTES: usize = 256;
+
+/// The command that a line spells.
+///
+/// # Errors
+///
+/// `LineTooLong` if the line has more than 256 bytes; else `BadLine` if it is not of the grammar, in which a bookmark's
+/// name may be any word; else `BadName` if a name in it is no bookmark's name.
+pub fn command_in(line: &[u8]) -> Result<Command, LineFault>
+    ensures says { Says line.now result }
+    ensures one { (c : SomeCommand) → length line.now ≤ MOST_LINE_BYTES → IsInRange c → line.now ≡ spelling c → IsOkAnd result (λ d. AreOne c d) }
+{
+    if line.len() > MOST_LINE_BYTES {
+        return Err(LineFault::LineTooLong);
+    }
+    let Some(words) = parts_of(line, b' ') else {
+        return Err(LineFault::BadLine);
+    };
+    let [first, others @ ..] = words.as_slice() else {
+        return Err(LineFault::BadLine);
+    };
+    let Some(keyword) = Keyword::of(first) else {
+        return Err(LineFault::BadLine);
+    };
+    command_of(keyword, others)
+}
+
+/// The command of a keyword and the words behind it.
+fn command_of(keyword: Keyword, words: &[&[u8]]) -> Result<Command, LineFault>
+    ensures { ReadsCommand keyword (map (λ word. word.now) words.now) result }
+{
+    match keyword {
+        Keyword::Mark => Ok(Command::Mark(name_alone(words)?)),
+        Keyword::Drop => Ok(Command::DropMark(name_alone(words)?)),
+        Keyword::Goto => Ok(Command::GotoMark(name_alone(words)?)),
+        Keyword::Same => {
+            let (one, other) = two_names(words)?;
+            Ok(Command::Same(one, other))
+        }
+        _ => nameless(keyword, words).ok_or(LineFault::BadLine),
+    }
+}
+
+/// The command of a keyword that no name stands behind, and the words behind it.
+fn nameless(keyword: Keyword, words: &[&[u8]]) -> Option<Command>
+    ensures { ReadsNameless keyword (map (λ word. word.now) words.now) result }
+{
+    Some(match keyword {
+        Keyword::Go => Command::Go(byte_alone(words)?),
+        Keyword::Enq => {
+            let (actor, value) = actor_and_value(words)?;
+            Command::Enq(actor, value)
+        }
+        Keyword::Deq => Command::Deq(byte_alone(words)?),
+        Keyword::ArrayEnq => {
+            let (actor, value) = actor_and_value(words)?;
+            Command::ArrayEnq(actor, value)
+        }
+        Keyword::ArrayDeq => Command::ArrayDeq(byte_alone(words)?),
+        Keyword::Starve => {
+            let (actor, choice) = actor_and_choice(words)?;
+            Command::Starve(actor, choice)
+        }
+        Keyword::Undo if words.is_empty() => Command::Undo,
+        Keyword::Undo => Command::UndoAt(number_alone(words)?),
+        Keyword::Roll => Command::Roll(number_alone(words)?),
+        Keyword::Back => Command::Back(number_alone(words)?),
+        Keyword::Redo => bare(words, Command::Redo)?,
+        Keyword::Forward => Command::Forward(number_alone(words)?),
+        Keyword::Marks => bare(words, Command::Marks)?,
+        Keyword::MarkAt => Command::MarkAt(number_alone(words)?),
+        Keyword::Origin => Command::Origin(number_alone(words)?),
+        Keyword::Writer => Command::Writer(place_in(words)?),
+        Keyword::Show => Command::Show(place_in(words)?),
+        Keyword::Actor => Command::Actor(byte_alone(words)?),
+        Keyword::Step => Command::Step(number_alone(words)?),
+        Keyword::Len => bare(words, Command::Len)?,
+        Keyword::Mark | Keyword::Drop | Keyword::Goto | Keyword::Same => return None,
+    })
+}
+
+/// The command, if no word is left.
+fn bare(words: &[&[u8]], command: Command) -> Option<Command>
+    ensures some { IfSome result (λ c. (c ≡ command) × (map (λ word. word.now) words.now ≡ [])) }
+    ensures none { IfNone result (map (λ word. word.now) words.now ≢ []) }
+{
+    if words.is_empty() {
+        Some(command)
+    } else {
+        None
+    }
+}

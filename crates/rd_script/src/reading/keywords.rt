@@ -1,0 +1,129 @@
+//! The first word of each line, which says what kind of command it spells.
+
+ghost use Rattle.std.specs.Prelude.{◌≡◌, ◌≢◌, IfSome, IfNone};
+ghost use Rattle.rd_script.specs.declared.reading.keywords.Keyword.{Keyword as Word};
+ghost use Rattle.rd_script.specs.Words.{keyword_text};
+
+/// A line's first word.
+#[derive(Clone, Copy, Debug, PartialEq, Eq)]
+pub enum Keyword {
+    /// `enq`
+    Enq,
+    /// `deq`
+    Deq,
+    /// `aenq`
+    ArrayEnq,
+    /// `adeq`
+    ArrayDeq,
+    /// `go`
+    Go,
+    /// `starve`
+    Starve,
+    /// `undo`
+    Undo,
+    /// `roll`
+    Roll,
+    /// `back`
+    Back,
+    /// `redo`
+    Redo,
+    /// `forward`
+    Forward,
+    /// `mark`
+    Mark,
+    /// `drop`
+    Drop,
+    /// `goto`
+    Goto,
+    /// `marks`
+    Marks,
+    /// `markat`
+    MarkAt,
+    /// `same`
+    Same,
+    /// `origin`
+    Origin,
+    /// `writer`
+    Writer,
+    /// `show`
+    Show,
+    /// `actor`
+    Actor,
+    /// `step`
+    Step,
+    /// `len`
+    Len,
+}
+
+impl Keyword {
+    /// All keywords; those that scripts have most come first.
+    const ALL: [Keyword; 23] = [
+        Keyword::Go,
+        Keyword::Len,
+        Keyword::Enq,
+        Keyword::Deq,
+        Keyword::Undo,
+        Keyword::Redo,
+        Keyword::Back,
+        Keyword::Forward,
+        Keyword::Roll,
+        Keyword::Step,
+        Keyword::Show,
+        Keyword::Actor,
+        Keyword::Starve,
+        Keyword::Mark,
+        Keyword::Goto,
+        Keyword::Drop,
+        Keyword::Same,
+        Keyword::Origin,
+        Keyword::Writer,
+        Keyword::Marks,
+        Keyword::MarkAt,
+        Keyword::ArrayEnq,
+        Keyword::ArrayDeq,
+    ];
+
+    /// The keyword that a word is.
+    pub fn of(word: &[u8]) -> Option<Keyword>
+        ensures some { IfSome result (λ keyword. word.now ≡ keyword_text keyword) }
+        ensures none { IfNone result ((keyword : Word) → word.now ≢ keyword_text keyword) }
+    {
+        for keyword in Keyword::ALL {
+            if keyword.text() == word {
+                return Some(keyword);
+            }
+        }
+        None
+    }
+
+    /// The word.
+    pub fn text(self) -> &'static [u8]
+        ensures { result.now ≡ keyword_text self }
+    {
+        match self {
+            Keyword::Enq => b"enq",
+            Keyword::Deq => b"deq",
+            Keyword::ArrayEnq => b"aenq",
+            Keyword::ArrayDeq => b"adeq",
+            Keyword::Go => b"go",
+            Keyword::Starve => b"starve",
+            Keyword::Undo => b"undo",
+            Keyword::Roll => b"roll",
+            Keyword::Back => b"back",
+            Keyword::Redo => b"redo",
+            Keyword::Forward => b"forward",
+            Keyword::Mark => b"mark",
+            Keyword::Drop => b"drop",
+            Keyword::Goto => b"goto",
+            Keyword::Marks => b"marks",
+            Keyword::MarkAt => b"markat",
+            Keyword::Same => b"same",
+            Keyword::Origin => b"origin",
+            Keyword::Writer => b"writer",
+            Keyword::Show => b"show",
+            Keyword::Actor => b"actor",
+            Keyword::Step => b"step",
+            Keyword::Len => b"len",
+        }
+    }
+}

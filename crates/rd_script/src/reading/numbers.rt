@@ -1,0 +1,89 @@
+//! Numbers that a word spells: decimal digits without leading zeros.
+//!
+//! A number is read as std reads it, and then compared with its own digits: so it has one spelling.
+
+ghost use Rattle.std.specs.Prelude.{◌≡◌, ◌≢◌, ℕ, ◌^◌, ◌<◌, [], ◌∷◌, map, Some, IfSome, IfNone};
+ghost use Rattle.std.specs.Fmt.{decimal};
+ghost use Rattle.rd_step.specs.Prelude.{SegName as Segment};
+ghost use Rattle.rd_script.specs.Contents.{name_words};
+ghost use Rattle.rd_script.specs.Spelling.{IsSegmentInRange};
+
+use super::words::parts_of;
+use itoa::Buffer;
+use rd_cell::SegName;
+
+/// The number from 0 to 2^64 - 1 that a word spells.
+pub fn number_in(word: &[u8]) -> Option<u64>
+    ensures spelled { IfSome result (λ n. word.now ≡ decimal n) }
+    ensures unspelled { IfNone result ((n : ℕ) → n < 2 ^ 64 → word.now ≢ decimal n) }
+{
+    let number = loosely_in(word)?;
+    let mut digits = Buffer::new();
+    if digits.format(number).as_bytes() == word {
+        Some(number)
+    } else {
+        None
+    }
+}
+
+/// The number from 0 to 255 that a word spells.
+#[tactic(auto, using(std::proofs::lemmas::Fmt::decimal_injective))]
+pub fn byte_in(word: &[u8]) -> Option<u8>
+    ensures spelled { IfSome result (λ n. word.now ≡ decimal n) }
+    ensures unspelled { IfNone result ((n : ℕ) → n < 256 → word.now ≢ decimal n) }
+{
+    let number = number_in(word)?;
+    if number < 256 {
+        Some(number as u8)
+    } else {
+        None
+    }
+}
+
+/// The segment that a word names: its maker and its number, with a full stop between them.
+#[tactic(auto, using(crate::proofs::NumeralLemmas::name_from_parts, crate::proofs::NumeralLemmas::no_name_from_parts, crate::proofs::NumeralLemmas::no_name_of_many))]
+pub fn segment_in(word: &[u8]) -> Option<SegName>
+    ensures spelled { IfSome result (λ s. word.now ≡ name_words s) }
+    ensures unspelled { IfNone result ((s : Segment) → IsSegmentInRange s → word.now ≢ name_words s) }
+{
+    let parts = parts_of(word, b'.')?;
+    segment_of(parts.as_slice())
+}
+
+/// The segment whose maker and number these are.
+fn segment_of(parts: &[&[u8]]) -> Option<SegName>
+    ensures spelled { IfSome result (λ s. map (λ part. part.now) parts.now ≡ decimal s.maker ∷ decimal s.n ∷ []) }
+    ensures unspelled { IfNone result ((s : Segment) → IsSegmentInRange s → map (λ part. part.now) parts.now ≢ decimal s.maker ∷ decimal s.n ∷ []) }
+{
+    let [maker, n] = parts else {
+        return None;
+    };
+    Some(SegName {
+        maker: byte_in(maker)?,
+        n: short_in(n)?,
+    })
+}
+
+/// The number from 0 to 2^32 - 1 that a word spells.
+#[tactic(auto, using(std::proofs::lemmas::Fmt::decimal_injective))]
+fn short_in(word: &[u8]) -> Option<u32>
+    ensures spelled { IfSome result (λ n. word.now ≡ decimal n) }
+    ensures unspelled { IfNone result ((n : ℕ) → n < 2 ^ 32 → word.now ≢ decimal n) }
+{
+    let number = number_in(word)?;
+    if number < 1 << 32 {
+        Some(number as u32)
+    } else {
+        None
+    }
+}
+
+/// The number that std reads, which takes a sign and leading zeros too.
+fn loosely_in(word: &[u8]) -> Option<u64>
+    ensures { (n : ℕ) → n < 2 ^ 64 → word.now ≡ decimal n → result ≡ Some n }
+{
+    let Ok(digits) = str::from_utf8(word) else {
+        return None;
+    };
+    digits.parse().ok()
+}

@@ -1,0 +1,115 @@
+//! The first word of a place, and the place that the words behind it make.
+
+ghost use Rattle.std.specs.Prelude.{◌≡◌, ◌≢◌, ℕ, ◌<◌, [], ◌∷◌, map, IfSome, IfNone};
+ghost use Rattle.std.specs.Fmt.{decimal};
+ghost use Rattle.rd_step.specs.Prelude.{SegName as Segment};
+ghost use Rattle.rd_script.specs.declared.reading.places.PlaceKind.{PlaceKind as Kind};
+ghost use Rattle.rd_script.specs.Contents.{name_words};
+ghost use Rattle.rd_script.specs.Spelling.{IsSegmentInRange};
+ghost use Rattle.rd_script.specs.Words.{kind_text, ReadsPlace, ReadsKind};
+
+use super::numbers::{byte_in, segment_in};
+use rd_cell::Place;
+
+/// A place's first word.
+#[derive(Clone, Copy, Debug, PartialEq, Eq)]
+pub enum PlaceKind {
+    /// `qhead`
+    QHead,
+    /// `qtail`
+    QTail,
+    /// `head`
+    Head,
+    /// `tail`
+    Tail,
+    /// `next`
+    Next,
+    /// `cell`
+    Cell,
+    /// `whole`
+    Whole,
+    /// `ahead`
+    ArrHead,
+    /// `atail`
+    ArrTail,
+    /// `acell`
+    ArrCell,
+}
+
+impl PlaceKind {
+    /// All kinds of places.
+    const ALL: [PlaceKind; 10] = [
+        PlaceKind::QHead,
+        PlaceKind::QTail,
+        PlaceKind::Head,
+        PlaceKind::Tail,
+        PlaceKind::Next,
+        PlaceKind::Cell,
+        PlaceKind::Whole,
+        PlaceKind::ArrHead,
+        PlaceKind::ArrTail,
+        PlaceKind::ArrCell,
+    ];
+
+    /// The kind that a word is.
+    fn of(word: &[u8]) -> Option<PlaceKind>
+        ensures some { IfSome result (λ kind. word.now ≡ kind_text kind) }
+        ensures none { IfNone result ((kind : Kind) → word.now ≢ kind_text kind) }
+    {
+        for kind in PlaceKind::ALL {
+            if kind.text() == word {
+                return Some(kind);
+            }
+        }
+        None
+    }
+
+    /// The word.
+    fn text(self) -> &'static [u8]
+        ensures { result.now ≡ kind_text self }
+    {
+        match self {
+            PlaceKind::QHead => b"qhead",
+            PlaceKind::QTail => b"qtail",
+            PlaceKind::Head => b"head",
+            PlaceKind::Tail => b"tail",
+            PlaceKind::Next => b"next",
+            PlaceKind::Cell => b"cell",
+            PlaceKind::Whole => b"whole",
+            PlaceKind::ArrHead => b"ahead",
+            PlaceKind::ArrTail => b"atail",
+            PlaceKind::ArrCell => b"acell",
+        }
+    }
+
+    /// The place of this kind that the words behind it name.
+    fn place(self, words: &[&[u8]]) -> Option<Place>
+        ensures { ReadsKind self (map (λ word. word.now) words.now) result }
+    {
+        Some(match (self, words) {
+            (PlaceKind::QHead, []) => Place::QHead,
+            (PlaceKind::QTail, []) => Place::QTail,
+            (PlaceKind::ArrHead, []) => Place::ArrHead,
+            (PlaceKind::ArrTail, []) => Place::ArrTail,
+            (PlaceKind::Head, [segment]) => Place::Head(segment_in(segment)?),
+            (PlaceKind::Tail, [segment]) => Place::Tail(segment_in(segment)?),
+            (PlaceKind::Next, [segment]) => Place::Next(segment_in(segment)?),
+            (PlaceKind::Whole, [segment]) => Place::Whole(segment_in(segment)?),
+            (PlaceKind::Cell, [segment, index]) => {
+                Place::Cell(segment_in(segment)?, byte_in(index)?)
+            }
+            (PlaceKind::ArrCell, [index]) => Place::ArrCell(byte_in(index)?),
+            _ => return None,
+        })
+    }
+}
+
+/// The place that the words are.
+pub fn place_in(words: &[&[u8]]) -> Option<Place>
+    ensures { ReadsPlace (map (λ word. word.now) words.now) result }
+{
+    let [kind, rest @ ..] = words else {
+        return None;
+    };
+    PlaceKind::of(kind)?.place(rest)
+}

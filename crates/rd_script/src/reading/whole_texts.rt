@@ -1,0 +1,44 @@
+//! What the lines of a whole text say: each as one that is read from a device.
+
+ghost use Rattle.std.specs.Prelude.{◌≡◌, ◌≢◌, ◌==◌, [], IfOk, IfErr};
+ghost use Rattle.std.specs.List.{slice_split};
+ghost use Rattle.rd_cell.specs.declared.refusal.Refusal.TheVariants.{NoMemory};
+ghost use Rattle.rd_script.specs.Lines.{lines_of, AreSaid};
+
+use super::commands::command_in;
+use crate::faults::LineFault;
+use rd_cell::Refusal;
+use rd_marks::Command;
+use std::alloc::Global;
+
+/// The commands and the faults of the lines of a text, one by one. The last line may lack its line feed.
+///
+/// # Errors
+///
+/// `NoMemory` if the room for them was refused.
+pub fn lines(alloc: Global, text: &[u8]) -> Result<Vec<Result<Command, LineFault>>, Refusal>
+    ensures ok { IfOk result (λ said. AreSaid (lines_of text.now) said.items) }
+    ensures err { IfErr result (λ refusal. refusal ≡ NoMemory) }
+{
+    if text.is_empty() {
+        return Ok(Vec::new(alloc));
+    }
+    let mut said = Vec::new(alloc);
+    for line in without_last_feed(text).split(|byte| *byte == b'\n') {
+        if said.push(command_in(line)).is_err() {
+            return Err(Refusal::NoMemory);
+        }
+    }
+    Ok(said)
+}
+
+/// The text without the line feed at its end, if it has one there: its lines are the parts between line feeds then.
+fn without_last_feed(text: &[u8]) -> &[u8]
+    requires { text.now ≢ [] }
+    ensures { slice_split (λ byte. byte == 10) result.now ≡ lines_of text.now }
+{
+    match text.strip_suffix(b"\n") {
+        Some(rest) => rest,
+        None => text,
+    }
+}

@@ -1,0 +1,29 @@
+//! The words of a line: what stands between its spaces, and the parts of a name between its full stops.
+//!
+//! A line has one space between two words and none before or after, so that an empty word is a word too, which spells
+//! nothing. No command has more than four words.
+
+ghost use Rattle.std.specs.Prelude.{◌≡◌, ◌==◌, ◌<◌, length, map, IfSome, IfNone};
+ghost use Rattle.std.specs.List.{slice_split};
+
+use arrayvec::ArrayVec;
+
+/// How many parts are kept: a command has four words at most.
+pub const MOST_PARTS: usize = 4;
+
+/// Up to four parts of a text.
+pub type Parts<'a> = ArrayVec<&'a [u8], MOST_PARTS>;
+
+/// The parts of a text between the bytes that separate them; none if there are more than four.
+pub fn parts_of(text: &[u8], separator: u8) -> Option<Parts<'_>>
+    ensures some { IfSome result (λ parts. map (λ part. part.now) parts.items ≡ slice_split (λ byte. byte == separator) text.now) }
+    ensures none { IfNone result (MOST_PARTS < length (slice_split (λ byte. byte == separator) text.now)) }
+{
+    let mut parts = Parts::new();
+    for part in text.split(|byte| *byte == separator) {
+        if parts.try_push(part).is_err() {
+            return None;
+        }
+    }
+    Some(parts)
+}

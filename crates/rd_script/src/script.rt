@@ -1,0 +1,110 @@
+//! A script: each line is read, obeyed and answered before the next one is read.
+
+ghost use Rattle.std.specs.Prelude.{◌≡◌, ℕ, List, true, false, OnOk, OnErr};
+ghost use Rattle.std.specs.Io.KnownBytes.{Appends};
+ghost use Rattle.rd_marks.specs.BookViews.{book_state};
+ghost use Rattle.rd_script.specs.Device.{TakesBeginning};
+ghost use Rattle.rd_script.specs.Lines.{Holds};
+ghost use Rattle.rd_script.specs.Replies.{text_of};
+ghost use Rattle.rd_script.specs.Answers.{Answered, AnswersLine};
+ghost use Rattle.rd_script.specs.Script.{WritesAnswer, RunsScript};
+
+use super::answers::LineAnswer;
+use super::devices::sinks::{Sink, WriteFault, hand_over};
+use super::devices::sources::Source;
+use super::faults::ScriptFault;
+use super::reading::lines::{Line, Reading, next_line};
+use super::writing::lines::{set_refused, set_reply, set_text, set_unread};
+use super::writing::texts::Text;
+use rd_marks::Book;
+
+/// Runs a script over a book: reads its lines to the end, obeys each when it is complete and writes its answer at once.
+/// Answers the number of lines.
+///
+/// # Errors
+///
+/// `Read` if the reader failed, or gave 2^64 - 1 bytes without an end: the whole lines that it gave are obeyed and answered.
+/// `Write` if the writer failed or took nothing: the line whose answer it was to take is obeyed.
+pub fn run<S: Source, K: Sink, const R: usize>(
+    reader: &mut S,
+    writer: &mut K,
+    book: &mut Book<R>,
+) -> Result<u64, ScriptFault>
+    requires reader_works { S.has_failed reader.old ≡ false }
+    requires writer_works { K.has_failed writer.old ≡ false }
+    ensures runs { RunsScript R (book_state book.old) (book_state book.new) (record {
+      in_before = S.bytes reader.old;
+      in_after = S.bytes reader.new;
+      in_failed = S.has_failed reader.new;
+      out_before = K.contents writer.old;
+      out_after = K.contents writer.new;
+      out_failed = K.has_failed writer.new;
+    }) result }
+    ensures start { (book_state book.new).session.start ≡ (book_state book.old).session.start }
+{
+    let mut line = Line::new();
+    let mut text = Text::new();
+    for done in 0..u64::MAX {
+        match next_line(reader, &mut line)? {
+            Reading::End => return Ok(done),
+            Reading::Last => {
+                do_line(book, &line, &mut text, writer)?;
+                return Ok(done + 1);
+            }
+            Reading::Ended => do_line(book, &line, &mut text, writer)?,
+        }
+    }
+    Err(ScriptFault::Read)
+}
+
+/// Does what a line says, and writes its answer by way of the text.
+fn do_line<K: Sink, const R: usize>(
+    book: &mut Book<R>,
+    line: &Line,
+    text: &mut Text,
+    writer: &mut K,
+) -> Result<(), WriteFault>
+    requires { K.has_failed writer.old ≡ false }
+    ensures does { (text : List ℕ) → Holds line.now text → (answered : Answered)
+        × AnswersLine R (book_state book.old) text answered × (answered.state ≡ book_state book.new)
+        × WritesAnswer (K.contents writer.old) (K.contents writer.new) answered.answer result }
+    ensures start { (book_state book.new).session.start ≡ (book_state book.old).session.start }
+    ensures works { OnOk result (K.has_failed writer.new ≡ false) }
+    ensures fails { OnErr result (K.has_failed writer.new ≡ true) }
+{
+    answer_line(book, line, text);
+    hand_over(writer, text.as_slice())
+}
+
+/// Does what a line says, and makes the text the line of its answer.
+fn answer_line<const R: usize>(book: &mut Book<R>, line: &Line, text: &mut Text)
+    ensures answers { (said : List ℕ) → Holds line.now said → (answered : Answered)
+        × AnswersLine R (book_state book.old) said answered × (answered.state ≡ book_state book.new)
+        × (text.new.items ≡ text_of answered.answer) }
+    ensures start { (book_state book.new).session.start ≡ (book_state book.old).session.start }
+{
+    match line.command() {
+        Err(fault) => set_unread(text, fault),
+        Ok(command) => match book.obey(command) {
+            Err(refusal) => set_refused(text, refusal),
+            Ok(reply) => set_reply(text, &reply),
+        },
+    }
+}
+
+/// Writes the line of an answer, in as few calls as it takes.
+///
+/// # Errors
+///
+/// If the writer failed or took nothing: it took a beginning of the line.
+pub fn write_answer<K: Sink>(writer: &mut K, answer: &LineAnswer) -> Result<(), WriteFault>
+    requires { K.has_failed writer.old ≡ false }
+    ensures ok { OnOk result (Appends (K.contents writer.old) (K.contents writer.new) (text_of answer.now)) }
+    ensures err { OnErr result (TakesBeginning (K.contents writer.old) (K.contents writer.new) (text_of answer.now)) }
+    ensures works { OnOk result (K.has_failed writer.new ≡ false) }
+    ensures fails { OnErr result (K.has_failed writer.new ≡ true) }
+{
+    let mut text = Text::new();
+    set_text(&mut text, answer);
+    hand_over(writer, text.as_slice())
+}

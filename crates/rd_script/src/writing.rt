@@ -1,0 +1,15 @@
+//! The lines of answers: each function puts words behind a text of fixed capacity, and its contract says which words they are and how
+//! many bytes they have at most.
+
+mod actors;
+mod contents;
+mod events;
+pub mod headings;
+mod labels;
+pub mod lines;
+mod numbers;
+mod places;
+mod refusals;
+mod replies;
+mod steps;
+pub mod texts;

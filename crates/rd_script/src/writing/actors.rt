@@ -1,0 +1,82 @@
+//! The words of an actor, as a reply says them.
+
+ghost use Rattle.std.specs.Prelude.{◌≡◌, ◌≤◌, ◌++◌, length};
+ghost use Rattle.rd_script.specs.Puts.{Puts};
+ghost use Rattle.rd_script.specs.Actors.{label, op_words, call_words, segment_words, position_words, read_words, actor_words};
+
+use super::contents::{put_name, put_value};
+use super::labels::label_of;
+use super::numbers::{bit_number, put_counted};
+use super::texts::{Text, put};
+use rd_actor::{Actor, Op};
+
+/// Puts all words of an actor behind the text.
+pub fn put_actor(text: &mut Text, actor: &Actor)
+    ensures words { Puts text.old.items text.new.items (actor_words actor.now) }
+    ensures len { length (actor_words actor.now) ≤ 400 }
+{
+    put_call(text, actor);
+    put_segments(text, actor);
+    put_positions(text, actor);
+    put_read(text, actor);
+}
+
+/// Puts the control point and the call of an actor behind the text.
+fn put_call(text: &mut Text, actor: &Actor)
+    ensures words { Puts text.old.items text.new.items (call_words actor.now) }
+    ensures len { length (call_words actor.now) ≤ 40 }
+{
+    put(text, b"actor ");
+    put(text, label_of(actor.pc));
+    put(text, b" ");
+    put_op(text, actor.op);
+}
+
+/// Puts the segments that an actor knows behind the text.
+fn put_segments(text: &mut Text, actor: &Actor)
+    ensures words { Puts text.old.items text.new.items (segment_words actor.now) }
+    ensures len { length (segment_words actor.now) ≤ 139 }
+{
+    put(text, b" crq ");
+    put_name(text, actor.crq);
+    put(text, b" new ");
+    put_name(text, actor.new);
+    put(text, b" next ");
+    put_name(text, actor.next);
+}
+
+/// Puts the positions that an actor knows, and the closed bit, behind the text.
+fn put_positions(text: &mut Text, actor: &Actor)
+    ensures words { Puts text.old.items text.new.items (position_words actor.now) }
+    ensures len { length (position_words actor.now) ≤ 74 }
+{
+    put_counted(text, b" t", actor.t);
+    put_counted(text, b" h", actor.h);
+    put_counted(text, b" closed", bit_number(actor.closed));
+}
+
+/// Puts what an actor read from a cell, and its pass, behind the text.
+fn put_read(text: &mut Text, actor: &Actor)
+    ensures words { Puts text.old.items text.new.items (read_words actor.now) }
+    ensures len { length (read_words actor.now) ≤ 102 }
+{
+    put(text, b" val ");
+    put_value(text, actor.val);
+    put_counted(text, b" safe", bit_number(actor.safe));
+    put_counted(text, b" idx", actor.idx);
+    put_counted(text, b" pass", u64::from(actor.pass));
+}
+
+/// Puts the call that an actor is in, if any, behind the text.
+fn put_op(text: &mut Text, op: Option<Op>)
+    ensures words { Puts text.old.items text.new.items (op_words op) }
+    ensures len { length (op_words op) ≤ 25 }
+{
+    match op {
+        None => put(text, b"none"),
+        Some(Op::Enq(value)) => put_counted(text, b"enq", value),
+        Some(Op::Deq) => put(text, b"deq"),
+        Some(Op::AEnq(value)) => put_counted(text, b"aenq", value),
+        Some(Op::ADeq) => put(text, b"adeq"),
+    }
+}

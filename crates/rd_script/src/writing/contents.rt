@@ -1,0 +1,88 @@
+//! The words that spell a segment's name, and what a place has in it.
+
+ghost use Rattle.std.specs.Prelude.{◌≡◌, ◌≤◌, ◌++◌, length};
+ghost use Rattle.rd_script.specs.Puts.{Puts};
+ghost use Rattle.rd_script.specs.Contents.{name_words, value_words, next_words, tail_word, cell_words, slot_words, content_words};
+
+use super::numbers::{bit_number, put_counted, put_number, put_spaced};
+use super::texts::{Text, put};
+use rd_cell::{ArrSlot, Cell, Content, SegName};
+
+/// Puts what a place has in it behind the text.
+pub fn put_content(text: &mut Text, content: Content)
+    ensures words { Puts text.old.items text.new.items (content_words content) }
+    ensures len { length (content_words content) ≤ 62 }
+{
+    match content {
+        Content::Name(name) => put_name(text, name),
+        Content::Number(number) => put_number(text, number),
+        Content::Tail { closed, count } => put_counted(text, tail_word(closed), count),
+        Content::Next(next) => put_next(text, next),
+        Content::Cell(cell) => put_cell(text, cell),
+        Content::Whole => put(text, b"exists"),
+        Content::Slot(slot) => put_slot(text, slot),
+    }
+}
+
+/// Puts a segment's name behind the text.
+pub fn put_name(text: &mut Text, name: SegName)
+    ensures words { Puts text.old.items text.new.items (name_words name) }
+    ensures len { length (name_words name) ≤ 41 }
+{
+    put_number(text, u64::from(name.maker));
+    put(text, b".");
+    put_number(text, u64::from(name.n));
+}
+
+/// Puts a value, if any, behind the text.
+pub fn put_value(text: &mut Text, value: Option<u64>)
+    ensures words { Puts text.old.items text.new.items (value_words value) }
+    ensures len { length (value_words value) ≤ 20 }
+{
+    match value {
+        None => put(text, b"none"),
+        Some(number) => put_number(text, number),
+    }
+}
+
+/// Whether a ring is closed for enqueues.
+pub fn tail_word(closed: bool) -> &'static [u8]
+    ensures name { result.now ≡ tail_word closed }
+    ensures len { length result.now ≤ 6 }
+{
+    if closed { b"closed" } else { b"open" }
+}
+
+/// Puts the name of the segment that follows, if any, behind the text.
+fn put_next(text: &mut Text, next: Option<SegName>)
+    ensures words { Puts text.old.items text.new.items (next_words next) }
+    ensures len { length (next_words next) ≤ 41 }
+{
+    match next {
+        None => put(text, b"none"),
+        Some(name) => put_name(text, name),
+    }
+}
+
+/// Puts a cell's safe bit, index and value behind the text.
+fn put_cell(text: &mut Text, cell: Cell)
+    ensures words { Puts text.old.items text.new.items (cell_words cell) }
+    ensures len { length (cell_words cell) ≤ 62 }
+{
+    put_number(text, bit_number(cell.safe));
+    put_spaced(text, cell.idx);
+    put(text, b" ");
+    put_value(text, cell.val);
+}
+
+/// Puts what a slot of the array has behind the text.
+fn put_slot(text: &mut Text, slot: ArrSlot)
+    ensures words { Puts text.old.items text.new.items (slot_words slot) }
+    ensures len { length (slot_words slot) ≤ 26 }
+{
+    match slot {
+        ArrSlot::Empty => put(text, b"empty"),
+        ArrSlot::Top => put(text, b"top"),
+        ArrSlot::Value(value) => put_counted(text, b"value", value),
+    }
+}

@@ -1,0 +1,36 @@
+//! The words that spell an event.
+
+ghost use Rattle.std.specs.Prelude.{◌≤◌, length};
+ghost use Rattle.rd_script.specs.Puts.{Puts};
+ghost use Rattle.rd_script.specs.Events.{event_words};
+
+use super::numbers::{put_counted, put_spaced, yes_or_no};
+use super::texts::{Text, put};
+use rd_actor::Act;
+use rd_step::Event;
+
+/// Puts the line that makes an event happen behind the text.
+pub fn put_event(text: &mut Text, event: Event)
+    ensures words { Puts text.old.items text.new.items (event_words event) }
+    ensures len { length (event_words event) ≤ 46 }
+{
+    let actor = u64::from(event.actor);
+    match event.act {
+        Act::Enq(value) => {
+            put_counted(text, b"enq", actor);
+            put_spaced(text, value);
+        }
+        Act::Deq => put_counted(text, b"deq", actor),
+        Act::AEnq(value) => {
+            put_counted(text, b"aenq", actor);
+            put_spaced(text, value);
+        }
+        Act::ADeq => put_counted(text, b"adeq", actor),
+        Act::Go => put_counted(text, b"go", actor),
+        Act::Starve(choice) => {
+            put_counted(text, b"starve", actor);
+            put(text, b" ");
+            put(text, yes_or_no(choice));
+        }
+    }
+}

@@ -1,0 +1,51 @@
+//! Numbers and bits behind a text. A number is written as decimal digits without leading zeros.
+
+ghost use Rattle.std.specs.Prelude.{◌≡◌, ◌≤◌, ◌++◌, length};
+ghost use Rattle.std.specs.Fmt.{decimal};
+ghost use Rattle.rd_script.specs.Puts.{Puts};
+ghost use Rattle.rd_script.specs.Texts.{spaced_number, bit_number, yes_or_no};
+
+use super::texts::{Text, put};
+use itoa::Buffer;
+
+/// Puts the digits of a number behind the text, the higher ones first.
+pub fn put_number(text: &mut Text, number: u64)
+    ensures words { Puts text.old.items text.new.items (decimal number) }
+    ensures len { length (decimal number) ≤ 20 }
+{
+    let mut digits = Buffer::new();
+    put(text, digits.format(number).as_bytes());
+}
+
+/// Puts a space and a number behind the text.
+pub fn put_spaced(text: &mut Text, number: u64)
+    ensures words { Puts text.old.items text.new.items (spaced_number number) }
+    ensures len { length (spaced_number number) ≤ 21 }
+{
+    put(text, b" ");
+    put_number(text, number);
+}
+
+/// Puts words behind the text, and a number behind them.
+pub fn put_counted(text: &mut Text, words: &[u8], number: u64)
+    ensures words { Puts text.old.items text.new.items (words.now ++ spaced_number number) }
+    ensures len { length (spaced_number number) ≤ 21 }
+{
+    put(text, words);
+    put_spaced(text, number);
+}
+
+/// A bit as a number.
+pub fn bit_number(bit: bool) -> u64
+    ensures { result ≡ bit_number bit }
+{
+    if bit { 1 } else { 0 }
+}
+
+/// A choice as a word.
+pub fn yes_or_no(choice: bool) -> &'static [u8]
+    ensures name { result.now ≡ yes_or_no choice }
+    ensures len { length result.now ≤ 3 }
+{
+    if choice { b"yes" } else { b"no" }
+}

@@ -1,0 +1,41 @@
+//! The words that spell a place.
+
+ghost use Rattle.std.specs.Prelude.{◌≡◌, ◌≤◌, ◌++◌, length};
+ghost use Rattle.rd_script.specs.Puts.{Puts};
+ghost use Rattle.rd_script.specs.Contents.{name_words, place_words};
+
+use super::contents::put_name;
+use super::numbers::{put_counted, put_spaced};
+use super::texts::{Text, put};
+use rd_cell::{Place, SegName};
+
+/// Puts a place behind the text.
+pub fn put_place(text: &mut Text, place: Place)
+    ensures words { Puts text.old.items text.new.items (place_words place) }
+    ensures len { length (place_words place) ≤ 67 }
+{
+    match place {
+        Place::QHead => put(text, b"qhead"),
+        Place::QTail => put(text, b"qtail"),
+        Place::Head(name) => put_named(text, b"head ", name),
+        Place::Tail(name) => put_named(text, b"tail ", name),
+        Place::Next(name) => put_named(text, b"next ", name),
+        Place::Cell(name, index) => {
+            put_named(text, b"cell ", name);
+            put_spaced(text, u64::from(index));
+        }
+        Place::Whole(name) => put_named(text, b"whole ", name),
+        Place::ArrHead => put(text, b"ahead"),
+        Place::ArrTail => put(text, b"atail"),
+        Place::ArrCell(index) => put_counted(text, b"acell", u64::from(index)),
+    }
+}
+
+/// Puts words behind the text, and a segment's name behind them.
+fn put_named(text: &mut Text, words: &[u8], name: SegName)
+    ensures words { Puts text.old.items text.new.items (words.now ++ name_words name) }
+    ensures len { length (name_words name) ≤ 41 }
+{
+    put(text, words);
+    put_name(text, name);
+}

@@ -1,0 +1,109 @@
+//! The words of what a book replies.
+
+ghost use Rattle.std.specs.Prelude.{◌≡◌, ◌≤◌, ◌++◌, length};
+ghost use Rattle.rd_marks.specs.Names.{bytes_of};
+ghost use Rattle.rd_script.specs.Puts.{Puts};
+ghost use Rattle.rd_script.specs.Replies.{event_reply, step_number, origin_words, writer_words, reply_words};
+
+use super::actors::put_actor;
+use super::contents::put_content;
+use super::numbers::{put_counted, put_number, put_spaced, yes_or_no};
+use super::steps::{put_call_reply, put_step};
+use super::texts::{Text, put};
+use rd_actor::OpReply;
+use rd_marks::{MarkName, Reply};
+use rd_origin::Origin;
+
+/// Puts the words of a reply behind the text.
+pub fn put_reply(text: &mut Text, reply: &Reply)
+    ensures words { Puts text.old.items text.new.items (reply_words reply.now) }
+    ensures len { length (reply_words reply.now) ≤ 400 }
+{
+    match *reply {
+        Reply::Applied { step, reply } => {
+            put_counted(text, b"ok", step);
+            put_event_reply(text, reply);
+        }
+        Reply::At { live, undone } => {
+            put_counted(text, b"at", live);
+            put_spaced(text, undone);
+        }
+        Reply::Marked(len) => put_counted(text, b"marked", len),
+        Reply::Dropped => put(text, b"dropped"),
+        Reply::Marks(count) => put_counted(text, b"marks", count),
+        Reply::Mark { name, len } => {
+            put(text, b"mark ");
+            put_mark_name(text, name);
+            put_spaced(text, len);
+        }
+        Reply::Same(same) => {
+            put(text, b"same ");
+            put(text, yes_or_no(same));
+        }
+        Reply::Origin(origin) => put_origin(text, origin),
+        Reply::Writer(writer) => put_writer(text, writer),
+        Reply::Content(content) => {
+            put(text, b"is ");
+            put_content(text, content);
+        }
+        Reply::Actor(ref actor) => put_actor(text, actor),
+        Reply::Step { number, ref entry } => put_step(text, number, entry),
+    }
+}
+
+/// Puts what the call replied that an event ended, if it ended one, behind the text.
+fn put_event_reply(text: &mut Text, reply: Option<OpReply>)
+    ensures words { Puts text.old.items text.new.items (event_reply reply) }
+    ensures len { length (event_reply reply) ≤ 27 }
+{
+    match reply {
+        None => {}
+        Some(reply) => {
+            put(text, b" ");
+            put_call_reply(text, reply);
+        }
+    }
+}
+
+/// Puts the steps of an origin behind the text.
+fn put_origin(text: &mut Text, origin: Origin)
+    ensures words { Puts text.old.items text.new.items (origin_words origin) }
+    ensures len { length (origin_words origin) ≤ 90 }
+{
+    put(text, b"origin call ");
+    put_step_number(text, origin.call);
+    put(text, b" put ");
+    put_step_number(text, origin.put);
+    put_counted(text, b" take", origin.take);
+}
+
+/// Puts the number of a step, or a hyphen for none, behind the text.
+fn put_step_number(text: &mut Text, step: Option<u64>)
+    ensures words { Puts text.old.items text.new.items (step_number step) }
+    ensures len { length (step_number step) ≤ 20 }
+{
+    match step {
+        None => put(text, b"-"),
+        Some(number) => put_number(text, number),
+    }
+}
+
+/// Puts the last writer of a place behind the text.
+fn put_writer(text: &mut Text, writer: Option<u64>)
+    ensures words { Puts text.old.items text.new.items (writer_words writer) }
+    ensures len { length (writer_words writer) ≤ 27 }
+{
+    match writer {
+        None => put(text, b"writer none"),
+        Some(step) => put_counted(text, b"writer", step),
+    }
+}
+
+/// Puts a bookmark's name behind the text.
+#[tactic(auto, using(crate::proofs::NameLemmas::length_mark_name))]
+fn put_mark_name(text: &mut Text, name: MarkName)
+    ensures words { Puts text.old.items text.new.items (bytes_of name) }
+    ensures len { length (bytes_of name) ≤ 16 }
+{
+    put(text, name.as_str().as_bytes());
+}

@@ -1,0 +1,112 @@
+//! The words of a step, as a reply says them: parts between semicolons.
+
+ghost use Rattle.std.specs.Prelude.{◌≡◌, ◌≤◌, ◌++◌, length};
+ghost use Rattle.rd_script.specs.Puts.{Puts};
+ghost use Rattle.rd_script.specs.Steps.{step_place, access_word, access_answer, reply_word, step_reply, done_words, step_words};
+
+use super::contents::{put_content, put_name, put_value, tail_word};
+use super::events::put_event;
+use super::numbers::{bit_number, put_counted, put_number, put_spaced};
+use super::places::put_place;
+use super::texts::{Text, put};
+use rd_actor::OpReply;
+use rd_cell::{Answer, Place};
+use rd_step::Entry;
+
+/// Puts all words of a step behind the text.
+pub fn put_step(text: &mut Text, number: u64, entry: &Entry)
+    ensures words { Puts text.old.items text.new.items (step_words number entry.now) }
+    ensures len { length (step_words number entry.now) ≤ 300 }
+{
+    put_counted(text, b"step", number);
+    put(text, b"; ");
+    put_event(text, entry.event);
+    put(text, b"; ");
+    put_done(text, entry);
+    put(text, b"; ");
+    put_step_reply(text, entry.reply);
+}
+
+/// Puts what a call replied behind the text.
+pub fn put_call_reply(text: &mut Text, reply: OpReply)
+    ensures words { Puts text.old.items text.new.items (reply_word reply) }
+    ensures len { length (reply_word reply) ≤ 26 }
+{
+    match reply {
+        OpReply::Enqueued => put(text, b"enqueued"),
+        OpReply::Value(value) => put_counted(text, b"value", value),
+        OpReply::Empty => put(text, b"empty"),
+    }
+}
+
+/// Puts what the access of a step did behind the text.
+fn put_done(text: &mut Text, entry: &Entry)
+    ensures words { Puts text.old.items text.new.items (done_words entry.now) }
+    ensures len { length (done_words entry.now) ≤ 138 }
+{
+    put_step_place(text, entry.place);
+    put(text, b"; ");
+    put(text, access_word(entry.place, entry.wrote));
+    put(text, b"; ");
+    put_access_answer(text, entry.answer);
+}
+
+/// Puts the place of a step, if it has one, behind the text.
+fn put_step_place(text: &mut Text, place: Option<Place>)
+    ensures words { Puts text.old.items text.new.items (step_place place) }
+    ensures len { length (step_place place) ≤ 67 }
+{
+    match place {
+        None => put(text, b"-"),
+        Some(place) => put_place(text, place),
+    }
+}
+
+/// How a step touched its place, if it has one.
+fn access_word(place: Option<Place>, wrote: bool) -> &'static [u8]
+    ensures name { result.now ≡ access_word place wrote }
+    ensures len { length result.now ≤ 5 }
+{
+    match (place, wrote) {
+        (None, _) => b"none",
+        (Some(_), false) => b"read",
+        (Some(_), true) => b"wrote",
+    }
+}
+
+/// Puts what an access answered behind the text.
+fn put_access_answer(text: &mut Text, answer: Answer)
+    ensures words { Puts text.old.items text.new.items (access_answer answer) }
+    ensures len { length (access_answer answer) ≤ 62 }
+{
+    match answer {
+        Answer::Nothing => put(text, b"-"),
+        Answer::Found(content) => put_content(text, content),
+        Answer::Value(value) => put_value(text, value),
+        Answer::SafeAndIndex { safe, idx } => {
+            put_number(text, bit_number(safe));
+            put_spaced(text, idx);
+        }
+        Answer::WasClosed(closed) => {
+            put(text, b"was ");
+            put(text, tail_word(closed));
+        }
+        Answer::Won => put(text, b"won"),
+        Answer::Lost => put(text, b"lost"),
+        Answer::Made(name) => {
+            put(text, b"made ");
+            put_name(text, name);
+        }
+    }
+}
+
+/// Puts what the call replied that a step ended, if it ended one, behind the text.
+fn put_step_reply(text: &mut Text, reply: Option<OpReply>)
+    ensures words { Puts text.old.items text.new.items (step_reply reply) }
+    ensures len { length (step_reply reply) ≤ 26 }
+{
+    match reply {
+        None => put(text, b"-"),
+        Some(reply) => put_call_reply(text, reply),
+    }
+}

@@ -1,0 +1,144 @@
+//! Long scripts of all kinds of lines, in an order that looks like chance: no line is refused memory.
+
+ghost use Rattle.std.specs.Prelude.{◌≤◌};
+
+use super::runs::fresh;
+use rd_marks::Command;
+use rd_script::devices::sinks::WriteSink;
+use rd_script::devices::sources::ReadSource;
+use rd_script::reading::whole_texts::lines;
+use rd_script::script::run;
+use std::alloc::Global;
+use std::process::Abort;
+use std::test::Fail;
+
+/// How many lines a long script has.
+const LINES: u64 = 300;
+
+/// The next number of a fixed sequence that looks like chance.
+fn next(number: u64) -> u64 {
+    number
+        .wrapping_mul(6_364_136_223_846_793_005)
+        .wrapping_add(1_442_695_040_888_963_407)
+}
+
+/// Puts a line of a kind behind a script: `A` stands for an actor, `K` for a number, and `N` for the number in a bookmark's name. Which
+/// ones they are is as the number has it.
+fn put_line(script: &mut String, kind: &str, actors: u64, number: u64) -> Result<(), Fail>
+    requires { 1 ≤ actors }
+{
+    for letter in kind.chars() {
+        let shown = match letter {
+            'A' => (number >> 33) % actors + 1,
+            'K' => (number >> 43) % 60,
+            'N' => (number >> 53) % 4,
+            _ => {
+                script.push(letter)?;
+                continue;
+            }
+        };
+        write!(script, "{shown}")?;
+    }
+    script.push('\n')?;
+    Ok(())
+}
+
+/// A script of lines of these kinds for so many actors, in which each second line or so is a step.
+fn long_script(alloc: Global, kinds: &[&str], actors: u64) -> Result<String, Fail>
+    requires { 1 ≤ actors }
+{
+    let mut script = String::new(alloc);
+    let mut number = actors;
+    for _ in 0..LINES {
+        number = next(number);
+        let kind = match kinds.get((number >> 58) as usize) {
+            Some(kind) => *kind,
+            None => "go A",
+        };
+        put_line(&mut script, kind, actors, number)?;
+    }
+    Ok(script)
+}
+
+/// Runs a script over a fresh world of so many actors: no line is refused memory.
+fn has_memory<const R: usize>(
+    rt: &impl Abort,
+    alloc: Global,
+    script: &str,
+    actors: u8,
+) -> Result<(), Fail>
+    requires positive { 1 ≤ R }
+    requires small { R ≤ 64 }
+    requires some { 1 ≤ actors }
+    requires few { actors ≤ 16 }
+{
+    let mut report = Vec::new(alloc);
+    let lines = run(
+        &mut ReadSource::new(script.as_bytes()),
+        &mut WriteSink::new(&mut report),
+        &mut fresh::<R>(alloc, actors)?,
+    );
+    let report = str::from_utf8(&report)?;
+    assert!(rt;
+        lines == Ok(LINES) && !report.contains("NoMemory"),
+        "{actors} actors, rings of {R}"
+    );
+    Ok(())
+}
+
+/// Runs a long script of lines of these kinds for each number of actors over rings of 2, 4 and 8 cells: no line is refused memory.
+fn have_memory(rt: &impl Abort, alloc: Global, kinds: &[&str]) -> Result<(), Fail> {
+    for actors in 1..17 {
+        let script = long_script(alloc, kinds, u64::from(actors))?;
+        has_memory::<2>(rt, alloc, &script, actors)?;
+        has_memory::<4>(rt, alloc, &script, actors)?;
+        has_memory::<8>(rt, alloc, &script, actors)?;
+    }
+    Ok(())
+}
+
+#[test]
+fn no_line_of_a_long_script_is_refused_memory(rt: HostRuntime) -> Result<(), Fail> {
+    have_memory(
+        &rt,
+        rt.alloc(),
+        &[
+            "enq A K",
+            "deq A",
+            "aenq A K",
+            "adeq A",
+            "starve A yes",
+            "starve A no",
+            "undo",
+            "undo K",
+            "roll K",
+            "back 2",
+            "redo",
+            "forward 2",
+            "mark nN",
+            "drop nN",
+            "goto nN",
+            "marks",
+            "markat K",
+            "same nN nN",
+            "origin K",
+            "writer qtail",
+            "writer cell 0.0 1",
+            "show tail 0.0",
+            "show acell K",
+            "actor A",
+            "step K",
+            "len",
+            "hello",
+            "mark nN.",
+        ],
+    )
+}
+
+#[test]
+fn a_long_text_says_what_each_of_its_lines_says(rt: HostRuntime) -> Result<(), Fail> {
+    let text = "len\n".repeat(rt.alloc(), 100_000)?;
+    let said = lines(rt.alloc(), text.as_bytes())?;
+    assert!(rt; said.len() == 100_000 && said.iter().all(|line| *line == Ok(Command::Len)));
+    Ok(())
+}

@@ -1,0 +1,149 @@
+//! Lines that are long or lack their line feed, in a script and in a whole text; and the lines of headings.
+
+use super::runs::{poised, report_is};
+use rd_marks::Command;
+use rd_script::devices::sinks::WriteSink;
+use rd_script::faults::LineFault;
+use rd_script::reading::whole_texts::lines;
+use rd_script::writing::headings::{Heading, write_heading};
+use std::alloc::{AllocError, Global};
+use std::process::Abort;
+use std::test::Fail;
+
+/// Runs each script over a poised world of its own, and compares its report.
+fn alone_over_poised(rt: &impl Abort, alloc: Global, rows: &[(&str, &str)]) -> Result<(), Fail> {
+    for (script, report) in rows {
+        report_is(rt, alloc, &mut poised::<4>(alloc)?, *script, *report);
+    }
+    Ok(())
+}
+
+#[test]
+fn a_last_line_may_lack_its_line_feed(rt: HostRuntime) -> Result<(), Fail> {
+    alone_over_poised(
+        &rt,
+        rt.alloc(),
+        &[
+            ("", ""),
+            ("go 4", "ok 1\n"),
+            ("go 4\nundo", "ok 1\nat 0 1\n"),
+            ("\n\n", "refused 22 BadLine\nrefused 22 BadLine\n"),
+        ],
+    )
+}
+
+/// A line of so many bytes, and another line behind it.
+fn long_line(alloc: Global, length: usize, last: &str) -> Result<String, AllocError> {
+    let mut text = "x".repeat(alloc, length)?;
+    text.push_str("\n")?;
+    text.push_str(last)?;
+    Ok(text)
+}
+
+/// Compares the report of a script whose first line has so many bytes.
+fn long_lines_are(rt: &impl Abort, alloc: Global, rows: &[(usize, &str)]) -> Result<(), Fail> {
+    for (length, report) in rows {
+        let script = long_line(alloc, *length, "go 3\n")?;
+        report_is(rt, alloc, &mut poised::<4>(alloc)?, &script, *report);
+    }
+    Ok(())
+}
+
+#[test]
+fn a_line_of_256_bytes_is_bad_and_a_longer_one_too_long(rt: HostRuntime) -> Result<(), Fail> {
+    long_lines_are(
+        &rt,
+        rt.alloc(),
+        &[
+            (256, "refused 22 BadLine\nok 1\n"),
+            (257, "refused 23 LineTooLong\nok 1\n"),
+            (1000, "refused 23 LineTooLong\nok 1\n"),
+        ],
+    )
+}
+
+/// Compares what the lines of a text say with what is wanted of each.
+fn lines_say(
+    rt: &impl Abort,
+    alloc: Global,
+    text: &str,
+    wanted: &[Result<Command, LineFault>],
+) -> Result<(), Fail> {
+    let said = lines(alloc, text.as_bytes())?;
+    assert!(rt; said.as_slice() == wanted, "text {text}");
+    Ok(())
+}
+
+#[test]
+fn a_whole_text_says_what_each_of_its_lines_says(rt: HostRuntime) -> Result<(), Fail> {
+    let alloc = rt.alloc();
+    lines_say(&rt, alloc, "", &[])?;
+    lines_say(&rt, alloc, "\n", &[Err(LineFault::BadLine)])?;
+    lines_say(
+        &rt,
+        alloc,
+        "\n\nlen",
+        &[
+            Err(LineFault::BadLine),
+            Err(LineFault::BadLine),
+            Ok(Command::Len),
+        ],
+    )?;
+    lines_say(&rt, alloc, "go 1", &[Ok(Command::Go(1))])?;
+    lines_say(&rt, alloc, "go 1\n", &[Ok(Command::Go(1))])?;
+    lines_say(
+        &rt,
+        alloc,
+        "enq 3 7\nhello\nmark A\nundo 2\n",
+        &[
+            Ok(Command::Enq(3, 7)),
+            Err(LineFault::BadLine),
+            Err(LineFault::BadName),
+            Ok(Command::UndoAt(2)),
+        ],
+    )
+}
+
+/// Compares what a first line of so many bytes, with another one behind it, says in a whole text.
+fn long_lines_say(rt: &impl Abort, alloc: Global, rows: &[(usize, LineFault)]) -> Result<(), Fail> {
+    for (length, fault) in rows {
+        let text = long_line(alloc, *length, "len")?;
+        lines_say(rt, alloc, &text, &[Err(*fault), Ok(Command::Len)])?;
+    }
+    Ok(())
+}
+
+#[test]
+fn a_long_line_of_a_whole_text_is_too_long(rt: HostRuntime) -> Result<(), Fail> {
+    long_lines_say(
+        &rt,
+        rt.alloc(),
+        &[(256, LineFault::BadLine), (257, LineFault::LineTooLong)],
+    )
+}
+
+/// Compares what a writer is given of each heading with its line.
+fn headings_are(rt: &impl Abort, alloc: Global, rows: &[(Heading, &str)]) {
+    for (heading, line) in rows {
+        let mut written = Vec::new(alloc);
+        let said = write_heading(&mut WriteSink::new(&mut written), *heading);
+        assert!(rt;
+            said.is_ok() && written.as_slice() == line.as_bytes(),
+            "line {line}"
+        );
+    }
+}
+
+#[test]
+fn each_heading_has_its_line(rt: HostRuntime) {
+    headings_are(
+        &rt,
+        rt.alloc(),
+        &[
+            (Heading::Viewer(1), "viewer 1\n"),
+            (Heading::Viewer(64), "viewer 64\n"),
+            (Heading::History(0), "history 0\n"),
+            (Heading::History(100_000), "history 100000\n"),
+        ],
+    )
+}

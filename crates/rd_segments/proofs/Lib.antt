@@ -1,0 +1,6 @@
+pub mod EndsLemmas
+pub mod ArrayLemmas
+pub mod ListsLemmas
+pub mod SegmentsLemmas
+pub mod SpaceLemmas
+pub mod CountLemmas

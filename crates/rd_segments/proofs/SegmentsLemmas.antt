@@ -1,0 +1,195 @@
+-- The segments' places after a change of one segment.
+use Rattle.std.proofs.Common.{◌≡◌, ℕ, ◌-◌, ◌<◌, true, false, nat_lt, if◌then◌else◌, inl, inr, refl, sym, ◌∙◌, ap, subst, arith, List, take, length, set, get_or, Option, Some, None, is_some, slice_get, Result, Ok, Err, IfOk, IfErr, OnErr, lt-ltb, vec_len, vec_capacity}
+use Rattle.std.specs.Vec.{with_item}
+use Rattle.std.proofs.lemmas.Bool.{cases_Bool, cond-true, cond-false}
+use mathlib.Core.Path.{fun_ext}
+use Rattle.rd_ring.specs.Prelude.{MOST_SEGMENTS, SegName, Place, Head, Tail, Next, CellAt, WholeOf, Content, Operation, Made, Done, Refusal, is_name, is_of, is_beside, segment_of, Contents, holding, operand, operate, everywhere, Operates, Makes, Restores, RefusesMaking}
+use Rattle.rd_cell.proofs.PlaceLemmas.{is_name-true, is_name-refl}
+use Rattle.rd_cell.proofs.EffectLemmas.{Agrees, operand_agrees, lift_operates, lift_restore, beside_is_of, not_covered_outside}
+use Rattle.rd_ring.specs.declared.segments.Segment.{Segment}
+use Rattle.rd_ring.specs.Segments.{part}
+use Rattle.rd_segments.specs.Lists.{ListOf, by_name, part_of, segments_of, count_in, count, Changes, IsLengthened}
+use Rattle.rd_segments.specs.Room.{spare_in, spare}
+use Rattle.rd_segments.proofs.ListsLemmas.{named_is, segment_written, list_read, list_lengthened, list_same, last_taken}
+
+-- what the segment of a name has at its places is what is there
+pub segments_part : {R : ℕ} (makers : List (ListOf R)) (name : SegName) (segment : Segment R) (q : Place) → by_name makers name ≡ Some segment
+    → is_of name q ≡ true → part segment q ≡ segments_of makers q
+segments_part {R} makers name segment (Head t) there h = sym (ap (λ (o : Option (Segment R)). part_of o (Head t)) (ap (by_name makers) (sym (is_name-true name t h)) ∙ there))
+segments_part {R} makers name segment (Tail t) there h = sym (ap (λ (o : Option (Segment R)). part_of o (Tail t)) (ap (by_name makers) (sym (is_name-true name t h)) ∙ there))
+segments_part {R} makers name segment (Next t) there h = sym (ap (λ (o : Option (Segment R)). part_of o (Next t)) (ap (by_name makers) (sym (is_name-true name t h)) ∙ there))
+segments_part {R} makers name segment (CellAt t i) there h = sym (ap (λ (o : Option (Segment R)). part_of o (CellAt t i)) (ap (by_name makers) (sym (is_name-true name t h)) ∙ there))
+segments_part makers name segment (WholeOf t) there h = refl
+segments_part makers name segment _ there h = cc
+
+-- if no segment has the name, nothing is there
+pub segments_none : {R : ℕ} (makers : List (ListOf R)) (name : SegName) (q : Place) → by_name makers name ≡ None → is_of name q ≡ true
+    → segments_of makers q ≡ None
+segments_none {R} makers name (Head t) none h = ap (λ (o : Option (Segment R)). part_of o (Head t)) (ap (by_name makers) (sym (is_name-true name t h)) ∙ none)
+segments_none {R} makers name (Tail t) none h = ap (λ (o : Option (Segment R)). part_of o (Tail t)) (ap (by_name makers) (sym (is_name-true name t h)) ∙ none)
+segments_none {R} makers name (Next t) none h = ap (λ (o : Option (Segment R)). part_of o (Next t)) (ap (by_name makers) (sym (is_name-true name t h)) ∙ none)
+segments_none {R} makers name (CellAt t i) none h = ap (λ (o : Option (Segment R)). part_of o (CellAt t i)) (ap (by_name makers) (sym (is_name-true name t h)) ∙ none)
+segments_none makers name _ none h = refl
+
+-- the places of the other segments have what they had
+pub segments_other : {R : ℕ} (old new : List (ListOf R)) (name : SegName) (o : Option (Segment R)) (q : Place) → Changes name o old new
+    → is_of name q ≡ false → segments_of new q ≡ segments_of old q
+segments_other {R} old new name o (Head t) changes h = ap (λ (x : Option (Segment R)). part_of x (Head t)) (changes.at t ∙ cond-false (is_name name t) o (by_name old t) h)
+segments_other {R} old new name o (Tail t) changes h = ap (λ (x : Option (Segment R)). part_of x (Tail t)) (changes.at t ∙ cond-false (is_name name t) o (by_name old t) h)
+segments_other {R} old new name o (Next t) changes h = ap (λ (x : Option (Segment R)). part_of x (Next t)) (changes.at t ∙ cond-false (is_name name t) o (by_name old t) h)
+segments_other {R} old new name o (CellAt t i) changes h = ap (λ (x : Option (Segment R)). part_of x (CellAt t i)) (changes.at t ∙ cond-false (is_name name t) o (by_name old t) h)
+segments_other old new name o _ changes h = refl
+
+-- the places are those of the names alone
+pub segments_same : {R : ℕ} (old new : List (ListOf R)) → ((t : SegName) → by_name new t ≡ by_name old t) → segments_of new ≡ segments_of old
+segments_same {R} old new same = fun_ext each
+  where
+    each : (q : Place) → segments_of new q ≡ segments_of old q
+    each (Head t) = ap (λ (o : Option (Segment R)). part_of o (Head t)) (same t)
+    each (Tail t) = ap (λ (o : Option (Segment R)). part_of o (Tail t)) (same t)
+    each (Next t) = ap (λ (o : Option (Segment R)). part_of o (Next t)) (same t)
+    each (CellAt t i) = ap (λ (o : Option (Segment R)). part_of o (CellAt t i)) (same t)
+    each _ = refl
+
+-- the name of a change has what it says
+changed_here : {R : ℕ} (old new : List (ListOf R)) (name : SegName) (o : Option (Segment R)) → Changes name o old new → by_name new name ≡ o
+changed_here old new name o changes = changes.at name ∙ cond-true (is_name name name) o (by_name old name) (is_name-refl name)
+
+-- a change of one segment, as one of the segments' places
+pub segment_agrees : {R : ℕ} (old new : List (ListOf R)) (name : SegName) (before left : Segment R) (p : Place) → by_name old name ≡ Some before
+    → Changes name (Some left) old new → segment_of p ≡ Some name
+    → Agrees (is_beside p) p (part before) (part left) (segments_of old) (segments_of new)
+segment_agrees old new name before left p there changes own = record {
+  old_inside = λ q h. segments_part old name before q there (sym (beside_is_of p q name own) ∙ h);
+  new_inside = λ q h. segments_part new name left q (changed_here old new name (Some left) changes) (sym (beside_is_of p q name own) ∙ h);
+  not_covered = λ q h. not_covered_outside p q name own (sym (beside_is_of p q name own) ∙ h);
+  outside = λ q h. segments_other old new name (Some left) q changes (sym (beside_is_of p q name own) ∙ h);
+}
+
+-- the segment that an operation or a restore at a place goes to, as it is read in its list
+pub record Reads {R : ℕ} (makers : List (ListOf R)) (name : SegName) (m : ℕ) (list : ListOf R) (before : Segment R) (p : Place) : Type 0 where
+  pub maker : m ≡ name.maker
+  pub there : is_some (by_name makers name) ≡ true
+  pub list_is : list ≡ get_or makers m list
+  pub segment_is : before ≡ get_or list.items name.n before
+  pub own : segment_of p ≡ Some name
+
+reads_agree : {R : ℕ} (makers : List (ListOf R)) (name : SegName) (m : ℕ) (list : ListOf R) (before left : Segment R) (p : Place)
+    → Reads makers name m list before p
+    → Agrees (is_beside p) p (part before) (part left) (segments_of makers) (segments_of (set makers m (with_item list name.n left)))
+reads_agree makers name m list before left p h =
+    segment_agrees makers (set makers m (with_item list name.n left)) name before left p
+    (named_is makers name m list before h.maker h.there h.list_is h.segment_is)
+    (segment_written makers name m list left h.maker h.there h.list_is) h.own
+
+pub operates_in : {R : ℕ} (makers : List (ListOf R)) (name : SegName) (m : ℕ) (list : ListOf R) (before left : Segment R) (p : Place) (op : Operation)
+    → Reads makers name m list before p → (r : Result Done Refusal) → IfOk r (λ done. Operates (is_beside p) p op done (part before) (part left))
+    → IfOk r (λ done. Operates everywhere p op done (segments_of makers) (segments_of (set makers m (with_item list name.n left))))
+operates_in makers name m list before left p op reads (Err e) h = tt
+operates_in makers name m list before left p op reads (Ok done) h =
+    lift_operates (is_beside p) p op done (part before) (part left) (segments_of makers) (segments_of (set makers m (with_item list name.n left)))
+    (reads_agree makers name m list before left p reads) h
+
+pub refuses_in : {R : ℕ} (makers : List (ListOf R)) (name : SegName) (m : ℕ) (list : ListOf R) (before left : Segment R) (p : Place) (op : Operation)
+    → Reads makers name m list before p → (r : Result Done Refusal) → IfErr r (λ e. operate p op (operand (part before) p) ≡ Err e)
+    → IfErr r (λ e. operate p op (operand (segments_of makers) p) ≡ Err e)
+refuses_in makers name m list before left p op reads (Ok done) h = tt
+refuses_in makers name m list before left p op reads (Err e) h =
+    ap (operate p op)
+    (operand_agrees (is_beside p) p (part before) (part left) (segments_of makers) (segments_of (set makers m (with_item list name.n left)))
+    (reads_agree makers name m list before left p reads)) ∙ h
+
+-- a segment that was left as it was leaves the places as they were
+pub unchanged_in : {R : ℕ} (makers : List (ListOf R)) (name : SegName) (m : ℕ) (list : ListOf R) (before left : Segment R) (p : Place)
+    → Reads makers name m list before p → (r : Result Done Refusal) → OnErr r (left ≡ before)
+    → OnErr r (segments_of (set makers m (with_item list name.n left)) ≡ segments_of makers)
+unchanged_in makers name m list before left p reads (Ok done) same = tt
+unchanged_in {R} makers name m list before left p reads (Err e) same = fun_ext each
+  where
+    each : (q : Place) → segments_of (set makers m (with_item list name.n left)) q ≡ segments_of makers q
+    each q =
+        let agrees = reads_agree makers name m list before left p reads in
+        elim (cases_Bool (is_beside p q))
+        [ inl h ↦ sym (agrees.new_inside q h) ∙ ap (λ (s : Segment R). part s q) same ∙ agrees.old_inside q h | inr h ↦ agrees.outside q h ]
+
+pub restores_in : {R : ℕ} (makers : List (ListOf R)) (name : SegName) (m : ℕ) (list : ListOf R) (before left : Segment R) (p : Place) (c : Content)
+    → Reads makers name m list before p → Restores (is_beside p) p (Some c) (part before) (part left)
+    → Restores everywhere p (Some c) (segments_of makers) (segments_of (set makers m (with_item list name.n left)))
+restores_in makers name m list before left p c reads h = λ q _.
+    lift_restore (is_beside p) p (Some c) (part before) (part left) (segments_of makers) (segments_of (set makers m (with_item list name.n left)))
+    (reads_agree makers name m list before left p reads) h q
+
+-- Makings
+
+made_at : {R : ℕ} (old new : List (ListOf R)) (name : SegName) (o : Option (Segment R)) (news : Contents) (q : Place) → Changes name o old new
+    → ((s : Segment R) (x : Place) → o ≡ Some s → part s x ≡ news x) → (o ≡ None → (x : Place) → news x ≡ None)
+    → segments_of new q ≡ (if is_of name q then news q else segments_of old q)
+made_at old new name (Some s) news q changes holds none =
+    elim (cases_Bool (is_of name q)) [
+      | inl h ↦
+          sym (segments_part new name s q (changed_here old new name (Some s) changes) h) ∙ holds s q refl
+          ∙ sym (cond-true (is_of name q) (news q) (segments_of old q) h)
+      | inr h ↦ segments_other old new name (Some s) q changes h ∙ sym (cond-false (is_of name q) (news q) (segments_of old q) h)
+    ]
+made_at old new name None news q changes holds none =
+    elim (cases_Bool (is_of name q)) [
+      | inl h ↦
+          segments_none new name q (changed_here old new name None changes) h ∙ sym (none refl q)
+          ∙ sym (cond-true (is_of name q) (news q) (segments_of old q) h)
+      | inr h ↦ segments_other old new name None q changes h ∙ sym (cond-false (is_of name q) (news q) (segments_of old q) h)
+    ]
+
+-- a maker's list as it is read
+pub record ReadsList {R : ℕ} (makers : List (ListOf R)) (maker m : ℕ) (list : ListOf R) : Type 0 where
+  pub maker_is : m ≡ maker
+  pub within : maker < length makers
+  pub list_is : list ≡ get_or makers m list
+
+list_found : {R : ℕ} (makers : List (ListOf R)) (maker m : ℕ) (list : ListOf R) → ReadsList makers maker m list → slice_get makers maker ≡ Some list
+list_found makers maker m list h = list_read makers maker list h.within (h.list_is ∙ ap (λ (k : ℕ). get_or makers k list) h.maker_is)
+
+pub makes_in : {R : ℕ} (makers : List (ListOf R)) (maker m value : ℕ) (list left : ListOf R) → ReadsList makers maker m list
+    → (r : Result SegName Refusal) → IfOk r (λ name. IsLengthened R maker value name list left)
+    → IfOk r (λ name. Makes R name value (segments_of makers) (segments_of (set makers m left)))
+makes_in makers maker m value list left reads (Err e) h = tt
+makes_in {R} makers maker m value list left reads (Ok name) h =
+    let changes = list_lengthened makers maker m value name list left reads.maker_is reads.within reads.list_is h in
+    let below : name.n < MOST_SEGMENTS = let e = ap (λ (s : SegName). s.n) h.name_is in let b = h.below in omega arith in
+    record {
+      performed = record { place = Some (WholeOf name); old = None; answer = Made name; writes = Some (holding R value) };
+      performs = cond-true (nat_lt name.n MOST_SEGMENTS) _ _ (lt-ltb name.n MOST_SEGMENTS below);
+      keeps = refl;
+      leaves = λ q _.
+          made_at makers (set makers m left) name (Some h.segment) (holding R value) q changes
+          (λ s x e. let same : h.segment ≡ s = cc in ap (λ (y : Segment R). part y x) (sym same) ∙ h.holds x) (λ e. cc);
+    }
+
+pub named_in : {R : ℕ} (makers : List (ListOf R)) (maker m value : ℕ) (list left : ListOf R) → ReadsList makers maker m list
+    → (r : Result SegName Refusal) → IfOk r (λ name. IsLengthened R maker value name list left)
+    → IfOk r (λ name. name ≡ record { maker = maker; n = count makers maker })
+named_in makers maker m value list left reads (Err e) h = tt
+named_in makers maker m value list left reads (Ok name) h =
+    h.name_is ∙ (λ i. record { maker = maker; n = sym (ap count_in (list_found makers maker m list reads)) i })
+
+pub refuses_making : {R : ℕ} (makers : List (ListOf R)) (maker m : ℕ) (list : ListOf R) → ReadsList makers maker m list
+    → (r : Result SegName Refusal) → IfErr r (λ e. RefusesMaking (length list.items) (vec_capacity list - vec_len list) e)
+    → IfErr r (λ e. RefusesMaking (count makers maker) (spare makers maker) e)
+refuses_making makers maker m list reads (Ok name) h = tt
+refuses_making {R} makers maker m list reads (Err e) h =
+    let found = list_found makers maker m list reads in
+    subst (λ (k : ℕ). RefusesMaking k (spare makers maker) e) (sym (ap count_in found))
+    (subst (λ (k : ℕ). RefusesMaking (length list.items) k e) (sym (ap spare_in found)) h)
+
+pub making_same : {R : ℕ} (makers : List (ListOf R)) (maker m : ℕ) (list left : ListOf R) → ReadsList makers maker m list
+    → (r : Result SegName Refusal) → OnErr r (left.items ≡ list.items) → OnErr r (segments_of (set makers m left) ≡ segments_of makers)
+making_same makers maker m list left reads (Ok name) same = tt
+making_same makers maker m list left reads (Err e) same =
+    segments_same makers (set makers m left) (list_same makers maker m list left reads.maker_is reads.within reads.list_is same)
+
+-- the maker's last segment was taken away
+pub unmakes_in : {R : ℕ} (makers : List (ListOf R)) (maker m : ℕ) (list left : ListOf R) → ReadsList makers maker m list
+    → left.items ≡ take (length list.items - 1) list.items
+    → Restores everywhere (WholeOf (record { maker = maker; n = count makers maker - 1 })) None (segments_of makers) (segments_of (set makers m left))
+unmakes_in makers maker m list left reads items = λ q _.
+    made_at makers (set makers m left) (record { maker = maker; n = count makers maker - 1 }) None (λ x. None) q
+    (last_taken makers maker m list left reads.maker_is reads.within reads.list_is items) (λ s x e. cc) (λ e x. refl)

@@ -1,0 +1,23 @@
+use Rattle.std.proofs.Common.{◌<◌, arith, length}
+use Rattle.rd_segments.proofs.ListsLemmas.{segment_there, spare_written, maker_within}
+use Rattle.rd_segments.proofs.SegmentsLemmas.{restores_in}
+use Rattle.rd_segments.proofs.lists.restore_in.Goals as goal
+
+pub returns-clause-done : goal.returns-clause-done
+returns-clause-done g c =
+    restores_in c.args.makers.now.items c.args.name c.from.result c.index_mut.result.now c.index_mut-2.result.now c.restore.new.self
+    c.args.place c.args.content
+    (record {
+      maker = c.from.ensures;
+      there = segment_there _ c.args.place c.requires.there;
+      list_is = c.index_mut.ensures.value;
+      segment_is = c.index_mut-2.ensures.value;
+      own = c.requires.its;
+    })
+    c.restore.ensures
+
+pub returns-clause-room : goal.returns-clause-room
+returns-clause-room g c =
+    let within : c.args.name.maker < length c.args.makers.now.items = maker_within c.args.makers.now.items c.args.name (segment_there _ c.args.place c.requires.there) in
+    let at : c.from.result < length c.args.makers.now.items = let e = c.from.ensures in omega arith in
+    spare_written c.args.makers.now.items c.from.result c.args.name.n c.index_mut.result.now c.restore.new.self at c.index_mut.ensures.value

@@ -1,0 +1,25 @@
+use Rattle.std.proofs.Common.{◌≡◌, List, ◌++◌, ◌∷◌, [], ◌∙◌, ap, arith}
+use Rattle.rd_ring.specs.declared.segments.Segment.{Segment}
+use Rattle.rd_segments.specs.Lists.{ListOf, by_name}
+use Rattle.rd_segments.proofs.ListsLemmas.{first_list, empty_pushed}
+use Rattle.rd_segments.proofs.makers.first_lists.Goals as goal
+
+pub loop-preserved : goal.loop-preserved
+loop-preserved g c = (
+  omega arith,
+  omega arith,
+  λ t. ap (λ xs. by_name xs t) c.push_reserved-in-loop.ensures.items ∙ empty_pushed c.loop.makers.items _ c.new.ensures.items t ∙ c.loop.invariant.2 t,
+)
+
+pub returns-clause-ok : goal.returns-clause-ok
+returns-clause-ok g c =
+    let root = c.push_reserved.new.self in
+    let items : c.push_reserved-2.new.self.items ≡ root ∷ [] =
+    c.push_reserved-2.ensures.items ∙ ap (λ (xs : List (ListOf _)). xs ++ root ∷ []) c.in_ok-makers.ensures.items in
+    let one : root.items ≡ c.fresh.result ∷ [] =
+    c.push_reserved.ensures.items ∙ ap (λ (xs : List (Segment _)). xs ++ c.fresh.result ∷ []) c.in_ok-root.ensures.items in
+    record {
+      segment = c.fresh.result;
+      fresh_parts = c.fresh.ensures;
+      at = λ t. c.loop.invariant.2 t ∙ ap (λ (xs : List (ListOf _)). by_name xs t) items ∙ first_list root c.fresh.result one t;
+    }

@@ -1,0 +1,10 @@
+use Rattle.std.proofs.Common.{◌≡◌, ℕ, ◌<◌, slice_get, length, vec_len, vec_capacity}
+use Rattle.rd_ring.specs.Prelude.{Place}
+use Rattle.rd_segments.specs.Lists.{part_of}
+use Rattle.rd_segments.specs.Parts.{part_of_parts}
+use Rattle.rd_segments.proofs.parts.list_from_parts.Given as goal
+
+abbrev pub invariant-loop-n : goal.invariant-loop-n
+invariant-loop-n g l =
+    (vec_len l.list ≡ l.n) × (vec_capacity l.list ≡ length l.fn.parts.items)
+    × ((k : ℕ) (q : Place) → k < l.n → part_of (slice_get l.list.items k) q ≡ part_of_parts (slice_get l.fn.parts.items k) q)

@@ -1,0 +1,10 @@
+use Rattle.std.proofs.Common.{◌≡◌, ℕ, ◌<◌, slice_get, length, vec_len, vec_capacity}
+use Rattle.rd_ring.specs.Prelude.{Place}
+use Rattle.rd_segments.specs.Lists.{by_number, part_of}
+use Rattle.rd_segments.specs.Parts.{part_of_parts}
+use Rattle.rd_segments.proofs.parts.lists_from_parts.Given as goal
+
+abbrev pub invariant-loop-m : goal.invariant-loop-m
+invariant-loop-m g l =
+    (vec_len l.makers ≡ l.m) × (vec_capacity l.makers ≡ length l.fn.parts.items)
+    × ((k n : ℕ) (q : Place) → k < l.m → part_of (by_number (slice_get l.makers.items k) n) q ≡ part_of_parts (by_number (slice_get l.fn.parts.items k) n) q)

@@ -1,0 +1,63 @@
+-- The makers' lists of segments, as one map from the segments' places to contents.
+use Rattle.std.specs.Prelude.{◌≡◌, ℕ, ◌<◌, ◌++◌, ◌∷◌, [], List, Vec, Option, Some, None, slice_get, if◌then◌else◌, length}
+use Rattle.std.specs.declared.alloc.Global.{Global}
+use Rattle.rd_ring.specs.Prelude.{MOST_SEGMENTS, SegName, Place, Head, Tail, Next, CellAt, Content, Contents, root, is_name, fresh, holding}
+use Rattle.rd_ring.specs.declared.segments.Segment.{Segment}
+use Rattle.rd_ring.specs.Segments.{part}
+
+-- one maker's list
+abbrev pub ListOf : ℕ → Type 0
+ListOf R = Vec (Segment R) Global
+
+-- the n-th element of a maker's list, if there is such a list
+abbrev pub by_number : {X : Type 0} → Option (Vec X Global) → ℕ → Option X
+by_number None n = None
+by_number (Some list) n = slice_get list.items n
+
+-- what is of this name in the makers' lists
+abbrev pub by_name : {X : Type 0} → List (Vec X Global) → SegName → Option X
+by_name makers s = by_number (slice_get makers s.maker) s.n
+
+-- what a segment has at a place, if it is there
+abbrev pub part_of : {R : ℕ} → Option (Segment R) → Place → Option Content
+part_of None p = None
+part_of (Some s) p = part s p
+
+-- each segment's places, by what the segments of these names have at their places
+abbrev pub segments_by : (SegName → Contents) → Contents
+segments_by segment (Head n) = segment n (Head n)
+segments_by segment (Tail n) = segment n (Tail n)
+segments_by segment (Next n) = segment n (Next n)
+segments_by segment (CellAt n i) = segment n (CellAt n i)
+segments_by segment _ = None
+
+-- what the segments of these lists have at their places
+abbrev pub segments_of : {R : ℕ} → List (ListOf R) → Contents
+segments_of makers = segments_by (λ n. part_of (by_name makers n))
+
+-- how many segments there are in a list, if there is one
+abbrev pub count_in : {X : Type 0} → Option (Vec X Global) → ℕ
+count_in None = 0
+count_in (Some list) = length list.items
+
+-- how many segments this maker has in the lists
+abbrev pub count : {X : Type 0} → List (Vec X Global) → ℕ → ℕ
+count makers m = count_in (slice_get makers m)
+
+-- at this name there is this segment now, or none, and at every other what there was
+pub record Changes {R : ℕ} (name : SegName) (o : Option (Segment R)) (old new : List (ListOf R)) : Type 0 where
+  pub at : (t : SegName) → by_name new t ≡ (if is_name name t then o else by_name old t)
+
+-- a list has a new segment at its end that holds the value, with the next number as its name
+pub record IsLengthened (R maker value : ℕ) (name : SegName) (old new : ListOf R) : Type 0 where
+  pub name_is : name ≡ record { maker = maker; n = length old.items }
+  pub below : length old.items < MOST_SEGMENTS
+  pub segment : Segment R
+  pub holds : (q : Place) → part segment q ≡ holding R value q
+  pub pushed : new.items ≡ old.items ++ segment ∷ []
+
+-- the lists of a fresh space: the root is there, fresh, and no other segment
+pub record IsFresh {R : ℕ} (makers : List (ListOf R)) : Type 0 where
+  pub segment : Segment R
+  pub fresh_parts : (q : Place) → part segment q ≡ fresh R q
+  pub at : (t : SegName) → by_name makers t ≡ (if is_name root t then Some segment else None)

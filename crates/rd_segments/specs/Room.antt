@@ -1,0 +1,27 @@
+-- The counting of room: how many segments of each maker can be made before its list has to grow.
+use Rattle.std.specs.Prelude.{ℕ, ◌-◌, ◌==◌, ◌&&◌, Bool, true, List, Option, Some, None, slice_get, if◌then◌else◌, vec_len, vec_capacity}
+use Rattle.rd_ring.specs.Prelude.{Place, WholeOf, Content}
+use Rattle.rd_segments.specs.Lists.{ListOf}
+
+-- how many more segments a list has room for, if there is one
+abbrev pub spare_in : {R : ℕ} → Option (ListOf R) → ℕ
+spare_in None = 0
+spare_in (Some list) = vec_capacity list - vec_len list
+
+-- how many more segments this maker's list has room for
+abbrev pub spare : {R : ℕ} → List (ListOf R) → ℕ → ℕ
+spare makers m = spare_in (slice_get makers m)
+
+-- how much of m's room a making by this maker uses, if it is made
+abbrev pub room_used : Bool → ℕ → ℕ → ℕ
+room_used made maker m = if made && (m == maker) then 1 else 0
+
+-- how much of m's room is given back if the places that this one covers are taken away
+abbrev pub room_of_place : Option Place → ℕ → ℕ
+room_of_place (Some (WholeOf s)) m = room_used true s.maker m
+room_of_place _ m = 0
+
+-- how much of m's room is given back if this old content, or none, is put back: one if a segment of m is taken away
+abbrev pub room_returned : Option Place → Option Content → ℕ → ℕ
+room_returned p (Some c) m = 0
+room_returned p None m = room_of_place p m

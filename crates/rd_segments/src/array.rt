@@ -1,0 +1,131 @@
+//! The array of the array queue (Morrison and Afek's queue over an infinite array, here of 64 slots): its two counters
+//! and its slots.
+
+ghost use Rattle.std.specs.Prelude.{◌≡◌, is_some, length, Some, Err, IsTrue, IfOk, IfErr, OnErr};
+ghost use Rattle.rd_ring.specs.Prelude.{SLOTS, Number, Slot, may_have, operand, operate, restore, everywhere, Operates, OperatesOn};
+ghost use Rattle.rd_cell.specs.Operations.{suits_array};
+
+use rd_cell::limits::SLOTS;
+use rd_cell::{Answer, ArrSlot, Content, Done, Operation, Place, Refusal};
+
+/// The words of the array.
+#[derive(Clone, Copy, Debug)]
+pub struct ArrayParts {
+    /// The head counter: the next position that a dequeue draws, 0 to 64 in a well-formed world.
+    pub head: u64,
+    /// The tail counter: the next position that an enqueue draws, 0 to 64 in a well-formed world.
+    pub tail: u64,
+    /// The slots, by their positions.
+    pub cells: [ArrSlot; SLOTS],
+    ghost sized: { length cells ≡ SLOTS },
+}
+
+impl ArrayParts {
+    ghost use Rattle.rd_segments.specs.Array.{array_part, fresh_array};
+
+    /// A fresh array: both counters are 0, and every slot is empty.
+    pub fn fresh() -> ArrayParts
+        ensures { array_part result ≡ fresh_array }
+    {
+        ArrayParts {
+            head: 0,
+            tail: 0,
+            cells: [ArrSlot::Empty; SLOTS],
+        }
+    }
+
+    /// What is at a place of the array; none if it has no such place.
+    pub fn content(&self, place: Place) -> Option<Content>
+        ensures { result ≡ array_part self.now place }
+    {
+        match place {
+            Place::ArrHead => Some(Content::Number(self.head)),
+            Place::ArrTail => Some(Content::Number(self.tail)),
+            Place::ArrCell(i) => match self.cells.get(usize::from(i)) {
+                None => None,
+                Some(slot) => Some(Content::Slot(*slot)),
+            },
+            _ => None,
+        }
+    }
+
+    /// Does an operation at a place of the array.
+    ///
+    /// # Errors
+    ///
+    /// `ArrayEnd` for a fetch-and-add on a counter that is 64; `NoSuchPlace` if there is no such place, or a content
+    /// of another kind, which no actor asks for. The array is then as before.
+    pub fn operate(&mut self, place: Place, operation: Operation) -> Result<Done, Refusal>
+        requires { IsTrue (suits_array operation) }
+        ensures ok { IfOk result (λ done. Operates everywhere place operation done (array_part self.old) (array_part self.new)) }
+        ensures err { IfErr result (λ e. operate place operation (operand (array_part self.old) place) ≡ Err e) }
+        ensures unchanged { OnErr result (array_part self.new ≡ array_part self.old) }
+    {
+        match place {
+            Place::ArrHead => operate_on_counter(&mut self.head, place, operation),
+            Place::ArrTail => operate_on_counter(&mut self.tail, place, operation),
+            Place::ArrCell(i) => {
+                if usize::from(i) >= SLOTS {
+                    return Err(Refusal::NoSuchPlace);
+                }
+                operate_on_slot(&mut self.cells[usize::from(i)], place, operation)
+            }
+            _ => Err(Refusal::NoSuchPlace),
+        }
+    }
+
+    /// Puts the content from before back at a place of the array: the inverse of a fetch-and-add and of a swap.
+    pub fn restore(&mut self, place: Place, content: Content)
+        requires there { IsTrue (is_some (array_part self.old place)) }
+        requires kind { IsTrue (may_have place content) }
+        ensures { array_part self.new ≡ restore (Some place) (Some content) (array_part self.old) }
+    {
+        match (place, content) {
+            (Place::ArrHead, Content::Number(count)) => self.head = count,
+            (Place::ArrTail, Content::Number(count)) => self.tail = count,
+            (Place::ArrCell(i), Content::Slot(slot)) => self.cells[usize::from(i)] = slot,
+            _ => unreachable!(),
+        }
+    }
+}
+
+/// Does an operation on a counter of the array: a read or a fetch-and-add.
+fn operate_on_counter(
+    counter: &mut u64,
+    place: Place,
+    operation: Operation,
+) -> Result<Done, Refusal>
+    requires { IsTrue (suits_array operation) }
+    ensures ok { IfOk result (λ done. OperatesOn place operation done (Number counter.old) (Number counter.new)) }
+    ensures err { IfErr result (λ e. operate place operation (Some (Number counter.old)) ≡ Err e) }
+    ensures unchanged { OnErr result (counter.new ≡ counter.old) }
+{
+    let found = Content::Number(*counter);
+    match operation {
+        Operation::Read => Ok(Done::at(place, found, Answer::Found(found), false)),
+        Operation::AddArray => {
+            if *counter >= SLOTS as u64 {
+                return Err(Refusal::ArrayEnd);
+            }
+            *counter += 1;
+            Ok(Done::at(place, found, Answer::Found(found), true))
+        }
+        _ => Err(Refusal::NoSuchPlace),
+    }
+}
+
+/// Does an operation on a slot of the array: a swap.
+fn operate_on_slot(slot: &mut ArrSlot, place: Place, operation: Operation) -> Result<Done, Refusal>
+    ensures ok { IfOk result (λ done. OperatesOn place operation done (Slot slot.old) (Slot slot.new)) }
+    ensures err { IfErr result (λ e. operate place operation (Some (Slot slot.old)) ≡ Err e) }
+    ensures unchanged { OnErr result (slot.new ≡ slot.old) }
+{
+    let found = Content::Slot(*slot);
+    match operation {
+        Operation::Swap(new) => {
+            *slot = new;
+            Ok(Done::at(place, found, Answer::Found(found), true))
+        }
+        _ => Err(Refusal::NoSuchPlace),
+    }
+}

@@ -1,0 +1,34 @@
+//! The names at the queue's two ends.
+
+ghost use Rattle.std.specs.Prelude.{◌≡◌, Some, Err, IfOk, IfErr, OnErr};
+ghost use Rattle.rd_ring.specs.Prelude.{Name, operate, OperatesOn};
+
+use rd_cell::{Answer, Content, Done, Operation, Place, Refusal, SegName};
+
+/// Does an operation at one of the queue's ends: a read or a compare-and-swap of its name.
+///
+/// # Errors
+///
+/// `NoSuchPlace` for another operation, which no actor asks for.
+pub fn operate_on_name(
+    name: &mut SegName,
+    place: Place,
+    operation: Operation,
+) -> Result<Done, Refusal>
+    ensures ok { IfOk result (λ done. OperatesOn place operation done (Name name.old) (Name name.new)) }
+    ensures err { IfErr result (λ e. operate place operation (Some (Name name.old)) ≡ Err e) }
+    ensures unchanged { OnErr result (name.new ≡ name.old) }
+{
+    let found = Content::Name(*name);
+    match operation {
+        Operation::Read => Ok(Done::at(place, found, Answer::Found(found), false)),
+        Operation::CasName { old, new } => {
+            let won = *name == old;
+            if won {
+                *name = new;
+            }
+            Ok(Done::swapped(place, found, won))
+        }
+        _ => Err(Refusal::NoSuchPlace),
+    }
+}

@@ -1,0 +1,165 @@
+//! The makers' lists of segments: what is done to one segment of one list.
+
+ghost use Rattle.std.specs.Prelude.{◌≡◌, ◌+◌, ◌-◌, ◌<◌, ◌≤◌, ℕ, Some, None, Err, is_some, IsTrue, IfOk, IfErr, OnOk, OnErr, MatchOption, take, true, length, is_ok, vec_len, vec_capacity, if◌then◌else◌};
+ghost use Rattle.rd_ring.specs.Prelude.{MOST_CELLS, SegName, Place, WholeOf, segment_of, may_have, operand, operate, everywhere, Operates, Makes, Restores, RefusesMaking};
+ghost use Rattle.rd_cell.specs.Operations.{suits_segments};
+ghost use Rattle.rd_segments.specs.Lists.{by_name, part_of, segments_of, count, IsLengthened};
+ghost use Rattle.rd_segments.specs.Room.{spare, room_used};
+
+use rd_cell::limits::MOST_SEGMENTS;
+use rd_cell::{Content, Done, Operation, Place, Refusal, SegName};
+use rd_ring::Segment;
+use std::alloc::AllocError;
+
+/// The segment of this name, if it is there.
+pub fn find<const R: usize>(makers: &Vec<Vec<Segment<R>>>, name: SegName) -> Option<&Segment<R>>
+    requires { R ≤ MOST_CELLS }
+    ensures { MatchOption result (by_name makers.now.items name ≡ None) (λ s. by_name makers.now.items name ≡ Some s.now) }
+{
+    match makers.get(usize::from(name.maker)) {
+        None => None,
+        Some(list) => list.get(name.n as usize),
+    }
+}
+
+/// Does an operation on the segment of this name, which is there.
+pub fn operate_in<const R: usize>(
+    makers: &mut Vec<Vec<Segment<R>>>,
+    name: SegName,
+    place: Place,
+    operation: Operation,
+) -> Result<Done, Refusal>
+    requires small { R ≤ MOST_CELLS }
+    requires there { IsTrue (is_some (by_name makers.old.items name)) }
+    requires its { segment_of place ≡ Some name }
+    requires suits { IsTrue (suits_segments operation) }
+    ensures ok { IfOk result (λ done. Operates everywhere place operation done (segments_of makers.old.items) (segments_of makers.new.items)) }
+    ensures err { IfErr result (λ e. operate place operation (operand (segments_of makers.old.items) place) ≡ Err e) }
+    ensures unchanged { OnErr result (segments_of makers.new.items ≡ segments_of makers.old.items) }
+    ensures room { (m : ℕ) → spare makers.new.items m ≡ spare makers.old.items m }
+    ensures number { length makers.new.items ≡ length makers.old.items }
+    ensures capacity { vec_capacity makers.new ≡ vec_capacity makers.old }
+{
+    makers[usize::from(name.maker)][name.n as usize].operate(place, operation)
+}
+
+/// Puts the content from before back at a place of the segment of this name, which is there.
+pub fn restore_in<const R: usize>(
+    makers: &mut Vec<Vec<Segment<R>>>,
+    name: SegName,
+    place: Place,
+    content: Content,
+)
+    requires small { R ≤ MOST_CELLS }
+    requires there { IsTrue (is_some (part_of (by_name makers.old.items name) place)) }
+    requires its { segment_of place ≡ Some name }
+    requires kind { IsTrue (may_have place content) }
+    ensures done { Restores everywhere place (Some content) (segments_of makers.old.items) (segments_of makers.new.items) }
+    ensures room { (m : ℕ) → spare makers.new.items m ≡ spare makers.old.items m }
+    ensures number { length makers.new.items ≡ length makers.old.items }
+    ensures capacity { vec_capacity makers.new ≡ vec_capacity makers.old }
+{
+    makers[usize::from(name.maker)][name.n as usize].restore(place, content);
+}
+
+/// Makes the maker's next segment, which holds this value.
+///
+/// # Errors
+///
+/// `SegmentsEnd` exactly if the maker has made 65,535; else `NoMemory` if memory was refused.
+pub fn make_in<const R: usize>(
+    makers: &mut Vec<Vec<Segment<R>>>,
+    maker: u8,
+    value: u64,
+) -> Result<SegName, Refusal>
+    requires positive { 1 ≤ R }
+    requires small { R ≤ MOST_CELLS }
+    requires maker_there { maker < length makers.old.items }
+    ensures name { IfOk result (λ name. name ≡ record { maker = maker; n = count makers.old.items maker }) }
+    ensures ok { IfOk result (λ name. Makes R name value (segments_of makers.old.items) (segments_of makers.new.items)) }
+    ensures err { IfErr result (λ e. RefusesMaking (count makers.old.items maker) (spare makers.old.items maker) e) }
+    ensures unchanged { OnErr result (segments_of makers.new.items ≡ segments_of makers.old.items) }
+    ensures room { (m : ℕ) → spare makers.old.items m ≤ spare makers.new.items m + room_used (is_ok result) maker m }
+    ensures number { length makers.new.items ≡ length makers.old.items }
+    ensures capacity { vec_capacity makers.new ≡ vec_capacity makers.old }
+{
+    make_next(&mut makers[usize::from(maker)], maker, value)
+}
+
+/// Makes the next segment of one maker's list.
+fn make_next<const R: usize>(
+    list: &mut Vec<Segment<R>>,
+    maker: u8,
+    value: u64,
+) -> Result<SegName, Refusal>
+    requires positive { 1 ≤ R }
+    requires small { R ≤ MOST_CELLS }
+    ensures ok { IfOk result (λ name. IsLengthened R maker value name list.old list.new) }
+    ensures err { IfErr result (λ e. RefusesMaking (length list.old.items) (vec_capacity list.old - vec_len list.old) e) }
+    ensures unchanged { OnErr result (list.new.items ≡ list.old.items) }
+    ensures room { vec_capacity list.old - vec_len list.old ≤ (vec_capacity list.new - vec_len list.new) + (if is_ok result then 1 else 0) }
+{
+    let n = list.len();
+    if n >= MOST_SEGMENTS {
+        return Err(Refusal::SegmentsEnd);
+    }
+    match list.push(Segment::holding(value)) {
+        Err(_) => Err(Refusal::NoMemory),
+        Ok(()) => Ok(SegName { maker, n: n as u32 }),
+    }
+}
+
+/// Takes the maker's last segment away, and gives its room back.
+pub fn unmake_in<const R: usize>(makers: &mut Vec<Vec<Segment<R>>>, maker: u8)
+    requires small { R ≤ MOST_CELLS }
+    requires has_one { 0 < count makers.old.items maker }
+    ensures gone { Restores everywhere (WholeOf (record { maker = maker; n = count makers.old.items maker - 1 })) None (segments_of makers.old.items) (segments_of makers.new.items) }
+    ensures room { (m : ℕ) → spare makers.new.items m ≡ spare makers.old.items m + room_used true maker m }
+    ensures number { length makers.new.items ≡ length makers.old.items }
+    ensures capacity { vec_capacity makers.new ≡ vec_capacity makers.old }
+{
+    take_last(&mut makers[usize::from(maker)]);
+}
+
+/// Takes the last segment of one maker's list away.
+fn take_last<const R: usize>(list: &mut Vec<Segment<R>>)
+    requires small { R ≤ MOST_CELLS }
+    requires has_one { 0 < length list.old.items }
+    ensures items { list.new.items ≡ take (length list.old.items - 1) list.old.items }
+    ensures room { vec_capacity list.new - vec_len list.new ≡ (vec_capacity list.old - vec_len list.old) + 1 }
+{
+    let _last = list.pop();
+}
+
+/// Gives the maker room for so many makings.
+///
+/// # Errors
+///
+/// Only if the growth was refused. No segment changes.
+pub fn make_room_in<const R: usize>(
+    makers: &mut Vec<Vec<Segment<R>>>,
+    maker: u8,
+    more: usize,
+) -> Result<(), AllocError>
+    requires small { R ≤ MOST_CELLS }
+    requires maker_there { maker < length makers.old.items }
+    ensures ok { OnOk result (more ≤ spare makers.new.items maker) }
+    ensures err { OnErr result (spare makers.old.items maker < more) }
+    ensures unchanged { segments_of makers.new.items ≡ segments_of makers.old.items }
+    ensures room { (m : ℕ) → spare makers.old.items m ≤ spare makers.new.items m }
+    ensures number { length makers.new.items ≡ length makers.old.items }
+    ensures capacity { vec_capacity makers.new ≡ vec_capacity makers.old }
+{
+    reserve(&mut makers[usize::from(maker)], more)
+}
+
+/// Gives one maker's list room for so many segments.
+fn reserve<const R: usize>(list: &mut Vec<Segment<R>>, more: usize) -> Result<(), AllocError>
+    requires { R ≤ MOST_CELLS }
+    ensures ok { OnOk result (more ≤ vec_capacity list.new - vec_len list.new) }
+    ensures err { OnErr result (vec_capacity list.old - vec_len list.old < more) }
+    ensures unchanged { list.new.items ≡ list.old.items }
+    ensures room { vec_capacity list.old - vec_len list.old ≤ vec_capacity list.new - vec_len list.new }
+{
+    list.reserve(more)
+}

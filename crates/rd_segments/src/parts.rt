@@ -1,0 +1,49 @@
+//! The makers' lists of a space that is put together from parts.
+
+ghost use Rattle.std.specs.Prelude.{◌≡◌, ◌≤◌, IsTrue, IfOk, IfErr, ℕ, length};
+ghost use Rattle.std.specs.List.{list_all};
+ghost use Rattle.rd_ring.specs.Prelude.{MOST_CELLS, SegName, Place};
+ghost use Rattle.rd_ring.specs.Segments.{counters_fit};
+ghost use Rattle.rd_segments.specs.Lists.{by_name, part_of};
+ghost use Rattle.rd_segments.specs.Parts.{part_of_parts, each_segment, IsOfParts};
+
+use rd_ring::{Segment, SegmentParts};
+use std::alloc::{AllocError, Global};
+
+/// The makers' lists with the segments of these parts.
+///
+/// # Errors
+///
+/// Only if the room for them was refused.
+pub fn lists_from_parts<const R: usize>(
+    alloc: Global,
+    parts: &Vec<Vec<SegmentParts<R>>>,
+) -> Result<Vec<Vec<Segment<R>>>, AllocError>
+    requires small { R ≤ MOST_CELLS }
+    requires within { IsTrue (each_segment counters_fit parts.now.items) }
+    ensures ok { IfOk result (λ makers. (s : SegName) (q : Place) → part_of (by_name makers.items s) q ≡ part_of_parts (by_name parts.now.items s) q) }
+    ensures number { IfOk result (λ makers. length makers.items ≡ length parts.now.items) }
+{
+    let mut makers = Vec::with_capacity(alloc, parts.len())?;
+    for m in 0..parts.len() {
+        let list = list_from_parts(alloc, &parts[m])?;
+        makers.push_reserved(list);
+    }
+    Ok(makers)
+}
+
+/// One maker's list with the segments of these parts.
+fn list_from_parts<const R: usize>(
+    alloc: Global,
+    parts: &Vec<SegmentParts<R>>,
+) -> Result<Vec<Segment<R>>, AllocError>
+    requires small { R ≤ MOST_CELLS }
+    requires within { IsTrue (list_all counters_fit parts.now.items) }
+    ensures ok { IfOk result (λ list. IsOfParts parts.now list) }
+{
+    let mut list = Vec::with_capacity(alloc, parts.len())?;
+    for n in 0..parts.len() {
+        list.push_reserved(Segment::from_parts(parts[n]));
+    }
+    Ok(list)
+}

@@ -1,0 +1,200 @@
+//! The space and what is done to it.
+
+ghost use Rattle.std.specs.Prelude.{◌≡◌, ◌+◌, ◌-◌, ◌<◌, ◌≤◌, ℕ, suc, true, Some, None, is_ok, is_some, Err, IsTrue, IfOk, IfErr, OnOk, OnErr, length};
+ghost use Rattle.rd_ring.specs.Prelude.{MOST_CELLS, WholeOf, content_at, may_have, operand, operate, restore, everywhere, Operates, Makes, RefusesMaking};
+ghost use Rattle.rd_cell.specs.Operations.{suits};
+ghost use Rattle.rd_segments.specs.Room.{room_used};
+ghost use Rattle.rd_segments.specs.SpaceFields.{contents_of, fresh_space};
+ghost use Rattle.rd_segments.specs.Array.{array_part};
+ghost use Rattle.rd_segments.specs.Parts.{each_segment, contents_of_parts};
+ghost use Rattle.rd_ring.specs.Segments.{counters_fit};
+
+use super::array::ArrayParts;
+use super::ends::operate_on_name;
+use super::lists::{find, make_in, make_room_in, operate_in, restore_in, unmake_in};
+use super::makers::first_lists;
+use super::parts::lists_from_parts;
+use rd_cell::{Content, Done, Operation, Place, Refusal, SegName};
+use rd_ring::{Segment, SegmentParts};
+use std::alloc::{AllocError, Global};
+
+/// The places of both queues: the segments, by their makers, the names at the queue's two ends, and the array.
+#[derive(Drop)]
+pub struct Space<const R: usize> {
+    makers: Vec<Vec<Segment<R>>>,
+    qhead: SegName,
+    qtail: SegName,
+    array: ArrayParts,
+    ghost positive: { 1 ≤ R },
+    ghost small: { R ≤ MOST_CELLS },
+}
+
+impl<const R: usize> Space<R> {
+    ghost use Rattle.rd_segments.specs.Space.{contents, lists, making_count, room, capacity};
+
+    /// A fresh space for so many actors: the root is there, fresh, and the queue's two ends name it, and
+    /// the array is fresh.
+    ///
+    /// # Errors
+    ///
+    /// Only if the room for the makers' lists was refused.
+    pub fn fresh(alloc: Global, actors: u8) -> Result<Space<R>, AllocError>
+        requires positive { 1 ≤ R }
+        requires small { R ≤ MOST_CELLS }
+        ensures ok { IfOk result (λ space. contents space ≡ fresh_space R) }
+        ensures number { IfOk result (λ space. lists space ≡ suc actors) }
+    {
+        let makers = first_lists(alloc, actors)?;
+        Ok(Space {
+            makers,
+            qhead: SegName::ROOT,
+            qtail: SegName::ROOT,
+            array: ArrayParts::fresh(),
+        })
+    }
+
+    /// The space of these parts: element m of `segments` has maker m's segments, in the order of their making.
+    ///
+    /// # Errors
+    ///
+    /// Only if the room for the lists was refused.
+    pub fn from_parts(
+        alloc: Global,
+        segments: &Vec<Vec<SegmentParts<R>>>,
+        qhead: SegName,
+        qtail: SegName,
+        array: ArrayParts,
+    ) -> Result<Space<R>, AllocError>
+        requires positive { 1 ≤ R }
+        requires small { R ≤ MOST_CELLS }
+        requires within { IsTrue (each_segment counters_fit segments.now.items) }
+        ensures ok { IfOk result (λ space. contents space ≡ contents_of_parts segments.now.items qhead qtail array) }
+        ensures number { IfOk result (λ space. lists space ≡ length segments.now.items) }
+    {
+        let makers = lists_from_parts(alloc, segments)?;
+        Ok(Space {
+            makers,
+            qhead,
+            qtail,
+            array,
+        })
+    }
+
+    /// What is at a place, or none if it is not there. The whole of a segment that is there has `Whole`.
+    pub fn content(&self, place: Place) -> Option<Content>
+        ensures { result ≡ content_at (contents self.now) place }
+    {
+        match place {
+            Place::QHead => Some(Content::Name(self.qhead)),
+            Place::QTail => Some(Content::Name(self.qtail)),
+            Place::Whole(name) => match find(&self.makers, name) {
+                None => None,
+                Some(_) => Some(Content::Whole),
+            },
+            Place::Head(name) | Place::Tail(name) | Place::Next(name) | Place::Cell(name, _) => {
+                match find(&self.makers, name) {
+                    None => None,
+                    Some(segment) => segment.content(place),
+                }
+            }
+            Place::ArrHead | Place::ArrTail | Place::ArrCell(_) => self.array.content(place),
+        }
+    }
+
+    /// Does an operation at a place.
+    ///
+    /// # Errors
+    ///
+    /// `CounterEnd` for a fetch-and-add on a segment's counter that is 2^62, `ArrayEnd` for one on a counter of the array
+    /// that is 64; `NoSuchPlace` if there is no such place, or a content of another kind, which no actor asks for.
+    /// The space is then as before.
+    pub fn operate(&mut self, place: Place, operation: Operation) -> Result<Done, Refusal>
+        requires { IsTrue (suits place operation) }
+        ensures ok { IfOk result (λ done. Operates everywhere place operation done (contents self.old) (contents self.new)) }
+        ensures err { IfErr result (λ e. operate place operation (operand (contents self.old) place) ≡ Err e) }
+        ensures unchanged { OnErr result (contents self.new ≡ contents self.old) }
+        ensures kept { (m : ℕ) → room self.new m ≡ room self.old m }
+        ensures number { lists self.new ≡ lists self.old }
+        ensures capacity { capacity self.new ≡ capacity self.old }
+    {
+        match place.segment() {
+            Some(name) => {
+                if find(&self.makers, name).is_none() {
+                    return Err(Refusal::NoSuchPlace);
+                }
+                operate_in(&mut self.makers, name, place, operation)
+            }
+            None if place.is_array() => self.array.operate(place, operation),
+            None => match place {
+                Place::QHead => operate_on_name(&mut self.qhead, place, operation),
+                Place::QTail => operate_on_name(&mut self.qtail, place, operation),
+                _ => Err(Refusal::NoSuchPlace),
+            },
+        }
+    }
+
+    /// Makes the maker's next segment, which holds this value.
+    ///
+    /// # Errors
+    ///
+    /// `SegmentsEnd` exactly if the maker has made 65,535; else `NoMemory` if memory was refused, which happens only if
+    /// the maker has no room. The space is then as before.
+    pub fn make(&mut self, maker: u8, value: u64) -> Result<SegName, Refusal>
+        requires { maker < lists self.old }
+        ensures name { IfOk result (λ name. name ≡ record { maker = maker; n = making_count self.old maker }) }
+        ensures ok { IfOk result (λ name. Makes R name value (contents self.old) (contents self.new)) }
+        ensures err { IfErr result (λ e. RefusesMaking (making_count self.old maker) (room self.old maker) e) }
+        ensures unchanged { OnErr result (contents self.new ≡ contents self.old) }
+        ensures used { (m : ℕ) → room self.old m ≤ room self.new m + room_used (is_ok result) maker m }
+        ensures number { lists self.new ≡ lists self.old }
+        ensures capacity { capacity self.new ≡ capacity self.old }
+    {
+        make_in(&mut self.makers, maker, value)
+    }
+
+    /// Takes the maker's last segment away, and gives its room back.
+    pub fn unmake(&mut self, maker: u8)
+        requires { 0 < making_count self.old maker }
+        ensures gone { contents self.new ≡ restore (Some (WholeOf (record { maker = maker; n = making_count self.old maker - 1 }))) None (contents self.old) }
+        ensures given { (m : ℕ) → room self.new m ≡ room self.old m + room_used true maker m }
+        ensures number { lists self.new ≡ lists self.old }
+        ensures capacity { capacity self.new ≡ capacity self.old }
+    {
+        unmake_in(&mut self.makers, maker);
+    }
+
+    /// Puts the content from before back at a place that is there.
+    pub fn restore(&mut self, place: Place, content: Content)
+        requires there { IsTrue (is_some (contents self.old place)) }
+        requires kind { IsTrue (may_have place content) }
+        ensures done { contents self.new ≡ restore (Some place) (Some content) (contents self.old) }
+        ensures kept { (m : ℕ) → room self.new m ≡ room self.old m }
+        ensures number { lists self.new ≡ lists self.old }
+        ensures capacity { capacity self.new ≡ capacity self.old }
+    {
+        match (place.segment(), place, content) {
+            (Some(name), _, _) => restore_in(&mut self.makers, name, place, content),
+            (None, Place::QHead, Content::Name(name)) => self.qhead = name,
+            (None, Place::QTail, Content::Name(name)) => self.qtail = name,
+            (None, _, _) if place.is_array() => self.array.restore(place, content),
+            _ => unreachable!(),
+        }
+    }
+
+    /// Gives a maker room for so many makings, which are then not refused for memory.
+    ///
+    /// # Errors
+    ///
+    /// Only if the growth was refused. No place changes.
+    pub fn make_room(&mut self, maker: u8, more: usize) -> Result<(), AllocError>
+        requires { maker < lists self.old }
+        ensures ok { OnOk result (more ≤ room self.new maker) }
+        ensures err { OnErr result (room self.old maker < more) }
+        ensures unchanged { contents self.new ≡ contents self.old }
+        ensures kept { (m : ℕ) → room self.old m ≤ room self.new m }
+        ensures number { lists self.new ≡ lists self.old }
+        ensures capacity { capacity self.new ≡ capacity self.old }
+    {
+        make_room_in(&mut self.makers, maker, more)
+    }
+}

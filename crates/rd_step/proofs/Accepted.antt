@@ -1,0 +1,173 @@
+-- Parts with a list for each maker, whose world is well-formed, have no flaw.
+use Rattle.std.proofs.Common.{◌≡◌, ℕ, zero, suc, ◌+◌, ◌≤◌, Bool, true, false, not, ◌==◌, ◌&&◌, nat_lt, nat_le, ◌↔◌, if◌then◌else◌, inl, inr, refl, ◌∙◌, ap, subst, arith, List, [], ◌∷◌, length, slice_get, Option, Some, None, option_map, le-leb, ltb-true, eq-eqb}
+use Rattle.std.specs.List.{list_all}
+use Rattle.std.proofs.lemmas.Bool.{cases_lt, and_parts, and_from}
+use Rattle.rd_ring.specs.Prelude.{MOST_ACTORS, SLOTS, MOST_SEGMENTS, COUNTER_END, Cell, SegName, Place, QHead, QTail, Head, Tail, Next, CellAt, ArrHead, ArrTail, CellIs}
+use Rattle.rd_ring.specs.declared.parts.SegmentParts.{SegmentParts}
+use Rattle.rd_ring.specs.Segments.{part_from, counters_fit}
+use Rattle.rd_segments.specs.Lists.{by_number, by_name, count_in, count}
+use Rattle.rd_segments.specs.Parts.{PartsOf, part_of_parts, each_segment}
+use Rattle.rd_segments.proofs.CountLemmas.{in_list, numbered_there}
+use Rattle.rd_actor.specs.declared.actors.Actor.{Actor}
+use Rattle.rd_actor.specs.Words.{words_fit}
+use Rattle.rd_step.specs.declared.parts.Parts.{Parts}
+use Rattle.rd_step.specs.declared.flaws.Flaw.{Flaw}
+use Rattle.rd_step.specs.declared.flaws.Flaw.TheVariants.{Makers, PlaceNames, ActorNames, Counters, Indexes, ArrayCounters, ActorNumbers, ActorWords}
+use Rattle.rd_step.specs.Fields.{actor_at}
+use Rattle.rd_step.specs.WellFormed.{Presence, place_fits, next_fits, names_fit, numbers_fit, record_fits, actor_fits, is_actor, IsNumbered, AreMade, IsWellFormed}
+use Rattle.rd_step.specs.Parts.{world_of_parts, has, makers_fit, place_names_fit, actor_names_fit, indexes_fit, array_fits, first_flaw}
+use Rattle.rd_step.proofs.Assembled.{NoFlaw, within, presence, numbered_below, assembled, lists_right}
+
+-- Each condition holds: no flaw
+
+-- if the first condition holds and none of the rest is flawed, no flaw is named
+none_first : (b : Bool) (f : Flaw) (rest : Option Flaw) → b ≡ true → rest ≡ None → (if not b then Some f else rest) ≡ None
+none_first true f rest h none = none
+none_first false f rest h none = cc
+
+makers_right : {R : ℕ} (p : Parts R) → NoFlaw p → makers_fit p ≡ true
+makers_right p f =
+    let n = length p.actors.items in
+    let lists = length p.segments.items == suc n in
+    let root = count p.segments.items 0 == 1 in
+    let few = list_all (λ list. nat_le (length list.items) MOST_SEGMENTS) p.segments.items in
+    let m2 = and_from (nat_le 1 n) (nat_le n MOST_ACTORS) f.some_actors f.few_actors in
+    let m3 = and_from (nat_le 1 n && nat_le n MOST_ACTORS) lists m2 f.lists in
+    let m4 = and_from (nat_le 1 n && nat_le n MOST_ACTORS && lists) root m3 f.one_root in
+    and_from (nat_le 1 n && nat_le n MOST_ACTORS && lists && root) few m4 f.few_segments
+
+place_names_right : {R : ℕ} (p : Parts R) → NoFlaw p → place_names_fit p ≡ true
+place_names_right p f =
+    let ends = and_from (has p p.qhead) (has p p.qtail) f.qhead f.qtail in
+    and_from (has p p.qhead && has p p.qtail) (each_segment (λ s. next_fits (has p) s.next) p.segments.items) ends f.nexts
+
+array_right : {R : ℕ} (p : Parts R) → NoFlaw p → array_fits p.array ≡ true
+array_right p f = and_from (nat_le p.array.head SLOTS) (nat_le p.array.tail SLOTS) f.array_head f.array_tail
+
+unflawed : {R : ℕ} (p : Parts R) → NoFlaw p → first_flaw p ≡ None
+unflawed {R} p f =
+    let eight = none_first (list_all words_fit p.actors.items) ActorWords None f.words refl in
+    let seven = none_first (list_all (numbers_fit R) p.actors.items) ActorNumbers _ f.numbers eight in
+    let six = none_first (array_fits p.array) ArrayCounters _ (array_right p f) seven in
+    let five = none_first (each_segment (indexes_fit (COUNTER_END + R)) p.segments.items) Indexes _ f.indexes six in
+    let four = none_first (each_segment counters_fit p.segments.items) Counters _ f.counters five in
+    let three = none_first (actor_names_fit p) ActorNames _ f.names four in
+    let two = none_first (place_names_fit p) PlaceNames _ (place_names_right p f) three in
+    none_first (makers_fit p) Makers _ (makers_right p f) two
+
+-- What holds of the one at each index holds of each element
+
+all_from : {X : Type 0} (test : X → Bool) (xs : List X) → ((i : ℕ) (x : X) → slice_get xs i ≡ Some x → test x ≡ true) → list_all test xs ≡ true
+all_from test [] h = refl
+all_from test (x ∷ xs) h = and_from (test x) (list_all test xs) (h 0 x refl) (all_from test xs (λ i y e. h (suc i) y e))
+
+each_from : {R : ℕ} (test : SegmentParts R → Bool) (makers : List (PartsOf R))
+    → ((s : SegName) (x : SegmentParts R) → by_name makers s ≡ Some x → test x ≡ true) → each_segment test makers ≡ true
+each_from test makers h =
+    all_from (λ list. list_all test list.items) makers
+    (λ m list at. all_from test list.items (λ n x e. h (record { maker = m; n = n }) x (ap (λ o. by_number o n) at ∙ e)))
+
+-- How many actors and segments there are
+
+few_actors : (xs : List Actor) → IsNumbered (is_actor (actor_at xs)) → length xs ≤ MOST_ACTORS
+few_actors [] by_number = omega arith
+few_actors (x ∷ xs) by_number = by_number.to_most (suc (length xs)) (in_list (x ∷ xs) (length xs) (omega arith))
+
+-- the root is there, and a second segment without a maker is not
+one_root : {R : ℕ} (p : Parts R) → AreMade (is_actor (actor_at p.actors.items)) (has p) → count p.segments.items 0 ≡ 1
+one_root p made =
+    let some = numbered_below (slice_get p.segments.items 0) 0 made.rooted in
+    elim (cases_lt 1 (count p.segments.items 0)) [
+      | inl more ↦
+          absurd (cc (made.makers (record { maker = 0; n = 1 }) (numbered_there (slice_get p.segments.items 0) 1 more)))
+      | inr few ↦ omega arith
+    ]
+
+-- a maker's list has no segment of number 65,535
+few_made : {R : ℕ} (p : Parts R) → AreMade (is_actor (actor_at p.actors.items)) (has p) → (m : ℕ) → count p.segments.items m ≤ MOST_SEGMENTS
+few_made p made zero = let e = one_root p made in omega arith
+few_made p made (suc m) =
+    elim (cases_lt MOST_SEGMENTS (count p.segments.items (suc m))) [
+      | inl more ↦
+          let there = numbered_there (slice_get p.segments.items (suc m)) MOST_SEGMENTS more in
+          let fits = made.makers (record { maker = suc m; n = MOST_SEGMENTS }) there in
+          let below = ltb-true MOST_SEGMENTS MOST_SEGMENTS (and_parts (is_actor (actor_at p.actors.items) (suc m)) (nat_lt MOST_SEGMENTS MOST_SEGMENTS) fits).1 in
+          absurd (omega arith)
+      | inr few ↦ few
+    ]
+
+few_segments : {R : ℕ} (p : Parts R) → AreMade (is_actor (actor_at p.actors.items)) (has p) → (m : ℕ) (list : PartsOf R)
+    → slice_get p.segments.items m ≡ Some list → nat_le (length list.items) MOST_SEGMENTS ≡ true
+few_segments {R} p made m list e =
+    le-leb (length list.items) MOST_SEGMENTS (subst (λ (o : Option (PartsOf R)). count_in o ≤ MOST_SEGMENTS) e (few_made p made m))
+
+-- What is there fits
+
+segments_made : {R : ℕ} (p : Parts R) → IsWellFormed R (world_of_parts p) → AreMade (is_actor (actor_at p.actors.items)) (has p)
+segments_made p formed = subst (AreMade (is_actor (actor_at p.actors.items))) (presence p) formed.made
+
+contents_fit : (R : ℕ) (p : Parts R) → IsWellFormed R (world_of_parts p) → (q : Place) → place_fits R (has p) q ((world_of_parts p).at q) ≡ true
+contents_fit R p formed q =
+    subst (λ (there : Presence). place_fits R there q ((world_of_parts p).at q) ≡ true) (presence p) (formed.contents q)
+
+-- what a segment of the parts has at a place
+part_fits : (R : ℕ) (p : Parts R) (s : SegName) (x : SegmentParts R) (q : Place) → by_name p.segments.items s ≡ Some x
+    → place_fits R (has p) q (part_of_parts (by_name p.segments.items s) q) ≡ true → place_fits R (has p) q (part_from x q) ≡ true
+part_fits R p s x q e h = subst (λ (o : Option (SegmentParts R)). place_fits R (has p) q (part_of_parts o q) ≡ true) e h
+
+counters_within : (R : ℕ) (p : Parts R) → IsWellFormed R (world_of_parts p) → (s : SegName) (x : SegmentParts R) → by_name p.segments.items s ≡ Some x
+    → counters_fit x ≡ true
+counters_within R p formed s x e =
+    and_from (nat_le x.head COUNTER_END) (nat_le x.tail COUNTER_END)
+    (part_fits R p s x (Head s) e (contents_fit R p formed (Head s)))
+    (part_fits R p s x (Tail s) e (contents_fit R p formed (Tail s)))
+
+cell_within : (R : ℕ) (p : Parts R) → IsWellFormed R (world_of_parts p) → (s : SegName) (x : SegmentParts R) → by_name p.segments.items s ≡ Some x
+    → (i : ℕ) (c : Cell) → slice_get x.cells i ≡ Some c → nat_le c.idx (COUNTER_END + R) ≡ true
+cell_within R p formed s x e i c at =
+    subst (λ (o : Option Cell). place_fits R (has p) (CellAt s i) (option_map CellIs o) ≡ true) at
+    (part_fits R p s x (CellAt s i) e (contents_fit R p formed (CellAt s i)))
+
+indexes_within : (R : ℕ) (p : Parts R) → IsWellFormed R (world_of_parts p) → (s : SegName) (x : SegmentParts R) → by_name p.segments.items s ≡ Some x
+    → indexes_fit (COUNTER_END + R) x ≡ true
+indexes_within R p formed s x e = all_from (λ c. nat_le c.idx (COUNTER_END + R)) x.cells (cell_within R p formed s x e)
+
+-- an actor's record fits
+record ActorFits (R : ℕ) (there : Presence) (a : Actor) : Type 0 where
+  pub names : names_fit there a ≡ true
+  pub numbers : numbers_fit R a ≡ true
+  pub words : words_fit a ≡ true
+
+actor_within : (R : ℕ) (p : Parts R) → IsWellFormed R (world_of_parts p) → (n : ℕ) (a : Actor) → slice_get p.actors.items n ≡ Some a → ActorFits R (has p) a
+actor_within R p formed n a e =
+    let here = subst (λ (there : Presence). actor_fits R there (slice_get p.actors.items n) ≡ true) (presence p) (formed.actors (suc n)) in
+    let fits : record_fits R (has p) a ≡ true = subst (λ (o : Option Actor). actor_fits R (has p) o ≡ true) e here in
+    let both = and_parts (names_fit (has p) a && numbers_fit R a) (words_fit a) fits in
+    let first = and_parts (names_fit (has p) a) (numbers_fit R a) both.0 in
+    record { names = first.0; numbers = first.1; words = both.1 }
+
+pub accepted : (R : ℕ) (p : Parts R) → length p.segments.items ≡ suc (length p.actors.items) → IsWellFormed R (world_of_parts p) → first_flaw p ≡ None
+accepted R p lists formed =
+    let made = segments_made p formed in
+    let fits = contents_fit R p formed in
+    unflawed p (record {
+      some_actors = le-leb 1 (length p.actors.items) (within p.actors.items 0 formed.numbered.first);
+      few_actors = le-leb (length p.actors.items) MOST_ACTORS (few_actors p.actors.items formed.numbered);
+      lists = eq-eqb (length p.segments.items) (suc (length p.actors.items)) lists;
+      one_root = eq-eqb (count p.segments.items 0) 1 (one_root p made);
+      few_segments = all_from (λ list. nat_le (length list.items) MOST_SEGMENTS) p.segments.items (few_segments p made);
+      qhead = fits QHead;
+      qtail = fits QTail;
+      nexts = each_from (λ s. next_fits (has p) s.next) p.segments.items (λ s x e. part_fits R p s x (Next s) e (fits (Next s)));
+      names = all_from (names_fit (has p)) p.actors.items (λ n a e. (actor_within R p formed n a e).names);
+      counters = each_from counters_fit p.segments.items (counters_within R p formed);
+      indexes = each_from (indexes_fit (COUNTER_END + R)) p.segments.items (indexes_within R p formed);
+      array_head = fits ArrHead;
+      array_tail = fits ArrTail;
+      numbers = all_from (numbers_fit R) p.actors.items (λ n a e. (actor_within R p formed n a e).numbers);
+      words = all_from words_fit p.actors.items (λ n a e. (actor_within R p formed n a e).words);
+    })
+
+-- the two directions
+pub exactly : (R : ℕ) (p : Parts R) → (first_flaw p ≡ None) ↔ ((length p.segments.items ≡ suc (length p.actors.items)) × IsWellFormed R (world_of_parts p))
+exactly R p = (λ none. (lists_right p none, assembled R p none), λ both. accepted R p both.0 both.1)

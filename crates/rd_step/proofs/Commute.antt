@@ -1,0 +1,80 @@
+-- A step that does not depend on the one before it may go first.
+use Rattle.std.proofs.Common.{◌≡◌, ◌≢◌, ℕ, false, ◌==◌, if◌then◌else◌, inl, inr, refl, sym, ◌∙◌, ap, subst, Option, Some, Ok}
+use Rattle.std.proofs.lemmas.Bool.{cases_eq, eqb-false, or_parts}
+use mathlib.Core.Path.{fun_ext}
+use Rattle.rd_ring.specs.Prelude.{Access, Performed, contents_after, perform}
+use Rattle.rd_cell.proofs.AccessLemmas.{interferes, interferes-sym, perform_around, after_swap}
+use Rattle.rd_actor.specs.declared.actors.Actor.{Actor}
+use Rattle.rd_actor.specs.Table.{need, after}
+use Rattle.rd_step.specs.World.{World}
+use Rattle.rd_step.specs.declared.entries.Event.{Event}
+use Rattle.rd_step.specs.Step.{Stepped, with_actor, step_outcome, step}
+use Rattle.rd_step.specs.Dependence.{depends}
+use Rattle.rd_step.specs.Laws.{CommutingSquare}
+use Rattle.rd_step.proofs.Steps.{Took, took, step_of, with_actor-same, with_actor-other}
+
+-- the records of two actors may be set in either order
+with_actor-swap : (m n : ℕ) (a b : Actor) (actors : ℕ → Option Actor) → m ≢ n
+    → with_actor m a (with_actor n b actors) ≡ with_actor n b (with_actor m a actors)
+with_actor-swap m n a b actors ne = fun_ext each
+  where
+    at_m : (k : ℕ) → k ≡ m → with_actor m a (with_actor n b actors) k ≡ with_actor n b (with_actor m a actors) k
+    at_m k h =
+        subst (λ (j : ℕ). with_actor m a (with_actor n b actors) j ≡ with_actor n b (with_actor m a actors) j) (sym h)
+        (with_actor-same m a (with_actor n b actors) ∙ sym (with_actor-other n b (with_actor m a actors) m ne ∙ with_actor-same m a actors))
+
+    off_m : (k : ℕ) → k ≢ m → with_actor m a (with_actor n b actors) k ≡ with_actor n b (with_actor m a actors) k
+    off_m k h =
+        with_actor-other m a (with_actor n b actors) k h
+        ∙ ap (λ (o : Option Actor). if k == n then Some b else o) (sym (with_actor-other m a actors k h))
+
+    each : (k : ℕ) → with_actor m a (with_actor n b actors) k ≡ with_actor n b (with_actor m a actors) k
+    each k = elim (cases_eq k m) [ inl h ↦ at_m k h | inr h ↦ off_m k h ]
+
+-- the law, for two steps taken apart
+swapped : (R : ℕ) (w : World) (e f : Event) (a b : Actor) (x y : Access) (d k : Performed)
+    → w.actor e.actor ≡ Some a → need R a e.act ≡ Ok x → perform R e.actor w.at x ≡ Ok d
+    → (step_outcome w e a d (after R a e.act d.answer)).world.actor f.actor ≡ Some b → need R b f.act ≡ Ok y
+    → perform R f.actor (contents_after d w.at) y ≡ Ok k → e.actor ≢ f.actor → interferes d k ≡ false
+    → let v = step_outcome w e a d (after R a e.act d.answer) in
+    CommutingSquare R w e f v (step_outcome v.world f b k (after R b f.act k.answer))
+swapped R w e f a b x y d k has_a needs_a does_a has_b needs_b does_b ne free =
+    let na = after R a e.act d.answer in
+    let nb = after R b f.act k.answer in
+    let ne' : f.actor ≢ e.actor = λ h. ne (sym h) in
+    let had_b : w.actor f.actor ≡ Some b = sym (with_actor-other e.actor na.0 w.actor f.actor ne') ∙ has_b in
+    let did_b : perform R f.actor w.at y ≡ Ok k = sym (perform_around R e.actor f.actor w.at (contents_after d w.at) x y d k ne does_a does_b free) ∙ does_b in
+    let has_a' : with_actor f.actor nb.0 w.actor e.actor ≡ Some a = with_actor-other f.actor nb.0 w.actor e.actor ne ∙ has_a in
+    let did_a : perform R e.actor (contents_after k w.at) x ≡ Ok d = perform_around R f.actor e.actor w.at w.at y x k d ne' did_b does_a (interferes-sym d k free) ∙ does_a in
+    let v' = step_outcome w f b k nb in
+    let u' = step_outcome v'.world e a d na in
+    let contents : contents_after d (contents_after k w.at) ≡ contents_after k (contents_after d w.at) =
+    sym (after_swap d k w.at free) in
+    let actors = with_actor-swap e.actor f.actor na.0 nb.0 w.actor ne in
+    record {
+      first = v';
+      goes_first = step_of R w f b y k had_b needs_b did_b;
+      same_entry = refl;
+      second = u';
+      goes_second = step_of R v'.world e a x d has_a' needs_a did_a;
+      entry_unchanged = refl;
+      same_world = λ i. record { at = contents i; actor = actors i };
+    }
+
+-- a step that does not depend on the one before it may go first
+pub commutes : (R : ℕ) (w : World) (e f : Event) (v u : Stepped) → step R w e ≡ Ok v → step R v.world f ≡ Ok u
+    → depends v.entry u.entry ≡ false → CommutingSquare R w e f v u
+commutes R w e f v u h k free =
+    let tv = took R w e v h in
+    let v' = step_outcome w e tv.a tv.did (after R tv.a e.act tv.did.answer) in
+    subst (λ (s : Stepped). Took R s.world f u → depends s.entry u.entry ≡ false → CommutingSquare R w e f s u) tv.ends
+    (λ tu free'.
+    let u' = step_outcome v'.world f tu.a tu.did (after R tu.a f.act tu.did.answer) in
+    subst (λ (t : Stepped). depends v'.entry t.entry ≡ false → CommutingSquare R w e f v' t) tu.ends
+    (λ free''.
+    let parts = or_parts (e.actor == f.actor) (interferes tv.did tu.did) free'' in
+    swapped R w e f tv.a tu.a tv.access tu.access tv.did tu.did tv.has tv.needs tv.does tu.has tu.needs tu.does
+    (eqb-false e.actor f.actor parts.0) parts.1)
+    free')
+    (took R v.world f u k)
+    free

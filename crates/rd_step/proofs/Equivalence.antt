@@ -1,0 +1,226 @@
+-- A step that depends on no earlier one may go first in its run, and equivalent lists of events reach one world.
+use Rattle.std.proofs.Common.{◌≡◌, ℕ, false, refl, sym, ◌∙◌, ap, subst, List, [], ◌∷◌, ◌++◌, Result, Ok}
+use Rattle.std.specs.Prelude.{IsPermutation}
+use Rattle.rd_ring.specs.Prelude.{Refusal}
+use Rattle.std.proofs.lemmas.List.Sorted.{IsPermutation-refl, IsPermutation-sym, IsPermutation-cons, IsPermutation-trans, IsPermutation-middle}
+use Rattle.rd_step.specs.World.{World}
+use Rattle.rd_step.specs.declared.entries.Event.{Event}
+use Rattle.rd_step.specs.declared.entries.Entry.{Entry}
+use Rattle.rd_step.specs.Step.{Stepped, step}
+use Rattle.rd_step.specs.Run.{Ran, run, events}
+use Rattle.rd_step.specs.Dependence.{depends, IsFree}
+use Rattle.rd_step.specs.Equivalence.{IsIndependentOf, IsEquivalent, ReachesTheSame}
+use Rattle.rd_step.proofs.Steps.{took}
+use Rattle.rd_step.proofs.Commute.{commutes}
+use Rattle.rd_step.proofs.Symmetry.{symmetric}
+use Rattle.rd_step.proofs.Inverse.{ran_on, run-cons}
+
+-- equal answers are of equal values
+
+abbrev as_ran : Ran → Result Ran Refusal
+as_ran r = Ok r
+
+pub as_ran-same : (r q : Ran) → as_ran r ≡ Ok q → r ≡ q
+as_ran-same r q h = cc
+
+abbrev as_stepped : Stepped → Result Stepped Refusal
+as_stepped s = Ok s
+
+pub as_stepped-same : (s u : Stepped) → as_stepped s ≡ Ok u → s ≡ u
+as_stepped-same s u h = cc
+
+-- The step of e after the run of `earlier`, and a run on from there, with e moved to the front
+
+-- e steps from w with this entry, and the others run on from there to the last world, with their entries
+pub record GoesFirst (R : ℕ) (w : World) (e : Event) (x : Entry) (others : List Event) (rest : Ran) : Type 0 where
+  pub after : World
+  pub goes : step R w e ≡ Ok (record { world = after; entry = x })
+  pub runs : run R after others ≡ Ok rest
+
+pub goes_first : (R : ℕ) (w : World) (e : Event) (earlier later : List Event) (r : Ran) (s : Stepped) (q : Ran)
+    → run R w earlier ≡ Ok r → step R r.world e ≡ Ok s → IsFree s.entry r.entries → run R s.world later ≡ Ok q
+    → GoesFirst R w e s.entry (earlier ++ later) (record { world = q.world; entries = r.entries ++ q.entries })
+goes_first R w e [] later r s q h k free l =
+    let p : record { world = w; entries = [] } ≡ r = cc in
+    subst (λ (y : Ran). step R y.world e ≡ Ok s → GoesFirst R w e s.entry later (record { world = q.world; entries = y.entries ++ q.entries })) p
+    (λ goes. record { after = s.world; goes = goes; runs = l })
+    k
+goes_first R w e (f ∷ fs) later r s q h k free l =
+    let ran = ran_on R w f fs r h in
+    let goes : step R ran.rest.world e ≡ Ok s = ap (λ (y : Ran). step R y.world e) ran.joins ∙ k in
+    let parts : IsFree s.entry (ran.one.entry ∷ ran.rest.entries) = subst (λ (y : Ran). IsFree s.entry y.entries) (sym ran.joins) free in
+    let first = goes_first R ran.one.world e fs later ran.rest s q ran.goes_on goes parts.1 l in
+    let independent : depends ran.one.entry s.entry ≡ false = symmetric ran.one.entry s.entry ∙ parts.0 in
+    let sw = commutes R w f e ran.one (record { world = first.after; entry = s.entry }) ran.goes first.goes independent in
+    let rest : Ran = record { world = q.world; entries = ran.rest.entries ++ q.entries } in
+    let runs : run R sw.second.world (fs ++ later) ≡ Ok rest = ap (λ (v : World). run R v (fs ++ later)) sw.same_world ∙ first.runs in
+    record {
+      after = sw.first.world;
+      goes = sw.goes_first ∙ (λ i. Ok (record { world = sw.first.world; entry = sw.same_entry i }));
+      runs =
+          run-cons R sw.first.world f (fs ++ later) sw.second rest sw.goes_second runs
+          ∙ (λ i. Ok (record { world = q.world; entries = sw.entry_unchanged i ∷ (ran.rest.entries ++ q.entries) }))
+          ∙ ap (λ (y : Ran). Ok (record { world = q.world; entries = y.entries ++ q.entries })) ran.joins;
+    }
+
+-- the entries of a run are of its events
+pub run_events : (R : ℕ) (w : World) (es : List Event) (r : Ran) → run R w es ≡ Ok r → events r.entries ≡ es
+run_events R w [] r h = let p : record { world = w; entries = [] } ≡ r = cc in ap (λ (y : Ran). events y.entries) (sym p)
+run_events R w (e ∷ es) r h =
+    let ran = ran_on R w e es r h in
+    let t = took R w e ran.one ran.goes in
+    let first : ran.one.entry.event ≡ e = ap (λ (s : Stepped). s.entry.event) (sym t.ends) in
+    let rest = run_events R ran.one.world es ran.rest ran.goes_on in
+    ap (λ (y : Ran). events y.entries) (sym ran.joins) ∙ (λ i. first i ∷ rest i)
+
+-- A run taken apart at one of its steps
+
+pub record RanThrough (R : ℕ) (w : World) (earlier : List Event) (e : Event) (later : List Event) (q : Ran) : Type 0 where
+  pub before : Ran
+  pub runs : run R w earlier ≡ Ok before
+  pub one : Stepped
+  pub goes : step R before.world e ≡ Ok one
+  pub rest : Ran
+  pub goes_on : run R one.world later ≡ Ok rest
+  pub joins : record { world = rest.world; entries = before.entries ++ one.entry ∷ rest.entries } ≡ q
+
+pub ran_through : (R : ℕ) (w : World) (earlier : List Event) (e : Event) (later : List Event) (q : Ran) → run R w (earlier ++ e ∷ later) ≡ Ok q
+    → RanThrough R w earlier e later q
+ran_through R w [] e later q h =
+    let ran = ran_on R w e later q h in
+    record {
+      before = record { world = w; entries = [] };
+      runs = refl;
+      one = ran.one;
+      goes = ran.goes;
+      rest = ran.rest;
+      goes_on = ran.goes_on;
+      joins = ran.joins;
+    }
+ran_through R w (f ∷ fs) e later q h =
+    let ran = ran_on R w f (fs ++ e ∷ later) q h in
+    let t = ran_through R ran.one.world fs e later ran.rest ran.goes_on in
+    record {
+      before = record { world = t.before.world; entries = ran.one.entry ∷ t.before.entries };
+      runs = run-cons R w f fs ran.one t.before ran.goes t.runs;
+      one = t.one;
+      goes = t.goes;
+      rest = t.rest;
+      goes_on = t.goes_on;
+      joins = ap (λ (y : Ran). record { world = y.world; entries = ran.one.entry ∷ y.entries }) t.joins ∙ ran.joins;
+    }
+
+-- The first list's first event in the run of the second
+
+-- a list that may begin with e, in its run: e's entry, which depends on none of those before it, and the run of the others
+-- after e
+pub record StandsIn (R : ℕ) (w : World) (e : Event) (earlier later : List Event) (q : Ran) : Type 0 where
+  pub x : Entry
+  pub of_event : x.event ≡ e
+  pub before : List Entry
+  pub behind : List Entry
+  pub entries : q.entries ≡ before ++ x ∷ behind
+  pub before_events : events before ≡ earlier
+  pub behind_events : events behind ≡ later
+  pub free : IsFree x before
+  pub first : GoesFirst R w e x (earlier ++ later) (record { world = q.world; entries = before ++ behind })
+
+stands_through : (R : ℕ) (w : World) (e : Event) (earlier later : List Event) (q : Ran) (t : RanThrough R w earlier e later q)
+    → IsFree t.one.entry t.before.entries → StandsIn R w e earlier later q
+stands_through R w e earlier later q t free =
+    let s = took R t.before.world e t.one t.goes in
+    let first = goes_first R w e earlier later t.before t.one t.rest t.runs t.goes free t.goes_on in
+    record {
+      x = t.one.entry;
+      of_event = ap (λ (y : Stepped). y.entry.event) (sym s.ends);
+      before = t.before.entries;
+      behind = t.rest.entries;
+      entries = ap (λ (y : Ran). y.entries) (sym t.joins);
+      before_events = run_events R w earlier t.before t.runs;
+      behind_events = run_events R t.one.world later t.rest t.goes_on;
+      free = free;
+      first =
+          subst (λ (v : World). GoesFirst R w e t.one.entry (earlier ++ later) (record { world = v; entries = t.before.entries ++ t.rest.entries }))
+          (ap (λ (y : Ran). y.world) t.joins) first;
+    }
+
+pub stands_in : (R : ℕ) (w : World) (e : Event) (earlier later : List Event) (q : Ran) → run R w (earlier ++ e ∷ later) ≡ Ok q
+    → IsIndependentOf R w e earlier → StandsIn R w e earlier later q
+stands_in R w e earlier later q h alone =
+    let t = ran_through R w earlier e later q h in
+    let same : alone.ran ≡ t.before = as_ran-same _ _ (sym alone.runs ∙ t.runs) in
+    let goes : step R t.before.world e ≡ Ok alone.stepped = ap (λ (y : Ran). step R y.world e) (sym same) ∙ alone.goes in
+    let one : alone.stepped ≡ t.one = as_stepped-same _ _ (sym goes ∙ t.goes) in
+    stands_through R w e earlier later q t
+    (subst (λ (s : Stepped). IsFree s.entry t.before.entries) one
+    (subst (λ (y : Ran). IsFree alone.stepped.entry y.entries) same alone.free))
+
+-- Equivalent lists
+
+both_empty : (R : ℕ) (w : World) (r q : Ran) → run R w [] ≡ Ok r → run R w [] ≡ Ok q → ReachesTheSame r q
+both_empty R w r q h k =
+    let p : r ≡ q = as_ran-same r q (sym h ∙ k) in
+    subst (λ (y : Ran). ReachesTheSame r y) p (record { same_world = refl; same_entries = IsPermutation-refl r.entries })
+
+-- equivalent lists reach one world, with the same entries in some order
+pub reach_the_same : (R : ℕ) (w : World) (es fs : List Event) (r q : Ran) → run R w es ≡ Ok r → run R w fs ≡ Ok q
+    → IsEquivalent R w es fs → ReachesTheSame r q
+reach_the_same R w [] fs r q h k same = both_empty R w r q h (ap (run R w) (sym same) ∙ k)
+reach_the_same R w (e ∷ es) fs r q h k same =
+    let ran = ran_on R w e es r h in
+    let s = stands_in R w e same.earlier same.later q (ap (run R w) (sym same.stands) ∙ k) same.independent in
+    let one : record { world = s.first.after; entry = s.x } ≡ ran.one = as_stepped-same _ _ (sym s.first.goes ∙ ran.goes) in
+    let its : same.stepped ≡ ran.one = as_stepped-same _ _ (sym same.goes ∙ ran.goes) in
+    let others : Ran = record { world = q.world; entries = s.before ++ s.behind } in
+    let runs : run R ran.one.world (same.earlier ++ same.later) ≡ Ok others =
+    ap (λ (y : Stepped). run R y.world (same.earlier ++ same.later)) (sym one) ∙ s.first.runs in
+    let rest = reach_the_same R ran.one.world es (same.earlier ++ same.later) ran.rest others ran.goes_on runs
+    (subst (λ (y : Stepped). IsEquivalent R y.world es (same.earlier ++ same.later)) its same.rest) in
+    let moved : IsPermutation (s.x ∷ (s.before ++ s.behind)) (s.before ++ s.x ∷ s.behind) =
+    IsPermutation-sym _ _ (IsPermutation-middle s.before s.x s.behind) in
+    let entries : ran.one.entry ∷ ran.rest.entries ≡ r.entries = ap (λ (y : Ran). y.entries) ran.joins in
+    record {
+      same_world = rest.same_world ∙ ap (λ (y : Ran). y.world) ran.joins;
+      same_entries =
+          subst (λ (l : List Entry). IsPermutation l q.entries) entries
+          (subst (λ (l : List Entry). IsPermutation (ran.one.entry ∷ ran.rest.entries) l) (sym s.entries)
+          (IsPermutation-trans _ _ _ (IsPermutation-cons ran.one.entry _ _ rest.same_entries)
+          (subst (λ (y : Stepped). IsPermutation (y.entry ∷ (s.before ++ s.behind)) (s.before ++ s.x ∷ s.behind)) one moved)));
+    }
+
+-- a list that runs is equivalent to itself
+pub reflexive : (R : ℕ) (w : World) (es : List Event) (r : Ran) → run R w es ≡ Ok r → IsEquivalent R w es es
+reflexive R w [] r h = refl
+reflexive R w (e ∷ es) r h =
+    let ran = ran_on R w e es r h in
+    record {
+      earlier = [];
+      later = es;
+      stands = refl;
+      independent = record { ran = record { world = w; entries = [] }; runs = refl; stepped = ran.one; goes = ran.goes; free = tt };
+      stepped = ran.one;
+      goes = ran.goes;
+      rest = reflexive R ran.one.world es ran.rest ran.goes_on;
+    }
+
+-- two neighbours that do not depend on each other may change places
+pub neighbours_swapped : (R : ℕ) (w : World) (e f : Event) (es : List Event) (s u : Stepped) (r : Ran) → step R w e ≡ Ok s
+    → step R s.world f ≡ Ok u → depends s.entry u.entry ≡ false → run R u.world es ≡ Ok r → IsEquivalent R w (e ∷ f ∷ es) (f ∷ e ∷ es)
+neighbours_swapped R w e f es s u r h k free l =
+    let sw = commutes R w e f s u h k free in
+    let apart : depends sw.second.entry sw.first.entry ≡ false = (λ i. depends (sw.entry_unchanged i) (sw.same_entry i)) ∙ free in
+    record {
+      earlier = f ∷ [];
+      later = es;
+      stands = refl;
+      independent = record {
+        ran = record { world = sw.first.world; entries = sw.first.entry ∷ [] };
+        runs = run-cons R w f [] sw.first (record { world = sw.first.world; entries = [] }) sw.goes_first refl;
+        stepped = sw.second;
+        goes = sw.goes_second;
+        free = (apart, tt);
+      };
+      stepped = s;
+      goes = h;
+      rest = reflexive R s.world (f ∷ es) (record { world = r.world; entries = u.entry ∷ r.entries }) (run-cons R s.world f es u r k l);
+    }

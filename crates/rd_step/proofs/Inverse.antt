@@ -1,0 +1,130 @@
+-- The words that an entry keeps give the world before its step back, and a step on which no later one depends may
+-- be taken out of a run.
+use Rattle.std.proofs.Common.{◌≡◌, ℕ, zero, suc, ◌+◌, ◌<◌, true, false, nat_lt, inl, inr, refl, sym, ◌∙◌, ap, subst, arith, List, ◌∷◌, Option, Some, None, is_some, Result, Ok, Err, IfOk, ltb-true}
+use Rattle.std.proofs.lemmas.Bool.{cases_eq, cases_Bool, cond-true, cond-false, cond_both, and_right}
+use Rattle.std.proofs.lemmas.Result.{IfOk-at_ok}
+use mathlib.Core.Path.{fun_ext}
+use Rattle.rd_ring.specs.Prelude.{MOST_SEGMENTS, SegName, Place, Head, Tail, Next, CellAt, WholeOf, Content, Access, NoPlace, At, Make, Operation, Refusal, is_of, covers, Contents, after_write, operand, restore, is_there, holding, Effect, effect, Performed, contents_after, operate, make, perform}
+use Rattle.rd_cell.specs.Access.{effect_at, number_made_from, number_made, perform_effect}
+use Rattle.rd_cell.proofs.PlaceLemmas.{is_name-true}
+use Rattle.rd_cell.proofs.AccessLemmas.{after_write-outside, operand-covered}
+use Rattle.rd_actor.specs.declared.actors.Actor.{Actor}
+use Rattle.rd_actor.specs.Table.{after}
+use Rattle.rd_step.specs.World.{World}
+use Rattle.rd_step.specs.declared.entries.Event.{Event}
+use Rattle.rd_step.specs.Step.{Stepped, with_actor, step, unstep}
+use Rattle.rd_step.specs.Run.{Ran, run_preceded_by, run_from_step, run}
+use Rattle.rd_step.specs.WellFormed.{Presence, belongs, IsWellFormed}
+use Rattle.rd_step.proofs.Steps.{took, with_actor-same, with_actor-other}
+
+-- the contents that an access left, with what was at its place put back, are those from before it
+abbrev PutsBack : Contents → Performed → Type 0
+PutsBack at did = (q : Place) → restore did.place did.old (contents_after did at) q ≡ at q
+
+back-effect : (p : Place) (c : Content) (e : Effect) (at : Contents) → operand at p ≡ Some c → PutsBack at (effect_at p c e)
+back-effect p c e at h q =
+    cond_both (covers p q) (Some c) (contents_after (effect_at p c e) at q) (λ (o : Option Content). o ≡ at q)
+    (λ k. sym (operand-covered p at c q h k)) (λ k. after_write-outside (Some p) (effect_at p c e).writes at q k)
+
+back-result : (p : Place) (c : Content) (r : Result Effect Refusal) (at : Contents) → operand at p ≡ Some c → IfOk (perform_effect p c r) (PutsBack at)
+back-result p c (Err x) at h = tt
+back-result p c (Ok e) at h = back-effect p c e at h
+
+back-operate : (p : Place) (op : Operation) (o : Option Content) (at : Contents) → operand at p ≡ o → IfOk (operate p op o) (PutsBack at)
+back-operate p op None at h = tt
+back-operate p op (Some c) at h = back-result p c (effect op c) at h
+
+-- below the bound, the number that counting ends at names no segment that is there
+number_made_from-absent : (more : ℕ) (at : Contents) (m n : ℕ) → number_made_from more at m n < n + more
+    → is_there at (record { maker = m; n = number_made_from more at m n }) ≡ false
+unfolding number_made_from
+number_made_from-absent zero at m n h = absurd (omega arith)
+number_made_from-absent (suc more) at m n h =
+    elim (cases_Bool (is_there at (record { maker = m; n = n }))) [
+      | inl e ↦
+          let k : number_made_from (suc more) at m n ≡ number_made_from more at m (n + 1) = cond-true (is_there at (record { maker = m; n = n })) (number_made_from more at m (n + 1)) n e in
+          ap (λ (j : ℕ). is_there at (record { maker = m; n = j })) k ∙ number_made_from-absent more at m (n + 1) (omega arith)
+      | inr e ↦
+          let k : number_made_from (suc more) at m n ≡ n = cond-false (is_there at (record { maker = m; n = n })) (number_made_from more at m (n + 1)) n e in
+          ap (λ (j : ℕ). is_there at (record { maker = m; n = j })) k ∙ e
+    ]
+
+pub number_made-absent : (at : Contents) (m : ℕ) → number_made at m < MOST_SEGMENTS → is_there at (record { maker = m; n = number_made at m }) ≡ false
+unfolding number_made
+number_made-absent at m h = number_made_from-absent MOST_SEGMENTS at m 0 h
+
+-- a place of a segment that is not there has nothing
+pub absent_place : (R : ℕ) (there : Presence) (s : SegName) (q : Place) → there s ≡ false → is_of s q ≡ true → belongs R there q ≡ false
+absent_place R there s (Head t) h e = subst (λ (x : SegName). there x ≡ false) (is_name-true s t e) h
+absent_place R there s (Tail t) h e = subst (λ (x : SegName). there x ≡ false) (is_name-true s t e) h
+absent_place R there s (Next t) h e = subst (λ (x : SegName). there x ≡ false) (is_name-true s t e) h
+absent_place R there s (CellAt t i) h e = and_right (nat_lt i R) (there t) (subst (λ (x : SegName). there x ≡ false) (is_name-true s t e) h)
+absent_place R there s (WholeOf t) h e = refl
+absent_place R there s _ h e = cc
+
+nothing_there : (o : Option Content) → is_some o ≡ false → o ≡ None
+nothing_there None h = refl
+nothing_there (Some c) h = cc
+
+back-make : (R actor n x : ℕ) (w : World) → IsWellFormed R w → (n < MOST_SEGMENTS → is_there w.at (record { maker = actor; n = n }) ≡ false)
+    → IfOk (make R (record { maker = actor; n = n }) x) (PutsBack w.at)
+back-make R actor n x w formed absent =
+    let s : SegName = record { maker = actor; n = n } in
+    cond_both (nat_lt n MOST_SEGMENTS) _ _ (λ (r : Result Performed Refusal). IfOk r (PutsBack w.at))
+    (λ below q.
+    cond_both (is_of s q) None (after_write (WholeOf s) (holding R x) w.at q) (λ (o : Option Content). o ≡ w.at q)
+    (λ e. sym (nothing_there (w.at q) (formed.places q ∙ absent_place R (is_there w.at) s q (absent (ltb-true n MOST_SEGMENTS below)) e)))
+    (λ e. cond-false (is_of s q) (holding R x q) (w.at q) e))
+    (λ e. tt)
+
+back-perform : (R actor : ℕ) (w : World) (x : Access) → IsWellFormed R w → IfOk (perform R actor w.at x) (PutsBack w.at)
+back-perform R actor w NoPlace formed = λ q. refl
+back-perform R actor w (At p op) formed = back-operate p op (operand w.at p) w.at refl
+back-perform R actor w (Make x) formed = back-make R actor (number_made w.at actor) x w formed (number_made-absent w.at actor)
+
+-- the actors with one's old record put back are those from before
+actor_back : (n : ℕ) (a b : Actor) (actors : ℕ → Option Actor) → actors n ≡ Some a → with_actor n a (with_actor n b actors) ≡ actors
+actor_back n a b actors has = fun_ext each
+  where
+    each : (m : ℕ) → with_actor n a (with_actor n b actors) m ≡ actors m
+    each m =
+        elim (cases_eq m n) [
+          | inl h ↦ ap (with_actor n a (with_actor n b actors)) h ∙ with_actor-same n a (with_actor n b actors) ∙ sym (ap actors h ∙ has)
+          | inr h ↦ with_actor-other n a (with_actor n b actors) m h ∙ with_actor-other n b actors m h
+        ]
+
+-- the words that an entry keeps give back the world before its step
+pub undoes : (R : ℕ) (w : World) (e : Event) (s : Stepped) → IsWellFormed R w → step R w e ≡ Ok s → unstep s.world s.entry ≡ w
+undoes R w e s formed h =
+    let t = took R w e s h in
+    let contents : PutsBack w.at t.did = IfOk-at_ok (PutsBack w.at) t.does (back-perform R e.actor w t.access formed) in
+    let next = after R t.a e.act t.did.answer in
+    let all = fun_ext contents in
+    let actors = actor_back e.actor t.a next.0 w.actor t.has in
+    subst (λ (x : Stepped). unstep x.world x.entry ≡ w) t.ends (λ i. record { at = all i; actor = actors i })
+
+-- a run of at least one step, taken apart
+pub record RanOn (R : ℕ) (w : World) (e : Event) (es : List Event) (r : Ran) : Type 0 where
+  pub one : Stepped
+  pub goes : step R w e ≡ Ok one
+  pub rest : Ran
+  pub goes_on : run R one.world es ≡ Ok rest
+  pub joins : record { world = rest.world; entries = one.entry ∷ rest.entries } ≡ r
+
+ran_rest : (R : ℕ) (w : World) (e : Event) (es : List Event) (r : Ran) (s : Stepped) (o : Result Ran Refusal) → step R w e ≡ Ok s
+    → run R s.world es ≡ o → run_preceded_by s.entry o ≡ Ok r → RanOn R w e es r
+ran_rest R w e es r s (Err x) h k l = cc
+ran_rest R w e es r s (Ok rest) h k l = record { one = s; goes = h; rest = rest; goes_on = k; joins = cc }
+
+ran_step : (R : ℕ) (w : World) (e : Event) (es : List Event) (r : Ran) (o : Result Stepped Refusal) → step R w e ≡ o
+    → run_from_step (λ v. run R v es) o ≡ Ok r → RanOn R w e es r
+ran_step R w e es r (Err x) h k = cc
+ran_step R w e es r (Ok s) h k = ran_rest R w e es r s (run R s.world es) h refl k
+
+pub ran_on : (R : ℕ) (w : World) (e : Event) (es : List Event) (r : Ran) → run R w (e ∷ es) ≡ Ok r → RanOn R w e es r
+ran_on R w e es r h = ran_step R w e es r (step R w e) refl h
+
+-- a step and a run after it make a run
+pub run-cons : (R : ℕ) (w : World) (e : Event) (es : List Event) (s : Stepped) (r : Ran) → step R w e ≡ Ok s → run R s.world es ≡ Ok r
+    → run R w (e ∷ es) ≡ Ok (record { world = r.world; entries = s.entry ∷ r.entries })
+run-cons R w e es s r h k = ap (run_from_step (λ v. run R v es)) h ∙ ap (run_preceded_by s.entry) k

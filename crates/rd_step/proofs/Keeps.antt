@@ -1,0 +1,161 @@
+-- A step keeps a world well-formed.
+use Rattle.std.proofs.Common.{◌≡◌, ℕ, Bool, true, ◌==◌, nat_lt, inl, inr, refl, sym, ◌∙◌, ap, subst, subst₂, Option, Some, None, is_some, option_map, IfSome, Result, Ok, Err, IfOk}
+use Rattle.std.proofs.lemmas.Bool.{cases_eq, cond_both}
+use Rattle.std.proofs.lemmas.Result.{IfOk-at_ok}
+use mathlib.Core.Path.{fun_ext}
+use Rattle.rd_ring.specs.Prelude.{SegName, Place, Head, Content, Access, NoPlace, At, Make, Nothing, Made, Operation, Refusal, MOST_SEGMENTS, root, covers, share, operand, contents_after, Contents, is_there, Effect, effect, Performed, number_made, operate, make, perform}
+use Rattle.rd_cell.specs.Access.{effect_at, perform_effect}
+use Rattle.rd_cell.specs.Contents.{after_write_at}
+use Rattle.rd_cell.proofs.PlaceLemmas.{is_place-true, is_name-refl, covers-refl}
+use Rattle.rd_cell.proofs.AccessLemmas.{operand-plain, operand-covered, after-is_some}
+use Rattle.rd_actor.specs.declared.actors.Actor.{Actor}
+use Rattle.rd_actor.specs.Table.{need, after}
+use Rattle.rd_step.specs.World.{World}
+use Rattle.rd_step.specs.declared.entries.Event.{Event}
+use Rattle.rd_step.specs.Step.{Stepped, with_actor, step_outcome, step}
+use Rattle.rd_step.specs.WellFormed.{Presence, belongs, content_fits, place_fits, record_fits, actor_fits, is_actor, IsNumbered, AreMade, IsWellFormed}
+use Rattle.rd_step.proofs.Steps.{took, with_actor-same, with_actor-other}
+use Rattle.rd_step.proofs.Fits.{op_fits, access_fits, record_grows, actor_grows, need_fits}
+use Rattle.rd_step.proofs.Effects.{EffectFits, effect_fits}
+use Rattle.rd_step.proofs.Rows.{after_fits}
+use Rattle.rd_step.proofs.Making.{made-below, laid, laid_new, laid_grows, maker_is, laid_made, laid_places, laid_fits}
+
+-- giving an actor that is there another record adds no actor
+is_actor-same : (n : ℕ) (a b : Actor) (actors : ℕ → Option Actor) → actors n ≡ Some a
+    → is_actor (with_actor n b actors) ≡ is_actor actors
+is_actor-same n a b actors has = fun_ext each
+  where
+    each : (m : ℕ) → is_some (with_actor n b actors m) ≡ is_some (actors m)
+    each m =
+        elim (cases_eq m n) [
+          | inl h ↦ ap (λ (k : ℕ). is_some (with_actor n b actors k)) h ∙ ap is_some (with_actor-same n b actors) ∙ sym (ap is_some (ap actors h ∙ has))
+          | inr h ↦ ap is_some (with_actor-other n b actors m h)
+        ]
+
+-- what is left at each place by an operation at one that is there fits, if what is written fits
+effect_left_fits : (R : ℕ) (there : Presence) (at : Contents) (p : Place) (c : Content) (f : Effect) (q : Place) → operand at p ≡ Some c
+    → IfSome f.writes (λ d. content_fits R there p d ≡ true) → place_fits R there q (at q) ≡ true
+    → place_fits R there q (contents_after (effect_at p c f) at q) ≡ true
+effect_left_fits R there at p c f q found =
+    elim f.writes as (λ w. IfSome w (λ d. content_fits R there p d ≡ true) → place_fits R there q (at q) ≡ true
+    → place_fits R there q (after_write_at (Some p) (option_map (λ (d : Content). share (Some d)) w) at q) ≡ true) [
+      | None ↦ λ h k. k
+      | Some d ↦ λ h k.
+          cond_both (covers p q) (Some d) (at q) (λ (o : Option Content). place_fits R there q o ≡ true)
+          (λ e. subst (λ (x : Place). content_fits R there x d ≡ true) (is_place-true p q (sym (operand-plain p at c q found) ∙ e)) h) (λ e. k)
+    ]
+
+-- a step that makes no segment keeps the world well-formed, if what it writes and the actor's next record fit
+pub keeps_by : (R : ℕ) (w : World) (n : ℕ) (a next : Actor) (p : Place) (c : Content) (f : Effect)
+    → IsWellFormed R w → w.actor n ≡ Some a → operand w.at p ≡ Some c
+    → IfSome f.writes (λ d. content_fits R (is_there w.at) p d ≡ true) → record_fits R (is_there w.at) next ≡ true
+    → IsWellFormed R (record { at = contents_after (effect_at p c f) w.at; actor = with_actor n next w.actor })
+keeps_by R w n a next p c f formed has there_is fits next_fits =
+    let at' : Contents = contents_after (effect_at p c f) w.at in
+    let some : (q : Place) → is_some (at' q) ≡ is_some (w.at q) = λ q. after-is_some p c f w.at q there_is in
+    let presence : is_there w.at ≡ is_there at' = sym (fun_ext (λ (s : SegName). some (Head s))) in
+    let actors : is_actor w.actor ≡ is_actor (with_actor n next w.actor) = sym (is_actor-same n a next w.actor has) in
+    let each_actor : (m : ℕ) → actor_fits R (is_there w.at) (with_actor n next w.actor m) ≡ true =
+    λ m. cond_both (m == n) (Some next) (w.actor m) (λ (o : Option Actor). actor_fits R (is_there w.at) o ≡ true) (λ e. next_fits) (λ e. formed.actors m) in
+    record {
+      numbered = subst IsNumbered actors formed.numbered;
+      made = subst₂ AreMade actors presence formed.made;
+      places = λ q. some q ∙ formed.places q ∙ ap (λ (there : Presence). belongs R there q) presence;
+      contents = λ q.
+          subst (λ (there : Presence). place_fits R there q (at' q) ≡ true) presence
+          (effect_left_fits R (is_there w.at) w.at p c f q there_is fits (formed.contents q));
+      actors = λ m. subst (λ (there : Presence). actor_fits R there (with_actor n next w.actor m) ≡ true) presence (each_actor m);
+    }
+
+-- the same if only the actor goes on
+keeps_actor : (R : ℕ) (w : World) (n : ℕ) (a next : Actor) → IsWellFormed R w → w.actor n ≡ Some a
+    → record_fits R (is_there w.at) next ≡ true → IsWellFormed R (record { at = w.at; actor = with_actor n next w.actor })
+keeps_actor R w n a next formed has next_fits =
+    let actors : is_actor w.actor ≡ is_actor (with_actor n next w.actor) = sym (is_actor-same n a next w.actor has) in
+    record {
+      numbered = subst IsNumbered actors formed.numbered;
+      made = subst (λ (f : ℕ → Bool). AreMade f (is_there w.at)) actors formed.made;
+      places = formed.places;
+      contents = formed.contents;
+      actors = λ m.
+          cond_both (m == n) (Some next) (w.actor m) (λ (o : Option Actor). actor_fits R (is_there w.at) o ≡ true)
+          (λ e. next_fits) (λ e. formed.actors m);
+    }
+
+-- the same if it makes its next segment
+keeps_made : (R : ℕ) (w : World) (n x : ℕ) (a next : Actor) → IsWellFormed R w → w.actor n ≡ Some a → nat_lt (number_made w.at n) MOST_SEGMENTS ≡ true
+    → record_fits R (is_there (laid R (record { maker = n; n = number_made w.at n }) x w.at)) next ≡ true
+    → IsWellFormed R (record { at = laid R (record { maker = n; n = number_made w.at n }) x w.at; actor = with_actor n next w.actor })
+keeps_made R w n x a next formed has below next_fits =
+    let s : SegName = record { maker = n; n = number_made w.at n } in
+    let at' : Contents = laid R s x w.at in
+    let actors : is_actor w.actor ≡ is_actor (with_actor n next w.actor) = sym (is_actor-same n a next w.actor has) in
+    let maker = maker_is (is_actor w.actor) n (number_made w.at n) formed.numbered.from_one (ap is_some has) below in
+    record {
+      numbered = subst IsNumbered actors formed.numbered;
+      made =
+          subst (λ (f : ℕ → Bool). AreMade f (is_there at')) actors
+          (laid_made R s x w.at (is_actor w.actor) maker (made-below w.at n) formed.made);
+      places = laid_places R s x w.at formed.places;
+      contents = laid_fits R s x w.at formed.contents;
+      actors = λ m.
+          cond_both (m == n) (Some next) (w.actor m) (λ (o : Option Actor). actor_fits R (is_there at') o ≡ true) (λ e. next_fits)
+          (λ e. actor_grows R (is_there w.at) (is_there at') (w.actor m) (laid_grows R s x w.at) (formed.actors m));
+    }
+
+-- What an actor's access does, and how it goes on, keeps the world well-formed
+
+-- the world after what the access of e's actor did is well-formed
+abbrev Keeps : ℕ → World → Event → Actor → Performed → Type 0
+Keeps R w e a did = IsWellFormed R (step_outcome w e a did (after R a e.act did.answer)).world
+
+keeps_done : (R : ℕ) (w : World) (e : Event) (a : Actor) (p : Place) (op : Operation) (c : Content) (r : Result Effect Refusal)
+    → IsWellFormed R w → w.actor e.actor ≡ Some a → need R a e.act ≡ Ok (At p op) → record_fits R (is_there w.at) a ≡ true → operand w.at p ≡ Some c
+    → IfOk r (EffectFits R (is_there w.at) p op) → IfOk (perform_effect p c r) (Keeps R w e a)
+keeps_done R w e a p op c (Err refusal) formed has needs fits found good = tt
+keeps_done R w e a p op c (Ok f) formed has needs fits found good =
+    keeps_by R w e.actor a (after R a e.act f.answer).0 p c f formed has found good.0
+    (after_fits R (is_there w.at) a e.act (At p op) f.answer formed.made.rooted needs good.1 good.2 fits)
+
+keeps_operate : (R : ℕ) (w : World) (e : Event) (a : Actor) (p : Place) (op : Operation) (o : Option Content)
+    → IsWellFormed R w → w.actor e.actor ≡ Some a → need R a e.act ≡ Ok (At p op) → record_fits R (is_there w.at) a ≡ true → operand w.at p ≡ o
+    → op_fits R (is_there w.at) p op ≡ true → IfOk (operate p op o) (Keeps R w e a)
+keeps_operate R w e a p op None formed has needs fits found good = tt
+keeps_operate R w e a p op (Some c) formed has needs fits found good =
+    let here : content_fits R (is_there w.at) p c ≡ true =
+    subst (λ (o : Option Content). place_fits R (is_there w.at) p o ≡ true) (operand-covered p w.at c p found (covers-refl p)) (formed.contents p) in
+    keeps_done R w e a p op c (effect op c) formed has needs fits found (effect_fits R (is_there w.at) p op c good here)
+
+keeps_make : (R : ℕ) (w : World) (e : Event) (a : Actor) (v : ℕ) → IsWellFormed R w → w.actor e.actor ≡ Some a
+    → need R a e.act ≡ Ok (Make v) → record_fits R (is_there w.at) a ≡ true
+    → IfOk (make R (record { maker = e.actor; n = number_made w.at e.actor }) v) (Keeps R w e a)
+keeps_make R w e a v formed has needs fits =
+    let s : SegName = record { maker = e.actor; n = number_made w.at e.actor } in
+    let at' : Contents = laid R s v w.at in
+    let more = laid_grows R s v w.at in
+    cond_both (nat_lt s.n MOST_SEGMENTS) _ _ (λ (r : Result Performed Refusal). IfOk r (Keeps R w e a))
+    (λ below.
+    keeps_made R w e.actor v a (after R a e.act (Made s)).0 formed has below
+    (after_fits R (is_there at') a e.act (Make v) (Made s) (more root formed.made.rooted) needs (laid_new R s v w.at s (is_name-refl s)) refl
+    (record_grows R (is_there w.at) (is_there at') a more fits)))
+    (λ e. tt)
+
+keeps_perform : (R : ℕ) (w : World) (e : Event) (a : Actor) (x : Access) → IsWellFormed R w → w.actor e.actor ≡ Some a
+    → need R a e.act ≡ Ok x → record_fits R (is_there w.at) a ≡ true → access_fits R (is_there w.at) x ≡ true
+    → IfOk (perform R e.actor w.at x) (Keeps R w e a)
+keeps_perform R w e a NoPlace formed has needs fits good =
+    keeps_actor R w e.actor a (after R a e.act Nothing).0 formed has
+    (after_fits R (is_there w.at) a e.act NoPlace Nothing formed.made.rooted needs refl refl fits)
+keeps_perform R w e a (At p op) formed has needs fits good =
+    keeps_operate R w e a p op (operand w.at p) formed has needs fits refl good
+keeps_perform R w e a (Make v) formed has needs fits good = keeps_make R w e a v formed has needs fits
+
+-- a step keeps a world well-formed
+pub keeps : (R : ℕ) (w : World) (e : Event) (s : Stepped) → IsWellFormed R w → step R w e ≡ Ok s → IsWellFormed R s.world
+keeps R w e s formed h =
+    let t = took R w e s h in
+    let there : Presence = is_there w.at in
+    let fits : record_fits R there t.a ≡ true = subst (λ (o : Option Actor). actor_fits R there o ≡ true) t.has (formed.actors e.actor) in
+    let good : access_fits R there t.access ≡ true = IfOk-at_ok (λ (x : Access). access_fits R there x ≡ true) t.needs (need_fits R there t.a e.act fits) in
+    subst (λ (x : Stepped). IsWellFormed R x.world) t.ends
+    (IfOk-at_ok (Keeps R w e t.a) t.does (keeps_perform R w e t.a t.access formed t.has t.needs fits good))

@@ -1,0 +1,134 @@
+-- A making keeps a world well-formed: the new segment is its maker's next one, and its places are just those that
+-- belong there.
+use Rattle.std.proofs.Common.{◌≡◌, ℕ, zero, suc, ◌+◌, ◌<◌, ◌≤◌, Bool, true, false, not, ◌==◌, ◌&&◌, nat_lt, inl, inr, refl, sym, ◌∙◌, ap, subst, arith, Option, Some, None, is_some, ltb-true, le-leb, eqb-true}
+use Rattle.std.proofs.lemmas.Bool.{cases_eq, cases_Bool, cond-true, cond-false, cond_both, and_parts, and_from, and_left}
+use Rattle.rd_ring.specs.Prelude.{MOST_SEGMENTS, COUNTER_END, SegName, Place, Head, Tail, Next, CellAt, WholeOf, Content, Number, CellIs, root, is_name, is_of, Contents, is_there, after_write, holding, new_cell}
+use Rattle.rd_cell.specs.Cells.{value_in_cell}
+use Rattle.rd_cell.specs.Access.{number_made_from, number_made}
+use Rattle.rd_cell.proofs.PlaceLemmas.{is_name-true}
+use Rattle.rd_step.specs.WellFormed.{Presence, belongs, place_fits, maker_fits, AreMade}
+use Rattle.rd_step.proofs.Fits.{Grows, place_grows}
+
+-- every number below the one that counting ends at names a segment that is there
+made_from-below : (more : ℕ) (at : Contents) (m n k : ℕ) → n ≤ k → k < number_made_from more at m n
+    → is_there at (record { maker = m; n = k }) ≡ true
+unfolding number_made_from
+made_from-below zero at m n k h l = absurd (omega arith)
+made_from-below (suc more) at m n k h l =
+    elim (cases_Bool (is_there at (record { maker = m; n = n }))) [
+      | inl e ↦
+          let same : number_made_from (suc more) at m n ≡ number_made_from more at m (n + 1) = cond-true (is_there at (record { maker = m; n = n })) (number_made_from more at m (n + 1)) n e in
+          elim (cases_eq k n) [
+            | inl f ↦ ap (λ (j : ℕ). is_there at (record { maker = m; n = j })) f ∙ e
+            | inr f ↦ made_from-below more at m (n + 1) k (omega arith) (subst (λ (j : ℕ). k < j) same l)
+          ]
+      | inr e ↦
+          let same : number_made_from (suc more) at m n ≡ n = cond-false (is_there at (record { maker = m; n = n })) (number_made_from more at m (n + 1)) n e in
+          let below : k < n = subst (λ (j : ℕ). k < j) same l in
+          absurd (omega arith)
+    ]
+
+pub made-below : (at : Contents) (m k : ℕ) → k < number_made at m → is_there at (record { maker = m; n = k }) ≡ true
+unfolding number_made
+made-below at m k h = made_from-below MOST_SEGMENTS at m 0 k (omega arith) h
+
+-- the contents with a new segment
+abbrev pub laid : ℕ → SegName → ℕ → Contents → Contents
+laid R s x at = after_write (WholeOf s) (holding R x) at
+
+-- the new segment is there, and which others are stays
+pub laid_new : (R : ℕ) (s : SegName) (x : ℕ) (at : Contents) (t : SegName) → is_name s t ≡ true → is_there (laid R s x at) t ≡ true
+laid_new R s x at t e = ap is_some (cond-true (is_name s t) (Some (Number 0)) (at (Head t)) e)
+
+pub laid_other : (R : ℕ) (s : SegName) (x : ℕ) (at : Contents) (t : SegName) → is_name s t ≡ false
+    → is_there (laid R s x at) t ≡ is_there at t
+laid_other R s x at t e = ap is_some (cond-false (is_name s t) (Some (Number 0)) (at (Head t)) e)
+
+pub laid_grows : (R : ℕ) (s : SegName) (x : ℕ) (at : Contents) → Grows (is_there at) (is_there (laid R s x at))
+laid_grows R s x at t h =
+    elim (cases_Bool (is_name s t)) [ inl e ↦ laid_new R s x at t e | inr e ↦ laid_other R s x at t e ∙ h ]
+
+-- a maker is an actor
+pub maker_is : (is_actor : ℕ → Bool) (m n : ℕ) → not (is_actor 0) ≡ true → is_actor m ≡ true → nat_lt n MOST_SEGMENTS ≡ true
+    → maker_fits is_actor m n ≡ true
+maker_is is_actor zero n h k l = cc
+maker_is is_actor (suc m) n h k l = and_from (is_actor (suc m)) (nat_lt n MOST_SEGMENTS) k l
+
+-- the segments stay such as actors made
+pub laid_made : (R : ℕ) (s : SegName) (x : ℕ) (at : Contents) (is_actor : ℕ → Bool) → maker_fits is_actor s.maker s.n ≡ true
+    → ((k : ℕ) → k < s.n → is_there at (record { maker = s.maker; n = k }) ≡ true) → AreMade is_actor (is_there at)
+    → AreMade is_actor (is_there (laid R s x at))
+laid_made R s x at is_actor fits below were = record { rooted = laid_grows R s x at root were.rooted; makers = each; no_gap = gap }
+  where
+    each : (t : SegName) → is_there (laid R s x at) t ≡ true → maker_fits is_actor t.maker t.n ≡ true
+    each t h =
+        elim (cases_Bool (is_name s t)) [
+          | inl e ↦ subst (λ (u : SegName). maker_fits is_actor u.maker u.n ≡ true) (is_name-true s t e) fits
+          | inr e ↦ were.makers t (sym (laid_other R s x at t e) ∙ h)
+        ]
+
+    gap : (m n : ℕ) → is_there (laid R s x at) (record { maker = m; n = suc n }) ≡ true
+        → is_there (laid R s x at) (record { maker = m; n = n }) ≡ true
+    gap m n h =
+        elim (cases_Bool (is_name s (record { maker = m; n = suc n }))) [
+          | inl e ↦
+              let both = and_parts (s.maker == m) (s.n == suc n) e in
+              let same : s.n ≡ suc n = eqb-true s.n (suc n) both.1 in
+              laid_grows R s x at (record { maker = m; n = n })
+              (subst (λ (j : ℕ). is_there at (record { maker = j; n = n }) ≡ true) (eqb-true s.maker m both.0) (below n (omega arith)))
+          | inr e ↦
+              laid_grows R s x at (record { maker = m; n = n })
+              (were.no_gap m n (sym (laid_other R s x at (record { maker = m; n = suc n }) e) ∙ h))
+        ]
+
+-- a new segment has just the places that belong to it
+new_place : (R : ℕ) (s : SegName) (x : ℕ) (there : Presence) (p : Place) → ((t : SegName) → is_name s t ≡ true → there t ≡ true)
+    → is_of s p ≡ true → is_some (holding R x p) ≡ belongs R there p
+new_place R s x there (Head t) h e = sym (h t e)
+new_place R s x there (Tail t) h e = sym (h t e)
+new_place R s x there (Next t) h e = sym (h t e)
+new_place R s x there (CellAt t i) h e =
+    cond_both (nat_lt i R) (Some (CellIs (new_cell i (value_in_cell x i)))) None
+    (λ (o : Option Content). is_some o ≡ (nat_lt i R && there t))
+    (λ b. sym (and_from (nat_lt i R) (there t) b (h t e))) (λ b. sym (and_left (nat_lt i R) (there t) b))
+new_place R s x there (WholeOf t) h e = refl
+new_place R s x there _ h e = cc
+
+-- and which other places belong stays
+old_place : (R : ℕ) (s : SegName) (there there' : Presence) (p : Place) → ((t : SegName) → is_name s t ≡ false → there' t ≡ there t)
+    → is_of s p ≡ false → belongs R there p ≡ belongs R there' p
+old_place R s there there' (Head t) h e = sym (h t e)
+old_place R s there there' (Tail t) h e = sym (h t e)
+old_place R s there there' (Next t) h e = sym (h t e)
+old_place R s there there' (CellAt t i) h e = ap (λ (b : Bool). nat_lt i R && b) (sym (h t e))
+old_place R s there there' _ h e = refl
+
+pub laid_places : (R : ℕ) (s : SegName) (x : ℕ) (at : Contents) → ((p : Place) → is_some (at p) ≡ belongs R (is_there at) p) → (p : Place)
+    → is_some (laid R s x at p) ≡ belongs R (is_there (laid R s x at)) p
+laid_places R s x at were p =
+    elim (cases_Bool (is_of s p)) [
+      | inl e ↦
+          ap is_some (cond-true (is_of s p) (holding R x p) (at p) e)
+          ∙ new_place R s x (is_there (laid R s x at)) p (laid_new R s x at) e
+      | inr e ↦
+          ap is_some (cond-false (is_of s p) (holding R x p) (at p) e)
+          ∙ were p ∙ old_place R s (is_there at) (is_there (laid R s x at)) p (laid_other R s x at) e
+    ]
+
+-- what a new segment holds fits
+new_fits : (R : ℕ) (x : ℕ) (there : Presence) (p : Place) → place_fits R there p (holding R x p) ≡ true
+new_fits R x there (Head t) = refl
+new_fits R x there (Tail t) = refl
+new_fits R x there (Next t) = refl
+new_fits R x there (CellAt t i) =
+    cond_both (nat_lt i R) (Some (CellIs (new_cell i (value_in_cell x i)))) None
+    (λ (o : Option Content). place_fits R there (CellAt t i) o ≡ true)
+    (λ b. let below : i < R = ltb-true i R b in le-leb i (COUNTER_END + R) (omega arith)) (λ b. refl)
+new_fits R x there _ = refl
+
+pub laid_fits : (R : ℕ) (s : SegName) (x : ℕ) (at : Contents) → ((p : Place) → place_fits R (is_there at) p (at p) ≡ true) → (p : Place)
+    → place_fits R (is_there (laid R s x at)) p (laid R s x at p) ≡ true
+laid_fits R s x at were p =
+    cond_both (is_of s p) (holding R x p) (at p) (λ (o : Option Content). place_fits R (is_there (laid R s x at)) p o ≡ true)
+    (λ e. new_fits R x (is_there (laid R s x at)) p)
+    (λ e. place_grows R (is_there at) (is_there (laid R s x at)) p (at p) (laid_grows R s x at) (were p))

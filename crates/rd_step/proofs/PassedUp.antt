@@ -1,0 +1,13 @@
+-- What a `?` passes up.
+use Rattle.std.proofs.Common.{◌≡◌, Result, Ok, Err, sym, subst}
+use Rattle.std.specs.Result.{OnErr, IfErr, IsErrAnd}
+
+-- what holds of the error that is passed up holds of the answer
+pub error_passed_up : {T E : Type 0} (P : E → Type 0) (x : E) (r : Result T E) → IsErrAnd r (λ e. e ≡ x) → P x → IfErr r P
+error_passed_up P x (Ok y) is p = tt
+error_passed_up P x (Err e) is p = subst P (sym is) p
+
+-- what holds in case of an error that is passed up holds in case of the answer's
+pub fact_passed_up : {T E F : Type 0} (r : Result T E) → F → OnErr r F
+fact_passed_up (Ok y) p = tt
+fact_passed_up (Err e) p = p

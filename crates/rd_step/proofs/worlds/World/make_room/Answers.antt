@@ -1,0 +1,26 @@
+use Rattle.std.proofs.Common.{◌∙◌, sym, subst, arith}
+use Rattle.rd_step.specs.World.{World}
+use Rattle.rd_step.specs.WellFormed.{IsWellFormed}
+use Rattle.rd_step.proofs.WorldLemmas.{some_maker, same_world}
+use Rattle.rd_step.proofs.worlds.World.make_room.Goals as goal
+
+pub make_room-requires : goal.make_room-requires
+make_room-requires g c =
+    (omega arith, some_maker c.args.self.now.space c.args.self.now.actors.items c.args.actor c.args.self.now.makers c.requires)
+
+pub invariant_of-self : goal.invariant_of-self
+invariant_of-self g c = record {
+  positive = c.args.self.now.positive;
+  small = c.args.self.now.small;
+  makers = c.make_room.ensures.number ∙ c.args.self.now.makers;
+  well_formed =
+      subst (λ (w : World). IsWellFormed g.row.R w)
+      (sym (same_world c.args.self.now.space c.make_room.new.self c.args.self.now.actors.items c.make_room.ensures.unchanged)) c.args.self.now.well_formed;
+}
+
+pub returns-clause-unchanged : goal.returns-clause-unchanged
+returns-clause-unchanged g c = same_world c.args.self.now.space c.make_room.new.self c.args.self.now.actors.items c.make_room.ensures.unchanged
+
+pub returns-in_err-make_room-clause-unchanged : goal.returns-in_err-make_room-clause-unchanged
+returns-in_err-make_room-clause-unchanged g c =
+    same_world c.args.self.now.space c.make_room.new.self c.args.self.now.actors.items c.make_room.ensures.unchanged

@@ -1,0 +1,12 @@
+use Rattle.std.proofs.Common.{sym, ◌∙◌, ap, subst, suc, ℕ}
+use Rattle.rd_step.specs.World.{World}
+use Rattle.rd_step.specs.WellFormed.{IsWellFormed}
+use Rattle.rd_step.proofs.worlds.World.revert.Goals as goal
+
+pub invariant_of-self : goal.invariant_of-self
+invariant_of-self g c = record {
+  positive = c.args.self.now.positive;
+  small = c.args.self.now.small;
+  makers = c.revert_fields.ensures.number ∙ c.args.self.now.makers ∙ ap (λ (n : ℕ). suc n) (sym c.revert_fields.ensures.actors);
+  well_formed = subst (λ (w : World). IsWellFormed g.row.R w) (sym c.revert_fields.ensures.done) c.requires.well_formed;
+}

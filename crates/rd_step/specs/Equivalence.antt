@@ -1,0 +1,38 @@
+-- Causal equivalence of two lists of events: the lists are one up to the order of independent steps (Mazurkiewicz traces; for
+-- steps that are undone, Danos and Krivine 2004).
+use Rattle.std.specs.Prelude.{◌≡◌, ℕ, List, [], ◌∷◌, ◌++◌, IsPermutation, Ok}
+use Rattle.rd_step.specs.World.{World}
+use Rattle.rd_step.specs.declared.entries.Event.{Event}
+use Rattle.rd_step.specs.Step.{Stepped, step}
+use Rattle.rd_step.specs.Run.{Ran, run}
+use Rattle.rd_step.specs.Dependence.{IsFree}
+
+-- these events run from w, e steps after them, and its entry there depends on none of theirs
+pub record IsIndependentOf (R : ℕ) (w : World) (e : Event) (earlier : List Event) : Type 0 where
+  pub ran : Ran
+  pub runs : run R w earlier ≡ Ok ran
+  pub stepped : Stepped
+  pub goes : step R ran.world e ≡ Ok stepped
+  pub free : IsFree stepped.entry ran.entries
+
+-- e steps from w and stands in the list at a position where its entry depends on no earlier one; and of the list without it
+-- there, in the world after e, the last argument holds
+pub record MayBeginWith (R : ℕ) (w : World) (e : Event) (events : List Event) (Rest : World → List Event → Type 0) : Type 0 where
+  pub earlier : List Event
+  pub later : List Event
+  pub stands : events ≡ earlier ++ e ∷ later
+  pub independent : IsIndependentOf R w e earlier
+  pub stepped : Stepped
+  pub goes : step R w e ≡ Ok stepped
+  pub rest : Rest stepped.world (earlier ++ later)
+
+-- two lists of events that run from w are equivalent: both are empty, or the second may begin with the first one's first event,
+-- and without it there the rests are equivalent in the world after it
+abbrev pub IsEquivalent : ℕ → World → List Event → List Event → Type 0
+IsEquivalent R w [] fs = fs ≡ []
+IsEquivalent R w (e ∷ es) fs = MayBeginWith R w e fs (λ v rest. IsEquivalent R v es rest)
+
+-- two runs reach one world, and their entries are the same in some order
+pub record ReachesTheSame (r q : Ran) : Type 0 where
+  pub same_world : q.world ≡ r.world
+  pub same_entries : IsPermutation r.entries q.entries

@@ -1,0 +1,14 @@
+pub mod World
+pub mod Step
+pub mod Run
+pub mod Dependence
+pub mod WellFormed
+pub mod Starts
+pub mod Fields
+pub mod Room
+pub mod Touched
+pub mod Worlds
+pub mod Parts
+pub mod Laws
+pub mod Equivalence
+pub mod Prelude

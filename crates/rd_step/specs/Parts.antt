@@ -1,0 +1,79 @@
+-- A world, as it is put together from parts, and the first of its flaws.
+use Rattle.std.specs.Prelude.{◌≡◌, ℕ, suc, ◌+◌, Bool, not, ◌==◌, ◌&&◌, nat_le, if◌then◌else◌, length, Option, Some, None, is_some}
+use Rattle.std.specs.List.{list_all}
+use Rattle.rd_ring.specs.Prelude.{COUNTER_END, MOST_SEGMENTS, SLOTS, MOST_ACTORS}
+use Rattle.rd_ring.specs.declared.parts.SegmentParts.{SegmentParts}
+use Rattle.rd_ring.specs.Segments.{counters_fit}
+use Rattle.rd_segments.specs.declared.array.ArrayParts.{ArrayParts}
+use Rattle.rd_segments.specs.Lists.{by_name, count}
+use Rattle.rd_segments.specs.Parts.{contents_of_parts, each_segment}
+use Rattle.rd_actor.specs.Words.{words_fit}
+use Rattle.rd_step.specs.World.{World}
+use Rattle.rd_step.specs.declared.parts.Parts.{Parts}
+use Rattle.rd_step.specs.declared.flaws.Flaw.{Flaw}
+use Rattle.rd_step.specs.declared.flaws.Flaw.TheVariants.{Makers, PlaceNames, ActorNames, Counters, Indexes, ArrayCounters, ActorNumbers, ActorWords}
+use Rattle.rd_step.specs.declared.flaws.Unassembled.{Unassembled}
+use Rattle.rd_step.specs.declared.flaws.Unassembled.TheVariants.{Flaw as HasFlaw, NoMemory}
+use Rattle.rd_step.specs.Fields.{actor_at}
+use Rattle.rd_step.specs.WellFormed.{Presence, next_fits, names_fit, numbers_fit}
+
+-- the world that the parts are
+abbrev pub world_of_parts : {R : ℕ} → Parts R → World
+world_of_parts p = record { at = contents_of_parts p.segments.items p.qhead p.qtail p.array; actor = actor_at p.actors.items }
+
+-- which segments are there
+abbrev pub has : {R : ℕ} → Parts R → Presence
+has p s = is_some (by_name p.segments.items s)
+
+-- 1: there are 1 to 16 actors, and a list of segments for each maker from 0 to their number; that of maker 0 has one,
+-- the root, and each other at most 65,535
+abbrev pub makers_fit : {R : ℕ} → Parts R → Bool
+makers_fit p =
+    nat_le 1 (length p.actors.items) && nat_le (length p.actors.items) MOST_ACTORS
+    && (length p.segments.items == suc (length p.actors.items)) && (count p.segments.items 0 == 1)
+    && list_all (λ list. nat_le (length list.items) MOST_SEGMENTS) p.segments.items
+
+-- 2: the queue's ends, and each next that is set, name a segment that is there
+abbrev pub place_names_fit : {R : ℕ} → Parts R → Bool
+place_names_fit p = has p p.qhead && has p p.qtail && each_segment (λ s. next_fits (has p) s.next) p.segments.items
+
+-- 3: so do each actor's words
+abbrev pub actor_names_fit : {R : ℕ} → Parts R → Bool
+actor_names_fit p = list_all (names_fit (has p)) p.actors.items
+
+-- 5: each cell's index is at most this
+abbrev pub indexes_fit : {R : ℕ} → ℕ → SegmentParts R → Bool
+indexes_fit end s = list_all (λ c. nat_le c.idx end) s.cells
+
+-- 6: the array's counters are at most 64
+abbrev pub array_fits : ArrayParts → Bool
+array_fits a = nat_le a.head SLOTS && nat_le a.tail SLOTS
+
+-- the first condition that fails, in this order
+abbrev pub first_flaw : {R : ℕ} → Parts R → Option Flaw
+first_flaw {R} p =
+    if not (makers_fit p) then Some Makers
+    else if not (place_names_fit p) then Some PlaceNames
+    else if not (actor_names_fit p) then Some ActorNames
+    else if not (each_segment counters_fit p.segments.items) then Some Counters
+    else if not (each_segment (indexes_fit (COUNTER_END + R)) p.segments.items) then Some Indexes
+    else if not (array_fits p.array) then Some ArrayCounters
+    else if not (list_all (numbers_fit R) p.actors.items) then Some ActorNumbers
+    else if not (list_all words_fit p.actors.items) then Some ActorWords
+    else None
+
+-- the number of a flaw
+abbrev pub flaw_number : Flaw → ℕ
+flaw_number Makers = 1
+flaw_number PlaceNames = 2
+flaw_number ActorNames = 3
+flaw_number Counters = 4
+flaw_number Indexes = 5
+flaw_number ArrayCounters = 6
+flaw_number ActorNumbers = 7
+flaw_number ActorWords = 8
+
+-- no world is put together from these parts: they have this flaw first, or have none and memory was refused
+abbrev pub Refuses : {R : ℕ} → Parts R → Unassembled → Type 0
+Refuses p (HasFlaw flaw) = first_flaw p ≡ Some flaw
+Refuses p NoMemory = first_flaw p ≡ None

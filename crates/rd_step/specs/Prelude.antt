@@ -1,0 +1,18 @@
+-- The words that most definitions of the crates above need, in one place: those of rd_cell and rd_actor, the model's world, its
+-- step, its runs and dependence. (A crate passes on the generated names of the crates below it, and not its own.)
+pub use Rattle.rd_ring.specs.Prelude.{COUNTER_END, MOST_SEGMENTS, MOST_CELLS, SLOTS, MOST_ACTORS, MOST_STEPS}
+pub use Rattle.rd_ring.specs.Prelude.{Cell, SegName, Place, Content, ArrSlot, Operation, Answer, Access, Done, Refusal}
+pub use Rattle.rd_ring.specs.Prelude.{QHead, QTail, Head, Tail, Next, CellAt, WholeOf, ArrHead, ArrTail, ArrCell}
+pub use Rattle.rd_ring.specs.Prelude.{Name, Number, TailIs, NextIs, CellIs, Whole, Slot, Empty, Top, Held}
+pub use Rattle.rd_ring.specs.Prelude.{NoActor, NotIdle, ActorIdle, NeedsChoice, NoChoice, CounterEnd, SegmentsEnd, ArrayEnd, TooLong, NothingToUndo, NothingToRedo, NoSuchStep, Depended, NoMark, MarkTaken, TooManyMarks, BadName, NotATake, NoSuchPlace, NoMemory}
+pub use Rattle.rd_ring.specs.Prelude.{root, is_name, is_of, is_place, covers, overlaps, some_covers, some_overlap, Contents, operand, restore, is_there, content_at, Effect, effect, Performed, perform}
+pub use Rattle.rd_actor.specs.declared.actors.Actor.{Actor}
+pub use Rattle.rd_actor.specs.declared.actors.Act.{Act}
+pub use Rattle.rd_actor.specs.declared.actors.OpReply.{OpReply}
+pub use Rattle.rd_actor.specs.Table.{need, after}
+pub use Rattle.rd_step.specs.World.{World}
+pub use Rattle.rd_step.specs.Step.{Stepped, step, unstep}
+pub use Rattle.rd_step.specs.Run.{Ran, run}
+pub use Rattle.rd_step.specs.Dependence.{depends, IsFree, first_dependant, without, depends_on_one, closure, marked, unmarked, closure_of, without_closure}
+pub use Rattle.rd_step.specs.WellFormed.{IsWellFormed}
+pub use Rattle.rd_step.specs.Worlds.{model, room}

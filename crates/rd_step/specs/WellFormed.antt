@@ -1,0 +1,101 @@
+-- Well-formed worlds.
+use Rattle.std.specs.Prelude.{◌≡◌, ℕ, zero, suc, ◌+◌, ◌≤◌, Bool, true, false, not, ◌==◌, ◌&&◌, nat_lt, nat_le, Option, Some, None, is_some, IsTrue}
+use Rattle.rd_ring.specs.Prelude.{COUNTER_END, MOST_SEGMENTS, SLOTS, MOST_ACTORS, SegName, Place, QHead, QTail, Head, Tail, Next, CellAt, ArrHead, ArrTail, ArrCell, Content, Name, Number, TailIs, NextIs, CellIs, Slot, root, is_there}
+use Rattle.rd_actor.specs.declared.actors.Actor.{Actor}
+use Rattle.rd_actor.specs.Words.{words_fit}
+use Rattle.rd_step.specs.World.{World}
+
+-- which segments are there, by name
+abbrev pub Presence : Type 0
+Presence = SegName → Bool
+
+-- which places are there: the queue's ends, those of each segment that is there, and the array's. The whole of a
+-- segment is a name for its places, and no place of the map
+abbrev pub belongs : ℕ → Presence → Place → Bool
+belongs R there QHead = true
+belongs R there QTail = true
+belongs R there (Head s) = there s
+belongs R there (Tail s) = there s
+belongs R there (Next s) = there s
+belongs R there (CellAt s i) = nat_lt i R && there s
+belongs R there ArrHead = true
+belongs R there ArrTail = true
+belongs R there (ArrCell i) = nat_lt i SLOTS
+belongs R there _ = false
+
+-- whether the segment that a next names is there, if it names one
+abbrev pub next_fits : Presence → Option SegName → Bool
+next_fits there None = true
+next_fits there (Some m) = there m
+
+-- whether a content fits its place: it is of the place's kind, the segments that it names are there, a segment's
+-- counters are at most 2^62 and the array's at most 64, and a cell's index is at most 2^62 + R
+abbrev pub content_fits : ℕ → Presence → Place → Content → Bool
+content_fits R there QHead (Name s) = there s
+content_fits R there QTail (Name s) = there s
+content_fits R there (Head s) (Number n) = nat_le n COUNTER_END
+content_fits R there (Tail s) (TailIs closed n) = nat_le n COUNTER_END
+content_fits R there (Next s) (NextIs m) = next_fits there m
+content_fits R there (CellAt s i) (CellIs c) = nat_le c.idx (COUNTER_END + R)
+content_fits R there ArrHead (Number n) = nat_le n SLOTS
+content_fits R there ArrTail (Number n) = nat_le n SLOTS
+content_fits R there (ArrCell i) (Slot slot) = true
+content_fits R there _ _ = false
+
+-- whether what is at a place fits it, if anything is
+abbrev pub place_fits : ℕ → Presence → Place → Option Content → Bool
+place_fits R there p None = true
+place_fits R there p (Some c) = content_fits R there p c
+
+-- whether the segments that an actor's words name are there
+abbrev pub names_fit : Presence → Actor → Bool
+names_fit there a = there a.crq && there a.new && there a.next
+
+-- whether an actor's positions are at most 2^62, and its index at most this
+abbrev pub numbers_within : ℕ → Actor → Bool
+numbers_within end a = nat_le a.t COUNTER_END && nat_le a.h COUNTER_END && nat_le a.idx end
+
+-- whether an actor's numbers are within their ends
+abbrev pub numbers_fit : ℕ → Actor → Bool
+numbers_fit R = numbers_within (COUNTER_END + R)
+
+-- whether an actor's record fits: its names, its numbers, and its words as its control point wants them
+abbrev pub record_fits : ℕ → Presence → Actor → Bool
+record_fits R there a = names_fit there a && numbers_fit R a && words_fit a
+
+-- whether an actor's record fits, if there is such an actor
+abbrev pub actor_fits : ℕ → Presence → Option Actor → Bool
+actor_fits R there None = true
+actor_fits R there (Some a) = record_fits R there a
+
+-- there are 1 to 16 actors, numbered from 1 without a gap
+pub record IsNumbered (is_actor : ℕ → Bool) : Type 0 where
+  pub first : IsTrue (is_actor 1)
+  pub from_one : IsTrue (not (is_actor 0))
+  pub to_most : (n : ℕ) → IsTrue (is_actor n) → n ≤ MOST_ACTORS
+  pub no_gap : (n : ℕ) → IsTrue (is_actor (suc (suc n))) → IsTrue (is_actor (suc n))
+
+-- whether a segment of this maker and number may be there: the root alone has no maker, and a maker is an actor
+abbrev pub maker_fits : (ℕ → Bool) → ℕ → ℕ → Bool
+maker_fits is_actor zero n = n == 0
+maker_fits is_actor (suc m) n = is_actor (suc m) && nat_lt n MOST_SEGMENTS
+
+-- the root is there, each other segment is one that an actor made, and a maker's segments are numbered without a gap
+pub record AreMade (is_actor : ℕ → Bool) (there : Presence) : Type 0 where
+  pub rooted : IsTrue (there root)
+  pub makers : (s : SegName) → IsTrue (there s) → IsTrue (maker_fits is_actor s.maker s.n)
+  pub no_gap : (m n : ℕ) → IsTrue (there (record { maker = m; n = suc n })) → IsTrue (there (record { maker = m; n = n }))
+
+-- whether there is an actor of this number
+abbrev pub is_actor : (ℕ → Option Actor) → ℕ → Bool
+is_actor actors n = is_some (actors n)
+
+-- a world of rings of R cells is well-formed
+pub record IsWellFormed (R : ℕ) (w : World) : Type 0 where
+  pub numbered : IsNumbered (is_actor w.actor)
+  pub made : AreMade (is_actor w.actor) (is_there w.at)
+  -- just the places are there that belong there
+  pub places : (p : Place) → is_some (w.at p) ≡ belongs R (is_there w.at) p
+  -- each place's content and each actor's record fit
+  pub contents : (p : Place) → IsTrue (place_fits R (is_there w.at) p (w.at p))
+  pub actors : (n : ℕ) → IsTrue (actor_fits R (is_there w.at) (w.actor n))

@@ -1,0 +1,65 @@
+//! What may happen to a world, and what the journal keeps of it: a record, which says what its step touched.
+
+ghost use Rattle.std.specs.Prelude.{◌≡◌};
+ghost use Rattle.rd_step.specs.Touched.{made, made_at, overwritten};
+
+use rd_actor::{Act, Actor, OpReply};
+use rd_cell::{Answer, Content, Place, SegName};
+
+/// One atomic step of one actor: what is scheduled.
+#[derive(Clone, Copy, Debug, PartialEq, Eq)]
+pub struct Event {
+    /// The actor's number, from 1.
+    pub actor: u8,
+    /// What it is told to do.
+    pub act: Act,
+}
+
+/// The record of one step, with the words from before it.
+#[derive(Clone, Copy, Debug, PartialEq, Eq)]
+pub struct Entry {
+    /// The event.
+    pub event: Event,
+    /// The place of its access, or none.
+    pub place: Option<Place>,
+    /// Whether the access wrote.
+    pub wrote: bool,
+    /// What the access answered.
+    pub answer: Answer,
+    /// What the actor's call replied, if the step ended it.
+    pub reply: Option<OpReply>,
+    /// The actor's words before the step.
+    pub old_actor: Actor,
+    /// The content of the place before the step; none for a making, or if there is no place.
+    pub old_content: Option<Content>,
+}
+
+impl Entry {
+    /// The place that the step wrote, with its content from before, which a making has none of. None if the step only read.
+    pub fn overwritten(&self) -> (Option<Place>, Option<Content>)
+        ensures { result ≡ overwritten self.now }
+    {
+        if self.wrote {
+            (self.place, self.old_content)
+        } else {
+            (None, None)
+        }
+    }
+
+    /// The segment that the step made, or none if it made none.
+    pub fn made(&self) -> Option<SegName>
+        ensures { result ≡ made self.now }
+    {
+        made_at(self.place, self.old_content)
+    }
+}
+
+/// The segment that was made if this content, or none, was at this place before.
+pub(crate) fn made_at(place: Option<Place>, old_content: Option<Content>) -> Option<SegName>
+    ensures { result ≡ made_at place old_content }
+{
+    match (place, old_content) {
+        (Some(Place::Whole(name)), None) => Some(name),
+        _ => None,
+    }
+}

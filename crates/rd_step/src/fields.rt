@@ -1,0 +1,144 @@
+//! What a step and its undoing do to the fields of a world: an access, an actor's words, and what is put back.
+
+ghost use Rattle.std.specs.Prelude.{◌≡◌, ◌+◌, ◌<◌, ◌≤◌, ℕ, true, false, Some, None, Ok, Err, IsSome, IsTrue, IfOk, IfErr, OnErr, length, vec_capacity};
+ghost use Rattle.rd_ring.specs.Prelude.{MOST_CELLS, MOST_SEGMENTS, Make, Nothing, perform, restore, everywhere, HasEffect};
+ghost use Rattle.rd_segments.specs.Room.{room_used, room_returned};
+ghost use Rattle.rd_segments.specs.Space.{contents, lists, making_count, room, capacity};
+ghost use Rattle.rd_step.specs.Step.{revert, with_actor, CanPutBack};
+ghost use Rattle.rd_step.specs.Fields.{world_of_fields, actor_at, access_suits};
+ghost use Rattle.rd_step.specs.Room.{makes, IsRefused};
+
+use super::entries::made_at;
+use rd_actor::Actor;
+use rd_cell::{Access, Answer, Content, Done, Place, Refusal};
+use rd_segments::Space;
+
+/// Puts back the words of one actor and the content of one place, if one is named.
+pub fn revert_fields<const R: usize>(
+    space: &mut Space<R>,
+    actors: &mut Vec<Actor>,
+    actor: u8,
+    words: Actor,
+    place: Option<Place>,
+    content: Option<Content>,
+)
+    requires actor_there { IsSome (actor_at actors.old.items actor) }
+    requires place_there { CanPutBack (contents space.old) place content }
+    requires small { R ≤ MOST_CELLS }
+    ensures done { world_of_fields space.new actors.new.items ≡ revert (world_of_fields space.old actors.old.items) actor words place content }
+    ensures number { lists space.new ≡ lists space.old }
+    ensures capacity { capacity space.new ≡ capacity space.old }
+    ensures actors { length actors.new.items ≡ length actors.old.items }
+    ensures actor_capacity { vec_capacity actors.new ≡ vec_capacity actors.old }
+    ensures room { (m : ℕ) → room space.new m ≡ room space.old m + room_returned place content m }
+{
+    put_back(space, place, content);
+    set_actor(actors, actor, words);
+}
+
+/// Puts back the content of a place, if one is named, or takes the segment away that was made.
+fn put_back<const R: usize>(space: &mut Space<R>, place: Option<Place>, content: Option<Content>)
+    requires can { CanPutBack (contents space.old) place content }
+    requires small { R ≤ MOST_CELLS }
+    ensures done { contents space.new ≡ restore place content (contents space.old) }
+    ensures number { lists space.new ≡ lists space.old }
+    ensures capacity { capacity space.new ≡ capacity space.old }
+    ensures room { (m : ℕ) → room space.new m ≡ room space.old m + room_returned place content m }
+{
+    match (place, content) {
+        (Some(place), Some(content)) => space.restore(place, content),
+        (Some(place), None) => take_away(space, place),
+        _ => {}
+    }
+}
+
+/// Takes the segment away whose making wrote this place, the last one of its maker.
+fn take_away<const R: usize>(space: &mut Space<R>, place: Place)
+    requires can { CanPutBack (contents space.old) (Some place) None }
+    requires small { R ≤ MOST_CELLS }
+    ensures done { contents space.new ≡ restore (Some place) None (contents space.old) }
+    ensures number { lists space.new ≡ lists space.old }
+    ensures capacity { capacity space.new ≡ capacity space.old }
+    ensures room { (m : ℕ) → room space.new m ≡ room space.old m + room_returned (Some place) None m }
+{
+    if let Some(name) = made_at(Some(place), None) {
+        space.unmake(name.maker);
+    }
+}
+
+/// The record of the actor of this number, from 1.
+pub fn actor_in(actors: &Vec<Actor>, number: u8) -> Option<Actor>
+    ensures { result ≡ actor_at actors.now.items number }
+{
+    if number == 0 {
+        return None;
+    }
+    actors.get(usize::from(number) - 1).copied()
+}
+
+/// Gives the actor of this number another record.
+pub fn set_actor(actors: &mut Vec<Actor>, number: u8, words: Actor)
+    requires { IsSome (actor_at actors.old.items number) }
+    ensures done { actor_at actors.new.items ≡ with_actor number words (actor_at actors.old.items) }
+    ensures number { length actors.new.items ≡ length actors.old.items }
+    ensures capacity { vec_capacity actors.new ≡ vec_capacity actors.old }
+{
+    actors[usize::from(number) - 1] = words;
+}
+
+/// Makes an access, for this actor.
+pub fn perform<const R: usize>(
+    space: &mut Space<R>,
+    actor: u8,
+    access: Access,
+) -> Result<Done, Refusal>
+    requires small { R ≤ MOST_CELLS }
+    requires maker_there { actor < lists space.old }
+    requires counted { making_count space.old actor ≤ MOST_SEGMENTS }
+    requires access_suits { IsTrue (access_suits access) }
+    ensures ok { IfOk result (λ done. HasEffect everywhere (perform R actor (contents space.old) access) done (contents space.old) (contents space.new)) }
+    ensures err { IfErr result (λ e. IsRefused (perform R actor (contents space.old) access) (makes access) (room space.old actor) e) }
+    ensures unchanged { OnErr result (contents space.new ≡ contents space.old) }
+    ensures number { lists space.new ≡ lists space.old }
+    ensures room { (m : ℕ) → room space.old m ≤ room space.new m + room_used (makes access) actor m }
+    ensures kept { OnErr result ((m : ℕ) → room space.old m ≤ room space.new m) }
+{
+    match access {
+        Access::NoPlace => Ok(nothing_done()),
+        Access::At(place, operation) => space.operate(place, operation),
+        Access::Make(value) => make(space, actor, value),
+    }
+}
+
+/// What a step without an access did.
+fn nothing_done() -> Done
+    ensures { result ≡ record { place = None; old = None; answer = Nothing; wrote = false } }
+{
+    Done {
+        place: None,
+        old: None,
+        answer: Answer::Nothing,
+        wrote: false,
+    }
+}
+
+/// Makes the actor's next segment, which holds this value.
+fn make<const R: usize>(space: &mut Space<R>, actor: u8, value: u64) -> Result<Done, Refusal>
+    requires small { R ≤ MOST_CELLS }
+    requires maker_there { actor < lists space.old }
+    requires counted { making_count space.old actor ≤ MOST_SEGMENTS }
+    ensures ok { IfOk result (λ done. HasEffect everywhere (perform R actor (contents space.old) (Make value)) done (contents space.old) (contents space.new)) }
+    ensures err { IfErr result (λ e. IsRefused (perform R actor (contents space.old) (Make value)) true (room space.old actor) e) }
+    ensures unchanged { OnErr result (contents space.new ≡ contents space.old) }
+    ensures number { lists space.new ≡ lists space.old }
+    ensures room { (m : ℕ) → room space.old m ≤ room space.new m + room_used true actor m }
+    ensures kept { OnErr result ((m : ℕ) → room space.old m ≤ room space.new m) }
+{
+    let name = space.make(actor, value)?;
+    Ok(Done {
+        place: Some(Place::Whole(name)),
+        old: None,
+        answer: Answer::Made(name),
+        wrote: true,
+    })
+}

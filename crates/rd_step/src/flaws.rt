@@ -1,0 +1,285 @@
+//! Why parts make no world: the eight conditions of a well-formed world, in the order in which they are tried.
+
+ghost use Rattle.std.specs.Prelude.{◌≡◌, ◌≤◌, nat_le, length};
+ghost use Rattle.std.specs.List.{list_all};
+ghost use Rattle.rd_ring.specs.Prelude.{MOST_CELLS};
+ghost use Rattle.rd_ring.specs.Segments.{counters_fit};
+ghost use Rattle.rd_segments.specs.Parts.{each_segment};
+ghost use Rattle.rd_actor.specs.Words.{words_fit};
+ghost use Rattle.rd_step.specs.WellFormed.{names_fit, next_fits, numbers_within};
+ghost use Rattle.rd_step.specs.Parts.{has, makers_fit, place_names_fit, actor_names_fit, indexes_fit, array_fits, first_flaw};
+
+use super::parts::Parts;
+use rd_actor::Actor;
+use rd_cell::SegName;
+use rd_cell::limits::{COUNTER_END, MOST_ACTORS, MOST_SEGMENTS, SLOTS};
+use rd_ring::SegmentParts;
+use rd_segments::ArrayParts;
+
+/// The first condition of a well-formed world that parts fail, by its number 1 to 8.
+#[derive(Clone, Copy, Debug, PartialEq, Eq)]
+pub enum Flaw {
+    /// 1: there are not 1 to 16 actors, or there is not a list of segments for each maker from 0 to their number, or
+    /// maker 0 has not just one segment, or another maker has more than 65,535.
+    Makers,
+    /// 2: one of the queue's ends, or a next, names a segment that is not there.
+    PlaceNames,
+    /// 3: an actor's words name a segment that is not there.
+    ActorNames,
+    /// 4: a segment's counter is above 2^62.
+    Counters,
+    /// 5: a cell's index is above 2^62 + `R`.
+    Indexes,
+    /// 6: a counter of the array is above 64.
+    ArrayCounters,
+    /// 7: an actor's t or h is above 2^62, or its idx above 2^62 + `R`.
+    ActorNumbers,
+    /// 8: an actor's words do not fit its control point.
+    ActorWords,
+}
+
+impl Flaw {
+    ghost use Rattle.rd_step.specs.Parts.{flaw_number};
+
+    /// The flaw's number, 1 to 8.
+    pub fn number(self) -> u8
+        ensures { result ≡ flaw_number self }
+    {
+        match self {
+            Flaw::Makers => 1,
+            Flaw::PlaceNames => 2,
+            Flaw::ActorNames => 3,
+            Flaw::Counters => 4,
+            Flaw::Indexes => 5,
+            Flaw::ArrayCounters => 6,
+            Flaw::ActorNumbers => 7,
+            Flaw::ActorWords => 8,
+        }
+    }
+}
+
+/// Why no world was put together from parts.
+#[derive(Clone, Copy, Debug, PartialEq, Eq)]
+pub enum Unassembled {
+    /// The parts make no well-formed world.
+    Flaw(Flaw),
+    /// Memory was refused.
+    NoMemory,
+}
+
+/// The first flaw of these parts; none if they make a well-formed world.
+pub fn first_flaw<const R: usize>(parts: &Parts<R>) -> Option<Flaw>
+    requires { R ≤ MOST_CELLS }
+    ensures { result ≡ first_flaw parts.now }
+{
+    let index_end = COUNTER_END + R as u64;
+    if !makers_fit(parts) {
+        Some(Flaw::Makers)
+    } else if !place_names_fit(parts) {
+        Some(Flaw::PlaceNames)
+    } else if !actor_names_fit(parts) {
+        Some(Flaw::ActorNames)
+    } else if !all_counters_fit(parts) {
+        Some(Flaw::Counters)
+    } else if !all_indexes_fit(parts, index_end) {
+        Some(Flaw::Indexes)
+    } else if !array_fits(&parts.array) {
+        Some(Flaw::ArrayCounters)
+    } else if !actor_numbers_fit(&parts.actors, index_end) {
+        Some(Flaw::ActorNumbers)
+    } else if !actor_words_fit(&parts.actors) {
+        Some(Flaw::ActorWords)
+    } else {
+        None
+    }
+}
+
+/// Whether there are 1 to 16 actors, and a list of so many segments as may be for each maker.
+fn makers_fit<const R: usize>(parts: &Parts<R>) -> bool
+    requires { R ≤ MOST_CELLS }
+    ensures { result ≡ makers_fit parts.now }
+{
+    let actors = parts.actors.len();
+    1 <= actors
+        && actors <= MOST_ACTORS
+        && parts.segments.len() == actors + 1
+        && parts.segments[0].len() == 1
+        && lists_fit(&parts.segments)
+}
+
+/// Whether each list has so many segments as a maker may have made.
+fn lists_fit<const R: usize>(makers: &[Vec<SegmentParts<R>>]) -> bool
+    requires { R ≤ MOST_CELLS }
+    ensures { result ≡ list_all (λ list. nat_le (length list.items) MOST_SEGMENTS) makers.now }
+{
+    makers.iter().all(
+        |list| -> bool
+            ensures { result ≡ nat_le (length list.now.items) MOST_SEGMENTS }
+        { few_segments(list) },
+    )
+}
+
+/// Whether a list has so many segments as a maker may have made.
+fn few_segments<const R: usize>(list: &Vec<SegmentParts<R>>) -> bool
+    ensures { result ≡ nat_le (length list.now.items) MOST_SEGMENTS }
+{
+    list.len() <= MOST_SEGMENTS
+}
+
+/// Whether the queue's ends and each next that is set name a segment that is there.
+fn place_names_fit<const R: usize>(parts: &Parts<R>) -> bool
+    requires { R ≤ MOST_CELLS }
+    ensures { result ≡ place_names_fit parts.now }
+{
+    has(parts, parts.qhead) && has(parts, parts.qtail) && all_nexts_fit(parts)
+}
+
+/// Whether each next that is set names a segment that is there.
+fn all_nexts_fit<const R: usize>(parts: &Parts<R>) -> bool
+    requires { R ≤ MOST_CELLS }
+    ensures { result ≡ each_segment (λ s. next_fits (has parts.now) s.next) parts.now.segments.items }
+{
+    parts.segments.iter().all(
+        |list| -> bool
+            ensures { result ≡ list_all (λ s. next_fits (has parts.entry.now) s.next) list.now.items }
+        { nexts_fit(parts, list) },
+    )
+}
+
+/// Whether each next of a list that is set names a segment that is there.
+fn nexts_fit<const R: usize>(parts: &Parts<R>, list: &[SegmentParts<R>]) -> bool
+    ensures { result ≡ list_all (λ s. next_fits (has parts.now) s.next) list.now }
+{
+    list.iter().all(
+        |segment| -> bool
+            ensures { result ≡ next_fits (has parts.entry.now) segment.now.next }
+        { next_fits(parts, segment.next) },
+    )
+}
+
+/// Whether there is a segment of this name.
+fn has<const R: usize>(parts: &Parts<R>, name: SegName) -> bool
+    ensures { result ≡ has parts.now name }
+{
+    match parts.segments.get(usize::from(name.maker)) {
+        None => false,
+        Some(list) => list.get(name.n as usize).is_some(),
+    }
+}
+
+/// Whether the segment is there that a next names, if it names one.
+fn next_fits<const R: usize>(parts: &Parts<R>, next: Option<SegName>) -> bool
+    ensures { result ≡ next_fits (has parts.now) next }
+{
+    match next {
+        None => true,
+        Some(name) => has(parts, name),
+    }
+}
+
+/// Whether the segments are there that the actors' words name.
+fn actor_names_fit<const R: usize>(parts: &Parts<R>) -> bool
+    requires { R ≤ MOST_CELLS }
+    ensures { result ≡ actor_names_fit parts.now }
+{
+    parts.actors.iter().all(
+        |actor| -> bool
+            ensures { result ≡ names_fit (has parts.entry.now) actor.now }
+        { names_fit(parts, actor) },
+    )
+}
+
+/// Whether the segments are there that an actor's words name.
+fn names_fit<const R: usize>(parts: &Parts<R>, actor: &Actor) -> bool
+    ensures { result ≡ names_fit (has parts.now) actor.now }
+{
+    has(parts, actor.crq) && has(parts, actor.new) && has(parts, actor.next)
+}
+
+/// Whether each segment's counters are at most 2^62.
+fn all_counters_fit<const R: usize>(parts: &Parts<R>) -> bool
+    requires { R ≤ MOST_CELLS }
+    ensures { result ≡ each_segment counters_fit parts.now.segments.items }
+{
+    parts.segments.iter().all(
+        |list| -> bool
+            ensures { result ≡ list_all counters_fit list.now.items }
+        { counters_fit(list) },
+    )
+}
+
+/// Whether the counters of each segment of a list are at most 2^62.
+fn counters_fit<const R: usize>(list: &[SegmentParts<R>]) -> bool
+    ensures { result ≡ list_all counters_fit list.now }
+{
+    list.iter().all(
+        |segment| -> bool
+            ensures { result ≡ counters_fit segment.now }
+        { segment_counters_fit(segment) },
+    )
+}
+
+/// Whether a segment's counters are at most 2^62.
+fn segment_counters_fit<const R: usize>(segment: &SegmentParts<R>) -> bool
+    ensures { result ≡ counters_fit segment.now }
+{
+    segment.head <= COUNTER_END && segment.tail <= COUNTER_END
+}
+
+/// Whether each cell's index is at most this.
+fn all_indexes_fit<const R: usize>(parts: &Parts<R>, end: u64) -> bool
+    requires { R ≤ MOST_CELLS }
+    ensures { result ≡ each_segment (indexes_fit end) parts.now.segments.items }
+{
+    parts.segments.iter().all(
+        |list| -> bool
+            ensures { result ≡ list_all (indexes_fit end) list.now.items }
+        { list_indexes_fit(list, end) },
+    )
+}
+
+/// Whether the index of each cell of each segment of a list is at most this.
+fn list_indexes_fit<const R: usize>(list: &[SegmentParts<R>], end: u64) -> bool
+    ensures { result ≡ list_all (indexes_fit end) list.now }
+{
+    list.iter().all(
+        |segment| -> bool
+            ensures { result ≡ indexes_fit end segment.now }
+        { indexes_fit(segment, end) },
+    )
+}
+
+/// Whether the index of each cell of a segment is at most this.
+fn indexes_fit<const R: usize>(segment: &SegmentParts<R>, end: u64) -> bool
+    ensures { result ≡ indexes_fit end segment.now }
+{
+    segment.cells[..].iter().all(|cell| cell.idx <= end)
+}
+
+/// Whether the array's counters are at most 64.
+fn array_fits(array: &ArrayParts) -> bool
+    ensures { result ≡ array_fits array.now }
+{
+    array.head <= SLOTS as u64 && array.tail <= SLOTS as u64
+}
+
+/// Whether each actor's t and h are at most 2^62, and its idx at most this.
+fn actor_numbers_fit(actors: &[Actor], end: u64) -> bool
+    ensures { result ≡ list_all (numbers_within end) actors.now }
+{
+    actors.iter().all(|actor| numbers_fit(actor, end))
+}
+
+/// Whether an actor's t and h are at most 2^62, and its idx at most this.
+fn numbers_fit(actor: &Actor, end: u64) -> bool
+    ensures { result ≡ numbers_within end actor.now }
+{
+    actor.t <= COUNTER_END && actor.h <= COUNTER_END && actor.idx <= end
+}
+
+/// Whether each actor's words fit its control point.
+fn actor_words_fit(actors: &[Actor]) -> bool
+    ensures { result ≡ list_all words_fit actors.now }
+{
+    actors.iter().all(|actor| actor.words_fit())
+}

@@ -1,0 +1,20 @@
+//! The simulated machine: the world, and the plain step of one actor.
+//!
+//! `specs/` has the model that the whole debugger is proved against: the step of a world, the run of a list of
+//! events, dependence and removal. `World` keeps vectors and arrays, and its contracts show it as the model's map.
+//! The laws of the model stand as contracts of the functions in `laws`.
+#![tactic(auto)]
+
+pub mod entries;
+mod fields;
+pub mod flaws;
+pub mod laws;
+pub mod parts;
+pub mod worlds;
+
+pub use entries::{Entry, Event};
+pub use flaws::{Flaw, Unassembled};
+pub use parts::Parts;
+pub use rd_ring::SegmentParts;
+pub use rd_segments::ArrayParts;
+pub use worlds::World;

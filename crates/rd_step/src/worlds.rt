@@ -1,0 +1,213 @@
+//! The world: the space and the actors, and the step.
+
+ghost use Rattle.std.specs.Prelude.{◌≡◌, ◌+◌, ◌<◌, ◌≤◌, ◌↔◌, ℕ, suc, None, Ok, Err, IsSome, IfOk, IfErr, OnOk, OnErr, length};
+ghost use Rattle.rd_ring.specs.Prelude.{MOST_CELLS, MOST_ACTORS, content_at};
+ghost use Rattle.rd_segments.specs.Room.{room_used, room_returned};
+ghost use Rattle.rd_segments.specs.Space.{lists};
+ghost use Rattle.rd_step.specs.Step.{step, revert, CanPutBack};
+ghost use Rattle.rd_step.specs.Fields.{world_of_fields};
+ghost use Rattle.rd_step.specs.Starts.{fresh_world, poised_world};
+ghost use Rattle.rd_step.specs.Room.{makes_segment, IsRefused};
+ghost use Rattle.rd_step.specs.WellFormed.{IsWellFormed};
+ghost use Rattle.rd_step.specs.Parts.{world_of_parts, first_flaw, Refuses};
+
+use super::entries::{Entry, Event};
+use super::fields::{actor_in, perform, revert_fields, set_actor};
+use super::flaws::{Unassembled, first_flaw};
+use super::parts::Parts;
+use rd_actor::{Actor, after, need};
+use rd_cell::{Content, Place, Refusal};
+use rd_segments::Space;
+use std::alloc::Global;
+
+/// A well-formed world of rings of `R` cells, 1 to 64, with 1 to 16 actors.
+#[derive(Drop)]
+pub struct World<const R: usize> {
+    space: Space<R>,
+    actors: Vec<Actor>,
+    ghost positive: { 1 ≤ R },
+    ghost small: { R ≤ MOST_CELLS },
+    ghost makers: { lists space ≡ suc (length actors.items) },
+    ghost well_formed: { IsWellFormed R (world_of_fields space actors.items) },
+}
+
+impl<const R: usize> World<R> {
+    ghost use Rattle.rd_step.specs.Worlds.{model, room};
+
+    /// The fresh world: the root alone is there, fresh, and so many actors are idle.
+    ///
+    /// # Errors
+    ///
+    /// `NoMemory` if memory was refused.
+    pub fn fresh(alloc: Global, actors: u8) -> Result<World<R>, Refusal>
+        requires some { 1 ≤ actors }
+        requires few { actors ≤ MOST_ACTORS }
+        requires positive { 1 ≤ R }
+        requires small { R ≤ MOST_CELLS }
+        ensures ok { IfOk result (λ world. model world ≡ fresh_world R actors) }
+        ensures err { IfErr result (λ refusal. refusal ≡ Refusal.NoMemory) }
+    {
+        let mut list = Vec::with_capacity(alloc, usize::from(actors))?;
+        for _ in 0..actors {
+            list.push_reserved(Actor::idle());
+        }
+        let space = Space::fresh(alloc, actors)?;
+        Ok(World {
+            space,
+            actors: list,
+        })
+    }
+
+    /// The poised world: the fresh world, but each actor a is about to draw a position for the value a on the root.
+    ///
+    /// # Errors
+    ///
+    /// `NoMemory` if memory was refused.
+    pub fn poised(alloc: Global, actors: u8) -> Result<World<R>, Refusal>
+        requires some { 1 ≤ actors }
+        requires few { actors ≤ MOST_ACTORS }
+        requires positive { 1 ≤ R }
+        requires small { R ≤ MOST_CELLS }
+        ensures ok { IfOk result (λ world. model world ≡ poised_world R actors) }
+        ensures err { IfErr result (λ refusal. refusal ≡ Refusal.NoMemory) }
+    {
+        let mut list = Vec::with_capacity(alloc, usize::from(actors))?;
+        for number in 0..actors {
+            list.push_reserved(Actor::poised(u64::from(number) + 1));
+        }
+        let space = Space::fresh(alloc, actors)?;
+        Ok(World {
+            space,
+            actors: list,
+        })
+    }
+
+    /// The world of these parts.
+    ///
+    /// # Errors
+    ///
+    /// `Flaw` exactly if the parts make no well-formed world, with the first condition that they fail; else `NoMemory` if
+    /// memory was refused.
+    pub fn assemble(alloc: Global, parts: Parts<R>) -> Result<World<R>, Unassembled>
+        requires positive { 1 ≤ R }
+        requires small { R ≤ MOST_CELLS }
+        ensures ok { IfOk result (λ world. model world ≡ world_of_parts parts.entry) }
+        ensures flawless { OnOk result (first_flaw parts.entry ≡ None) }
+        ensures err { IfErr result (λ e. Refuses parts.entry e) }
+    {
+        if let Some(flaw) = first_flaw(&parts) {
+            return Err(Unassembled::Flaw(flaw));
+        }
+        match Space::from_parts(
+            alloc,
+            &parts.segments,
+            parts.qhead,
+            parts.qtail,
+            parts.array,
+        ) {
+            Err(_) => Err(Unassembled::NoMemory),
+            Ok(space) => Ok(World {
+                space,
+                actors: parts.actors,
+            }),
+        }
+    }
+
+    /// What is at a place, or none if it is not there. The whole of a segment that is there has `Whole`.
+    pub fn content(&self, place: Place) -> Option<Content>
+        ensures { result ≡ content_at (model self.now).at place }
+    {
+        self.space.content(place)
+    }
+
+    /// The words of the actor of this number, or none if there is no such actor.
+    pub fn actor(&self, number: u8) -> Option<Actor>
+        ensures { result ≡ (model self.now).actor number }
+    {
+        actor_in(&self.actors, number)
+    }
+
+    /// The number of actors, 1 to 16.
+    pub fn actors(&self) -> u8
+        ensures within { result ≤ MOST_ACTORS }
+        ensures count { (n : ℕ) → (IsSome ((model self.now).actor (suc n)) ↔ (n < result)) }
+    {
+        self.actors.len() as u8
+    }
+
+    /// Makes one event happen: the plain step of its actor. Only a step that makes a segment takes memory, and none
+    /// if its maker has room.
+    ///
+    /// # Errors
+    ///
+    /// In this order: `NoActor`; `NotIdle`, `Idle`, `NeedsChoice`, `NoChoice`, by the actor's control point;
+    /// `CounterEnd` for a fetch-and-add on a segment's counter that is 2^62, `ArrayEnd` for one on a counter of the array
+    /// that is 64, `SegmentsEnd` for a making by an actor that has made 65,535 segments; `NoMemory` if memory was refused
+    /// for a making that nothing else refuses. The world is then as before.
+    pub fn step(&mut self, event: Event) -> Result<Entry, Refusal>
+        ensures ok { IfOk result (λ entry. step R (model self.old) event ≡ Ok (record { world = model self.new; entry = entry })) }
+        ensures err { IfErr result (λ refusal. IsRefused (step R (model self.old) event) (makes_segment R (model self.old) event) (room self.old event.actor) refusal) }
+        ensures unchanged { OnErr result (model self.new ≡ model self.old) }
+        ensures room { (m : ℕ) → room self.old m ≤ room self.new m + room_used (makes_segment R (model self.old) event) event.actor m }
+        ensures kept { OnErr result ((m : ℕ) → room self.old m ≤ room self.new m) }
+    {
+        let actor = match actor_in(&self.actors, event.actor) {
+            None => return Err(Refusal::NoActor),
+            Some(actor) => actor,
+        };
+        let access = need::<R>(&actor, event.act)?;
+        let done = perform(&mut self.space, event.actor, access)?;
+        let (next, reply) = after::<R>(&actor, event.act, done.answer);
+        set_actor(&mut self.actors, event.actor, next);
+        Ok(Entry {
+            event,
+            place: done.place,
+            wrote: done.wrote,
+            answer: done.answer,
+            reply,
+            old_actor: actor,
+            old_content: done.old,
+        })
+    }
+
+    /// Sets the words of one actor and the content of one place, if one is named, and changes nothing else.
+    pub fn revert(
+        &mut self,
+        actor: u8,
+        words: Actor,
+        place: Option<Place>,
+        content: Option<Content>,
+    )
+        requires actor_there { IsSome ((model self.old).actor actor) }
+        requires place_there { CanPutBack (model self.old).at place content }
+        requires well_formed { IsWellFormed R (revert (model self.old) actor words place content) }
+        ensures done { model self.new ≡ revert (model self.old) actor words place content }
+        ensures room { (m : ℕ) → room self.new m ≡ room self.old m + room_returned place content m }
+    {
+        revert_fields(
+            &mut self.space,
+            &mut self.actors,
+            actor,
+            words,
+            place,
+            content,
+        );
+    }
+
+    /// Gives an actor room for so many makings, which are then not refused for memory: a making uses the room of one, taking
+    /// one away gives it back, and no other call lessens it.
+    ///
+    /// # Errors
+    ///
+    /// `NoMemory` if memory was refused. The world does not change.
+    pub fn make_room(&mut self, actor: u8, more: usize) -> Result<(), Refusal>
+        requires { IsSome ((model self.old).actor actor) }
+        ensures ok { OnOk result (more ≤ room self.new actor) }
+        ensures err { IfErr result (λ e. (e ≡ Refusal.NoMemory) × (room self.old actor < more)) }
+        ensures unchanged { model self.new ≡ model self.old }
+        ensures room { (m : ℕ) → room self.old m ≤ room self.new m }
+    {
+        self.space.make_room(actor, more)?;
+        Ok(())
+    }
+}

@@ -1,0 +1,261 @@
+//! The tests of the world, and what they share: an actor and a world of rings of four cells that are put together from
+//! data.
+
+mod assembling;
+mod limits;
+mod rows;
+mod starts;
+mod touched;
+
+use rd_actor::{Act, Actor, Op, Pc};
+use rd_cell::{Answer, ArrSlot, Cell, Content, Place, Refusal, SegName};
+use rd_ring::SegmentParts;
+use rd_segments::ArrayParts;
+use rd_step::entries::{Entry, Event};
+use rd_step::flaws::{Flaw, Unassembled};
+use rd_step::parts::Parts;
+use rd_step::worlds::World;
+use std::alloc::{AllocError, Global};
+use std::test::Fail;
+
+/// The step of the first actor.
+const GO: Event = Event {
+    actor: 1,
+    act: Act::Go,
+};
+
+/// Where a segment's counters end: 2^62.
+const END: u64 = 4_611_686_018_427_387_904;
+
+const ROOT: SegName = SegName::ROOT;
+
+/// The one segment that is there beside the root in a world that is put together here.
+const FIRST: SegName = SegName { maker: 1, n: 0 };
+
+/// The calls.
+const ENQ: Option<Op> = Some(Op::Enq(7));
+
+const DEQ: Option<Op> = Some(Op::Deq);
+
+const AENQ: Option<Op> = Some(Op::AEnq(7));
+
+const ADEQ: Option<Op> = Some(Op::ADeq);
+
+/// One word of an actor, with its value.
+#[derive(Clone, Copy)]
+enum Word {
+    Crq(SegName),
+    New(SegName),
+    Next(SegName),
+    T(u64),
+    H(u64),
+    Closed(bool),
+    Val(u64),
+    Safe(bool),
+    Idx(u64),
+    Pass(u8),
+}
+
+/// The record of an actor at this control point of this call, with these words, the others as in the idle record.
+fn actor_at(pc: Pc, op: Option<Op>, words: &[Word]) -> Actor {
+    let idle = Actor::idle();
+    with_words(Actor { pc, op, ..idle }, words)
+}
+
+/// The record with these words.
+fn with_words(actor: Actor, words: &[Word]) -> Actor {
+    let mut changed = actor;
+    for word in words {
+        match *word {
+            Word::Crq(name) => changed.crq = name,
+            Word::New(name) => changed.new = name,
+            Word::Next(name) => changed.next = name,
+            Word::T(t) => changed.t = t,
+            Word::H(h) => changed.h = h,
+            Word::Closed(closed) => changed.closed = closed,
+            Word::Val(value) => changed.val = Some(value),
+            Word::Safe(safe) => changed.safe = safe,
+            Word::Idx(idx) => changed.idx = idx,
+            Word::Pass(pass) => changed.pass = pass,
+        }
+    }
+    changed
+}
+
+/// The words of a world beside its actor: the root's, the queue's ends and the array's.
+struct Places {
+    root: SegmentParts<4>,
+    qhead: SegName,
+    qtail: SegName,
+    array: ArrayParts,
+}
+
+impl Drop for Places {
+    fn drop(self) {
+        let Places {
+            root: _,
+            qhead: _,
+            qtail: _,
+            array: _,
+        } = self;
+    }
+}
+
+/// A place of the root, the queue's ends or the array, and what is put there.
+type Put = (Place, Content);
+
+/// Puts a content at its place.
+fn put(places: &mut Places, place: Place, content: Content) {
+    match (place, content) {
+        (Place::QHead, Content::Name(name)) => places.qhead = name,
+        (Place::QTail, Content::Name(name)) => places.qtail = name,
+        (Place::Head(_), Content::Number(count)) => places.root.head = count,
+        (Place::Tail(_), Content::Tail { closed, count }) => {
+            places.root.closed = closed;
+            places.root.tail = count;
+        }
+        (Place::Next(_), Content::Next(next)) => places.root.next = next,
+        (Place::Cell(_, i), Content::Cell(cell)) => {
+            if i < 4 {
+                places.root.cells[usize::from(i)] = cell;
+            }
+        }
+        (Place::ArrHead, Content::Number(count)) => places.array.head = count,
+        (Place::ArrTail, Content::Number(count)) => places.array.tail = count,
+        (Place::ArrCell(i), Content::Slot(slot)) => {
+            if i < 64 {
+                places.array.cells[usize::from(i)] = slot;
+            }
+        }
+        _ => {}
+    }
+}
+
+/// The parts of a world with this one actor, the root and `FIRST`, and these contents; all else is fresh.
+fn parts(alloc: Global, actor: Actor, puts: &[Put]) -> Result<Parts<4>, AllocError> {
+    let mut places = Places {
+        root: ring(),
+        qhead: ROOT,
+        qtail: ROOT,
+        array: ArrayParts::fresh(),
+    };
+    for (place, content) in puts {
+        put(&mut places, *place, *content);
+    }
+    let roots = Vec::from_array(alloc, [places.root])?;
+    let made = Vec::from_array(alloc, [ring()])?;
+    Ok(Parts {
+        actors: Vec::from_array(alloc, [actor])?,
+        segments: Vec::from_array(alloc, [roots, made])?,
+        qhead: places.qhead,
+        qtail: places.qtail,
+        array: places.array,
+    })
+}
+
+/// A fresh ring.
+fn ring() -> SegmentParts<4> {
+    SegmentParts {
+        head: 0,
+        tail: 0,
+        closed: false,
+        next: None,
+        cells: [EMPTY_0, EMPTY_1, EMPTY_2, EMPTY_3],
+    }
+}
+
+const EMPTY_0: Cell = Cell {
+    safe: true,
+    idx: 0,
+    val: None,
+};
+
+const EMPTY_1: Cell = Cell { idx: 1, ..EMPTY_0 };
+
+const EMPTY_2: Cell = Cell { idx: 2, ..EMPTY_0 };
+
+const EMPTY_3: Cell = Cell { idx: 3, ..EMPTY_0 };
+
+/// The step of this actor.
+fn go(actor: u8) -> Event {
+    Event {
+        actor,
+        act: Act::Go,
+    }
+}
+
+/// An open tail with this count.
+fn open(count: u64) -> Content {
+    Content::Tail {
+        closed: false,
+        count,
+    }
+}
+
+#[test]
+fn two_adds_draw_two_positions(rt: HostRuntime) -> Result<(), Fail> {
+    let mut world = World::<4>::poised(rt.alloc(), 4)?;
+    let tail = Place::Tail(SegName::ROOT);
+    let first = Entry {
+        event: go(1),
+        place: Some(tail),
+        wrote: true,
+        answer: Answer::Found(open(0)),
+        reply: None,
+        old_actor: Actor::poised(1),
+        old_content: Some(open(0)),
+    };
+    assert_eq!(rt; world.step(go(1)), Ok(first));
+    let second = Entry {
+        event: go(2),
+        answer: Answer::Found(open(1)),
+        old_actor: Actor::poised(2),
+        old_content: Some(open(1)),
+        ..first
+    };
+    assert_eq!(rt; world.step(go(2)), Ok(second));
+    let drew = Actor {
+        pc: Pc::E5,
+        t: 1,
+        ..Actor::poised(2)
+    };
+    assert_eq!(rt; world.actor(2), Some(drew));
+    assert_eq!(rt; world.actor(3), Some(Actor::poised(3)));
+    assert_eq!(rt; world.content(tail), Some(open(2)));
+    Ok(())
+}
+
+#[test]
+fn an_actor_that_is_not_there_is_refused_before_one_that_is_idle(
+    rt: HostRuntime,
+) -> Result<(), Fail> {
+    let mut poised = World::<4>::poised(rt.alloc(), 4)?;
+    assert_eq!(rt; poised.step(go(0)), Err(Refusal::NoActor));
+    assert_eq!(rt; poised.step(go(5)), Err(Refusal::NoActor));
+    let mut fresh = World::<4>::fresh(rt.alloc(), 1)?;
+    assert_eq!(rt; fresh.step(go(2)), Err(Refusal::NoActor));
+    assert_eq!(rt; fresh.step(go(1)), Err(Refusal::Idle));
+    Ok(())
+}
+
+/// Makes a step, and puts the words of its entry back.
+fn step_and_revert(world: &mut World<4>, event: Event) -> Result<Entry, Refusal> {
+    let entry = world.step(event)?;
+    world.revert(
+        entry.event.actor,
+        entry.old_actor,
+        entry.place,
+        entry.old_content,
+    );
+    Ok(entry)
+}
+
+#[test]
+fn a_step_is_reverted_by_the_words_of_its_entry(rt: HostRuntime) -> Result<(), Fail> {
+    let mut world = World::<4>::poised(rt.alloc(), 4)?;
+    let entry = step_and_revert(&mut world, go(2))?;
+    assert_eq!(rt; entry.old_content, Some(open(0)));
+    assert_eq!(rt; world.actor(2), Some(Actor::poised(2)));
+    assert_eq!(rt; world.content(Place::Tail(SegName::ROOT)), Some(open(0)));
+    Ok(())
+}

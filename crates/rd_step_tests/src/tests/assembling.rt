@@ -1,0 +1,322 @@
+//! The tests of worlds that are put together from parts: what is found where it was put, and which flaw is named.
+
+use super::Word::{Closed, Crq, H, Idx, New, Next, Pass, Safe, T, Val};
+use super::*;
+use rd_step::flaws::first_flaw;
+
+/// The flaw of the parts with this actor and these contents, if they have one.
+fn flaw_of(alloc: Global, actor: Actor, puts: &[Put]) -> Result<Option<Flaw>, Fail> {
+    flaw_in(World::assemble(alloc, parts(alloc, actor, puts)?))
+}
+
+/// The flaw for which no world was put together.
+fn flaw_in<const R: usize>(assembled: Result<World<R>, Unassembled>) -> Result<Option<Flaw>, Fail> {
+    match assembled {
+        Ok(_) => Ok(None),
+        Err(Unassembled::Flaw(flaw)) => Ok(Some(flaw)),
+        Err(Unassembled::NoMemory) => Err("no memory")?,
+    }
+}
+
+/// A segment that is not there.
+const UNMADE: SegName = SegName { maker: 1, n: 1 };
+
+const OPEN_END: Content = Content::Tail {
+    closed: false,
+    count: END,
+};
+
+const PAST_END: Content = Content::Tail {
+    closed: true,
+    count: END + 1,
+};
+
+/// A cell whose index is one round past the end of the counters, and one past that.
+const LAST_ROUND: Content = Content::Cell(Cell {
+    idx: END + 4,
+    ..EMPTY_0
+});
+
+const PAST_ROUND: Content = Content::Cell(Cell {
+    idx: END + 5,
+    ..EMPTY_0
+});
+
+/// Contents that are as they may be, each at its place.
+const FITTING: &[Put] = &[
+    (Place::QHead, Content::Name(FIRST)),
+    (Place::QTail, Content::Name(FIRST)),
+    (Place::Head(ROOT), Content::Number(END)),
+    (Place::Tail(ROOT), OPEN_END),
+    (Place::Next(ROOT), Content::Next(Some(FIRST))),
+    (Place::Cell(ROOT, 3), LAST_ROUND),
+    (Place::ArrHead, Content::Number(64)),
+    (Place::ArrTail, Content::Number(64)),
+    (Place::ArrCell(63), Content::Slot(ArrSlot::Value(8))),
+];
+
+#[test]
+fn each_part_is_found_at_its_place(rt: HostRuntime) -> Result<(), Fail> {
+    let world = World::assemble(rt.alloc(), parts(rt.alloc(), Actor::poised(9), FITTING)?)?;
+    for (place, content) in FITTING {
+        assert_eq!(rt; world.content(*place), Some(*content), "{place:?}");
+    }
+    assert_eq!(rt; world.actors(), 1);
+    assert_eq!(rt; world.actor(1), Some(Actor::poised(9)));
+    assert_eq!(rt; world.content(Place::Whole(FIRST)), Some(Content::Whole));
+    assert_eq!(rt; world.content(Place::Whole(UNMADE)), None);
+    assert_eq!(rt; world.content(Place::Cell(ROOT, 4)), None);
+    Ok(())
+}
+
+/// Contents and words of an actor at E5, and the first flaw of the parts with them.
+type Flawed = (&'static [Put], &'static [Word], Option<Flaw>);
+
+/// Each condition alone, and then each with the next one, which comes later.
+const FLAWED: &[Flawed] = &[
+    (&[], &[], None),
+    (
+        &[(Place::QHead, Content::Name(UNMADE))],
+        &[],
+        Some(Flaw::PlaceNames),
+    ),
+    (
+        &[(Place::QTail, Content::Name(UNMADE))],
+        &[],
+        Some(Flaw::PlaceNames),
+    ),
+    (
+        &[(Place::Next(ROOT), Content::Next(Some(UNMADE)))],
+        &[],
+        Some(Flaw::PlaceNames),
+    ),
+    (&[], &[Crq(UNMADE)], Some(Flaw::ActorNames)),
+    (&[], &[New(UNMADE)], Some(Flaw::ActorNames)),
+    (&[], &[Next(UNMADE)], Some(Flaw::ActorNames)),
+    (
+        &[(Place::Head(ROOT), Content::Number(END + 1))],
+        &[],
+        Some(Flaw::Counters),
+    ),
+    (&[(Place::Tail(ROOT), PAST_END)], &[], Some(Flaw::Counters)),
+    (
+        &[(Place::Cell(ROOT, 0), PAST_ROUND)],
+        &[],
+        Some(Flaw::Indexes),
+    ),
+    (
+        &[(Place::ArrHead, Content::Number(65))],
+        &[],
+        Some(Flaw::ArrayCounters),
+    ),
+    (
+        &[(Place::ArrTail, Content::Number(65))],
+        &[],
+        Some(Flaw::ArrayCounters),
+    ),
+    (&[], &[T(END), H(END), Idx(END + 4)], None),
+    (&[], &[T(END + 1)], Some(Flaw::ActorNumbers)),
+    (&[], &[H(END + 1)], Some(Flaw::ActorNumbers)),
+    (&[], &[Idx(END + 5)], Some(Flaw::ActorNumbers)),
+    (&[], &[Pass(1)], Some(Flaw::ActorWords)),
+    (
+        &[(Place::QTail, Content::Name(UNMADE))],
+        &[Crq(UNMADE)],
+        Some(Flaw::PlaceNames),
+    ),
+    (
+        &[(Place::Tail(ROOT), PAST_END)],
+        &[Crq(UNMADE)],
+        Some(Flaw::ActorNames),
+    ),
+    (
+        &[
+            (Place::Cell(ROOT, 0), PAST_ROUND),
+            (Place::Tail(ROOT), PAST_END),
+        ],
+        &[],
+        Some(Flaw::Counters),
+    ),
+    (
+        &[
+            (Place::ArrTail, Content::Number(65)),
+            (Place::Cell(ROOT, 0), PAST_ROUND),
+        ],
+        &[],
+        Some(Flaw::Indexes),
+    ),
+    (
+        &[(Place::ArrTail, Content::Number(65))],
+        &[T(END + 1)],
+        Some(Flaw::ArrayCounters),
+    ),
+    (&[], &[Pass(1), T(END + 1)], Some(Flaw::ActorNumbers)),
+];
+
+#[test]
+fn the_first_flaw_is_the_one_that_is_named(rt: HostRuntime) -> Result<(), Fail> {
+    for i in 0..FLAWED.len() {
+        let (puts, words, flaw) = FLAWED[i];
+        let actor = actor_at(Pc::E5, ENQ, words);
+        assert_eq!(rt; flaw_of(rt.alloc(), actor, puts)?, flaw, "row {i}");
+    }
+    Ok(())
+}
+
+/// That the actor's words do not fit its control point.
+const UNFIT: Option<Flaw> = Some(Flaw::ActorWords);
+
+/// The control points of an enqueue at which nothing more is asked of its words.
+const ENQUEUES: &[Pc] = &[
+    Pc::E1,
+    Pc::E2,
+    Pc::E3,
+    Pc::E4,
+    Pc::E5,
+    Pc::E6,
+    Pc::E9,
+    Pc::E10,
+    Pc::E11,
+    Pc::E12,
+    Pc::E13,
+    Pc::E14,
+];
+
+/// Those of a dequeue at which nothing more is asked than that it is in its first or second pass.
+const PASSES: &[Pc] = &[Pc::Q2, Pc::Q3, Pc::Q4, Pc::Q8, Pc::Q9, Pc::Q10, Pc::Q11];
+
+/// Control points, a call and words, and the flaw of an actor there.
+type Fit = (&'static [Pc], Option<Op>, &'static [Word], Option<Flaw>);
+
+const FITS: &[Fit] = &[
+    (&[Pc::Idle], None, &[], None),
+    (&[Pc::Idle], DEQ, &[], UNFIT),
+    (&[Pc::Idle], None, &[Crq(FIRST)], UNFIT),
+    (&[Pc::Idle], None, &[New(FIRST)], UNFIT),
+    (&[Pc::Idle], None, &[Next(FIRST)], UNFIT),
+    (&[Pc::Idle], None, &[T(1)], UNFIT),
+    (&[Pc::Idle], None, &[H(1)], UNFIT),
+    (&[Pc::Idle], None, &[Closed(true)], UNFIT),
+    (&[Pc::Idle], None, &[Val(7)], UNFIT),
+    (&[Pc::Idle], None, &[Safe(true)], UNFIT),
+    (&[Pc::Idle], None, &[Idx(1)], UNFIT),
+    (&[Pc::Idle], None, &[Pass(1)], UNFIT),
+    (ENQUEUES, ENQ, &[], None),
+    (ENQUEUES, ENQ, &[Pass(1)], UNFIT),
+    (ENQUEUES, DEQ, &[], UNFIT),
+    (ENQUEUES, AENQ, &[], UNFIT),
+    (&[Pc::E7, Pc::E8], ENQ, &[T(5), Idx(5)], None),
+    (&[Pc::E7, Pc::E8], ENQ, &[T(5), Idx(6)], UNFIT),
+    (&[Pc::E7, Pc::E8], ENQ, &[T(5), Idx(5), Val(3)], UNFIT),
+    (&[Pc::E8], ENQ, &[Safe(true)], None),
+    (&[Pc::E7], ENQ, &[Safe(true)], UNFIT),
+    (PASSES, DEQ, &[], UNFIT),
+    (PASSES, DEQ, &[Pass(1)], None),
+    (PASSES, DEQ, &[Pass(2)], None),
+    (PASSES, DEQ, &[Pass(3)], UNFIT),
+    (PASSES, ENQ, &[Pass(1)], UNFIT),
+    (&[Pc::Q1], DEQ, &[], None),
+    (&[Pc::Q1], DEQ, &[Pass(2)], None),
+    (&[Pc::Q1], DEQ, &[Pass(3)], UNFIT),
+    (&[Pc::Q13], DEQ, &[Pass(1)], None),
+    (&[Pc::Q13], DEQ, &[Pass(2)], UNFIT),
+    (&[Pc::Q14], DEQ, &[Pass(2)], None),
+    (&[Pc::Q14], DEQ, &[Pass(1)], UNFIT),
+    (&[Pc::Q5], DEQ, &[Pass(1), H(4), Val(7), Idx(4)], None),
+    (&[Pc::Q5], DEQ, &[Pass(1), H(4), Val(7), Idx(3)], UNFIT),
+    (&[Pc::Q5], DEQ, &[Pass(1), H(4), Idx(4)], UNFIT),
+    (&[Pc::Q6], DEQ, &[Pass(1), H(4), Val(7), Idx(3)], None),
+    (&[Pc::Q6], DEQ, &[Pass(1), H(4), Val(7), Idx(4)], UNFIT),
+    (&[Pc::Q6], DEQ, &[Pass(1), H(4), Idx(3)], UNFIT),
+    (&[Pc::Q7], DEQ, &[Pass(1), H(4), Idx(4)], None),
+    (&[Pc::Q7], DEQ, &[Pass(1), H(4), Idx(5)], UNFIT),
+    (&[Pc::Q7], DEQ, &[Pass(1), H(4), Val(7), Idx(4)], UNFIT),
+    (&[Pc::Q12], DEQ, &[Pass(2), T(3), H(4)], None),
+    (&[Pc::Q12], DEQ, &[Pass(2), T(4), H(4)], UNFIT),
+    (&[Pc::Q12], DEQ, &[Pass(2), T(3), H(4), Closed(true)], UNFIT),
+    (&[Pc::A1, Pc::A2], AENQ, &[T(63)], None),
+    (&[Pc::A1, Pc::A2], AENQ, &[T(63), Pass(1)], UNFIT),
+    (&[Pc::A1, Pc::A2], ENQ, &[], UNFIT),
+    (&[Pc::A1], AENQ, &[T(64)], None),
+    (&[Pc::A2], AENQ, &[T(64)], UNFIT),
+    (&[Pc::B1, Pc::B2, Pc::B3], ADEQ, &[H(63)], None),
+    (&[Pc::B1, Pc::B2, Pc::B3], ADEQ, &[Pass(1)], UNFIT),
+    (&[Pc::B1, Pc::B2, Pc::B3], DEQ, &[], UNFIT),
+    (&[Pc::B1], ADEQ, &[H(64)], None),
+    (&[Pc::B2, Pc::B3], ADEQ, &[H(64)], UNFIT),
+];
+
+#[test]
+fn the_words_fit_the_control_point(rt: HostRuntime) -> Result<(), Fail> {
+    for i in 0..FITS.len() {
+        let (points, op, words, flaw) = FITS[i];
+        for pc in points {
+            let actor = actor_at(*pc, op, words);
+            assert_eq!(rt; flaw_of(rt.alloc(), actor, &[])?, flaw, "row {i} at {pc:?}");
+        }
+    }
+    Ok(())
+}
+
+/// So many actors, root segments and makers' lists, and the flaw of the parts with them.
+const SHAPES: &[(usize, usize, usize, Option<Flaw>)] = &[
+    (1, 1, 2, None),
+    (16, 1, 17, None),
+    (0, 1, 1, Some(Flaw::Makers)),
+    (17, 1, 18, Some(Flaw::Makers)),
+    (1, 1, 1, Some(Flaw::Makers)),
+    (1, 1, 3, Some(Flaw::Makers)),
+    (1, 0, 2, Some(Flaw::Makers)),
+    (1, 2, 2, Some(Flaw::Makers)),
+];
+
+#[test]
+fn there_are_1_to_16_actors_one_root_and_a_list_for_each_maker(
+    rt: HostRuntime,
+) -> Result<(), Fail> {
+    for &(actors, roots, lists, flaw) in SHAPES {
+        let given = shape(rt.alloc(), actors, roots, lists)?;
+        assert_eq!(rt; first_flaw(&given), flaw, "{actors} actors");
+        assert_eq!(rt;
+            flaw_in(World::assemble(rt.alloc(), given))?,
+            flaw,
+            "{actors} actors"
+        );
+    }
+    Ok(())
+}
+
+/// The parts with so many idle actors, root segments and makers' lists.
+fn shape(alloc: Global, actors: usize, roots: usize, lists: usize) -> Result<Parts<4>, AllocError> {
+    let mut given = parts(alloc, Actor::idle(), &[])?;
+    given.actors.clear();
+    given.segments.clear();
+    for _ in 0..actors {
+        given.actors.push(Actor::idle())?;
+    }
+    let mut root = Vec::new(alloc);
+    for _ in 0..roots {
+        root.push(ring())?;
+    }
+    given.segments.push(root)?;
+    for _ in 1..lists {
+        given.segments.push(Vec::new(alloc))?;
+    }
+    Ok(given)
+}
+
+#[test]
+fn a_flaw_has_its_number(rt: HostRuntime) {
+    for (flaw, number) in [
+        (Flaw::Makers, 1),
+        (Flaw::PlaceNames, 2),
+        (Flaw::ActorNames, 3),
+        (Flaw::Counters, 4),
+        (Flaw::Indexes, 5),
+        (Flaw::ArrayCounters, 6),
+        (Flaw::ActorNumbers, 7),
+        (Flaw::ActorWords, 8),
+    ] {
+        assert_eq!(rt; flaw.number(), number);
+    }
+}

@@ -1,0 +1,87 @@
+-- A line feed behind printed tokens changes none of them.
+use Rattle.std.proofs.Common.{◌≡◌, ℕ, Bool, true, false, cond, ◌&&◌, List, [], ◌∷◌, ◌++◌, refl, sym, ap, ap₂, ◌∙◌, append_assoc, append-nil}
+use Rattle.json.specs.Token.{Token, begin_object, end_object, begin_array, end_array, key, string, number, boolean, null, bad}
+use Rattle.json.specs.Word.{ends_word, word}
+use Rattle.json.specs.Lex.{Lexeme, token, comma, string_token, lex, between, fresh, punctuate, tokens}
+use Rattle.json.specs.Print.{escape, quoted, token_text, begins, ends, print_from, print, IsPrintable, ArePrintable}
+use Rattle.json.proofs.Printed.Strings.{content-escape, lex-escape}
+use Rattle.json.proofs.Printed.Numbers.{lex-number, in_word-ended}
+use Rattle.json.proofs.Printed.Tokens.{tokens-print}
+
+-- behind a value stands a comma, a closing bracket, or what is behind the tokens
+ends_before : (ts : List Token) (z : List ℕ) → ends_word z ≡ true → ends_word (print_from true ts ++ z) ≡ true
+unfolding print_from
+ends_before [] z h = h
+ends_before (begin_object ∷ ts) z h = refl
+ends_before (end_object ∷ ts) z h = refl
+ends_before (begin_array ∷ ts) z h = refl
+ends_before (end_array ∷ ts) z h = refl
+ends_before (key s ∷ ts) z h = refl
+ends_before (string s ∷ ts) z h = refl
+ends_before (number s ∷ ts) z h = refl
+ends_before (boolean b ∷ ts) z h = refl
+ends_before (null ∷ ts) z h = refl
+ends_before (bad ∷ ts) z h = refl
+
+lex-string : (s r : List ℕ) → lex between (quoted s ++ r) ≡ token (string s) ∷ lex between r
+unfolding lex
+lex-string s r = ap (λ l. lex between (34 ∷ l)) (append_assoc (escape s) (34 ∷ []) r) ∙ ap₂ (λ o l. token (string_token o) ∷ l) (content-escape s r) (lex-escape s r)
+
+-- the lexemes of a token, which do not depend on what is behind it
+lexemes_of : Token → List Lexeme
+lexemes_of begin_object = token begin_object ∷ []
+lexemes_of end_object = token end_object ∷ []
+lexemes_of begin_array = token begin_array ∷ []
+lexemes_of end_array = token end_array ∷ []
+lexemes_of (key s) = token (string s) ∷ lex between (58 ∷ [])
+lexemes_of (string s) = token (string s) ∷ []
+lexemes_of (number s) = token (number s) ∷ []
+lexemes_of (boolean b) = token (boolean b) ∷ []
+lexemes_of null = token null ∷ []
+lexemes_of bad = []
+
+lex-token : (t : Token) (r : List ℕ) → IsPrintable t → (ends t ≡ true → ends_word r ≡ true) → lex between (token_text t ++ r) ≡ lexemes_of t ++ lex between r
+unfolding lex word lexemes_of
+lex-token begin_object r h ended = refl
+lex-token end_object r h ended = refl
+lex-token begin_array r h ended = refl
+lex-token end_array r h ended = refl
+lex-token (key s) r h ended = ap (lex between) (append_assoc (quoted s) (58 ∷ []) r) ∙ lex-string s (58 ∷ r)
+lex-token (string s) r h ended = lex-string s r
+lex-token (number s) r h ended = lex-number s r h (ended refl)
+lex-token (boolean true) r h ended = ap₂ (λ b l. token (cond b (boolean true) bad) ∷ l) (ended refl) (in_word-ended r (ended refl))
+lex-token (boolean false) r h ended = ap₂ (λ b l. token (cond b (boolean false) bad) ∷ l) (ended refl) (in_word-ended r (ended refl))
+lex-token null r h ended = ap₂ (λ b l. token (cond b null bad) ∷ l) (ended refl) (in_word-ended r (ended refl))
+lex-token bad r h ended = absurd h
+
+lex-comma : (b : Bool) (r : List ℕ) → lex between (cond b (44 ∷ []) [] ++ r) ≡ cond b (comma ∷ []) [] ++ lex between r
+unfolding lex
+lex-comma true r = refl
+lex-comma false r = refl
+
+module _ (c : Bool) (t : Token) (ts : List Token) where
+  comma_text : List ℕ
+  comma_text = cond (c && begins t) (44 ∷ []) []
+
+  -- what is behind the tokens shows in nothing but the last lexemes
+  lex-first : (z : List ℕ) → ends_word z ≡ true → IsPrintable t
+      → lex between (print_from c (t ∷ ts) ++ z) ≡ cond (c && begins t) (comma ∷ []) [] ++ (lexemes_of t ++ lex between (print_from (ends t) ts ++ z))
+  unfolding print_from
+  lex-first z ended h =
+      ap (lex between) (append_assoc (cond (c && begins t) (44 ∷ []) []) _ z) ∙ lex-comma (c && begins t) _
+      ∙ ap (λ l. cond (c && begins t) (comma ∷ []) [] ++ l)
+      (ap (lex between) (append_assoc (token_text t) _ z) ∙ lex-token t (print_from (ends t) ts ++ z) h (λ e. ap (λ b. ends_word (print_from b ts ++ z)) e ∙ ends_before ts z ended))
+
+same_lexemes : (c : Bool) (ts : List Token) (y z : List ℕ) → ends_word y ≡ true → ends_word z ≡ true → lex between y ≡ lex between z → ArePrintable ts
+    → lex between (print_from c ts ++ y) ≡ lex between (print_from c ts ++ z)
+unfolding print_from ArePrintable
+same_lexemes c [] y z ended_y ended_z same h = same
+same_lexemes c (t ∷ ts) y z ended_y ended_z same h =
+    lex-first c t ts y ended_y h.0 ∙ ap (λ l. cond (c && begins t) (comma ∷ []) [] ++ (lexemes_of t ++ l)) (same_lexemes (ends t) ts y z ended_y ended_z same h.1)
+    ∙ sym (lex-first c t ts z ended_z h.0)
+
+-- the tokens of printed ones with a line feed behind them
+pub tokens-line : (ts : List Token) → ArePrintable ts → tokens (print ts ++ 10 ∷ []) ≡ ts
+unfolding lex
+tokens-line ts h =
+    ap (punctuate fresh) (same_lexemes false ts (10 ∷ []) [] refl refl refl h ∙ ap (lex between) (append-nil (print ts))) ∙ tokens-print ts h

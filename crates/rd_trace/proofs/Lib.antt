@@ -1,0 +1,10 @@
+pub mod FormLemmas
+pub mod ReplayLemmas
+pub mod ValueLemmas
+pub mod LexLemmas
+pub mod TextLemmas
+pub mod ReadLemmas
+pub mod LoadLemmas
+pub mod ActorLemmas
+pub mod WriteLemmas
+pub mod BookLemmas

@@ -1,0 +1,114 @@
+//! A book whose ring is known when the program runs, and what the program does with one.
+
+ghost use Rattle.std.specs.Prelude.{◌≡◌, ◌≤◌, ℕ, [], false, IfOk, OnOk};
+ghost use Rattle.rd_step.specs.Prelude.{MOST_ACTORS};
+ghost use Rattle.rd_step.specs.Starts.{fresh_world};
+ghost use Rattle.rd_script.specs.Script.{RunsScript};
+ghost use Rattle.rd_trace.specs.Traces.{HasActors, ring_length, trace_of_state};
+ghost use Rattle.rd_trace.specs.Text.{trace_text};
+ghost use Rattle.rd_trace.specs.Loading.{any_ring, any_state, IsBookOf, IsLoadable, Replays};
+ghost use Rattle.rd_trace.specs.Writing.{WritesTrace, is_write_fault};
+ghost use Rattle.rd_trace.specs.Devices.{devices};
+
+use super::faults::{LoadTraceFault, WriteTraceFault};
+use super::replay::replay;
+use super::rings::Ring;
+use super::write::write_trace;
+use rd_marks::Book;
+use rd_script::{ScriptFault, Sink, Source, run};
+use rd_step::Event;
+use std::alloc::{AllocError, Global};
+
+/// A book over rings of 2, 4 or 8 cells: those that a trace may have.
+#[derive(Drop)]
+pub enum AnyBook {
+    /// Over rings of 2 cells.
+    Two(Book<2>),
+    /// Over rings of 4 cells.
+    Four(Book<4>),
+    /// Over rings of 8 cells.
+    Eight(Book<8>),
+}
+
+impl AnyBook {
+    /// A book over the fresh world of so many actors and this ring: no step was made, and there is no bookmark.
+    pub fn fresh(alloc: Global, ring: Ring, actors: u8) -> Result<AnyBook, AllocError>
+        requires some { 1 ≤ actors }
+        requires few { actors ≤ MOST_ACTORS }
+        ensures { IfOk result (IsBookOf (record { actors = actors; events = []; ring = ring_length ring })) }
+    {
+        match AnyBook::replayed(alloc, ring, actors, &[]) {
+            Ok(book) => Ok(book),
+            Err(_) => Err(AllocError),
+        }
+    }
+
+    /// A book over the fresh world of so many actors and this ring, in which these events happened in order.
+    ///
+    /// # Errors
+    ///
+    /// `TraceStep` if one of them was refused; `NoMemory` if memory was refused.
+    pub fn replayed(
+        alloc: Global,
+        ring: Ring,
+        actors: u8,
+        events: &[Event],
+    ) -> Result<AnyBook, LoadTraceFault>
+        requires some { 1 ≤ actors }
+        requires few { actors ≤ MOST_ACTORS }
+        ensures { Replays (IsBookOf (record { actors = actors; events = events.now; ring = ring_length ring }))
+            (record { actors = actors; events = events.now; ring = ring_length ring }) result }
+    {
+        match ring {
+            Ring::Two => Ok(AnyBook::Two(replay(alloc, actors, events)?)),
+            Ring::Four => Ok(AnyBook::Four(replay(alloc, actors, events)?)),
+            Ring::Eight => Ok(AnyBook::Eight(replay(alloc, actors, events)?)),
+        }
+    }
+
+    /// Runs a script over the book. Answers the number of its lines.
+    ///
+    /// # Errors
+    ///
+    /// As the run of a script over a book whose ring is a constant.
+    pub fn run<S: Source, K: Sink>(
+        &mut self,
+        reader: &mut S,
+        writer: &mut K,
+    ) -> Result<u64, ScriptFault>
+        requires reader_works { S.has_failed reader.old ≡ false }
+        requires writer_works { K.has_failed writer.old ≡ false }
+        ensures runs { RunsScript (any_ring self.old) (any_state self.old) (any_state self.new)
+            (devices S.Source K.Sink reader.old reader.new writer.old writer.new) result }
+        ensures ring { any_ring self.new ≡ any_ring self.old }
+        ensures start { (any_state self.new).session.start ≡ (any_state self.old).session.start }
+    {
+        match self {
+            AnyBook::Two(book) => run(reader, writer, book),
+            AnyBook::Four(book) => run(reader, writer, book),
+            AnyBook::Eight(book) => run(reader, writer, book),
+        }
+    }
+
+    /// Writes the live events of the book as a trace, as `write_trace` does.
+    ///
+    /// # Errors
+    ///
+    /// `NoMemory` if memory was refused: nothing was written. `Write` if the sink failed: it took a beginning of the text.
+    pub fn write_trace<K: Sink>(&self, alloc: Global, writer: &mut K) -> Result<(), WriteTraceFault>
+        requires { K.has_failed writer.old ≡ false }
+        ensures writes { (actors : ℕ) → HasActors (any_state self.now).session.start actors
+            → WritesTrace (trace_text (trace_of_state (any_ring self.now) actors (any_state self.now))) (K.contents writer.old) (K.contents writer.new) result }
+        ensures fresh { (actors : ℕ) → (any_state self.now).session.start ≡ fresh_world (any_ring self.now) actors
+            → WritesTrace (trace_text (trace_of_state (any_ring self.now) actors (any_state self.now))) (K.contents writer.old) (K.contents writer.new) result }
+        ensures loadable { (actors : ℕ) → (any_state self.now).session.start ≡ fresh_world (any_ring self.now) actors → 1 ≤ actors → actors ≤ MOST_ACTORS
+            → OnOk result (IsLoadable (trace_of_state (any_ring self.now) actors (any_state self.now))) }
+        ensures failed { K.has_failed writer.new ≡ is_write_fault result }
+    {
+        match self {
+            AnyBook::Two(book) => write_trace(alloc, writer, book),
+            AnyBook::Four(book) => write_trace(alloc, writer, book),
+            AnyBook::Eight(book) => write_trace(alloc, writer, book),
+        }
+    }
+}

@@ -1,0 +1,74 @@
+//! Sinks that fail or take little.
+
+use super::played;
+use rd_script::WriteSink;
+use rd_trace::faults::WriteTraceFault;
+use rd_trace::write::write_trace;
+use std::alloc::Global;
+use std::io;
+use std::io::Write;
+use std::process::Abort;
+use std::test::Fail;
+
+/// Takes a few bytes a call, so many times; the calls behind them fail.
+#[derive(Drop)]
+struct TestWriter<'a> {
+    taken: &'a mut Vec<u8>,
+    good_writes: u64,
+    most: usize,
+}
+
+impl<'a> Write for TestWriter<'a> {
+    fn write(&mut self, buf: &[u8]) -> io::Result<usize> {
+        if self.good_writes == 0 {
+            return Err(io::Error::from(io::ErrorKind::BrokenPipe));
+        }
+        self.good_writes -= 1;
+        let count = buf.len().min(self.most);
+        self.taken.extend_from_slice(&buf[..count])?;
+        Ok(count)
+    }
+
+    fn flush(&mut self) -> io::Result<()> {
+        Ok(())
+    }
+}
+
+/// The trace of one event.
+const TRACE: &[u8] = b"{\"actors\":4,\"events\":[[\"deq\",1]],\"ring\":2,\"version\":1}\n";
+
+/// Writes the trace to each writer of so many good writes of so many bytes, and compares the answer and how many bytes were taken.
+fn writes_are(
+    rt: &impl Abort,
+    alloc: Global,
+    rows: &[(u64, usize, Result<(), WriteTraceFault>, usize)],
+) -> Result<(), Fail> {
+    let book = played::<2>(alloc, &[("deq 1\n", 1)])?;
+    for (good_writes, most, answer, len) in rows {
+        let mut taken = Vec::new(alloc);
+        let writer = TestWriter {
+            taken: &mut taken,
+            good_writes: *good_writes,
+            most: *most,
+        };
+        let said = write_trace(alloc, &mut WriteSink::new(writer), &book);
+        let began = TRACE.get(..*len) == Some(taken.as_slice());
+        assert!(rt; said == *answer && began, "{good_writes} writes of {most}");
+    }
+    Ok(())
+}
+
+#[test]
+fn a_failed_write_leaves_a_beginning_of_the_trace(rt: HostRuntime) -> Result<(), Fail> {
+    writes_are(
+        &rt,
+        rt.alloc(),
+        &[
+            (0, 100, Err(WriteTraceFault::Write), 0),
+            (3, 2, Err(WriteTraceFault::Write), 6),
+            (5, 0, Err(WriteTraceFault::Write), 0),
+            (1, 100, Ok(()), 55),
+            (55, 1, Ok(()), 55),
+        ],
+    )
+}

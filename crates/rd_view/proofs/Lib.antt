@@ -1,0 +1,4 @@
+pub mod ReportLemmas
+pub mod ViewingLemmas
+pub mod GatherLemmas
+pub mod ViewEnds

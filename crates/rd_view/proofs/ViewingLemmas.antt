@@ -1,0 +1,138 @@
+-- What passes know after a chain of calls, and how that stands to the history that leaves the desk.
+use Rattle.std.proofs.Common.{◌≡◌, ◌∙◌, ℕ, zero, suc, List, [], ◌∷◌, ◌++◌, Result, Ok, Err, Vec, map, drop, length, slice_index_or, arith, refl, sym, ap, subst, append_assoc}
+use Rattle.std.specs.Global.{Global}
+use Rattle.std.proofs.lemmas.List.{append-nil, map-append}
+use Rattle.rd_step.specs.Prelude.{Refusal}
+use Rattle.rd_lock.specs.declared.views.Recorded.{Ghosts}
+use Rattle.rd_lock.specs.declared.passes.Pass.{Pass}
+use Rattle.rd_lock.specs.Histories.{Every, named, numbers}
+use Rattle.rd_lock.specs.Locks.{number, own}
+use Rattle.rd_marks.specs.Books.{BookState}
+use Rattle.rd_marks.specs.declared.books.Book.{Book}
+use Rattle.rd_marks.specs.declared.commands.Command.{Command}
+use Rattle.rd_marks.specs.declared.replies.Reply.{Reply}
+use Rattle.rd_desk.specs.declared.desks.Desk.{Desk}
+use Rattle.rd_desk.specs.declared.gates.DeskRefusal.{DeskRefusal}
+use Rattle.rd_desk.specs.declared.gates.DeskRefusal.TheVariants.{HistoryFull, NotRecorded, TicketsEnded, Busy}
+use Rattle.rd_desk.specs.declared.histories.Call.{Call}
+use Rattle.rd_desk.specs.declared.histories.History.{History}
+use Rattle.rd_desk.specs.declared.recording.BookWithHistory.{BookWithHistory}
+use Rattle.rd_desk.specs.declared.viewers.Ran.{Ran}
+use Rattle.rd_desk.specs.declared.viewers.Ran.TheVariants.{Answered, NoMemory as NotStarted}
+use Rattle.rd_desk.specs.Asking.{IsTold, IsRefused}
+use Rattle.rd_desk.specs.Desks.{IsViewerOf, IsNewViewer, Tells, opened_state}
+use Rattle.rd_desk.specs.Histories.{entries}
+use Rattle.rd_desk.specs.Viewers.{Pairs, IsChain, IsRan}
+use Rattle.rd_script.specs.declared.faults.LineFault.{LineFault}
+use Rattle.rd_view.specs.Viewing.{commands_of, calls_of, passes_of, told_of, WasAnswered, AreAnswered}
+
+-- no list is one with an element before it
+no_cons : {A : Type 0} (x : A) (xs : List A) → [] ≡ x ∷ xs → ⊥
+no_cons x xs e = omega (arith, ap length e)
+
+-- the first elements of equal lists
+head_same : {A : Type 0} (x y : A) (xs ys : List A) → x ∷ xs ≡ y ∷ ys → x ≡ y
+head_same x y xs ys e = ap (λ zs. slice_index_or zs 0 x) e
+
+-- what is behind the first elements of equal lists
+tail_same : {A : Type 0} (x y : A) (xs ys : List A) → x ∷ xs ≡ y ∷ ys → xs ≡ ys
+tail_same x y xs ys e = ap (drop 1) e
+
+-- an answer of the desk
+abbrev Answer : Type 0
+Answer = Result (Result Reply Refusal) DeskRefusal
+
+module _ (R : ℕ) (K : Ghosts (BookWithHistory R) Call (Book R)) (opened : BookState) where
+  abbrev ViewPass : Type 0
+  ViewPass = Pass (BookWithHistory R) Call (Book R) K
+
+  abbrev told : ViewPass → Command → Answer → ViewPass → Type 0
+  told pass command answer after = IsTold R opened pass after command answer
+
+  -- a refusal leaves number and own entries
+  refused_same : (p q : ViewPass) (r : DeskRefusal) → IsRefused R opened p q r → (number q ≡ number p) × (own q ≡ own p)
+  refused_same p q HistoryFull is = (is.0.same_number, is.0.same_own)
+  refused_same p q NotRecorded is = (is.0.same_number, is.0.same_own)
+  refused_same p q TicketsEnded is = (is.0.same_number, is.0.same_own)
+  refused_same p q (Busy words) is = (is.0.same_number, is.0.same_own)
+
+  -- after a chain the pass has its number, and its own calls grew by those that were recorded
+  pub chain_grew : (commands : List Command) (answers : List Answer) (p q : ViewPass) → IsChain told p commands answers q
+      → (number q ≡ number p) × (map (λ e. e.1) (own q) ≡ map (λ e. e.1) (own p) ++ calls_of commands answers)
+  chain_grew [] [] p q is = (ap number is, ap (λ x. map (λ e. e.1) (own x)) is ∙ sym (append-nil (map (λ e. e.1) (own p))))
+  chain_grew [] (answer ∷ answers) p q is = absurd is
+  chain_grew (c ∷ commands) [] p q is = absurd is
+  chain_grew (c ∷ commands) (Ok answer ∷ answers) p q is =
+      let more = chain_grew commands answers is.0 q is.2 in (
+        more.0 ∙ is.1.same_number,
+        more.1
+            ∙ ap (λ es. map (λ e. e.1) es ++ calls_of commands answers) is.1.has_grown
+            ∙ ap (λ es. es ++ calls_of commands answers) (map-append (λ e. e.1) (own p) _)
+            ∙ append_assoc (map (λ e. e.1) (own p)) (record { command = c; answer = answer } ∷ []) (calls_of commands answers),
+      )
+  chain_grew (c ∷ commands) (Err refusal ∷ answers) p q is =
+      let more = chain_grew commands answers is.0 q is.2 in
+      let same = refused_same p is.0 refusal is.1.0 in (more.0 ∙ same.0, more.1 ∙ ap (λ es. map (λ e. e.1) es ++ calls_of commands answers) same.1)
+
+module _ (R : ℕ) (K : Ghosts (BookWithHistory R) Call (Book R)) (desk : Desk R) where
+  -- the gate's relations of this desk
+  abbrev takes : Pass (BookWithHistory R) Call (Book R) K → Type 0
+  takes pass = IsViewerOf desk pass
+
+  abbrev tells : Pass (BookWithHistory R) Call (Book R) K → Command → Answer → Pass (BookWithHistory R) Call (Book R) K → Type 0
+  tells pass command answer after = IsTold R (opened_state desk) pass after command answer
+
+  -- the passes that come back are the desk's
+  pub own_passes : (work : List (Pass (BookWithHistory R) Call (Book R) K × Vec Command Global)) (rans : List (Ran (Pass (BookWithHistory R) Call (Book R) K)))
+      → Pairs (IsRan takes tells) work rans → Every takes (passes_of rans)
+  own_passes [] [] pairs = tt
+  own_passes [] (ran ∷ rans) pairs = absurd pairs
+  own_passes (viewer ∷ work) [] pairs = absurd pairs
+  own_passes (viewer ∷ work) (Answered pass answers ∷ rans) pairs = (pairs.0.0, own_passes work rans pairs.1)
+  own_passes (viewer ∷ work) (NotStarted ∷ rans) pairs = own_passes work rans pairs.1
+
+  -- new viewers may ask
+  pub new_may_ask : (work : List (Pass (BookWithHistory R) Call (Book R) K × Vec Command Global)) → Every (IsNewViewer desk) (map (λ viewer. viewer.0) work) → Every (λ viewer. takes viewer.0) work
+  new_may_ask [] new = tt
+  new_may_ask (viewer ∷ work) new = (new.0.is_viewer, new_may_ask work new.1)
+
+  -- what a started viewer was answered
+  was_answered : (history : History) (n : ℕ) (first last : Pass (BookWithHistory R) Call (Book R) K) (commands : List Command) (answers : List Answer)
+      → IsNewViewer desk first → number first ≡ n → IsChain tells first commands answers last → Tells history last
+      → WasAnswered R K (opened_state desk) (entries history) n commands answers
+  was_answered history n first last commands answers new is chain knows =
+      let grew = chain_grew R K (opened_state desk) commands answers first last chain in
+      record {
+        first = first;
+        last = last;
+        numbered = is;
+        is_new = (new.has_seen, new.has_own);
+        chain = chain;
+        extends = knows.0;
+        calls =
+            ap (λ k. map (λ e. e.1) (named k 0 (entries history))) (sym (grew.0 ∙ is)) ∙ ap (λ es. map (λ e. e.1) es) (sym knows.1) ∙ grew.1
+            ∙ ap (λ es. map (λ e. e.1) es ++ calls_of commands answers) new.has_own;
+      }
+
+  -- what all viewers were answered, from this number on
+  pub all_answered : (history : History) (n : ℕ) (work : List (Pass (BookWithHistory R) Call (Book R) K × Vec Command Global)) (rans : List (Ran (Pass (BookWithHistory R) Call (Book R) K)))
+      (said : List (Vec (Result Command LineFault) Global)) → Pairs (IsRan takes tells) work rans → Every (IsNewViewer desk) (map (λ viewer. viewer.0) work)
+      → map number (map (λ viewer. viewer.0) work) ≡ numbers n (length work) → map (λ viewer. viewer.1.items) work ≡ map (λ lines. commands_of lines.items) said
+      → Every (Tells history) (passes_of rans) → AreAnswered R K (opened_state desk) (entries history) n said (map told_of rans)
+  all_answered history n [] [] [] pairs new is read knows = tt
+  all_answered history n [] [] (lines ∷ said) pairs new is read knows = absurd (no_cons _ _ read)
+  all_answered history n [] (ran ∷ rans) said pairs new is read knows = absurd pairs
+  all_answered history n (viewer ∷ work) [] said pairs new is read knows = absurd pairs
+  all_answered history n (viewer ∷ work) (ran ∷ rans) [] pairs new is read knows = absurd (no_cons _ _ (sym read))
+  all_answered history n (viewer ∷ work) (Answered pass answers ∷ rans) (lines ∷ said) pairs new is read knows = (
+    subst (λ commands. WasAnswered R K (opened_state desk) (entries history) n commands answers.items) (head_same _ _ _ _ read)
+        (was_answered history n viewer.0 pass viewer.1.items answers.items new.0 (head_same _ _ _ _ is) pairs.0.1 knows.0),
+    all_answered history (suc n) work rans said pairs.1 new.1 (tail_same _ _ _ _ is) (tail_same _ _ _ _ read) knows.1,
+  )
+  all_answered history n (viewer ∷ work) (NotStarted ∷ rans) (lines ∷ said) pairs new is read knows =
+      (tt, all_answered history (suc n) work rans said pairs.1 new.1 (tail_same _ _ _ _ is) (tail_same _ _ _ _ read) knows)
+
+-- so many numbers there are
+pub length-numbers : (k n : ℕ) → length (numbers k n) ≡ n
+length-numbers k zero = refl
+length-numbers k (suc n) = ap suc (length-numbers (suc k) n)

@@ -1,0 +1,7 @@
+use Rattle.std.proofs.Common.{take}
+use Rattle.rd_view.specs.Viewing.{AreRead}
+use Rattle.rd_view.proofs.viewing.lines_of_all.Given as goal
+
+-- the scripts before this one were read
+abbrev pub invariant-loop-script : goal.invariant-loop-script
+invariant-loop-script l = AreRead (take l.script-index l.scripts) l.said.items

@@ -1,0 +1,55 @@
+use Rattle.std.proofs.Common.{◌≡◌, ◌∙◌, arith, sym, ap, length, subst}
+use denote.Param.{number as number_of}
+use Rattle.std.specs.Io.KnownBytes.{Appends}
+use Rattle.rd_marks.specs.BookViews.{book_state}
+use Rattle.rd_desk.specs.contracts.recording.BookWithHistoryRecorded.TheImpl as Recorded
+use Rattle.rd_script.specs.Device.{TakesBeginning}
+use Rattle.rd_view.specs.Viewing.{IsViewed, Views}
+use Rattle.rd_view.proofs.GatherLemmas.{pairs_length}
+use Rattle.rd_view.proofs.ViewEnds.{told_length, not_viewed, not_written, same_text}
+use Rattle.rd_desk.specs.Histories.{entries}
+use Rattle.rd_view.proofs.viewing.view_scripts.Goals as goal
+
+pub viewed-requires-after_bounds : goal.viewed-requires-after_bounds
+viewed-requires-after_bounds g c κs within =
+    let same : length c.as_slice.result.now ≡ length c.args.scripts.now = ap length c.as_slice.ensures.value ∙ sym (pairs_length _ _ _ c.in_ok-said.ensures) in
+    (omega arith, (omega (arith, same, c.requires.some), omega (arith, same, c.requires.few)))
+
+pub returns-in_err-told : goal.returns-in_err-told
+returns-in_err-told g c = record {
+  views = not_viewed _ _ _ _ _ _ c.from_residual-in_err-told.result c.in_err-told.field-0.0 c.from_residual-in_err-told.ensures.1 c.in_err-told.ensures.err c.requires.works;
+}
+
+pub write_view-requires-clause-each : goal.write_view-requires-clause-each
+write_view-requires-clause-each g c =
+    ap length c.as_slice-2.ensures.value ∙ ap length (sym c.as_slice.ensures.value) ∙ told_length _ _ _ _ 1 c.as_slice.result.now c.in_ok-told.told.items c.in_ok-told.ensures.ok.1
+    ∙ ap length (sym c.as_slice-3.ensures.value)
+
+pub returns-in_err-write_view : goal.returns-in_err-write_view
+returns-in_err-write_view g c =
+    let history = entries c.in_ok-told.history in
+    let said = c.in_ok-said.said.items in
+    let told = c.in_ok-told.told.items in
+    let same = same_text _ said _ told _ (length history) c.as_slice-2.ensures.value c.as_slice-3.ensures.value c.len.ensures in
+    let views : Views g.row.N (Recorded.ghosts (number_of g.row.N)) (book_state c.args.book) c.args.scripts.now history =
+    record { said = said; told = told; are_read = c.in_ok-said.ensures; is_viewed = subst (λ xs. IsViewed g.row.N (Recorded.ghosts (number_of g.row.N)) (book_state c.args.book) xs told history) c.as_slice.ensures.value c.in_ok-told.ensures.ok } in
+    record {
+      views =
+          not_written _ _ _ c.args.scripts.now (g.K.Sink.contents c.args.writer.now) (g.K.Sink.contents c.write_view.new.writer) (g.K.Sink.has_failed c.write_view.new.writer)
+          c.from_residual-in_err-write_view.result history views c.from_residual-in_err-write_view.ensures.1
+          (subst (λ t. TakesBeginning (g.K.Sink.contents c.args.writer.now) (g.K.Sink.contents c.write_view.new.writer) t) same c.in_err-write_view.ensures.0) c.in_err-write_view.ensures.1;
+    }
+
+pub returns : goal.returns
+returns g c =
+    let history = entries c.in_ok-told.history in
+    let said = c.in_ok-said.said.items in
+    let told = c.in_ok-told.told.items in
+    let same = same_text _ said _ told _ (length history) c.as_slice-2.ensures.value c.as_slice-3.ensures.value c.len.ensures in
+    record {
+      views = (
+        record { said = said; told = told; are_read = c.in_ok-said.ensures; is_viewed = subst (λ xs. IsViewed g.row.N (Recorded.ghosts (number_of g.row.N)) (book_state c.args.book) xs told history) c.as_slice.ensures.value c.in_ok-told.ensures.ok },
+        subst (λ t. Appends (g.K.Sink.contents c.args.writer.now) (g.K.Sink.contents c.write_view.new.writer) t) same c.in_ok-write_view.ensures.0,
+        c.in_ok-write_view.ensures.1,
+      );
+    }

@@ -1,0 +1,66 @@
+use denote.Param.Send.{sendable}
+use mathlib.Core.Logic.{∥∥₁_map}
+use Rattle.std.proofs.Crossing.{crosses}
+use Rattle.std.proofs.Common.{◌≡◌, ◌∙◌, length, map, ap, sym, subst, arith}
+use Rattle.std.proofs.lemmas.List.{length-map}
+use Rattle.rd_lock.specs.Histories.{Every, numbers}
+use Rattle.rd_lock.specs.Locks.{number}
+use Rattle.rd_desk.specs.Desks.{IsNewViewer, IsViewerOf, Tells}
+use Rattle.rd_desk.specs.Histories.{IsLegal, entries}
+use denote.Param.{number as number_of}
+use Rattle.rd_desk.specs.contracts.recording.BookWithHistoryRecorded.TheImpl as Recorded
+use Rattle.rd_desk.proofs.Sends.{seat_send, book_with_history_send, desk_sync}
+use Rattle.rd_marks.specs.BookViews.{book_state}
+use Rattle.rd_view.specs.Viewing.{AreAnswered, told_of}
+use Rattle.rd_view.proofs.ViewingLemmas.{all_answered, new_may_ask, own_passes, length-numbers}
+use Rattle.rd_view.proofs.viewing.viewed.Goals as goal
+
+pub work_for-requires : goal.work_for-requires
+work_for-requires g c = (
+  omega arith,
+  (omega arith, sym (length-map c.in-Ok.passes.items number) ∙ ap length c.in-Ok.ensures.ok.numbered ∙ length-numbers 1 (length c.args.said.now)),
+)
+
+pub run_viewers-requires-send-G-Pass : goal.run_viewers-requires-send-G-Pass
+run_viewers-requires-send-G-Pass g c κs within = search (seat_send, book_with_history_send, sendable, crosses) depth 60 fits 100000
+
+pub run_viewers-requires-sync-G : goal.run_viewers-requires-sync-G
+run_viewers-requires-sync-G g c κs within = search (desk_sync, sendable, crosses) depth 60 fits 100000
+
+pub run_viewers-requires-clause-own : goal.run_viewers-requires-clause-own
+run_viewers-requires-clause-own g c κs within =
+    new_may_ask _ _ c.in-Ok.desk c.in_ok-work.work.items (subst (λ passes. Every (IsNewViewer c.in-Ok.desk) passes) (sym c.in_ok-work.ensures.passes) c.in-Ok.ensures.ok.are_new)
+
+pub close-requires : goal.close-requires
+close-requires g c = (
+  omega arith,
+  (
+    omega arith,
+    (
+      omega arith,
+      subst (λ passes. Every (IsViewerOf c.in-Ok.desk) passes) (sym c.in_ok-passes.ensures.passes)
+          (own_passes _ _ c.in-Ok.desk c.in_ok-work.work.items c.in-Ok-run_viewers.rans.items c.in-Ok-run_viewers.ensures.ok),
+    ),
+  ),
+)
+
+pub returns-in-Ok-close-clause-ok : goal.returns-in-Ok-close-clause-ok
+returns-in-Ok-close-clause-ok g c =
+    let desk = c.in-Ok.desk in
+    let history = c.in-Ok-close.history in
+    let closed = c.in-Ok-close.ensures.ok in
+    let opened = book_state c.args.book in
+    let state = c.in-Ok.ensures.ok.state in
+    let work = c.in_ok-work.work.items in
+    let passes = c.in_ok-work.ensures.passes in
+    let counted : length (map (λ viewer. viewer.0) work) ≡ length work = length-map work (λ viewer. viewer.0) in
+    let many : length c.in-Ok.passes.items ≡ length c.args.said.now =
+    sym (length-map c.in-Ok.passes.items number) ∙ ap length c.in-Ok.ensures.ok.numbered ∙ length-numbers 1 (length c.args.said.now) in
+    let numbered : map number (map (λ viewer. viewer.0) work) ≡ numbers 1 (length work) =
+    ap (map number) passes ∙ c.in-Ok.ensures.ok.numbered ∙ ap (numbers 1) (sym many ∙ sym (ap length passes) ∙ counted) in (
+      subst (λ first. IsLegal g.row.N first (entries history)) state (∥∥₁_map closed.leaves (λ l. (_, l))),
+      rw c.in_ok-passes.ensures.told (subst (λ first. AreAnswered g.row.N (Recorded.ghosts (number_of g.row.N)) first (entries history) 1 c.args.said.now (map told_of c.in-Ok-run_viewers.rans.items)) state
+          (all_answered g.row.N (Recorded.ghosts (number_of g.row.N)) desk history 1 work c.in-Ok-run_viewers.rans.items c.args.said.now c.in-Ok-run_viewers.ensures.ok
+          (subst (λ ps. Every (IsNewViewer desk) ps) (sym passes) c.in-Ok.ensures.ok.are_new) numbered c.in_ok-work.ensures.commands
+          (subst (λ ps. Every (Tells history) ps) c.in_ok-passes.ensures.passes closed.tells))),
+    )

@@ -1,0 +1,10 @@
+use Rattle.std.proofs.Common.{◌≡◌, map, take, length}
+use Rattle.rd_view.specs.Viewing.{commands_of}
+use Rattle.rd_view.proofs.viewing.work_for.Given as goal
+
+-- the viewers so far
+abbrev pub invariant-loop-pass : goal.invariant-loop-pass
+invariant-loop-pass g l = record {
+  passes : map (λ viewer. viewer.0) l.work.items ≡ l.yielded;
+  commands : map (λ viewer. viewer.1.items) l.work.items ≡ map (λ lines. commands_of lines.items) (take (length l.yielded) l.said);
+}

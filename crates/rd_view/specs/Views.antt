@@ -1,0 +1,53 @@
+-- The text of a view: for each viewer a heading and what its lines were answered, and last how many calls were recorded.
+use Rattle.std.specs.Prelude.{◌≡◌, ℕ, ◌+◌, Bool, true, false, List, [], ◌∷◌, ◌++◌, Option, Some, None, Result, Ok, Err, Vec}
+use Rattle.std.specs.Io.KnownBytes.{Appends}
+use Rattle.std.specs.Global.{Global}
+use Rattle.rd_step.specs.Prelude.{Refusal, NoMemory}
+use Rattle.rd_marks.specs.declared.commands.Command.{Command}
+use Rattle.rd_marks.specs.declared.replies.Reply.{Reply}
+use Rattle.rd_desk.specs.declared.gates.DeskRefusal.{DeskRefusal}
+use Rattle.rd_desk.specs.declared.gates.DeskRefusal.TheVariants as desk
+use Rattle.rd_script.specs.declared.answers.LineAnswer.{LineAnswer}
+use Rattle.rd_script.specs.declared.answers.LineAnswer.TheVariants.{Reply as Replied, Refused, Unread, HistoryFull, TicketsEnded, Busy, NotRecorded}
+use Rattle.rd_script.specs.declared.devices.sinks.WriteFault.{WriteFault}
+use Rattle.rd_script.specs.declared.faults.LineFault.{LineFault}
+use Rattle.rd_script.specs.declared.writing.headings.Heading.TheVariants.{Viewer, History}
+use Rattle.rd_script.specs.Device.{TakesBeginning}
+use Rattle.rd_script.specs.Headings.{heading_text}
+use Rattle.rd_script.specs.Replies.{text_of}
+
+-- a sink took the whole of a text and works, or it took a beginning of it and has failed
+abbrev pub WritesText : Option (List ℕ) → Option (List ℕ) → Bool → List ℕ → Result (Unit {0}) WriteFault → Type 0
+WritesText old new failed text (Ok _) = Appends old new text × (failed ≡ false)
+WritesText old new failed text (Err _) = TakesBeginning old new text × (failed ≡ true)
+
+-- what the desk answered, as the answer to a line
+abbrev pub line_answer : Result (Result Reply Refusal) DeskRefusal → LineAnswer
+line_answer (Ok (Ok reply)) = Replied reply
+line_answer (Ok (Err refusal)) = Refused refusal
+line_answer (Err desk.HistoryFull) = HistoryFull
+line_answer (Err desk.NotRecorded) = NotRecorded
+line_answer (Err desk.TicketsEnded) = TicketsEnded
+line_answer (Err (desk.Busy words)) = Busy words.next words.served
+
+-- what the lines of a script were answered, line by line: a fault by itself, each command by the next answer
+abbrev pub report_text : List (Result Command LineFault) → List (Result (Result Reply Refusal) DeskRefusal) → List ℕ
+report_text [] answers = []
+report_text (Err fault ∷ said) answers = text_of (Unread fault) ++ report_text said answers
+report_text (Ok command ∷ said) (answer ∷ answers) = text_of (line_answer answer) ++ report_text said answers
+report_text (Ok command ∷ said) [] = []
+
+-- the lines of a viewer: it was asked, or it was not started for want of memory
+abbrev pub replies_text : List (Result Command LineFault) → Option (Vec (Result (Result Reply Refusal) DeskRefusal) Global) → List ℕ
+replies_text said (Some answers) = report_text said answers.items
+replies_text said None = text_of (Refused NoMemory)
+
+-- a viewer's heading and its lines
+abbrev pub viewer_text : ℕ → List (Result Command LineFault) → Option (Vec (Result (Result Reply Refusal) DeskRefusal) Global) → List ℕ
+viewer_text number said told = heading_text (Viewer number) ++ replies_text said told
+
+-- the viewers from this number on, and the number of recorded calls
+abbrev pub view_text : ℕ → List (Vec (Result Command LineFault) Global) → List (Option (Vec (Result (Result Reply Refusal) DeskRefusal) Global)) → ℕ → List ℕ
+view_text number (said ∷ others) (told ∷ more) calls = viewer_text number said.items told ++ view_text (number + 1) others more calls
+view_text number [] told calls = heading_text (History calls)
+view_text number (said ∷ others) [] calls = heading_text (History calls)

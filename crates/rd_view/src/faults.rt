@@ -1,0 +1,35 @@
+//! Why a view was not written.
+
+ghost use Rattle.std.specs.Prelude.{◌≡◌};
+ghost use Rattle.rd_view.specs.declared.faults.ViewFault.TheVariants.{NoMemory, Write};
+
+use rd_desk::Busy;
+use rd_script::WriteFault;
+use std::alloc::AllocError;
+
+/// Why a view was not written.
+#[derive(Clone, Copy, Debug, PartialEq, Eq)]
+pub enum ViewFault {
+    /// 20: memory was refused. Nothing was written.
+    NoMemory,
+    /// 25: the writer failed or took nothing. A beginning of the text was written.
+    Write,
+    /// 30: the desk could not be closed, with the lock's words. Nothing was written.
+    Busy(Busy),
+}
+
+impl From<AllocError> for ViewFault {
+    ghost from_gives = { λ error fault. fault ≡ NoMemory };
+
+    fn from(_: AllocError) -> ViewFault {
+        ViewFault::NoMemory
+    }
+}
+
+impl From<WriteFault> for ViewFault {
+    ghost from_gives = { λ error fault. fault ≡ Write };
+
+    fn from(_: WriteFault) -> ViewFault {
+        ViewFault::Write
+    }
+}

@@ -1,0 +1,10 @@
+//! Viewers: scripts that several threads run over one desk, and the text of what each was answered.
+#![tactic(auto)]
+
+pub mod faults;
+pub mod reports;
+pub mod viewing;
+
+pub use faults::ViewFault;
+pub use reports::{Said, write_view};
+pub use viewing::view_scripts;

@@ -1,0 +1,75 @@
+//! Views of scripts: each viewer in a thread of its own, over one desk.
+
+use rd_cell::Refusal;
+use rd_journal::Session;
+use rd_marks::Book;
+use rd_script::WriteSink;
+use rd_step::World;
+use rd_view::viewing::view_scripts;
+use std::alloc::{AllocError, Global};
+use std::process::Abort;
+use std::sync::Wait;
+use std::test::Fail;
+use std::thread::Threads;
+
+/// The bytes of each script.
+fn bytes_of(alloc: Global, scripts: &[&str]) -> Result<Vec<Vec<u8>>, AllocError> {
+    let mut bytes = Vec::new(alloc);
+    for script in scripts {
+        bytes.push(Vec::from_slice(alloc, script.as_bytes())?)?;
+    }
+    Ok(bytes)
+}
+
+/// A book over the fresh world of four actors.
+fn fresh(alloc: Global) -> Result<Book<4>, Refusal> {
+    Ok(Book::open(alloc, Session::open(alloc, World::<4>::fresh(alloc, 4)?)))
+}
+
+/// Views one to 64 scripts over a fresh world of 4 actors, and compares the text with what is wanted.
+fn view_is<R: Threads + Wait + Abort + Sync>(
+    rt: &R,
+    alloc: Global,
+    scripts: &[&str],
+    wanted: &str,
+) -> Result<(), Fail> {
+    let bytes = bytes_of(alloc, scripts)?;
+    let scripts = bytes.as_slice();
+    assert!(rt; 1 <= scripts.len() && scripts.len() <= 64);
+    let book = fresh(alloc)?;
+    let mut text = Vec::new(alloc);
+    let viewed = view_scripts(rt, alloc, scripts, &mut WriteSink::new(&mut text), book);
+    assert!(rt;
+        viewed.is_ok() && text.as_slice() == wanted.as_bytes(),
+        "wanted {wanted}"
+    );
+    Ok(())
+}
+
+#[test]
+fn two_viewers_are_answered_in_order_and_their_calls_are_counted(
+    rt: HostRuntime,
+) -> Result<(), Fail> {
+    view_is(
+        &rt,
+        rt.alloc(),
+        &["len\nshow qhead\n", "show tail 0.0"],
+        "viewer 1\nat 0 0\nis 0.0\nviewer 2\nis open 0\nhistory 3\n",
+    )
+}
+
+#[test]
+fn faulty_lines_between_commands_are_answered_in_place_and_not_asked(
+    rt: HostRuntime,
+) -> Result<(), Fail> {
+    view_is(
+        &rt,
+        rt.alloc(),
+        &[
+            "hello\nenq 1 7\nmark A\ngo 1\n\n",
+            "",
+            "enq 17 5\nenq 01 7\n",
+        ],
+        "viewer 1\nrefused 22 BadLine\nok 1\nrefused 17 BadName\nok 2\nrefused 22 BadLine\nviewer 2\nviewer 3\nrefused 1 NoActor\nrefused 22 BadLine\nhistory 3\n",
+    )
+}
