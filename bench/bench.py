@@ -152,6 +152,27 @@ def lone_undo_jobs(steps):
     return jobs
 
 
+def free_steps_job(steps):
+    """Free steps at random places of a run, each undone alone and redone, so that it stands last."""
+    source = random.Random(SEED)
+    lines = random_run(steps - SPARE * SPARE_STEPS, enqueues=0.0)
+    spare = spare_steps()
+    places = sorted(source.sample(range(len(lines)), SPARE))
+    free = []  # where each spare actor's last step stands, from 1
+    for number, place in enumerate(places):
+        at = place + number * SPARE_STEPS
+        lines[at:at] = spare[number * SPARE_STEPS:(number + 1) * SPARE_STEPS]
+        free.append(at + SPARE_STEPS)
+    base = Job("run with free steps at random", steps, lines, steps, actors=4 + SPARE)
+    source.shuffle(free)
+    pairs = []
+    for number, place in enumerate(free):
+        moved = sum(earlier < place for earlier in free[:number])
+        pairs += [f"undo {place - moved}", "redo"]
+    name = "`undo K` and `redo` of a free step at random"
+    return Job(name, steps, lines + pairs, SPARE, base, f"at {steps} 0", actors=4 + SPARE)
+
+
 def refused_undo_jobs(steps, few):
     """Lone undos that only the last step of the run refuses: the actor of the step goes on at the end."""
     jobs, times = [], 50 if few else 200
@@ -204,7 +225,7 @@ def all_jobs(options):
     for steps in options.lengths:
         base = Job("random run of `enq`, `deq`, `go`, `starve`", steps, random_run(steps), steps)
         jobs += [base] + walking_jobs(base, few) + rollback_jobs(base)
-        jobs += lone_undo_jobs(steps) + refused_undo_jobs(steps, few)
+        jobs += lone_undo_jobs(steps) + [free_steps_job(steps)] + refused_undo_jobs(steps, few)
         jobs += mark_jobs(base, min(options.marks, steps), few) + [same_job(steps, few)]
     return [job for job in jobs if options.only in job.name]
 

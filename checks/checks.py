@@ -1,17 +1,21 @@
 #!/usr/bin/env python3
-"""Refuses memory to the built program, at each point in turn, and looks at what it answers.
+"""Refuses memory to the tests of `crates/shortages` and to the built program, at each point in turn, and looks at what they answer.
 
-    python3 checks/checks.py [PART..] [--program P]
+    python3 checks/checks.py [PART..] [--program P] [--tests T]
 
 Parts, all of them if none is named:
 
+    devices   the tests of crates/shortages over devices that fail at each of their calls, which the gate runs too
+    tests     the other tests of crates/shortages, with each one of their allocations refused in turn
+    none      its tests of calls that take no memory, with all allocations refused from each one on
     one       the program, with each one of its allocations refused in turn
     rest      the program, with all allocations refused from each one on
     undos     the program, with all refused from a line on: undos, redos and queries answer as ever
     limits    the program under a limit of its address space that is lowered step by step
 
-P is the built program, which `rt ci` leaves as crates/lcrqdb/out/lcrqdb. Each part prints a line with how many points were refused, and the
-status is 1 if anything is wrong. It needs a C compiler (`cc`) and `prlimit`. Only Python's standard library is used.
+P is the built program, T the built tests of crates/shortages; `rt ci` leaves both in the crates' folders out/. Each part prints a line with
+how many points were refused, and the status is 1 if anything is wrong. It needs a C compiler (`cc`) and `prlimit`. Only Python's standard
+library is used.
 """
 
 import argparse
@@ -134,9 +138,8 @@ def fault_in_run(program, words, script, ended):
 
 def fault_in_traced_run(program, words, script, ended):
     """What is wrong with a run of a script that writes its trace: there is the whole trace of what was done, or none of it."""
-    end = ended.output.rfind(b'{"actors"')
-    if end >= 0:
-        report, trace = ended.output[:end], ended.output[end:]
+    report, trace = parted(ended.output)
+    if trace:
         kept = kept_lines(script, report)
         wanted = usual(program, words, kept)
         fits = (ended.status, ended.errors) == (0, "") and wanted.endswith(trace)
@@ -145,6 +148,12 @@ def fault_in_traced_run(program, words, script, ended):
         return f"status {ended.status}, {ended.errors!r}"
     without = tuple(it for it in words if it != "--trace")
     return fault_in_report(program, without, script, ended.output) if ended.output else ""
+
+
+def parted(output):
+    """The report of a run that writes its trace, and the trace, which is nothing where there is none: its line alone begins with a brace."""
+    lines = output.splitlines(keepends=True)
+    return (b"".join(lines[:-1]), lines[-1]) if lines and lines[-1].startswith(b"{") else (output, b"")
 
 
 def kept_lines(script, report):
@@ -215,6 +224,13 @@ MORE = ["mark a", "undo", "undo 28", "back 3", "forward 2", "mark b", "hello", "
 MORE += ["starve 1 yes", "aenq 4 5", "go 4", "adeq 4", "goto c", "drop b", "goto b", "same c a", "back 30", "enq 4 5", "mark A", "roll 1"]
 
 TRACE = b'{"actors":4,"events":[["enq",1,7],["go",1],["aenq",2,5],["deq",3],["go",3]],"ring":4,"version":1}\n'
+# a start of its own, whose actor makes the next ring, with live and undone events and two bookmarks that share two
+START = b'{"actors":[{"closed":false,"crq":[0,0],"h":0,"idx":0,"new":[0,0],"next":[0,0],"op":["enq",1],"pass":0,"pc":"E11","safe":false,"t":2,"val":null}],'
+START += b'"array":{"cells":[[1,"top"],[63,5]],"head":2,"tail":3},"qhead":[0,0],"qtail":[0,0],'
+START += b'"segments":[[{"cells":[[true,0,7],[true,1,8]],"closed":false,"head":0,"next":null,"tail":2}],[]]}'
+STEP = b'["go",1]'
+SESSION = b'{"events":[' + b",".join([STEP] * 3) + b'],"marks":[{"events":[' + b",".join([STEP] * 2) + b'],"name":"a"},{"events":[' + b",".join([STEP] * 4)
+SESSION += b',["adeq",1]],"name":"b"}],"ring":2,"start":' + START + b',"undone":[' + STEP + b'],"version":2}\n'
 
 
 def script_of(lines):
@@ -236,14 +252,17 @@ def command_lines(folder):
     """Command lines with the script on standard input, and what says what is wrong with their end."""
     script = asked_behind(RACE + MORE)
     files = []
-    for name, text in [("script", script), ("trace", TRACE), ("first", b"len\nhello\nshow qhead\n"), ("second", b"show tail 0.0\nactor 1\n")]:
+    texts = [("script", script), ("trace", TRACE), ("session", SESSION), ("first", b"len\nhello\nshow qhead\n"), ("second", b"show tail 0.0\nactor 1\n")]
+    for name, text in texts:
         files.append(os.path.join(folder, name))
         pathlib.Path(files[-1]).write_bytes(text)
-    file, trace, first, second = files
+    file, trace, session, first, second = files
     yield "run", ("run", "-", "--ring", "2"), script, fault_in_run
     yield "run of a file", ("run", file, "--ring", "2"), b"", functools.partial(fault_in_file_run, script)
-    yield "run --trace", ("run", "-", "--ring", "2", "--trace"), script_of(RACE[:9]), fault_in_traced_run
+    yield "run --trace", ("run", "-", "--ring", "2", "--trace"), script_of(RACE[:9] + ["mark a", "back 2", "mark b"]), fault_in_traced_run
     yield "load", ("load", trace), script_of(["len", "go 1", "undo", "mark a", "len"]), fault_in_run
+    moves = ["len", "marks", "markat 2", "redo", "deq 1", "same a b", "goto b", "undo", "mark c", "goto a", "go 1", "len", "show whole 1.0"]
+    yield "load of a whole session", ("load", session), script_of(moves), fault_in_run
     yield "view", ("view", first, second, first, second), b"", fault_in_view
     yield "help", ("run", "--help"), b"", fault_in_words
     yield "a mistake", ("run", "-", "--ring", "3"), b"", fault_in_words
@@ -255,6 +274,51 @@ def fault_in_file_run(script, program, words, _given, ended):
 
 
 # ---- Parts --------------------------------------------------------------------------------------------------------------
+
+
+DEVICES = "tests::devices::"  # tests that make so many runs that to refuse each allocation of each would take hours
+NONE = "tests::none_left::"  # tests that pass whatever is refused to them from some point on
+
+
+def tests_of(tests):
+    """The names of the tests in a built test program."""
+    listed = run([tests, "--list"]).output.decode()
+    return [line.removesuffix(": test") for line in listed.splitlines() if line.endswith(": test")]
+
+
+def devices_part(given, _refuser):
+    """Each test over devices that fail, once."""
+    for name in tests_of(given.tests):
+        if name.startswith(DEVICES):
+            ended = run([given.tests, name])
+            yield name.removeprefix("tests::"), None, fault_in_test(ended)
+
+
+def fault_in_test(ended):
+    """What is wrong with a run of a test."""
+    return "" if ended.status == 0 else f"status {ended.status}, {ended.errors.strip()!r}"
+
+
+def refused_tests(given, names, runs):
+    """Each test of these names with allocations refused from each number on, as `runs` does it."""
+    for name in names:
+        points, fault = 0, ""
+        for number, ended in each_refused(lambda number, name=name: runs([given.tests, name], number)):
+            points += 1
+            found = fault_in_test(ended)
+            if found and not fault:
+                fault = f"allocation {number}: {found}"
+        yield name.removeprefix("tests::"), points, fault
+
+
+def tests_part(given, refuser):
+    """Each test with each one of its allocations refused."""
+    return refused_tests(given, [name for name in tests_of(given.tests) if not name.startswith(DEVICES)], refuser.one)
+
+
+def none_part(given, refuser):
+    """Each test of calls that take no memory, with all allocations refused from each one on."""
+    return refused_tests(given, [name for name in tests_of(given.tests) if name.startswith(NONE)], refuser.rest)
 
 
 def program_part(given, refuser, runs):
@@ -342,7 +406,8 @@ def limits_part(given, refuser):
         yield f"{name}, {len(limits)} limits from {limits[-1] >> 10} to {floor >> 10} KiB", short, fault
 
 
-PARTS = {"one": one_part, "rest": rest_part, "undos": undos_part, "limits": limits_part}
+PARTS = {"devices": devices_part, "tests": tests_part, "none": none_part}
+PARTS |= {"one": one_part, "rest": rest_part, "undos": undos_part, "limits": limits_part}
 
 
 def told(part, outcomes):
@@ -364,6 +429,7 @@ def main():
     parser = argparse.ArgumentParser(description="Refuses memory at each point in turn, and looks at what is answered.")
     parser.add_argument("parts", nargs="*", choices=[[], *PARTS], metavar="PART", help=f"{', '.join(PARTS)}; all if none is named")
     parser.add_argument("--program", default=str(ROOT / "crates/lcrqdb/out/lcrqdb"), help="the built program")
+    parser.add_argument("--tests", default=str(ROOT / "crates/shortages/out/shortages_tests"), help="the built tests of crates/shortages")
     given, wrong = parser.parse_args(), 0
     with tempfile.TemporaryDirectory() as folder:
         refuser = Refuser(folder)

@@ -2,7 +2,7 @@
 
 ghost use Rattle.std.specs.Prelude.{◌≡◌};
 ghost use Rattle.rd_cell.specs.declared.places.TheConstants.SegName.{ROOT};
-ghost use Rattle.rd_cell.specs.Places.{covers, is_array, is_of, overlaps, root, segment_of};
+ghost use Rattle.rd_cell.specs.Places.{is_array, is_of, overlaps, root, segment_of};
 
 /// The name of a segment: (maker, n) is the one that this actor made as its n-th, from 0. The root is (0, 0).
 #[derive(Clone, Copy, Debug, PartialEq, Eq)]
@@ -63,19 +63,15 @@ impl Place {
     }
 }
 
-/// Whether two places overlap: they are equal, or one is the whole of the segment that the other belongs to.
+/// Whether two places overlap: they are equal, or one is the whole of the segment that the other belongs to. A scan for a
+/// dependant asks this of each step, so each place is looked at once.
+#[inline(always)]
 pub fn overlaps(a: Place, b: Place) -> bool
     ensures { result ≡ overlaps a b }
 {
-    covers(a, b) || covers(b, a)
-}
-
-/// Whether a write of `a` may change what is at `b`.
-fn covers(a: Place, b: Place) -> bool
-    ensures { result ≡ covers a b }
-{
-    match a {
-        Place::Whole(name) => is_of(name, b),
+    match (a, b) {
+        (Place::Whole(name), _) => is_of(name, b),
+        (_, Place::Whole(name)) => is_of(name, a),
         _ => a == b,
     }
 }

@@ -1,5 +1,5 @@
 -- What was done with the scripts in files, for options and for words.
-use Rattle.std.proofs.Common.{◌≡◌, Bool, false, ℕ, List, length, map, Option, Result, Ok, Vec, inl, inr, refl, subst, sym}
+use Rattle.std.proofs.Common.{◌≡◌, Bool, false, ℕ, List, length, map, Option, Result, Ok, Err, Vec, inl, inr, refl, subst, sym}
 use Rattle.std.specs.Prelude.{IsErrAnd}
 use Rattle.std.specs.Global.{Global}
 use Rattle.std.proofs.KnownBytes.{Keeps-refl}
@@ -7,7 +7,7 @@ use Rattle.clap.specs.Walk.{Text}
 use Rattle.rd_script.specs.Script.{Devices}
 use Rattle.rd_trace.specs.declared.rings.Ring.{Ring}
 use Rattle.rd_program.specs.declared.faults.ProgramFault.{ProgramFault}
-use Rattle.rd_program.specs.Program.{IsUnread, PlaysScript}
+use Rattle.rd_program.specs.Program.{IsUnread, PlaysScript, TouchesNothing}
 use Rattle.rd_program.specs.Viewers.{Tellings, ViewsFresh}
 use Rattle.rd_program.proofs.ProgramLemmas.{fault_passed_up}
 use Rattle.rd_command_line.specs.Answering.{Answers, HasOutcome, PlaysFile, ViewsFiles}
@@ -32,3 +32,10 @@ pub has_outcome : (tellings : Tellings) {S : Type 0} (text : S → Text) (words 
     → words ≡ Ok taken → slice ≡ taken.items → Answers tellings (map text slice) d r → HasOutcome tellings text words d r
 has_outcome tellings text words taken slice d r is same answers =
     subst (λ w. HasOutcome tellings text w d r) (sym is) (subst (λ xs. Answers tellings (map text xs) d r) same answers)
+
+-- words that could not be taken end it with their fault
+pub has_no_words : (tellings : Tellings) {S : Type 0} (text : S → Text) (words : Result (Vec S Global) ProgramFault) (fault : ProgramFault) (d : Devices) (r : Result ℕ ProgramFault)
+    → words ≡ Err fault → IsErrAnd r (λ e. e ≡ fault) → TouchesNothing d → HasOutcome tellings text words d r
+has_no_words tellings text words fault d r none is untouched =
+    subst (λ w. HasOutcome tellings text w d r) (sym none)
+    (fault_passed_up (λ outcome. HasOutcome tellings text (Err fault) d outcome) fault r is (refl, untouched))

@@ -64,10 +64,8 @@ fn outcome_of<R: Files + Threads + Wait + Sync, S: AsStr + Drop, I: Source, O: S
         (devices I.Source O.Sink input.old input.new output.old output.new) result }
     ensures shown { asks_for_output result ≡ true → O.has_failed output.new ≡ false }
 {
-    match words {
-        Ok(words) => answer(rt, alloc, words.as_slice(), input, output),
-        Err(fault) => Err(fault),
-    }
+    let words = words?;
+    answer(rt, alloc, words.as_slice(), input, output)
 }
 
 /// Does what the words of a command line ask for, of which the first is the program's name. Answers the number of the lines

@@ -32,7 +32,7 @@ pub fn options<'a, S: AsStr>(alloc: Global, words: &'a [S]) -> Result<Options<'a
 {
     let mut command = program(alloc)?;
     let matches = command.try_get_matches_from_mut(words)?;
-    let Some(options) = told(alloc, &matches)? else {
+    let Some(options) = options_from(alloc, &matches)? else {
         let error = command.error(ErrorKind::MissingRequiredArgument, "an option is missing")?;
         return Err(OptionsFault::Refused(error));
     };
@@ -63,30 +63,33 @@ fn mistake_in_text(alloc: Global) -> Result<Error, AllocError>
     )
 }
 
-/// The options that the matches of the whole command tell.
-fn told<'a>(alloc: Global, matches: &ArgMatches<'a>) -> Result<Option<Options<'a>>, AllocError>
-    ensures some { IfOk result (λ told. IfSome told (Tells (subcommand_rows_of matches.now))) }
-    ensures none { IfOk result (λ told. IsNone told → (o : Options) → Tells (subcommand_rows_of matches.now) o → ⊥) }
+/// The options from the matches of the whole command.
+fn options_from<'a>(
+    alloc: Global,
+    matches: &ArgMatches<'a>,
+) -> Result<Option<Options<'a>>, AllocError>
+    ensures some { IfOk result (λ asked. IfSome asked (Tells (subcommand_rows_of matches.now))) }
+    ensures none { IfOk result (λ asked. IsNone asked → (o : Options) → Tells (subcommand_rows_of matches.now) o → ⊥) }
 {
     if let Some(run) = matches.subcommand_matches("run") {
-        return Ok(told_by_run(run));
+        return Ok(run_from(run));
     }
     if let Some(view) = matches.subcommand_matches("view") {
-        return told_by_view(alloc, view);
+        return view_from(alloc, view);
     }
     match matches.subcommand_matches("load") {
-        Some(load) => Ok(told_by_load(load)),
+        Some(load) => Ok(load_from(load)),
         None => Ok(None),
     }
 }
 
-/// The options that the matches of `run` tell.
-fn told_by_run<'a>(run: &ArgMatches<'a>) -> Option<Options<'a>>
+/// The options from the matches of `run`.
+fn run_from<'a>(run: &ArgMatches<'a>) -> Option<Options<'a>>
     ensures some { IfSome result (TellsRun (rows_of (found_of run.now))) }
     ensures none { IsNone result → (o : Options) → TellsRun (rows_of (found_of run.now)) o → ⊥ }
 {
     let file = run.get_str("file")?;
-    let (actors, ring) = told_world(run)?;
+    let (actors, ring) = world_from(run)?;
     let trace = choice_of(run.get_str("trace")?)?;
     Some(Options::Run {
         file,
@@ -96,15 +99,15 @@ fn told_by_run<'a>(run: &ArgMatches<'a>) -> Option<Options<'a>>
     })
 }
 
-/// The options that the matches of `view` tell.
-fn told_by_view<'a>(alloc: Global, view: &ArgMatches<'a>) -> Result<Option<Options<'a>>, AllocError>
-    ensures some { IfOk result (λ told. IfSome told (TellsView (rows_of (found_of view.now)))) }
-    ensures none { IfOk result (λ told. IsNone told → (o : Options) → TellsView (rows_of (found_of view.now)) o → ⊥) }
+/// The options from the matches of `view`.
+fn view_from<'a>(alloc: Global, view: &ArgMatches<'a>) -> Result<Option<Options<'a>>, AllocError>
+    ensures some { IfOk result (λ asked. IfSome asked (TellsView (rows_of (found_of view.now)))) }
+    ensures none { IfOk result (λ asked. IsNone asked → (o : Options) → TellsView (rows_of (found_of view.now)) o → ⊥) }
 {
     let Some(files) = view.get_strs("files") else {
         return Ok(None);
     };
-    let Some((actors, ring)) = told_world(view) else {
+    let Some((actors, ring)) = world_from(view) else {
         return Ok(None);
     };
     if files.is_empty() {
@@ -118,8 +121,8 @@ fn told_by_view<'a>(alloc: Global, view: &ArgMatches<'a>) -> Result<Option<Optio
     }))
 }
 
-/// The actors and the ring that matches tell.
-fn told_world<'a>(matches: &ArgMatches<'a>) -> Option<(u8, Ring)>
+/// The actors and the ring from matches.
+fn world_from<'a>(matches: &ArgMatches<'a>) -> Option<(u8, Ring)>
     ensures some { IfSome result (λ world. TellsWorld (rows_of (found_of matches.now)) world.0 world.1) }
     ensures none { IsNone result → (actors : ℕ) (ring : Ring) → TellsWorld (rows_of (found_of matches.now)) actors ring → ⊥ }
 {
@@ -132,8 +135,8 @@ fn told_world<'a>(matches: &ArgMatches<'a>) -> Option<(u8, Ring)>
     }
 }
 
-/// The options that the matches of `load` tell.
-fn told_by_load<'a>(load: &ArgMatches<'a>) -> Option<Options<'a>>
+/// The options from the matches of `load`.
+fn load_from<'a>(load: &ArgMatches<'a>) -> Option<Options<'a>>
     ensures some { IfSome result (TellsLoad (rows_of (found_of load.now))) }
     ensures none { IsNone result → (o : Options) → TellsLoad (rows_of (found_of load.now)) o → ⊥ }
 {

@@ -1,11 +1,11 @@
 -- The positions above a number taken out of all lists: the index is then that of the first entries.
-use Rattle.std.proofs.Common.{◌≡◌, ℕ, zero, suc, ◌+◌, ◌-◌, ◌<◌, ◌≤◌, Bool, true, false, nat_lt, if◌then◌else◌, List, [], ◌∷◌, ◌++◌, length, get_or, take, refl, sym, ap, ◌∙◌, arith}
+use Rattle.std.proofs.Common.{◌≡◌, ℕ, zero, suc, ◌+◌, ◌<◌, ◌≤◌, Bool, true, false, nat_lt, if◌then◌else◌, List, [], ◌∷◌, length, get_or, take, refl, sym, ap, ◌∙◌, arith}
 use Rattle.std.proofs.lemmas.Bool.Decides.{nat_tests}
 use Rattle.std.proofs.lemmas.List.{take_all, length-take-le}
 use Rattle.rd_step.specs.declared.entries.Entry.{Entry}
 use Rattle.rd_depend.specs.declared.index.DependIndex.{DependIndex}
-use Rattle.rd_depend.specs.Lists.{AscendsFrom, IsAscending, up_to}
-use Rattle.rd_depend.specs.Index.{positions_from, positions, touches, kept, IsIndexOf, CutsAll}
+use Rattle.rd_depend.specs.Lists.{AscendsFrom, up_to}
+use Rattle.rd_depend.specs.Index.{positions_from, positions, touches, IsIndexOf, CutsAll}
 use Rattle.rd_depend.proofs.IndexPositions.{positions-ascend}
 use Rattle.rd_depend.proofs.IndexLists.{ascends-at}
 use Rattle.rd_depend.proofs.IndexFirst.{kept-ascends}
@@ -41,7 +41,7 @@ none_left : (m n : ℕ) (ps : List ℕ) → AscendsFrom m ps → n < m → up_to
 none_left m n [] h less = refl
 none_left m n (p ∷ ps) h less = up_to_none n p ps (omega (arith, h.0, less))
 
-positions-up_to : (test : Entry → Bool) (n m k : ℕ) (es : List Entry) → k + m ≡ n + 1 → up_to n (positions_from test m es) ≡ positions_from test m (take k es)
+pub positions-up_to : (test : Entry → Bool) (n m k : ℕ) (es : List Entry) → k + m ≡ n + 1 → up_to n (positions_from test m es) ≡ positions_from test m (take k es)
 positions-up_to test n m zero es h = none_left m n (positions_from test m es) (positions-ascend test m es) (omega arith)
 positions-up_to test n m (suc k) [] h = refl
 positions-up_to test n m (suc k) (x ∷ xs) h = by (test x) (positions-up_to test n (m + 1) k xs (omega arith))

@@ -1,23 +1,21 @@
 -- The first dependant, from the first later positions in an actor's list, a place's and a segment's.
-use Rattle.std.proofs.Common.{◌≡◌, ℕ, zero, suc, ◌+◌, ◌-◌, ◌<◌, ◌≤◌, min, Bool, true, false, not, ◌&&◌, ◌||◌, ◌==◌, ◌⊎◌, inl, inr, if◌then◌else◌, nat_lt, List, [], ◌∷◌, ◌++◌, length, take, drop, Option, Some, None, slice_get, refl, sym, ap, subst, ◌∙◌, arith}
-use Rattle.std.proofs.lemmas.Bool.{or_cases, or_left, or_right, false≢true}
+use Rattle.std.proofs.Common.{◌≡◌, ℕ, zero, suc, ◌+◌, ◌<◌, ◌≤◌, min, Bool, true, false, not, ◌&&◌, ◌||◌, ◌==◌, ◌⊎◌, inl, inr, if◌then◌else◌, nat_lt, List, [], ◌∷◌, length, drop, Option, Some, None, refl, sym, ap, subst, ◌∙◌, arith}
+use Rattle.std.proofs.lemmas.Bool.{or_cases, or_left, or_right}
 use Rattle.std.proofs.lemmas.Bool.Decides.{nat_tests}
 use Rattle.std.specs.Cmp.{both_ways}
 use Rattle.rd_cell.specs.declared.places.SegName.{SegName}
 use Rattle.rd_cell.specs.declared.places.Place.{Place}
-use Rattle.rd_cell.specs.declared.places.Place.TheVariants.{QHead, QTail, Head, Tail, Next, Cell, Whole, ArrHead, ArrTail, ArrCell}
+use Rattle.rd_cell.specs.declared.places.Place.TheVariants.{Head, Tail, Next, Cell, Whole}
 use Rattle.rd_cell.specs.Places.{is_name, is_of, is_place, segment_of, covers, overlaps, some_overlap}
 use Rattle.rd_cell.proofs.PlaceLemmas.{is_name-true, is_name-refl, is_place-true, is_place-refl, is_of-name, covers_cases, covers-refl}
 use Rattle.rd_step.specs.declared.entries.Entry.{Entry}
 use Rattle.rd_step.specs.Dependence.{first_from, first_after, first_dependant, numbered, depends}
 use Rattle.rd_depend.specs.declared.index.DependIndex.{DependIndex}
-use Rattle.rd_depend.specs.declared.index.keys.Key.{Key}
 use Rattle.rd_depend.specs.declared.index.keys.Key.TheVariants.{At, In}
 use Rattle.rd_depend.specs.Keys.{is_under}
 use Rattle.rd_depend.specs.Lists.{AscendsFrom, IsAscending, first_above, earlier}
 use Rattle.rd_depend.specs.Tables.{counts}
 use Rattle.rd_depend.specs.Index.{Touch, By, Under, touches, positions_from, positions, kept, IsIndexOf}
-use Rattle.rd_depend.proofs.IndexLists.{ascends_lower}
 use Rattle.rd_depend.proofs.IndexPositions.{positions-ascend, positions-number, number-within, ascending}
 
 -- the same test

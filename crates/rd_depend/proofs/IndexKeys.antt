@@ -1,13 +1,13 @@
 -- What is kept under a key, and the two keys of a place.
-use Rattle.std.proofs.Common.{◌≡◌, ℕ, Bool, true, false, ◌&&◌, ◌||◌, Option, Some, None, refl, sym, ap, subst, ◌∙◌}
-use Rattle.std.proofs.lemmas.Bool.{false_from_ne_true, or_left, or_right}
+use Rattle.std.proofs.Common.{◌≡◌, Bool, true, false, ◌&&◌, ◌||◌, Option, Some, None, refl, sym, ap, ◌∙◌}
+use Rattle.std.proofs.lemmas.Bool.{or_left, or_right}
 use Rattle.rd_cell.specs.declared.places.SegName.{SegName}
 use Rattle.rd_cell.specs.declared.places.Place.{Place}
 use Rattle.rd_cell.specs.declared.places.Place.TheVariants.{QHead, QTail, Head, Tail, Next, Cell, Whole, ArrHead, ArrTail, ArrCell}
-use Rattle.rd_cell.specs.Places.{is_name, is_of, is_place}
+use Rattle.rd_cell.specs.Places.{is_of, is_place}
 use Rattle.rd_depend.specs.declared.index.keys.Key.{Key}
 use Rattle.rd_depend.specs.declared.index.keys.Key.TheVariants.{At, In}
-use Rattle.rd_depend.specs.Keys.{is_key, is_that, is_under, place_key, segment_of_place, segment_key}
+use Rattle.rd_depend.specs.Keys.{is_that, is_under, place_key, segment_of_place, segment_key}
 use Rattle.rd_depend.specs.KeyLaws.{is_key-refl}
 
 no_segment : (p r : Place) → is_that (At p) (segment_of_place r) ≡ false

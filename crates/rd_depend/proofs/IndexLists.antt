@@ -1,9 +1,9 @@
 -- Ascending positions: the search for the first that is greater than a number, and a position taken out.
-use Rattle.std.proofs.Common.{◌≡◌, ℕ, zero, suc, ◌+◌, ◌-◌, ◌*◌, ◌/◌, ◌^◌, ◌<◌, ◌≤◌, Bool, true, false, cond, nat_lt, ◌==◌, if◌then◌else◌, List, [], ◌∷◌, ◌++◌, length, get_or, set, take, drop, slice_get, Option, Some, None, refl, sym, ap, subst, ◌∙◌, arith, append_assoc}
+use Rattle.std.proofs.Common.{◌≡◌, ℕ, zero, suc, ◌+◌, ◌-◌, ◌*◌, ◌/◌, ◌^◌, ◌<◌, ◌≤◌, Bool, true, false, nat_lt, ◌==◌, if◌then◌else◌, List, [], ◌∷◌, ◌++◌, length, get_or, set, take, drop, slice_get, Some, None, refl, sym, ap, subst, ◌∙◌, arith}
 use Rattle.std.proofs.lemmas.Bool.Decides.{nat_tests}
 use Rattle.std.proofs.Math.Nat.{pow-succ'}
 use Rattle.std.specs.List.{remove}
-use Rattle.rd_depend.specs.Lists.{AscendsFrom, IsAscending, closed, number_up_to, first_above}
+use Rattle.rd_depend.specs.Lists.{AscendsFrom, IsAscending, closed, number_up_to, lowered_from, first_above}
 
 -- a lower start serves too
 pub ascends_lower : (m n : ℕ) (ps : List ℕ) → m ≤ n → AscendsFrom n ps → AscendsFrom m ps
@@ -44,6 +44,18 @@ number-below k [] i d within gt = omega arith
 number-below k (p ∷ ps) zero d within gt = omega (arith, number_up_to_none k p ps gt)
 number-below k (p ∷ ps) (suc i) d within gt =
     let rest : number_up_to k ps ≤ i = number-below k ps i d (omega arith) gt in grind (arith, nat_tests)
+
+-- each of them is at most k
+pub among_them : (k : ℕ) (ps : List ℕ) (i d : ℕ) → i < number_up_to k ps → get_or ps i d ≤ k
+among_them k ps i d h = by (nat_lt k (get_or ps i d)) refl
+  where
+    by : (b : Bool) → nat_lt k (get_or ps i d) ≡ b → get_or ps i d ≤ k
+    by false e = grind (arith, nat_tests)
+    by true e =
+        let gt : k < get_or ps i d = grind (arith, nat_tests) in
+        let all : number_up_to k ps ≤ length ps = number-within k ps in
+        let past : number_up_to k ps ≤ i = number-below k ps i d (omega (arith, h, all)) gt in
+        absurd (omega (arith, past, h))
 
 -- the first that is greater stands behind them
 pub first_above-at : (k : ℕ) (ps : List ℕ) → first_above k ps ≡ slice_get ps (number_up_to k ps)
@@ -127,12 +139,7 @@ first-missing k ps index count past = sym (gone ps index past) ∙ ap (λ (i : �
     gone (x ∷ xs) zero h = absurd (omega arith)
     gone (x ∷ xs) (suc i) h = gone xs i (omega arith)
 
--- one position lowered, from the end of a list on
-
-take_end : (xs : List ℕ) (e d : ℕ) → e < length xs → take (suc e) xs ≡ take e xs ++ get_or xs e d ∷ []
-take_end [] e d h = absurd (omega arith)
-take_end (x ∷ xs) zero d h = refl
-take_end (x ∷ xs) (suc e) d h = ap (λ (l : List ℕ). x ∷ l) (take_end xs e d (omega arith))
+-- positions lowered, from the end of a list on
 
 take_fewer : (xs ys : List ℕ) (e : ℕ) → take (suc e) ys ≡ take (suc e) xs → take e ys ≡ take e xs
 take_fewer xs ys zero h = refl
@@ -151,47 +158,110 @@ at_both (x ∷ xs) [] e d h = absurd cc
 at_both (x ∷ xs) (y ∷ ys) zero d h = cc
 at_both (x ∷ xs) (y ∷ ys) (suc e) d h = let rest : take (suc e) ys ≡ take (suc e) xs = cc in at_both xs ys e d rest
 
-take_lowered : (ys : List ℕ) (e w : ℕ) → take e (set ys e w) ≡ take e ys
-take_lowered [] e w = refl
-take_lowered (y ∷ ys) zero w = refl
-take_lowered (y ∷ ys) (suc e) w = ap (λ (l : List ℕ). y ∷ l) (take_lowered ys e w)
-
-drop_lowered : (ys : List ℕ) (e w : ℕ) → e < length ys → drop e (set ys e w) ≡ w ∷ drop (suc e) ys
-drop_lowered [] e w h = absurd (omega arith)
-drop_lowered (y ∷ ys) zero w h = refl
-drop_lowered (y ∷ ys) (suc e) w h = drop_lowered ys e w (omega arith)
-
-pub same_there : (ys : List ℕ) (e c d : ℕ) → e < length ys → get_or ys e c ≡ get_or ys e d
-same_there [] e c d h = absurd (omega arith)
-same_there (y ∷ ys) zero c d h = refl
-same_there (y ∷ ys) (suc e) c d h = same_there ys e c d (omega arith)
+take_all : (ys : List ℕ) → take (length ys) ys ≡ ys
+take_all [] = refl
+take_all (y ∷ ys) = ap (λ (l : List ℕ). y ∷ l) (take_all ys)
 
 take_drop : (e : ℕ) (ys : List ℕ) → take e ys ++ drop e ys ≡ ys
 take_drop zero ys = refl
 take_drop (suc e) [] = refl
 take_drop (suc e) (y ∷ ys) = ap (λ (l : List ℕ). y ∷ l) (take_drop e ys)
 
--- what has been lowered so far, from the end down to e
+-- what is lowered from e on
 pub record IsLowered (k e : ℕ) (xs ys : List ℕ) : Type 0 where
   pub front : take e ys ≡ take e xs
   pub closes : closed k xs ≡ closed k (take e xs) ++ drop e ys
 
-pub lowered : (k end e : ℕ) (xs ys : List ℕ) (u v : ℕ) → end ≡ suc e → e < length xs → e < length ys → IsLowered k end xs ys
-    → u ≡ get_or ys e u → k < u → v ≡ get_or ys e v → IsLowered k e xs (set ys e (v - 1))
-lowered k end e xs ys u v next in_xs in_ys h at_u gt at_v =
+-- one more is one less
+pub lowers : (start n e : ℕ) (ps : List ℕ) (d : ℕ) → e ≡ start + n → e < length ps
+    → set (lowered_from start n ps) e (get_or (lowered_from start n ps) e d - 1) ≡ lowered_from start (suc n) ps
+lowers zero zero zero [] d at h = absurd (omega arith)
+lowers zero zero zero (p ∷ ps) d at h = refl
+lowers zero zero (suc e) ps d at h = absurd (omega arith)
+lowers zero (suc n) zero ps d at h = absurd (omega arith)
+lowers zero (suc n) (suc e) [] d at h = absurd (omega arith)
+lowers zero (suc n) (suc e) (p ∷ ps) d at h = ap (λ (l : List ℕ). (p - 1) ∷ l) (lowers zero n e ps d (omega arith) (omega arith))
+lowers (suc start) n zero ps d at h = absurd (omega arith)
+lowers (suc start) n (suc e) [] d at h = absurd (omega arith)
+lowers (suc start) n (suc e) (p ∷ ps) d at h = ap (λ (l : List ℕ). p ∷ l) (lowers start n e ps d (omega arith) (omega arith))
+
+pub lowered_none : (start : ℕ) (ps : List ℕ) → lowered_from start 0 ps ≡ ps
+lowered_none zero ps = refl
+lowered_none (suc start) [] = refl
+lowered_none (suc start) (p ∷ ps) = ap (λ (l : List ℕ). p ∷ l) (lowered_none start ps)
+
+pub lowered-length : (start n : ℕ) (ps : List ℕ) → length (lowered_from start n ps) ≡ length ps
+lowered-length zero zero ps = refl
+lowered-length zero (suc n) [] = refl
+lowered-length zero (suc n) (p ∷ ps) = ap suc (lowered-length zero n ps)
+lowered-length (suc start) n [] = refl
+lowered-length (suc start) n (p ∷ ps) = ap suc (lowered-length start n ps)
+
+lowered-take : (start n : ℕ) (ps : List ℕ) → take start (lowered_from start n ps) ≡ take start ps
+lowered-take zero n ps = refl
+lowered-take (suc start) n [] = refl
+lowered-take (suc start) n (p ∷ ps) = ap (λ (l : List ℕ). p ∷ l) (lowered-take start n ps)
+
+lowered-drop : (start n : ℕ) (ps : List ℕ) → drop start (lowered_from start n ps) ≡ lowered_from 0 n (drop start ps)
+lowered-drop zero n ps = refl
+lowered-drop (suc start) zero [] = refl
+lowered-drop (suc start) (suc n) [] = refl
+lowered-drop (suc start) n (p ∷ ps) = lowered-drop start n ps
+
+-- those behind their number ascend from above k
+ascends_beyond : (m k : ℕ) (ps : List ℕ) → AscendsFrom m ps → AscendsFrom (suc k) (drop (number_up_to k ps) ps)
+ascends_beyond m k [] h = tt
+ascends_beyond m k (p ∷ ps) h = by (nat_lt k p) refl (ascends_beyond (suc p) k ps h.1)
+  where
+    by : (b : Bool) → nat_lt k p ≡ b → AscendsFrom (suc k) (drop (number_up_to k ps) ps)
+        → AscendsFrom (suc k) (drop (if b then 0 else suc (number_up_to k ps)) (p ∷ ps))
+    by true e rest = (grind (arith, nat_tests), h.1)
+    by false e rest = rest
+
+-- where all are greater, each is one less
+closed_beyond : (m k n : ℕ) (ps : List ℕ) → k < m → AscendsFrom m ps → length ps ≤ n → closed k ps ≡ lowered_from 0 n ps
+closed_beyond m k zero [] less h few = refl
+closed_beyond m k (suc n) [] less h few = refl
+closed_beyond m k zero (p ∷ ps) less h few = absurd (omega arith)
+closed_beyond m k (suc n) (p ∷ ps) less h few =
+    closed_more k p ps (omega (arith, less, h.0))
+    ∙ ap (λ (l : List ℕ). (p - 1) ∷ l) (closed_beyond (suc p) k n ps (omega (arith, less, h.0)) h.1 (omega (arith, few)))
+
+drop-length : (e : ℕ) (ps : List ℕ) → length (drop e ps) ≡ length ps - e
+drop-length zero ps = omega arith
+drop-length (suc e) [] = omega arith
+drop-length (suc e) (p ∷ ps) = let rest : length (drop e ps) ≡ length ps - e = drop-length e ps in omega (arith, rest)
+
+-- all those behind their number were lowered
+pub all_lowered : (k border n : ℕ) (xs ys : List ℕ) → IsAscending xs → border ≡ number_up_to k xs → n ≡ length xs - border
+    → ys ≡ lowered_from border n xs → IsLowered k border xs ys
+all_lowered k border n xs ys h at count is = record {
+  front = ap (take border) is ∙ lowered-take border n xs;
+  closes =
+      ap (closed k) (sym (take_drop border xs)) ∙ closed-append k (take border xs) (drop border xs)
+      ∙ ap (λ (l : List ℕ). closed k (take border xs) ++ l)
+      (closed_beyond (suc k) k n (drop border xs) (omega arith) behind (omega (arith, count, drop-length border xs)) ∙ sym (ap (drop border) is ∙ lowered-drop border n xs));
+}
+  where
+    behind : AscendsFrom (suc k) (drop border xs)
+    behind = subst (λ (e : ℕ). AscendsFrom (suc k) (drop e xs)) (sym at) (ascends_beyond 0 k xs h)
+
+-- none is k or greater
+pub none_closed : (k : ℕ) (ps : List ℕ) → length ps ≡ 0 → closed k ps ≡ ps
+none_closed k [] h = refl
+none_closed k (p ∷ ps) h = absurd (omega arith)
+
+pub all_less : (k : ℕ) (ps : List ℕ) (e d : ℕ) → length ps ≡ suc e → IsAscending ps → get_or ps e d < k → closed k ps ≡ ps
+all_less k ps e d len h less =
+    let front : closed k (take (suc e) ps) ≡ take (suc e) ps = closed-front 0 k ps e d h (omega (arith, len)) less in
+    let whole : take (suc e) ps ≡ ps = ap (λ (n : ℕ). take n ps) (sym len) ∙ take_all ps in
+    ap (closed k) (sym whole) ∙ front ∙ whole
+
+-- what stands before the end is as it was
+pub at_front : (k end e : ℕ) (xs ys : List ℕ) (u : ℕ) → end ≡ suc e → IsLowered k end xs ys → u ≡ get_or ys e u → u ≡ get_or xs e u
+at_front k end e xs ys u next h at_u =
     let was : IsLowered k (suc e) xs ys = subst (λ (n : ℕ). IsLowered k n xs ys) next h in
-    let same : u ≡ v = at_u ∙ same_there ys e u v in_ys ∙ sym at_v in
-    let there : get_or xs e v ≡ v = sym (at_v ∙ at_both xs ys e v was.front) in
-    let bigger : k < v = omega (arith, same, gt) in
-    record {
-      front = take_lowered ys e (v - 1) ∙ take_fewer xs ys e was.front;
-      closes =
-          was.closes
-          ∙ ap (λ (l : List ℕ). closed k l ++ drop (suc e) ys) (take_end xs e v in_xs ∙ ap (λ (n : ℕ). take e xs ++ n ∷ []) there)
-          ∙ ap (λ (l : List ℕ). l ++ drop (suc e) ys) (closed-append k (take e xs) (v ∷ []) ∙ ap (λ (l : List ℕ). closed k (take e xs) ++ l) (closed_more k v [] bigger))
-          ∙ append_assoc (closed k (take e xs)) ((v - 1) ∷ []) (drop (suc e) ys)
-          ∙ ap (λ (l : List ℕ). closed k (take e xs) ++ l) (sym (drop_lowered ys e (v - 1) in_ys));
-    }
+    at_u ∙ at_both xs ys e u was.front
 
 -- the position itself was reached
 pub reached : (k end e : ℕ) (xs ys : List ℕ) (u : ℕ) → end ≡ suc e → e < length xs → e < length ys → IsLowered k end xs ys → IsAscending xs
@@ -212,25 +282,3 @@ passed k end e xs ys u next in_xs in_ys h ascending at_u less =
 -- the whole list was lowered
 pub emptied : (k end : ℕ) (xs ys : List ℕ) → end ≡ 0 → IsLowered k end xs ys → ys ≡ closed k xs
 emptied k end xs ys none h = let was : IsLowered k 0 xs ys = subst (λ (n : ℕ). IsLowered k n xs ys) none h in sym was.closes
-
--- nothing was lowered yet
-pub all_left : (k end : ℕ) (xs : List ℕ) → end ≡ length xs → IsLowered k end xs xs
-all_left k end xs h =
-    let whole : take end xs ≡ xs = ap (λ (n : ℕ). take n xs) h ∙ take_all xs in
-    let none : drop end xs ≡ [] = ap (λ (n : ℕ). drop n xs) h ∙ drop_all xs in
-    record {
-      front = refl;
-      closes = sym (append_nil (closed k xs)) ∙ (λ i. closed k (sym whole i) ++ sym none i);
-    }
-  where
-    take_all : (ys : List ℕ) → take (length ys) ys ≡ ys
-    take_all [] = refl
-    take_all (y ∷ ys) = ap (λ (l : List ℕ). y ∷ l) (take_all ys)
-
-    drop_all : (ys : List ℕ) → drop (length ys) ys ≡ []
-    drop_all [] = refl
-    drop_all (y ∷ ys) = drop_all ys
-
-    append_nil : (ys : List ℕ) → ys ++ [] ≡ ys
-    append_nil [] = refl
-    append_nil (y ∷ ys) = ap (λ (l : List ℕ). y ∷ l) (append_nil ys)

@@ -1,9 +1,9 @@
 -- Positions of the entries that pass a test: of a list with one more entry, of one with an entry taken out, and the first behind one.
-use Rattle.std.proofs.Common.{◌≡◌, ℕ, zero, suc, ◌+◌, ◌-◌, ◌<◌, ◌≤◌, min, Bool, true, false, ◌&&◌, ◌||◌, ◌==◌, if◌then◌else◌, nat_lt, List, [], ◌∷◌, ◌++◌, length, take, drop, Option, Some, None, slice_get, refl, sym, ap, subst, ◌∙◌, arith, add_assoc}
+use Rattle.std.proofs.Common.{◌≡◌, ℕ, zero, suc, ◌+◌, ◌-◌, ◌<◌, ◌≤◌, Bool, true, false, if◌then◌else◌, List, [], ◌∷◌, ◌++◌, length, take, drop, Some, slice_get, refl, sym, ap, ◌∙◌, arith}
 use Rattle.std.proofs.lemmas.Bool.Decides.{nat_tests}
 use Rattle.rd_step.specs.declared.entries.Entry.{Entry}
-use Rattle.rd_step.specs.Dependence.{first_from, first_after, first_dependant, numbered, depends}
-use Rattle.rd_depend.specs.Lists.{AscendsFrom, IsAscending, closed, first_above, earlier, one_if}
+use Rattle.rd_step.specs.Dependence.{numbered}
+use Rattle.rd_depend.specs.Lists.{AscendsFrom, IsAscending, closed, one_if}
 use Rattle.rd_depend.specs.Index.{positions_from, positions, number_of, without_entry}
 use Rattle.rd_depend.proofs.IndexLists.{ascends_lower}
 

@@ -1,5 +1,5 @@
 -- A position taken out of all lists: the index is then that of the entries without it, and there is room for it.
-use Rattle.std.proofs.Common.{◌≡◌, ℕ, ◌+◌, ◌-◌, ◌≤◌, Option, Some, None, List, ◌∷◌, length, slice_get, Vec, Bool, refl, sym, ap, ◌∙◌, arith}
+use Rattle.std.proofs.Common.{◌≡◌, ℕ, ◌+◌, ◌-◌, ◌≤◌, Option, Some, None, List, ◌∷◌, length, slice_get, Vec, refl, sym, ap, ◌∙◌, arith}
 use Rattle.std.specs.declared.alloc.Global.{Global}
 use Rattle.rd_step.specs.declared.entries.Entry.{Entry}
 use Rattle.rd_step.specs.Dependence.{numbered}
@@ -7,7 +7,7 @@ use Rattle.rd_depend.specs.declared.index.DependIndex.{DependIndex}
 use Rattle.rd_depend.specs.Keys.{slot_in}
 use Rattle.rd_depend.specs.Lists.{Lists, items_of, room_of, list_of, capacity_of, closed, one_if}
 use Rattle.rd_depend.specs.Tables.{lists_of}
-use Rattle.rd_depend.specs.Index.{Touch, By, Under, touches, positions, number_of, kept, capacity, spare, IsIndexOf, IsHeld, HasRoomFor, ClosesAll, without_entry}
+use Rattle.rd_depend.specs.Index.{Touch, By, Under, touches, kept, capacity, spare, IsIndexOf, IsHeld, HasRoomFor, ClosesAll, without_entry}
 use Rattle.rd_depend.proofs.IndexPositions.{positions-number, positions-remove, number-remove, length-remove}
 use Rattle.rd_depend.proofs.IndexFirst.{kept-ascends}
 

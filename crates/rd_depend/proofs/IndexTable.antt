@@ -1,18 +1,21 @@
 -- The table of keys: which key has which index, and what a change of the lists by index is for the keys.
-use Rattle.std.proofs.Common.{◌≡◌, ℕ, zero, suc, ◌+◌, ◌-◌, ◌<◌, ◌≤◌, Bool, true, false, ◌&&◌, ◌||◌, ◌==◌, if◌then◌else◌, nat_lt, cond, not, List, [], ◌∷◌, ◌++◌, length, take, Option, Some, None, slice_get, position, Vec, refl, sym, ap, subst, ◌∙◌, arith, eqb-true, eq-eqb}
-use Rattle.std.proofs.lemmas.Bool.{false_from_ne_true}
+use Rattle.std.proofs.Common.{◌≡◌, ℕ, zero, suc, ◌+◌, ◌-◌, ◌<◌, ◌≤◌, Bool, true, false, ◌&&◌, ◌||◌, ◌==◌, if◌then◌else◌, nat_lt, cond, not, List, [], ◌∷◌, ◌++◌, length, get_or, take, Option, Some, None, slice_get, position, Vec, refl, sym, ap, subst, ◌∙◌, arith, eqb-true, eq-eqb}
 use Rattle.std.proofs.lemmas.Bool.Decides.{nat_tests}
+use Rattle.std.proofs.lemmas.Map.Keys.{apart_from_distinct}
 use Rattle.std.specs.Cmp.{both_ways}
-use Rattle.std.specs.List.{list_any, position_or_len}
+use Rattle.std.specs.List.{list_any, position_or_len, IsDistinct}
 use Rattle.std.specs.Option.{option_map}
 use Rattle.std.specs.declared.alloc.Global.{Global}
 use Rattle.rd_cell.proofs.ListLemmas.{slice_get-push_same, slice_get-push_other}
+use Rattle.rd_cell.specs.declared.places.SegName.{SegName}
+use Rattle.rd_cell.specs.Places.{is_name}
 use Rattle.rd_depend.specs.declared.index.keys.Key.{Key}
+use Rattle.rd_depend.specs.declared.index.keys.Key.TheVariants.{In}
 use Rattle.rd_depend.specs.declared.index.table.Table.{Table}
 use Rattle.rd_depend.specs.Keys.{is_key, slot_in}
-use Rattle.rd_depend.specs.KeyLaws.{is_key-true, is_key-refl}
-use Rattle.rd_depend.specs.Lists.{Lists, items_of, room_of, list_at, capacity_at, spare_at, one_if, list_of, capacity_of}
-use Rattle.rd_depend.specs.Tables.{lists_of, kept_in, capacity_in, spare_in, counts, IsReady, KeepsLists, Puts, TakesLast, Closes}
+use Rattle.rd_depend.specs.KeyLaws.{is_key-true, is_key-refl, is_key-sym}
+use Rattle.rd_depend.specs.Lists.{Lists, items_of, room_of, list_at, spare_at, one_if, list_of, capacity_of}
+use Rattle.rd_depend.specs.Tables.{lists_of, kept_in, spare_in, counts, IsReady, KeepsLists, Puts, TakesLast}
 
 -- indices of keys
 
@@ -40,6 +43,32 @@ slot-within (q ∷ qs) k i h = by (is_key k q) (slot-within qs k) h
     by : (b : Bool) → ((j : ℕ) → slot_in qs k ≡ Some j → j < length qs) → (if b then Some 0 else option_map (λ n. suc n) (slot_in qs k)) ≡ Some i → i < length (q ∷ qs)
     by true rest g = let z : 0 ≡ i = cc in omega (arith, z)
     by false rest g = let s = suc_some (slot_in qs k) i g in omega (arith, s.2, rest s.0 s.1)
+
+-- a key that stands at an index has that index, since no key stands twice
+stands-slot : (keys : List Key) (k : Key) (i : ℕ) (d : Key) → IsDistinct is_key keys → i < length keys → k ≡ get_or keys i d → slot_in keys k ≡ Some i
+unfolding IsDistinct
+stands-slot keys k i d distinct within at = ap (slot_in keys) at ∙ own keys i d distinct within
+  where
+    first : (q : Key) (qs : List Key) → slot_in (q ∷ qs) q ≡ Some 0
+    first q qs = ap (λ (b : Bool). if b then Some 0 else option_map (λ n. suc n) (slot_in qs q)) (is_key-refl q)
+
+    behind : (q x : Key) (qs : List Key) (j : ℕ) → is_key q x ≡ false → slot_in qs x ≡ Some j → slot_in (q ∷ qs) x ≡ Some (suc j)
+    behind q x qs j apart at =
+        ap (λ (b : Bool). if b then Some 0 else option_map (λ n. suc n) (slot_in qs x)) (is_key-sym x q ∙ apart)
+        ∙ ap (option_map (λ n. suc n)) at
+
+    own : (ks : List Key) (j : ℕ) (d : Key) → IsDistinct is_key ks → j < length ks → slot_in ks (get_or ks j d) ≡ Some j
+    own [] j d s h = absurd (omega arith)
+    own (q ∷ qs) zero d s h = first q qs
+    own (q ∷ qs) (suc j) d s h =
+        behind q (get_or qs j d) qs j (apart_from_distinct is_key (q ∷ qs) 0 (suc j) d s (omega arith) h) (own qs j d s.1 (omega arith))
+
+-- the key of a segment that stands at an index has that index
+pub segment-slot : (keys read : List Key) (s found : SegName) (i : ℕ) (d : Key) → read ≡ keys → IsDistinct is_key keys → i < length read
+    → get_or read i d ≡ In found → is_name found s ≡ true → slot_in keys (In s) ≡ Some i
+segment-slot keys read s found i d same distinct within is name =
+    stands-slot keys (In s) i d distinct (omega (arith, within, ap length same))
+    (sym (is_key-true (In found) (In s) name) ∙ sym is ∙ ap (λ (ks : List Key). get_or ks i d) same)
 
 -- whether an index that may be there is this one
 abbrev pub is_slot : ℕ → Option ℕ → Bool
@@ -210,6 +239,27 @@ keeps_pushed old new k v u keys all writes none_v none_u in_all in_writes = reco
     room true q =
         let same : spare_in new true q ≡ room_left (old.writes.items ++ u ∷ []) (slot_in (old.keys.keys ++ k ∷ []) q) = λ i. room_left (writes i) (slot_in (keys i) q) in
         omega (arith, same, room_pushed old.keys.keys k q old.writes.items u in_writes)
+
+-- a change that leaves keys and lists
+pub noted : (old mid new : Table) → new.keys.keys ≡ mid.keys.keys → new.all.items ≡ mid.all.items → new.writes.items ≡ mid.writes.items
+    → KeepsLists old mid → KeepsLists old new
+noted old mid new keys all writes h = record {
+  lists = lists;
+  room = room;
+  slots = λ q i e. ap (λ (ks : List Key). slot_in ks q) keys ∙ h.slots q i e;
+}
+  where
+    lists : (w : Bool) (q : Key) → kept_in new w q ≡ kept_in old w q
+    lists false q = (λ i. list_of (all i) (slot_in (keys i) q)) ∙ h.lists false q
+    lists true q = (λ i. list_of (writes i) (slot_in (keys i) q)) ∙ h.lists true q
+
+    room : (w : Bool) (q : Key) → spare_in old w q ≤ spare_in new w q
+    room false q =
+        let same : spare_in new false q ≡ spare_in mid false q = λ i. room_left (all i) (slot_in (keys i) q) in
+        omega (arith, same, h.room false q)
+    room true q =
+        let same : spare_in new true q ≡ spare_in mid true q = λ i. room_left (writes i) (slot_in (keys i) q) in
+        omega (arith, same, h.room true q)
 
 -- a key that was not there stands last
 pub key_last : (keys new : List Key) (k : Key) → slot_in keys k ≡ None → new ≡ (if list_any (is_key k) keys then keys else keys ++ k ∷ []) → new ≡ keys ++ k ∷ []

@@ -7,6 +7,8 @@ pub mod IndexChanges
 pub mod IndexFirst
 pub mod IndexRemove
 pub mod IndexCuts
+pub mod LastPositions
+pub mod IndexWriters
 pub mod Moving
 pub mod Search
 pub mod Reaching

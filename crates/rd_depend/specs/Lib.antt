@@ -6,4 +6,5 @@ pub mod Keys
 pub mod Lists
 pub mod Tables
 pub mod Index
+pub mod Writers
 pub mod KeyLaws

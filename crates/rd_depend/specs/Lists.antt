@@ -1,5 +1,5 @@
 -- Lists of positions: what one holds, and what is found in it.
-use Rattle.std.specs.Prelude.{◌≡◌, ℕ, suc, ◌+◌, ◌-◌, ◌≤◌, Bool, true, false, nat_lt, ◌==◌, if◌then◌else◌, List, [], ◌∷◌, length, min, Option, Some, None, Vec, slice_get, vec_capacity}
+use Rattle.std.specs.Prelude.{ℕ, zero, suc, ◌-◌, ◌≤◌, Bool, nat_lt, ◌==◌, if◌then◌else◌, List, [], ◌∷◌, length, min, max, Option, Some, None, Vec, slice_get, vec_capacity}
 use Rattle.std.specs.declared.alloc.Global.{Global}
 
 -- lists by number
@@ -60,6 +60,14 @@ abbrev pub closed : ℕ → List ℕ → List ℕ
 closed k [] = []
 closed k (p ∷ ps) = if nat_lt p k then p ∷ closed k ps else if p == k then closed k ps else (p - 1) ∷ closed k ps
 
+-- so many of them one less, from this index on
+abbrev pub lowered_from : ℕ → ℕ → List ℕ → List ℕ
+lowered_from zero zero ps = ps
+lowered_from zero (suc n) [] = []
+lowered_from zero (suc n) (p ∷ ps) = (p - 1) ∷ lowered_from zero n ps
+lowered_from (suc start) n [] = []
+lowered_from (suc start) n (p ∷ ps) = p ∷ lowered_from start n ps
+
 -- those before the first that is greater than n
 abbrev pub up_to : ℕ → List ℕ → List ℕ
 up_to n [] = []
@@ -74,6 +82,22 @@ number_up_to k (p ∷ ps) = if nat_lt k p then 0 else suc (number_up_to k ps)
 abbrev pub first_above : ℕ → List ℕ → Option ℕ
 first_above k [] = None
 first_above k (p ∷ ps) = if nat_lt k p then Some p else first_above k ps
+
+-- the last of some positions that have this one in front
+abbrev pub last_or : ℕ → Option ℕ → Option ℕ
+last_or p None = Some p
+last_or p (Some q) = Some q
+
+-- the last of them, if there is one
+abbrev pub last_of : List ℕ → Option ℕ
+last_of [] = None
+last_of (p ∷ ps) = last_or p (last_of ps)
+
+-- the greater of two positions, or the one that is there
+abbrev pub later : Option ℕ → Option ℕ → Option ℕ
+later None o = o
+later (Some m) None = Some m
+later (Some m) (Some n) = Some (max m n)
 
 -- the lesser of two positions, or the one that is there
 abbrev pub earlier : Option ℕ → Option ℕ → Option ℕ

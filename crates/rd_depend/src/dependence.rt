@@ -7,14 +7,17 @@ use rd_cell::{Place, overlaps};
 use rd_step::Entry;
 
 /// Whether two steps depend on each other: they have one actor, or their places overlap and one of them wrote. It is
-/// the same either way round, so a write depends on a read before it as a read on a write.
+/// the same either way round, so a write depends on a read before it as a read on a write. Who wrote is asked before the
+/// places are compared: most steps that a scan meets only read.
+#[inline(always)]
 pub fn depends(a: &Entry, b: &Entry) -> bool
     ensures { result ≡ depends a.now b.now }
 {
-    a.event.actor == b.event.actor || (some_overlap(a.place, b.place) && (a.wrote || b.wrote))
+    a.event.actor == b.event.actor || ((a.wrote || b.wrote) && some_overlap(a.place, b.place))
 }
 
 /// Whether both accesses have places, and these overlap.
+#[inline(always)]
 fn some_overlap(a: Option<Place>, b: Option<Place>) -> bool
     ensures { result ≡ some_overlap a b }
 {

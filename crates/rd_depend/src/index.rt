@@ -8,6 +8,7 @@ ghost use Rattle.rd_step.specs.declared.entries.Entry.{Entry as Record};
 ghost use Rattle.rd_step.specs.Dependence.{numbered};
 ghost use Rattle.rd_step.specs.Prelude.{first_dependant};
 ghost use Rattle.rd_depend.specs.Index.{IsIndexOf, IsIndex, IsHeld, IsLast, HasRoomFor, without_entry};
+ghost use Rattle.rd_depend.specs.Writers.{last_position, writes_to};
 
 mod changing;
 mod finding;
@@ -17,8 +18,10 @@ mod positions;
 mod probes;
 mod searching;
 mod table;
+mod writers;
 
 pub use probes::Probes;
+use rd_cell::Place;
 use rd_cell::limits::MOST_STEPS;
 use rd_step::Entry;
 use std::alloc::{AllocError, Global};
@@ -135,5 +138,17 @@ impl DependIndex {
         ensures cost { probes.new.count ≤ probes.old.count + 96 }
     {
         self.first_above(k as u32, entry, probes)
+    }
+
+    /// The last position up to `n` whose entry wrote this place, or one that overlaps it; none if there is none. It makes at
+    /// most 38 probes, and takes no memory.
+    pub fn last_writer(&self, n: u64, place: Place, probes: &mut Probes) -> Option<u64>
+        requires within { n ≤ self.now.len }
+        requires few { self.now.len ≤ MOST_STEPS }
+        requires counted { probes.old.count < 2 ^ 32 }
+        ensures answer { (es : List Record) → IsIndexOf self.now es → result ≡ last_position (writes_to place) (take n es) }
+        ensures cost { probes.new.count ≤ probes.old.count + 38 }
+    {
+        self.last_write(n as u32, place, probes)
     }
 }

@@ -121,7 +121,7 @@ pub history_fields : IsSend (History.the_field).row
 history_fields = struct_send (shape History.the_type) (search (call_send, sendable, crosses) depth 60 fits 100000, tt)
 
 pub book_with_history_send : (R : RattleType) → IsSend (BookWithHistory.the_row R)
-book_with_history_send R = recorded_send _ _ _ (BookWithHistory.the_type R).to_one (struct_send (shape (BookWithHistory.the_type R)) (book_fields R, (history_fields, (search (book_send, sendable, crosses) depth 60 fits 100000, tt))))
+book_with_history_send R = recorded_send _ _ _ (BookWithHistory.the_type R).to_one (struct_send (shape (BookWithHistory.the_type R)) (search (book_send, sendable, crosses) depth 60 fits 100000, (history_fields, (search (book_send, sendable, crosses) depth 60 fits 100000, tt))))
 
 -- a reference to a lease crosses
 pub lease_sync : (T : RattleType) → IsSync (SendLease.the_row T Heap.the_row heap_ghosts)

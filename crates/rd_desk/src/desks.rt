@@ -39,12 +39,15 @@ impl<const R: usize> Desk<R> {
         ensures ok { IfOk result (λ opened. IsOpened book.entry viewers opened.0 opened.1.items) }
         ensures err { IfErr result (λ refused. refused.1 ≡ book.entry) }
     {
-        let kept = BookWithHistory::new(alloc, book);
+        let kept = match BookWithHistory::new(alloc, book) {
+            Ok(kept) => kept,
+            Err(book) => return Err((NoMemory, book)),
+        };
         match TicketLock::open(alloc, kept, viewers) {
             Ok((lock, passes)) => Ok((Desk { lock }, passes)),
             Err((refused, kept)) => {
                 let BookWithHistory { book, .. } = kept;
-                Err((refused, book))
+                Err((refused, Box::into_inner(book)))
             }
         }
     }
@@ -76,12 +79,8 @@ impl<const R: usize> Desk<R> {
         ensures succeeds { AreAllOf self.entry passes.entry.items → IsOk result }
     {
         let Desk { lock } = self;
-        match lock.close(passes) {
-            Ok(kept) => {
-                let BookWithHistory { book, history, .. } = kept;
-                Ok((book, history))
-            }
-            Err(words) => Err(words),
-        }
+        let kept = lock.close(passes)?;
+        let BookWithHistory { book, history, .. } = kept;
+        Ok((Box::into_inner(book), history))
     }
 }

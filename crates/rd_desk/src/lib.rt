@@ -20,6 +20,3 @@ pub use histories::{Call, History, MOST_CALLS};
 pub use rd_lock::{Busy, NoMemory};
 pub use recording::BookWithHistory;
 pub use viewers::{Ran, run_viewers};
-
-#[cfg(test)]
-mod tests;

@@ -1,7 +1,8 @@
 //! What the lock guards: a book, and the history that leaves it.
 //!
 //! That the history is legal from the book that was opened, and leaves the book that is there, is a fact of the type, so it
-//! holds whenever the lock is taken. A command is obeyed only where there is room to record it.
+//! holds whenever the lock is taken. A command is obeyed only where there is room to record it. The book lies in a box, so that a call
+//! moves a few words into the lock and out of it, and not the book.
 
 ghost use Rattle.std.specs.Prelude.{◌≡◌, ◌<◌, ◌≤◌, ◌++◌, ◌∷◌, [], length, IfOk, IfErr, OnOk, OnErr};
 ghost use Rattle.rd_marks.specs.BookViews.{book_state};
@@ -19,10 +20,10 @@ use std::snapshot::Snapshot;
 /// A book with its history, and, for contracts alone, the book that was opened.
 #[derive(Drop)]
 pub struct BookWithHistory<const R: usize> {
-    pub(crate) book: Book<R>,
+    pub(crate) book: Box<Book<R>>,
     pub(crate) history: History,
     pub(crate) opened: Snapshot<Book<R>>,
-    ghost legal: { IsLeftBy R (book_state opened.value) (entries history) (book_state book) },
+    ghost legal: { IsLeftBy R (book_state opened.value) (entries history) (book_state book.value) },
     ghost few: { length (entries history) ≤ MOST_CALLS },
 }
 
@@ -38,16 +39,24 @@ impl<const R: usize> Recorded for BookWithHistory<R> {
 
 impl<const R: usize> BookWithHistory<R> {
     /// A book with no history yet.
-    pub(crate) fn new(alloc: Global, book: Book<R>) -> BookWithHistory<R>
-        ensures book { result.book ≡ book.entry }
-        ensures opened { result.opened.value ≡ book.entry }
-        ensures empty { entries result.history ≡ [] }
+    ///
+    /// # Errors
+    ///
+    /// The book, if the room for it was refused.
+    pub(crate) fn new(alloc: Global, book: Book<R>) -> Result<BookWithHistory<R>, Book<R>>
+        ensures book { IfOk result (λ kept. kept.book.value ≡ book.entry) }
+        ensures opened { IfOk result (λ kept. kept.opened.value ≡ book.entry) }
+        ensures empty { IfOk result (λ kept. entries kept.history ≡ []) }
+        ensures err { IfErr result (λ refused. refused ≡ book.entry) }
     {
         let opened = Snapshot::of(&book);
-        BookWithHistory {
-            book,
-            history: History::new(alloc),
-            opened,
+        match Box::new(alloc, book) {
+            Ok(book) => Ok(BookWithHistory {
+                book,
+                history: History::new(alloc),
+                opened,
+            }),
+            Err(refused) => Err(refused.value),
         }
     }
 

@@ -3,6 +3,7 @@ pub mod Numbers
 pub mod RecordLemmas
 pub mod Runs
 pub mod Walks
+pub mod Starting
 pub mod Calls
 pub mod Words
 pub mod There
@@ -16,3 +17,4 @@ pub mod RolledBack
 pub mod Closures
 pub mod RolledForward
 pub mod ReadAgain
+pub mod Backwards

@@ -1,12 +1,13 @@
 -- Records of a run put behind the first live ones, and the room that their makings ask for.
-use Rattle.std.proofs.Common.{◌≡◌, ◌≢◌, ℕ, zero, suc, ◌+◌, ◌-◌, ◌<◌, ◌≤◌, ◌==◌, Bool, true, false, refl, sym, ◌∙◌, ap, subst, arith, inl, inr, List, [], ◌∷◌, ◌++◌, length, take, drop, get_or, Option, Some, None, is_some, IsSome, Ok, ne_eqb}
+use Rattle.std.proofs.Common.{◌≡◌, ◌≢◌, ℕ, zero, suc, ◌+◌, ◌-◌, ◌<◌, ◌≤◌, ◌==◌, Bool, true, false, refl, sym, ◌∙◌, ap, subst, arith, inl, inr, List, [], ◌∷◌, ◌++◌, length, take, drop, set, get_or, if◌then◌else◌, Option, Some, None, is_some, IsSome, Ok, eq-eqb, ne_eqb}
 use Rattle.std.proofs.Math.Seq.{take-length, drop-length, take-suc}
-use Rattle.std.proofs.lemmas.Bool.{cases_Bool, cases_eq, cond-false}
-use Rattle.std.proofs.lemmas.List.{map-append, take-map}
-use Rattle.rd_step.specs.Prelude.{Place, Content, after, World, Stepped, step, Ran, run, MOST_STEPS}
+use Rattle.std.proofs.lemmas.Bool.{cases_Bool, cases_eq, cond-true, cond-false}
+use Rattle.std.proofs.lemmas.List.{map-append, take-map, length-take, get_or-set_same, get_or-set_other}
+use Rattle.rd_step.specs.Prelude.{SegName, Place, WholeOf, Content, after, World, Stepped, step, Ran, run, MOST_STEPS}
 use Rattle.rd_step.specs.declared.entries.Event.{Event}
 use Rattle.rd_step.specs.declared.entries.Entry.{Entry}
 use Rattle.rd_step.specs.Room.{makes_segment, room_used, room_returned}
+use Rattle.rd_step.specs.Touched.{made, made_at}
 use Rattle.rd_step.proofs.Steps.{took, with_actor-other}
 use Rattle.rd_step.proofs.Room.{room_used_returned}
 use Rattle.rd_journal.specs.Journal.{Journal, events, world_before, start_of, IsRunFrom}
@@ -33,6 +34,17 @@ returned_few (x ∷ xs) m = omega (arith, returned_few xs m, returned_once x.pla
 pub returned_joined : (xs ys : List Entry) (m : ℕ) → room_returned_by (xs ++ ys) m ≡ room_returned_by xs m + room_returned_by ys m
 returned_joined [] ys m = omega arith
 returned_joined (x ∷ xs) ys m = omega (arith, returned_joined xs ys m)
+
+-- a record that is no making gives no room back
+none_returned : (p : Option Place) (c : Option Content) (m : ℕ) → made_at p c ≡ None → room_returned p c m ≡ 0
+none_returned p (Some c) m h = refl
+none_returned None None m h = refl
+none_returned (Some (WholeOf s)) None m h = cc
+none_returned (Some p) None m h = grind (arith, h)
+
+-- and a making that of one segment to its maker
+returned_made : (p : Option Place) (c : Option Content) (m : ℕ) (s : SegName) → made_at p c ≡ Some s → room_returned p c m ≡ (if m == s.maker then 1 else 0)
+returned_made p c m s h = grind (arith, h)
 
 -- the makings among one more record
 pub returned_next : (xs : List Entry) (i m count more next : ℕ) (d : Entry) → i < length xs → count ≡ room_returned_by (take i xs) m
@@ -184,3 +196,38 @@ switched_records n kept old mid put new given all back is forward =
           ∙ ap (λ (xs : List Entry). take kept old.live ++ xs) (take-length given);
       undone = forward.undone ∙ ap (drop (length given)) is.undone ∙ drop-length given;
     }
+
+-- Counting the makings of each actor
+
+-- there are no more makings among the first records than these are
+pub few_makings : (xs : List Entry) (i m : ℕ) → room_returned_by (take i xs) m ≤ i
+few_makings xs i m = omega (arith, returned_few (take i xs) m, length-take i xs)
+
+-- a record that is no making leaves the counts
+pub no_making_counted : (xs : List Entry) (i m count : ℕ) (d : Entry) → i < length xs → made (get_or xs i d) ≡ None
+    → count ≡ room_returned_by (take i xs) m → count ≡ room_returned_by (take (i + 1) xs) m
+no_making_counted xs i m count d h none counted =
+    let x = get_or xs i d in
+    returned_next xs i m count 0 count d h counted (sym (none_returned x.place x.old_content m none)) (omega arith)
+
+-- and one that is counts one for its maker
+pub making_counted : (counts : List ℕ) (xs : List Entry) (i k m : ℕ) (d : Entry) (s : SegName) → i < length xs → made (get_or xs i d) ≡ Some s → k ≡ s.maker → k < length counts
+    → get_or counts m 0 ≡ room_returned_by (take i xs) m → get_or (set counts k (get_or counts k 0 + 1)) m 0 ≡ room_returned_by (take (i + 1) xs) m
+making_counted counts xs i k m d s h makes its within counted =
+    let x = get_or xs i d in
+    let more = get_or counts k 0 + 1 in
+    let all : room_returned x.place x.old_content m ≡ (if m == k then 1 else 0) = returned_made x.place x.old_content m s makes ∙ ap (λ (n : ℕ). if m == n then 1 else 0) (sym its) in
+    elim (cases_eq m k) [
+      | inl e ↦
+          let at : get_or (set counts k more) m 0 ≡ get_or counts m 0 + 1 =
+          ap (λ (n : ℕ). get_or (set counts k more) n 0) e ∙ get_or-set_same counts k more 0 within ∙ ap (λ (n : ℕ). get_or counts n 0 + 1) (sym e) in
+          returned_next xs i m (get_or counts m 0) 1 _ d h counted (sym (all ∙ cond-true (m == k) 1 0 (eq-eqb m k e))) at
+      | inr ne ↦
+          returned_next xs i m (get_or counts m 0) 0 _ d h counted (sym (all ∙ cond-false (m == k) 1 0 (ne_eqb m k ne)))
+          (get_or-set_other counts k m more 0 ne ∙ omega arith)
+    ]
+
+-- what was counted for an actor
+pub makings_known : (xs : List Entry) (counts : List ℕ) (number actor : ℕ) → actor ≡ number + 1 → ((m : ℕ) → m < 256 → get_or counts m 0 ≡ room_returned_by xs m) → number + 1 < 256
+    → get_or counts actor 0 ≡ room_returned_by xs (number + 1)
+makings_known xs counts number actor its counted small = ap (λ (n : ℕ). get_or counts n 0) its ∙ counted (number + 1) small

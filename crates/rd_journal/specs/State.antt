@@ -1,6 +1,6 @@
 -- What a session is to its callers: a start world, the live events and the undone events. No record, no old word and no
 -- place in a run is in it: it knows only the run of a list.
-use Rattle.std.specs.Prelude.{ℕ, zero, suc, Bool, ◌-◌, ◌==◌, nat_lt, if◌then◌else◌, List, [], ◌∷◌, ◌++◌, length, take, drop, Option, Some, None, Result, Ok, Err}
+use Rattle.std.specs.Prelude.{ℕ, zero, suc, Bool, ◌-◌, ◌==◌, nat_lt, if◌then◌else◌, List, [], ◌∷◌, ◌++◌, length, take, drop, slice_get, Option, Some, None, Result, Ok, Err}
 use Rattle.rd_step.specs.Prelude.{Refusal, TooLong, NothingToUndo, NothingToRedo, NoSuchStep, Depended, OpReply, World, Stepped, step, Ran, run, first_dependant, without, closure, marked, unmarked, MOST_STEPS}
 use Rattle.rd_step.specs.declared.entries.Event.{Event}
 use Rattle.rd_journal.specs.Journal.{Journal, start_of, events}
@@ -10,6 +10,11 @@ pub record State : Type 0 where
   pub start : World
   pub live : List Event
   pub undone : List Event
+
+-- the event of this number in a list, from 1, if there is one
+abbrev pub event_at : List Event → ℕ → Option Event
+event_at es zero = None
+event_at es (suc k) = slice_get es k
 
 -- the state that a journal is of
 abbrev pub state_of : Journal → State

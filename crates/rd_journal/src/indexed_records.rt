@@ -10,11 +10,13 @@ ghost use Rattle.rd_step.specs.declared.entries.Entry.{Entry as Record};
 ghost use Rattle.rd_step.specs.Dependence.{numbered};
 ghost use Rattle.rd_step.specs.Prelude.{closure_of, without_closure, first_dependant, MOST_STEPS};
 ghost use Rattle.rd_depend.specs.Index.{IsIndexOf, IsHeld, without_entry};
+ghost use Rattle.rd_depend.specs.Writers.{last_position, writes_to};
 ghost use Rattle.rd_journal.specs.Records.{live_records, undone_records, kept_records, records_capacity};
 
 use super::live_records::LiveRecords;
 use super::records::Records;
-use super::scans::first_behind;
+use super::scans::{first_behind, last_writer_behind};
+use rd_cell::Place;
 use rd_depend::{DependIndex, Probes};
 use rd_step::Entry;
 use std::alloc::{AllocError, Global};
@@ -89,6 +91,14 @@ impl IndexedRecords {
         ensures { undone_records self.now.records ≡ result.now ∷ drop 1 (undone_records self.now.records) }
     {
         self.records.first_undone()
+    }
+
+    /// The record of the undone step at this position, from 0.
+    pub(crate) fn undone_at(&self, position: usize) -> &Entry
+        requires within { position < length (undone_records self.now.records) }
+        ensures { result.now ≡ get_or (undone_records self.now.records) position result.now }
+    {
+        self.records.undone_at(position)
     }
 
     /// Makes the last live record the front of the undone ones.
@@ -223,8 +233,39 @@ impl IndexedRecords {
         }
     }
 
-    /// Takes the positions behind the first `n` out of the index: a few one by one, and many by one pass over all its lists.
+    /// The number of the last live step that wrote this place, or one that overlaps it, or none: by the plain scan of what the
+    /// index does not reach, and by the index before that.
+    pub(crate) fn last_writer(&self, place: Place) -> Option<u64>
+        ensures { result ≡ last_position (writes_to place) (live_records self.now.records) }
+    {
+        let covered = (self.index.len() as usize).min(self.live_len());
+        match last_writer_behind(&self.records.live(), place, covered) {
+            None => self.last_covered_writer(place, covered as u64),
+            Some(number) => Some(number),
+        }
+    }
+
+    /// The number of the last of the first `n` records that wrote this place, or one that overlaps it, or none, by the index.
+    fn last_covered_writer(&self, place: Place, n: u64) -> Option<u64>
+        requires { n ≤ self.now.index.len }
+        ensures { result ≡ last_position (writes_to place) (take n (kept_records self.now.records)) }
+    {
+        let mut probes = Probes::new();
+        self.index.last_writer(n, place, &mut probes)
+    }
+
+    /// Takes the positions behind the first `n` out of the index.
     fn forget_behind(&mut self, n: usize)
+        ensures records { self.new.records ≡ self.old.records }
+        ensures covered { self.new.index.len ≤ n }
+    {
+        if self.index.len() > n as u64 {
+            self.forget_some_behind(n);
+        }
+    }
+
+    /// The same: a few one by one, and many by one pass over all its lists.
+    fn forget_some_behind(&mut self, n: usize)
         ensures records { self.new.records ≡ self.old.records }
         ensures covered { self.new.index.len ≤ n }
     {

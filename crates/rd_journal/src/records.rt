@@ -102,6 +102,14 @@ impl Records {
         self.at(position)
     }
 
+    /// The record of the undone step at this position, from 0.
+    pub(crate) fn undone_at(&self, position: usize) -> &Entry
+        requires within { position < length (undone_records self.now) }
+        ensures { result.now ≡ get_or (undone_records self.now) position result.now }
+    {
+        self.at(self.live + position)
+    }
+
     /// The record whose slot's number stands at this place of the order.
     fn at(&self, place: usize) -> &Entry
         requires { place < length (all_records self.now) }
@@ -196,7 +204,7 @@ impl Records {
         ensures capacity { records_capacity self.new ≡ records_capacity self.old }
     {
         self.undone = 0;
-        self.put_behind(entry);
+        self.put_behind(&entry);
         self.step_forward();
     }
 
@@ -210,16 +218,16 @@ impl Records {
     {
         self.undone = 0;
         for entry in given {
-            self.put_behind(*entry);
+            self.put_behind(entry);
         }
     }
 
     /// Puts a record last among the undone ones: over the first discarded one, or where none is, into a new slot.
-    fn put_behind(&mut self, entry: Entry)
+    fn put_behind(&mut self, entry: &Entry)
         requires room { length (live_records self.old) + length (undone_records self.old) < records_capacity self.old }
         requires few { length (live_records self.old) + length (undone_records self.old) < MOST_STEPS }
         ensures live { live_records self.new ≡ live_records self.old }
-        ensures undone { undone_records self.new ≡ undone_records self.old ++ entry ∷ [] }
+        ensures undone { undone_records self.new ≡ undone_records self.old ++ entry.now ∷ [] }
         ensures capacity { records_capacity self.new ≡ records_capacity self.old }
     {
         let place = self.live + self.undone;

@@ -1,10 +1,12 @@
-//! Plain scans for a dependant, over records that are lent.
+//! Plain scans for a dependant and for a writer, over records that are lent.
 
-ghost use Rattle.std.specs.Prelude.{◌≡◌, ◌+◌, drop};
+ghost use Rattle.std.specs.Prelude.{◌≡◌, ◌+◌, ◌≤◌, Some, length, take, drop, MatchOption};
 ghost use Rattle.rd_step.specs.Dependence.{first_from};
 ghost use Rattle.rd_step.specs.Prelude.{depends_on_one};
+ghost use Rattle.rd_depend.specs.Writers.{last_position, writes_to};
 
 use super::live_records::LiveRecords;
+use rd_cell::{Place, overlaps};
 use rd_depend::depends;
 use rd_step::Entry;
 
@@ -20,14 +22,39 @@ pub(crate) fn first_behind(records: &LiveRecords, entry: &Entry, start: usize) -
     None
 }
 
-/// Whether the step depends on one of these.
+/// Whether the step depends on one of these. It is looked for from the end: what a step depends on is most often near
+/// before it.
 pub(crate) fn depends_on_one(records: &LiveRecords, later: &Entry) -> bool
     ensures { result ≡ depends_on_one records.now later.now }
 {
-    for position in 0..records.len() {
-        if depends(records.at(position), later) {
+    let mut left = records.len();
+    while left > 0 {
+        left -= 1;
+        if depends(records.at(left), later) {
             return true;
         }
     }
     false
+}
+
+/// The number of the last record that wrote this place, or one that overlaps it, if it is behind the first `start` ones.
+pub(crate) fn last_writer_behind(records: &LiveRecords, place: Place, start: usize) -> Option<u64>
+    requires { start ≤ length records.now }
+    ensures { MatchOption result
+        (last_position (writes_to place) records.now ≡ last_position (writes_to place) (take start records.now))
+        (λ number. last_position (writes_to place) records.now ≡ Some number) }
+{
+    for later in (start..records.len()).rev() {
+        if writes_to(place, records.at(later)) {
+            return Some(later as u64 + 1);
+        }
+    }
+    None
+}
+
+/// Whether the step wrote this place, or one that overlaps it.
+fn writes_to(place: Place, step: &Entry) -> bool
+    ensures { result ≡ writes_to place step.now }
+{
+    step.wrote && step.place.is_some_and(|written| overlaps(written, place))
 }

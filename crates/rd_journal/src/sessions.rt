@@ -6,30 +6,42 @@
 
 mod moving;
 mod removal;
+mod starting;
 mod switching;
 
 ghost use Rattle.std.specs.Prelude.{◌≡◌, ◌⊎◌, ◌++◌, ◌+◌, ◌≤◌, ◌<◌, ◌-◌, [], length, take, drop, Ok, Err, IsOk, OnOk, OnErr, IfOk, IfErr};
 ghost use Rattle.rd_step.specs.Prelude.{model, room as world_room, step};
+ghost use Rattle.rd_depend.specs.Writers.{last_position, writes_to};
 ghost use Rattle.rd_journal.specs.Journal.{entry_of, events, start_of, IsRunFrom, IsRun};
 ghost use Rattle.rd_journal.specs.Kept.{journal_of, IsSession};
 ghost use Rattle.rd_journal.specs.Room.{MayBeOutOfMemory, IsOutOfMemory, ComesAfterRoom, LacksRoom};
-ghost use Rattle.rd_journal.specs.State.{run_of, apply, reply_to, undo, undo_at, back, redo, forward, roll, switch};
+ghost use Rattle.rd_journal.specs.State.{run_of, apply, reply_to, undo, undo_at, back, redo, forward, roll, switch, event_at};
 ghost use Rattle.rd_journal.specs.Laws.{IsStepAfter};
 ghost use Rattle.rd_journal.specs.Moves.{IsLengthened, IsMovedBack, IsMovedForward, IsBeforeLast, IsTakenOutAt, IsWithout, IsSwitched, IsRolledBack, IsWithoutClosure, answer_at, roll_answer};
 
 use super::indexed_records::IndexedRecords;
 use super::live_records::LiveRecords;
-use rd_cell::Refusal;
 use rd_cell::limits::MOST_STEPS;
+use rd_cell::{Place, Refusal};
 use rd_step::{Entry, Event, World};
 use std::alloc::Global;
 
 /// A world of rings of `R` cells, with the steps that led to it and those that were undone.
-#[derive(Drop)]
 pub struct Session<const R: usize> {
     world: World<R>,
     records: IndexedRecords,
     ghost kept: { IsSession R (journal_of (model world) records) (world_room world) },
+}
+
+/// Written out and not derived, so that a proof of a function in which a session ends has one step for that, and not one for
+/// each list inside.
+impl<const R: usize> Drop for Session<R> {
+    fn drop(self) {
+        let Session {
+            world: _world,
+            records: _records,
+        } = self;
+    }
 }
 
 impl<const R: usize> Session<R> {
@@ -278,6 +290,38 @@ impl<const R: usize> Session<R> {
             return Err(Refusal::NoSuchStep(len));
         }
         Ok(*self.records.live_at(k as usize - 1))
+    }
+
+    /// The number of the last live step that wrote this place, or one that overlaps it; none if no live step did. It asks the
+    /// index of dependants, and scans the steps that this does not reach for want of memory. It takes no memory.
+    pub fn last_writer(&self, place: Place) -> Option<u64>
+        ensures { result ≡ last_position (writes_to place) (journal self.now).live }
+    {
+        self.records.last_writer(place)
+    }
+
+    /// The event of the undone step of this number, from 1, if there is one: the first is the one undone last.
+    pub fn undone_event(&self, i: u64) -> Option<Event>
+        ensures { result ≡ event_at (state self.now).undone i }
+    {
+        if i == 0 || i > self.undone_len() {
+            return None;
+        }
+        Some(self.records.undone_at(i as usize - 1).event)
+    }
+
+    /// The world that the session was opened in: a copy of the world, in which all live steps are undone.
+    ///
+    /// # Errors
+    ///
+    /// `NoMemory` if memory was refused.
+    pub fn start_world(&self, alloc: Global) -> Result<World<R>, Refusal>
+        ensures ok { IfOk result (λ world. model world ≡ (state self.now).start) }
+        ensures err { IfErr result (λ refusal. refusal ≡ Refusal.NoMemory) }
+    {
+        let mut world = self.world.copy(alloc)?;
+        self.undo_all_in(&mut world);
+        Ok(world)
     }
 
     /// The world: that of the run of the live events from the start.

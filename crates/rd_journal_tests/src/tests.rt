@@ -7,6 +7,7 @@ mod agreement;
 mod lone_undo;
 mod long_runs;
 mod rollback;
+mod starts;
 mod switching;
 mod walks;
 mod whole_runs;

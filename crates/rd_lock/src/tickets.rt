@@ -83,10 +83,8 @@ impl<T: Recorded> TicketLock<T> {
         ensures ok { IfOk result (IsTaken self.now pass.old pass.new) }
         ensures err { OnErr result ((next_seen pass.new ≡ 2 ^ 63) × IsOut pass.new) }
     {
-        match self.draw(rt, pass) {
-            Ok(ticket) => Ok(self.wait_for(rt, pass, ticket)),
-            Err(ended) => Err(ended),
-        }
+        let ticket = self.draw(rt, pass)?;
+        Ok(self.wait_for(rt, pass, ticket))
     }
 
     /// Draws a ticket, and tries again as long as another pass draws it first.

@@ -36,7 +36,7 @@ begins_before {X} (x ∷ xs) ys (z ∷ zs) h =
 begins_without_last : {X : Type 0} (xs ys : List X) (y : X) → length xs ≤ length ys → Begins xs (ys ++ y ∷ []) → Begins xs ys
 begins_without_last xs ys y h k = sym (take-append-le (length xs) ys (y ∷ []) h) ∙ k
 
-begins_length : {X : Type 0} (xs ys : List X) → Begins xs ys → length xs ≤ length ys
+pub begins_length : {X : Type 0} (xs ys : List X) → Begins xs ys → length xs ≤ length ys
 begins_length [] ys h = omega arith
 begins_length (x ∷ xs) [] h = cc
 begins_length {X} (x ∷ xs) (y ∷ ys) h =
@@ -150,9 +150,6 @@ module _ (t : MarkTree) (rule : IsTree t) (one other : Option ℕ) where
                 | inr apart_here ↦ (is.0, up.keeps (events (path_in t other)) (omega (arith, lother, above, h, apart_here)) is.1)
               ]);
         }
-
-    pub shallower_second : depth_in t a < depth_in t b → depth_in t (parent_in t b) < depth_in t b
-    shallower_second h = let up = (goes_up b both.b_in (second_deep h)).shallower in omega (arith, up)
 
     pub shallower_first : depth_in t b ≤ depth_in t a → depth_in t (parent_in t a) < depth_in t a
     shallower_first h = let up = (goes_up a both.a_in (first_deep h)).shallower in omega (arith, up)

@@ -15,3 +15,6 @@ pub mod Switches
 pub mod SameLemmas
 pub mod Counting
 pub mod Here
+pub mod LevelNodes
+pub mod MarkedEvents
+pub mod RulesLemmas

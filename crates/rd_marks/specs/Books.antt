@@ -1,10 +1,10 @@
 -- What a book is to its callers: its session's state, and a list of marks.
-use Rattle.std.specs.Prelude.{◌≡◌, ◌↔◌, IsTrue, Bool, ℕ, zero, suc, ◌==◌, if◌then◌else◌, is_some, List, [], ◌∷◌, ◌++◌, length, slice_get, Option, Some, None, Result, Ok, Err}
+use Rattle.std.specs.Prelude.{◌≡◌, ◌↔◌, IsTrue, Bool, ℕ, zero, suc, ◌==◌, if◌then◌else◌, is_some, List, [], ◌∷◌, ◌++◌, length, slice_get, option_map, Option, Some, None, Result, Ok, Err}
 use Rattle.rd_step.specs.Prelude.{World, Refusal, NoMark, MarkTaken, TooManyMarks, NoMemory}
 use Rattle.rd_step.specs.Equivalence.{IsEquivalent}
 use Rattle.rd_step.specs.declared.entries.Event.{Event}
 use Rattle.rd_depend.specs.Beginnings.{Begins, IsBegunByNeither}
-use Rattle.rd_journal.specs.State.{State}
+use Rattle.rd_journal.specs.State.{State, event_at}
 use Rattle.rd_marks.specs.declared.names.MarkName.{MarkName}
 use Rattle.rd_marks.specs.NameBytes.{MOST_MARKS}
 use Rattle.rd_marks.specs.Names.{same_name}
@@ -69,6 +69,29 @@ AnswersSame R start (Some es) (Some fs) (Ok same) = IsTrue same ↔ IsEquivalent
 AnswersSame R start (Some es) (Some fs) (Err refusal) = (refusal ≡ NoMemory) × IsBegunByNeither es fs
 AnswersSame R start (Some es) None said = said ≡ Err NoMark
 AnswersSame R start None fs said = said ≡ Err NoMark
+
+-- the events of the mark of this number, from 1, if there is one
+abbrev pub mark_events : BookState → ℕ → Option (List Event)
+mark_events b zero = None
+mark_events b (suc i) = option_map (λ m. m.events) (slice_get b.marks i)
+
+-- the event of this number, from 1, of a list, if there is the list
+abbrev pub event_in : Option (List Event) → ℕ → Option Event
+event_in None n = None
+event_in (Some es) n = event_at es n
+
+-- the event of the second number of the mark of the first one, both from 1, if there is one
+abbrev pub mark_event : BookState → ℕ → ℕ → Option Event
+mark_event b i n = event_in (mark_events b i) n
+
+-- why the events of a mark are not had: there is no such mark, or, if there is, memory was refused
+abbrev pub LacksMark : Option (List Event) → Refusal → Type 0
+LacksMark None refusal = refusal ≡ NoMark
+LacksMark (Some es) refusal = refusal ≡ NoMemory
+
+-- the book at its start: nothing is live and nothing is undone
+abbrev pub to_start : BookState → BookState
+to_start b = with_session b (record { start = b.session.start; live = []; undone = [] })
 
 -- the name of a mark and the number of its events
 abbrev pub name_and_length : Option Mark → Result (MarkName × ℕ) Refusal

@@ -8,6 +8,7 @@ pub mod TreeViews
 pub mod Marks
 pub mod Layout
 pub mod Uses
+pub mod Rules
 pub mod BookViews
 pub mod Commands
 pub mod Events

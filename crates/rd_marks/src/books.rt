@@ -4,9 +4,10 @@
 //! Nothing outside this crate may know that.
 //!
 //! The calls of a book are here; what each command answers is in `books/`: `obeying` has the commands, `moves` the events, undos and redos,
-//! `bookmarks` the bookmarks, and `queries` the rest.
+//! `bookmarks` the bookmarks, and `queries` the rest; `marked` has the calls that read the events of bookmarks, and `to_start`.
 
 mod bookmarks;
+mod marked;
 mod moves;
 mod obeying;
 mod queries;
@@ -27,7 +28,6 @@ use rd_journal::Session;
 use std::alloc::Global;
 
 /// A session with bookmarks.
-#[derive(Drop)]
 pub struct Book<const R: usize> {
     session: Session<R>,
     tree: Tree,
@@ -41,9 +41,24 @@ pub struct Book<const R: usize> {
     ghost stands: { IsHere (mark_tree tree) here (state session).live },
 }
 
+/// Written out and not derived, so that a proof of a function in which a book ends has one step for that, and not one for
+/// each list inside.
+impl<const R: usize> Drop for Book<R> {
+    fn drop(self) {
+        let Book {
+            session: _session,
+            tree: _tree,
+            marks: _marks,
+            here: _here,
+            alloc: _alloc,
+        } = self;
+    }
+}
+
 impl<const R: usize> Book<R> {
     ghost use Rattle.rd_marks.specs.Beginnings.{CountsBeginnings};
     ghost use Rattle.rd_marks.specs.BookViews.{book_state};
+    ghost use Rattle.rd_marks.specs.Rules.{KeepsRules};
     ghost use Rattle.rd_marks.specs.Books.{marked_events, mark, drop_mark, goto_mark, mark_at, MakesSteps, AnswersSame};
 
     /// A book over a session, with no marks. It takes no memory.
@@ -162,9 +177,10 @@ impl<const R: usize> Book<R> {
         }
     }
 
-    /// How many bookmarks there are.
+    /// How many bookmarks there are: at most `MOST_MARKS`, with different names, each at events that go through from the session's start.
     pub fn marks(&self) -> u64
-        ensures { result ≡ length (book_state self.now).marks }
+        ensures count { result ≡ length (book_state self.now).marks }
+        ensures rules { KeepsRules R (book_state self.now) }
     {
         self.marks.len() as u64
     }

@@ -1,6 +1,6 @@
 //! The commands of a book, as values.
 
-ghost use Rattle.std.specs.Prelude.{◌≡◌};
+ghost use Rattle.std.specs.Prelude.{◌≡◌, Some};
 ghost use Rattle.rd_marks.specs.Events.{event_of};
 
 use super::names::MarkName;
@@ -62,6 +62,21 @@ pub enum Command {
 }
 
 impl Command {
+    /// The command that is this event.
+    pub fn of_event(event: Event) -> Command
+        ensures { event_of result ≡ Some event }
+    {
+        let actor = event.actor;
+        match event.act {
+            Act::Enq(value) => Command::Enq(actor, value),
+            Act::Deq => Command::Deq(actor),
+            Act::AEnq(value) => Command::ArrayEnq(actor, value),
+            Act::ADeq => Command::ArrayDeq(actor),
+            Act::Go => Command::Go(actor),
+            Act::Starve(choice) => Command::Starve(actor, choice),
+        }
+    }
+
     /// The event that it is, if it is one.
     pub(crate) fn event(&self) -> Option<Event>
         ensures { result ≡ event_of self.now }

@@ -15,6 +15,3 @@ pub use books::Book;
 pub use commands::Command;
 pub use names::MarkName;
 pub use replies::Reply;
-
-#[cfg(test)]
-mod tests;

@@ -132,6 +132,7 @@ impl Tree {
     /// If memory was refused. The nodes stay.
     pub(crate) fn reserve(&mut self, more: usize) -> Result<(), AllocError>
         ensures nodes { mark_tree self.new ≡ mark_tree self.old }
+        ensures next { next_key self.new ≡ next_key self.old }
         ensures ok { OnOk result (HasRoom self.new more) }
         ensures forks { OnOk result (HasForkRoom self.new) }
     {

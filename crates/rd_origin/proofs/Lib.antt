@@ -1,4 +1,3 @@
-pub mod Positions
 pub mod Search
 pub mod Found
 pub mod Split

@@ -1,16 +1,7 @@
 -- Positions in a list, counted from 1.
-use Rattle.std.specs.Prelude.{◌≡◌, ℕ, suc, ◌<◌, Bool, true, false, if◌then◌else◌, List, [], ◌∷◌, Option, Some, None}
+use Rattle.std.specs.Prelude.{◌≡◌, ℕ, ◌<◌, Bool, true, false, List, Some}
 use Rattle.rd_step.specs.Dependence.{numbered}
-
--- a position in a list with one more element in front, of which this says whether it is one of those sought
-abbrev pub behind : Bool → Option ℕ → Option ℕ
-behind first (Some n) = Some (suc n)
-behind first None = if first then Some 1 else None
-
--- the greatest position whose element passes the test, or none
-abbrev pub last_position : {X : Type 0} → (X → Bool) → List X → Option ℕ
-last_position test [] = None
-last_position test (x ∷ xs) = behind (test x) (last_position test xs)
+pub use Rattle.rd_depend.specs.Writers.{behind, last_position}
 
 -- j is the greatest position whose element passes the test
 pub record IsGreatest {X : Type 0} (test : X → Bool) (xs : List X) (j : ℕ) : Type 0 where

@@ -1,12 +1,8 @@
 -- The step that last wrote a place.
-use Rattle.std.specs.Prelude.{ℕ, ◌&&◌, Bool, List, Option, Some, None, Result, Ok, Err}
-use Rattle.rd_step.specs.Prelude.{Place, Content, content_at, some_overlap, Refusal, NoSuchPlace, Ran}
+use Rattle.std.specs.Prelude.{ℕ, List, Option, Some, None, Result, Ok, Err}
+use Rattle.rd_step.specs.Prelude.{Place, Content, content_at, Refusal, NoSuchPlace, Ran}
 use Rattle.rd_step.specs.declared.entries.Entry.{Entry}
-use Rattle.rd_origin.specs.Positions.{last_position}
-
--- whether the step wrote a place that overlaps this one
-abbrev pub writes_to : Place → Entry → Bool
-writes_to place x = x.wrote && some_overlap x.place (Some place)
+use Rattle.rd_depend.specs.Writers.{last_position, writes_to}
 
 -- the greatest position that wrote an overlapping place, if this place is there
 abbrev pub writer_at : List Entry → Place → Option Content → Result (Option ℕ) Refusal

@@ -7,7 +7,7 @@ ghost use Rattle.rd_origin.specs.Origins.{takes_value, put_of, call_of, origin_i
 ghost use Rattle.rd_origin.specs.Writers.{last_writer_in};
 
 use super::origins::Origin;
-use super::searches::{Sought, last_below, step_of};
+use super::searches::{StepKind, last_below, step_of};
 use rd_actor::OpReply;
 use rd_cell::{Place, Refusal};
 use rd_journal::{LiveRecords, Session};
@@ -49,7 +49,7 @@ fn takes_value(reply: Option<OpReply>) -> bool
 fn last_put(steps: &LiveRecords, k: u64, cell: Option<Place>) -> Option<u64>
     ensures { result ≡ put_of steps.now k cell }
 {
-    last_below(steps, k, Sought::PutInto(cell?))
+    last_below(steps, k, StepKind::PutInto(cell?))
 }
 
 /// The last call before the step of this number by the actor of that step, if there is one.
@@ -58,11 +58,11 @@ fn last_call(steps: &LiveRecords, number: Option<u64>) -> Option<u64>
 {
     let number = number?;
     let step = step_of(steps, number)?;
-    last_below(steps, number, Sought::CallBy(step.event.actor))
+    last_below(steps, number, StepKind::CallBy(step.event.actor))
 }
 
-/// The last live step that wrote this place, or one that overlaps it; none if no live step did. It takes no memory, and makes
-/// one pass over the live steps at most, from the back.
+/// The last live step that wrote this place, or one that overlaps it; none if no live step did. It takes no memory. The session
+/// finds it in its index, and scans from the back those live steps alone that the index does not reach for want of memory.
 ///
 /// # Errors
 ///
@@ -76,7 +76,5 @@ pub fn last_writer<const R: usize>(
     let Some(_) = session.world().content(place) else {
         return Err(Refusal::NoSuchPlace);
     };
-    let steps = session.live();
-    let behind = steps.len() as u64 + 1;
-    Ok(last_below(&steps, behind, Sought::WriteOf(place)))
+    Ok(session.last_writer(place))
 }

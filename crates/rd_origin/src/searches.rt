@@ -1,60 +1,56 @@
-//! The one search that both queries make: back from a step to the last one before it that is what they look for.
+//! The search that an origin is found by: back from a step to the last one before it of the kind that is looked for.
 
 ghost use Rattle.std.specs.Prelude.{◌≡◌, ◌-◌, take, Some, None, MatchOption};
 ghost use Rattle.rd_step.specs.Dependence.{numbered};
 ghost use Rattle.rd_origin.specs.Origins.{is_call, is_at, is_first_cell, puts_into, calls_by};
 ghost use Rattle.rd_origin.specs.Positions.{last_position};
-ghost use Rattle.rd_origin.specs.Writers.{writes_to};
-ghost use Rattle.rd_origin.specs.Searches.{is_sought, is_sought_in};
+ghost use Rattle.rd_origin.specs.Searches.{is_of_kind, is_of_kind_at};
 
 use rd_actor::{Act, Pc};
-use rd_cell::{Place, overlaps};
+use rd_cell::Place;
 use rd_journal::LiveRecords;
 use rd_step::Entry;
 
-/// What is looked for.
+/// A kind of step, as the queries look for.
 #[derive(Clone, Copy, Debug, PartialEq, Eq)]
-pub enum Sought {
+pub enum StepKind {
     /// A step that put a value into this cell of a segment, or slot of the array.
     PutInto(Place),
     /// A call by this actor.
     CallBy(u8),
-    /// A step that wrote this place, or one that overlaps it.
-    WriteOf(Place),
 }
 
-impl Sought {
-    /// Whether the step is what is looked for.
-    fn is(self, step: &Entry) -> bool
-        ensures { result ≡ is_sought self step.now }
+impl StepKind {
+    /// Whether the step is of this kind.
+    fn includes(self, step: &Entry) -> bool
+        ensures { result ≡ is_of_kind self step.now }
     {
         match self {
-            Sought::PutInto(cell) => puts_into(cell, step),
-            Sought::CallBy(actor) => calls_by(actor, step),
-            Sought::WriteOf(place) => writes_to(place, step),
+            StepKind::PutInto(cell) => puts_into(cell, step),
+            StepKind::CallBy(actor) => calls_by(actor, step),
         }
     }
 }
 
-/// The greatest number below this one of a step that is what is looked for.
-pub(crate) fn last_below(steps: &LiveRecords, below: u64, sought: Sought) -> Option<u64>
-    ensures { result ≡ last_position (is_sought sought) (take (below - 1) steps.now) }
+/// The greatest number below this one of a step of the kind.
+pub(crate) fn last_below(steps: &LiveRecords, below: u64, kind: StepKind) -> Option<u64>
+    ensures { result ≡ last_position (is_of_kind kind) (take (below - 1) steps.now) }
 {
     for number in (1..below).rev() {
-        if is_at_number(steps, number, sought) {
+        if is_of_kind_at(steps, number, kind) {
             return Some(number);
         }
     }
     None
 }
 
-/// Whether there is a step of this number, and it is what is looked for.
-fn is_at_number(steps: &LiveRecords, number: u64, sought: Sought) -> bool
-    ensures { result ≡ is_sought_in sought steps.now number }
+/// Whether there is a step of this number, and it is of the kind.
+fn is_of_kind_at(steps: &LiveRecords, number: u64, kind: StepKind) -> bool
+    ensures { result ≡ is_of_kind_at kind steps.now number }
 {
     match step_of(steps, number) {
         None => false,
-        Some(step) => sought.is(step),
+        Some(step) => kind.includes(step),
     }
 }
 
@@ -112,11 +108,4 @@ fn is_call(act: Act) -> bool
     ensures { result ≡ is_call act }
 {
     !matches!(act, Act::Go | Act::Starve(_))
-}
-
-/// Whether the step wrote this place, or one that overlaps it.
-fn writes_to(place: Place, step: &Entry) -> bool
-    ensures { result ≡ writes_to place step.now }
-{
-    step.wrote && step.place.is_some_and(|written| overlaps(written, place))
 }

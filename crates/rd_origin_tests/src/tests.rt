@@ -1,6 +1,7 @@
 //! The tests of both queries: the small helper that plays runs, which are data.
 
 mod runs;
+mod writers;
 
 ghost use Rattle.std.specs.Prelude.{◌≤◌};
 

@@ -69,6 +69,20 @@ impl<const R: usize> Segment<R> {
         }
     }
 
+    /// The words of the segment, with which it is put together again.
+    pub fn parts(&self) -> SegmentParts<R>
+        ensures same { (q : Place) → part_from result q ≡ part self.now q }
+        ensures within { IsTrue (counters_fit result) }
+    {
+        SegmentParts {
+            head: self.head,
+            tail: self.tail,
+            closed: self.closed,
+            next: self.next,
+            cells: same_cells(&self.cells[..]),
+        }
+    }
+
     /// What is at a place of the segment, whatever the segment is named there; none if it has no such place.
     pub fn content(&self, place: Place) -> Option<Content>
         ensures { result ≡ part self.now place }

@@ -9,6 +9,7 @@ mod origins;
 mod queues;
 mod refusals;
 mod runs;
+mod sharing;
 mod steps;
 mod texts;
 mod undoing;

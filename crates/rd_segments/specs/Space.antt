@@ -1,6 +1,7 @@
 -- The space, as public clauses see it.
 use Rattle.std.specs.Prelude.{ℕ, length, vec_capacity}
-use Rattle.rd_ring.specs.Prelude.{Contents}
+use Rattle.rd_ring.specs.Prelude.{SegName, Contents}
+use Rattle.rd_segments.specs.declared.array.ArrayParts.{ArrayParts}
 use Rattle.rd_segments.specs.declared.space.Space.{Space}
 use Rattle.rd_segments.specs.Lists.{count}
 use Rattle.rd_segments.specs.Room.{spare}
@@ -25,3 +26,15 @@ room s m = spare s.makers.items m
 -- how many lists of makers there is room for: what no call but a constructor changes
 abbrev pub capacity : {R : ℕ} → Space R → ℕ
 capacity s = vec_capacity s.makers
+
+-- the name at the queue's head
+abbrev pub head_name : {R : ℕ} → Space R → SegName
+head_name s = s.qhead
+
+-- the name at the queue's tail
+abbrev pub tail_name : {R : ℕ} → Space R → SegName
+tail_name s = s.qtail
+
+-- the words of the array
+abbrev pub array_words : {R : ℕ} → Space R → ArrayParts
+array_words s = s.array

@@ -1,4 +1,4 @@
-//! The makers' lists of a space that is put together from parts.
+//! The makers' lists of a space that is put together from parts, and the parts of such lists.
 
 ghost use Rattle.std.specs.Prelude.{◌≡◌, ◌≤◌, IsTrue, IfOk, IfErr, ℕ, length};
 ghost use Rattle.std.specs.List.{list_all};
@@ -46,4 +46,40 @@ fn list_from_parts<const R: usize>(
         list.push_reserved(Segment::from_parts(parts[n]));
     }
     Ok(list)
+}
+
+/// The parts of the makers' lists.
+///
+/// # Errors
+///
+/// Only if the room for them was refused.
+pub fn parts_of_lists<const R: usize>(
+    alloc: Global,
+    makers: &Vec<Vec<Segment<R>>>,
+) -> Result<Vec<Vec<SegmentParts<R>>>, AllocError>
+    requires { R ≤ MOST_CELLS }
+    ensures ok { IfOk result (λ parts. (s : SegName) (q : Place) → part_of_parts (by_name parts.items s) q ≡ part_of (by_name makers.now.items s) q) }
+    ensures number { IfOk result (λ parts. length parts.items ≡ length makers.now.items) }
+{
+    let mut parts = Vec::with_capacity(alloc, makers.len())?;
+    for m in 0..makers.len() {
+        let list = parts_of_list(alloc, &makers[m])?;
+        parts.push_reserved(list);
+    }
+    Ok(parts)
+}
+
+/// The parts of one maker's list.
+fn parts_of_list<const R: usize>(
+    alloc: Global,
+    list: &Vec<Segment<R>>,
+) -> Result<Vec<SegmentParts<R>>, AllocError>
+    requires { R ≤ MOST_CELLS }
+    ensures ok { IfOk result (λ parts. IsOfParts parts list.now) }
+{
+    let mut parts = Vec::with_capacity(alloc, list.len())?;
+    for n in 0..list.len() {
+        parts.push_reserved(list[n].parts());
+    }
+    Ok(parts)
 }

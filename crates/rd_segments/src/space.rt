@@ -13,7 +13,7 @@ use super::array::ArrayParts;
 use super::ends::operate_on_name;
 use super::lists::{find, make_in, make_room_in, operate_in, restore_in, unmake_in};
 use super::makers::first_lists;
-use super::parts::lists_from_parts;
+use super::parts::{lists_from_parts, parts_of_lists};
 use rd_cell::{Content, Done, Operation, Place, Refusal, SegName};
 use rd_ring::{Segment, SegmentParts};
 use std::alloc::{AllocError, Global};
@@ -30,7 +30,7 @@ pub struct Space<const R: usize> {
 }
 
 impl<const R: usize> Space<R> {
-    ghost use Rattle.rd_segments.specs.Space.{contents, lists, making_count, room, capacity};
+    ghost use Rattle.rd_segments.specs.Space.{contents, lists, making_count, room, capacity, head_name, tail_name, array_words};
 
     /// A fresh space for so many actors: the root is there, fresh, and the queue's two ends name it, and
     /// the array is fresh.
@@ -78,6 +78,40 @@ impl<const R: usize> Space<R> {
             qtail,
             array,
         })
+    }
+
+    /// The parts of the segments by their makers: the space is put together again from these, the names at the queue's
+    /// ends and the array.
+    ///
+    /// # Errors
+    ///
+    /// Only if the room for them was refused.
+    pub fn segments(&self, alloc: Global) -> Result<Vec<Vec<SegmentParts<R>>>, AllocError>
+        ensures ok { IfOk result (λ segments. contents_of_parts segments.items (head_name self.now) (tail_name self.now) (array_words self.now) ≡ contents self.now) }
+        ensures number { IfOk result (λ segments. length segments.items ≡ lists self.now) }
+    {
+        parts_of_lists(alloc, &self.makers)
+    }
+
+    /// The name at the queue's head.
+    pub fn qhead(&self) -> SegName
+        ensures { result ≡ head_name self.now }
+    {
+        self.qhead
+    }
+
+    /// The name at the queue's tail.
+    pub fn qtail(&self) -> SegName
+        ensures { result ≡ tail_name self.now }
+    {
+        self.qtail
+    }
+
+    /// The words of the array.
+    pub fn array(&self) -> ArrayParts
+        ensures { result ≡ array_words self.now }
+    {
+        self.array
     }
 
     /// What is at a place, or none if it is not there. The whole of a segment that is there has `Whole`.

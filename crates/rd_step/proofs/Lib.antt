@@ -16,6 +16,7 @@ pub mod WorldLemmas
 pub mod Room
 pub mod Assembled
 pub mod Accepted
+pub mod TakenApart
 pub mod Progress
 pub mod OldWords
 pub mod Symmetry

@@ -21,7 +21,6 @@ use rd_segments::Space;
 use std::alloc::Global;
 
 /// A well-formed world of rings of `R` cells, 1 to 64, with 1 to 16 actors.
-#[derive(Drop)]
 pub struct World<const R: usize> {
     space: Space<R>,
     actors: Vec<Actor>,
@@ -29,6 +28,17 @@ pub struct World<const R: usize> {
     ghost small: { R ≤ MOST_CELLS },
     ghost makers: { lists space ≡ suc (length actors.items) },
     ghost well_formed: { IsWellFormed R (world_of_fields space actors.items) },
+}
+
+/// Written out and not derived, so that a proof of a function in which a world ends has one step for that, and not one for
+/// each list inside.
+impl<const R: usize> Drop for World<R> {
+    fn drop(self) {
+        let World {
+            space: _space,
+            actors: _actors,
+        } = self;
+    }
 }
 
 impl<const R: usize> World<R> {
@@ -110,6 +120,43 @@ impl<const R: usize> World<R> {
                 space,
                 actors: parts.actors,
             }),
+        }
+    }
+
+    /// The parts of the world, from which `assemble` puts it together again.
+    ///
+    /// # Errors
+    ///
+    /// `NoMemory` if memory was refused.
+    pub fn parts(&self, alloc: Global) -> Result<Parts<R>, Refusal>
+        ensures ok { IfOk result (λ parts. world_of_parts parts ≡ model self.now) }
+        ensures flawless { IfOk result (λ parts. first_flaw parts ≡ None) }
+        ensures err { IfErr result (λ refusal. refusal ≡ Refusal.NoMemory) }
+    {
+        let segments = self.space.segments(alloc)?;
+        let actors = Vec::from_slice(alloc, &self.actors)?;
+        Ok(Parts {
+            actors,
+            segments,
+            qhead: self.space.qhead(),
+            qtail: self.space.qtail(),
+            array: self.space.array(),
+        })
+    }
+
+    /// A world like this one: the same content at each place, and the same words of each actor.
+    ///
+    /// # Errors
+    ///
+    /// `NoMemory` if memory was refused.
+    pub fn copy(&self, alloc: Global) -> Result<World<R>, Refusal>
+        ensures ok { IfOk result (λ world. model world ≡ model self.now) }
+        ensures err { IfErr result (λ refusal. refusal ≡ Refusal.NoMemory) }
+    {
+        let parts = self.parts(alloc)?;
+        match World::assemble(alloc, parts) {
+            Err(_) => Err(Refusal::NoMemory),
+            Ok(world) => Ok(world),
         }
     }
 

@@ -2,6 +2,7 @@
 //! data.
 
 mod assembling;
+mod copies;
 mod limits;
 mod rows;
 mod starts;

@@ -3,6 +3,7 @@
 
 pub mod faults;
 pub mod reports;
+mod texts;
 pub mod viewing;
 
 pub use faults::ViewFault;

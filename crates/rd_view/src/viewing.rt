@@ -1,6 +1,7 @@
 //! A view: several scripts run over one desk, each by a viewer in a thread of its own, and the text of it.
 //!
-//! All scripts are read before the first command is asked, and nothing is written before the desk is closed.
+//! All scripts are read before the first command is asked, and nothing is written before the desk is closed. Then the whole text is put
+//! together, and handed over in as few calls as the writer takes.
 
 ghost use Rattle.std.specs.Prelude.{◌≡◌, ◌≤◌, false, length, map, IfOk, IfErr, MatchResult};
 ghost use Rattle.rd_marks.specs.BookViews.{book_state};
@@ -8,11 +9,12 @@ ghost use Rattle.rd_desk.specs.Histories.{entries};
 ghost use Rattle.rd_view.specs.Viewing.{AreRead, IsUnviewed, IsViewed, ViewsScripts, commands_of, passes_of, told_of};
 
 use super::faults::ViewFault;
-use super::reports::{Said, write_view};
+use super::reports::Said;
+use super::texts::text_of_view;
 use rd_desk::{Answer, BookWithHistory, Desk, DeskPass, History, Ran, run_viewers};
 use rd_lock::Recorded;
 use rd_marks::{Book, Command};
-use rd_script::{Sink, lines};
+use rd_script::{Sink, hand_over, lines};
 use std::alloc::{AllocError, Global};
 use std::sync::Wait;
 use std::thread::Threads;
@@ -42,7 +44,8 @@ pub fn view_scripts<R: Threads + Wait + Sync, K: Sink, const N: usize>(
 {
     let said = lines_of_all(alloc, scripts)?;
     let (told, history) = viewed(rt, alloc, said.as_slice(), book)?;
-    write_view(writer, said.as_slice(), told.as_slice(), history.len())?;
+    let text = text_of_view(alloc, said.as_slice(), told.as_slice(), history.len())?;
+    hand_over(writer, text.as_slice())?;
     Ok(history)
 }
 

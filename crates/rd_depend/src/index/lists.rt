@@ -1,7 +1,7 @@
 //! Lists of positions by number, and what is done to one or to all of them.
 
 ghost use Rattle.std.specs.Prelude.{◌≡◌, ◌+◌, ◌-◌, ◌==◌, ◌&&◌, true, ◌<◌, ◌≤◌, ◌++◌, ◌∷◌, [], ℕ, IsOk, OnOk, length, take, vec_capacity, if◌then◌else◌};
-ghost use Rattle.rd_depend.specs.Lists.{one_if, list_at, capacity_at, spare_at, spare_of, closed, up_to, IsAscending};
+ghost use Rattle.rd_depend.specs.Lists.{one_if, list_at, capacity_at, spare_at, spare_of, closed, up_to, number_up_to, lowered_from, IsAscending};
 
 use std::alloc::{AllocError, Global};
 
@@ -136,14 +136,55 @@ fn close(list: &mut Vec<u32>, k: u32)
     ensures items { IsAscending list.old.items → list.new.items ≡ closed k list.old.items }
     ensures capacity { vec_capacity list.new ≡ vec_capacity list.old }
 {
-    let mut end = list.len();
-    'falling: while end > 0 && list[end - 1] > k {
-        end -= 1;
-        list[end] -= 1;
+    if ends_before(list, k) {
+        return;
     }
-    if end > 0 && list[end - 1] == k {
-        let _gone = list.remove(end - 1);
+    let border = number_up_to(k, list);
+    lower_from(list, border);
+    if border > 0 && list[border - 1] == k {
+        let _gone = list.remove(border - 1);
     }
+}
+
+/// Whether the last position is less than `k`, or there is none.
+fn ends_before(list: &[u32], k: u32) -> bool
+    ensures { result ≡ true → IsAscending list.now → closed k list.now ≡ list.now }
+{
+    let len = list.len();
+    if len == 0 {
+        return true;
+    }
+    let last = list[len - 1];
+    last < k
+}
+
+/// Takes 1 off each position from this index on.
+fn lower_from(list: &mut [u32], start: usize)
+    requires { start ≤ length list.old }
+    ensures { list.new ≡ lowered_from start (length list.old - start) list.old }
+{
+    for index in start..list.len() {
+        list[index] = list[index].saturating_sub(1);
+    }
+}
+
+/// How many positions stand before the first that is greater than `k`, by halving.
+fn number_up_to(k: u32, list: &[u32]) -> usize
+    ensures within { result ≤ length list.now }
+    ensures number { IsAscending list.now → result ≡ number_up_to k list.now }
+{
+    let mut low = 0;
+    let mut high = list.len();
+    'halving: while low < high {
+        let middle = low + (high - low) / 2;
+        let position = list[middle];
+        if position <= k {
+            low = middle + 1;
+        } else {
+            high = middle;
+        }
+    }
+    low
 }
 
 /// Takes the positions above `n` out of each list.

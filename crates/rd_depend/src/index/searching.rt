@@ -1,7 +1,7 @@
 //! The search among ascending positions, by halving.
 
 ghost use Rattle.std.specs.Prelude.{◌≡◌, ◌+◌, ◌<◌, ◌≤◌, ◌^◌, length};
-ghost use Rattle.rd_depend.specs.Lists.{IsAscending, first_above, number_up_to};
+ghost use Rattle.rd_depend.specs.Lists.{IsAscending, first_above, last_of, number_up_to, up_to};
 
 use super::positions::Positions;
 use super::probes::Probes;
@@ -39,6 +39,20 @@ impl<'a> Positions<'a> {
         let index = self.count_up_to(k, probes);
         if index < self.len() {
             Some(u64::from(self.look(index, probes)))
+        } else {
+            None
+        }
+    }
+
+    /// The greatest of them that is at most `k`; at most 18 probes.
+    pub(crate) fn last_up_to(&self, k: u32, probes: &mut Probes) -> Option<u64>
+        requires { probes.old.count < 2 ^ 61 }
+        ensures last { IsAscending self.now.items.now → length self.now.items.now < 2 ^ 17 → result ≡ last_of (up_to k self.now.items.now) }
+        ensures cost { probes.new.count ≤ probes.old.count + 18 }
+    {
+        let number = self.count_up_to(k, probes);
+        if number > 0 {
+            Some(u64::from(self.look(number - 1, probes)))
         } else {
             None
         }

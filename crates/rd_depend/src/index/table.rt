@@ -1,18 +1,24 @@
 //! The lists of places and of segments: of each, the positions that touch it, and apart from these those that wrote.
 
-ghost use Rattle.std.specs.Prelude.{◌≡◌, length};
+ghost use Rattle.std.specs.Prelude.{◌≡◌, ◌<◌, length};
 
 use super::keys::Key;
 use super::lists::{
     close_all, cut_all, put_if, put_in, reserve_if, reserve_in, take_last_if, take_last_in,
 };
 use indexmap::IndexSet;
+use rd_cell::SegName;
 use std::alloc::{AllocError, Global};
+
+/// How many hints there are of where the key of a segment stands.
+const HINTS: usize = 64;
 
 /// Keys with their lists, each by the index of its key. A key stays when its lists are empty.
 #[derive(Drop)]
 pub(crate) struct Table {
     keys: IndexSet<Key>,
+    /// Where the keys of segments were found of late. A hint is asked before the set is, and believed only if the key stands there.
+    hints: [usize; HINTS],
     all: Vec<Vec<u32>>,
     writes: Vec<Vec<u32>>,
     ghost all_there: { length all.items ≡ length keys.keys },
@@ -20,10 +26,11 @@ pub(crate) struct Table {
 }
 
 impl Table {
-    ghost use Rattle.std.specs.Prelude.{◌<◌, ◌≤◌, Option, Some, Bool, true, IsOk, IfOk, IfSome, false, []};
+    ghost use Rattle.std.specs.Prelude.{◌≤◌, Option, Some, Bool, true, IsOk, IfOk, IfSome, false, []};
     ghost use Rattle.rd_depend.specs.Keys.{slot_in};
     ghost use Rattle.rd_depend.specs.Tables.{kept_in, spare_in, counts, IsReady, IsReadyAt, AreReady, AreReadyAt, KeepsLists, Puts, HasLast, TakesLast, Closes, Cuts};
     ghost use Rattle.rd_depend.specs.declared.index.keys.Key.{Key as Kept};
+    ghost use Rattle.rd_depend.specs.declared.index.keys.Key.TheVariants.{In};
 
     /// No key; it takes no memory.
     pub(crate) fn new(alloc: Global) -> Table
@@ -31,6 +38,7 @@ impl Table {
     {
         Table {
             keys: IndexSet::new(alloc),
+            hints: [0; HINTS],
             all: Vec::new(alloc),
             writes: Vec::new(alloc),
         }
@@ -41,7 +49,50 @@ impl Table {
         ensures slot { result ≡ slot_in self.now.keys.keys key }
         ensures within { IfSome result (λ i. i < length self.now.keys.keys) }
     {
+        if let Some(slot) = self.hinted(key) {
+            return Some(slot);
+        }
         self.keys.get_index_of(&key)
+    }
+
+    /// The index of the key of a segment, if a hint tells it.
+    fn hinted(&self, key: Key) -> Option<usize>
+        ensures { IfSome result (λ i. slot_in self.now.keys.keys key ≡ Some i) }
+    {
+        let Key::In(name) = key else {
+            return None;
+        };
+        let slot = self.hints[hint_of(name)];
+        if self.is_segment_at(slot, name) {
+            Some(slot)
+        } else {
+            None
+        }
+    }
+
+    /// Whether the key of the segment stands at this index.
+    fn is_segment_at(&self, slot: usize, name: SegName) -> bool
+        ensures { result ≡ true → slot_in self.now.keys.keys (In name) ≡ Some slot }
+    {
+        let keys = self.keys.as_slice();
+        if slot >= keys.len() {
+            return false;
+        }
+        match keys[slot] {
+            Key::In(found) => found == name,
+            Key::At(_) => false,
+        }
+    }
+
+    /// Writes down where the key was found, if it is that of a segment.
+    fn note(&mut self, key: Key, slot: usize)
+        ensures keys { self.new.keys.keys ≡ self.old.keys.keys }
+        ensures all { self.new.all.items ≡ self.old.all.items }
+        ensures writes { self.new.writes.items ≡ self.old.writes.items }
+    {
+        if let Key::In(name) = key {
+            self.hints[hint_of(name)] = slot;
+        }
     }
 
     /// The positions kept for the key: all of them, or those that wrote.
@@ -96,8 +147,20 @@ impl Table {
         Ok(slot)
     }
 
-    /// The index of the key, which is put there with empty lists if it isn't yet.
+    /// The index of the key, which is put there with empty lists if it isn't yet; it is noted for the next time.
     fn slot_or_new(&mut self, alloc: Global, key: Key) -> Result<usize, AllocError>
+        ensures same { KeepsLists self.old self.new }
+        ensures slot { IfOk result (λ i. slot_in self.new.keys.keys key ≡ Some i) }
+        ensures within { IfOk result (λ i. i < length self.new.keys.keys) }
+        ensures succeeds { 0 < spare_in self.old false key → IsOk result }
+    {
+        let slot = self.found_or_new(alloc, key)?;
+        self.note(key, slot);
+        Ok(slot)
+    }
+
+    /// The index of the key, which is put there with empty lists if it isn't yet.
+    fn found_or_new(&mut self, alloc: Global, key: Key) -> Result<usize, AllocError>
         ensures same { KeepsLists self.old self.new }
         ensures slot { IfOk result (λ i. slot_in self.new.keys.keys key ≡ Some i) }
         ensures within { IfOk result (λ i. i < length self.new.keys.keys) }
@@ -171,4 +234,11 @@ impl Table {
         cut_all(&mut self.all, n);
         cut_all(&mut self.writes, n);
     }
+}
+
+/// Which hint may tell where the key of the segment stands.
+fn hint_of(name: SegName) -> usize
+    ensures { result < HINTS }
+{
+    name.n as usize % HINTS
 }

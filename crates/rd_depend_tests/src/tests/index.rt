@@ -1,11 +1,11 @@
-//! Tests of the index: whatever is pushed, taken from the end or taken out, the first dependant that it finds is that of the
-//! scan.
+//! Tests of the index: whatever is pushed, taken from the end or taken out, the first dependants and the last writers that it
+//! finds are those of a scan.
 
 ghost use Rattle.rd_depend.specs.Index.{IsIndexOf};
 
 use super::{Access, MADE, OTHER, record};
-use rd_cell::Place;
 use rd_cell::limits::MOST_STEPS;
+use rd_cell::{Place, overlaps};
 use rd_depend::dependence::first_dependant;
 use rd_depend::index::{DependIndex, Probes};
 use rd_step::Entry;
@@ -77,13 +77,52 @@ impl Both {
         probes.count()
     }
 
-    /// Compares each.
+    /// Compares the last writers of each place among the first `n` entries with what a scan finds.
+    fn compare_writers(&self, rt: &impl Abort, n: usize) {
+        for place in PLACES {
+            if let Some(place) = place {
+                self.compare_writer(rt, n, place);
+            }
+        }
+    }
+
+    /// Compares the last writer of the place.
+    fn compare_writer(&self, rt: &impl Abort, n: usize, place: Place) {
+        let mut probes = Probes::new();
+        if n <= self.entries.len()
+            && self.entries.len() <= MOST_STEPS
+            && n as u64 <= self.index.len()
+        {
+            let found = self.index.last_writer(n as u64, place, &mut probes);
+            assert_eq!(rt;
+                found,
+                last_writer(&self.entries[..n], place),
+                "among {n}, of {place:?}"
+            );
+        }
+        assert!(rt; probes.count() <= 38);
+    }
+
+    /// Compares each, and the last writers among all and among half of them.
     fn compare_all(&self, rt: &impl Abort) {
         assert_eq!(rt; self.index.len(), self.entries.len() as u64);
+        self.compare_writers(rt, self.entries.len());
+        self.compare_writers(rt, self.entries.len() / 2);
         for at in 0..self.entries.len() {
             assert!(rt; self.compare(rt, at) <= 96);
         }
     }
+}
+
+/// The last of these entries that wrote the place or one that overlaps it, from 1, by a scan.
+fn last_writer(entries: &[Entry], place: Place) -> Option<u64> {
+    for at in (0..entries.len()).rev() {
+        let entry = entries[at];
+        if entry.wrote && entry.place.is_some_and(|written| overlaps(written, place)) {
+            return Some(at as u64 + 1);
+        }
+    }
+    None
 }
 
 /// Places of which some overlap.
@@ -173,6 +212,7 @@ fn as_many_entries_as_there_may_be_are_found_by_few_probes(rt: HostRuntime) -> R
     }
     for at in AT {
         assert!(rt; both.compare(&rt, at) <= 96);
+        both.compare_writers(&rt, at);
     }
     both.remove(0);
     both.pop();

@@ -13,7 +13,7 @@ use rd_step::Entry;
 use std::alloc::AllocError;
 
 /// Puts an entry at this place of the order: into the slot whose number stands there, or into a new one at the end.
-pub(crate) fn put_at(slots: &mut Vec<Entry>, order: &mut Vec<u32>, place: usize, entry: Entry)
+pub(crate) fn put_at(slots: &mut Vec<Entry>, order: &mut Vec<u32>, place: usize, entry: &Entry)
     requires ordered { IsOrder (length slots.old.items) order.old.items }
     requires within { place ≤ length order.old.items }
     requires few { place < MOST_STEPS }
@@ -21,16 +21,16 @@ pub(crate) fn put_at(slots: &mut Vec<Entry>, order: &mut Vec<u32>, place: usize,
     requires number { place < vec_capacity order.old }
     ensures ordered { IsOrder (length slots.new.items) order.new.items }
     ensures put { at_numbers slots.new.items order.new.items
-        ≡ take place (at_numbers slots.old.items order.old.items) ++ entry ∷ drop (place + 1) (at_numbers slots.old.items order.old.items) }
+        ≡ take place (at_numbers slots.old.items order.old.items) ++ entry.now ∷ drop (place + 1) (at_numbers slots.old.items order.old.items) }
     ensures within { place < length order.new.items }
     ensures slots { vec_capacity slots.new ≡ vec_capacity slots.old }
     ensures numbers { vec_capacity order.new ≡ vec_capacity order.old }
 {
     if place < order.len() {
-        slots[order[place] as usize] = entry;
+        slots[order[place] as usize] = *entry;
     } else {
         order.push_reserved(slots.len() as u32);
-        slots.push_reserved(entry);
+        slots.push_reserved(*entry);
     }
 }
 

@@ -1,8 +1,7 @@
 //! Exchanging the records behind the first live ones: all room first, then the undoing, then the steps of the given ones.
 
-ghost use Rattle.std.specs.Prelude.{◌≡◌, ◌++◌, ◌+◌, ◌<◌, ◌≤◌, [], ℕ, length, take, if◌then◌else◌, IsOk, OnOk, IfErr};
+ghost use Rattle.std.specs.Prelude.{◌≡◌, ◌++◌, ◌+◌, ◌<◌, ◌≤◌, [], ℕ, length, take, get_or, IsOk, OnOk, IfErr};
 ghost use Rattle.rd_step.specs.Prelude.{model, room as world_room};
-ghost use Rattle.rd_step.specs.Room.{room_returned};
 ghost use Rattle.rd_journal.specs.Journal.{events, start_of, IsRunFrom};
 ghost use Rattle.rd_journal.specs.Moves.{IsSwitched};
 ghost use Rattle.rd_journal.specs.Room.{room_returned_by, HasRoomForAll, LacksRoom, LacksRoomForMakings};
@@ -12,6 +11,9 @@ use super::Session;
 use rd_cell::Refusal;
 use rd_cell::limits::MOST_STEPS;
 use rd_step::{Entry, World};
+
+/// How many numbers a `u8` has, one for each that an actor could have.
+const ACTOR_NUMBERS: usize = 256;
 
 impl<const R: usize> Session<R> {
     ghost use Rattle.rd_journal.specs.Sessions.{journal, state, room, capacity};
@@ -68,32 +70,23 @@ fn make_room_for_makings<const R: usize>(
     ensures unchanged { model world.new ≡ model world.old }
     ensures room { (m : ℕ) → world_room world.old m ≤ world_room world.new m }
 {
+    let counts = makings_of(given);
     for number in 0..world.actors() {
         let actor = number + 1;
-        world.make_room(actor, makings_by(given, actor))?;
+        world.make_room(actor, counts[usize::from(actor)])?;
     }
     Ok(())
 }
 
-/// How many of these records are makings by this actor.
-fn makings_by(entries: &[Entry], actor: u8) -> usize
-    ensures { result ≡ room_returned_by entries.now actor }
+/// How many of these records are makings by each actor, by its number.
+fn makings_of(entries: &[Entry]) -> [usize; ACTOR_NUMBERS]
+    ensures { (m : ℕ) → m < ACTOR_NUMBERS → get_or result m 0 ≡ room_returned_by entries.now m }
 {
-    let mut count = 0;
+    let mut counts = [0; ACTOR_NUMBERS];
     for entry in entries {
-        if is_making_by(entry, actor) {
-            count += 1;
+        if let Some(segment) = entry.made() {
+            counts[usize::from(segment.maker)] += 1;
         }
     }
-    count
-}
-
-/// Whether the record is a making by this actor.
-fn is_making_by(entry: &Entry, actor: u8) -> bool
-    ensures { (if result then 1 else 0) ≡ room_returned entry.now.place entry.now.old_content actor }
-{
-    match entry.made() {
-        Some(segment) => actor == segment.maker,
-        None => false,
-    }
+    counts
 }

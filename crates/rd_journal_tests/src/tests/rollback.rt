@@ -83,7 +83,7 @@ fn each_step_is_rolled_back_and_redone(rt: HostRuntime) -> Result<(), Fail> {
         let mut session = mixed_run(rt.alloc(), STEPS, seed)?;
         let mut most = 0;
         for turn in 0..STEPS {
-            let k = turn * leap % STEPS + 1;
+            let k = turn.wrapping_mul(leap) % STEPS + 1;
             let gone = roll_and_redo(&rt, rt.alloc(), &mut session, &whole, k)?;
             most = most.max(gone);
         }

@@ -4,10 +4,11 @@ ghost use Rattle.std.specs.Prelude.{◌≡◌, ◌≤◌, ◌+◌, ◌++◌, len
 ghost use Rattle.rd_step.specs.Prelude.{MOST_STEPS};
 ghost use Rattle.rd_step.specs.Run.{events};
 ghost use Rattle.rd_depend.specs.Beginnings.{Begins};
+ghost use Rattle.rd_journal.specs.State.{event_at};
 
 use super::Tree;
 use rd_journal::LiveRecords;
-use rd_step::Entry;
+use rd_step::{Entry, Event};
 use std::alloc::{AllocError, Global};
 
 impl Tree {
@@ -67,6 +68,20 @@ impl Tree {
         at
     }
 
+    /// The event of this number, from 1, of a node's path, if there is one.
+    pub(crate) fn event_at(&self, from: Option<usize>, n: u64) -> Option<Event>
+        requires present { IsIn (mark_tree self.now) from }
+        ensures { result ≡ event_at (events (path_in (mark_tree self.now) from)) n }
+    {
+        if n == 0 || n > self.depth(from) as u64 {
+            return None;
+        }
+        match self.entry(self.ancestor(from, n as usize)) {
+            None => None,
+            Some(entry) => Some(entry.event),
+        }
+    }
+
     /// The deepest node that is above both or one of them.
     pub(crate) fn common(&self, one: Option<usize>, other: Option<usize>) -> Option<usize>
         requires one { IsIn (mark_tree self.now) one }
@@ -77,14 +92,12 @@ impl Tree {
         ensures first_begins { Begins (events (path_in (mark_tree self.now) one)) (events (path_in (mark_tree self.now) other)) → result ≡ one }
         ensures second_begins { Begins (events (path_in (mark_tree self.now) other)) (events (path_in (mark_tree self.now) one)) → result ≡ other }
     {
-        let mut a = one;
-        let mut b = other;
+        let depth = self.depth(one).min(self.depth(other));
+        let mut a = self.ancestor(one, depth);
+        let mut b = self.ancestor(other, depth);
         while a != b {
-            if self.depth(a) < self.depth(b) {
-                b = self.parent(b);
-            } else {
-                a = self.parent(a);
-            }
+            a = self.parent(a);
+            b = self.parent(b);
         }
         a
     }

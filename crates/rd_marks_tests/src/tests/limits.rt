@@ -1,6 +1,6 @@
 //! Names, the number of bookmarks, and lists of commands.
 
-use super::numbered;
+use rd_actor::Act;
 use rd_cell::Refusal;
 use rd_cell::limits::MOST_MARKS;
 use rd_journal::Session;
@@ -41,6 +41,18 @@ fn a_name_is_1_to_16_bytes_of_three_kinds(rt: HostRuntime) {
     }
 }
 
+/// The name `n` and this number, below 100.
+fn numbered(i: u8) -> Result<MarkName, Refusal> {
+    if i >= 100 {
+        return Err(Refusal::BadName);
+    }
+    let text = [b'n', b'0' + i / 10, b'0' + i % 10];
+    if i < 10 {
+        return MarkName::new(&[b'n', text[2]]);
+    }
+    MarkName::new(&text)
+}
+
 #[test]
 fn a_65th_bookmark_is_refused(rt: HostRuntime) -> Result<(), Fail> {
     let session = Session::open(rt.alloc(), World::<4>::fresh(rt.alloc(), 4)?);
@@ -52,6 +64,31 @@ fn a_65th_bookmark_is_refused(rt: HostRuntime) -> Result<(), Fail> {
     assert_eq!(rt; book.mark(numbered(65)?), Err(Refusal::TooManyMarks));
     assert_eq!(rt; book.mark(numbered(64)?), Err(Refusal::MarkTaken));
     assert_eq!(rt; book.mark_at(64), Ok((numbered(64)?, 0)));
+    Ok(())
+}
+
+#[test]
+fn bookmarks_may_have_64_branches(rt: HostRuntime) -> Result<(), Fail> {
+    let session = Session::open(rt.alloc(), World::<4>::fresh(rt.alloc(), 4)?);
+    let mut book = Book::open(rt.alloc(), session);
+    for i in 1..65u8 {
+        book.obey(Command::Enq(1, i as u64))?;
+        book.mark(numbered(i)?)?;
+        book.obey(Command::Undo)?;
+        assert_eq!(rt; book.nodes(), i as u64, "mark {i}");
+    }
+    for i in 1..33u8 {
+        book.drop_mark(numbered(2 * i)?)?;
+        assert_eq!(rt; book.nodes(), 64 - i as u64, "drop {i}");
+    }
+    for i in 1..33u8 {
+        book.goto_mark(numbered(2 * i - 1)?)?;
+        assert_eq!(rt;
+            book.session().entry(1)?.event.act,
+            Act::Enq(2 * i as u64 - 1),
+            "goto {i}"
+        );
+    }
     Ok(())
 }
 

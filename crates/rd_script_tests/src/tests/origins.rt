@@ -41,6 +41,31 @@ fn lines_that_nearly_ask_for_a_step_are_bad(rt: HostRuntime) -> Result<(), Fail>
 }
 
 #[test]
+fn a_value_through_the_array_has_its_origin_until_its_take_is_undone(
+    rt: HostRuntime,
+) -> Result<(), Fail> {
+    over_fresh::<4>(
+        &rt,
+        rt.alloc(),
+        &[
+            ("aenq 1 7\ngo 1\n", "ok 1\nok 2\n"),
+            ("writer acell 0\n", "writer none\n"),
+            ("go 1\n", "ok 3 enqueued\n"),
+            ("adeq 2\ngo 2\n", "ok 4\nok 5\n"),
+            ("writer acell 0\n", "writer 3\n"),
+            ("go 2\n", "ok 6 value 7\n"),
+            ("origin 6\n", "origin call 1 put 3 take 6\n"),
+            ("writer acell 0\n", "writer 6\n"),
+            ("origin 5\n", "refused 18 NotATake\n"),
+            ("writer acell 64\n", "refused 19 NoSuchPlace\n"),
+            ("undo\n", "at 5 1\n"),
+            ("origin 6\n", "refused 12 NoSuchStep 5\n"),
+            ("writer acell 0\n", "writer 3\n"),
+        ],
+    )
+}
+
+#[test]
 fn an_origin_before_the_start_is_a_hyphen(rt: HostRuntime) {
     origins_are(
         &rt,

@@ -117,6 +117,8 @@ fn a_refused_walk_changes_nothing_and_a_new_step_forgets_the_undone_ones(
             ("step 1\n", "step 1; enq 1 7; -; none; -; -\n"),
             ("enq 1 8\nlen\n", "refused 2 NotIdle\nat 1 1\n"),
             ("deq 3\nlen\n", "ok 2\nat 2 0\n"),
+            ("roll 3\n", "refused 12 NoSuchStep 2\n"),
+            ("forward 1\n", "refused 11 NothingToRedo\n"),
         ],
     )
 }

@@ -146,6 +146,28 @@ fn a_rollback_takes_just_the_steps_that_depend(rt: HostRuntime) -> Result<(), Fa
 }
 
 #[test]
+fn a_rollback_is_gone_forward_again_and_steps_are_asked_for(rt: HostRuntime) -> Result<(), Fail> {
+    over_fresh::<4>(
+        &rt,
+        rt.alloc(),
+        &[
+            ("enq 1 7\ndeq 2\ngo 1\n", "ok 1\nok 2\nok 3\n"),
+            ("roll 1\nforward 2\n", "at 1 2\nat 3 0\n"),
+            ("aenq 3 5\nadeq 4\n", "ok 4\nok 5\n"),
+            ("starve 1 yes\n", "refused 5 NoChoice\n"),
+            ("show qhead\n", "is 0.0\n"),
+            ("show whole 1.0\n", "refused 19 NoSuchPlace\n"),
+            ("actor 5\n", "refused 1 NoActor\n"),
+            ("step 6\n", "refused 12 NoSuchStep 5\n"),
+            (
+                "actor 4\n",
+                "actor B1 adeq crq 0.0 new 0.0 next 0.0 t 0 h 0 closed 0 val none safe 0 idx 0 pass 0\n",
+            ),
+        ],
+    )
+}
+
+#[test]
 fn bookmarks_of_equivalent_runs_are_the_same(rt: HostRuntime) -> Result<(), Fail> {
     over_fresh::<4>(
         &rt,
@@ -165,7 +187,36 @@ fn bookmarks_of_equivalent_runs_are_the_same(rt: HostRuntime) -> Result<(), Fail
             ("redo\n", "refused 11 NothingToRedo\n"),
             ("marks\n", "marks 2\n"),
             ("markat 2\n", "mark b 4\n"),
-            ("goto c\n", "refused 14 NoMark\n"),
+            (
+                "goto c\nsame a c\n",
+                "refused 14 NoMark\nrefused 14 NoMark\n",
+            ),
+            (
+                "markat 3\nmarkat 0\n",
+                "refused 14 NoMark\nrefused 14 NoMark\n",
+            ),
+            ("drop a\nmarkat 1\n", "dropped\nmark b 4\n"),
+            ("drop a\n", "refused 14 NoMark\n"),
+            ("goto A\nlen\n", "refused 17 BadName\nat 4 0\n"),
+        ],
+    )
+}
+
+#[test]
+fn a_bookmark_that_begins_the_live_steps_is_gone_to(rt: HostRuntime) -> Result<(), Fail> {
+    over_fresh::<4>(
+        &rt,
+        rt.alloc(),
+        &[
+            ("mark s\nenq 1 7\ndeq 2\n", "marked 0\nok 1\nok 2\n"),
+            ("mark a\ngo 1\ngo 2\n", "marked 2\nok 3\nok 4\n"),
+            ("mark b\ngoto a\n", "marked 4\nat 2 0\n"),
+            ("redo\ngoto a\n", "refused 11 NothingToRedo\nat 2 0\n"),
+            ("goto s\n", "at 0 0\n"),
+            ("goto b\n", "at 4 0\n"),
+            ("step 4\n", "step 4; go 2; qhead; read; 0.0; -\n"),
+            ("undo\ngoto a\n", "at 3 1\nat 2 0\n"),
+            ("redo\nmarks\n", "refused 11 NothingToRedo\nmarks 3\n"),
         ],
     )
 }

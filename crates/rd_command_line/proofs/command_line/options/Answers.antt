@@ -20,7 +20,7 @@ pub returns-in_default-clause-err : goal.returns-in_default-clause-err
 returns-in_default-clause-err g c =
     let app = c.in_ok-command.ensures in
     let words = map g.S.AsStr.text c.args.words.now in
-    let nothing = subst (λ told. IsNone told → (o : Options) → Tells (subcommand_rows_of c.in_ok-matches.matches) o → ⊥) c.in_default.is c.in_ok-options.ensures.none refl in (
+    let nothing = subst (λ asked. IsNone asked → (o : Options) → Tells (subcommand_rows_of c.in_ok-matches.matches) o → ⊥) c.in_default.is c.in_ok-options.ensures.none refl in (
       ap is_request c.in_ok-error.ensures.kind,
       inr (TellsNothing-matches words _ app.0 c.in_ok-matches.matches app.1 app.2 c.in_ok-matches.ensures.kinds c.in_ok-matches.ensures.ok.2 nothing),
     )
@@ -29,7 +29,7 @@ pub returns-then-has_many_files-clause-err : goal.returns-then-has_many_files-cl
 returns-then-has_many_files-clause-err g c =
     let app = c.in_ok-command.ensures in
     let words = map g.S.AsStr.text c.args.words.now in
-    let tells = subst (λ told. IfSome told (Tells (subcommand_rows_of c.in_ok-matches.matches))) c.in-Some.is c.in_ok-options.ensures.some in (
+    let tells = subst (λ asked. IfSome asked (Tells (subcommand_rows_of c.in_ok-matches.matches))) c.in-Some.is c.in_ok-options.ensures.some in (
       c.in-Some.options,
       Reads-matches words _ app.0 c.in_ok-matches.matches _ app.1 app.2 c.in_ok-matches.ensures.kinds c.in_ok-matches.ensures.ok.2 tells,
       c.has_many_files.ensures.many c.if-has_many_files.true,
@@ -39,5 +39,5 @@ pub returns-clause-ok : goal.returns-clause-ok
 returns-clause-ok g c =
     let app = c.in_ok-command.ensures in
     let words = map g.S.AsStr.text c.args.words.now in
-    let tells = subst (λ told. IfSome told (Tells (subcommand_rows_of c.in_ok-matches.matches))) c.in-Some.is c.in_ok-options.ensures.some in
+    let tells = subst (λ asked. IfSome asked (Tells (subcommand_rows_of c.in_ok-matches.matches))) c.in-Some.is c.in_ok-options.ensures.some in
     Reads-matches words _ app.0 c.in_ok-matches.matches _ app.1 app.2 c.in_ok-matches.ensures.kinds c.in_ok-matches.ensures.ok.2 tells

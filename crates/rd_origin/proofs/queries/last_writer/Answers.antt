@@ -1,4 +1,4 @@
-use Rattle.std.proofs.Common.{◌+◌, sym, ◌∙◌, arith}
+use Rattle.std.proofs.Common.{sym, ◌∙◌}
 use Rattle.rd_step.specs.Prelude.{model}
 use Rattle.rd_journal.specs.Sessions.{journal, state}
 use Rattle.rd_journal.specs.State.{run_of}
@@ -9,7 +9,6 @@ pub returns : goal.returns
 returns g c =
     record {
       answer =
-          writer_found (model c.world.result.now) (journal c.args.session.now).live c.live-steps.result c.args.place (run_of g.row.R (state c.args.session.now))
-          c.in-Some.field-0 (c.len.result + 1) c.last_below.result c.world.ensures.run (sym c.content.ensures ∙ c.in-Some.is)
-          c.live-steps.ensures.records (omega (arith, c.len.ensures)) c.last_below.ensures;
+          writer_found (model c.world.result.now) (journal c.args.session.now).live c.args.place (run_of g.row.R (state c.args.session.now))
+          c.in-Some.field-0 c.last_writer.result c.world.ensures.run (sym c.content.ensures ∙ c.in-Some.is) c.last_writer.ensures;
     }

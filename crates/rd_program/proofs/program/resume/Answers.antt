@@ -1,9 +1,7 @@
-use Rattle.std.proofs.Common.{Ok, Err}
 use Rattle.std.proofs.KnownBytes.{Keeps-refl}
-use Rattle.rd_trace.specs.Loading.{any_ring, any_state}
 use Rattle.rd_trace.specs.Devices.{devices}
-use Rattle.rd_program.specs.Program.{ResumesTrace, load_fault, program_fault}
-use Rattle.rd_program.proofs.ProgramLemmas.{fault_passed_up, resumes_nothing, resumes_over, runs_to_fault}
+use Rattle.rd_program.specs.Program.{ResumesTrace, load_fault}
+use Rattle.rd_program.proofs.ProgramLemmas.{fault_passed_up, resumes_nothing, resumes_over}
 use Rattle.rd_program.proofs.program.resume.Goals as goal
 
 pub returns-in_err-book : goal.returns-in_err-book
@@ -17,19 +15,7 @@ returns-in_err-book g c =
           c.in_err-book.ensures.loads);
     }
 
-pub returns-in_err-lines : goal.returns-in_err-lines
-returns-in_err-lines g c =
-    let d = devices g.S.Source g.K.Sink c.args.reader.now c.run.new.reader c.args.writer.now c.run.new.writer in
-    let fault = c.in_err-lines.field-0.0 in
-    record {
-      resumes = fault_passed_up (λ r. ResumesTrace c.args.text.now d r) (program_fault fault) c.from_residual-in_err-lines.result c.from_residual-in_err-lines.ensures.1
-          (resumes_over c.args.text.now c.in_ok-book.book d (Err (program_fault fault)) c.in_ok-book.ensures.loads
-          (runs_to_fault (any_ring c.in_ok-book.book) d (any_state c.in_ok-book.book) (any_state c.run.new.self) fault c.in_err-lines.ensures.runs));
-    }
-
 pub returns : goal.returns
 returns g c =
-    let d = devices g.S.Source g.K.Sink c.args.reader.now c.run.new.reader c.args.writer.now c.run.new.writer in
-    record {
-      resumes = resumes_over c.args.text.now c.in_ok-book.book d (Ok c.in_ok-lines.lines) c.in_ok-book.ensures.loads (any_state c.run.new.self, c.in_ok-lines.ensures.runs);
-    }
+    let d = devices g.S.Source g.K.Sink c.args.reader.now c.run_over.new.reader c.args.writer.now c.run_over.new.writer in
+    record { resumes = resumes_over c.args.text.now c.in_ok-book.book d c.run_over.result c.in_ok-book.ensures.loads c.run_over.ensures }

@@ -20,24 +20,24 @@ returns-in_err-told g c = record {
   views = not_viewed _ _ _ _ _ _ c.from_residual-in_err-told.result c.in_err-told.field-0.0 c.from_residual-in_err-told.ensures.1 c.in_err-told.ensures.err c.requires.works;
 }
 
-pub write_view-requires-clause-each : goal.write_view-requires-clause-each
-write_view-requires-clause-each g c =
+pub text_of_view-requires : goal.text_of_view-requires
+text_of_view-requires g c =
     ap length c.as_slice-2.ensures.value ∙ ap length (sym c.as_slice.ensures.value) ∙ told_length _ _ _ _ 1 c.as_slice.result.now c.in_ok-told.told.items c.in_ok-told.ensures.ok.1
     ∙ ap length (sym c.as_slice-3.ensures.value)
 
-pub returns-in_err-write_view : goal.returns-in_err-write_view
-returns-in_err-write_view g c =
+pub returns-in_err-hand_over : goal.returns-in_err-hand_over
+returns-in_err-hand_over g c =
     let history = entries c.in_ok-told.history in
     let said = c.in_ok-said.said.items in
     let told = c.in_ok-told.told.items in
-    let same = same_text _ said _ told _ (length history) c.as_slice-2.ensures.value c.as_slice-3.ensures.value c.len.ensures in
+    let same = c.as_slice-4.ensures.value ∙ (c.in_ok-text.ensures ∙ same_text _ said _ told _ (length history) c.as_slice-2.ensures.value c.as_slice-3.ensures.value c.len.ensures) in
     let views : Views g.row.N (Recorded.ghosts (number_of g.row.N)) (book_state c.args.book) c.args.scripts.now history =
     record { said = said; told = told; are_read = c.in_ok-said.ensures; is_viewed = subst (λ xs. IsViewed g.row.N (Recorded.ghosts (number_of g.row.N)) (book_state c.args.book) xs told history) c.as_slice.ensures.value c.in_ok-told.ensures.ok } in
     record {
       views =
-          not_written _ _ _ c.args.scripts.now (g.K.Sink.contents c.args.writer.now) (g.K.Sink.contents c.write_view.new.writer) (g.K.Sink.has_failed c.write_view.new.writer)
-          c.from_residual-in_err-write_view.result history views c.from_residual-in_err-write_view.ensures.1
-          (subst (λ t. TakesBeginning (g.K.Sink.contents c.args.writer.now) (g.K.Sink.contents c.write_view.new.writer) t) same c.in_err-write_view.ensures.0) c.in_err-write_view.ensures.1;
+          not_written _ _ _ c.args.scripts.now (g.K.Sink.contents c.args.writer.now) (g.K.Sink.contents c.hand_over.new.writer) (g.K.Sink.has_failed c.hand_over.new.writer)
+          c.from_residual-in_err-hand_over.result history views c.from_residual-in_err-hand_over.ensures.1
+          (subst (λ t. TakesBeginning (g.K.Sink.contents c.args.writer.now) (g.K.Sink.contents c.hand_over.new.writer) t) same c.in_err-hand_over.ensures.err) c.in_err-hand_over.ensures.fails;
     }
 
 pub returns : goal.returns
@@ -45,11 +45,11 @@ returns g c =
     let history = entries c.in_ok-told.history in
     let said = c.in_ok-said.said.items in
     let told = c.in_ok-told.told.items in
-    let same = same_text _ said _ told _ (length history) c.as_slice-2.ensures.value c.as_slice-3.ensures.value c.len.ensures in
+    let same = c.as_slice-4.ensures.value ∙ (c.in_ok-text.ensures ∙ same_text _ said _ told _ (length history) c.as_slice-2.ensures.value c.as_slice-3.ensures.value c.len.ensures) in
     record {
       views = (
         record { said = said; told = told; are_read = c.in_ok-said.ensures; is_viewed = subst (λ xs. IsViewed g.row.N (Recorded.ghosts (number_of g.row.N)) (book_state c.args.book) xs told history) c.as_slice.ensures.value c.in_ok-told.ensures.ok },
-        subst (λ t. Appends (g.K.Sink.contents c.args.writer.now) (g.K.Sink.contents c.write_view.new.writer) t) same c.in_ok-write_view.ensures.0,
-        c.in_ok-write_view.ensures.1,
+        subst (λ t. Appends (g.K.Sink.contents c.args.writer.now) (g.K.Sink.contents c.hand_over.new.writer) t) same c.in_ok-hand_over.ensures.ok,
+        c.in_ok-hand_over.ensures.works,
       );
     }

@@ -1,5 +1,4 @@
-use Rattle.std.proofs.Common.{◌≡◌, None, Some, sym, ◌∙◌, ap, arith}
-use Rattle.rd_cell.specs.Places.{segment_of}
+use Rattle.std.proofs.Common.{sym, ◌∙◌, arith}
 use Rattle.rd_cell.specs.declared.places.Place.TheVariants.{Whole}
 use Rattle.rd_depend.specs.declared.index.keys.Key.TheVariants.{At, In}
 use Rattle.rd_depend.specs.Lists.{earlier}

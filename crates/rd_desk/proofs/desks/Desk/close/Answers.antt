@@ -1,11 +1,12 @@
-use Rattle.std.proofs.Common.{ap, sym, subst}
+use Rattle.std.proofs.Common.{sym, subst}
 use Rattle.rd_marks.specs.BookViews.{book_state}
 use Rattle.rd_desk.specs.Histories.{entries, IsLeftBy}
 use Rattle.rd_desk.proofs.desks.Desk.close.Goals as goal
 
-pub returns-in-Ok-clause-ok : goal.returns-in-Ok-clause-ok
-returns-in-Ok-clause-ok g c = let h = c.in-Ok.ensures.ok in let kept = c.in-Ok.kept in record {
-  leaves = subst (λ b. IsLeftBy g.row.R (book_state b) (entries kept.history) (book_state kept.book)) h.rooted kept.legal;
+pub returns-clause-ok : goal.returns-clause-ok
+returns-clause-ok g c = let h = c.in_ok-kept.ensures.ok in let kept = c.in_ok-kept.kept in record {
+  leaves = subst (λ b. IsLeftBy g.row.R (book_state b) (entries kept.history) (book_state c.into_inner.result)) h.rooted
+      (subst (λ b. IsLeftBy g.row.R (book_state kept.opened.value) (entries kept.history) (book_state b)) (sym c.into_inner.ensures) kept.legal);
   names = h.names;
   tells = h.tells;
 }

@@ -1,7 +1,7 @@
-use Rattle.std.proofs.Common.{sym, ap}
+use Rattle.std.proofs.Common.{sym, ap, ◌∙◌}
 use Rattle.rd_marks.specs.BookViews.{book_state}
 use Rattle.rd_desk.proofs.HistoryLemmas.{nothing_yet}
 use Rattle.rd_desk.proofs.recording.BookWithHistory.new.Goals as goal
 
 pub invariant_of-result-clause-legal : goal.invariant_of-result-clause-legal
-invariant_of-result-clause-legal g c = nothing_yet _ _ _ _ c.new.ensures (sym (ap book_state c.of-opened.ensures))
+invariant_of-result-clause-legal g c = nothing_yet _ _ _ _ c.new-in-Ok.ensures (ap book_state (c.in-Ok.ensures.ok ∙ sym c.of-opened.ensures))

@@ -1,6 +1,7 @@
-use Rattle.std.proofs.Common.{◌≡◌, ◌==◌, ◌≤◌, ℕ, Bool, false, true≢false, inl, inr, sym, List, ◌∷◌, ◌++◌, [], length, length-append, ap, ◌∙◌, arith}
+use Rattle.std.proofs.Common.{subst, ◌≡◌, ◌==◌, ◌≤◌, ℕ, Bool, false, true≢false, inl, inr, sym, List, ◌∷◌, ◌++◌, [], length, length-append, ap, ◌∙◌, arith}
 use Rattle.std.proofs.lemmas.Bool.{cases_eq, eq-eqb}
-use Rattle.rd_desk.specs.Histories.{MOST_CALLS, entries, entry}
+use Rattle.rd_marks.specs.BookViews.{book_state}
+use Rattle.rd_desk.specs.Histories.{MOST_CALLS, entries, entry, IsLeftBy}
 use Rattle.rd_desk.proofs.HistoryLemmas.{one_recorded}
 use Rattle.rd_desk.proofs.recording.BookWithHistory.record.Goals as goal
 
@@ -21,5 +22,5 @@ invariant_of-self-2-clause-few g c =
 
 pub invariant_of-self-2-clause-legal : goal.invariant_of-self-2-clause-legal
 invariant_of-self-2-clause-legal g c =
-    one_recorded _ _ _ _ _ _ _ _ _ c.args.self.now.legal c.obey-answer.ensures.answer
+    one_recorded _ _ _ _ _ _ _ _ _ (subst (λ b. IsLeftBy g.row.R (book_state c.args.self.now.opened.value) (entries c.args.self.now.history) (book_state b)) (sym c.deref_mut.ensures.value) c.args.self.now.legal) c.obey-answer.ensures.answer
     (c.push.ensures ∙ ap (λ es. es ++ entry c.args.viewer c.args.command c.obey-answer.result ∷ []) c.make_room.ensures.entries)

@@ -1,4 +1,4 @@
-use Rattle.std.proofs.Common.{◌≡◌, ◌≤◌}
+use Rattle.std.proofs.Common.{◌≡◌}
 use Rattle.rd_journal.proofs.indexed_records.IndexedRecords.catch_up.Given as goal
 
 abbrev pub invariant-loop : goal.invariant-loop

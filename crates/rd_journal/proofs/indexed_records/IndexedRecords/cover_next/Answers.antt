@@ -1,5 +1,4 @@
 use Rattle.std.proofs.Common.{◌≡◌, ◌<◌, ℕ, ap, ◌∙◌, arith, get_or, length, length-append}
-use Rattle.rd_step.specs.declared.entries.Entry.{Entry}
 use Rattle.rd_journal.specs.Records.{live_records, undone_records, kept_records}
 use Rattle.rd_journal.proofs.IndexedLemmas.{covered_next, one_more}
 use Rattle.rd_journal.proofs.indexed_records.IndexedRecords.cover_next.Goals as goal

@@ -1,9 +1,8 @@
-use Rattle.std.proofs.Common.{◌≡◌, ◌+◌, ◌≤◌, ◌<◌, ◌-◌, ◌++◌, ℕ, List, Option, None, Some, length, take, drop, get_or, sym, ◌∙◌, ap, arith, length-append}
+use Rattle.std.proofs.Common.{◌≡◌, ◌+◌, ◌≤◌, ◌-◌, ◌++◌, ℕ, List, Option, Some, length, take, drop, get_or, sym, ◌∙◌, ap, arith, length-append}
 use Rattle.std.proofs.lemmas.List.{get_or_append_left}
 use Rattle.rd_step.specs.Dependence.{first_from, numbered}
 use Rattle.rd_step.specs.Prelude.{first_dependant}
 use Rattle.rd_step.specs.declared.entries.Entry.{Entry}
-use Rattle.rd_depend.specs.declared.index.DependIndex.{DependIndex}
 use Rattle.rd_depend.specs.Index.{IsIndexOf}
 use Rattle.rd_journal.specs.declared.indexed_records.IndexedRecords.{IndexedRecords}
 use Rattle.rd_journal.specs.Records.{live_records, undone_records, kept_records}

@@ -1,4 +1,4 @@
-use Rattle.std.proofs.Common.{◌≡◌, ◌+◌, ◌≤◌}
+use Rattle.std.proofs.Common.{◌≡◌, ◌+◌}
 use Rattle.rd_journal.proofs.indexed_records.IndexedRecords.forget_each_behind.Given as goal
 
 abbrev pub invariant-loop : goal.invariant-loop

@@ -1,5 +1,4 @@
-use Rattle.std.proofs.Common.{◌≡◌, ◌-◌, ◌≤◌, ℕ, ap, ◌∙◌, arith, get_or, length, length-append}
-use Rattle.rd_step.specs.declared.entries.Entry.{Entry}
+use Rattle.std.proofs.Common.{◌≡◌, ◌-◌, ◌≤◌, ℕ, ap, ◌∙◌, arith, get_or, length}
 use Rattle.rd_journal.specs.Records.{kept_records}
 use Rattle.rd_journal.proofs.IndexedLemmas.{popped, reaches, reached, reaches_within, is_last}
 use Rattle.rd_journal.proofs.indexed_records.IndexedRecords.forget_last.Goals as goal

@@ -1,5 +1,4 @@
-use Rattle.std.proofs.Common.{◌≡◌, ◌-◌, ◌≤◌, ◌+◌, length, take, ◌∙◌, ap, arith}
-use Rattle.rd_step.specs.Prelude.{MOST_STEPS}
+use Rattle.std.proofs.Common.{◌≡◌, ◌-◌, ◌≤◌, length, take, ◌∙◌, ap, arith}
 use Rattle.rd_journal.specs.Records.{live_records, undone_records, kept_records}
 use Rattle.rd_journal.proofs.IndexedLemmas.{same_beginning, alike, closure_begins}
 use Rattle.rd_journal.proofs.indexed_records.IndexedRecords.put_closure_last.Goals as goal

@@ -1,7 +1,6 @@
 use Rattle.std.proofs.Common.{◌≡◌, ◌-◌, ◌++◌, length, take, drop, sym, ◌∙◌, ap}
 use Rattle.std.proofs.lemmas.List.{append_assoc, take-append-drop}
 use Rattle.rd_step.specs.Prelude.{MOST_STEPS}
-use Rattle.rd_step.specs.declared.entries.Entry.{Entry}
 use Rattle.rd_journal.specs.Records.{live_records, undone_records, kept_records}
 use Rattle.rd_journal.proofs.IndexedLemmas.{same_beginning, as_many}
 use Rattle.rd_journal.proofs.indexed_records.IndexedRecords.step_back.Goals as goal

@@ -1,8 +1,8 @@
-use Rattle.std.proofs.Common.{◌≡◌, ◌≤◌, ◌+◌, List, length, take, drop, sym, subst, ◌∙◌, ap, arith}
+use Rattle.std.proofs.Common.{◌≤◌, List, length, take, sym, subst, ap, arith}
 use Rattle.rd_step.specs.declared.entries.Entry.{Entry}
-use Rattle.rd_depend.specs.Index.{IsIndexOf, without_entry}
-use Rattle.rd_journal.specs.Records.{live_records, undone_records, kept_records}
-use Rattle.rd_journal.proofs.IndexedLemmas.{is_held, numbered_in, of_live, of_kept, out_length, reaches_within}
+use Rattle.rd_depend.specs.Index.{IsIndexOf}
+use Rattle.rd_journal.specs.Records.{live_records, undone_records}
+use Rattle.rd_journal.proofs.IndexedLemmas.{is_held, numbered_in, of_live, of_kept, out_length}
 use Rattle.rd_journal.proofs.indexed_records.IndexedRecords.take_out.Goals as goal
 
 pub remove_held-requires : goal.remove_held-requires

@@ -1,5 +1,4 @@
-use Rattle.std.proofs.Common.{◌<◌, ℕ, length, drop, ap, subst, sym, ◌∙◌, arith}
-use Rattle.std.proofs.lemmas.List.Elements.{All-drop}
+use Rattle.std.proofs.Common.{length, drop, ap, sym, ◌∙◌, arith}
 use Rattle.rd_journal.specs.Numbers.{at_numbers}
 use Rattle.rd_journal.proofs.Numbers.{at-length, at-drop}
 use Rattle.rd_journal.proofs.live_records.LiveRecords.behind.Goals as goal

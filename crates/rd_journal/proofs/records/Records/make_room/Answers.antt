@@ -1,4 +1,4 @@
-use Rattle.std.proofs.Common.{◌≡◌, ◌<◌, ◌≤◌, ◌+◌, min, ℕ, Result, Ok, Err, arith}
+use Rattle.std.proofs.Common.{Result, Ok, Err, arith}
 use Rattle.std.specs.Result.{OnErr}
 use Rattle.rd_step.proofs.PassedUp.{fact_passed_up}
 use Rattle.rd_journal.proofs.RecordLemmas.{live-length}

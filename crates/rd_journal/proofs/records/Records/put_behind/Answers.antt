@@ -19,10 +19,10 @@ pub returns-clause-live : goal.returns-clause-live
 unfolding all_records
 returns-clause-live c =
     let self = c.args.self.now in
-    put_stays (all_records self) _ self.live self.undone c.args.entry (omega (arith, all-length self, self.within)) c.put_at.ensures.put
+    put_stays (all_records self) _ self.live self.undone c.args.entry.now (omega (arith, all-length self, self.within)) c.put_at.ensures.put
 
 pub returns-clause-undone : goal.returns-clause-undone
 unfolding all_records
 returns-clause-undone c =
     let self = c.args.self.now in
-    put_last (all_records self) _ self.live self.undone c.args.entry (omega (arith, all-length self, self.within)) c.put_at.ensures.put
+    put_last (all_records self) _ self.live self.undone c.args.entry.now (omega (arith, all-length self, self.within)) c.put_at.ensures.put

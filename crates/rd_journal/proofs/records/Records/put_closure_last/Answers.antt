@@ -1,4 +1,4 @@
-use Rattle.std.proofs.Common.{◌∙◌, ℕ, List, length, sym, subst, arith, length-take-le}
+use Rattle.std.proofs.Common.{◌∙◌, List, length, sym, subst, arith, length-take-le}
 use Rattle.rd_step.specs.declared.entries.Entry.{Entry}
 use Rattle.rd_journal.specs.Records.{all_records}
 use Rattle.rd_journal.specs.Numbers.{at_numbers, IsOrder}

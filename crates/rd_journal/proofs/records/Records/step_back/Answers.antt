@@ -1,5 +1,4 @@
-use Rattle.std.proofs.Common.{◌-◌, ℕ, length, take, arith, sym, ◌∙◌, ap}
-use Rattle.rd_step.specs.declared.entries.Entry.{Entry}
+use Rattle.std.proofs.Common.{arith}
 use Rattle.rd_journal.specs.Records.{all_records}
 use Rattle.rd_journal.proofs.RecordLemmas.{all-length, live-length, cut_back, cut_short}
 use Rattle.rd_journal.proofs.records.Records.step_back.Goals as goal

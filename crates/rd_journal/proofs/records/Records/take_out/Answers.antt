@@ -1,7 +1,7 @@
-use Rattle.std.proofs.Common.{◌≡◌, ◌-◌, ◌+◌, ◌≤◌, ℕ, List, take, drop, length, arith, sym, ◌∙◌, ap}
+use Rattle.std.proofs.Common.{◌≡◌, ◌-◌, ◌+◌, ◌≤◌, ℕ, List, take, drop, length, arith, ◌∙◌, ap}
 use Rattle.std.specs.List.{count_by}
 use Rattle.rd_step.specs.declared.entries.Entry.{Entry}
-use Rattle.rd_journal.specs.Numbers.{at_numbers, moved_behind}
+use Rattle.rd_journal.specs.Numbers.{at_numbers}
 use Rattle.rd_journal.specs.Records.{all_records}
 use Rattle.rd_journal.proofs.ListLemmas.{behind_before, moved_behind-length}
 use Rattle.rd_journal.proofs.Numbers.{at-moved_behind, count-moved_behind, order_below, order_moved}

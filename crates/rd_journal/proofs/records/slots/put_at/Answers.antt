@@ -1,5 +1,4 @@
 use Rattle.std.proofs.Common.{◌≡◌, ◌<◌, ◌+◌, ◌++◌, ◌∷◌, [], ℕ, List, length, ap, subst, sym, ◌∙◌, arith, length-append}
-use Rattle.rd_step.specs.declared.entries.Entry.{Entry}
 use Rattle.rd_journal.specs.Numbers.{at_numbers, IsOrder}
 use Rattle.rd_journal.proofs.Numbers.{order_below, order_push, put_over, put_new}
 use Rattle.rd_journal.proofs.records.slots.put_at.Goals as goal
@@ -13,14 +12,14 @@ index_mut-requires c =
 
 pub returns-then-place-len-clause-put : goal.returns-then-place-len-clause-put
 returns-then-place-len-clause-put c =
-    put_over c.args.slots.now.items c.args.order.now.items c.args.place c.index.result.now c.args.entry c.requires.ordered (omega arith) c.index.ensures
+    put_over c.args.slots.now.items c.args.order.now.items c.args.place c.index.result.now c.args.entry.now c.requires.ordered (omega arith) c.index.ensures
 
 pub returns-else-place-len-clause-ordered : goal.returns-else-place-len-clause-ordered
 returns-else-place-len-clause-ordered c =
     let es = c.args.slots.now.items in
     let number : c.len-else-place-len.result ≡ length es = omega arith in
     let longer : length c.push_reserved-else-place-len.new.self.items ≡ length es + 1 =
-    ap length c.push_reserved-else-place-len.ensures.items ∙ omega (arith, length-append es (c.args.entry ∷ [])) in
+    ap length c.push_reserved-else-place-len.ensures.items ∙ omega (arith, length-append es (c.args.entry.now ∷ [])) in
     let order : c.push_reserved.new.self.items ≡ c.args.order.now.items ++ length es ∷ [] =
     c.push_reserved.ensures.items ∙ ap (λ (n : ℕ). c.args.order.now.items ++ n ∷ []) number in
     subst (λ (n : ℕ). IsOrder n c.push_reserved.new.self.items) (sym longer)
@@ -33,4 +32,4 @@ returns-else-place-len-clause-put c =
     let order : c.push_reserved.new.self.items ≡ c.args.order.now.items ++ length es ∷ [] =
     c.push_reserved.ensures.items ∙ ap (λ (n : ℕ). c.args.order.now.items ++ n ∷ []) number in
     (λ i. at_numbers (c.push_reserved-else-place-len.ensures.items i) (order i))
-    ∙ put_new es c.args.order.now.items c.args.place c.args.entry c.requires.ordered (omega arith)
+    ∙ put_new es c.args.order.now.items c.args.place c.args.entry.now c.requires.ordered (omega arith)

@@ -1,6 +1,6 @@
-use Rattle.std.proofs.Common.{◌≡◌, None, sym, ◌∙◌, ap, arith}
+use Rattle.std.proofs.Common.{◌≡◌, None, sym, ◌∙◌, ap}
 use Rattle.rd_step.specs.Prelude.{first_dependant}
-use Rattle.rd_journal.specs.Sessions.{journal, state}
+use Rattle.rd_journal.specs.Sessions.{journal}
 use Rattle.rd_journal.specs.State.{State}
 use Rattle.rd_journal.proofs.Closures.{alone, alone_rolled}
 use Rattle.rd_journal.proofs.sessions.Session.undo_closure.Goals as goal

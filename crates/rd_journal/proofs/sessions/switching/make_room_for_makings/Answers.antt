@@ -1,7 +1,8 @@
-use Rattle.std.proofs.Common.{◌≡◌, ℕ, zero, suc, ◌+◌, ◌∙◌, IsSome, subst, sym, arith}
+use Rattle.std.proofs.Common.{◌≡◌, ℕ, zero, suc, ◌+◌, ◌∙◌, IsSome, subst, sym, ap, arith}
 use Rattle.rd_step.specs.Prelude.{World, model, room}
 use Rattle.rd_step.proofs.PassedUp.{error_passed_up}
-use Rattle.rd_journal.proofs.Switching.{room_for_one_more, room_for_actors}
+use Rattle.rd_journal.specs.Room.{room_returned_by}
+use Rattle.rd_journal.proofs.Switching.{room_for_one_more, room_for_actors, makings_known}
 use Rattle.rd_journal.proofs.sessions.switching.make_room_for_makings.Goals as goal
 
 pub make_room-requires : goal.make_room-requires
@@ -21,7 +22,7 @@ loop-number-preserved g c = record {
   same = c.make_room.ensures.unchanged ∙ c.loop-number.invariant.same;
   made =
       room_for_one_more c.args.given.now c.loop-number.number (room c.loop-number.world) (room c.make_room.new.self) c.loop-number.invariant.made
-      c.make_room.ensures.room (let h = c.in_ok-make_room.ensures.ok in omega (arith, c.makings_by.ensures));
+      c.make_room.ensures.room (let h = c.in_ok-make_room.ensures.ok in let its = makings_known c.args.given.now c.makings_of-counts.result c.loop-number.number c.from.result c.from.ensures c.makings_of-counts.ensures (omega (arith, c.loop-number-test.true, c.actors-number-end.ensures.within)) in omega arith);
   more = λ m. let a = c.loop-number.invariant.more m in let b = c.make_room.ensures.room m in omega arith;
 }
 
@@ -37,4 +38,17 @@ returns-in_err-make_room-clause-err g c =
     let more = c.loop-number.invariant.more (c.loop-number.number + 1) in
     let lacks = c.in_err-make_room.ensures.err in
     error_passed_up _ c.in_err-make_room.field-0.0 c.from_residual.result c.from_residual.ensures.1
-    (lacks.0, (c.loop-number.number + 1, omega (arith, lacks.1, more, c.makings_by.ensures)))
+    (lacks.0, (c.loop-number.number + 1, let its = makings_known c.args.given.now c.makings_of-counts.result c.loop-number.number c.from.result c.from.ensures c.makings_of-counts.ensures (omega (arith, c.loop-number-test.true, c.actors-number-end.ensures.within)) in omega arith))
+
+pub returns-in_err-make_room-clause-succeeds : goal.returns-in_err-make_room-clause-succeeds
+returns-in_err-make_room-clause-succeeds g c none =
+    let its = makings_known c.args.given.now c.makings_of-counts.result c.loop-number.number c.from.result c.from.ensures c.makings_of-counts.ensures (omega (arith, c.loop-number-test.true, c.actors-number-end.ensures.within)) in
+    let lacks = c.in_err-make_room.ensures.err in
+    let zero_of : room_returned_by c.args.given.now (c.loop-number.number + 1) ≡ 0 = ap (λ xs. room_returned_by xs (c.loop-number.number + 1)) none in
+    absurd (omega (arith, lacks.1))
+
+pub returns-in_err-make_room-clause-room : goal.returns-in_err-make_room-clause-room
+returns-in_err-make_room-clause-room g c m =
+    let a = c.loop-number.invariant.more m in
+    let b = c.make_room.ensures.room m in
+    omega arith

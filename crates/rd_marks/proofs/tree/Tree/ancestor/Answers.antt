@@ -1,4 +1,4 @@
-use Rattle.std.proofs.Common.{◌≡◌, ◌≤◌, min, ℕ, Option, ap, sym, subst, arith}
+use Rattle.std.proofs.Common.{◌≤◌, ℕ, Option, ap, sym, subst, arith}
 use Rattle.rd_depend.specs.Beginnings.{Begins}
 use Rattle.rd_marks.specs.Tree.{IsIn, depth_in, parent_in, path_in}
 use Rattle.rd_marks.specs.TreeViews.{mark_tree}

@@ -1,0 +1,129 @@
+-- The last writer of a place, from the last positions up to a number in a place's list and a segment's.
+use Rattle.std.proofs.Common.{◌≡◌, ℕ, zero, suc, ◌+◌, ◌-◌, ◌<◌, ◌≤◌, max, Bool, true, false, ◌&&◌, ◌||◌, if◌then◌else◌, nat_lt, List, [], ◌∷◌, length, get_or, take, Option, Some, None, refl, sym, ap, ◌∙◌, arith}
+use Rattle.std.proofs.Math.Bool.{or_comm}
+use Rattle.rd_cell.specs.declared.places.SegName.{SegName}
+use Rattle.rd_cell.specs.declared.places.Place.{Place}
+use Rattle.rd_cell.specs.declared.places.Place.TheVariants.{Whole}
+use Rattle.rd_cell.specs.Places.{segment_of, covers, some_overlap}
+use Rattle.rd_step.specs.declared.entries.Entry.{Entry}
+use Rattle.rd_depend.specs.declared.index.DependIndex.{DependIndex}
+use Rattle.rd_depend.specs.declared.index.keys.Key.TheVariants.{At, In}
+use Rattle.rd_depend.specs.Keys.{is_under}
+use Rattle.rd_depend.specs.Lists.{IsAscending, number_up_to, up_to, last_or, last_of, later}
+use Rattle.rd_depend.specs.Index.{Touch, Under, touches, positions_from, positions, kept, IsIndexOf}
+use Rattle.rd_depend.specs.Writers.{behind, last_position, writes_to}
+use Rattle.rd_depend.proofs.IndexCuts.{positions-up_to}
+use Rattle.rd_depend.proofs.IndexFirst.{kept-ascends, kept-short, overlaps-whole, overlaps-own, overlaps-alone}
+
+-- the last of ascending positions up to a number stands before those that are greater
+
+last-none : (k : ℕ) (ps : List ℕ) → number_up_to k ps ≡ 0 → last_of (up_to k ps) ≡ None
+last-none k [] h = refl
+last-none k (p ∷ ps) h = by (nat_lt k p) h
+  where
+    by : (b : Bool) → (if b then 0 else suc (number_up_to k ps)) ≡ 0 → last_of (if b then [] else p ∷ up_to k ps) ≡ None
+    by true g = refl
+    by false g = absurd (omega (arith, g))
+
+last-there : (k : ℕ) (ps : List ℕ) (i d : ℕ) → number_up_to k ps ≡ suc i → last_of (up_to k ps) ≡ Some (get_or ps i d)
+last-there k [] i d h = absurd (omega (arith, h))
+last-there k (p ∷ ps) i d h = by (nat_lt k p) (λ j. last-there k ps j d) h
+  where
+    front : ((j : ℕ) → number_up_to k ps ≡ suc j → last_of (up_to k ps) ≡ Some (get_or ps j d))
+        → (j : ℕ) → number_up_to k ps ≡ j → last_or p (last_of (up_to k ps)) ≡ Some (get_or (p ∷ ps) j d)
+    front rest zero g = ap (last_or p) (last-none k ps g)
+    front rest (suc j) g = ap (last_or p) (rest j g)
+
+    by : (b : Bool) → ((j : ℕ) → number_up_to k ps ≡ suc j → last_of (up_to k ps) ≡ Some (get_or ps j d)) → (if b then 0 else suc (number_up_to k ps)) ≡ suc i
+        → last_of (if b then [] else p ∷ up_to k ps) ≡ Some (get_or (p ∷ ps) i d)
+    by true rest g = absurd (omega (arith, g))
+    by false rest g = let e : number_up_to k ps ≡ i = omega (arith, g) in front rest i e
+
+pub last-missing : (k : ℕ) (ps : List ℕ) (number : ℕ) → number ≡ number_up_to k ps → number ≤ 0 → None ≡ last_of (up_to k ps)
+last-missing k ps number count none = let e : number_up_to k ps ≡ 0 = omega (arith, count, none) in sym (last-none k ps e)
+
+pub last-among : (k : ℕ) (ps : List ℕ) (number look found : ℕ) → number ≡ number_up_to k ps → 0 < number → look ≡ get_or ps (number - 1) look → found ≡ look
+    → Some found ≡ last_of (up_to k ps)
+last-among k ps number look found count some at is =
+    let e : number_up_to k ps ≡ suc (number - 1) = omega (arith, count, some) in
+    ap Some (is ∙ at) ∙ sym (last-there k ps (number - 1) look e)
+
+-- the last of the positions that pass a test is the last position
+
+abbrev moved : ℕ → Option ℕ → Option ℕ
+moved m None = None
+moved m (Some j) = Some (m + j)
+
+last-from : (test : Entry → Bool) (m n : ℕ) (es : List Entry) → n ≡ suc m → last_of (positions_from test n es) ≡ moved m (last_position test es)
+last-from test m n [] h = refl
+last-from test m n (x ∷ xs) h =
+    let e : n + 1 ≡ suc (suc m) = omega (arith, h) in
+    by (test x) (last_position test xs) (last-from test (suc m) (n + 1) xs e)
+  where
+    by : (b : Bool) (o : Option ℕ) → last_of (positions_from test (n + 1) xs) ≡ moved (suc m) o
+        → last_of (if b then n ∷ positions_from test (n + 1) xs else positions_from test (n + 1) xs) ≡ moved m (behind b o)
+    by true None g = let e : n ≡ m + 1 = omega (arith, h) in ap (last_or n) g ∙ ap Some e
+    by true (Some j) g = let e : suc m + j ≡ m + suc j = omega arith in ap (last_or n) g ∙ ap Some e
+    by false None g = g
+    by false (Some j) g = let e : suc m + j ≡ m + suc j = omega arith in g ∙ ap Some e
+
+last-is : (test : Entry → Bool) (es : List Entry) → last_of (positions test es) ≡ last_position test es
+last-is test es = last-from test 0 1 es refl ∙ plain (last_position test es)
+  where
+    plain : (o : Option ℕ) → moved 0 o ≡ o
+    plain None = refl
+    plain (Some j) = let e : 0 + j ≡ j = omega arith in ap Some e
+
+last-same : (t u : Entry → Bool) → ((y : Entry) → t y ≡ u y) → (es : List Entry) → last_position t es ≡ last_position u es
+last-same t u h [] = refl
+last-same t u h (x ∷ xs) = λ i. behind (h x i) (last-same t u h xs i)
+
+later_behind : (b c : Bool) (o p : Option ℕ) → later (behind b o) (behind c p) ≡ behind (b || c) (later o p)
+later_behind b c (Some m) (Some n) = let e : max (suc m) (suc n) ≡ suc (max m n) = omega arith in ap Some e
+later_behind b true (Some m) None = let e : max (suc m) 1 ≡ suc m = omega arith in ap Some e
+later_behind b false (Some m) None = refl
+later_behind true c None (Some n) = let e : max 1 (suc n) ≡ suc n = omega arith in ap Some e
+later_behind false c None (Some n) = refl
+later_behind true true None None = refl
+later_behind true false None None = refl
+later_behind false true None None = refl
+later_behind false false None None = refl
+
+-- the later of two is the last that passes one test or the other
+later-last : (t u v : Entry → Bool) → ((y : Entry) → v y ≡ (t y || u y)) → (es : List Entry)
+    → later (last_position t es) (last_position u es) ≡ last_position v es
+later-last t u v h [] = refl
+later-last t u v h (x ∷ xs) =
+    later_behind (t x) (u x) (last_position t xs) (last_position u xs) ∙ (λ i. behind (sym (h x) i) (later-last t u v h xs i))
+
+-- what the searches find
+
+pub last_in : (index : DependIndex) (es : List Entry) → IsIndexOf index es → index.len ≤ 65535 → (t : Touch) (n : ℕ) (r : Option ℕ)
+    → (IsAscending (kept index t) → length (kept index t) < 131072 → r ≡ last_of (up_to n (kept index t))) → r ≡ last_position (touches t) (take n es)
+last_in index es is few t n r found =
+    found (kept-ascends index es is t) (kept-short index es is few t) ∙ ap (λ (l : List ℕ). last_of (up_to n l)) (is.lists t)
+    ∙ ap last_of (positions-up_to (touches t) n 1 n es refl) ∙ last-is (touches t) (take n es)
+
+meet : (o p : Option Place) → some_overlap o p ≡ some_overlap p o
+meet None None = refl
+meet None (Some q) = refl
+meet (Some p) None = refl
+meet (Some p) (Some q) = or_comm (covers p q) (covers q p)
+
+pub last_whole : (p : Place) (s : SegName) → p ≡ Whole s → (es : List Entry) → last_position (touches (Under true (In s))) es ≡ last_position (writes_to p) es
+last_whole p s h = last-same (touches (Under true (In s))) (writes_to p)
+    (λ y. ap (λ (b : Bool). y.wrote && b) (sym (meet y.place (Some p) ∙ ap (λ (q : Place). some_overlap (Some q) y.place) h ∙ overlaps-whole s y.place)))
+
+pub last_alone : (p : Place) → segment_of p ≡ None → ((t : SegName) → p ≡ Whole t → ⊥) → (es : List Entry)
+    → last_position (touches (Under true (At p))) es ≡ last_position (writes_to p) es
+last_alone p none other = last-same (touches (Under true (At p))) (writes_to p)
+    (λ y. ap (λ (b : Bool). y.wrote && b) (sym (meet y.place (Some p) ∙ overlaps-alone p none other y.place)))
+
+pub last_both : (p : Place) (s : SegName) → segment_of p ≡ Some s → (es : List Entry)
+    → later (last_position (touches (Under true (At p))) es) (last_position (touches (Under true (At (Whole s)))) es) ≡ last_position (writes_to p) es
+last_both p s h = later-last (touches (Under true (At p))) (touches (Under true (At (Whole s)))) (writes_to p)
+    (λ y. ap (λ (b : Bool). y.wrote && b) (meet y.place (Some p) ∙ overlaps-own p s h y.place) ∙ spread y.wrote (is_under (At p) y.place) (is_under (At (Whole s)) y.place))
+  where
+    spread : (a b c : Bool) → (a && (b || c)) ≡ ((a && b) || (a && c))
+    spread true b c = refl
+    spread false b c = refl

@@ -1,0 +1,20 @@
+-- The last position in the beginning of a list, one element at a time.
+use Rattle.std.proofs.Common.{◌≡◌, ℕ, zero, suc, Bool, true, false, if◌then◌else◌, refl, ap, ◌∙◌, List, [], ◌∷◌, take, slice_get, Some, None}
+use Rattle.rd_depend.specs.Writers.{behind, last_position}
+
+-- an element that passes is the last of those up to it
+pub last-found : {X : Type 0} (test : X → Bool) (xs : List X) (i : ℕ) (x : X) → slice_get xs i ≡ Some x → test x ≡ true
+    → last_position test (take (suc i) xs) ≡ Some (suc i)
+last-found {X} test [] i x h k = cc
+last-found {X} test (y ∷ ys) zero x h k =
+    let same : y ≡ x = cc in
+    ap (λ (z : X). if test z then Some 1 else None) same ∙ ap (λ (b : Bool). if b then Some 1 else None) k
+last-found {X} test (y ∷ ys) (suc i) x h k = ap (behind (test y)) (last-found test ys i x h k)
+
+-- one that fails, or none, changes nothing
+pub last-passed : {X : Type 0} (test : X → Bool) (xs : List X) (i : ℕ) → ((x : X) → slice_get xs i ≡ Some x → test x ≡ false)
+    → last_position test (take (suc i) xs) ≡ last_position test (take i xs)
+last-passed {X} test [] zero h = refl
+last-passed {X} test [] (suc i) h = refl
+last-passed {X} test (y ∷ ys) zero h = ap (λ (b : Bool). if b then Some 1 else None) (h y refl)
+last-passed {X} test (y ∷ ys) (suc i) h = ap (behind (test y)) (last-passed test ys i h)

@@ -1,0 +1,18 @@
+-- The step that last wrote a place, as a position in a list, counted from 1.
+use Rattle.std.specs.Prelude.{ℕ, suc, ◌&&◌, Bool, if◌then◌else◌, List, [], ◌∷◌, Option, Some, None}
+use Rattle.rd_step.specs.Prelude.{Place, some_overlap}
+use Rattle.rd_step.specs.declared.entries.Entry.{Entry}
+
+-- a position in a list with one more element in front, of which this says whether it is one of those sought
+abbrev pub behind : Bool → Option ℕ → Option ℕ
+behind first (Some n) = Some (suc n)
+behind first None = if first then Some 1 else None
+
+-- the greatest position whose element passes the test, or none
+abbrev pub last_position : {X : Type 0} → (X → Bool) → List X → Option ℕ
+last_position test [] = None
+last_position test (x ∷ xs) = behind (test x) (last_position test xs)
+
+-- whether the step wrote a place that overlaps this one
+abbrev pub writes_to : Place → Entry → Bool
+writes_to place x = x.wrote && some_overlap x.place (Some place)

@@ -1,0 +1,35 @@
+//! The steps that the tests have in common.
+ghost use Rattle.rd_lock.specs.Histories.{Every};
+ghost use Rattle.rd_desk.specs.Desks.{IsNewViewer, IsViewerOf};
+
+use rd_desk::{Desk, DeskPass};
+use rd_journal::Session;
+use rd_marks::Book;
+use rd_step::World;
+use std::alloc::Global;
+use std::process::Abort;
+
+/// A book over a fresh world.
+pub(super) fn fresh(rt: &impl Abort, alloc: Global) -> Book<4> {
+    let Ok(world) = World::fresh(alloc, 4) else {
+        panic!(rt; "out of memory")
+    };
+    Book::open(alloc, Session::open(alloc, world))
+}
+
+/// The last of the passes.
+pub(super) fn last_pass(
+    rt: &impl Abort,
+    desk: &Desk<4>,
+    passes: &mut Vec<DeskPass<4>>,
+) -> DeskPass<4>
+    requires each { Every (IsNewViewer desk.now) passes.old.items }
+    ensures own { IsViewerOf desk.now result }
+    ensures each { Every (IsNewViewer desk.now) passes.new.items }
+{
+    let _ = desk;
+    let Some(pass) = passes.pop() else {
+        panic!(rt; "too few passes")
+    };
+    pass
+}

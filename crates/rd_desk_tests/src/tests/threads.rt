@@ -1,0 +1,126 @@
+//! Many viewers at once. The history that they made is replayed over a fresh book, to the same answers.
+ghost use Rattle.rd_lock.specs.Histories.{Every};
+ghost use Rattle.rd_desk.specs.Desks.{IsNewViewer, IsViewerOf};
+
+use super::calls::{fresh, last_pass};
+use rd_desk::{Answer, Desk, DeskPass, History, Ran, run_viewers};
+use rd_marks::Command;
+use std::alloc::Global;
+use std::process::Abort;
+use std::sync::Wait;
+use std::thread::Threads;
+
+/// The command that a viewer asks as its call of this number. The viewers share the actors and the steps.
+fn command(viewer: u64, call: u64) -> Command {
+    let actor = (viewer % 4) as u8 + 1;
+    match call % 8 {
+        0 => Command::Enq(actor, call),
+        5 => Command::UndoAt(call),
+        6 => Command::Len,
+        7 => Command::Deq(actor),
+        _ => Command::Go(actor),
+    }
+}
+
+/// Each viewer's pass with its commands.
+pub(super) fn work_of(
+    rt: &impl Abort,
+    alloc: Global,
+    desk: &Desk<4>,
+    mut passes: Vec<DeskPass<4>>,
+    calls: u64,
+) -> Vec<(DeskPass<4>, Vec<Command>)>
+    requires { Every (IsNewViewer desk.now) passes.items }
+    ensures { Every (λ viewer. IsViewerOf desk.now viewer.0) result.items }
+{
+    let mut work = Vec::new(alloc);
+    for _viewer in 0..passes.len() {
+        let pass = last_pass(rt, desk, &mut passes);
+        let commands = commands_of(rt, alloc, pass.number(), calls);
+        if work.push((pass, commands)).is_err() {
+            panic!(rt; "out of memory")
+        }
+    }
+    work
+}
+
+/// The commands of a viewer.
+fn commands_of(rt: &impl Abort, alloc: Global, viewer: u64, calls: u64) -> Vec<Command> {
+    let mut commands = Vec::new(alloc);
+    for call in 0..calls {
+        if commands.push(command(viewer, call)).is_err() {
+            panic!(rt; "out of memory")
+        }
+    }
+    commands
+}
+
+/// The history replays over a fresh book, to the same answers.
+fn replays(rt: &impl Abort, alloc: Global, history: &History) {
+    let mut commands = Vec::new(alloc);
+    for number in 1..history.len() + 1 {
+        let Some((_, call)) = history.entry(number) else {
+            panic!(rt; "no entry {number}")
+        };
+        if commands.push(call.command).is_err() {
+            panic!(rt; "out of memory")
+        }
+    }
+    let mut book = fresh(rt, alloc);
+    let Ok(answers) = book.apply_all(alloc, &commands) else {
+        panic!(rt; "out of memory")
+    };
+    for i in 0..answers.len() {
+        let Some((_, call)) = history.entry(i as u64 + 1) else {
+            panic!(rt; "no entry {i}")
+        };
+        assert_eq!(rt; call.answer, answers[i], "entry {i}");
+    }
+}
+
+/// The calls of a viewer stand in the history in its order, with the answers that it was given, and no others of it.
+fn has_in_order(rt: &impl Abort, history: &History, viewer: u64, answers: &[Answer]) {
+    let mut call = 0;
+    for number in 1..history.len() + 1 {
+        let Some((who, made)) = history.entry(number) else {
+            panic!(rt; "no entry {number}")
+        };
+        if who == viewer {
+            assert!(rt; call < answers.len());
+            assert_eq!(rt; made.command, command(viewer, call as u64));
+            assert_eq!(rt; answers[call], Ok(made.answer));
+            call = call + 1;
+        }
+    }
+    assert_eq!(rt; call, answers.len());
+}
+
+/// So many viewers ask so many commands each, in threads of their own.
+fn runs<R: Abort + Threads + Wait + Sync>(rt: &R, alloc: Global, viewers: u64, calls: u64) {
+    assert!(rt; 1 <= viewers && viewers <= 64);
+    let Ok((desk, passes)) = Desk::open(alloc, fresh(rt, alloc), viewers) else {
+        panic!(rt; "out of memory")
+    };
+    let work = work_of(rt, alloc, &desk, passes, calls);
+    let Ok(rans) = run_viewers(rt, alloc, &desk, work) else {
+        panic!(rt; "out of memory")
+    };
+    let Ok((_, history)) = desk.close(Vec::new(alloc)) else {
+        panic!(rt; "busy")
+    };
+    assert_eq!(rt; Some(history.len()), viewers.checked_mul(calls));
+    for ran in rans.as_slice() {
+        let Ran::Answered { pass, answers } = ran else {
+            panic!(rt; "no thread")
+        };
+        has_in_order(rt, &history, pass.number(), answers.as_slice());
+    }
+    replays(rt, alloc, &history);
+}
+
+#[test]
+fn many_viewers_make_one_legal_history(rt: HostRuntime) {
+    for (viewers, calls) in [(1, 200), (4, 50), (64, 20)] {
+        runs(&rt, rt.alloc(), viewers, calls);
+    }
+}

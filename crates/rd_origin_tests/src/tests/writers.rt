@@ -1,0 +1,123 @@
+//! Last writers, of all places, against a scan of the live steps, in a session in which steps are made, undone, taken out, rolled
+//! back and redone as it is drawn.
+
+use rd_actor::{Act, Pc};
+use rd_cell::{Place, Refusal, SegName, overlaps};
+use rd_journal::Session;
+use rd_origin::queries::last_writer;
+use rd_step::{Event, World};
+use std::process::Abort;
+use std::test::Fail;
+
+const ROOT: SegName = SegName::ROOT;
+
+const FIRST: SegName = SegName { maker: 1, n: 0 };
+
+const SECOND: SegName = SegName { maker: 2, n: 0 };
+
+/// Places of which some overlap, and the last of which is never there.
+const PLACES: [Place; 18] = [
+    Place::QHead,
+    Place::QTail,
+    Place::ArrHead,
+    Place::ArrTail,
+    Place::ArrCell(0),
+    Place::ArrCell(1),
+    Place::Whole(ROOT),
+    Place::Head(ROOT),
+    Place::Tail(ROOT),
+    Place::Next(ROOT),
+    Place::Cell(ROOT, 0),
+    Place::Cell(ROOT, 1),
+    Place::Whole(FIRST),
+    Place::Tail(FIRST),
+    Place::Cell(FIRST, 0),
+    Place::Whole(SECOND),
+    Place::Cell(SECOND, 1),
+    Place::Cell(ROOT, 2),
+];
+
+/// The last live step that wrote the place or one that overlaps it, by a scan.
+fn scanned(session: &Session<2>, place: Place) -> Option<u64> {
+    let steps = session.live();
+    for at in (0..steps.len()).rev() {
+        let step = steps.at(at);
+        if step.wrote && step.place.is_some_and(|written| overlaps(written, place)) {
+            return Some(at as u64 + 1);
+        }
+    }
+    None
+}
+
+/// Compares the last writer of each place with what the scan finds.
+fn compare(rt: &impl Abort, session: &Session<2>) {
+    for place in PLACES {
+        let wanted = match session.world().content(place) {
+            None => Err(Refusal::NoSuchPlace),
+            Some(_) => Ok(scanned(session, place)),
+        };
+        assert_eq!(rt; last_writer(session, place), wanted, "{place:?}");
+    }
+}
+
+/// The next number of a fixed sequence that looks like chance.
+fn next(number: u64) -> u64 {
+    number
+        .wrapping_mul(6_364_136_223_846_793_005)
+        .wrapping_add(1_442_695_040_888_963_407)
+}
+
+/// What an actor that stands here may do, as the number has it.
+fn choice(pc: Pc, number: u64) -> Act {
+    match (pc, (number >> 40) % 5) {
+        (Pc::Idle, 0 | 1) => Act::Enq(number >> 50),
+        (Pc::Idle, 2) => Act::Deq,
+        (Pc::Idle, 3) => Act::AEnq(number >> 50),
+        (Pc::Idle, _) => Act::ADeq,
+        (Pc::E10, chance) => Act::Starve(chance == 0),
+        _ => Act::Go,
+    }
+}
+
+/// Makes a step by one of four actors, as the number has it.
+fn step(session: &mut Session<2>, number: u64) -> Result<(), Refusal> {
+    let actor = ((number >> 33) % 4) as u8 + 1;
+    let pc = session
+        .world()
+        .actor(actor)
+        .map_or(Pc::Idle, |words| words.pc);
+    session.apply(Event {
+        actor,
+        act: choice(pc, number),
+    })?;
+    Ok(())
+}
+
+/// Changes the session, as the number has it. A change that is refused changes nothing.
+fn change(session: &mut Session<2>, number: u64) -> Result<(), Refusal> {
+    let k = (number >> 20) % (session.len() + 1);
+    match (number >> 45) % 12 {
+        0 => session.undo(),
+        1 => session.undo_at(k),
+        2 => session.roll(k),
+        3 => session.redo(),
+        4 => session.forward(session.undone_len().min(2)),
+        _ => step(session, number),
+    }
+}
+
+#[test]
+fn the_last_writer_is_what_a_scan_finds(rt: HostRuntime) -> Result<(), Fail> {
+    let mut session = Session::open(rt.alloc(), World::<2>::fresh(rt.alloc(), 4)?);
+    let mut number = 7;
+    for _ in 0..60 {
+        number = next(number);
+        step(&mut session, number)?;
+    }
+    for _ in 0..400 {
+        number = next(number);
+        let _may_be_refused = change(&mut session, number);
+        compare(&rt, &session);
+    }
+    Ok(())
+}

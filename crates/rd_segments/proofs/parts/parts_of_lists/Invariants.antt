@@ -1,0 +1,10 @@
+use Rattle.std.proofs.Common.{◌≡◌, ℕ, ◌<◌, slice_get, length, vec_len, vec_capacity}
+use Rattle.rd_ring.specs.Prelude.{Place}
+use Rattle.rd_segments.specs.Lists.{by_number, part_of}
+use Rattle.rd_segments.specs.Parts.{part_of_parts}
+use Rattle.rd_segments.proofs.parts.parts_of_lists.Given as goal
+
+abbrev pub invariant-loop-m : goal.invariant-loop-m
+invariant-loop-m g l =
+    (vec_len l.parts ≡ l.m) × (vec_capacity l.parts ≡ length l.fn.makers.items)
+    × ((k n : ℕ) (q : Place) → k < l.m → part_of_parts (by_number (slice_get l.parts.items k) n) q ≡ part_of (by_number (slice_get l.fn.makers.items k) n) q)

@@ -1,0 +1,47 @@
+-- The parts that a world is taken apart into.
+use Rattle.std.proofs.Common.{◌≡◌, ℕ, suc, ◌≤◌, ◌∙◌, sym, ap, subst, List, Vec, length, None}
+use Rattle.std.specs.declared.alloc.Global.{Global}
+use Rattle.rd_ring.specs.Prelude.{MOST_CELLS, SegName}
+use Rattle.rd_actor.specs.declared.actors.Actor.{Actor}
+use Rattle.rd_segments.specs.declared.array.ArrayParts.{ArrayParts}
+use Rattle.rd_segments.specs.declared.space.Space.{Space}
+use Rattle.rd_segments.specs.Space.{contents, lists, head_name, tail_name, array_words}
+use Rattle.rd_segments.specs.Parts.{PartsOf, contents_of_parts}
+use Rattle.rd_step.specs.declared.parts.Parts.{Parts}
+use Rattle.rd_step.specs.World.{World}
+use Rattle.rd_step.specs.Fields.{world_of_fields, actor_at}
+use Rattle.rd_step.specs.WellFormed.{IsWellFormed}
+use Rattle.rd_step.specs.Parts.{world_of_parts, first_flaw}
+use Rattle.rd_step.proofs.Accepted.{accepted}
+
+-- these segments and actors are those of a space and of a world's actors
+pub record AreTaken {R : ℕ} (segments : Vec (PartsOf R) Global) (listed : Vec Actor Global) (space : Space R) (actors : List Actor) : Type 0 where
+  pub same : contents_of_parts segments.items (head_name space) (tail_name space) (array_words space) ≡ contents space
+  pub number : length segments.items ≡ lists space
+  pub actors_are : listed.items ≡ actors
+  pub small : R ≤ MOST_CELLS
+
+-- the parts that a space and actors are taken apart into
+abbrev pub taken : {R : ℕ} (segments : Vec (PartsOf R) Global) (listed : Vec Actor Global) (qhead qtail : SegName) (array : ArrayParts) → R ≤ MOST_CELLS → Parts R
+taken segments listed qhead qtail array small = record { actors = listed; segments = segments; qhead = qhead; qtail = qtail; array = array; small = small }
+
+-- their world is the one that the space and the actors are
+pub world_taken : {R : ℕ} (segments : Vec (PartsOf R) Global) (listed : Vec Actor Global) (qhead qtail : SegName) (array : ArrayParts)
+    (space : Space R) (actors : List Actor) (h : AreTaken segments listed space actors)
+    → qhead ≡ head_name space → qtail ≡ tail_name space → array ≡ array_words space
+    → world_of_parts (taken segments listed qhead qtail array h.small) ≡ world_of_fields space actors
+world_taken segments listed qhead qtail array space actors h eh et ea =
+    let at : contents_of_parts segments.items qhead qtail array ≡ contents space =
+    (λ i. contents_of_parts segments.items (eh i) (et i) (ea i)) ∙ h.same
+    in
+    λ i. record { at = at i; actor = actor_at (h.actors_are i) }
+
+-- so they have no flaw
+pub taken_unflawed : {R : ℕ} (segments : Vec (PartsOf R) Global) (listed : Vec Actor Global) (qhead qtail : SegName) (array : ArrayParts)
+    (space : Space R) (actors : List Actor) (h : AreTaken segments listed space actors)
+    → qhead ≡ head_name space → qtail ≡ tail_name space → array ≡ array_words space
+    → lists space ≡ suc (length actors) → IsWellFormed R (world_of_fields space actors)
+    → first_flaw (taken segments listed qhead qtail array h.small) ≡ None
+taken_unflawed {R} segments listed qhead qtail array space actors h eh et ea number formed =
+    accepted R (taken segments listed qhead qtail array h.small) (h.number ∙ number ∙ ap (λ (xs : List Actor). suc (length xs)) (sym h.actors_are))
+    (subst (λ (w : World). IsWellFormed R w) (sym (world_taken segments listed qhead qtail array space actors h eh et ea)) formed)

@@ -1,0 +1,92 @@
+//! Undos, redos, dropped bookmarks and queries while all memory is refused.
+
+use super::trials::{Trial, look, plays};
+use std::alloc::Global;
+
+/// Two bookmarks of which neither begins the other, and the race of two actors to put a new ring behind a full one. Thirty steps are live.
+const BEFORE: &[&[u8]] = &[
+    b"deq 3",
+    b"mark x",
+    b"undo",
+    b"deq 4",
+    b"mark y",
+    b"undo",
+    b"enq 1 7",
+    b"go 1",
+    b"go 1",
+    b"go 1",
+    b"go 1",
+    b"go 1",
+    b"go 1",
+    b"enq 1 8",
+    b"go 1",
+    b"go 1",
+    b"go 1",
+    b"go 1",
+    b"go 1",
+    b"go 1",
+    b"enq 1 9",
+    b"go 1",
+    b"go 1",
+    b"enq 2 10",
+    b"go 2",
+    b"go 2",
+    b"go 1",
+    b"go 1",
+    b"go 1",
+    b"go 1",
+    b"go 1",
+    b"go 2",
+    b"go 1",
+    b"go 2",
+    b"undo 27",
+    b"redo",
+    b"go 2",
+    b"go 1",
+];
+
+/// Lines that take no memory.
+const MOVES: &[u8] =
+    b"undo\nundo 28\nback 3\nredo\nforward 2\nroll 27\nundo 30\nundo 1\nforward 5\ndrop x\ndrop x\ngoto z";
+
+/// What they are answered.
+const MOVED: &[u8] =
+    b"at 29 1\nat 28 2\nat 25 5\nat 26 4\nat 28 2\nat 26 4\nrefused 12 NoSuchStep 26\nrefused 13 Depended 2\nrefused 11 NothingToRedo\ndropped\nrefused 14 NoMark\nrefused 14 NoMark\n";
+
+/// A book with all these steps and bookmarks, if there was memory for them.
+fn ready(alloc: Global) -> Option<Trial> {
+    let Ok(mut trial) = Trial::new(alloc).or(Trial::new(alloc)) else {
+        return None;
+    };
+    if trial.obeys_all(BEFORE) {
+        Some(trial)
+    } else {
+        None
+    }
+}
+
+/// Makes the moves, and looks at the book after them. Answers whether they were answered as ever.
+fn moves(trial: &mut Trial) -> bool {
+    trial.report.clear();
+    plays(&mut trial.book, &[MOVES], &mut trial.report)
+        && trial.report.as_slice() == MOVED
+        && look(&mut trial.book, &mut trial.seen).is_some()
+}
+
+/// A book answers as ever to moves and queries behind a comparison that may be refused memory, and is as its twin then, which had made the
+/// moves before it.
+fn answers_as_ever(trial: &mut Trial, twin: &mut Trial) -> bool {
+    let before = moves(twin);
+    let compared = plays(&mut trial.book, &[b"same x y"], &mut trial.report);
+    before && compared && moves(trial) && trial.seen.as_slice() == twin.seen.as_slice()
+}
+
+#[test]
+fn undos_redos_and_queries_are_answered_as_ever_with_no_memory_left(rt: HostRuntime) {
+    match (ready(rt.alloc()), ready(rt.alloc())) {
+        (Some(mut trial), Some(mut twin)) => {
+            assert!(&rt; answers_as_ever(&mut trial, &mut twin));
+        }
+        _ => assert!(&rt; Vec::<u8>::with_capacity(rt.alloc(), 1).is_err()),
+    }
+}
