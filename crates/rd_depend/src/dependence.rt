@@ -6,17 +6,19 @@ ghost use Rattle.rd_step.specs.Prelude.{some_overlap, depends, first_dependant};
 use rd_cell::{Place, overlaps};
 use rd_step::Entry;
 
-/// Whether two steps depend on each other: they have one actor, or their places overlap and one of them wrote. It is
-/// the same either way round, so a write depends on a read before it as a read on a write. Who wrote is asked before the
+/// Whether two steps depend on each other: they have one actor, or there is a place that both touched and one of them wrote. It
+/// is the same either way round, so a write depends on a read before it as a read on a write. What was written is asked before
 /// places are compared: most steps that a scan meets only read.
 #[inline(always)]
 pub fn depends(a: &Entry, b: &Entry) -> bool
     ensures { result ≡ depends a.now b.now }
 {
-    a.event.actor == b.event.actor || ((a.wrote || b.wrote) && some_overlap(a.place, b.place))
+    a.event.actor == b.event.actor
+        || some_overlap(a.written(), b.place)
+        || some_overlap(a.place, b.written())
 }
 
-/// Whether both accesses have places, and these overlap.
+/// Whether both places are there, and overlap.
 #[inline(always)]
 fn some_overlap(a: Option<Place>, b: Option<Place>) -> bool
     ensures { result ≡ some_overlap a b }
