@@ -35,11 +35,31 @@ ROWS = [
     ("no file", ["run"], "", 2, "", "error: "),
     ("a file that is not there", ["run", "/nowhere/script"], "", 1, "", "lcrqdb: refused 24 Read\n"),
     ("a folder for a file", ["run", "/"], "", 1, "", "lcrqdb: refused 24 Read\n"),
-    ("a trace behind the report", ["run", "-", "--trace"], "deq 1\n", 0, 'ok 1\n{"actors":4,"events":[["deq",1]],"ring":4,', ""),
+    (
+        "a trace behind the report",
+        ["run", "-", "--trace", "--actors", "2"],
+        "deq 1\nmark a\nundo\n",
+        0,
+        'ok 1\nmarked 1\nat 0 1\n{"events":[],"marks":[{"events":[["deq",1]],"name":"a"}],"ring":4,"start":{"fresh":2},"undone":[["deq",1]],"version":2}\n',
+        "",
+    ),
     ("a trace that is not there", ["load", "/nowhere/trace"], "len\n", 1, "", "lcrqdb: refused 24 Read\n"),
     ("no trace", ["load"], "", 2, "", "error: "),
     ("a trace with a ring", ["load", "a", "--ring", "2"], "", 2, "", "error: "),
 ]
+
+# The parts of a world of one actor, which is at the fetch-and-add of its enqueue.
+POISED = (
+    '{"actors":[{"closed":false,"crq":[0,0],"h":0,"idx":0,"new":[0,0],"next":[0,0],"op":["enq",1],"pass":0,"pc":"E4","safe":false,"t":0,"val":null}],'
+    '"array":{"cells":[],"head":0,"tail":0},"qhead":[0,0],"qtail":[0,0],'
+    '"segments":[[{"cells":[[true,0,null],[true,1,null]],"closed":false,"head":0,"next":null,"tail":0}],[]]}'
+)
+
+
+def session(events="[]", marks="[]", start='{"fresh":1}', undone="[]") -> str:
+    """The text of a trace of version 2 over rings of two cells."""
+    return f'{{"events":{events},"marks":{marks},"ring":2,"start":{start},"undone":{undone},"version":2}}\n'
+
 
 # A name, the text of a trace, standard input, the status, standard output and standard error.
 TRACES = [
@@ -62,6 +82,35 @@ TRACES = [
         1,
         "",
         "lcrqdb: refused 28 TraceStep 65536 cause 9 TooLong\n",
+    ),
+    ("an undone event", session('[["enq",1,7]]', undone='[["go",1]]'), "len\nredo\n", 0, "at 1 1\nat 2 0\n", ""),
+    ("a bookmark", session(marks='[{"events":[["deq",1]],"name":"a"}]'), "len\nmarks\ngoto a\n", 0, "at 0 0\nmarks 1\nat 1 0\n", ""),
+    (
+        "a refused event of a bookmark",
+        session(marks='[{"events":[["go",1]],"name":"a"}]'),
+        "len\n",
+        1,
+        "",
+        "lcrqdb: refused 32 TraceMark 1 1 cause 3 Idle\n",
+    ),
+    ("a refused undone event", session('[["deq",1]]', undone='[["go",1],["deq",1]]'), "", 1, "", "lcrqdb: refused 28 TraceStep 3 cause 2 NotIdle\n"),
+    ("a start of one's own", session(start=POISED), "go 1\nshow tail 0.0\n", 0, "ok 1\nis open 1\n", ""),
+    (
+        "a flaw",
+        session(start=POISED.replace('"head":0,"next":null', '"head":4611686018427387905,"next":null')),
+        "len\n",
+        1,
+        "",
+        "lcrqdb: refused 26 Flaw 4\n",
+    ),
+    ("a start with too many actors", session(start='{"fresh":17}'), "len\n", 1, "", "lcrqdb: refused 27 BadTrace\n"),
+    (
+        "65,536 events of a bookmark",
+        session(marks='[{"events":[' + ",".join(((['["deq",1]'] + ['["go",1]'] * 11) * 5462)[:65_536]) + '],"name":"a"}]'),
+        "len\n",
+        1,
+        "",
+        "lcrqdb: refused 32 TraceMark 1 65536 cause 9 TooLong\n",
     ),
 ]
 

@@ -1,16 +1,20 @@
 #!/usr/bin/env python3
-"""How long a trace of 65,000 events takes to be written and to be loaded, and how long origins and last writers take.
+"""How long traces of 65,000 events take to be written and to be loaded, in both versions and with 64 bookmarks along them, and how long origins
+and last writers take.
 
-    python3 bench/traces.py --program PATH [--steps N] [--runs N]
+    python3 bench/traces.py --program PATH [--before PATH] [--steps N] [--runs N]
 
-PATH is the built program. Standard output gets one Markdown table. Each figure is the median of several runs, and the time of the same
-run without what is timed is taken off. The replies are compared; a row whose replies are others says `wrong`, and the status
-is 1 then. Only Python's standard library is used.
+PATH is the built program; that of `--before` is one that writes traces of version 1, which are then written in the same run. Standard
+output gets one Markdown table. Seconds are the median of several rounds, in each of which every row's program runs once, without the time of the
+same run without what is timed. Peak MiB is the most memory that the process held in three more runs, looked at all the time (`VmHWM` of /proc). Text
+is how long the trace is. The last column compares: version 2 with version 1, and 64 bookmarks along a run with those along a tenth of it, whose text
+is a tenth as long. The replies are compared; a row whose replies are others says `wrong`, and the status is 1 then. Only Python's
+standard library is used.
 """
 
 import argparse
+import collections
 import json
-import os
 import statistics
 import subprocess
 import sys
@@ -21,6 +25,10 @@ from pathlib import Path
 from bench import random_run
 
 QUERIES = 200
+MARKS = 64
+
+# a run of the program over a file on standard input, and the file with what it is to write, if that is compared
+Job = collections.namedtuple("Job", "words given wanted")
 
 
 def event(line):
@@ -30,71 +38,172 @@ def event(line):
     return [words[0], *values]
 
 
-def trace_of(lines):
-    """The text of the trace of a run over the program's defaults."""
-    trace = {"actors": 4, "events": [event(line) for line in lines], "ring": 4, "version": 1}
-    return json.dumps(trace, separators=(",", ":")) + "\n"
+def text_of(value):
+    """The text of a trace."""
+    return json.dumps(value, separators=(",", ":")) + "\n"
 
 
-def one_run(words, given):
-    """Seconds, peak memory in KiB and output of one run of the program."""
-    with tempfile.TemporaryFile() as output:
+def first_trace(lines):
+    """The trace of version 1 of a run over the program's defaults."""
+    return text_of({"actors": 4, "events": [event(line) for line in lines], "ring": 4, "version": 1})
+
+
+def second_trace(lines, marked):
+    """That of version 2, with a bookmark behind each of these numbers of lines."""
+    events = [event(line) for line in lines]
+    marks = [{"events": events[:count], "name": f"n{count}"} for count in marked]
+    return text_of({"events": events, "marks": marks, "ring": 4, "start": {"fresh": 4}, "undone": [], "version": 2})
+
+
+def marked_script(lines, marked):
+    """The lines of a run with a bookmark behind each of these numbers of them."""
+    script = []
+    for number, line in enumerate(lines, 1):
+        script.append(line)
+        if number in marked:
+            script.append(f"mark n{number}")
+    return script
+
+
+def run_once(job):
+    """The seconds of one run, and whether it went well and wrote what is wanted."""
+    with tempfile.TemporaryFile() as output, open(job.given, "rb") as given:
         begin = time.perf_counter()
-        child = subprocess.Popen(words, stdin=given, stdout=output)
-        _, status, usage = os.wait4(child.pid, 0)
+        status = subprocess.Popen(job.words, stdin=given, stdout=output).wait()
         seconds = time.perf_counter() - begin
-        child.returncode = os.waitstatus_to_exitcode(status)
         output.seek(0)
-        return seconds, usage.ru_maxrss, output.read().decode("ascii"), child.returncode
+        good = status == 0 and (job.wanted is None or output.read() == job.wanted.read_bytes())
+    return seconds, good
 
 
-def median_run(options, words, script):
-    """The medians of several runs over the script, and the output."""
-    seconds, peaks, output = [], [], ""
-    for _ in range(options.runs):
-        with open(script, "rb") as given:
-            took, peak, output, status = one_run([options.program, *words], given)
-        if status != 0:
-            return 0.0, 0, ""
-        seconds.append(took)
-        peaks.append(peak)
-    return statistics.median(seconds), statistics.median(peaks), output
+def peak_of(job):
+    """The most KiB that the process of a run has held: of three runs, since on a loaded machine a look may come too late for one."""
+    return max(seen_peak(job) for _ in range(3))
+
+
+def seen_peak(job):
+    """The most KiB that the process of one run was seen to hold."""
+    with open(job.given, "rb") as given:
+        child = subprocess.Popen(job.words, stdin=given, stdout=subprocess.DEVNULL)
+        peak = 0
+        while child.poll() is None:
+            try:
+                with open(f"/proc/{child.pid}/status", encoding="utf-8") as status:
+                    peak = max([peak] + [int(line.split()[1]) for line in status if line.startswith("VmHWM")])
+            except OSError:
+                pass
+            time.sleep(0.0005)
+    return peak
+
+
+def in_turn(jobs, runs):
+    """The median seconds of each job over several rounds, in each of which every job runs once; none where one of its runs went wrong."""
+    seconds, wrong = collections.defaultdict(list), set()
+    for _ in range(runs):
+        for name, job in jobs.items():
+            took, good = run_once(job)
+            seconds[name].append(took)
+            if not good:
+                wrong.add(name)
+    return {name: None if name in wrong else statistics.median(took) for name, took in seconds.items()}
+
+
+class Folder:
+    """Files by their names."""
+
+    def __init__(self, path):
+        self.path = Path(path)
+
+    def put(self, name, text):
+        """A file with this text."""
+        file = self.path / name
+        file.write_text(text, encoding="ascii")
+        return file
+
+
+def jobs_of(options, folder):
+    """The jobs by their names; those that begin with a run have its report before the trace."""
+    lines, empty = random_run(options.steps), folder.put("empty", "")
+    script = folder.put("run", "".join(line + "\n" for line in lines))
+    report = subprocess.run([options.program, "run", str(script)], capture_output=True, text=True, check=True).stdout
+    first, second = first_trace(lines), second_trace(lines, [])
+    traces = {"first": folder.put("first", first), "second": folder.put("second", second)}
+    jobs = {
+        "start": Job([options.program, "run", str(empty)], empty, empty),
+        "run": Job([options.program, "run", str(script)], empty, None),
+        "written": Job([options.program, "run", str(script), "--trace"], empty, folder.put("report 2", report + second)),
+    }
+    if options.before:
+        jobs["before: run"] = Job([options.before, "run", str(script)], empty, None)
+        jobs["before: written"] = Job([options.before, "run", str(script), "--trace"], empty, folder.put("report 1", report + first))
+    for name, file in traces.items():
+        jobs[f"{name} loaded"] = Job([options.program, "load", str(file)], empty, empty)
+    asks = folder.put("asks", f"writer cell 0.0 0\norigin {options.steps}\n" * QUERIES)
+    jobs["asked"] = Job([options.program, "load", str(traces["second"])], asks, None)
+    for part in (10, 1):
+        jobs |= marked_jobs(options, folder, lines[: options.steps // part], part)
+    return jobs
+
+
+def marked_jobs(options, folder, lines, part):
+    """The jobs of a run with bookmarks along it, its first part."""
+    empty = folder.path / "empty"
+    marked = sorted({len(lines) * number // MARKS for number in range(1, MARKS + 1)})
+    script = folder.put(f"marked {part}", "".join(line + "\n" for line in marked_script(lines, set(marked))))
+    report = subprocess.run([options.program, "run", str(script)], capture_output=True, text=True, check=True).stdout
+    text = second_trace(lines, marked)
+    trace, wanted = folder.put(f"marked trace {part}", text), folder.put(f"marked report {part}", report + text)
+    return {
+        f"marked run {part}": Job([options.program, "run", str(script)], empty, None),
+        f"marked written {part}": Job([options.program, "run", str(script), "--trace"], empty, wanted),
+        f"marked loaded {part}": Job([options.program, "load", str(trace)], empty, empty),
+    }
 
 
 def rows(options, folder):
-    """The rows: a name, seconds, peak memory in KiB, and whether the output is right."""
-    lines = random_run(options.steps)
-    run, empty, asks = folder / "run", folder / "empty", folder / "asks"
-    run.write_text("".join(line + "\n" for line in lines), encoding="ascii")
-    empty.write_text("", encoding="ascii")
-    text = trace_of(lines)
-    trace = folder / "trace"
-    trace.write_text(text, encoding="ascii")
-    asked = ["writer cell 0.0 0", f"origin {options.steps}"] * QUERIES
-    asks.write_text("".join(line + "\n" for line in asked), encoding="ascii")
+    """The rows: a name, the length of the text in bytes, seconds, peak memory in KiB, and what it is compared with: a row's number and words."""
+    jobs = jobs_of(options, folder)
+    took = in_turn(jobs, options.runs)
 
-    start, _, _ = median_run(options, ["run", str(empty)], empty)
-    plain, _, report = median_run(options, ["run", str(run)], empty)
-    traced, peak, output = median_run(options, ["run", str(run), "--trace"], empty)
-    yield f"a trace of {options.steps:,} events written", traced - plain, peak, output == report + text
-    loaded, peak, output = median_run(options, ["load", str(trace)], empty)
-    yield f"a trace of {options.steps:,} events loaded", loaded - start, peak, output == ""
-    queried, peak, output = median_run(options, ["load", str(trace)], asks)
-    yield f"{QUERIES} last writers and {QUERIES} origins over it", queried - loaded, peak, output.count("\n") == 2 * QUERIES
+    def row(name, job, base, text, compared=""):
+        """A row of a job, whose base is taken off."""
+        bad = took[job] is None or took[base] is None
+        return name, (folder.path / text).stat().st_size, None if bad else took[job] - took[base], peak_of(jobs[job]), compared
+
+    events = f"a trace of {options.steps:,} events"
+    if options.before:
+        yield row(f"{events}, version 1, written by the program before", "before: written", "before: run", "first")
+    yield row(f"{events}, version 2, written", "written", "run", "second", "of version 1" if options.before else "")
+    yield row(f"{events}, version 1, loaded", "first loaded", "start", "first")
+    yield row(f"{events}, version 2, loaded", "second loaded", "start", "second", "of version 1")
+    for verb, base in (("written", "marked run"), ("loaded", "start")):
+        for part in (10, 1):
+            name = f"{MARKS} bookmarks along {options.steps // part:,} events, {verb}"
+            told = "of a tenth" if part == 1 else ""
+            yield row(name, f"marked {verb} {part}", base if base == "start" else f"{base} {part}", f"marked trace {part}", told)
+    yield row(f"{QUERIES} last writers and {QUERIES} origins over {options.steps:,} events", "asked", "second loaded", "second")
 
 
 def main():
     parser = argparse.ArgumentParser(description=__doc__, formatter_class=argparse.RawDescriptionHelpFormatter)
     parser.add_argument("--program", required=True)
+    parser.add_argument("--before")
     parser.add_argument("--steps", type=int, default=65_000)
-    parser.add_argument("--runs", type=int, default=5)
+    parser.add_argument("--runs", type=int, default=9)
     options = parser.parse_args()
-    good = True
-    print("| What | Seconds | Peak MiB |\n|---|---|---|")
-    with tempfile.TemporaryDirectory() as folder:
-        for name, seconds, peak, right in rows(options, Path(folder)):
-            good = good and right
-            print(f"| {name} | {seconds:.4f} | {peak / 1024:.1f} |" if right else f"| {name} | wrong | |", flush=True)
+    good, before = True, None
+    print("| What | Text, MB | Seconds | Peak MiB | Compared |\n|---|---|---|---|---|")
+    with tempfile.TemporaryDirectory() as path:
+        for name, size, seconds, peak, compared in rows(options, Folder(path)):
+            if seconds is None:
+                good, before = False, None
+                print(f"| {name} | wrong | | | |", flush=True)
+                continue
+            told = ""
+            if compared and before:
+                told = f"{seconds / before[0]:.2f} times the time {compared}, {peak / before[1]:.2f} times its memory, {size / before[2]:.2f} times its text"
+            print(f"| {name} | {size / 1e6:.2f} | {seconds:.4f} | {peak / 1024:.1f} | {told} |", flush=True)
+            before = (seconds, peak, size)
     return 0 if good else 1
 
 

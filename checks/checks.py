@@ -138,9 +138,8 @@ def fault_in_run(program, words, script, ended):
 
 def fault_in_traced_run(program, words, script, ended):
     """What is wrong with a run of a script that writes its trace: there is the whole trace of what was done, or none of it."""
-    end = ended.output.rfind(b'{"actors"')
-    if end >= 0:
-        report, trace = ended.output[:end], ended.output[end:]
+    report, trace = parted(ended.output)
+    if trace:
         kept = kept_lines(script, report)
         wanted = usual(program, words, kept)
         fits = (ended.status, ended.errors) == (0, "") and wanted.endswith(trace)
@@ -149,6 +148,12 @@ def fault_in_traced_run(program, words, script, ended):
         return f"status {ended.status}, {ended.errors!r}"
     without = tuple(it for it in words if it != "--trace")
     return fault_in_report(program, without, script, ended.output) if ended.output else ""
+
+
+def parted(output):
+    """The report of a run that writes its trace, and the trace, which is nothing where there is none: its line alone begins with a brace."""
+    lines = output.splitlines(keepends=True)
+    return (b"".join(lines[:-1]), lines[-1]) if lines and lines[-1].startswith(b"{") else (output, b"")
 
 
 def kept_lines(script, report):
@@ -219,6 +224,13 @@ MORE = ["mark a", "undo", "undo 28", "back 3", "forward 2", "mark b", "hello", "
 MORE += ["starve 1 yes", "aenq 4 5", "go 4", "adeq 4", "goto c", "drop b", "goto b", "same c a", "back 30", "enq 4 5", "mark A", "roll 1"]
 
 TRACE = b'{"actors":4,"events":[["enq",1,7],["go",1],["aenq",2,5],["deq",3],["go",3]],"ring":4,"version":1}\n'
+# a start of its own, whose actor makes the next ring, with live and undone events and two bookmarks that share two
+START = b'{"actors":[{"closed":false,"crq":[0,0],"h":0,"idx":0,"new":[0,0],"next":[0,0],"op":["enq",1],"pass":0,"pc":"E11","safe":false,"t":2,"val":null}],'
+START += b'"array":{"cells":[[1,"top"],[63,5]],"head":2,"tail":3},"qhead":[0,0],"qtail":[0,0],'
+START += b'"segments":[[{"cells":[[true,0,7],[true,1,8]],"closed":false,"head":0,"next":null,"tail":2}],[]]}'
+STEP = b'["go",1]'
+SESSION = b'{"events":[' + b",".join([STEP] * 3) + b'],"marks":[{"events":[' + b",".join([STEP] * 2) + b'],"name":"a"},{"events":[' + b",".join([STEP] * 4)
+SESSION += b',["adeq",1]],"name":"b"}],"ring":2,"start":' + START + b',"undone":[' + STEP + b'],"version":2}\n'
 
 
 def script_of(lines):
@@ -240,14 +252,17 @@ def command_lines(folder):
     """Command lines with the script on standard input, and what says what is wrong with their end."""
     script = asked_behind(RACE + MORE)
     files = []
-    for name, text in [("script", script), ("trace", TRACE), ("first", b"len\nhello\nshow qhead\n"), ("second", b"show tail 0.0\nactor 1\n")]:
+    texts = [("script", script), ("trace", TRACE), ("session", SESSION), ("first", b"len\nhello\nshow qhead\n"), ("second", b"show tail 0.0\nactor 1\n")]
+    for name, text in texts:
         files.append(os.path.join(folder, name))
         pathlib.Path(files[-1]).write_bytes(text)
-    file, trace, first, second = files
+    file, trace, session, first, second = files
     yield "run", ("run", "-", "--ring", "2"), script, fault_in_run
     yield "run of a file", ("run", file, "--ring", "2"), b"", functools.partial(fault_in_file_run, script)
-    yield "run --trace", ("run", "-", "--ring", "2", "--trace"), script_of(RACE[:9]), fault_in_traced_run
+    yield "run --trace", ("run", "-", "--ring", "2", "--trace"), script_of(RACE[:9] + ["mark a", "back 2", "mark b"]), fault_in_traced_run
     yield "load", ("load", trace), script_of(["len", "go 1", "undo", "mark a", "len"]), fault_in_run
+    moves = ["len", "marks", "markat 2", "redo", "deq 1", "same a b", "goto b", "undo", "mark c", "goto a", "go 1", "len", "show whole 1.0"]
+    yield "load of a whole session", ("load", session), script_of(moves), fault_in_run
     yield "view", ("view", first, second, first, second), b"", fault_in_view
     yield "help", ("run", "--help"), b"", fault_in_words
     yield "a mistake", ("run", "-", "--ring", "3"), b"", fault_in_words

@@ -3,11 +3,13 @@
 
     python3 checks/hostile.py --program PATH
 
-What a line is comes from a grammar of its own here, written from docs/MANUAL.md and not from the code. Each check prints one line; the
-status is 1 if any of them differs. The timed ones say how time and memory grow with the text. Only Python's standard library is used.
+What a line is, and what a trace is, comes from grammars of their own here, written from docs/MANUAL.md and not from the code. Each check
+prints one line; the status is 1 if any of them differs. The timed ones say how time and memory grow with the text. Only Python's standard
+library is used.
 """
 
 import argparse
+import copy
 import json
 import os
 import re
@@ -127,6 +129,112 @@ def line_checks(program):
         yield f"`{line}`, {len(lines_of(script)):,} lines that nearly spell it", replies_fit(program, script)
 
 
+# ---- The grammar of traces of version 2 --------------------------------------------------------------------------------
+
+WORDS = {"go": [], "deq": [], "adeq": [], "enq": [2**64 - 1], "aenq": [2**64 - 1], "starve": [None]}
+POINTS = {"Idle"} | {f"E{n}" for n in range(1, 15)} | {f"Q{n}" for n in range(1, 15)} | {"A1", "A2", "B1", "B2", "B3"}
+
+
+def is_number(value, most=2**64 - 1):
+    """Whether a value is a whole number up to this one."""
+    return type(value) is int and 0 <= value <= most
+
+
+def is_bit(value):
+    """Whether a value is a bit."""
+    return type(value) is bool
+
+
+def is_value(value):
+    """Whether a value is one that a cell or an actor has, or says that there is none."""
+    return value is None or is_number(value)
+
+
+def is_name(value):
+    """Whether a value names a segment."""
+    return type(value) is list and len(value) == 2 and is_number(value[0], 255) and is_number(value[1], 2**32 - 1)
+
+
+def is_event(value):
+    """Whether a value is an event."""
+    if type(value) is not list or len(value) < 2 or type(value[0]) is not str or value[0] not in WORDS or not is_number(value[1], 255):
+        return False
+    wanted = WORDS[value[0]]
+    return len(value) == 2 + len(wanted) and all(is_bit(it) if most is None else is_number(it, most) for it, most in zip(value[2:], wanted))
+
+
+def is_list(value, is_item):
+    """Whether a value is a list of these."""
+    return type(value) is list and all(is_item(it) for it in value)
+
+
+def is_events(value):
+    """Whether a value is a list of events."""
+    return is_list(value, is_event)
+
+
+def is_object(value, members):
+    """Whether a value is an object with exactly these keys, and each member is what it has to be."""
+    return type(value) is dict and value.keys() == members.keys() and all(fits(value[key]) for key, fits in members.items())
+
+
+def is_cell(value):
+    """Whether a value is a cell of a ring."""
+    return type(value) is list and len(value) == 3 and is_bit(value[0]) and is_number(value[1]) and is_value(value[2])
+
+
+def is_segment(ring):
+    """What says whether a value is a segment with so many cells."""
+    members = {"closed": is_bit, "head": is_number, "tail": is_number, "next": lambda it: it is None or is_name(it)}
+    members["cells"] = lambda it: is_list(it, is_cell) and len(it) == ring
+    return lambda value: is_object(value, members)
+
+
+def is_slots(value):
+    """Whether a value is a list of slots of the array with their positions, which rise."""
+    def is_slot(it):
+        return type(it) is list and len(it) == 2 and is_number(it[0], 63) and (it[1] == "top" or is_number(it[1]))
+    return is_list(value, is_slot) and all(one[0] < other[0] for one, other in zip(value, value[1:]))
+
+
+def is_op(value):
+    """Whether a value is a call, or says that there is none."""
+    calls = {"enq": 2, "aenq": 2, "deq": 1, "adeq": 1}
+    if value is None:
+        return True
+    named = type(value) is list and value and type(value[0]) is str and calls.get(value[0]) == len(value)
+    return bool(named) and all(is_number(it) for it in value[1:])
+
+
+ACTOR = {"closed": is_bit, "crq": is_name, "h": is_number, "idx": is_number, "new": is_name, "next": is_name, "op": is_op, "safe": is_bit}
+ACTOR |= {"pass": lambda it: is_number(it, 255), "pc": lambda it: type(it) is str and it in POINTS, "t": is_number, "val": is_value}
+
+
+def is_start(ring):
+    """What says whether a value is a start over rings of so many cells."""
+    array = {"cells": is_slots, "head": is_number, "tail": is_number}
+    parts = {"qhead": is_name, "qtail": is_name, "array": lambda it: is_object(it, array)}
+    parts["actors"] = lambda it: is_list(it, lambda actor: is_object(actor, ACTOR))
+    parts["segments"] = lambda it: is_list(it, lambda made: is_list(made, is_segment(ring)))
+    fresh = {"fresh": lambda it: is_number(it, 16) and it > 0}
+    return lambda value: is_object(value, fresh) or is_object(value, parts)
+
+
+def is_marks(value):
+    """Whether a value is a list of bookmarks: 64 at most, with different names."""
+    members = {"events": is_events, "name": lambda it: type(it) is str and NAME.fullmatch(it.encode()) is not None}
+    named = is_list(value, lambda it: is_object(it, members)) and len(value) <= 64
+    return named and len({it["name"] for it in value}) == len(value)
+
+
+def is_trace(value):
+    """Whether a value is a trace of version 2."""
+    ring = value.get("ring") if type(value) is dict else None
+    members = {"events": is_events, "marks": is_marks, "start": is_start(ring), "undone": is_events}
+    members |= {"ring": lambda it: is_number(it) and it in (2, 4, 8), "version": lambda it: is_number(it) and it == 2}
+    return is_object(value, members)
+
+
 # ---- Traces ------------------------------------------------------------------------------------------------------------
 
 TRACE = '{"actors":4,"events":[["enq",1,7],["go",1]],"ring":4,"version":1}'
@@ -151,6 +259,147 @@ def bad_traces():
     yield "bytes that are no UTF-8", TRACE.encode().replace(b"enq", b"\xff\xfe")
     yield "an empty text", b""
     yield "a second value behind it", TRACE.encode() * 2
+
+
+# an actor at the fetch-and-add of its enqueue, with two bookmarks, a live and an undone event
+ACTORS = '[{"closed":false,"crq":[0,0],"h":0,"idx":0,"new":[0,0],"next":[0,0],"op":["enq",1],"pass":0,"pc":"E4","safe":false,"t":0,"val":null}]'
+SEGMENT = '{"cells":[[true,0,null],[true,1,null]],"closed":false,"head":0,"next":null,"tail":0}'
+ARRAY = '{"cells":[[0,"top"],[5,7]],"head":0,"tail":0}'
+PARTS = f'{{"actors":{ACTORS},"array":{ARRAY},"qhead":[0,0],"qtail":[0,0],"segments":[[{SEGMENT}],[]]}}'
+MARKS = '[{"events":[["go",1],["go",1]],"name":"a"},{"events":[],"name":"b-2"}]'
+SECOND = f'{{"events":[["go",1]],"marks":{MARKS},"ring":2,"start":{PARTS},"undone":[["go",1]],"version":2}}'
+OTHERS = [None, True, False, -1, 0, 1, 2, 3, 4, 16, 17, 63, 64, 255, 256, 2**32 - 1, 2**32, 2**62, 2**62 + 1, 2**64 - 1, 2**64, 10**400, 1.0, 0.5]
+OTHERS += ["", "a", "A", "a" * 16, "a" * 17, "top", "empty", "E4", "E15", "go", [], [0], [0, 0], [1, 7], [0, 0, 0], [True, 0, None], ["deq"], ["enq", 7]]
+OTHERS += [["go", 1], ["go", 0], ["starve", 1, True], {}, {"fresh": 1}, {"fresh": 0}, {"events": [], "name": "c"}, {"events": [], "name": "a"}]
+
+
+def places_in(value, path=()):
+    """The paths to all values in a value."""
+    yield path
+    inside = value.items() if type(value) is dict else enumerate(value) if type(value) is list else ()
+    for key, it in inside:
+        yield from places_in(it, (*path, key))
+
+
+def at(value, path):
+    """The value at a path."""
+    for key in path:
+        value = value[key]
+    return value
+
+
+def changed(value, path, change):
+    """A value with another behind a path: `change` is called with what has it and the last key."""
+    new = copy.deepcopy(value)
+    change(at(new, path[:-1]), path[-1])
+    return new
+
+
+def nearly_traces():
+    """Values that are nearly that trace: each value in it changed to others, left out or doubled, each key misspelled, a key more in each object."""
+    whole = json.loads(SECOND)
+    for path in places_in(whole):
+        inside = at(whole, path)
+        if type(inside) is dict:
+            yield changed({"": whole}, ("", *path, "more"), lambda it, key: it.__setitem__(key, 0))[""]
+        if not path:
+            continue
+        for other in OTHERS:
+            yield changed(whole, path, lambda it, key, other=other: it.__setitem__(key, other))
+        yield changed(whole, path, lambda it, key: it.pop(key))
+        if type(path[-1]) is str:
+            yield changed(whole, path, lambda it, key: it.__setitem__(key.upper(), it.pop(key)))
+        else:
+            yield changed(whole, path, lambda it, key: it.insert(key, copy.deepcopy(it[key])))
+
+
+def nearly_trace_fault(program):
+    """Whether just those of these values are no trace that the grammar says; says the first that is not answered so. A value that is a trace is
+    loaded, or its start is flawed, or an event of it is refused."""
+    count = 0
+    for value in nearly_traces():
+        count += 1
+        text = json.dumps(value)
+        status, output, errors = load(program, text.encode())
+        refused = re.fullmatch(r"lcrqdb: refused (26 Flaw|28 TraceStep|32 TraceMark) [0-9].*\n", errors)
+        fits = (status, output) == (1, b"") and bool(refused) or (status, errors) == (0, "")
+        if not fits if is_trace(value) else (status, output, errors) != (1, b"", BAD_TRACE):
+            return count, f"{text}: status {status}, {output!r}, {errors!r}"
+    return count, ""
+
+
+def second_with(old, new):
+    """That trace with another text for a part of it."""
+    assert old in SECOND, old
+    return SECOND.replace(old, new, 1).encode()
+
+
+def second_bad_traces():
+    """Texts that are no trace of version 2 and no value that JSON's own writer gives, by what is wrong with them."""
+    for number in ("0.0", "0e0", "1e0", "1E400", "00", "+0", "0x0", "1" * 5000, "NaN", "Infinity"):
+        yield f"the number {number[:20]}", second_with('"t":0', f'"t":{number}')
+    for old in (PARTS, ACTORS, SEGMENT, ARRAY, MARKS, '[["go",1]]', '"name":"a"', '[0,0]'):
+        key = '"name":' if old.startswith('"name"') else ""
+        for opened, closed in (("[", "]"), ('{"a":', "}")):
+            yield f"200 {opened} for {old[:20]}", second_with(old, key + opened * 200)
+            yield f"200 {opened} and as many {closed} for {old[:20]}", second_with(old, key + opened * 200 + "0" + closed * 200)
+    yield "65 bookmarks", second_with(MARKS, json.dumps([{"events": [], "name": f"n{n}"} for n in range(65)]))
+    yield "a name that is no UTF-8", second_with('"name":"a"', '"name":"?"').replace(b"?", b"\xc0\x80")
+    yield "a name with an escaped NUL", second_with('"name":"a"', '"name":"\\u0000"')
+    yield "half of a surrogate pair", second_with('"name":"a"', '"name":"\\ud800"')
+    yield "a name that is not closed", second_with('"name":"a"', '"name":"a')
+    yield "a second version behind the first trace", SECOND.encode() + TRACE.encode()
+
+
+FLAW = "lcrqdb: refused 26 Flaw {}\n"
+
+
+def huge_parts():
+    """Texts of huge parts: a name, the text, and what the program ends with."""
+    loaded = (0, b"at 1 1\n", "")
+    rows = [(65_535, loaded), (65_536, (1, b"", FLAW.format(1)))]
+    for count, wanted in rows:
+        made = ",".join([SEGMENT] * count)
+        yield f"{count:,} segments of an actor", second_with(f"[[{SEGMENT}],[]]", f"[[{SEGMENT}],[{made}]]"), wanted
+    sixteen = ",".join([ACTORS[1:-1]] * 16)
+    lists = f"[[{SEGMENT}]" + ",[]" * 16 + "]"
+    yield "16 actors", second_with(ACTORS, f"[{sixteen}]").replace(f"[[{SEGMENT}],[]]".encode(), lists.encode()), loaded
+    yield "17 actors", second_with(ACTORS, f"[{sixteen},{ACTORS[1:-1]}]").replace(b"],[]]", b"]" + b",[]" * 17 + b"]"), (1, b"", FLAW.format(1))
+    yield "no actor", second_with(ACTORS, "[]"), (1, b"", FLAW.format(1))
+    yield "a list of a maker too much", second_with(f"[[{SEGMENT}],[]]", f"[[{SEGMENT}],[],[]]"), (1, b"", FLAW.format(1))
+    yield "two segments of maker 0", second_with(f"[[{SEGMENT}],[]]", f"[[{SEGMENT},{SEGMENT}],[]]"), (1, b"", FLAW.format(1))
+    full = json.dumps([[at, 2**64 - 1] for at in range(64)])
+    yield "a full array", second_with('[[0,"top"],[5,7]]', full), loaded
+    names = json.dumps([{"events": [["go", 1]], "name": f"{n:-^16}"} for n in range(64)])
+    yield "64 bookmarks with names of 16 bytes", second_with(MARKS, names), loaded
+
+
+def second_trace_checks(program):
+    """Texts of traces of version 2."""
+    wanted = (1, b"", BAD_TRACE)
+    assert is_trace(json.loads(SECOND))
+    yield "a whole session", differs(load(program, SECOND.encode(), b"len\nmarks\nredo\n"), (0, b"at 1 1\nmarks 2\nat 2 0\n", ""))
+    beginnings = [load(program, SECOND[:end].encode()) for end in range(len(SECOND))]
+    yield f"each of the {len(SECOND)} beginnings of a whole session", differs([it for it in beginnings if it != wanted], [])
+    count, fault = nearly_trace_fault(program)
+    yield f"{count:,} values that are nearly a whole session", fault
+    for name, text in second_bad_traces():
+        yield f"no trace of version 2: {name}", differs(load(program, text), wanted)
+    for name, text, ended in huge_parts():
+        yield name, differs(load(program, text), ended)
+    refused = [(MARKS, MARKS.replace('"go",1', '"go",0', 1), "32 TraceMark 1 1 cause 1 NoActor")]
+    refused += [('"events":[["go",1]],"marks"', '"events":[["go",0]],"marks"', "28 TraceStep 1 cause 1 NoActor")]
+    refused += [('"undone":[["go",1]]', '"undone":[["go",1],["go",0]]', "28 TraceStep 3 cause 1 NoActor")]
+    refused += [('"head":0,"next"', '"head":4611686018427387905,"next"', "26 Flaw 4")]
+    for old, new, text in refused:
+        yield f"{text} of a whole session", differs(load(program, second_with(old, new)), (1, b"", f"lcrqdb: refused {text}\n"))
+    for key in ("events", "marks", "ring", "start", "undone", "version"):
+        twice = second_with(f'"{key}":', f'"{key}":{json.dumps(json.loads(SECOND)[key])},"{key}":')
+        status, _, errors = load(program, twice)
+        fault = "" if status == 0 or (status, errors) == (1, BAD_TRACE) else f"status {status}, {errors!r}"
+        yield f"the key {key} twice ends as some trace or as none", fault
+    other = json.dumps(dict(reversed(json.loads(SECOND).items())), indent=3).replace("enq", "\\u0065nq").encode()
+    yield "a whole session in other white space, order of keys and escapes", differs(load(program, b"\n\t" + other + b"\r\n"), (0, b"at 1 1\n", ""))
 
 
 def load(program, text, script=b"len\n"):
@@ -188,8 +437,8 @@ def peak_of(child):
         return 0
 
 
-def cost(program, text):
-    """The seconds and the most KiB of refusing a text, and whether it was refused as no trace."""
+def cost(program, text, wanted):
+    """The seconds and the most KiB of refusing a text, and whether it was refused so."""
     with tempfile.NamedTemporaryFile() as file:
         file.write(text)
         file.flush()
@@ -200,19 +449,33 @@ def cost(program, text):
             time.sleep(0.001)
         seconds = time.perf_counter() - begin
         output, errors = child.communicate()
-    return seconds, peak, (child.returncode, output, errors.decode()) == (1, b"", BAD_TRACE)
+    return seconds, peak, (child.returncode, output, errors.decode()) == (1, b"", wanted)
+
+
+def repeated(old, item, count):
+    """That trace with a list of so many of these items for a part of it."""
+    return second_with(old, "[" + ",".join([item] * count) + "]")
 
 
 def growth_checks(program):
-    """Long texts that are no trace: with ten times the bytes at most twenty times the time and the memory, beside a start's own."""
+    """Long texts that are refused: with ten times the bytes at most twenty times the time and the memory, beside a start's own."""
+    deep = '"start":'
     texts = {
-        "opening brackets": lambda n: b"[" * n,
-        "a string": lambda n: b'"' + b"a" * (10 * n) + b'"',
-        "a number's digits": lambda n: b"7" * (n // 100),
-        "empty arrays in an array": lambda n: b"[" + b"[]," * (10 * n) + b"[]]",
+        "opening brackets": (lambda n: b"[" * n, BAD_TRACE),
+        "a string": (lambda n: b'"' + b"a" * (10 * n) + b'"', BAD_TRACE),
+        "a number's digits": (lambda n: b"7" * (n // 100), BAD_TRACE),
+        "empty arrays in an array": (lambda n: b"[" + b"[]," * (10 * n) + b"[]]", BAD_TRACE),
+        "opening brackets of a start": (lambda n: second_with(deep, deep + "[" * n), BAD_TRACE),
+        "a bookmark's name": (lambda n: second_with('"name":"a"', f'"name":"{"a" * (10 * n)}"'), BAD_TRACE),
+        "bookmarks": (lambda n: repeated(MARKS, '{"events":[],"name":"a"}', n // 10), BAD_TRACE),
+        "slots of the array": (lambda n: repeated('[[0,"top"],[5,7]]', '[7,"top"]', n // 10), BAD_TRACE),
+        "cells of a ring": (lambda n: repeated("[[true,0,null],[true,1,null]]", "[true,0,null]", n // 10), BAD_TRACE),
+        "actors": (lambda n: repeated(ACTORS, ACTORS[1:-1], n // 10), FLAW.format(1)),
+        "lists of makers": (lambda n: repeated(f"[[{SEGMENT}],[]]", "[]", n), FLAW.format(1)),
+        "segments": (lambda n: repeated(f"[[{SEGMENT}],[]]", f"[{SEGMENT}]", n // 10), FLAW.format(1)),
     }
-    for name, text in texts.items():
-        few, many = cost(program, text(100_000)), cost(program, text(1_000_000))
+    for name, (text, wanted) in texts.items():
+        few, many = cost(program, text(100_000), wanted), cost(program, text(1_000_000), wanted)
         grew = many[0] > 20 * few[0] + 0.1 or many[1] > 20 * max(few[1], START_KIB)
         fault = "" if few[2] and many[2] and not grew else f"refused {few[2]} {many[2]}"
         told = f"{few[0]:.3f} s and {few[1] / 1024:.0f} MiB, ten times as long {many[0]:.3f} s and {many[1] / 1024:.0f} MiB"
@@ -316,7 +579,7 @@ def device_checks(program):
 
 def all_checks(program):
     """The checks, each a name and what is wrong, or nothing."""
-    for checks in (line_checks, trace_checks, growth_checks, bad_words, stream_checks, device_checks):
+    for checks in (line_checks, trace_checks, second_trace_checks, growth_checks, bad_words, stream_checks, device_checks):
         yield from checks(program)
 
 

@@ -1,10 +1,11 @@
-//! The lessons for teachers: runs the script of each as the program does, and compares the replies with those on its page.
+//! The lessons for teachers and the guide: runs the scripts of each as the program does, and compares the replies with those on its page.
 //!
-//! A page has its script beside the replies in a table of its own. One line for each lesson says whether they are the same.
+//! A lesson's page has its script beside the replies in a table of its own. The guide has several tables and traces, and no other ones than
+//! those that its scripts give, in this order. One line for each page says whether they are the same.
 #![tactic(auto)]
 
 use anyhow::Result;
-use rd_program::{play, resume, view};
+use rd_program::{end, play, resume, view};
 use rd_script::{ReadSource, WriteSink};
 use rd_trace::Ring;
 use std::alloc::{Alloc, Global};
@@ -14,7 +15,7 @@ use std::sync::Wait;
 use std::thread::Threads;
 
 /// The lessons, in the order of reading: each has a page and a script of this name.
-const LESSONS: [&str; 12] = [
+const LESSONS: [&str; 13] = [
     "01-one-enqueue-and-back",
     "02-empty-dequeue-repairs-tail",
     "03-refused-undo-names-dependant",
@@ -27,6 +28,23 @@ const LESSONS: [&str; 12] = [
     "10-array-queue-livelock",
     "11-who-wrote-this",
     "12-two-viewers",
+    "13-a-start-of-ones-own",
+];
+
+/// The guide's page.
+const GUIDE: &str = "guide";
+
+/// Mistakes in the guide's own start: what is written there, and what is written in its place.
+const MISTAKES: [(&str, &str); 6] = [
+    ("\"ring\": 2", "\"ring\": 4"),
+    ("\"qtail\": [0, 0]", "\"qtail\": [1, 0]"),
+    ("\"tail\": 2", "\"tail\": 4611686018427387905"),
+    ("\"op\": [\"enq\", 9]", "\"op\": [\"deq\"]"),
+    (
+        "\"marks\": []",
+        "\"marks\": [{\"name\": \"a\", \"events\": [[\"go\", 1], [\"go\", 2]]}]",
+    ),
+    ("\"events\": []", "\"events\": [[\"enq\", 1, 7]]"),
 ];
 
 /// How many actors a lesson's world has.
@@ -44,17 +62,40 @@ const TWO_VIEWERS: &str = "\nRun by two viewers.\n";
 /// The head of the table with the script and the replies.
 const TABLE_HEAD: &str = "\n| Line | Reply |\n|---|---|\n";
 
+/// The head of the table with mistakes in a trace and what `load` answers to them.
+const MISTAKES_HEAD: &str = "\n| In place of | Somebody writes | `load` answers |\n|---|---|---|\n";
+
+/// The line before a trace.
+const TRACE_HEAD: &str = "```json\n";
+
+/// The line behind a trace.
+const TRACE_END: &str = "```\n";
+
 fn main(rt: HostRuntime) -> Result<ExitCode> {
     let mut status = ExitCode::SUCCESS;
     for name in LESSONS {
-        if is_as_its_page_says(&rt, rt.alloc(), name)? {
-            println!(rt; "{name}: as its page says")?;
-        } else {
-            println!(rt; "{name}: not as its page says")?;
+        let right = is_as_its_page_says(&rt, rt.alloc(), name)?;
+        print_whether(&rt, name, right)?;
+        if !right {
             status = ExitCode::FAILURE;
         }
     }
+    let right = is_guide_as_it_says(&rt, rt.alloc())?;
+    print_whether(&rt, GUIDE, right)?;
+    if !right {
+        status = ExitCode::FAILURE;
+    }
     Ok(status)
+}
+
+/// Prints whether the replies are those of the page of this name.
+fn print_whether<R: Print>(rt: &R, name: &str, right: bool) -> Result<()> {
+    if right {
+        println!(rt; "{name}: as its page says")?;
+    } else {
+        println!(rt; "{name}: not as its page says")?;
+    }
+    Ok(())
 }
 
 /// Whether the replies to a lesson's script are those of its page.
@@ -71,14 +112,142 @@ fn is_as_its_page_says<R: Files + Alloc<A = Global> + Threads + Wait + Sync>(
     let script = fs::read_to_string(rt, format!(in alloc; "{name}.script")?.as_str())?;
     let replies = if page.contains(TRACE) {
         let trace = fs::read_to_string(rt, format!(in alloc; "{name}.trace")?.as_str())?;
+        if page.contains(TRACE_HEAD) && !page.contains(block_of(alloc, &trace)?.as_str()) {
+            return Ok(false);
+        }
         replies_over(alloc, &trace, &script)?
     } else if page.contains(RING_OF_TWO) {
-        replies_from_start(alloc, Ring::Two, &script)?
+        report_from_start(alloc, Ring::Two, &script, false)?
     } else {
-        replies_from_start(alloc, Ring::Four, &script)?
+        report_from_start(alloc, Ring::Four, &script, false)?
     };
     let table = table_of(alloc, &script, &replies)?;
     Ok(page.contains(table.as_str()))
+}
+
+/// Whether the tables and the traces of the guide are those that its scripts give, in order, and whether it has no other ones.
+fn is_guide_as_it_says<R: Files + Alloc<A = Global> + Threads + Wait + Sync>(
+    rt: &R,
+    alloc: Global,
+) -> Result<bool> {
+    let page = fs::read_to_string(rt, "guide.md")?;
+    let blocks = guide_blocks(rt, alloc)?;
+    let mut rest = page.as_str();
+    for block in &blocks {
+        let Some(behind) = text_behind(rest, block.as_str()) else {
+            return Ok(false);
+        };
+        rest = behind;
+    }
+    Ok(!has_block(rest))
+}
+
+/// The tables and the traces that the guide must have, in order.
+fn guide_blocks<R: Files + Alloc<A = Global> + Threads + Wait + Sync>(
+    rt: &R,
+    alloc: Global,
+) -> Result<Vec<String>> {
+    let mut blocks = Vec::new(alloc);
+    let drawn = push_run(rt, alloc, &mut blocks, "guide-1.script")?;
+    push_run_over(rt, alloc, &mut blocks, &drawn, "guide-2.script")?;
+    push_run_over(rt, alloc, &mut blocks, &drawn, "guide-3.script")?;
+    let own = fs::read_to_string(rt, "guide-4.trace")?;
+    blocks.push(block_of(alloc, &own)?)?;
+    push_run_over(rt, alloc, &mut blocks, &own, "guide-4.script")?;
+    blocks.push(table_of_mistakes(alloc, &own)?)?;
+    blocks.push(table_of_viewers(rt, alloc, "guide-5")?)?;
+    let handed_on = push_run(rt, alloc, &mut blocks, "guide-6.script")?;
+    push_run_over(rt, alloc, &mut blocks, &handed_on, "guide-7.script")?;
+    Ok(blocks)
+}
+
+/// What a text has behind a block, if it has the block, and no other block before it.
+fn text_behind<'a>(text: &'a str, block: &str) -> Option<&'a str> {
+    let (before, behind) = text.split_once(block)?;
+    if has_block(before) {
+        return None;
+    }
+    Some(behind)
+}
+
+/// Whether a text has a table of lines, a table of mistakes or a trace.
+fn has_block(text: &str) -> bool {
+    text.contains(TABLE_HEAD) || text.contains(MISTAKES_HEAD) || text.contains(TRACE_HEAD)
+}
+
+/// Runs a script over the fresh world, pushes its table and the trace of its run, and gives the trace.
+fn push_run<R: Files + Alloc<A = Global>>(
+    rt: &R,
+    alloc: Global,
+    blocks: &mut Vec<String>,
+    name: &str,
+) -> Result<String> {
+    let script = fs::read_to_string(rt, name)?;
+    let report = report_from_start(alloc, Ring::Four, &script, true)?;
+    let trace = match report.lines().last() {
+        None => String::new(alloc),
+        Some(line) => format!(in alloc; "{line}\n")?,
+    };
+    blocks.push(table_of(alloc, &script, &report)?)?;
+    blocks.push(block_of(alloc, &trace)?)?;
+    Ok(trace)
+}
+
+/// Runs a script over the run of a trace, and pushes its table.
+fn push_run_over<R: Files + Alloc<A = Global>>(
+    rt: &R,
+    alloc: Global,
+    blocks: &mut Vec<String>,
+    trace: &str,
+    name: &str,
+) -> Result<()> {
+    let script = fs::read_to_string(rt, name)?;
+    let replies = replies_over(alloc, trace, &script)?;
+    blocks.push(table_of(alloc, &script, &replies)?)?;
+    Ok(())
+}
+
+/// A trace as a page shows it.
+fn block_of(alloc: Global, trace: &str) -> Result<String> {
+    Ok(format!(in alloc; "{TRACE_HEAD}{trace}{TRACE_END}")?)
+}
+
+/// The table of mistakes in a trace, and the empty line behind it.
+fn table_of_mistakes(alloc: Global, trace: &str) -> Result<String> {
+    let mut table = String::from_str(alloc, MISTAKES_HEAD)?;
+    for (right, wrong) in MISTAKES {
+        let answer = match trace.split_once(right) {
+            None => String::new(alloc),
+            Some((before, behind)) => {
+                let mistaken = format!(in alloc; "{before}{wrong}{behind}")?;
+                answer_to(alloc, &mistaken)?
+            }
+        };
+        for line in answer.lines() {
+            writeln!(table, "| `{right}` | `{wrong}` | `{line}` |")?;
+        }
+    }
+    writeln!(table)?;
+    Ok(table)
+}
+
+/// What `load` writes to standard error for a trace.
+fn answer_to(alloc: Global, trace: &str) -> Result<String> {
+    let mut replies = Vec::new(alloc);
+    let outcome = resume(
+        alloc,
+        trace.as_bytes(),
+        &mut ReadSource::new("".as_bytes()),
+        &mut WriteSink::new(&mut replies),
+    );
+    let mut output = Vec::new(alloc);
+    let mut errors = Vec::new(alloc);
+    end(
+        &outcome,
+        &mut WriteSink::new(&mut output),
+        &mut WriteSink::new(&mut errors),
+    );
+    Ok(String::from_utf8(errors)?)
 }
 
 /// The replies to a script over the run of a trace.
@@ -93,8 +262,8 @@ fn replies_over(alloc: Global, trace: &str, script: &str) -> Result<String> {
     Ok(String::from_utf8(written)?)
 }
 
-/// The replies to a script over a fresh world.
-fn replies_from_start(alloc: Global, ring: Ring, script: &str) -> Result<String> {
+/// The report of a script over a fresh world, with the trace of the run behind it or without.
+fn report_from_start(alloc: Global, ring: Ring, script: &str, traced: bool) -> Result<String> {
     let mut written = Vec::new(alloc);
     play(
         alloc,
@@ -102,7 +271,7 @@ fn replies_from_start(alloc: Global, ring: Ring, script: &str) -> Result<String>
         &mut WriteSink::new(&mut written),
         ACTORS,
         ring,
-        false,
+        traced,
     )?;
     Ok(String::from_utf8(written)?)
 }
@@ -117,7 +286,7 @@ fn table_of(alloc: Global, script: &str, replies: &str) -> Result<String> {
     Ok(table)
 }
 
-/// The table of a lesson with two viewers: for each the file, its heading, and its lines with what is certain of the replies; and
+/// The table of two viewers: for each the file, its heading, and its lines with what is certain of the replies; and
 /// last how many calls were recorded.
 fn table_of_viewers<R: Files + Alloc<A = Global> + Threads + Wait + Sync>(
     rt: &R,

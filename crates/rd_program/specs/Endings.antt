@@ -8,7 +8,7 @@ use Rattle.rd_script.specs.declared.faults.ScriptFault.TheVariants as script
 use Rattle.rd_script.specs.Device.{TakesBeginning}
 use Rattle.rd_script.specs.Replies.{text_of}
 use Rattle.rd_program.specs.declared.faults.ProgramFault.{ProgramFault}
-use Rattle.rd_program.specs.declared.faults.ProgramFault.TheVariants.{NoMemory, Read, Write, BadTrace, TraceStep, Busy, TooManyFiles, Shown, Refused}
+use Rattle.rd_program.specs.declared.faults.ProgramFault.TheVariants.{NoMemory, Read, Write, BadTrace, Flawed, TraceMark, TraceStep, Busy, TooManyFiles, Shown, Refused}
 use Rattle.rd_program.specs.declared.endings.Message.{Message}
 use Rattle.rd_program.specs.declared.endings.Message.TheVariants.{Nothing, Line, Text}
 use Rattle.rd_program.specs.declared.endings.Ending.{Ending}
@@ -51,6 +51,8 @@ EndsAs (Err NoMemory) ending = FailsBy (line.Refused OutOfMemory) ending
 EndsAs (Err Read) ending = FailsBy (line.Stopped script.Read) ending
 EndsAs (Err Write) ending = FailsBy (line.Stopped script.Write) ending
 EndsAs (Err BadTrace) ending = FailsBy line.BadTrace ending
+EndsAs (Err (Flawed flaw)) ending = FailsBy (line.Flawed flaw) ending
+EndsAs (Err (TraceMark mark step cause)) ending = FailsBy (line.TraceMark mark step cause) ending
 EndsAs (Err (TraceStep step cause)) ending = FailsBy (line.TraceStep step cause) ending
 EndsAs (Err (Busy next served)) ending = FailsBy (line.Busy next served) ending
 EndsAs (Err TooManyFiles) ending = IsRefused (codes "lcrqdb: 1 to 64 files\n") ending

@@ -1,8 +1,7 @@
 -- What the program does: a script's run over a fresh world, with the trace of it behind the report if one is asked for, and a
 -- script's run over the run of a trace.
-use Rattle.std.specs.Prelude.{◌≡◌, ◌⊎◌, ℕ, Bool, true, false, List, [], Option, Result, Ok, Err}
+use Rattle.std.specs.Prelude.{◌≡◌, ◌⊎◌, ℕ, Bool, true, false, List, Option, Result, Ok, Err}
 use Rattle.std.specs.Io.KnownBytes.{Keeps, Appends}
-use Rattle.rd_step.specs.Starts.{fresh_world}
 use Rattle.rd_marks.specs.Books.{BookState}
 use Rattle.rd_script.specs.declared.faults.ScriptFault.{ScriptFault}
 use Rattle.rd_script.specs.declared.faults.ScriptFault.TheVariants.{Read as AtRead, Write as AtWrite}
@@ -12,11 +11,11 @@ use Rattle.rd_trace.specs.declared.faults.LoadTraceFault.{LoadTraceFault}
 use Rattle.rd_trace.specs.declared.faults.LoadTraceFault.TheVariants as load
 use Rattle.rd_trace.specs.declared.faults.WriteTraceFault.{WriteTraceFault}
 use Rattle.rd_trace.specs.declared.faults.WriteTraceFault.TheVariants as write
-use Rattle.rd_trace.specs.Traces.{Trace, trace_of_state, loaded_state, GoesThrough, IsRefusedAt}
-use Rattle.rd_trace.specs.Form.{IsTraceText}
-use Rattle.rd_trace.specs.Text.{trace_text}
+use Rattle.rd_trace.specs.declared.any_book.AnyBook.{AnyBook}
+use Rattle.rd_trace.specs.Writing.{IsTextOf}
+use Rattle.rd_trace.specs.Loading.{LoadsTrace, any_ring, any_state, fresh_state}
 use Rattle.rd_program.specs.declared.faults.ProgramFault.{ProgramFault}
-use Rattle.rd_program.specs.declared.faults.ProgramFault.TheVariants.{NoMemory, Read, Write, BadTrace, TraceStep}
+use Rattle.rd_program.specs.declared.faults.ProgramFault.TheVariants.{NoMemory, Read, Write, BadTrace, Flawed, TraceMark, TraceStep}
 
 -- the program's fault if a script's run ended by this one
 abbrev pub program_fault : ScriptFault → ProgramFault
@@ -27,6 +26,8 @@ program_fault AtWrite = Write
 abbrev pub load_fault : LoadTraceFault → ProgramFault
 load_fault load.NoMemory = NoMemory
 load_fault load.BadTrace = BadTrace
+load_fault (load.Flawed flaw) = Flawed flaw
+load_fault (load.TraceMark mark step cause) = TraceMark mark step cause
 load_fault (load.TraceStep step cause) = TraceStep step cause
 
 -- the program's fault if a trace was not written for this one
@@ -37,10 +38,6 @@ write_fault write.Write = Write
 -- a file was not read whole: memory was refused, or the reader failed
 abbrev pub IsUnread : ProgramFault → Type 0
 IsUnread fault = (fault ≡ NoMemory) ⊎ (fault ≡ Read)
-
--- the state that the program begins with: no step was made in the fresh world, and there is no bookmark
-abbrev pub first_state : ℕ → ℕ → BookState
-first_state R actors = record { session = record { start = fresh_world R actors; live = []; undone = [] }; marks = [] }
 
 -- neither device was touched
 pub record TouchesNothing (d : Devices) : Type 0 where
@@ -56,48 +53,50 @@ RunsOver R before d (Err Read) = (after : BookState) × StoppedAtRead R before a
 RunsOver R before d (Err Write) = (after : BookState) × StoppedAtWrite R before after d
 RunsOver R before d (Err _) = ⊥
 
--- what a writer has behind what it had, if the text was asked for
-abbrev pub AppendsIf : Bool → Option (List ℕ) → Option (List ℕ) → List ℕ → Type 0
-AppendsIf true old new text = Appends old new text
-AppendsIf false old new text = new ≡ old
+-- what a writer has behind what it had, if a text of this kind was asked for
+abbrev pub AppendsIf : Bool → (List ℕ → Type 0) → Option (List ℕ) → Option (List ℕ) → Type 0
+AppendsIf true IsText old new = (text : List ℕ) × IsText text × Appends old new text
+AppendsIf false IsText old new = new ≡ old
 
--- what became of a text that may have been asked for: it was written whole, or not for want of memory, or a beginning of it
--- if the writer failed
-abbrev pub WritesIf : Bool → List ℕ → Option (List ℕ) → Option (List ℕ) → Bool → Result (Unit {0}) ProgramFault → Type 0
-WritesIf asked text old new failed (Ok _) = AppendsIf asked old new text × (failed ≡ false)
-WritesIf asked text old new failed (Err NoMemory) = (asked ≡ true) × Keeps old new × (failed ≡ false)
-WritesIf asked text old new failed (Err Write) = (asked ≡ true) × TakesBeginning old new text × (failed ≡ true)
-WritesIf asked text old new failed (Err _) = ⊥
+-- what became of a text of this kind that may have been asked for: it was written whole, or not for want of memory, or a beginning
+-- of it if the writer failed
+abbrev pub WritesIf : Bool → (List ℕ → Type 0) → Option (List ℕ) → Option (List ℕ) → Bool → Result (Unit {0}) ProgramFault → Type 0
+WritesIf asked IsText old new failed (Ok _) = AppendsIf asked IsText old new × (failed ≡ false)
+WritesIf asked IsText old new failed (Err NoMemory) = (asked ≡ true) × Keeps old new × (failed ≡ false)
+WritesIf asked IsText old new failed (Err Write) = (asked ≡ true) × ((text : List ℕ) × IsText text × TakesBeginning old new text) × (failed ≡ true)
+WritesIf asked IsText old new failed (Err _) = ⊥
 
 -- a script ran to its end over the fresh world, and this became of the trace of its run
 pub record RanToTrace (R actors : ℕ) (traced : Bool) (d : Devices) (n : ℕ) (written : Result (Unit {0}) ProgramFault) : Type 0 where
   pub after : BookState
   -- what the writer had when the report was whole
   pub reported : Option (List ℕ)
-  pub ran : RanToEnd R (first_state R actors) after (record d { out_after = reported; out_failed = false }) n
-  pub trace : WritesIf traced (trace_text (trace_of_state R actors after)) reported d.out_after d.out_failed written
+  pub ran : RanToEnd R (fresh_state R actors) after (record d { out_after = reported; out_failed = false }) n
+  -- the text that its book is written as, if it was asked for
+  pub trace : WritesIf traced (IsTextOf R after) reported d.out_after d.out_failed written
 
 -- what `run` did: the trace follows the report of a run that came to its end, if it was asked for
 abbrev pub PlaysScript : ℕ → ℕ → Bool → Devices → Result ℕ ProgramFault → Type 0
 PlaysScript R actors traced d (Ok n) = RanToTrace R actors traced d n (Ok tt)
 PlaysScript R actors traced d (Err NoMemory) = TouchesNothing d ⊎ ((n : ℕ) × RanToTrace R actors traced d n (Err NoMemory))
-PlaysScript R actors traced d (Err Read) = RunsOver R (first_state R actors) d (Err Read)
-PlaysScript R actors traced d (Err Write) = RunsOver R (first_state R actors) d (Err Write) ⊎ ((n : ℕ) × RanToTrace R actors traced d n (Err Write))
+PlaysScript R actors traced d (Err Read) = RunsOver R (fresh_state R actors) d (Err Read)
+PlaysScript R actors traced d (Err Write) = RunsOver R (fresh_state R actors) d (Err Write) ⊎ ((n : ℕ) × RanToTrace R actors traced d n (Err Write))
 PlaysScript R actors traced d (Err _) = ⊥
 
--- the text is a trace all of whose events go through, and a script ran over the book that it is loaded as
+-- the text was loaded as a book, and a script ran over it
 pub record RunsOverTrace (text : List ℕ) (d : Devices) (result : Result ℕ ProgramFault) : Type 0 where
-  pub trace : Trace
-  pub is_text : IsTraceText text trace
-  pub through : GoesThrough trace trace.events
-  pub runs : RunsOver trace.ring (loaded_state trace) d result
+  pub book : AnyBook
+  pub loads : LoadsTrace text (Ok book)
+  pub runs : RunsOver (any_ring book) (any_state book) d result
 
--- what `load` did with the text of a file: neither device is touched unless the text is a trace all of whose events go through
+-- what `load` did with the text of a file: neither device is touched unless the text is loaded as a book
 abbrev pub ResumesTrace : List ℕ → Devices → Result ℕ ProgramFault → Type 0
 ResumesTrace text d (Ok n) = RunsOverTrace text d (Ok n)
 ResumesTrace text d (Err Read) = RunsOverTrace text d (Err Read)
 ResumesTrace text d (Err Write) = RunsOverTrace text d (Err Write)
 ResumesTrace text d (Err NoMemory) = TouchesNothing d
-ResumesTrace text d (Err BadTrace) = TouchesNothing d × ((t : Trace) → IsTraceText text t → ⊥)
-ResumesTrace text d (Err (TraceStep step cause)) = TouchesNothing d × ((t : Trace) × IsTraceText text t × IsRefusedAt t step cause)
+ResumesTrace text d (Err BadTrace) = TouchesNothing d × LoadsTrace text (Err load.BadTrace)
+ResumesTrace text d (Err (Flawed flaw)) = TouchesNothing d × LoadsTrace text (Err (load.Flawed flaw))
+ResumesTrace text d (Err (TraceMark mark step cause)) = TouchesNothing d × LoadsTrace text (Err (load.TraceMark mark step cause))
+ResumesTrace text d (Err (TraceStep step cause)) = TouchesNothing d × LoadsTrace text (Err (load.TraceStep step cause))
 ResumesTrace text d (Err _) = ⊥

@@ -16,7 +16,7 @@ use Rattle.rd_view.specs.declared.faults.ViewFault.TheVariants as view
 use Rattle.rd_view.specs.Viewing.{ViewsScripts}
 use Rattle.rd_program.specs.declared.faults.ProgramFault.{ProgramFault}
 use Rattle.rd_program.specs.declared.faults.ProgramFault.TheVariants.{NoMemory, Write, Busy}
-use Rattle.rd_program.specs.Program.{first_state}
+use Rattle.rd_trace.specs.Loading.{fresh_state}
 
 -- the program's fault if a view was not written for this one
 abbrev pub view_fault : ViewFault → ProgramFault
@@ -47,4 +47,4 @@ ViewsOver R telling opened scripts old new failed result =
 -- what `view` did: a view of these scripts over the fresh world
 abbrev pub ViewsFresh : Tellings → Ring → ℕ → List (Vec ℕ Global) → Option (List ℕ) → Option (List ℕ) → Bool → Result ℕ ProgramFault → Type 0
 ViewsFresh tellings ring actors scripts old new failed result =
-    ViewsOver (ring_length ring) (tellings ring) (first_state (ring_length ring) actors) scripts old new failed result
+    ViewsOver (ring_length ring) (tellings ring) (fresh_state (ring_length ring) actors) scripts old new failed result

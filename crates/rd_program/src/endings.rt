@@ -96,6 +96,14 @@ impl<'a> Ending<'a> {
             ProgramFault::Read => Ending::failed(LineAnswer::Stopped(ScriptFault::Read)),
             ProgramFault::Write => Ending::failed(LineAnswer::Stopped(ScriptFault::Write)),
             ProgramFault::BadTrace => Ending::failed(LineAnswer::BadTrace),
+            ProgramFault::Flawed(flaw) => Ending::failed(LineAnswer::Flawed(*flaw)),
+            ProgramFault::TraceMark { mark, step, cause } => Ending::failed(
+                LineAnswer::TraceMark {
+                    mark: *mark,
+                    step: *step,
+                    cause: *cause,
+                },
+            ),
             ProgramFault::TraceStep { step, cause } => Ending::failed(LineAnswer::TraceStep {
                 step: *step,
                 cause: *cause,

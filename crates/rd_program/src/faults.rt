@@ -6,6 +6,7 @@ ghost use Rattle.rd_program.specs.Viewers.{view_fault};
 
 use rd_cell::Refusal;
 use rd_script::ScriptFault;
+use rd_step::Flaw;
 use rd_trace::{LoadTraceFault, WriteTraceFault};
 use rd_view::ViewFault;
 use thiserror::Error;
@@ -25,6 +26,19 @@ pub enum ProgramFault {
     /// The text that was to be loaded is no trace.
     #[error("the file is no trace")]
     BadTrace,
+    /// The trace's start is no well-formed world: the first condition that fails.
+    #[error("the start of the trace is no world: {0:?}")]
+    Flawed(Flaw),
+    /// An event of a bookmark of the trace was refused.
+    #[error("event {step} of bookmark {mark} of the trace was refused: {cause:?}")]
+    TraceMark {
+        /// The bookmark's number in the trace, from 1.
+        mark: u64,
+        /// The event's number among the bookmark's, from 1.
+        step: u64,
+        /// Why it was refused.
+        cause: Refusal,
+    },
     /// An event of the trace was refused.
     #[error("event {step} of the trace was refused: {cause:?}")]
     TraceStep {
@@ -70,6 +84,12 @@ impl From<LoadTraceFault> for ProgramFault {
         match fault {
             LoadTraceFault::NoMemory => ProgramFault::NoMemory,
             LoadTraceFault::BadTrace => ProgramFault::BadTrace,
+            LoadTraceFault::Flawed(flaw) => ProgramFault::Flawed(flaw),
+            LoadTraceFault::TraceMark { mark, step, cause } => ProgramFault::TraceMark {
+                mark,
+                step,
+                cause,
+            },
             LoadTraceFault::TraceStep { step, cause } => ProgramFault::TraceStep { step, cause },
         }
     }

@@ -2,12 +2,11 @@
 //! the report if one is asked for, and a script's run over the run of a trace.
 
 ghost use Rattle.std.specs.Prelude.{◌≡◌, ◌≤◌, ℕ, false, IfOk, IfErr, IfSome};
-ghost use Rattle.rd_step.specs.Starts.{fresh_world};
-ghost use Rattle.rd_trace.specs.Traces.{ring_length, trace_of_state};
-ghost use Rattle.rd_trace.specs.Text.{trace_text};
-ghost use Rattle.rd_trace.specs.Loading.{any_ring, any_state};
+ghost use Rattle.rd_trace.specs.Traces.{ring_length};
+ghost use Rattle.rd_trace.specs.Writing.{IsTextOf};
+ghost use Rattle.rd_trace.specs.Loading.{any_ring, any_state, fresh_state};
 ghost use Rattle.rd_trace.specs.Devices.{devices};
-ghost use Rattle.rd_program.specs.Program.{IsUnread, PlaysScript, ResumesTrace, RunsOver, WritesIf, first_state};
+ghost use Rattle.rd_program.specs.Program.{IsUnread, PlaysScript, ResumesTrace, RunsOver, WritesIf};
 
 use super::faults::ProgramFault;
 use rd_script::{Sink, Source};
@@ -43,8 +42,7 @@ pub fn play<S: Source, K: Sink>(
     play_over(alloc, reader, writer, &mut book, trace)
 }
 
-/// Runs a script over a book in the state that the program begins with, and writes its report, and the trace behind it if it is
-/// asked for.
+/// Runs a script over a book in which nothing was done yet, and writes its report, and the trace behind it if it is asked for.
 fn play_over<S: Source, K: Sink>(
     alloc: Global,
     reader: &mut S,
@@ -54,7 +52,7 @@ fn play_over<S: Source, K: Sink>(
 ) -> Result<u64, ProgramFault>
     requires reader_works { S.has_failed reader.old ≡ false }
     requires writer_works { K.has_failed writer.old ≡ false }
-    ensures { (actors : ℕ) → any_state book.old ≡ first_state (any_ring book.old) actors
+    ensures { (actors : ℕ) → any_state book.old ≡ fresh_state (any_ring book.old) actors
         → PlaysScript (any_ring book.old) actors trace (devices S.Source K.Sink reader.old reader.new writer.old writer.new) result }
 {
     let lines = book.run(reader, writer)?;
@@ -62,7 +60,7 @@ fn play_over<S: Source, K: Sink>(
     Ok(lines)
 }
 
-/// Writes the trace of a book over a fresh world, if it is asked for.
+/// Writes the trace of a book, if it is asked for.
 fn write_if<K: Sink>(
     alloc: Global,
     writer: &mut K,
@@ -70,8 +68,7 @@ fn write_if<K: Sink>(
     trace: bool,
 ) -> Result<(), ProgramFault>
     requires { K.has_failed writer.old ≡ false }
-    ensures { (actors : ℕ) → (any_state book.now).session.start ≡ fresh_world (any_ring book.now) actors
-        → WritesIf trace (trace_text (trace_of_state (any_ring book.now) actors (any_state book.now)))
+    ensures { WritesIf trace (IsTextOf (any_ring book.now) (any_state book.now))
         (K.contents writer.old) (K.contents writer.new) (K.has_failed writer.new) result }
 {
     if trace {
@@ -85,8 +82,8 @@ fn write_if<K: Sink>(
 ///
 /// # Errors
 ///
-/// `BadTrace`, `TraceStep` and `NoMemory` as the loading of a trace: neither device was touched. `Read` and `Write` as the
-/// run of a script.
+/// `BadTrace`, `Flawed`, `TraceMark`, `TraceStep` and `NoMemory` as the loading of a trace: neither device was touched.
+/// `Read` and `Write` as the run of a script.
 pub fn resume<S: Source, K: Sink>(
     alloc: Global,
     text: &[u8],

@@ -8,7 +8,7 @@ use Rattle.rd_marks.specs.Names.{bytes_of}
 use Rattle.rd_marks.specs.declared.replies.Reply.{Reply}
 use Rattle.rd_marks.specs.declared.replies.Reply.TheVariants.{Applied, At, Marked, Dropped, Marks, Mark, Same, Origin, Writer, Content, Actor, Step}
 use Rattle.rd_script.specs.declared.answers.LineAnswer.{LineAnswer}
-use Rattle.rd_script.specs.declared.answers.LineAnswer.TheVariants.{Reply as Replied, Refused, Unread, Stopped, Flawed, HistoryFull, BadTrace, TraceStep, TicketsEnded, Busy, NotRecorded}
+use Rattle.rd_script.specs.declared.answers.LineAnswer.TheVariants.{Reply as Replied, Refused, Unread, Stopped, Flawed, HistoryFull, BadTrace, TraceStep, TicketsEnded, Busy, NotRecorded, TraceMark}
 use Rattle.rd_script.specs.Texts.{spaced_number, yes_or_no}
 use Rattle.rd_script.specs.Contents.{content_words}
 use Rattle.rd_script.specs.Actors.{actor_words}
@@ -54,6 +54,10 @@ reply_words (Step number entry) = step_words number entry
 abbrev pub trace_step_words : ℕ → Refusal → List ℕ
 trace_step_words step cause = codes "28 TraceStep" ++ spaced_number step ++ codes " cause " ++ refusal_words cause
 
+-- which event of which bookmark of a trace was refused, and why
+abbrev pub trace_mark_words : ℕ → ℕ → Refusal → List ℕ
+trace_mark_words mark step cause = codes "32 TraceMark" ++ spaced_number mark ++ spaced_number step ++ codes " cause " ++ refusal_words cause
+
 -- the ticket that is drawn next, and the one that is served
 abbrev pub busy_words : ℕ → ℕ → List ℕ
 busy_words next served = codes " next" ++ spaced_number next ++ codes " served" ++ spaced_number served
@@ -70,6 +74,7 @@ fault_words (TraceStep step cause) = trace_step_words step cause
 fault_words TicketsEnded = codes "29 TicketsEnded"
 fault_words (Busy next served) = codes "30 Busy" ++ busy_words next served
 fault_words NotRecorded = codes "31 NotRecorded"
+fault_words (TraceMark mark step cause) = trace_mark_words mark step cause
 fault_words (Replied reply) = []
 
 -- the words of an answer

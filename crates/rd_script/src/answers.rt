@@ -40,4 +40,13 @@ pub enum LineAnswer {
     },
     /// 31: the history was refused its memory, and the command was not obeyed.
     NotRecorded,
+    /// 32: an event of a bookmark of a trace was refused.
+    TraceMark {
+        /// The bookmark's number in the trace, from 1.
+        mark: u64,
+        /// The event's number among the bookmark's, from 1.
+        step: u64,
+        /// Why it was refused.
+        cause: Refusal,
+    },
 }

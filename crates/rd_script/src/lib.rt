@@ -21,5 +21,6 @@ pub use reading::commands::command_in;
 pub use reading::whole_texts::lines;
 pub use script::{run, write_answer};
 pub use writing::headings::{Heading, write_heading};
+pub use writing::labels::label_of;
 pub use writing::lines::set_text;
 pub use writing::texts::{MOST_BYTES, Text};

@@ -5,7 +5,7 @@ mod actors;
 mod contents;
 mod events;
 pub mod headings;
-mod labels;
+pub mod labels;
 pub mod lines;
 mod numbers;
 mod places;

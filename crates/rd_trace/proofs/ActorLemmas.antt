@@ -1,72 +1,156 @@
--- A run leaves just the actors that were there, and a fresh world has those from 1 to their number.
-use Rattle.std.proofs.Common.{◌≡◌, ◌↔◌, ℕ, suc, ◌<◌, Bool, true, false, ◌==◌, nat_lt, if◌then◌else◌, List, [], ◌∷◌, Option, Some, None, is_some, Result, Ok, Err, inl, inr, refl, sym, ap, ◌∙◌, arith, eqb-true, ltb-true, lt-ltb}
-use Rattle.std.proofs.lemmas.Bool.{cases_lt}
-use Rattle.rd_step.specs.Prelude.{World, Refusal, Stepped, step, Ran, run, need, after, Access, Performed, perform, Actor}
-use Rattle.rd_step.specs.Run.{run_preceded_by, run_from_step}
-use Rattle.rd_step.specs.Step.{step_outcome, step_of_access, step_of_need, step_of_actor}
-use Rattle.rd_step.specs.Starts.{fresh_world}
-use Rattle.rd_step.specs.declared.entries.Entry.{Entry}
-use Rattle.rd_step.specs.declared.entries.Event.{Event}
-use Rattle.rd_trace.specs.Traces.{HasActors}
+-- Actors as values: the labels of control points, what is written of each part, and what is read again.
+use Rattle.std.proofs.Common.{◌≡◌, ℕ, ◌<◌, List, [], ◌∷◌, ◌++◌, length, get_or, Option, Some, None, true, false, IsUtf8, refl, ap, arith}
+use Rattle.json.proofs.Printed.Utf8.{are_ascii, IsUtf8-are_ascii}
+use Rattle.serde_json.specs.Data.{number, unsigned, item}
+use Rattle.serde_json.specs.View.{items_view}
+use Rattle.serde_json.specs.declared.value.Value.{Value}
+use Rattle.rd_actor.specs.declared.actors.Actor.{Actor}
+use Rattle.rd_actor.specs.declared.actors.Op.{Op}
+use Rattle.rd_actor.specs.declared.actors.Op.TheVariants.{Enq, Deq, AEnq, ADeq}
+use Rattle.rd_actor.specs.declared.actors.Pc.{Pc}
+use Rattle.rd_actor.specs.declared.actors.Pc.TheVariants.{Idle, E1, E2, E3, E4, E5, E6, E7, E8, E9, E10, E11, E12, E13, E14, Q1, Q2, Q3, Q4, Q5, Q6, Q7, Q8, Q9, Q10, Q11, Q12, Q13, Q14, A1, A2, B1, B2, B3}
+use Rattle.rd_script.specs.Actors.{label}
+use Rattle.rd_trace.specs.Names.{name_of, name_data}
+use Rattle.rd_trace.specs.Numbers.{byte_number}
+use Rattle.rd_trace.specs.Actors.{value_of, value_data, op_of_items, op_of, op_data, IsActor, actor_data, actors_data}
+use Rattle.rd_trace.proofs.SpellLemmas.{then_item}
 
--- the actors that are there are the same
-abbrev pub SameActors : World → World → Type 0
-SameActors w v = (m : ℕ) → is_some (v.actor m) ≡ is_some (w.actor m)
+-- a list of another length spells no call
+pub no_op : (vs : List Value) → (length vs ≡ 1 → ⊥) → (length vs ≡ 2 → ⊥) → op_of_items (items_view vs) ≡ None
+no_op [] one two = refl
+no_op (a ∷ []) one two = absurd (one refl)
+no_op (a ∷ b ∷ []) one two = absurd (two refl)
+no_op (a ∷ b ∷ c ∷ vs) one two = refl
 
-with_actor-same : (n m : ℕ) (a b : Actor) (actors : ℕ → Option Actor) (here : Bool) → (m == n) ≡ here → actors n ≡ Some a → is_some (if here then Some b else actors m) ≡ is_some (actors m)
-with_actor-same n m a b actors true e h = sym (ap is_some (ap actors (eqb-true m n e) ∙ h))
-with_actor-same n m a b actors false e h = refl
+pub op_spelled : (op : Option Op) → op_of (op_data op) ≡ Some op
+op_spelled None = refl
+op_spelled (Some (Enq x)) = refl
+op_spelled (Some Deq) = refl
+op_spelled (Some (AEnq x)) = refl
+op_spelled (Some ADeq) = refl
 
-access_keeps : (R : ℕ) (w : World) (e : Event) (a : Actor) (o : Result Performed Refusal) (s : Stepped) → w.actor e.actor ≡ Some a → step_of_access R w e a o ≡ Ok s → SameActors w s.world
-access_keeps R w e a (Err refusal) s has h m = absurd (cc)
-access_keeps R w e a (Ok did) s has h m =
-    let next = (after R a e.act did.answer).0 in
-    let is : step_outcome w e a did (after R a e.act did.answer) ≡ s = cc in
-    ap (λ (x : Stepped). is_some (x.world.actor m)) (sym is) ∙ with_actor-same e.actor m a next w.actor (m == e.actor) refl has
+pub value_spelled : (val : Option ℕ) → value_of (value_data val) ≡ Some val
+value_spelled None = refl
+value_spelled (Some x) = refl
 
-need_keeps : (R : ℕ) (w : World) (e : Event) (a : Actor) (o : Result Access Refusal) (s : Stepped) → w.actor e.actor ≡ Some a → step_of_need R w e a o ≡ Ok s → SameActors w s.world
-need_keeps R w e a (Err refusal) s has h m = absurd (cc)
-need_keeps R w e a (Ok access) s has h m = access_keeps R w e a (perform R e.actor w.at access) s has h m
+-- the value of an actor spells it, since its pass is a number of 8 bits and its names are of their ranges
+pub actor_spelled : (a : Actor) → byte_number (number (unsigned a.pass)) ≡ Some a.pass → name_of (name_data a.crq) ≡ Some a.crq → name_of (name_data a.new) ≡ Some a.new → name_of (name_data a.next) ≡ Some a.next
+    → IsActor (actor_data a) a
+actor_spelled a pass crq new next = record {
+  members = refl;
+  closed = refl;
+  crq = crq;
+  h = refl;
+  idx = refl;
+  new = new;
+  next = next;
+  op = op_spelled a.op;
+  pass = pass;
+  pc = refl;
+  safe = refl;
+  t = refl;
+  val = value_spelled a.val;
+}
 
-actor_keeps : (R : ℕ) (w : World) (e : Event) (o : Option Actor) (s : Stepped) → w.actor e.actor ≡ o → step_of_actor R w e o ≡ Ok s → SameActors w s.world
-actor_keeps R w e None s has h m = absurd (cc)
-actor_keeps R w e (Some a) s has h m = need_keeps R w e a (need R a e.act) s has h m
+pub actors_data-last : (actors : List Actor) (a : Actor) → actors_data (actors ++ a ∷ []) ≡ then_item (actors_data actors) (actor_data a)
+actors_data-last [] a = refl
+actors_data-last (x ∷ actors) a = ap (item (actor_data x)) (actors_data-last actors a)
 
-preceded_world : (x : Entry) (o : Result Ran Refusal) (r : Ran) → run_preceded_by x o ≡ Ok r → (q : Ran) × (o ≡ Ok q) × (q.world ≡ r.world)
-preceded_world x (Err refusal) r h = absurd (cc)
-preceded_world x (Ok q) r h = let is : record { world = q.world; entries = x ∷ q.entries } ≡ r = cc in (q, refl, ap (λ (y : Ran). y.world) is)
+-- what is found past the end of a list of actors
+abbrev pub no_actor : Actor
+no_actor = record {
+  pc = Idle;
+  pass = 0;
+  closed = false;
+  safe = false;
+  crq = record { maker = 0; n = 0 };
+  new = record { maker = 0; n = 0 };
+  next = record { maker = 0; n = 0 };
+  op = None;
+  t = 0;
+  h = 0;
+  val = None;
+  idx = 0;
+}
 
-rest_keeps : (R : ℕ) (w : World) (x : Event) (es : List Event) (r : Ran) → ((v : World) (q : Ran) → run R v es ≡ Ok q → SameActors v q.world) → (o : Result Stepped Refusal) → step R w x ≡ o
-    → run_from_step (λ v. run R v es) o ≡ Ok r → SameActors w r.world
-rest_keeps R w x es r from (Err refusal) is h m = absurd (cc)
-rest_keeps R w x es r from (Ok s) is h m =
-    let p = preceded_world s.entry (run R s.world es) r h in
-    ap (λ (v : World). is_some (v.actor m)) (sym p.2) ∙ from s.world p.0 p.1 m ∙ actor_keeps R w x (w.actor x.actor) s refl is m
+-- ---- labels
 
--- a run keeps the actors
-run_keeps : (R : ℕ) (w : World) (es : List Event) (r : Ran) → run R w es ≡ Ok r → SameActors w r.world
-run_keeps R w [] r h m = let is : record { world = w; entries = [] } ≡ r = cc in ap (λ (y : Ran). is_some (y.world.actor m)) (sym is)
-run_keeps R w (x ∷ es) r h m = rest_keeps R w x es r (λ v q k. run_keeps R v es q k) (step R w x) refl h m
+ascii_label : (pc : Pc) → are_ascii (label pc) ≡ true
+ascii_label Idle = refl
+ascii_label E1 = refl
+ascii_label E2 = refl
+ascii_label E3 = refl
+ascii_label E4 = refl
+ascii_label E5 = refl
+ascii_label E6 = refl
+ascii_label E7 = refl
+ascii_label E8 = refl
+ascii_label E9 = refl
+ascii_label E10 = refl
+ascii_label E11 = refl
+ascii_label E12 = refl
+ascii_label E13 = refl
+ascii_label E14 = refl
+ascii_label Q1 = refl
+ascii_label Q2 = refl
+ascii_label Q3 = refl
+ascii_label Q4 = refl
+ascii_label Q5 = refl
+ascii_label Q6 = refl
+ascii_label Q7 = refl
+ascii_label Q8 = refl
+ascii_label Q9 = refl
+ascii_label Q10 = refl
+ascii_label Q11 = refl
+ascii_label Q12 = refl
+ascii_label Q13 = refl
+ascii_label Q14 = refl
+ascii_label A1 = refl
+ascii_label A2 = refl
+ascii_label B1 = refl
+ascii_label B2 = refl
+ascii_label B3 = refl
 
-one_number_if : (w : World) (n m : ℕ) → HasActors w n → HasActors w m → n < m → ⊥
-one_number_if w n m h k less = let there = (h n).0 ((k n).1 less) in omega (arith, there)
+pub label_utf8 : (pc : Pc) → IsUtf8 (label pc)
+label_utf8 pc = IsUtf8-are_ascii (label pc) (ascii_label pc)
 
--- there is one number of actors
-one_number : (w : World) (n m : ℕ) → HasActors w n → HasActors w m → n ≡ m
-one_number w n m h k =
-    elim (cases_lt n m) [
-      | inl less ↦ absurd (one_number_if w n m h k less)
-      | inr least ↦ elim (cases_lt m n) [ inl less ↦ absurd (one_number_if w m n k h less) | inr most ↦ omega (arith, least, most) ]
-    ]
+-- the control points, in the order of the table of the code
+abbrev pub points : List Pc
+points = Idle ∷ E1 ∷ E2 ∷ E3 ∷ E4 ∷ E5 ∷ E6 ∷ E7 ∷ E8 ∷ E9 ∷ E10 ∷ E11 ∷ E12 ∷ E13 ∷ E14 ∷ Q1 ∷ Q2 ∷ Q3 ∷ Q4 ∷ Q5 ∷ Q6 ∷ Q7 ∷ Q8 ∷ Q9 ∷ Q10 ∷ Q11 ∷ Q12 ∷ Q13 ∷ Q14 ∷ A1 ∷ A2 ∷ B1 ∷ B2 ∷ B3 ∷ []
 
--- the number of actors of a run's last world is that of its first one
-pub number_after : (R : ℕ) (w : World) (es : List Event) (r : Ran) (n m : ℕ) → run R w es ≡ Ok r → HasActors w n → HasActors r.world m → n ≡ m
-number_after R w es r n m ran h k =
-    one_number w n m h (λ i. (λ some. (k i).0 (run_keeps R w es r ran (suc i) ∙ some), λ less. sym (run_keeps R w es r ran (suc i)) ∙ (k i).1 less))
-
-fresh_some : {A : Type 0} (a : A) (i n : ℕ) (b : Bool) → nat_lt i n ≡ b → is_some (if b then Some a else None) ≡ true ↔ (i < n)
-fresh_some a i n true e = (λ h. ltb-true i n e, λ h. refl)
-fresh_some a i n false e = (λ h. absurd (cc), λ less. absurd (cc (lt-ltb i n less, e)))
-
-pub fresh_actors : (R n : ℕ) → HasActors (fresh_world R n) n
-fresh_actors R n i = fresh_some _ i n (nat_lt i n) refl
+-- a word that is the label of none of them is that of no control point
+pub no_point : (word : List ℕ) → ((k : ℕ) → k < 34 → label (get_or points k Idle) ≡ word → ⊥) → (pc : Pc) → label pc ≡ word → ⊥
+no_point word none Idle is = none 0 (omega arith) is
+no_point word none E1 is = none 1 (omega arith) is
+no_point word none E2 is = none 2 (omega arith) is
+no_point word none E3 is = none 3 (omega arith) is
+no_point word none E4 is = none 4 (omega arith) is
+no_point word none E5 is = none 5 (omega arith) is
+no_point word none E6 is = none 6 (omega arith) is
+no_point word none E7 is = none 7 (omega arith) is
+no_point word none E8 is = none 8 (omega arith) is
+no_point word none E9 is = none 9 (omega arith) is
+no_point word none E10 is = none 10 (omega arith) is
+no_point word none E11 is = none 11 (omega arith) is
+no_point word none E12 is = none 12 (omega arith) is
+no_point word none E13 is = none 13 (omega arith) is
+no_point word none E14 is = none 14 (omega arith) is
+no_point word none Q1 is = none 15 (omega arith) is
+no_point word none Q2 is = none 16 (omega arith) is
+no_point word none Q3 is = none 17 (omega arith) is
+no_point word none Q4 is = none 18 (omega arith) is
+no_point word none Q5 is = none 19 (omega arith) is
+no_point word none Q6 is = none 20 (omega arith) is
+no_point word none Q7 is = none 21 (omega arith) is
+no_point word none Q8 is = none 22 (omega arith) is
+no_point word none Q9 is = none 23 (omega arith) is
+no_point word none Q10 is = none 24 (omega arith) is
+no_point word none Q11 is = none 25 (omega arith) is
+no_point word none Q12 is = none 26 (omega arith) is
+no_point word none Q13 is = none 27 (omega arith) is
+no_point word none Q14 is = none 28 (omega arith) is
+no_point word none A1 is = none 29 (omega arith) is
+no_point word none A2 is = none 30 (omega arith) is
+no_point word none B1 is = none 31 (omega arith) is
+no_point word none B2 is = none 32 (omega arith) is
+no_point word none B3 is = none 33 (omega arith) is

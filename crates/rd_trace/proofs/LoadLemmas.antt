@@ -1,44 +1,86 @@
--- What loading the text of a trace gives.
-use Rattle.std.proofs.Common.{◌≡◌, ℕ, List, Result, Ok, Err, refl, sym, subst}
-use Rattle.std.specs.Result.{IsErrAnd}
+-- What loading a text gives.
+use Rattle.std.proofs.Common.{◌≡◌, ◌≤◌, ◌⊎◌, inl, inr, ℕ, List, [], length, codes, Some, Result, Err, sym, subst, arith, IsUtf8}
+use Rattle.std.specs.List.{IsDistinct}
+use Rattle.serde_json.specs.Data.{Data}
+use Rattle.serde_json.specs.Read.{read}
+use Rattle.rd_marks.specs.Books.{Mark, BookState}
+use Rattle.rd_marks.specs.NameBytes.{MOST_MARKS}
+use Rattle.rd_marks.specs.Rules.{HaveDifferentNames}
 use Rattle.rd_trace.specs.declared.any_book.AnyBook.{AnyBook}
 use Rattle.rd_trace.specs.declared.faults.LoadTraceFault.{LoadTraceFault}
-use Rattle.rd_trace.specs.declared.faults.LoadTraceFault.TheVariants.{NoMemory, BadTrace, TraceStep}
-use Rattle.rd_step.specs.declared.entries.Event.{Event}
-use Rattle.rd_trace.specs.declared.form.ParsedTrace.{ParsedTrace}
-use Rattle.rd_trace.specs.Traces.{Trace, IsRefusedAt, ring_length}
-use Rattle.rd_trace.specs.Form.{IsTraceText}
-use Rattle.rd_trace.specs.Text.{trace_text}
-use Rattle.rd_trace.specs.Loading.{IsBookOf, LoadsTrace, IsLoadable, LoadsAgain, Replays}
-use Rattle.rd_trace.specs.Values.{parsed_trace, ReadsTrace}
-use Rattle.rd_trace.proofs.FormLemmas.{one_trace}
+use Rattle.rd_trace.specs.declared.faults.LoadTraceFault.TheVariants.{NoMemory, BadTrace, Flawed, TraceMark, TraceStep}
+use Rattle.rd_trace.specs.declared.starts.Start.{Start}
+use Rattle.rd_trace.specs.declared.starts.Start.TheVariants.{Fresh, Parts as OfParts}
+use Rattle.rd_trace.specs.Numbers.{number_at}
+use Rattle.rd_trace.specs.Starts.{IsStart, HasActorCount}
+use Rattle.rd_trace.specs.Saved.{Trace, IsFirstTrace, IsSecondTrace, IsTraceText}
+use Rattle.rd_trace.specs.Traces.{IsTraceRing}
+use Rattle.rd_trace.specs.Loading.{LoadsValue, LoadsTrace, LoadsAgain}
+use Rattle.rd_trace.specs.Writing.{IsTextOf}
+use Rattle.rd_trace.proofs.OneTrace.{loads_again}
 use Rattle.rd_trace.proofs.ReplayLemmas.{none_refused}
 
-pub loads_again : (text : List ℕ) (r : Result AnyBook LoadTraceFault) → LoadsTrace text r → (t : Trace) → text ≡ trace_text t → IsLoadable t → LoadsAgain t r
-loads_again text (Ok book) l t e h = subst (λ u. IsBookOf u book) (one_trace text l.0 t l.1 (subst (λ s. IsTraceText s t) (sym e) h.reads)) l.3
-loads_again text (Err NoMemory) l t e h = refl
-loads_again text (Err BadTrace) l t e h = absurd (l t (subst (λ s. IsTraceText s t) (sym e) h.reads))
-loads_again text (Err (TraceStep n cause)) l t e h =
-    absurd (none_refused t n cause h.through (subst (λ u. IsRefusedAt u n cause) (one_trace text l.0 t l.1 (subst (λ s. IsTraceText s t) (sym e) h.reads)) l.2))
+-- What a session that is spelled keeps
 
--- the same of a fault that is passed up
-pub again_passed_up : (text : List ℕ) (x : LoadTraceFault) (r : Result AnyBook LoadTraceFault) → IsErrAnd r (λ e. e ≡ x) → LoadsTrace text (Err x) → (t : Trace) → text ≡ trace_text t → IsLoadable t → LoadsAgain t r
-again_passed_up text x (Ok book) is l t e h = absurd is
-again_passed_up text x (Err fault) is l t e h = subst (λ f. LoadsAgain t (Err f)) (sym is) (loads_again text (Err x) l t e h)
+abbrev pub IsEither : {R : ℕ} → Data → Trace R → Type 0
+IsEither d t = IsFirstTrace d t ⊎ IsSecondTrace d t
 
-pub loads_none : (text : List ℕ) (fault : LoadTraceFault) → ReadsTrace (IsTraceText text) (Err fault) → LoadsTrace text (Err fault)
-loads_none text NoMemory h = tt
-loads_none text BadTrace h = h
-loads_none text (TraceStep n cause) h = absurd h
+start_counted : {R : ℕ} (d : Data) (start : Start R) → IsStart d start → HasActorCount start
+start_counted d (Fresh count) h = (h.fresh.some, h.fresh.few)
+start_counted d (OfParts p) h = tt
 
-pub loads_replayed : (text : List ℕ) (t : Trace) (r : Result AnyBook LoadTraceFault) → IsTraceText text t → Replays (IsBookOf t) t r → LoadsTrace text r
-loads_replayed text t (Ok book) is h = (t, is, h.0, h.1)
-loads_replayed text t (Err NoMemory) is h = tt
-loads_replayed text t (Err BadTrace) is h = absurd h
-loads_replayed text t (Err (TraceStep n cause)) is h = (t, is, h)
+pub counted : {R : ℕ} (d : Data) (t : Trace R) → IsEither d t → HasActorCount t.start
+counted {R} d t (inl h) = subst (λ (start : Start R). HasActorCount start) (sym h.actors.2) (h.actors.1.some, h.actors.1.few)
+counted d t (inr h) = start_counted h.start.0 t.start h.start.2
 
--- the same of a trace that was read, with its events as they are handed on
-pub loads_parsed : (text : List ℕ) (p : ParsedTrace) (events : List Event) (r : Result AnyBook LoadTraceFault) → events ≡ p.events.items → IsTraceText text (parsed_trace p)
-    → Replays (IsBookOf (record { actors = p.actors; events = events; ring = ring_length p.ring })) (record { actors = p.actors; events = events; ring = ring_length p.ring }) r → LoadsTrace text r
-loads_parsed text p events r same is h =
-    loads_replayed text (parsed_trace p) r is (subst (λ es. Replays (IsBookOf (record { actors = p.actors; events = es; ring = ring_length p.ring })) (record { actors = p.actors; events = es; ring = ring_length p.ring }) r) same h)
+none_differ : HaveDifferentNames []
+unfolding IsDistinct
+none_differ = tt
+
+pub names_differ : {R : ℕ} (d : Data) (t : Trace R) → IsEither d t → HaveDifferentNames t.marks
+names_differ d t (inl h) = subst (λ (ms : List Mark). HaveDifferentNames ms) (sym h.marks) none_differ
+names_differ d t (inr h) = h.marks.2.names
+
+pub few_marks : {R : ℕ} (d : Data) (t : Trace R) → IsEither d t → length t.marks ≤ MOST_MARKS
+few_marks d t (inl h) = subst (λ (ms : List Mark). length ms ≤ MOST_MARKS) (sym h.marks) (omega arith)
+few_marks d t (inr h) = h.marks.2.few
+
+ring_of : {R : ℕ} (d : Data) (t : Trace R) → IsEither d t → number_at (codes "ring") d ≡ Some R
+ring_of d t (inl h) = h.ring
+ring_of d t (inr h) = h.ring
+
+-- The value of a text
+
+-- Texts
+
+-- a text is JSON, and its value is this one
+abbrev pub HasValue : List ℕ → Data → Type 0
+HasValue text d = IsUtf8 text × (read text ≡ Some d)
+
+is_value : {R : ℕ} (text : List ℕ) (d : Data) (t : Trace R) → HasValue text d → IsTraceText text t → IsEither d t
+is_value text d t value is =
+    let same : is.1 ≡ d = cc (is.2, value.1) in
+    subst (λ (e : Data). IsEither e t) same is.3.1
+
+module _ (text : List ℕ) (d : Data) (value : HasValue text d) (Q : ℕ) (ring : number_at (codes "ring") d ≡ Some Q) (is_ring : IsTraceRing Q) where
+  -- no session over this ring is spelled, and so none at all
+  no_session : ((t : Trace Q) → IsEither d t → ⊥) → LoadsTrace text (Err BadTrace)
+  no_session none = λ R t is.
+      let its = is_value text d t value is in
+      let same : Q ≡ R = cc (ring, ring_of d t its) in
+      subst (λ (n : ℕ). (u : Trace n) → IsEither d u → ⊥) same none t its
+
+  is_text : (t : Trace Q) → IsEither d t → IsTraceText text t
+  is_text t is = (value.0, d, value.1, (is_ring, is))
+
+  pub loads_none : (fault : LoadTraceFault) → LoadsValue {R = Q} d (Err fault) → LoadsTrace text (Err fault)
+  loads_none NoMemory h = tt
+  loads_none BadTrace h = no_session h
+  loads_none (Flawed flaw) h = (Q, h.0, is_text h.0 h.1, h.2)
+  loads_none (TraceMark m n cause) h = (Q, h.0, is_text h.0 h.1, h.2)
+  loads_none (TraceStep n cause) h = (Q, h.0, is_text h.0 h.1, h.2)
+
+-- The text of a book
+
+pub gives_again : (text : List ℕ) (r : Result AnyBook LoadTraceFault) → LoadsTrace text r → (R : ℕ) (b : BookState) → IsTraceRing R → IsTextOf R b text → LoadsAgain R b r
+gives_again text r loads R b ring is = loads_again none_refused text r loads R b ring is

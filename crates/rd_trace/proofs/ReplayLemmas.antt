@@ -1,17 +1,70 @@
--- Lemmas on events that happen one by one.
-use Rattle.std.proofs.Common.{◌≡◌, ◌≢◌, ℕ, ◌+◌, ◌<◌, ◌≤◌, Bool, true, false, ◌==◌, if◌then◌else◌, List, [], ◌∷◌, ◌++◌, length, take, drop, get_or, Result, Ok, Err, IsOk, inl, inr, refl, sym, ap, ap₂, ◌∙◌, subst, arith, length-append, eq-eqb, ne_eqb, suc, ◌⊎◌}
-use Rattle.std.proofs.lemmas.List.{take_more, drop_more, take-append-drop}
+-- Steps that are made again: what goes through, and what is refused.
+use Rattle.std.proofs.Common.{◌≡◌, ◌≢◌, ◌⊎◌, inl, inr, ℕ, zero, suc, ◌+◌, ◌-◌, ◌<◌, ◌≤◌, ◌==◌, if◌then◌else◌, Bool, true, false, List, [], ◌∷◌, ◌++◌, length, take, drop, get_or, map, Some, None, Option, is_some, Result, Ok, Err, IsOk, refl, sym, ap, ap₂, ◌∙◌, subst, arith, append_assoc, length-append, ne_eqb, eq-eqb}
+use Rattle.std.specs.List.{AllByRecursion}
+use Rattle.std.specs.Result.{IsErrAnd}
+use Rattle.std.proofs.lemmas.Bool.{cond-false}
+use Rattle.std.proofs.lemmas.Cmp.{nat_list_eq_equiv}
+use Rattle.std.proofs.lemmas.Map.Keys.{IsDistinct-head, IsDistinct-tail}
+use Rattle.std.proofs.Math.Seq.{take-append_seam, drop-append_seam}
+use Rattle.std.proofs.lemmas.List.{append-nil, length-map, map-append, map_more, get_or-map, take_more, drop_more, take_all, drop_all, take-take, take-append-drop, drop-append-le, length-take-le, length-drop}
 use Rattle.rd_cell.specs.declared.refusal.Refusal.TheVariants.{NoMemory as OutOfMemory}
-use Rattle.rd_step.specs.Prelude.{World, Refusal, TooLong, Stepped, step, Ran, run, MOST_STEPS}
-use Rattle.rd_step.specs.Run.{run_preceded_by, run_from_step}
+use Rattle.rd_actor.specs.declared.actors.Act.TheVariants.{Enq as CallsEnq, Deq as CallsDeq, AEnq as CallsArrayEnq, ADeq as CallsArrayDeq, Go as GoesOn, Starve as Starves}
+use Rattle.rd_step.specs.Prelude.{World, Refusal, TooLong, MarkTaken, TooManyMarks, OpReply, Stepped, step, Ran, run, MOST_STEPS}
+use Rattle.rd_step.specs.Run.{events, run_entries, run_preceded_by, run_from_step}
 use Rattle.rd_step.specs.declared.entries.Entry.{Entry}
 use Rattle.rd_step.specs.declared.entries.Event.{Event}
-use Rattle.rd_journal.specs.State.{State, step_after, with_event, apply}
-use Rattle.rd_marks.specs.Books.{BookState}
+use Rattle.rd_journal.specs.State.{State, run_of, step_after, with_event, apply, reply_to, back_one, times, back}
+use Rattle.rd_journal.proofs.Calls.{back_goes}
+use Rattle.rd_marks.specs.declared.commands.Command.{Command}
+use Rattle.rd_marks.specs.declared.commands.Command.TheVariants.{Enq, Deq, ArrayEnq, ArrayDeq, Go, Starve, Undo, UndoAt, Roll, Back, Redo, Forward, Mark as MarkAs, DropMark, GotoMark, Marks, MarkAt, Same, Origin, Writer, Show, Actor, Step, Len}
+use Rattle.rd_marks.specs.declared.names.MarkName.{MarkName}
+use Rattle.rd_marks.specs.declared.replies.Reply.{Reply}
+use Rattle.rd_marks.specs.NameBytes.{MOST_MARKS}
+use Rattle.rd_marks.specs.Names.{bytes_of, same_name}
+use Rattle.rd_marks.specs.Books.{Mark, BookState, with_session, with_marks, marked_events, mark}
+use Rattle.rd_marks.specs.Commands.{event, Answered, event_answer, move_answer, Happened, IsObeyed}
+use Rattle.rd_marks.specs.Events.{event_of}
+use Rattle.rd_marks.specs.Rules.{GoThrough, MarksGoThrough, HaveDifferentNames}
+use Rattle.rd_trace.specs.declared.bookmarks.SavedMark.{SavedMark}
 use Rattle.rd_trace.specs.declared.faults.LoadTraceFault.{LoadTraceFault}
-use Rattle.rd_trace.specs.declared.faults.LoadTraceFault.TheVariants.{NoMemory, TraceStep}
-use Rattle.rd_trace.specs.Traces.{Trace, session_at, loaded_state, GoesThrough, IsRefusedAt}
-use Rattle.rd_trace.specs.Loading.{Replays}
+use Rattle.rd_trace.specs.declared.faults.LoadTraceFault.TheVariants.{NoMemory, BadTrace, Flawed, TraceMark, TraceStep}
+use Rattle.rd_trace.specs.declared.replay.RefusedEvent.{RefusedEvent}
+use Rattle.rd_trace.specs.Bookmarks.{saved_mark}
+use Rattle.rd_trace.specs.Starts.{start_world, start_flaw}
+use Rattle.rd_trace.specs.Saved.{Trace, loaded_state}
+use Rattle.rd_trace.specs.Traces.{session_at, IsRefusedAt, IsMarkRefusedAt}
+use Rattle.rd_trace.specs.Loading.{HasMarks, IsPlayable, Replays}
+use Rattle.rd_trace.specs.Steps.{IsAt, RefusesOne, StepsAll, GoesTo, MakesLive, SetsMarks, IsFaultOfStep, IsFaultOfMark}
+
+-- Books and lists
+
+same_book : (b c : BookState) → b.session.start ≡ c.session.start → b.session.live ≡ c.session.live → b.session.undone ≡ c.session.undone → b.marks ≡ c.marks → b ≡ c
+same_book b c start live undone marks = λ i. record { session = record { start = start i; live = live i; undone = undone i }; marks = marks i }
+
+same_state : (s t : State) → s.start ≡ t.start → s.live ≡ t.live → s.undone ≡ t.undone → s ≡ t
+same_state s t start live undone = λ i. record { start = start i; live = live i; undone = undone i }
+
+-- a book that was opened over a session that was opened in a world
+pub opened : (b : BookState) (s : State) (v w : World) → b.session ≡ s → b.marks ≡ [] → s ≡ record { start = v; live = []; undone = [] } → v ≡ w
+    → b ≡ record { session = record { start = w; live = []; undone = [] }; marks = [] }
+opened b s v w session marks state world =
+    let at : b.session ≡ session_at w [] = session ∙ state ∙ ap (λ (u : World). session_at u []) world in
+    λ i. record { session = at i; marks = marks i }
+
+-- what is so of a fault is so of what passes it up
+pub passed_up : {A E : Type 0} (P : Result A E → Type 0) (r : Result A E) (x : E) → IsErrAnd r (λ e. e ≡ x) → P (Err x) → P r
+passed_up P (Ok a) x is h = absurd is
+passed_up {A} {E} P (Err e) x is h = subst (λ (f : E). P (Err f)) (sym is) h
+
+-- a list, cut before one of its elements and behind it
+cut_at : {X : Type 0} (xs : List X) (i : ℕ) (x : X) → i < length xs → x ≡ get_or xs i x → xs ≡ take i xs ++ x ∷ drop (i + 1) xs
+cut_at {X} xs i x within is =
+    sym (take-append-drop i xs) ∙ ap (λ (ys : List X). take i xs ++ ys) (drop_more xs i x within ∙ ap (λ (y : X). y ∷ drop (i + 1) xs) (sym is))
+
+one_longer : {X : Type 0} (xs : List X) (i : ℕ) (x : X) → i < length xs → x ≡ get_or xs i x → take (i + 1) xs ≡ take i xs ++ x ∷ []
+one_longer {X} xs i x within is = take_more xs i x within ∙ ap (λ (y : X). take i xs ++ y ∷ []) (sym is)
+
+-- Runs that go through
 
 after_preceded : (R : ℕ) (x : Entry) (o : Result Ran Refusal) (e : Event) → IsOk (step_after R (run_preceded_by x o) e) → IsOk (step_after R o e)
 after_preceded R x (Err refusal) e h = h
@@ -20,6 +73,10 @@ after_preceded R x (Ok r) e h = h
 preceded : (x : Entry) (o : Result Ran Refusal) → IsOk o → IsOk (run_preceded_by x o)
 preceded x (Err refusal) h = h
 preceded x (Ok r) h = refl
+
+of_preceded : (x : Entry) (o : Result Ran Refusal) → IsOk (run_preceded_by x o) → IsOk o
+of_preceded x (Err refusal) h = h
+of_preceded x (Ok r) h = refl
 
 one_step : (R : ℕ) (o : Result Stepped Refusal) → IsOk o → IsOk (run_from_step (λ v. run R v []) o)
 one_step R (Err refusal) h = h
@@ -36,7 +93,44 @@ run_last : (R : ℕ) (w : World) (es : List Event) (e : Event) → IsOk (step_af
 run_last R w [] e h = one_step R (step R w e) h
 run_last R w (x ∷ es) e h = run_on R es e (λ v k. run_last R v es e k) (step R w x) h
 
--- what an event that happened tells
+runs_first : (R : ℕ) (xs ys : List Event) → ((v : World) → IsOk (run R v (xs ++ ys)) → IsOk (run R v xs)) → (o : Result Stepped Refusal)
+    → IsOk (run_from_step (λ v. run R v (xs ++ ys)) o) → IsOk (run_from_step (λ v. run R v xs) o)
+runs_first R xs ys from (Err refusal) h = h
+runs_first R xs ys from (Ok s) h = preceded s.entry (run R s.world xs) (from s.world (of_preceded s.entry (run R s.world (xs ++ ys)) h))
+
+-- the first events of a run run
+first_run : (R : ℕ) (w : World) (xs ys : List Event) → IsOk (run R w (xs ++ ys)) → IsOk (run R w xs)
+first_run R w [] ys h = refl
+first_run R w (x ∷ xs) ys h = runs_first R xs ys (λ v k. first_run R v xs ys k) (step R w x) h
+
+-- a run that leaves entries goes through
+went : (ran : Result Ran Refusal) (xs : List Entry) → run_entries ran ≡ Ok xs → IsOk ran
+went (Ok r) xs h = refl
+went (Err refusal) xs h = absurd (cc)
+
+none_go : (R : ℕ) (w : World) → GoThrough R w []
+none_go R w = record { few = omega arith; runs = refl }
+
+first_go : (R : ℕ) (w : World) (k : ℕ) (es : List Event) → GoThrough R w es → GoThrough R w (take k es)
+first_go R w k es h =
+    let all : take k es ++ drop k es ≡ es = take-append-drop k es in
+    record {
+      few = omega (arith, h.few, ap length all, length-append (take k es) (drop k es));
+      runs = first_run R w (take k es) (drop k es) (subst (λ (fs : List Event). IsOk (run R w fs)) (sym all) h.runs);
+    }
+
+-- One event
+
+-- what an event does does not depend on what is undone
+with_event_at : (s : State) (e : Event) (o : Result Stepped Refusal) → with_event s e o ≡ with_event (session_at s.start s.live) e o
+with_event_at s e (Err refusal) = refl
+with_event_at s e (Ok stepped) = refl
+
+apply_at : (R : ℕ) (s : State) (e : Event) → apply R s e ≡ apply R (session_at s.start s.live) e
+apply_at R s e =
+    ap (λ (o : Result State Refusal). if length s.live == MOST_STEPS then Err TooLong else o) (with_event_at s e (step_after R (run_of R s) e))
+
+-- what an event that happened leaves, and what it shows of its step
 applied_parts : (s after : State) (e : Event) (full : Bool) (o : Result Stepped Refusal) → (if full then Err TooLong else with_event s e o) ≡ Ok after
     → (full ≡ false) × IsOk o × (after ≡ record { start = s.start; live = s.live ++ e ∷ []; undone = [] })
 applied_parts s after e true o h = absurd (cc)
@@ -46,57 +140,439 @@ applied_parts s after e false (Ok stepped) h = (refl, refl, cc)
 not_full : (n : ℕ) → n ≤ MOST_STEPS → (n == MOST_STEPS) ≡ false → n + 1 ≤ MOST_STEPS
 not_full n few other = let apart : n ≢ MOST_STEPS = λ e. cc (eq-eqb n MOST_STEPS e, other) in omega (arith, few, apart)
 
--- the session stands behind the first events of a trace, and they went through
-pub record IsAt (t : Trace) (i : ℕ) (s : State) : Type 0 where
-  pub state : s ≡ session_at t (take i t.events)
-  pub through : GoesThrough t (take i t.events)
+-- whether it was memory that was refused
+is_memory : (refusal : Refusal) → (refusal ≡ OutOfMemory) ⊎ (refusal ≢ OutOfMemory)
+is_memory OutOfMemory = inl refl
+is_memory refusal = inr (λ e. cc)
 
-pub at_start : (t : Trace) (s : State) → s ≡ session_at t [] → IsAt t 0 s
-at_start t s e = record { state = e; through = record { few = omega arith; runs = refl } }
+-- what is undone behind steps: nothing, if there was one
+abbrev pub undone_behind : List Event → List Event → List Event
+undone_behind undone [] = undone
+undone_behind undone (e ∷ es) = []
 
-module _ (t : Trace) (i : ℕ) (s : State) (at : IsAt t i s) (e : Event) (within : i < length t.events) (is : e ≡ get_or t.events i e) where
-  longer : take (i + 1) t.events ≡ take i t.events ++ e ∷ []
-  longer = take_more t.events i e within ∙ ap (λ x. take i t.events ++ x ∷ []) (sym is)
+none_behind : (undone xs : List Event) (e : Event) → undone_behind undone (xs ++ e ∷ []) ≡ []
+none_behind undone [] e = refl
+none_behind undone (x ∷ xs) e = refl
 
-  pub at_next : (after : State) → apply t.ring s e ≡ Ok after → IsAt t (i + 1) after
-  at_next after h =
-      let before = session_at t (take i t.events) in
-      let p = applied_parts before after e _ _ (subst (λ x. apply t.ring x e ≡ Ok after) at.state h) in
-      record {
-        state = p.2 ∙ ap (session_at t) (sym longer);
-        through = subst (GoesThrough t) (sym longer) (record {
-          few = omega (arith, length-append (take i t.events) (e ∷ []), not_full (length (take i t.events)) at.through.few p.0);
-          runs = run_last t.ring before.start (take i t.events) e p.1;
-        });
-      }
+-- these events were put behind the live ones so far
+pub record HasStepped (R : ℕ) (old now : BookState) (done : List Event) : Type 0 where
+  pub start : now.session.start ≡ old.session.start
+  pub live : now.session.live ≡ old.session.live ++ done
+  pub undone : now.session.undone ≡ undone_behind old.session.undone done
+  pub marks : now.marks ≡ old.marks
+  pub through : GoThrough R old.session.start (old.session.live ++ done)
 
-  pub refused_here : (cause : Refusal) → apply t.ring s e ≡ Err cause → IsRefusedAt t (length s.live + 1) cause
-  refused_here cause h = record {
-    before = take i t.events;
+pub none_stepped : (R : ℕ) (b : BookState) → GoThrough R b.session.start b.session.live → HasStepped R b b []
+none_stepped R b h = record {
+  start = refl;
+  live = sym (append-nil b.session.live);
+  undone = refl;
+  marks = refl;
+  through = subst (λ (es : List Event). GoThrough R b.session.start es) (sym (append-nil b.session.live)) h;
+}
+
+module _ (R : ℕ) (old now : BookState) (es : List Event) (i : ℕ) (e : Event) (within : i < length es) (is : e ≡ get_or es i e) (so_far : HasStepped R old now (take i es)) where
+  at_now : apply R now.session e ≡ apply R (session_at old.session.start (old.session.live ++ take i es)) e
+  at_now = apply_at R now.session e ∙ ap₂ (λ (w : World) (live : List Event). apply R (session_at w live) e) so_far.start so_far.live
+
+  pub one_stepped : (after : BookState) → apply R now.session e ≡ Ok after.session → after.marks ≡ now.marks → HasStepped R old after (take (i + 1) es)
+  one_stepped after h marks =
+      let w = old.session.start in
+      let live = old.session.live ++ take i es in
+      let p = applied_parts (session_at w live) after.session e _ _ (sym at_now ∙ h) in
+      let all : live ++ e ∷ [] ≡ old.session.live ++ (take i es ++ e ∷ []) = append_assoc old.session.live (take i es) (e ∷ []) in
+      subst (λ (done : List Event). HasStepped R old after done) (sym (one_longer es i e within is))
+      (record {
+        start = ap (λ (s : State). s.start) p.2;
+        live = ap (λ (s : State). s.live) p.2 ∙ all;
+        undone = ap (λ (s : State). s.undone) p.2 ∙ sym (none_behind old.session.undone (take i es) e);
+        marks = marks ∙ so_far.marks;
+        through =
+            subst (λ (fs : List Event). GoThrough R w fs) all
+            (record { few = omega (arith, length-append live (e ∷ []), not_full (length live) so_far.through.few p.0); runs = run_last R w live e p.1 });
+      })
+
+  refused_at : (n : ℕ) (cause : Refusal) → n ≡ length now.session.live + 1 → apply R now.session e ≡ Err cause
+      → IsRefusedAt R old.session.start (old.session.live ++ es) n cause
+  refused_at n cause number h = record {
+    before = old.session.live ++ take i es;
     event = e;
-    later = drop (i + 1) t.events;
-    all = sym (take-append-drop i t.events) ∙ ap (λ xs. take i t.events ++ xs) (drop_more t.events i e within ∙ ap (λ x. x ∷ drop (i + 1) t.events) (sym is));
-    number = ap (λ (x : State). length x.live + 1) at.state;
-    through = at.through;
-    refused = subst (λ x. apply t.ring x e ≡ Err cause) at.state h;
+    later = drop (i + 1) es;
+    all =
+        ap (λ (fs : List Event). old.session.live ++ fs) (cut_at es i e within is)
+        ∙ sym (append_assoc old.session.live (take i es) (e ∷ drop (i + 1) es));
+    number = number ∙ ap (λ (fs : List Event). length fs + 1) so_far.live;
+    through = so_far.through;
+    refused = sym at_now ∙ h;
   }
 
--- the fault of a refused event
-pub refused_with : {B : Type 0} (IsBook : B → Type 0) (t : Trace) (n : ℕ) (cause : Refusal) (fault : LoadTraceFault) → (((cause ≡ OutOfMemory) × (fault ≡ NoMemory)) ⊎ ((cause ≢ OutOfMemory) × (fault ≡ TraceStep n cause)))
-    → ((IsRefusedAt t n cause) ⊎ (cause ≡ OutOfMemory)) → Replays {B = B} IsBook t (Err fault)
-refused_with IsBook t n cause fault (inl (memory, e)) why = subst (λ f. Replays IsBook t (Err f)) (sym e) tt
-refused_with IsBook t n cause fault (inr (other, e)) (inl refused) = subst (λ f. Replays IsBook t (Err f)) (sym e) refused
-refused_with IsBook t n cause fault (inr (other, e)) (inr memory) = absurd (other memory)
+  pub one_refused : (n : ℕ) (cause : Refusal) → n ≡ length now.session.live + 1 → (apply R now.session e ≡ Err cause) ⊎ (cause ≡ OutOfMemory)
+      → RefusesOne R old.session.start (old.session.live ++ es) (record { step = n; cause = cause })
+  one_refused n cause number (inr memory) = inl memory
+  one_refused n cause number (inl h) = elim (is_memory cause) [
+    | inl memory ↦ inl memory
+    | inr other ↦ inr (other, refused_at n cause number h)
+  ]
 
--- a book over such a session, with no bookmark
-pub loaded_as : (t : Trace) (b : BookState) → b.session ≡ session_at t t.events → b.marks ≡ [] → b ≡ loaded_state t
-loaded_as t b session marks = ap₂ (λ s ms. record { session = s; marks = ms }) session marks
+-- one of some events was refused
+pub some_refused : (R : ℕ) (old new : BookState) (es : List Event) (refused : RefusedEvent) → 1 ≤ length es
+    → RefusesOne R old.session.start (old.session.live ++ es) refused → StepsAll R old es new (Err refused)
+some_refused R old new [] refused some h = absurd (omega arith)
+some_refused R old new (e ∷ es) refused some h = h
 
--- ---- events that go through are not refused
+-- all of them happened
+pub all_stepped : (R : ℕ) (old new : BookState) (es : List Event) → HasStepped R old new es → StepsAll R old es new (Ok tt)
+all_stepped R old new [] h = (refl, same_book new old h.start (h.live ∙ append-nil old.session.live) h.undone h.marks)
+all_stepped R old new (e ∷ es) h =
+    (same_book new (with_session old (session_at old.session.start (old.session.live ++ e ∷ es))) h.start h.live h.undone h.marks, h.through)
 
-of_preceded : (x : Entry) (o : Result Ran Refusal) → IsOk (run_preceded_by x o) → IsOk o
-of_preceded x (Err refusal) h = h
-of_preceded x (Ok r) h = refl
+pub all_of : (R : ℕ) (old new : BookState) (es : List Event) (i : ℕ) → length es ≤ i → HasStepped R old new (take i es) → StepsAll R old es new (Ok tt)
+all_of R old new es i all h = all_stepped R old new es (subst (λ (done : List Event). HasStepped R old new done) (take_all i es all) h)
+
+-- Commands
+
+-- what a command that is an event is answered
+pub event_happened : (R : ℕ) (b : BookState) (command : Command) (e : Event) (a : Answered) → event_of command ≡ Some e → IsObeyed R b command a → Happened R b e a
+event_happened R b (Enq actor value) e a h obeyed = let same : event actor (CallsEnq value) ≡ e = cc in subst (λ (f : Event). Happened R b f a) same obeyed
+event_happened R b (Deq actor) e a h obeyed = let same : event actor CallsDeq ≡ e = cc in subst (λ (f : Event). Happened R b f a) same obeyed
+event_happened R b (ArrayEnq actor value) e a h obeyed = let same : event actor (CallsArrayEnq value) ≡ e = cc in subst (λ (f : Event). Happened R b f a) same obeyed
+event_happened R b (ArrayDeq actor) e a h obeyed = let same : event actor CallsArrayDeq ≡ e = cc in subst (λ (f : Event). Happened R b f a) same obeyed
+event_happened R b (Go actor) e a h obeyed = let same : event actor GoesOn ≡ e = cc in subst (λ (f : Event). Happened R b f a) same obeyed
+event_happened R b (Starve actor choice) e a h obeyed = let same : event actor (Starves choice) ≡ e = cc in subst (λ (f : Event). Happened R b f a) same obeyed
+event_happened R b Undo e a h obeyed = absurd (cc)
+event_happened R b (UndoAt k) e a h obeyed = absurd (cc)
+event_happened R b (Roll k) e a h obeyed = absurd (cc)
+event_happened R b (Back n) e a h obeyed = absurd (cc)
+event_happened R b Redo e a h obeyed = absurd (cc)
+event_happened R b (Forward n) e a h obeyed = absurd (cc)
+event_happened R b (MarkAs name) e a h obeyed = absurd (cc)
+event_happened R b (DropMark name) e a h obeyed = absurd (cc)
+event_happened R b (GotoMark name) e a h obeyed = absurd (cc)
+event_happened R b Marks e a h obeyed = absurd (cc)
+event_happened R b (MarkAt i) e a h obeyed = absurd (cc)
+event_happened R b (Same one other) e a h obeyed = absurd (cc)
+event_happened R b (Origin k) e a h obeyed = absurd (cc)
+event_happened R b (Writer place) e a h obeyed = absurd (cc)
+event_happened R b (Show place) e a h obeyed = absurd (cc)
+event_happened R b (Actor actor) e a h obeyed = absurd (cc)
+event_happened R b (Step number) e a h obeyed = absurd (cc)
+event_happened R b Len e a h obeyed = absurd (cc)
+
+event_made : (b after : BookState) (reply : Reply) (told : Option OpReply) (o : Result State Refusal) → record { answer = Ok reply; state = after } ≡ event_answer b told o
+    → (o ≡ Ok after.session) × (after.marks ≡ b.marks)
+event_made b after reply told (Ok s) h =
+    let same : after ≡ with_session b s = ap (λ (a : Answered). a.state) h in
+    (ap (λ (c : BookState). Ok c.session) (sym same), ap (λ (c : BookState). c.marks) same)
+event_made b after reply told (Err refusal) h = absurd (cc (ap (λ (a : Answered). a.answer) h))
+
+event_not_made : (b after : BookState) (cause : Refusal) (told : Option OpReply) (o : Result State Refusal) → record { answer = Err cause; state = after } ≡ event_answer b told o
+    → o ≡ Err cause
+event_not_made b after cause told (Ok s) h = absurd (cc (ap (λ (a : Answered). a.answer) h))
+event_not_made b after cause told (Err refusal) h = cc (ap (λ (a : Answered). a.answer) h)
+
+-- what an event leaves that happened, and why one was refused
+pub happened : (R : ℕ) (b after : BookState) (e : Event) (reply : Reply) → Happened R b e (record { answer = Ok reply; state = after })
+    → (apply R b.session e ≡ Ok after.session) × (after.marks ≡ b.marks)
+happened R b after e reply (inl h) = event_made b after reply (reply_to R b.session e) (apply R b.session e) h
+happened R b after e reply (inr h) = absurd (cc (ap (λ (a : Answered). a.answer) h.1))
+
+pub not_happened : (R : ℕ) (b after : BookState) (e : Event) (cause : Refusal) → Happened R b e (record { answer = Err cause; state = after })
+    → (apply R b.session e ≡ Err cause) ⊎ (cause ≡ OutOfMemory)
+not_happened R b after e cause (inl h) = inl (event_not_made b after cause (reply_to R b.session e) (apply R b.session e) h)
+not_happened R b after e cause (inr h) = inr (cc (ap (λ (a : Answered). a.answer) h.1))
+
+-- Going back
+
+move_made : (b after : BookState) (reply : Reply) (o : Result State Refusal) → record { answer = Ok reply; state = after } ≡ move_answer b o
+    → (o ≡ Ok after.session) × (after.marks ≡ b.marks)
+move_made b after reply (Ok s) h =
+    let same : after ≡ with_session b s = ap (λ (a : Answered). a.state) h in
+    (ap (λ (c : BookState). Ok c.session) (sym same), ap (λ (c : BookState). c.marks) same)
+move_made b after reply (Err refusal) h = absurd (cc (ap (λ (a : Answered). a.answer) h))
+
+pub went_back : (b after : BookState) (n : ℕ) (reply : Reply) → record { answer = Ok reply; state = after } ≡ move_answer b (back b.session n)
+    → (back b.session n ≡ Ok after.session) × (after.marks ≡ b.marks)
+went_back b after n reply h = move_made b after reply (back b.session n) h
+
+goes_back : (s : State) (n : ℕ) → n ≤ length s.live → back s n ≡ Ok (times n back_one s)
+goes_back s n within = back_goes s (times n back_one s) n within refl
+
+-- not more steps than are live can be undone
+pub can_go_back : (b after : BookState) (n : ℕ) (cause : Refusal) → n ≤ length b.session.live → record { answer = Err cause; state = after } ≡ move_answer b (back b.session n) → ⊥
+can_go_back b after n cause within h =
+    cc (ap (λ (a : Answered). a.answer) h, ap (λ (o : Result State Refusal). (move_answer b o).answer) (goes_back b.session n within))
+
+-- so many times back, k events are still live
+back_parts : (n k : ℕ) (s : State) → n + k ≡ length s.live → times n back_one s ≡ record { start = s.start; live = take k s.live; undone = drop k s.live ++ s.undone }
+back_parts zero k s h =
+    same_state s (record { start = s.start; live = take k s.live; undone = drop k s.live ++ s.undone }) refl (sym (take_all k s.live (omega arith)))
+    (ap (λ (es : List Event). es ++ s.undone) (sym (drop_all k s.live (omega arith))))
+back_parts (suc n) k s h =
+    let xs = s.live in
+    let front = take (suc k) xs in
+    let rest = drop (suc k) xs in
+    let before : State = record { start = s.start; live = front; undone = rest ++ s.undone } in
+    let longer : length front ≡ suc k = length-take-le (suc k) xs (omega arith) in
+    let shorter : length front - 1 ≡ k = omega arith in
+    let left : take (length front - 1) front ≡ take k xs = ap (λ (m : ℕ). take m front) shorter ∙ take-take k (suc k) xs (omega arith) in
+    let whole : drop k front ++ rest ≡ drop k xs = sym (drop-append-le k front rest (omega arith)) ∙ ap (λ (es : List Event). drop k es) (take-append-drop (suc k) xs) in
+    ap back_one (back_parts n (suc k) s (omega arith))
+    ∙ same_state (back_one before) (record { start = s.start; live = take k xs; undone = drop k xs ++ s.undone }) refl left
+    (ap (λ (m : ℕ). drop m front ++ (rest ++ s.undone)) shorter ∙ sym (append_assoc (drop k front) rest s.undone)
+    ∙ ap (λ (es : List Event). es ++ s.undone) whole)
+
+back_left : (n k : ℕ) (s t : State) → n + k ≡ length s.live → back s n ≡ Ok t → t ≡ record { start = s.start; live = take k s.live; undone = drop k s.live ++ s.undone }
+back_left n k s t h goes =
+    let same : t ≡ times n back_one s = cc (goes, goes_back s n (omega arith)) in
+    same ∙ back_parts n k s h
+
+-- what is left goes through
+pub still_go : (R n k : ℕ) (s t : State) → n + k ≡ length s.live → back s n ≡ Ok t → GoThrough R s.start s.live → GoThrough R t.start t.live
+still_go R n k s t h goes through =
+    subst (λ (u : State). GoThrough R u.start u.live) (sym (back_left n k s t h goes)) (first_go R s.start k s.live through)
+
+-- Which live events a list begins with
+
+-- one more event that is the same in both
+pub one_shared : (xs : List Entry) (es fs : List Event) (k : ℕ) (x : Entry) (f : Event) → events xs ≡ es → k < length xs → k < length fs → x ≡ get_or xs k x
+    → x.event ≡ get_or fs k f → take k es ≡ take k fs → take (k + 1) es ≡ take (k + 1) fs
+one_shared xs es fs k x f all within below is same shared =
+    let long : k < length es = omega (arith, ap length all, length-map xs (λ (y : Entry). y.event)) in
+    let its : x.event ≡ get_or es k x.event =
+    ap (λ (y : Entry). y.event) is ∙ sym (get_or-map (λ (y : Entry). y.event) xs k x x.event within) ∙ ap (λ (gs : List Event). get_or gs k x.event) all in
+    one_longer es k x.event long its ∙ ap₂ (λ (gs : List Event) (g : Event). gs ++ g ∷ []) shared same ∙ sym (take_more fs k f below)
+
+pub shared_less : (j k : ℕ) (es fs : List Event) → k ≤ j → take j es ≡ take j fs → take k es ≡ take k fs
+shared_less j k es fs h same = sym (take-take k j es h) ∙ ap (λ (gs : List Event). take k gs) same ∙ take-take k j fs h
+
+-- Making just these events live
+
+-- behind some live events all others of a list are made
+goes_on : (R : ℕ) (old mid new : BookState) (es rest : List Event) (r : Result (Unit {0}) RefusedEvent) → mid.session.start ≡ old.session.start → mid.marks ≡ old.marks
+    → mid.session.live ++ rest ≡ es → 1 ≤ length rest → StepsAll R mid rest new r → GoesTo R old es new r
+goes_on R old mid new es [] r start marks all some h = absurd (omega arith)
+goes_on R old mid new es (f ∷ fs) (Ok u) start marks all some h = (
+  h.0 ∙ same_book (with_session mid (session_at mid.session.start (mid.session.live ++ f ∷ fs))) (with_session old (session_at old.session.start es)) start all refl marks,
+  subst (λ (w : World). GoThrough R w es) start (subst (λ (gs : List Event). GoThrough R mid.session.start gs) all h.1),
+)
+goes_on R old mid new es (f ∷ fs) (Err refused) start marks all some h =
+    subst (λ (w : World). RefusesOne R w es refused) start (subst (λ (gs : List Event). RefusesOne R mid.session.start gs refused) all h)
+
+pub goes_to : (R : ℕ) (old mid new : BookState) (es rest : List Event) (n k j : ℕ) (r : Result (Unit {0}) RefusedEvent) → n + k ≡ length old.session.live → k < length es → k ≤ j
+    → take j old.session.live ≡ take j es → back old.session n ≡ Ok mid.session → mid.marks ≡ old.marks → rest ≡ drop k es → StepsAll R mid rest new r → GoesTo R old es new r
+goes_to R old mid new es rest n k j r enough within below shared back marks behind h =
+    let left = back_left n k old.session mid.session enough back in
+    let all : mid.session.live ++ rest ≡ es =
+    ap₂ (λ (fs gs : List Event). fs ++ gs) (ap (λ (s : State). s.live) left ∙ shared_less j k old.session.live es below shared) behind ∙ take-append-drop k es in
+    goes_on R old mid new es rest r (ap (λ (s : State). s.start) left) marks all (omega (arith, ap length all, length-append mid.session.live rest, ap (λ (s : State). length s.live) left, length-take-le k old.session.live (omega arith))) h
+
+-- whether a list is empty, by its length
+pub none_in : (es : List Event) → true ≡ (length es == 0) → es ≡ []
+none_in [] h = refl
+none_in (e ∷ es) h = absurd (cc (h, ne_eqb (suc (length es)) 0 (omega arith)))
+
+pub some_in : (es : List Event) → false ≡ (length es == 0) → 1 ≤ length es
+some_in [] h = absurd (cc h)
+some_in (e ∷ es) h = omega arith
+
+-- all that is behind the first events
+pub rest_of : (k : ℕ) (es : List Event) → take (length es - k) (drop k es) ≡ drop k es
+rest_of k es = take_all (length es - k) (drop k es) (omega (arith, length-drop k es))
+
+-- no event is made live
+pub to_none : (R : ℕ) (old new : BookState) (es : List Event) → es ≡ [] → new ≡ with_session old (session_at old.session.start []) → GoesTo R old es new (Ok tt)
+to_none R old new es none h =
+    subst (λ (fs : List Event). GoesTo R old fs new (Ok tt)) (sym none) (h, none_go R old.session.start)
+
+-- And undone ones behind them
+
+refused_before : (R : ℕ) (w : World) (es fs : List Event) (n : ℕ) (cause : Refusal) → IsRefusedAt R w es n cause → IsRefusedAt R w (es ++ fs) n cause
+refused_before R w es fs n cause h = record {
+  before = h.before;
+  event = h.event;
+  later = h.later ++ fs;
+  all = ap (λ (gs : List Event). gs ++ fs) h.all ∙ append_assoc h.before (h.event ∷ h.later) fs;
+  number = h.number;
+  through = h.through;
+  refused = h.refused;
+}
+
+pub live_refused : (R : ℕ) (w : World) (es fs : List Event) (refused : RefusedEvent) → RefusesOne R w es refused → RefusesOne R w (es ++ fs) refused
+live_refused R w es fs refused (inl memory) = inl memory
+live_refused R w es fs refused (inr h) = inr (h.0, refused_before R w es fs refused.step refused.cause h.1)
+
+pub undone_refused : (R : ℕ) (old mid new : BookState) (es fs : List Event) (refused : RefusedEvent) → IsAt old es mid → StepsAll R mid fs new (Err refused)
+    → RefusesOne R old.session.start (es ++ fs) refused
+undone_refused R old mid new es [] refused at h = absurd (cc (h.0))
+undone_refused R old mid new es (f ∷ fs) refused at h =
+    subst (λ (b : BookState). RefusesOne R b.session.start (b.session.live ++ f ∷ fs) refused) at h
+
+all_behind : (R : ℕ) (old mid now : BookState) (es fs : List Event) → IsAt old es mid → GoThrough R old.session.start es → StepsAll R mid fs now (Ok tt)
+    → IsAt old (es ++ fs) now × GoThrough R old.session.start (es ++ fs)
+all_behind R old mid now es [] at through h = (
+  h.1 ∙ at ∙ ap (λ (gs : List Event). with_session old (session_at old.session.start gs)) (sym (append-nil es)),
+  subst (λ (gs : List Event). GoThrough R old.session.start gs) (sym (append-nil es)) through,
+)
+all_behind R old mid now es (f ∷ fs) at through h = (
+  h.0 ∙ ap (λ (b : BookState). with_session b (session_at b.session.start (b.session.live ++ f ∷ fs))) at,
+  subst (λ (b : BookState). GoThrough R b.session.start (b.session.live ++ f ∷ fs)) at h.1,
+)
+
+back_to : (w : World) (es fs : List Event) (t : State) → back (session_at w (es ++ fs)) (length fs) ≡ Ok t → t ≡ record { start = w; live = es; undone = fs }
+back_to w es fs t goes =
+    back_left (length fs) (length es) (session_at w (es ++ fs)) t (omega (arith, length-append es fs)) goes
+    ∙ same_state (record { start = w; live = take (length es) (es ++ fs); undone = drop (length es) (es ++ fs) ++ [] }) (record { start = w; live = es; undone = fs }) refl
+    (take-append_seam es fs) (append-nil (drop (length es) (es ++ fs)) ∙ drop-append_seam es fs)
+
+-- so many events are live that those behind can be undone
+pub enough_live : (R : ℕ) (old mid now : BookState) (es fs : List Event) → IsAt old es mid → GoThrough R old.session.start es → StepsAll R mid fs now (Ok tt)
+    → length fs ≤ length now.session.live
+enough_live R old mid now es fs at through h =
+    let there = all_behind R old mid now es fs at through h in
+    omega (arith, ap (λ (b : BookState). length b.session.live) there.0, length-append es fs)
+
+pub made_live : (R : ℕ) (old mid now new : BookState) (es fs : List Event) → IsAt old es mid → GoThrough R old.session.start es → StepsAll R mid fs now (Ok tt)
+    → back now.session (length fs) ≡ Ok new.session → new.marks ≡ now.marks → MakesLive R old es fs new (Ok tt)
+made_live R old mid now new es fs at through h goes marks =
+    let there = all_behind R old mid now es fs at through h in
+    let left : new.session ≡ record { start = old.session.start; live = es; undone = fs } =
+    back_to old.session.start es fs new.session (ap (λ (b : BookState). back b.session (length fs)) (sym there.0) ∙ goes) in
+    let kept : new.marks ≡ old.marks = marks ∙ ap (λ (b : BookState). b.marks) there.0 in
+    ((λ i. record { session = left i; marks = kept i }), there.1)
+
+-- Bookmarks
+
+-- these bookmarks were set so far
+pub record HasSet (R : ℕ) (old now : BookState) (done : List Mark) : Type 0 where
+  pub marks : now.marks ≡ done
+  pub start : now.session.start ≡ old.session.start
+  pub through : MarksGoThrough R old.session.start done
+
+pub none_set : (R : ℕ) (b : BookState) → b.marks ≡ [] → HasSet R b b []
+none_set R b h = record { marks = h; start = refl; through = tt }
+
+one_more_goes : (R : ℕ) (w : World) (ms : List Mark) (m : Mark) → MarksGoThrough R w ms → GoThrough R w m.events → MarksGoThrough R w (ms ++ m ∷ [])
+one_more_goes R w [] m h k = (k, tt)
+one_more_goes R w (x ∷ ms) m h k = (h.0, one_more_goes R w ms m h.1 k)
+
+mark_set : (after x : BookState) (taken full : Bool) → (if taken then Err MarkTaken else if full then Err TooManyMarks else Ok x) ≡ Ok after → after ≡ x
+mark_set after x true full h = absurd (cc)
+mark_set after x false true h = absurd (cc)
+mark_set after x false false h = cc
+
+mark_not_refused : (taken full : Bool) (x : BookState) (refusal : Refusal) → taken ≡ false → full ≡ false
+    → (if taken then Err MarkTaken else if full then Err TooManyMarks else Ok x) ≡ Err refusal → ⊥
+mark_not_refused true full x refusal free few h = cc
+mark_not_refused false true x refusal free few h = cc
+mark_not_refused false false x refusal free few h = cc
+
+differs : (x : Mark) (before : List Mark) (m : Mark) (later : List Mark) → AllByRecursion (λ y. same_name x.name y ≡ false) (map (λ y. y.name) (before ++ m ∷ later))
+    → same_name x.name m.name ≡ false
+differs x [] m later h = h.0
+differs x (y ∷ before) m later h = differs x before m later h.1
+
+-- where names differ, none of the bookmarks before one has its name
+none_taken : (before : List Mark) (m : Mark) (later : List Mark) → HaveDifferentNames (before ++ m ∷ later) → marked_events before m.name ≡ None
+none_taken [] m later h = refl
+none_taken (x ∷ before) m later h =
+    let names : List MarkName = map (λ (y : Mark). y.name) (before ++ m ∷ later) in
+    let apart : same_name m.name x.name ≡ false =
+    nat_list_eq_equiv.symm (bytes_of m.name) (bytes_of x.name) ∙ differs x before m later (IsDistinct-head same_name x.name names h) in
+    cond-false (same_name m.name x.name) (Some x.events) (marked_events before m.name) apart
+    ∙ none_taken before m later (IsDistinct-tail same_name x.name names h)
+
+module _ (R : ℕ) (old now : BookState) (ms : List SavedMark) (i : ℕ) (m : SavedMark) (within : i < length ms) (is : m ≡ get_or ms i m) (so_far : HasSet R old now (map saved_mark (take i ms))) where
+  pub one_set : (mid after : BookState) → GoesTo R now m.events.items mid (Ok tt) → mark mid m.name ≡ Ok after → HasSet R old after (map saved_mark (take (i + 1) ms))
+  one_set mid after goes made =
+      let set : after ≡ with_marks mid (mid.marks ++ record { name = m.name; events = mid.session.live } ∷ []) = mark_set after _ _ _ made in
+      let there : after ≡ record { session = session_at now.session.start m.events.items; marks = now.marks ++ saved_mark m ∷ [] } =
+      set ∙ ap (λ (b : BookState). with_marks b (b.marks ++ record { name = m.name; events = b.session.live } ∷ [])) goes.0 in
+      let longer : map saved_mark (take i ms) ++ saved_mark m ∷ [] ≡ map saved_mark (take (i + 1) ms) =
+      sym (map_more saved_mark ms i m within ∙ ap (λ (x : SavedMark). map saved_mark (take i ms) ++ saved_mark x ∷ []) (sym is)) in
+      subst (λ (done : List Mark). HasSet R old after done) longer
+      (record {
+        marks = ap (λ (b : BookState). b.marks) there ∙ ap (λ (done : List Mark). done ++ saved_mark m ∷ []) so_far.marks;
+        start = ap (λ (b : BookState). b.session.start) there ∙ so_far.start;
+        through =
+            one_more_goes R old.session.start (map saved_mark (take i ms)) (saved_mark m) so_far.through
+            (subst (λ (w : World). GoThrough R w m.events.items) so_far.start goes.1);
+      })
+
+  placed : map saved_mark ms ≡ map saved_mark (take i ms) ++ saved_mark m ∷ map saved_mark (drop (i + 1) ms)
+  placed = ap (map saved_mark) (cut_at ms i m within is) ∙ map-append saved_mark (take i ms) (m ∷ drop (i + 1) ms)
+
+  -- there is room for this one, and none has its name
+  pub can_mark : (mid : BookState) (refusal : Refusal) → GoesTo R now m.events.items mid (Ok tt) → HaveDifferentNames (map saved_mark ms) → length ms ≤ MOST_MARKS
+      → (refusal ≡ OutOfMemory → ⊥) → (mark mid m.name ≡ Err refusal) ⊎ ((refusal ≡ OutOfMemory) × IsOk (mark mid m.name)) → ⊥
+  can_mark mid refusal goes names few other (inl h) =
+      let set : mid.marks ≡ map saved_mark (take i ms) = ap (λ (b : BookState). b.marks) goes.0 ∙ so_far.marks in
+      let free : is_some (marked_events mid.marks m.name) ≡ false =
+      ap (λ (done : List Mark). is_some (marked_events done m.name)) set
+      ∙ ap is_some (none_taken (map saved_mark (take i ms)) (saved_mark m) (map saved_mark (drop (i + 1) ms)) (subst (λ (xs : List Mark). HaveDifferentNames xs) placed names)) in
+      let few_so_far : length mid.marks ≡ i = omega (arith, ap length set, length-map (take i ms) saved_mark, length-take-le i ms (omega arith)) in
+      mark_not_refused _ _ _ refusal free (ne_eqb (length mid.marks) MOST_MARKS (omega arith)) h
+  can_mark mid refusal goes names few other (inr h) = other h.0
+
+  -- an event of this one was refused
+  mark_refused_at : (n : ℕ) (cause : Refusal) → IsRefusedAt R now.session.start m.events.items n cause → IsMarkRefusedAt R old.session.start (map saved_mark ms) (i + 1) n cause
+  mark_refused_at n cause h = record {
+    before = map saved_mark (take i ms);
+    mark = saved_mark m;
+    later = map saved_mark (drop (i + 1) ms);
+    all = placed;
+    number = omega (arith, length-map (take i ms) saved_mark, length-take-le i ms (omega arith));
+    through = so_far.through;
+    refused = subst (λ (w : World). IsRefusedAt R w m.events.items n cause) so_far.start h;
+  }
+
+  pub mark_refused : (new : BookState) (refused : RefusedEvent) (fault : LoadTraceFault) → RefusesOne R now.session.start m.events.items refused → IsFaultOfMark refused (i + 1) fault
+      → SetsMarks R old (map saved_mark ms) new (Err fault)
+  mark_refused new refused fault why (inl said) = subst (λ (f : LoadTraceFault). SetsMarks R old (map saved_mark ms) new (Err f)) (sym said.1) tt
+  mark_refused new refused fault (inl memory) (inr said) = absurd (said.0 memory)
+  mark_refused new refused fault (inr why) (inr said) =
+      subst (λ (f : LoadTraceFault). SetsMarks R old (map saved_mark ms) new (Err f)) (sym said.1) (mark_refused_at refused.step refused.cause why.1)
+
+pub all_set : (R : ℕ) (old new : BookState) (ms : List SavedMark) (i : ℕ) → length ms ≤ i → HasSet R old new (map saved_mark (take i ms)) → SetsMarks R old (map saved_mark ms) new (Ok tt)
+all_set R old new ms i all h =
+    let set = subst (λ (done : List SavedMark). HasSet R old new (map saved_mark done)) (take_all i ms all) h in
+    (set.marks, set.start, set.through)
+
+-- Whole traces
+
+module _ {R : ℕ} {B : Type 0} (IsBook : B → Type 0) (t : Trace R) where
+  module _ (flawless : start_flaw t.start ≡ None) (old : BookState) (start : old.session.start ≡ start_world t.start) where
+    -- an event of a bookmark is refused
+    pub no_marks : (new : BookState) (fault : LoadTraceFault) → SetsMarks R old t.marks new (Err fault) → Replays IsBook t (Err fault)
+    no_marks new NoMemory h = tt
+    no_marks new BadTrace h = absurd h
+    no_marks new (Flawed flaw) h = absurd h
+    no_marks new (TraceMark m n cause) h = (flawless, subst (λ (w : World). IsMarkRefusedAt R w t.marks m n cause) start h)
+    no_marks new (TraceStep n cause) h = absurd h
+
+    module _ (now : BookState) (set : SetsMarks R old t.marks now (Ok tt)) where
+      begins : now.session.start ≡ start_world t.start
+      begins = set.1 ∙ start
+
+      has_marks : HasMarks t
+      has_marks = record { flawless = flawless; marks = subst (λ (w : World). MarksGoThrough R w t.marks) start set.2 }
+
+      -- a live or an undone event is refused
+      pub no_steps : (refused : RefusedEvent) (fault : LoadTraceFault) → RefusesOne R now.session.start (t.live ++ t.undone) refused → IsFaultOfStep refused fault
+          → Replays IsBook t (Err fault)
+      no_steps refused fault why (inl said) = subst (λ (f : LoadTraceFault). Replays IsBook t (Err f)) (sym said.1) tt
+      no_steps refused fault (inl memory) (inr said) = absurd (said.0 memory)
+      no_steps refused fault (inr why) (inr said) =
+          subst (λ (f : LoadTraceFault). Replays IsBook t (Err f)) (sym said.1)
+          (has_marks, subst (λ (w : World). IsRefusedAt R w (t.live ++ t.undone) refused.step refused.cause) begins why.1)
+
+      -- all went through
+      pub plays : (new : BookState) → MakesLive R now t.live t.undone new (Ok tt) → IsPlayable t × (new ≡ loaded_state t)
+      plays new h = (
+        record { marks = has_marks; through = subst (λ (w : World). GoThrough R w (t.live ++ t.undone)) begins h.1 },
+        h.0 ∙ (λ i. record { session = record { start = begins i; live = t.live; undone = t.undone }; marks = set.0 i }),
+      )
+
+-- What goes through is not refused
 
 before_preceded : (R : ℕ) (x : Entry) (o : Result Ran Refusal) (e : Event) → IsOk (step_after R o e) → IsOk (step_after R (run_preceded_by x o) e)
 before_preceded R x (Err refusal) e h = h
@@ -124,10 +600,18 @@ not_refused s e cause false (Ok stepped) room ok h = cc
 room_left : (n m : ℕ) → n + suc m ≤ MOST_STEPS → (n == MOST_STEPS) ≡ false
 room_left n m h = ne_eqb n MOST_STEPS (omega arith)
 
-pub none_refused : (t : Trace) (n : ℕ) (cause : Refusal) → GoesThrough t t.events → IsRefusedAt t n cause → ⊥
-none_refused t n cause goes at =
-    let s = session_at t at.before in
-    let few = subst (λ es. length es ≤ MOST_STEPS) at.all goes.few in
-    let runs = subst (λ es. IsOk (run t.ring s.start es)) at.all goes.runs in
+pub none_refused : (R : ℕ) (w : World) (es : List Event) (n : ℕ) (cause : Refusal) → GoThrough R w es → IsRefusedAt R w es n cause → ⊥
+none_refused R w es n cause goes at =
+    let s = session_at w at.before in
+    let few = subst (λ (fs : List Event). length fs ≤ MOST_STEPS) at.all goes.few in
+    let runs = subst (λ (fs : List Event). IsOk (run R w fs)) at.all goes.runs in
     not_refused s at.event cause _ _ (room_left (length at.before) (length at.later) (omega (arith, few, length-append at.before (at.event ∷ at.later))))
-    (happens_in t.ring s.start at.before at.event at.later runs) at.refused
+    (happens_in R w at.before at.event at.later runs) at.refused
+
+goes_among : (R : ℕ) (w : World) (before : List Mark) (m : Mark) (later : List Mark) → MarksGoThrough R w (before ++ m ∷ later) → GoThrough R w m.events
+goes_among R w [] m later h = h.0
+goes_among R w (x ∷ before) m later h = goes_among R w before m later h.1
+
+pub no_mark_refused : (R : ℕ) (w : World) (ms : List Mark) (m n : ℕ) (cause : Refusal) → MarksGoThrough R w ms → IsMarkRefusedAt R w ms m n cause → ⊥
+no_mark_refused R w ms m n cause go at =
+    none_refused R w at.mark.events n cause (goes_among R w at.before at.mark at.later (subst (λ (xs : List Mark). MarksGoThrough R w xs) at.all go)) at.refused

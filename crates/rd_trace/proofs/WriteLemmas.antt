@@ -1,39 +1,37 @@
--- What is written of a book is the text of its live events, and that can be loaded.
-use Rattle.std.proofs.Common.{◌≡◌, ℕ, ◌≤◌, false, List, [], ◌∷◌, ◌++◌, length, Ok, IsOk, refl, sym, ap, ◌∙◌, subst}
-use Rattle.serde_json.specs.Data.{Data}
-use Rattle.serde_json.specs.Written.{has_float, compact_text}
-use Rattle.rd_step.specs.Prelude.{World, run, MOST_ACTORS, MOST_STEPS}
-use Rattle.rd_step.specs.Starts.{fresh_world}
-use Rattle.rd_step.specs.declared.entries.Entry.{Entry}
-use Rattle.rd_journal.specs.State.{State, run_of}
+-- The text of a book is a trace of it.
+use Rattle.std.proofs.Common.{◌≡◌, ℕ, ◌≤◌, false, List, [], ◌∷◌, ◌++◌, Some, IsUtf8, inr, refl, sym, ap, ◌∙◌, subst}
+use Rattle.std.proofs.lemmas.Str.{IsUtf8-append}
+use Rattle.json.specs.Lex.{tokens}
+use Rattle.json.specs.Print.{print}
+use Rattle.json.proofs.Printed.Utf8.{IsUtf8-are_ascii}
+use Rattle.serde_json.specs.Data.{Data, depth}
+use Rattle.serde_json.specs.Read.{read, max_depth}
+use Rattle.serde_json.specs.Written.{has_float, compact_text, IsInOrder}
 use Rattle.rd_marks.specs.Books.{BookState}
-use Rattle.rd_trace.specs.Traces.{Trace, IsTraceRing, HasActors, trace_of_state, AreInRange}
-use Rattle.rd_trace.specs.Text.{trace_text}
-use Rattle.rd_trace.specs.Loading.{IsLoadable}
-use Rattle.rd_trace.specs.Values.{trace_data}
-use Rattle.rd_trace.proofs.ActorLemmas.{number_after}
-use Rattle.rd_trace.proofs.TextLemmas.{trace_same, trace_whole, text_is_trace}
+use Rattle.rd_trace.specs.Starts.{IsStartData}
+use Rattle.rd_trace.specs.Saved.{SpellsBook, book_data}
+use Rattle.rd_trace.specs.Loading.{IsReachable}
+use Rattle.rd_trace.specs.Writing.{IsTextOf}
+use Rattle.rd_trace.proofs.LexLemmas.{read_line}
+use Rattle.rd_trace.proofs.WholeLemmas.{whole_book, shallow_book}
 
--- the bytes are those of this trace
-pub text_of_data : (t : Trace) (d : Data) (bytes text : List ℕ) → d ≡ trace_data t → (has_float d ≡ false → bytes ≡ compact_text d) → text ≡ bytes ++ 10 ∷ [] → text ≡ trace_text t
-text_of_data t d bytes text is compact ended =
-    ended ∙ ap (λ b. b ++ 10 ∷ []) (compact (ap has_float is ∙ trace_whole t) ∙ ap compact_text is) ∙ trace_same t
+-- what is known of the bytes that a value is written as
+pub record AreBytesOf (bytes : List ℕ) (d : Data) : Type 0 where
+  pub text : has_float d ≡ false → bytes ≡ compact_text d
+  pub compact : bytes ≡ print (tokens bytes)
+  pub utf8 : IsUtf8 bytes
+  pub order : IsInOrder bytes d
+  pub reads_back : depth d ≤ max_depth → read bytes ≡ Some d
 
-module _ (R n : ℕ) (s : State) (b : BookState) (w : World) (entries : List Entry) (same : s ≡ b.session) (ran : run_of R s ≡ Ok (record { world = w; entries = entries })) where
-  -- in the trace of a book the number of actors is that of its present world
-  pub text_of_book : HasActors w n → (text : List ℕ) → text ≡ trace_text (record { actors = n; events = s.live; ring = R }) → (actors : ℕ) → HasActors b.session.start actors
-      → text ≡ trace_text (trace_of_state R actors b)
-  text_of_book there text is actors start =
-      let number : actors ≡ n = number_after R s.start s.live (record { world = w; entries = entries }) actors n ran (subst (λ x. HasActors x.start actors) (sym same) start) there in
-      is ∙ ap (λ m. trace_text (record { actors = m; events = s.live; ring = R })) (sym number) ∙ ap (λ x. trace_text (record { actors = actors; events = x.live; ring = R })) same
-
-  -- the trace of a book over a fresh world can be loaded
-  pub book_loads : length s.live ≤ MOST_STEPS → AreInRange s.live → (actors : ℕ) → b.session.start ≡ fresh_world R actors → 1 ≤ actors → actors ≤ MOST_ACTORS → IsTraceRing R
-      → IsLoadable (trace_of_state R actors b)
-  book_loads short range actors fresh some few ring = record {
-    reads = text_is_trace (trace_of_state R actors b) (record { some = some; few = few; ring = ring; events = subst (λ x. AreInRange x.live) same range });
-    through = record {
-      few = subst (λ x. length x.live ≤ MOST_STEPS) same short;
-      runs = subst (λ v. IsOk (run R v b.session.live)) fresh (subst (λ x. IsOk (run_of R x)) same (subst IsOk (sym ran) refl));
-    };
-  }
+-- the bytes of the value of a book are its text, with a line feed behind them
+pub text_of_book : (R : ℕ) (b : BookState) (d : Data) (bytes text : List ℕ) → (start : Data) × IsStartData R b.session.start start × (d ≡ book_data R start b) → SpellsBook R b d → IsReachable R b
+    → AreBytesOf bytes d → text ≡ bytes ++ 10 ∷ [] → IsTextOf R b text
+text_of_book R b d bytes text (start, is_start, is) (t, second, flawless, same) reachable written ended =
+    let whole : has_float d ≡ false = ap has_float is ∙ whole_book R start b is_start in
+    let shallow : depth d ≤ max_depth = subst (λ e. depth e ≤ max_depth) (sym is) (shallow_book R start b is_start) in
+    let utf8 : IsUtf8 (bytes ++ 10 ∷ []) = IsUtf8-append bytes (10 ∷ []) written.utf8 (IsUtf8-are_ascii (10 ∷ []) refl) in
+    let reads : read (bytes ++ 10 ∷ []) ≡ Some d = read_line bytes d written.order whole written.compact ∙ written.reads_back shallow in
+    subst (IsTextOf R b) (sym ended) (record {
+      written = (start, is_start, ap (λ s. s ++ 10 ∷ []) (written.text whole ∙ ap compact_text is));
+      loads = λ ring. record { reachable = reachable; reads = (t, (utf8, d, reads, (ring, inr second)), flawless, same) };
+    })

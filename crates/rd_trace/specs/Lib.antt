@@ -1,7 +1,14 @@
+pub mod Numbers
+pub mod Names
+pub mod Events
+pub mod Actors
+pub mod Segments
+pub mod Arrays
+pub mod Starts
+pub mod Bookmarks
 pub mod Traces
-pub mod Form
-pub mod Text
-pub mod Values
+pub mod Saved
 pub mod Loading
+pub mod Steps
 pub mod Writing
 pub mod Devices

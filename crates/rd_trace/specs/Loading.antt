@@ -1,14 +1,20 @@
 -- What loading a text gives: a book, or why there is none.
-use Rattle.std.specs.Prelude.{◌≡◌, ℕ, List, Result, Ok, Err}
+use Rattle.std.specs.Prelude.{◌≡◌, ℕ, List, [], ◌++◌, ◌⊎◌, Some, None, Result, Ok, Err}
 use Rattle.rd_marks.specs.Books.{BookState}
 use Rattle.rd_marks.specs.BookViews.{book_state}
+use Rattle.rd_marks.specs.declared.books.Book.{Book}
+use Rattle.serde_json.specs.Data.{Data}
 use Rattle.rd_trace.specs.declared.any_book.AnyBook.{AnyBook}
 use Rattle.rd_trace.specs.declared.any_book.AnyBook.TheVariants.{Two, Four, Eight}
 use Rattle.rd_trace.specs.declared.faults.LoadTraceFault.{LoadTraceFault}
-use Rattle.rd_trace.specs.declared.faults.LoadTraceFault.TheVariants.{NoMemory, BadTrace, TraceStep}
-use Rattle.rd_trace.specs.Traces.{Trace, loaded_state, GoesThrough, IsRefusedAt}
-use Rattle.rd_trace.specs.Form.{IsTraceText}
-use Rattle.rd_trace.specs.Text.{trace_text}
+use Rattle.rd_trace.specs.declared.faults.LoadTraceFault.TheVariants.{NoMemory, BadTrace, Flawed, TraceMark, TraceStep}
+use Rattle.rd_trace.specs.declared.faults.FormFault.{FormFault}
+use Rattle.rd_trace.specs.declared.faults.FormFault.TheVariants.{NoMemory as FormNoMemory, BadForm}
+use Rattle.rd_step.specs.Starts.{fresh_world}
+use Rattle.rd_trace.specs.Starts.{start_world, start_flaw}
+use Rattle.rd_trace.specs.Saved.{Trace, IsFirstTrace, IsSecondTrace, IsTraceText, loaded_state, IsSameBook}
+use Rattle.rd_marks.specs.Rules.{GoThrough, MarksGoThrough}
+use Rattle.rd_trace.specs.Traces.{IsRefusedAt, IsMarkRefusedAt}
 
 -- the number of cells of a book's rings
 abbrev pub any_ring : AnyBook → ℕ
@@ -22,31 +28,62 @@ any_state (Two book) = book_state book
 any_state (Four book) = book_state book
 any_state (Eight book) = book_state book
 
--- the book is that of the trace: over its ring, and with its events live over its fresh world
-abbrev pub IsBookOf : Trace → AnyBook → Type 0
-IsBookOf t book = (any_ring book ≡ t.ring) × (any_state book ≡ loaded_state t)
+-- the fault of loading where a value is not read
+abbrev pub form_fault : FormFault → LoadTraceFault
+form_fault FormNoMemory = NoMemory
+form_fault BadForm = BadTrace
 
--- what loading a text gives: the book of the trace that the text is, all of whose events go through; BadTrace, if it is none;
--- or the number of the first of its events that is refused, and the cause
-abbrev pub LoadsTrace : List ℕ → Result AnyBook LoadTraceFault → Type 0
-LoadsTrace text (Ok book) = (t : Trace) × IsTraceText text t × GoesThrough t t.events × IsBookOf t book
-LoadsTrace text (Err NoMemory) = Unit {0}
-LoadsTrace text (Err BadTrace) = (t : Trace) → IsTraceText text t → ⊥
-LoadsTrace text (Err (TraceStep n cause)) = (t : Trace) × IsTraceText text t × IsRefusedAt t n cause
+-- the state of a book in which nothing was done yet: it begins in the fresh world
+abbrev pub fresh_state : ℕ → ℕ → BookState
+fresh_state R actors = record { session = record { start = fresh_world R actors; live = []; undone = [] }; marks = [] }
 
--- the text of a trace is that trace again, and all of its events go through
-pub record IsLoadable (t : Trace) : Type 0 where
-  pub reads : IsTraceText (trace_text t) t
-  pub through : GoesThrough t t.events
+-- the book is in this state, over rings of so many cells
+abbrev pub IsBookIn : ℕ → BookState → AnyBook → Type 0
+IsBookIn R b book = (any_ring book ≡ R) × (any_state book ≡ b)
 
--- the book of the trace, unless memory was refused
-abbrev pub LoadsAgain : Trace → Result AnyBook LoadTraceFault → Type 0
-LoadsAgain t (Ok book) = IsBookOf t book
-LoadsAgain t (Err fault) = fault ≡ NoMemory
+-- the start of a trace is a well-formed world, and the events of each of its bookmarks go through
+pub record HasMarks {R : ℕ} (t : Trace R) : Type 0 where
+  pub flawless : start_flaw t.start ≡ None
+  pub marks : MarksGoThrough R (start_world t.start) t.marks
 
--- what making the events of a trace happen in its fresh world gives
-abbrev pub Replays : {B : Type 0} → (B → Type 0) → Trace → Result B LoadTraceFault → Type 0
-Replays IsBook t (Ok book) = GoesThrough t t.events × IsBook book
+-- so do its live events, with its undone ones behind them
+pub record IsPlayable {R : ℕ} (t : Trace R) : Type 0 where
+  pub marks : HasMarks t
+  pub through : GoThrough R (start_world t.start) (t.live ++ t.undone)
+
+-- what making a trace happen gives: its book; or, in this order, the first flaw of its start; the first event of the first bookmark
+-- of which one is refused; the first of its live and undone events that is refused
+abbrev pub Replays : {R : ℕ} {B : Type 0} → (B → Type 0) → Trace R → Result B LoadTraceFault → Type 0
+Replays IsBook t (Ok book) = IsPlayable t × IsBook book
 Replays IsBook t (Err NoMemory) = Unit {0}
 Replays IsBook t (Err BadTrace) = ⊥
-Replays IsBook t (Err (TraceStep n cause)) = IsRefusedAt t n cause
+Replays IsBook t (Err (Flawed flaw)) = start_flaw t.start ≡ Some flaw
+Replays {R} IsBook t (Err (TraceMark m n cause)) = (start_flaw t.start ≡ None) × IsMarkRefusedAt R (start_world t.start) t.marks m n cause
+Replays {R} IsBook t (Err (TraceStep n cause)) = HasMarks t × IsRefusedAt R (start_world t.start) (t.live ++ t.undone) n cause
+
+-- what loading the value of a text gives
+abbrev pub LoadsValue : {R : ℕ} → Data → Result (Book R) LoadTraceFault → Type 0
+LoadsValue d (Err NoMemory) = Unit {0}
+LoadsValue {R} d (Err BadTrace) = (t : Trace R) → IsFirstTrace d t ⊎ IsSecondTrace d t → ⊥
+LoadsValue {R} d result = (t : Trace R) × (IsFirstTrace d t ⊎ IsSecondTrace d t) × Replays (λ (book : Book R). book_state book ≡ loaded_state t) t result
+
+-- what loading a text gives: what making the trace happen gives that the text is; BadTrace, if it is none
+abbrev pub LoadsTrace : List ℕ → Result AnyBook LoadTraceFault → Type 0
+LoadsTrace text (Err NoMemory) = Unit {0}
+LoadsTrace text (Err BadTrace) = (R : ℕ) (t : Trace R) → IsTraceText text t → ⊥
+LoadsTrace text result = (R : ℕ) × (t : Trace R) × IsTraceText text t × Replays (IsBookIn R (loaded_state t)) t result
+
+-- the events of each bookmark, and the live events with the undone ones behind them, go through from the start of this state
+pub record IsReachable (R : ℕ) (b : BookState) : Type 0 where
+  pub marks : MarksGoThrough R b.session.start b.marks
+  pub through : GoThrough R b.session.start (b.session.live ++ b.session.undone)
+
+-- a text is a trace of this state, whose start has no flaw, and all of its events go through
+pub record IsLoadable (R : ℕ) (b : BookState) (text : List ℕ) : Type 0 where
+  pub reachable : IsReachable R b
+  pub reads : (t : Trace R) × IsTraceText text t × (start_flaw t.start ≡ None) × (loaded_state t ≡ b)
+
+-- what loading gives of a text that a book in this state is written as: the same book, unless memory was refused
+abbrev pub LoadsAgain : ℕ → BookState → Result AnyBook LoadTraceFault → Type 0
+LoadsAgain R b (Ok book) = (any_ring book ≡ R) × IsSameBook (any_state book) b
+LoadsAgain R b (Err fault) = fault ≡ NoMemory

@@ -1,22 +1,21 @@
 //! A book whose ring is known when the program runs, and what the program does with one.
 
-ghost use Rattle.std.specs.Prelude.{◌≡◌, ◌≤◌, ℕ, [], false, IfOk, OnOk};
-ghost use Rattle.rd_step.specs.Prelude.{MOST_ACTORS};
-ghost use Rattle.rd_step.specs.Starts.{fresh_world};
+ghost use Rattle.std.specs.Prelude.{◌≡◌, ◌≤◌, false, IfOk};
+ghost use Rattle.rd_step.specs.Prelude.{MOST_ACTORS, MOST_CELLS};
 ghost use Rattle.rd_script.specs.Script.{RunsScript};
-ghost use Rattle.rd_trace.specs.Traces.{HasActors, ring_length, trace_of_state};
-ghost use Rattle.rd_trace.specs.Text.{trace_text};
-ghost use Rattle.rd_trace.specs.Loading.{any_ring, any_state, IsBookOf, IsLoadable, Replays};
+ghost use Rattle.rd_marks.specs.BookViews.{book_state};
+ghost use Rattle.rd_trace.specs.Traces.{ring_length};
+ghost use Rattle.rd_trace.specs.Loading.{any_ring, any_state, fresh_state, IsBookIn};
 ghost use Rattle.rd_trace.specs.Writing.{WritesTrace, is_write_fault};
 ghost use Rattle.rd_trace.specs.Devices.{devices};
 
-use super::faults::{LoadTraceFault, WriteTraceFault};
-use super::replay::replay;
+use super::faults::WriteTraceFault;
 use super::rings::Ring;
 use super::write::write_trace;
+use rd_journal::Session;
 use rd_marks::Book;
 use rd_script::{ScriptFault, Sink, Source, run};
-use rd_step::Event;
+use rd_step::World;
 use std::alloc::{AllocError, Global};
 
 /// A book over rings of 2, 4 or 8 cells: those that a trace may have.
@@ -35,34 +34,12 @@ impl AnyBook {
     pub fn fresh(alloc: Global, ring: Ring, actors: u8) -> Result<AnyBook, AllocError>
         requires some { 1 ≤ actors }
         requires few { actors ≤ MOST_ACTORS }
-        ensures { IfOk result (IsBookOf (record { actors = actors; events = []; ring = ring_length ring })) }
-    {
-        match AnyBook::replayed(alloc, ring, actors, &[]) {
-            Ok(book) => Ok(book),
-            Err(_) => Err(AllocError),
-        }
-    }
-
-    /// A book over the fresh world of so many actors and this ring, in which these events happened in order.
-    ///
-    /// # Errors
-    ///
-    /// `TraceStep` if one of them was refused; `NoMemory` if memory was refused.
-    pub fn replayed(
-        alloc: Global,
-        ring: Ring,
-        actors: u8,
-        events: &[Event],
-    ) -> Result<AnyBook, LoadTraceFault>
-        requires some { 1 ≤ actors }
-        requires few { actors ≤ MOST_ACTORS }
-        ensures { Replays (IsBookOf (record { actors = actors; events = events.now; ring = ring_length ring }))
-            (record { actors = actors; events = events.now; ring = ring_length ring }) result }
+        ensures { IfOk result (IsBookIn (ring_length ring) (fresh_state (ring_length ring) actors)) }
     {
         match ring {
-            Ring::Two => Ok(AnyBook::Two(replay(alloc, actors, events)?)),
-            Ring::Four => Ok(AnyBook::Four(replay(alloc, actors, events)?)),
-            Ring::Eight => Ok(AnyBook::Eight(replay(alloc, actors, events)?)),
+            Ring::Two => Ok(AnyBook::Two(fresh_book(alloc, actors)?)),
+            Ring::Four => Ok(AnyBook::Four(fresh_book(alloc, actors)?)),
+            Ring::Eight => Ok(AnyBook::Eight(fresh_book(alloc, actors)?)),
         }
     }
 
@@ -90,19 +67,14 @@ impl AnyBook {
         }
     }
 
-    /// Writes the live events of the book as a trace, as `write_trace` does.
+    /// Writes the book as a trace, as `write_trace` does.
     ///
     /// # Errors
     ///
     /// `NoMemory` if memory was refused: nothing was written. `Write` if the sink failed: it took a beginning of the text.
     pub fn write_trace<K: Sink>(&self, alloc: Global, writer: &mut K) -> Result<(), WriteTraceFault>
         requires { K.has_failed writer.old ≡ false }
-        ensures writes { (actors : ℕ) → HasActors (any_state self.now).session.start actors
-            → WritesTrace (trace_text (trace_of_state (any_ring self.now) actors (any_state self.now))) (K.contents writer.old) (K.contents writer.new) result }
-        ensures fresh { (actors : ℕ) → (any_state self.now).session.start ≡ fresh_world (any_ring self.now) actors
-            → WritesTrace (trace_text (trace_of_state (any_ring self.now) actors (any_state self.now))) (K.contents writer.old) (K.contents writer.new) result }
-        ensures loadable { (actors : ℕ) → (any_state self.now).session.start ≡ fresh_world (any_ring self.now) actors → 1 ≤ actors → actors ≤ MOST_ACTORS
-            → OnOk result (IsLoadable (trace_of_state (any_ring self.now) actors (any_state self.now))) }
+        ensures writes { WritesTrace (any_ring self.now) (any_state self.now) (K.contents writer.old) (K.contents writer.new) result }
         ensures failed { K.has_failed writer.new ≡ is_write_fault result }
     {
         match self {
@@ -111,4 +83,18 @@ impl AnyBook {
             AnyBook::Eight(book) => write_trace(alloc, writer, book),
         }
     }
+}
+
+/// A book over the fresh world of so many actors.
+fn fresh_book<const R: usize>(alloc: Global, actors: u8) -> Result<Book<R>, AllocError>
+    requires some { 1 ≤ actors }
+    requires few { actors ≤ MOST_ACTORS }
+    requires positive { 1 ≤ R }
+    requires small { R ≤ MOST_CELLS }
+    ensures { IfOk result (λ book. book_state book ≡ fresh_state R actors) }
+{
+    let Ok(world) = World::fresh(alloc, actors) else {
+        return Err(AllocError);
+    };
+    Ok(Book::open(alloc, Session::open(alloc, world)))
 }

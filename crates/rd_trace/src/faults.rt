@@ -1,17 +1,32 @@
 //! Why a trace isn't loaded, or isn't written.
 
+ghost use Rattle.std.specs.Prelude.{◌≡◌};
+
 use rd_cell::Refusal;
+use rd_step::Flaw;
+use std::alloc::AllocError;
 
 /// Why a text gives no book.
 #[derive(Clone, Copy, Debug, PartialEq, Eq)]
 pub enum LoadTraceFault {
     /// 20: memory was refused.
     NoMemory,
-    /// 27: the text is no trace of version 1.
+    /// 26: the text is a trace, and its start is no well-formed world: the first condition that fails.
+    Flawed(Flaw),
+    /// 27: the text is no trace of version 1 or 2.
     BadTrace,
-    /// 28: the text is a trace, and one of its events is refused.
+    /// 28: the text is a trace, and one of its live events, or of its undone ones behind them, is refused.
     TraceStep {
-        /// The number of the first event that is refused, from 1.
+        /// The number of the first event that is refused, from 1; the undone events are counted on.
+        step: u64,
+        /// Why it is refused.
+        cause: Refusal,
+    },
+    /// 32: the text is a trace, and an event of one of its bookmarks is refused.
+    TraceMark {
+        /// The number of the first such bookmark, from 1.
+        mark: u64,
+        /// The number of the first of its events that is refused, from 1.
         step: u64,
         /// Why it is refused.
         cause: Refusal,
@@ -25,4 +40,36 @@ pub enum WriteTraceFault {
     NoMemory,
     /// 25: the sink failed. It took a beginning of the text.
     Write,
+}
+
+/// Why a value isn't read as a part of a trace.
+#[derive(Clone, Copy, Debug, PartialEq, Eq)]
+pub(crate) enum FormFault {
+    /// Memory was refused.
+    NoMemory,
+    /// The value spells no such part.
+    BadForm,
+}
+
+impl From<AllocError> for FormFault {
+    ghost use Rattle.rd_trace.specs.declared.faults.FormFault.TheVariants.{NoMemory};
+
+    ghost from_gives = { λ _ fault. fault ≡ NoMemory };
+
+    fn from(_error: AllocError) -> FormFault {
+        FormFault::NoMemory
+    }
+}
+
+impl From<FormFault> for LoadTraceFault {
+    ghost use Rattle.rd_trace.specs.Loading.{form_fault};
+
+    ghost from_gives = { λ fault e. e ≡ form_fault fault };
+
+    fn from(fault: FormFault) -> LoadTraceFault {
+        match fault {
+            FormFault::NoMemory => LoadTraceFault::NoMemory,
+            FormFault::BadForm => LoadTraceFault::BadTrace,
+        }
+    }
 }

@@ -1,47 +1,87 @@
-//! Loading a trace: a text is read whole, its value is dropped, and then its events happen one by one in a fresh world.
+//! Loading a trace: a text is read whole, its value is dropped, and then the session that it spells is made to happen.
 
-ghost use Rattle.std.specs.Prelude.{◌≡◌};
-ghost use Rattle.rd_trace.specs.Traces.{Trace};
-ghost use Rattle.rd_trace.specs.Form.{IsTraceText};
-ghost use Rattle.rd_trace.specs.Text.{trace_text};
-ghost use Rattle.rd_trace.specs.Values.{ReadsTrace};
-ghost use Rattle.rd_trace.specs.Loading.{LoadsTrace, IsLoadable, LoadsAgain};
+ghost use Rattle.std.specs.Prelude.{◌≡◌, ◌≤◌, ℕ, Some, codes};
+ghost use Rattle.serde_json.specs.View.{view};
+ghost use Rattle.rd_step.specs.Prelude.{MOST_CELLS};
+ghost use Rattle.rd_marks.specs.Books.{BookState};
+ghost use Rattle.rd_trace.specs.Numbers.{number_at};
+ghost use Rattle.rd_trace.specs.Traces.{IsTraceRing};
+ghost use Rattle.rd_trace.specs.Saved.{ReadsText};
+ghost use Rattle.rd_trace.specs.Loading.{LoadsTrace, LoadsAgain, LoadsValue};
+ghost use Rattle.rd_trace.specs.Writing.{IsTextOf};
 
 use super::any_book::AnyBook;
-use super::faults::LoadTraceFault;
-use super::form::{ParsedTrace, trace_in};
+use super::faults::{FormFault, LoadTraceFault};
+use super::replay::replay;
+use super::rings::Ring;
+use super::saved::{SavedSession, ring_in, session_in};
+use rd_marks::Book;
 use serde_json::Value;
 use std::alloc::Global;
 
-/// Loads a text: the book whose live events are those of the trace that the text is, over a fresh world of its actors and its
-/// ring, with nothing undone and no bookmark. White space and the order of the keys don't matter.
+/// Loads a text of version 1 or 2: the book whose start, live events, undone events and bookmarks are those that the text spells. One
+/// of version 1 has a fresh start, nothing undone and no bookmark. White space and the order of the keys don't matter.
 ///
 /// # Errors
 ///
-/// `BadTrace` if the text is no trace of version 1; then `TraceStep`, with the number of the first event that is refused
-/// and the cause, which is `TooLong` at the event behind the `MOST_STEPS`-th; `NoMemory` if memory was refused.
+/// In this order: `BadTrace` if the text is no trace; `Flawed` if its start is no well-formed world, with the first condition that
+/// fails; `TraceMark` if an event of a bookmark is refused, with the numbers of the first bookmark and of its first such event;
+/// `TraceStep` if a live event or an undone one is refused, with its number, the undone ones being counted on. The cause is `TooLong` at
+/// the event behind the `MOST_STEPS`-th of a list. `NoMemory` if memory was refused, at any point.
 pub fn load_trace(alloc: Global, text: &[u8]) -> Result<AnyBook, LoadTraceFault>
     ensures loads { LoadsTrace text.now result }
-    ensures again { (t : Trace) → text.now ≡ trace_text t → IsLoadable t → LoadsAgain t result }
+    ensures again { (R : ℕ) (b : BookState) → IsTraceRing R → IsTextOf R b text.now → LoadsAgain R b result }
 {
-    let trace = read_trace(alloc, text)?;
-    AnyBook::replayed(alloc, trace.ring, trace.actors, trace.events.as_slice())
+    loaded(alloc, text)
 }
 
-/// The trace that a text is.
+/// The book of the trace that a text is, over the ring that it names.
 ///
 /// # Errors
 ///
-/// `BadTrace` if it is none; `NoMemory` if memory was refused.
-fn read_trace(alloc: Global, text: &[u8]) -> Result<ParsedTrace, LoadTraceFault>
-    ensures { ReadsTrace (IsTraceText text.now) result }
+/// As `load_trace`.
+fn loaded(alloc: Global, text: &[u8]) -> Result<AnyBook, LoadTraceFault>
+    ensures { LoadsTrace text.now result }
+{
+    let value = value_of(alloc, text)?;
+    match ring_in(&value) {
+        None => Err(LoadTraceFault::BadTrace),
+        Some(Ring::Two) => Ok(AnyBook::Two(book_of(alloc, value)?)),
+        Some(Ring::Four) => Ok(AnyBook::Four(book_of(alloc, value)?)),
+        Some(Ring::Eight) => Ok(AnyBook::Eight(book_of(alloc, value)?)),
+    }
+}
+
+/// The value of a text.
+///
+/// # Errors
+///
+/// `BadForm` if the text is no JSON; `NoMemory` if memory was refused.
+fn value_of(alloc: Global, text: &[u8]) -> Result<Value, FormFault>
+    ensures { ReadsText text.now result }
 {
     match Value::from_slice(alloc, text) {
-        Ok(value) => trace_in(alloc, &value),
+        Ok(value) => Ok(value),
         Err(error) => Err(if error.is_memory() {
-            LoadTraceFault::NoMemory
+            FormFault::NoMemory
         } else {
-            LoadTraceFault::BadTrace
+            FormFault::BadForm
         }),
     }
+}
+
+/// The book of the session that a value spells. The value is dropped before the first event happens.
+///
+/// # Errors
+///
+/// As `load_trace`.
+fn book_of<const R: usize>(alloc: Global, value: Value) -> Result<Book<R>, LoadTraceFault>
+    requires positive { 1 ≤ R }
+    requires small { R ≤ MOST_CELLS }
+    requires ring { number_at (codes "ring") (view value) ≡ Some R }
+    ensures { LoadsValue (view value) result }
+{
+    let session: SavedSession<R> = session_in(alloc, &value)?;
+    drop(value);
+    replay(alloc, session)
 }

@@ -1,56 +1,207 @@
-//! The events of a trace, made to happen one by one in a fresh world.
+//! A session that was read, made to happen: its bookmarks one after another, then its live events, then its undone ones.
 
-ghost use Rattle.std.specs.Prelude.{◌≡◌, ◌≢◌, ◌≤◌, ◌⊎◌};
-ghost use Rattle.rd_step.specs.Prelude.{MOST_CELLS, MOST_ACTORS};
-ghost use Rattle.rd_cell.specs.declared.refusal.Refusal.TheVariants as Refusal;
-ghost use Rattle.rd_trace.specs.declared.faults.LoadTraceFault.TheVariants as LoadTraceFault;
+ghost use Rattle.std.specs.Prelude.{◌≡◌, ◌≤◌, ◌↔◌, [], map, length, take, Ok, IsTrue};
+ghost use Rattle.rd_step.specs.Prelude.{MOST_CELLS};
+ghost use Rattle.rd_journal.specs.State.{back};
+ghost use Rattle.rd_journal.specs.Sessions.{state};
 ghost use Rattle.rd_marks.specs.BookViews.{book_state};
-ghost use Rattle.rd_trace.specs.Traces.{loaded_state};
+ghost use Rattle.rd_marks.specs.NameBytes.{MOST_MARKS};
+ghost use Rattle.rd_trace.specs.Starts.{HasActorCount};
+ghost use Rattle.rd_marks.specs.Rules.{GoThrough, HaveDifferentNames};
+ghost use Rattle.rd_trace.specs.Bookmarks.{saved_mark};
+ghost use Rattle.rd_trace.specs.Saved.{saved_trace, loaded_state};
 ghost use Rattle.rd_trace.specs.Loading.{Replays};
+ghost use Rattle.rd_trace.specs.Steps.{MakesWorld, StepsAll, GoesTo, MakesLive, SetsMarks, IsFaultOfStep, IsFaultOfMark};
 
+use super::bookmarks::SavedMark;
 use super::faults::LoadTraceFault;
+use super::saved::SavedSession;
+use super::starts::Start;
 use rd_cell::Refusal;
 use rd_journal::Session;
-use rd_marks::Book;
-use rd_step::{Event, World};
+use rd_marks::{Book, Command};
+use rd_step::{Event, Unassembled, World};
 use std::alloc::Global;
 
-/// A book over the fresh world of so many actors and rings of `R` cells, in which these events happened in order.
+/// An event that was refused.
+#[derive(Clone, Copy)]
+struct RefusedEvent {
+    /// Its number in its list, from 1; that of an undone event is counted on behind the live ones.
+    step: u64,
+    /// Why it was refused.
+    cause: Refusal,
+}
+
+/// The book of a session that was read.
 ///
 /// # Errors
 ///
-/// `TraceStep` if one of them was refused; `NoMemory` if memory was refused.
+/// In this order: `Flawed` if its start is no well-formed world; `TraceMark` if an event of a bookmark is refused; `TraceStep` if a
+/// live event, or an undone one behind them, is refused. `NoMemory` if memory was refused.
 pub fn replay<const R: usize>(
     alloc: Global,
-    actors: u8,
-    events: &[Event],
+    session: SavedSession<R>,
 ) -> Result<Book<R>, LoadTraceFault>
-    requires some { 1 ≤ actors }
-    requires few { actors ≤ MOST_ACTORS }
     requires positive { 1 ≤ R }
     requires small { R ≤ MOST_CELLS }
-    ensures { Replays (λ book. book_state book ≡ loaded_state (record { actors = actors; events = events.now; ring = R }))
-        (record { actors = actors; events = events.now; ring = R }) result }
+    requires counted { HasActorCount session.start }
+    requires names { HaveDifferentNames (map saved_mark session.marks.items) }
+    requires few { length session.marks.items ≤ MOST_MARKS }
+    ensures { Replays (λ book. book_state book ≡ loaded_state (saved_trace session.entry)) (saved_trace session.entry) result }
 {
-    let Ok(world) = World::fresh(alloc, actors) else {
-        return Err(LoadTraceFault::NoMemory);
-    };
-    let mut session = Session::open(alloc, world);
-    for event in events {
-        if let Err(refusal) = session.apply(*event) {
-            return Err(fault_of(session.len() + 1, refusal));
-        }
+    let world = world_of(alloc, session.start)?;
+    let mut book = Book::open(alloc, Session::open(alloc, world));
+    set_marks(&mut book, &session.marks)?;
+    if let Err(refused) = make_live(&mut book, &session.events, &session.undone) {
+        return Err(refused.of_step());
     }
-    Ok(Book::open(alloc, session))
+    Ok(book)
 }
 
-/// The fault that an event of this number is refused with.
-fn fault_of(step: u64, refusal: Refusal) -> LoadTraceFault
-    ensures { ((refusal ≡ Refusal.NoMemory) × (result ≡ LoadTraceFault.NoMemory))
-        ⊎ ((refusal ≢ Refusal.NoMemory) × (result ≡ LoadTraceFault.TraceStep step refusal)) }
+/// The world of a start.
+fn world_of<const R: usize>(alloc: Global, start: Start<R>) -> Result<World<R>, LoadTraceFault>
+    requires positive { 1 ≤ R }
+    requires small { R ≤ MOST_CELLS }
+    requires counted { HasActorCount start }
+    ensures { MakesWorld start.entry result }
 {
-    match refusal {
-        Refusal::NoMemory => LoadTraceFault::NoMemory,
-        cause => LoadTraceFault::TraceStep { step, cause },
+    match start {
+        Start::Fresh(actors) => match World::fresh(alloc, actors) {
+            Err(_) => Err(LoadTraceFault::NoMemory),
+            Ok(world) => Ok(world),
+        },
+        Start::Parts(parts) => match World::assemble(alloc, parts) {
+            Err(Unassembled::Flaw(flaw)) => Err(LoadTraceFault::Flawed(flaw)),
+            Err(Unassembled::NoMemory) => Err(LoadTraceFault::NoMemory),
+            Ok(world) => Ok(world),
+        },
+    }
+}
+
+/// Sets bookmarks, each at its events.
+fn set_marks<const R: usize>(book: &mut Book<R>, marks: &[SavedMark]) -> Result<(), LoadTraceFault>
+    requires names { HaveDifferentNames (map saved_mark marks.now) }
+    requires few { length marks.now ≤ MOST_MARKS }
+    requires none { (book_state book.old).marks ≡ [] }
+    ensures { SetsMarks R (book_state book.old) (map saved_mark marks.now) (book_state book.new) result }
+{
+    for i in 0..marks.len() {
+        if let Err(refused) = go_to(book, &marks[i].events) {
+            return Err(refused.of_mark(i as u64 + 1));
+        }
+        if let Err(refusal) = book.mark(marks[i].name) {
+            match refusal {
+                Refusal::NoMemory => return Err(LoadTraceFault::NoMemory),
+                _ => unreachable!(),
+            }
+        }
+    }
+    Ok(())
+}
+
+/// Makes just these events live, and then undoes those behind them.
+fn make_live<const R: usize>(
+    book: &mut Book<R>,
+    events: &[Event],
+    undone: &[Event],
+) -> Result<(), RefusedEvent>
+    ensures { MakesLive R (book_state book.old) events.now undone.now (book_state book.new) result }
+{
+    go_to(book, events)?;
+    step_all(book, undone)?;
+    go_back(book, undone.len() as u64);
+    Ok(())
+}
+
+/// Makes just these events live, with nothing undone: what is live is undone as far as the two lists differ.
+fn go_to<const R: usize>(book: &mut Book<R>, events: &[Event]) -> Result<(), RefusedEvent>
+    ensures { GoesTo R (book_state book.old) events.now (book_state book.new) result }
+{
+    if events.is_empty() {
+        book.to_start();
+        return Ok(());
+    }
+    let kept = shared_beginning(book.session(), events).min(events.len() - 1);
+    go_back(book, book.session().len() - kept as u64);
+    step_all(book, &events[kept..])
+}
+
+/// How many live events of a session are those that a list begins with.
+fn shared_beginning<const R: usize>(session: &Session<R>, events: &[Event]) -> usize
+    ensures through { GoThrough R (state session.now).start (state session.now).live }
+    ensures live { result ≤ length (state session.now).live }
+    ensures within { result ≤ length events.now }
+    ensures same { take result (state session.now).live ≡ take result events.now }
+{
+    let live = session.live();
+    for k in 0..live.len().min(events.len()) {
+        if !is_same(&live.at(k).event, &events[k]) {
+            return k;
+        }
+    }
+    live.len().min(events.len())
+}
+
+/// Whether two events are the same.
+fn is_same(event: &Event, other: &Event) -> bool
+    ensures { IsTrue result ↔ (event.now ≡ other.now) }
+{
+    *event == *other
+}
+
+/// Undoes so many of the live steps.
+fn go_back<const R: usize>(book: &mut Book<R>, n: u64)
+    requires { n ≤ length (book_state book.old).session.live }
+    ensures session { back (book_state book.old).session n ≡ Ok (book_state book.new).session }
+    ensures marks { (book_state book.new).marks ≡ (book_state book.old).marks }
+{
+    match book.obey(Command::Back(n)) {
+        Err(_) => unreachable!(),
+        Ok(_) => {}
+    }
+}
+
+/// Makes events happen in order.
+fn step_all<const R: usize>(book: &mut Book<R>, events: &[Event]) -> Result<(), RefusedEvent>
+    requires { GoThrough R (book_state book.old).session.start (book_state book.old).session.live }
+    ensures { StepsAll R (book_state book.old) events.now (book_state book.new) result }
+{
+    for event in events {
+        if let Err(cause) = book.obey(Command::of_event(*event)) {
+            return Err(RefusedEvent {
+                step: book.session().len() + 1,
+                cause,
+            });
+        }
+    }
+    Ok(())
+}
+
+impl RefusedEvent {
+    /// The fault of a live event, or an undone one.
+    fn of_step(self) -> LoadTraceFault
+        ensures { IsFaultOfStep self result }
+    {
+        match self.cause {
+            Refusal::NoMemory => LoadTraceFault::NoMemory,
+            cause => LoadTraceFault::TraceStep {
+                step: self.step,
+                cause,
+            },
+        }
+    }
+
+    /// The fault of an event of the bookmark of this number.
+    fn of_mark(self, mark: u64) -> LoadTraceFault
+        ensures { IsFaultOfMark self mark result }
+    {
+        match self.cause {
+            Refusal::NoMemory => LoadTraceFault::NoMemory,
+            cause => LoadTraceFault::TraceMark {
+                mark,
+                step: self.step,
+                cause,
+            },
+        }
     }
 }

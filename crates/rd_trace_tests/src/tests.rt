@@ -6,6 +6,10 @@ mod again;
 mod devices;
 mod limits;
 mod long_runs;
+mod questions;
+mod second_texts;
+mod sessions;
+mod starts;
 mod texts;
 
 use rd_cell::Refusal;
@@ -87,7 +91,8 @@ fn are_bad(rt: &impl Abort, alloc: Global, texts: &[&str]) {
 #[test]
 fn the_live_events_are_written(rt: HostRuntime) -> Result<(), Fail> {
     let book = played::<4>(rt.alloc(), &[("enq 1 7\n", 1), ("go 1\n", 1)])?;
-    let text = "{\"actors\":4,\"events\":[[\"enq\",1,7],[\"go\",1]],\"ring\":4,\"version\":1}\n";
+    let text =
+        "{\"events\":[[\"enq\",1,7],[\"go\",1]],\"marks\":[],\"ring\":4,\"start\":{\"fresh\":4},\"undone\":[],\"version\":2}\n";
     text_is(&rt, rt.alloc(), &book, text)
 }
 
@@ -99,19 +104,19 @@ fn each_event_has_its_word(rt: HostRuntime) -> Result<(), Fail> {
             ("deq 2\n", 1),
             ("aenq 3 18446744073709551615\n", 1),
             ("adeq 4\n", 1),
-            ("mark a\n", 1),
-            ("undo\n", 1),
+            ("starve 4 no\n", 1),
         ],
     )?;
     let text =
-        "{\"actors\":4,\"events\":[[\"deq\",2],[\"aenq\",3,18446744073709551615]],\"ring\":8,\"version\":1}\n";
+        "{\"events\":[[\"deq\",2],[\"aenq\",3,18446744073709551615],[\"adeq\",4]],\"marks\":[],\"ring\":8,\"start\":{\"fresh\":4},\"undone\":[],\"version\":2}\n";
     text_is(&rt, rt.alloc(), &book, text)
 }
 
 #[test]
 fn a_ring_that_no_trace_has_is_written_too(rt: HostRuntime) -> Result<(), Fail> {
     let book = played::<3>(rt.alloc(), &[("adeq 4\n", 1)])?;
-    let text = "{\"actors\":4,\"events\":[[\"adeq\",4]],\"ring\":3,\"version\":1}\n";
+    let text =
+        "{\"events\":[[\"adeq\",4]],\"marks\":[],\"ring\":3,\"start\":{\"fresh\":4},\"undone\":[],\"version\":2}\n";
     text_is(&rt, rt.alloc(), &book, text)?;
     are_bad(&rt, rt.alloc(), &[text]);
     Ok(())

@@ -27,7 +27,7 @@ struct Rehearsal {
 const AMPLE: usize = 1_000_000;
 
 /// The command lines, in order. The script on the input of those that open a file differs from that file's.
-const REHEARSALS: [Rehearsal; 19] = [
+const REHEARSALS: [Rehearsal; 25] = [
     Rehearsal {
         words: &[
             "run",
@@ -68,6 +68,36 @@ const REHEARSALS: [Rehearsal; 19] = [
     },
     Rehearsal {
         words: &["load", "refused.trace"],
+        input: "len\n",
+        room: AMPLE,
+    },
+    Rehearsal {
+        words: &["run", "-", "--trace"],
+        input: "enq 1 7\ngo 1\nmark here\nundo\n",
+        room: AMPLE,
+    },
+    Rehearsal {
+        words: &["load", "whole.trace"],
+        input: "len\nmarkat 1\ngo 1\nundo\ngoto here\nshow cell 0.0 1\n",
+        room: AMPLE,
+    },
+    Rehearsal {
+        words: &["load", "flawed.trace"],
+        input: "len\n",
+        room: AMPLE,
+    },
+    Rehearsal {
+        words: &["load", "marked.trace"],
+        input: "len\n",
+        room: AMPLE,
+    },
+    Rehearsal {
+        words: &["load", "undone.trace"],
+        input: "len\n",
+        room: AMPLE,
+    },
+    Rehearsal {
+        words: &["load", "mixed.trace"],
         input: "len\n",
         room: AMPLE,
     },

@@ -4,6 +4,7 @@ use rd_cell::Refusal;
 use rd_program::faults::ProgramFault;
 use rd_program::program::{resume, whole_text};
 use rd_script::{ReadSource, WriteSink};
+use rd_step::Flaw;
 use std::alloc::Global;
 use std::io;
 use std::process::Abort;
@@ -106,4 +107,51 @@ fn a_file_that_finds_no_memory_is_no_failed_read(rt: HostRuntime) {
     let kind = io::ErrorKind::OutOfMemory;
     let unread = whole_text(rt.alloc(), &mut BrokenReader { kind });
     assert!(rt; matches!(unread, Err(ProgramFault::NoMemory)));
+}
+
+/// A trace of version 2 over one actor and rings of two cells, with such a list of bookmarks and such a start.
+fn second_trace(alloc: Global, marks: &str, start: &str) -> Result<String, Fail> {
+    Ok(format!(in alloc;
+        "{{\"events\":[],\"marks\":[{marks}],\"ring\":2,\"start\":{start},\"undone\":[],\"version\":2}}\n"
+    )?)
+}
+
+#[test]
+fn a_script_goes_on_with_a_whole_session(rt: HostRuntime) {
+    let lines = loaded(
+        &rt,
+        rt.alloc(),
+        "{\"events\":[[\"enq\",1,7]],\"marks\":[{\"events\":[[\"deq\",1]],\"name\":\"a\"}],\"ring\":4,\"start\":{\"fresh\":4},\"undone\":[[\"go\",1]],\"version\":2}",
+        "len\nredo\nmarkat 1\ngoto a\n",
+        "at 1 1\nat 2 0\nmark a 1\nat 1 0\n",
+    );
+    assert!(rt; matches!(lines, Ok(4)));
+}
+
+#[test]
+fn a_trace_with_a_refused_event_of_a_bookmark_runs_no_script(rt: HostRuntime) -> Result<(), Fail> {
+    let mark = "{\"events\":[[\"go\",1]],\"name\":\"a\"}";
+    let trace = second_trace(rt.alloc(), mark, "{\"fresh\":1}")?;
+    let lines = loaded(&rt, rt.alloc(), &trace, "len\n", "");
+    assert!(rt;
+        matches!(
+            lines,
+            Err(ProgramFault::TraceMark {
+                mark: 1,
+                step: 1,
+                cause: Refusal::Idle
+            })
+        )
+    );
+    Ok(())
+}
+
+#[test]
+fn a_trace_with_a_flawed_start_runs_no_script(rt: HostRuntime) -> Result<(), Fail> {
+    let start =
+        "{\"actors\":[],\"array\":{\"cells\":[],\"head\":0,\"tail\":0},\"qhead\":[0,0],\"qtail\":[0,0],\"segments\":[]}";
+    let trace = second_trace(rt.alloc(), "", start)?;
+    let lines = loaded(&rt, rt.alloc(), &trace, "len\n", "");
+    assert!(rt; matches!(lines, Err(ProgramFault::Flawed(Flaw::Makers))));
+    Ok(())
 }

@@ -93,14 +93,14 @@ fn the_trace_follows_the_report(rt: HostRuntime) -> Result<(), Fail> {
                 ring: Ring::Four,
                 trace: true,
                 script: "enq 1 7\ngo 1\n",
-                report: "ok 1\nok 2\n{\"actors\":4,\"events\":[[\"enq\",1,7],[\"go\",1]],\"ring\":4,\"version\":1}\n",
+                report: "ok 1\nok 2\n{\"events\":[[\"enq\",1,7],[\"go\",1]],\"marks\":[],\"ring\":4,\"start\":{\"fresh\":4},\"undone\":[],\"version\":2}\n",
             },
             Play {
                 actors: 1,
                 ring: Ring::Two,
                 trace: true,
                 script: "",
-                report: "{\"actors\":1,\"events\":[],\"ring\":2,\"version\":1}\n",
+                report: "{\"events\":[],\"marks\":[],\"ring\":2,\"start\":{\"fresh\":1},\"undone\":[],\"version\":2}\n",
             },
         ],
     );

@@ -6,9 +6,9 @@
 ghost use Rattle.std.specs.Prelude.{◌≡◌, ◌≤◌, [], ◌∷◌, ◌++◌, length};
 ghost use Rattle.rd_script.specs.declared.answers.LineAnswer.TheVariants.{Reply as Replied, Refused, Unread};
 ghost use Rattle.rd_script.specs.Puts.{Puts};
-ghost use Rattle.rd_script.specs.Replies.{trace_step_words, busy_words, fault_words, words_of, text_of};
+ghost use Rattle.rd_script.specs.Replies.{trace_step_words, trace_mark_words, busy_words, fault_words, words_of, text_of};
 
-use super::numbers::put_counted;
+use super::numbers::{put_counted, put_spaced};
 use super::refusals::{name_of_fault, name_of_stop, put_refusal};
 use super::replies::put_reply;
 use super::texts::{Text, put};
@@ -96,6 +96,7 @@ fn put_fault(text: &mut Text, answer: &LineAnswer)
             put_busy(text, next, served);
         }
         LineAnswer::NotRecorded => put(text, b"31 NotRecorded"),
+        LineAnswer::TraceMark { mark, step, cause } => put_trace_mark(text, mark, step, cause),
     }
 }
 
@@ -105,6 +106,17 @@ fn put_trace_step(text: &mut Text, step: u64, cause: Refusal)
     ensures len { length (trace_step_words step cause) ≤ 78 }
 {
     put_counted(text, b"28 TraceStep", step);
+    put(text, b" cause ");
+    put_refusal(text, cause);
+}
+
+/// Puts which event of which bookmark of a trace was refused, and why, behind the text.
+fn put_trace_mark(text: &mut Text, mark: u64, step: u64, cause: Refusal)
+    ensures words { Puts text.old.items text.new.items (trace_mark_words mark step cause) }
+    ensures len { length (trace_mark_words mark step cause) ≤ 99 }
+{
+    put_counted(text, b"32 TraceMark", mark);
+    put_spaced(text, step);
     put(text, b" cause ");
     put_refusal(text, cause);
 }

@@ -42,6 +42,18 @@ fn trace_steps_are(rt: &impl Abort, rows: &[(u64, Refusal, &str)]) {
     }
 }
 
+/// Compares the line of each refused event of a bookmark of a trace with its text.
+fn trace_marks_are(rt: &impl Abort, rows: &[(u64, u64, Refusal, &str)]) {
+    for (mark, step, cause, line) in rows {
+        let answer = LineAnswer::TraceMark {
+            mark: *mark,
+            step: *step,
+            cause: *cause,
+        };
+        line_is(rt, &answer, *line);
+    }
+}
+
 #[test]
 fn each_refusal_of_a_command_has_its_line(rt: HostRuntime) {
     refusals_are(
@@ -133,6 +145,27 @@ fn a_refused_event_of_a_trace_shows_the_cause_with_its_data(rt: HostRuntime) {
                 u64::MAX,
                 Refusal::NothingToUndo(u64::MAX),
                 "refused 28 TraceStep 18446744073709551615 cause 10 NothingToUndo 18446744073709551615\n",
+            ),
+        ],
+    );
+}
+
+#[test]
+fn a_refused_event_of_a_bookmark_shows_both_numbers_and_the_cause(rt: HostRuntime) {
+    trace_marks_are(
+        &rt,
+        &[
+            (
+                1,
+                1,
+                Refusal::Idle,
+                "refused 32 TraceMark 1 1 cause 3 Idle\n",
+            ),
+            (
+                u64::MAX,
+                u64::MAX,
+                Refusal::NothingToUndo(u64::MAX),
+                "refused 32 TraceMark 18446744073709551615 18446744073709551615 cause 10 NothingToUndo 18446744073709551615\n",
             ),
         ],
     );

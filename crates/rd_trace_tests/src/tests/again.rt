@@ -17,16 +17,17 @@ fn same_records<const R: usize>(one: &Book<R>, other: &Book<R>) -> bool {
     other.session().len() == one.session().len()
 }
 
-/// A loaded book has the live records of another one, and its trace; nothing is undone, and there is no bookmark.
+/// A loaded book has the live records of another one, as many undone steps and bookmarks, and its trace.
 fn are_alike<const R: usize>(
     rt: &impl Abort,
     alloc: Global,
     one: &Book<R>,
     loaded: &Book<R>,
 ) -> Result<(), Fail> {
-    let bare = loaded.session().undone_len() == 0 && loaded.marks() == 0;
+    let counted = loaded.session().undone_len() == one.session().undone_len()
+        && loaded.marks() == one.marks();
     let traced = written(alloc, loaded)?.as_slice() == written(alloc, one)?.as_slice();
-    assert!(rt; same_records(one, loaded) && bare && traced);
+    assert!(rt; same_records(one, loaded) && counted && traced);
     Ok(())
 }
 

@@ -35,7 +35,8 @@ impl<'a> Write for TestWriter<'a> {
 }
 
 /// The trace of one event.
-const TRACE: &[u8] = b"{\"actors\":4,\"events\":[[\"deq\",1]],\"ring\":2,\"version\":1}\n";
+const TRACE: &[u8] =
+    b"{\"events\":[[\"deq\",1]],\"marks\":[],\"ring\":2,\"start\":{\"fresh\":4},\"undone\":[],\"version\":2}\n";
 
 /// Writes the trace to each writer of so many good writes of so many bytes, and compares the answer and how many bytes were taken.
 fn writes_are(
@@ -67,8 +68,8 @@ fn a_failed_write_leaves_a_beginning_of_the_trace(rt: HostRuntime) -> Result<(),
             (0, 100, Err(WriteTraceFault::Write), 0),
             (3, 2, Err(WriteTraceFault::Write), 6),
             (5, 0, Err(WriteTraceFault::Write), 0),
-            (1, 100, Ok(()), 55),
-            (55, 1, Ok(()), 55),
+            (1, 100, Ok(()), 87),
+            (87, 1, Ok(()), 87),
         ],
     )
 }

@@ -1,4 +1,4 @@
-//! Texts that are no trace, and texts of which an event is refused.
+//! Texts of version 1: those that are no trace, and those of which an event is refused.
 
 use super::{AnyBook, are_bad, fault_is, faults_are, text_is};
 use rd_cell::Refusal;
@@ -132,6 +132,6 @@ fn white_space_escapes_and_the_order_of_keys_do_not_matter(rt: HostRuntime) -> R
         return Err(Fail::from(Refusal::NoMark));
     };
     let compact =
-        "{\"actors\":16,\"events\":[[\"enq\",1,7],[\"go\",1]],\"ring\":2,\"version\":1}\n";
+        "{\"events\":[[\"enq\",1,7],[\"go\",1]],\"marks\":[],\"ring\":2,\"start\":{\"fresh\":16},\"undone\":[],\"version\":2}\n";
     text_is(&rt, alloc, &book, compact)
 }

@@ -1,5 +1,4 @@
-use Rattle.std.proofs.Common.{Ok, Err, ap, sym, subst, ◌∙◌}
-use Rattle.rd_step.specs.Starts.{fresh_world}
+use Rattle.std.proofs.Common.{Ok, Err, subst}
 use Rattle.rd_script.specs.Script.{RunsScript}
 use Rattle.rd_trace.specs.Loading.{any_ring, any_state}
 use Rattle.rd_trace.specs.Devices.{devices}
@@ -22,10 +21,9 @@ returns-in_err-write_if g c actors first =
     let d = devices g.S.Source g.K.Sink c.args.reader.now c.run.new.reader c.args.writer.now c.write_if.new.writer in
     let fault = c.in_err-write_if.field-0.0 in
     let ring = c.in_ok-lines.ensures.ring in
-    let start = c.in_ok-lines.ensures.start ∙ ap (λ b. b.session.start) first ∙ ap (λ k. fresh_world k actors) (sym ring) in
     let ran = ran_to_trace R (any_ring c.run.new.self) actors c.args.trace d (any_state c.args.book.now) (any_state c.run.new.self)
     (g.K.Sink.contents c.run.new.writer) (g.K.Sink.has_failed c.run.new.writer) c.in_ok-lines.lines (Err fault) ring first
-    c.in_ok-lines.ensures.runs (c.in_err-write_if.ensures actors start) in
+    c.in_ok-lines.ensures.runs c.in_err-write_if.ensures in
     fault_passed_up (λ r. PlaysScript R actors c.args.trace d r) fault c.from_residual-in_err-write_if.result c.from_residual-in_err-write_if.ensures.1
     (plays_to_trace_fault R actors c.args.trace d c.in_ok-lines.lines fault ran)
 
@@ -34,7 +32,6 @@ returns g c actors first =
     let R = any_ring c.args.book.now in
     let d = devices g.S.Source g.K.Sink c.args.reader.now c.run.new.reader c.args.writer.now c.write_if.new.writer in
     let ring = c.in_ok-lines.ensures.ring in
-    let start = c.in_ok-lines.ensures.start ∙ ap (λ b. b.session.start) first ∙ ap (λ k. fresh_world k actors) (sym ring) in
     ran_to_trace R (any_ring c.run.new.self) actors c.args.trace d (any_state c.args.book.now) (any_state c.run.new.self)
     (g.K.Sink.contents c.run.new.writer) (g.K.Sink.has_failed c.run.new.writer) c.in_ok-lines.lines (Ok tt) ring first
-    c.in_ok-lines.ensures.runs (c.in_ok-write_if.ensures actors start)
+    c.in_ok-lines.ensures.runs c.in_ok-write_if.ensures

@@ -1,4 +1,3 @@
-use Rattle.std.proofs.Common.{Ok, Err}
 use Rattle.rd_trace.specs.Loading.{any_ring, any_state}
 use Rattle.rd_trace.specs.Devices.{devices}
 use Rattle.rd_program.specs.Program.{RunsOver, program_fault}

@@ -1,37 +1,47 @@
-use Rattle.std.proofs.Common.{rules, ◌≡◌, ◌+◌, [], length, take, inl, inr, sym, ap, ◌∙◌, subst, arith}
-use Rattle.std.proofs.lemmas.List.{take_all}
-use Rattle.rd_journal.specs.State.{state_of}
-use Rattle.rd_journal.specs.Sessions.{state}
+use Rattle.std.proofs.Common.{◌≡◌, ◌++◌, map, Ok, Err, ap, ap₂, subst, ◌∙◌}
+use Rattle.rd_journal.specs.State.{State}
 use Rattle.rd_marks.specs.declared.books.Book.{Book}
 use Rattle.rd_marks.specs.BookViews.{book_state}
-use Rattle.rd_trace.specs.Traces.{Trace, session_at, loaded_state, GoesThrough, IsRefusedAt}
-use Rattle.rd_trace.proofs.ReplayLemmas.{at_start, at_next, refused_here, refused_with, loaded_as}
+use Rattle.rd_trace.specs.Bookmarks.{saved_mark}
+use Rattle.rd_trace.specs.Saved.{saved_trace, loaded_state}
+use Rattle.rd_trace.specs.Loading.{Replays}
+use Rattle.rd_trace.specs.Steps.{MakesLive, RefusesOne, SetsMarks}
+use Rattle.rd_trace.proofs.ReplayLemmas.{passed_up, no_marks, no_steps, plays}
 use Rattle.rd_trace.proofs.replay.replay.Goals as goal
 
-pub loop-event-init : goal.loop-event-init
-loop-event-init g c =
-    at_start (record { actors = c.args.actors; events = c.args.events.now; ring = g.row.R }) (state c.open-session.result)
-    (c.open-session.ensures.state ∙ ap (λ w. record { start = w; live = []; undone = [] }) c.in-Ok.ensures.ok)
+pub returns-in_err-set_marks : goal.returns-in_err-set_marks
+returns-in_err-set_marks g c =
+    let t = saved_trace c.args.session in
+    let IsBook = λ (book : Book g.row.R). book_state book ≡ loaded_state t in
+    let old = book_state c.open-book.result in
+    let now = book_state c.set_marks.new.book in
+    let start = ap (λ (s : State). s.start) (c.open-book.ensures.session ∙ c.open.ensures.state) ∙ c.in_ok-world.ensures.1 in
+    let fault = c.in_err-set_marks.field-0.0 in
+    let set = subst (λ ms. SetsMarks g.row.R old (map saved_mark ms) now (Err fault)) c.deref.ensures.value c.in_err-set_marks.ensures in
+    passed_up (λ r. Replays IsBook t r) c.from_residual-in_err-set_marks.result fault c.from_residual-in_err-set_marks.ensures.1
+    (no_marks IsBook t c.in_ok-world.ensures.0 old start now fault set)
 
 pub returns-in-Err : goal.returns-in-Err
 returns-in-Err g c =
-    let t : Trace = record { actors = c.args.actors; events = c.args.events.now; ring = g.row.R } in
-    let number : length (state c.loop-event.session).live + 1 ≡ c.len.result + 1 = ap (λ n. n + 1) (sym (c.len.ensures.count ∙ ap (λ j. length (state_of j).live) c.in-Err.ensures.unchanged)) in
-    refused_with (λ (b : Book g.row.R). book_state b ≡ loaded_state t) t (c.len.result + 1) c.in-Err.refusal c.fault_of.result c.fault_of.ensures (elim c.in-Err.ensures.err [
-      | inl h ↦ inl (subst (λ n. IsRefusedAt t n c.in-Err.refusal) number (refused_here t c.loop-event.event-index (state c.loop-event.session) c.loop-event.invariant _ (omega arith) (search rules) c.in-Err.refusal h))
-      | inr h ↦ inr h.0
-    ])
-
-pub loop-event-preserved : goal.loop-event-preserved
-loop-event-preserved g c =
-    let t : Trace = record { actors = c.args.actors; events = c.args.events.now; ring = g.row.R } in
-    at_next t c.loop-event.event-index (state c.loop-event.session) c.loop-event.invariant _ (omega arith) (search rules) (state c.apply.new.self) c.in_default-apply.ensures.ok
+    let t = saved_trace c.args.session in
+    let IsBook = λ (book : Book g.row.R). book_state book ≡ loaded_state t in
+    let old = book_state c.open-book.result in
+    let now = book_state c.set_marks.new.book in
+    let start = ap (λ (s : State). s.start) (c.open-book.ensures.session ∙ c.open.ensures.state) ∙ c.in_ok-world.ensures.1 in
+    let set = subst (λ ms. SetsMarks g.row.R old (map saved_mark ms) now (Ok tt)) c.deref.ensures.value c.in_ok-set_marks.ensures in
+    let all = ap₂ (λ es fs. es ++ fs) c.deref-2.ensures.value c.deref-3.ensures.value in
+    let why = subst (λ es. RefusesOne g.row.R now.session.start es c.in-Err.refused) all c.in-Err.ensures in
+    no_steps IsBook t c.in_ok-world.ensures.0 old start now set c.in-Err.refused c.of_step.result why c.of_step.ensures
 
 pub returns : goal.returns
 returns g c =
-    let t : Trace = record { actors = c.args.actors; events = c.args.events.now; ring = g.row.R } in
-    let all : take c.loop-event.event-index c.args.events.now ≡ c.args.events.now = take_all c.loop-event.event-index c.args.events.now c.loop-event-test.false in
-    let at = c.loop-event.invariant in (
-      subst (GoesThrough t) all at.through,
-      loaded_as t (book_state c.open.result) (c.open.ensures.session ∙ at.state ∙ ap (session_at t) all) c.open.ensures.marks,
-    )
+    let t = saved_trace c.args.session in
+    let IsBook = λ (book : Book g.row.R). book_state book ≡ loaded_state t in
+    let old = book_state c.open-book.result in
+    let now = book_state c.set_marks.new.book in
+    let new = book_state c.make_live.new.book in
+    let start = ap (λ (s : State). s.start) (c.open-book.ensures.session ∙ c.open.ensures.state) ∙ c.in_ok-world.ensures.1 in
+    let set = subst (λ ms. SetsMarks g.row.R old (map saved_mark ms) now (Ok tt)) c.deref.ensures.value c.in_ok-set_marks.ensures in
+    let live = subst (λ fs. MakesLive g.row.R now t.live fs new (Ok tt)) c.deref-3.ensures.value
+    (subst (λ es. MakesLive g.row.R now es c.deref-3.result.now new (Ok tt)) c.deref-2.ensures.value c.in_default.ensures) in
+    plays IsBook t c.in_ok-world.ensures.0 old start now set new live

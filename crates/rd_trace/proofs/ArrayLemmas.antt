@@ -1,0 +1,226 @@
+-- The array as a value: which slots are read, whose positions rise, and its value, which spells it.
+use Rattle.std.proofs.Common.{◌≡◌, ℕ, zero, suc, ◌+◌, ◌<◌, ◌≤◌, List, [], ◌∷◌, ◌++◌, length, drop, set, replicate, take, get_or, Bool, true, false, if◌then◌else◌, bytes_eq, codes, Option, Some, None, option_map, option_and_then, refl, sym, ap, ap₂, ◌∙◌, subst, arith, append-nil, length-take}
+use Rattle.std.proofs.lemmas.List.{length-set, take_more}
+use Rattle.serde_json.specs.Data.{Data, unsigned, negative, float, null, boolean, number, string, array, object, Items, no_items, item}
+use Rattle.serde_json.specs.View.{view, items_view}
+use Rattle.serde_json.specs.declared.value.Value.{Value}
+use Rattle.rd_step.specs.Prelude.{SLOTS}
+use Rattle.rd_cell.specs.declared.contents.ArrSlot.{ArrSlot}
+use Rattle.rd_cell.specs.declared.contents.ArrSlot.TheVariants.{Empty, Top, Value as Held}
+use Rattle.rd_segments.specs.declared.array.ArrayParts.{ArrayParts}
+use Rattle.rd_trace.specs.Numbers.{whole_number}
+use Rattle.rd_trace.specs.Arrays.{slot_content, slot_of_items, slot_of, slots_of, filled_slots, slot_data, slots_data, IsArray, array_data}
+use Rattle.rd_trace.proofs.SpellLemmas.{then_item, items_view-last, behind, behind_none, ReadsEach, read_here, read_more, read_none, read_all}
+
+-- ---- reading
+
+-- a list of another length than two spells no slot
+pub no_slot : (vs : List Value) → (length vs ≡ 2 → ⊥) → slot_of_items (items_view vs) ≡ None
+no_slot [] two = refl
+no_slot (i ∷ []) two = refl
+no_slot (i ∷ s ∷ []) two = absurd (two refl)
+no_slot (i ∷ s ∷ more ∷ vs) two = refl
+
+abbrev pub IsFilled : ArrSlot → Type 0
+IsFilled Empty = ⊥
+IsFilled Top = Unit {0}
+IsFilled (Held x) = Unit {0}
+
+-- all slots from a position on are empty
+abbrev pub AreEmptyFrom : ℕ → List ArrSlot → Type 0
+AreEmptyFrom i [] = Unit {0}
+AreEmptyFrom zero (s ∷ ss) = (s ≡ Empty) × AreEmptyFrom zero ss
+AreEmptyFrom (suc i) (s ∷ ss) = AreEmptyFrom i ss
+
+empty_slots : (n : ℕ) → AreEmptyFrom zero (replicate n Empty)
+empty_slots zero = tt
+empty_slots (suc n) = (refl, empty_slots n)
+
+empty_later : (i k : ℕ) (ss : List ArrSlot) → i ≤ k → AreEmptyFrom i ss → AreEmptyFrom k ss
+empty_later i k [] le h = tt
+empty_later zero zero (s ∷ ss) le h = h
+empty_later zero (suc k) (s ∷ ss) le h = empty_later zero k ss (omega arith) h.1
+empty_later (suc i) zero (s ∷ ss) le h = absurd (omega arith)
+empty_later (suc i) (suc k) (s ∷ ss) le h = empty_later i k ss (omega arith) h
+
+empty_behind : (k : ℕ) (ss : List ArrSlot) (s : ArrSlot) → AreEmptyFrom k ss → AreEmptyFrom (suc k) (set ss k s)
+empty_behind k [] s h = tt
+empty_behind zero (x ∷ ss) s h = h.1
+empty_behind (suc k) (x ∷ ss) s h = empty_behind k ss s h
+
+filled_none : (i : ℕ) (ss : List ArrSlot) → AreEmptyFrom zero ss → filled_slots i ss ≡ []
+filled_none i [] h = refl
+filled_none i (s ∷ ss) h = ap (λ x. filled_slots i (x ∷ ss)) h.0 ∙ filled_none (suc i) ss h.1
+
+filled_first : (i : ℕ) (s : ArrSlot) (ss : List ArrSlot) → IsFilled s → filled_slots i (s ∷ ss) ≡ (i, s) ∷ filled_slots (suc i) ss
+filled_first i Empty ss h = absurd h
+filled_first i Top ss h = refl
+filled_first i (Held x) ss h = refl
+
+-- one more slot is filled, behind all that were
+filled_set : (i k j : ℕ) (ss : List ArrSlot) (s : ArrSlot) → j ≡ i + k → k < length ss → AreEmptyFrom k ss → IsFilled s → filled_slots i (set ss k s) ≡ filled_slots i ss ++ (j, s) ∷ []
+filled_set i k j [] s at within h filled = absurd (omega arith)
+filled_set i zero j (x ∷ ss) s at within h filled =
+    let here : i ≡ j = omega arith in
+    filled_first i s ss filled ∙ ap₂ (λ n ps. (n, s) ∷ ps) here (filled_none (suc i) ss h.1) ∙ sym (ap (λ ps. ps ++ (j, s) ∷ []) (filled_none i (x ∷ ss) h))
+filled_set i (suc k) j (Empty ∷ ss) s at within h filled = filled_set (suc i) k j ss s (omega arith) (omega arith) h filled
+filled_set i (suc k) j (Top ∷ ss) s at within h filled = ap (λ ps. (i, Top) ∷ ps) (filled_set (suc i) k j ss s (omega arith) (omega arith) h filled)
+filled_set i (suc k) j (Held x ∷ ss) s at within h filled = ap (λ ps. (i, Held x) ∷ ps) (filled_set (suc i) k j ss s (omega arith) (omega arith) h filled)
+
+-- the positions rise from the first one, and are below an end
+abbrev pub Rises : ℕ → ℕ → List (ℕ × ArrSlot) → Type 0
+Rises first end [] = Unit {0}
+Rises first end (p ∷ ps) = (first ≤ p.0) × (p.0 < end) × Rises (suc p.0) end ps
+
+rises_from : (i k end : ℕ) (ps : List (ℕ × ArrSlot)) → i ≤ k → Rises k end ps → Rises i end ps
+rises_from i k end [] le h = tt
+rises_from i k end (p ∷ ps) le h = (omega (arith, h.0), h.1, h.2)
+
+pub filled_rises : (i end : ℕ) (ss : List ArrSlot) → i + length ss ≤ end → Rises i end (filled_slots i ss)
+filled_rises i end [] le = tt
+filled_rises i end (Empty ∷ ss) le = rises_from i (suc i) end (filled_slots (suc i) ss) (omega arith) (filled_rises (suc i) end ss (omega arith))
+filled_rises i end (Top ∷ ss) le = (omega arith, omega arith, filled_rises (suc i) end ss (omega arith))
+filled_rises i end (Held x ∷ ss) le = (omega arith, omega arith, filled_rises (suc i) end ss (omega arith))
+
+-- the lowest position that may stand behind these
+abbrev pub next_position : ℕ → List (ℕ × ArrSlot) → ℕ
+next_position i [] = i
+next_position i (p ∷ ps) = next_position (suc p.0) ps
+
+next_behind : (i : ℕ) (ps : List (ℕ × ArrSlot)) (p : ℕ × ArrSlot) → next_position i (ps ++ p ∷ []) ≡ suc p.0
+next_behind i [] p = refl
+next_behind i (q ∷ ps) p = next_behind (suc q.0) ps p
+
+rises_at : (i end : ℕ) (ps : List (ℕ × ArrSlot)) (p : ℕ × ArrSlot) (more : List (ℕ × ArrSlot)) → Rises i end (ps ++ p ∷ more) → (next_position i ps ≤ p.0) × (p.0 < end)
+rises_at i end [] p more h = (h.0, h.1)
+rises_at i end (q ∷ ps) p more h = rises_at (suc q.0) end ps p more h.2
+
+rises_there : (end : ℕ) (done : List (ℕ × ArrSlot)) (p : ℕ × ArrSlot) (rest : Option (List (ℕ × ArrSlot))) (ps : List (ℕ × ArrSlot))
+    → behind done (option_map (λ qs. p ∷ qs) rest) ≡ Some ps → Rises 0 end ps → (next_position 0 done ≤ p.0) × (p.0 < end)
+rises_there end done p None ps is h = absurd (cc)
+rises_there end done p (Some qs) ps is h = let same : ps ≡ done ++ p ∷ qs = cc in rises_at 0 end done p qs (subst (Rises 0 end) same h)
+
+-- no empty slot is spelled
+some_filled : (s t : ArrSlot) → IsFilled t → Some s ≡ Some t → IsFilled s
+some_filled s t h is = let same : t ≡ s = cc in subst IsFilled same h
+
+top_filled : (b : Bool) (s : ArrSlot) → Some s ≡ (if b then Some Top else None) → IsFilled s
+top_filled true s is = some_filled s Top tt is
+top_filled false s is = absurd (cc)
+
+content_filled : (d : Data) (s : ArrSlot) → Some s ≡ slot_content d → IsFilled s
+content_filled null s is = absurd (cc)
+content_filled (boolean b) s is = absurd (cc)
+content_filled (number (unsigned n)) s is = some_filled s (Held n) tt is
+content_filled (number (negative z)) s is = absurd (cc)
+content_filled (number (float x)) s is = absurd (cc)
+content_filled (string t) s is = top_filled (bytes_eq t (codes "top")) s is
+content_filled (array ds) s is = absurd (cc)
+content_filled (object ms) s is = absurd (cc)
+
+pair_filled : (n : Option ℕ) (o : Option ArrSlot) (p : ℕ × ArrSlot) → ((s : ArrSlot) → Some s ≡ o → IsFilled s)
+    → Some p ≡ option_and_then (λ position. option_map (λ slot. (position, slot)) o) n → IsFilled p.1
+pair_filled None o p h is = absurd (cc)
+pair_filled (Some i) None p h is = absurd (cc)
+pair_filled (Some i) (Some s) p h is = let same : p ≡ (i, s) = cc in subst (λ x. IsFilled x.1) (sym same) (h s refl)
+
+items_filled : (ds : Items) (p : ℕ × ArrSlot) → Some p ≡ slot_of_items ds → IsFilled p.1
+items_filled no_items p is = absurd (cc)
+items_filled (item i no_items) p is = absurd (cc)
+items_filled (item i (item s no_items)) p is = pair_filled (whole_number i) (slot_content s) p (content_filled s) is
+items_filled (item i (item s (item more rest))) p is = absurd (cc)
+
+slot_filled : (d : Data) (p : ℕ × ArrSlot) → Some p ≡ slot_of d → IsFilled p.1
+slot_filled null p is = absurd (cc)
+slot_filled (boolean b) p is = absurd (cc)
+slot_filled (number n) p is = absurd (cc)
+slot_filled (string s) p is = absurd (cc)
+slot_filled (array ds) p is = items_filled ds p is
+slot_filled (object ms) p is = absurd (cc)
+
+pub reads_slots : ReadsEach slot_of slots_of
+reads_slots = record { nothing = refl; first = λ d ds. refl }
+
+-- the slots that the values before this one spell, the lowest position that is free, and what is spelled behind them
+pub record AreReadTo (vs : List Value) (i : ℕ) (slots : List ArrSlot) (free : ℕ) : Type 0 where
+  pub spelled : slots_of (items_view vs) ≡ behind (filled_slots 0 slots) (slots_of (items_view (drop i vs)))
+  pub sized : length slots ≡ SLOTS
+  pub next : free ≡ next_position 0 (filled_slots 0 slots)
+  pub empty : AreEmptyFrom free slots
+
+pub none_read : (vs : List Value) → AreReadTo vs 0 (replicate SLOTS Empty) 0
+none_read vs =
+    let none : filled_slots 0 (replicate SLOTS Empty) ≡ [] = filled_none 0 (replicate SLOTS Empty) (empty_slots SLOTS) in
+    record {
+      spelled = behind_none (slots_of (items_view vs)) ∙ ap (λ ps. behind ps (slots_of (items_view vs))) (sym none);
+      sized = refl;
+      next = sym (ap (next_position 0) none);
+      empty = empty_slots SLOTS;
+    }
+
+module _ (vs : List Value) (i : ℕ) (slots : List ArrSlot) (free : ℕ) (h : AreReadTo vs i slots free) (v : Value) (within : i < length vs) (is : v ≡ get_or vs i v) where
+  pub one_more_slot : (p : ℕ × ArrSlot) (next : ℕ) → Some p ≡ slot_of (view v) → free ≤ p.0 → p.0 < SLOTS → next ≡ suc p.0 → AreReadTo vs (i + 1) (set slots p.0 p.1) next
+  one_more_slot p next read behind_all below is_next =
+      let sized = h.sized in
+      let more : filled_slots 0 (set slots p.0 p.1) ≡ filled_slots 0 slots ++ p ∷ [] =
+      filled_set 0 p.0 p.0 slots p.1 (omega arith) (omega arith) (empty_later free p.0 slots behind_all h.empty) (slot_filled (view v) p read) in
+      record {
+        spelled = read_more slot_of slots_of reads_slots vs (filled_slots 0 slots) i h.spelled v p within is read ∙ ap (λ ps. behind ps (slots_of (items_view (drop (i + 1) vs)))) (sym more);
+        sized = length-set slots p.0 p.1 ∙ h.sized;
+        next = is_next ∙ sym (next_behind 0 (filled_slots 0 slots) p) ∙ sym (ap (next_position 0) more);
+        empty = subst (λ n. AreEmptyFrom n (set slots p.0 p.1)) (sym is_next) (empty_behind p.0 slots p.1 (empty_later free p.0 slots behind_all h.empty));
+      }
+
+  -- positions of slots rise, and are those of slots
+  pub rises_here : (p : ℕ × ArrSlot) → Some p ≡ slot_of (view v) → (ss : List ArrSlot) → length ss ≡ SLOTS → slots_of (items_view vs) ≡ Some (filled_slots 0 ss) → (free ≤ p.0) × (p.0 < SLOTS)
+  rises_here p read ss size all =
+      let there = rises_there SLOTS (filled_slots 0 slots) p (slots_of (items_view (drop (i + 1) vs))) (filled_slots 0 ss)
+      (sym (read_here slot_of slots_of reads_slots vs (filled_slots 0 slots) i h.spelled v (Some p) within is read) ∙ all) (filled_rises 0 SLOTS ss (omega arith)) in
+      (subst (λ n. n ≤ p.0) (sym h.next) there.0, there.1)
+
+  pub none_here : None ≡ slot_of (view v) → (ss : List ArrSlot) → slots_of (items_view vs) ≡ Some (filled_slots 0 ss) → ⊥
+  none_here read ss all = let none = read_none slot_of slots_of reads_slots vs (filled_slots 0 slots) i h.spelled v within is read in cc
+
+pub all_read : (vs : List Value) (i : ℕ) (slots : List ArrSlot) (free : ℕ) → AreReadTo vs i slots free → length vs ≤ i → slots_of (items_view vs) ≡ Some (filled_slots 0 slots)
+all_read vs i slots free h past = read_all slot_of slots_of reads_slots vs (filled_slots 0 slots) i h.spelled past
+
+-- ---- writing
+
+filled_behind : (i j : ℕ) (xs : List ArrSlot) (s : ArrSlot) → j ≡ i + length xs → filled_slots i (xs ++ s ∷ []) ≡ filled_slots i xs ++ filled_slots j (s ∷ [])
+filled_behind i j [] s at = let here : i ≡ j = omega arith in ap (λ n. filled_slots n (s ∷ [])) here
+filled_behind i j (Empty ∷ xs) s at = filled_behind (suc i) j xs s (omega arith)
+filled_behind i j (Top ∷ xs) s at = ap (λ ps. (i, Top) ∷ ps) (filled_behind (suc i) j xs s (omega arith))
+filled_behind i j (Held x ∷ xs) s at = ap (λ ps. (i, Held x) ∷ ps) (filled_behind (suc i) j xs s (omega arith))
+
+slots_data-last : (ps : List (ℕ × ArrSlot)) (p : ℕ × ArrSlot) → slots_data (ps ++ p ∷ []) ≡ then_item (slots_data ps) (slot_data p.0 p.1)
+slots_data-last [] p = refl
+slots_data-last (q ∷ ps) p = ap (item (slot_data q.0 q.1)) (slots_data-last ps p)
+
+not_empty : (s : ArrSlot) → (s ≡ Empty → ⊥) → IsFilled s
+not_empty Empty other = other refl
+not_empty Top other = tt
+not_empty (Held x) other = tt
+
+module _ (ss : List ArrSlot) (i : ℕ) (d : ArrSlot) (vs : List Value) (within : i < length ss) (so_far : items_view vs ≡ slots_data (filled_slots 0 (take i ss))) where
+  filled_take : filled_slots 0 (take (i + 1) ss) ≡ filled_slots 0 (take i ss) ++ filled_slots i (get_or ss i d ∷ [])
+  filled_take = ap (filled_slots 0) (take_more ss i d within) ∙ filled_behind 0 i (take i ss) (get_or ss i d) (omega (arith, length-take i ss))
+
+  pub one_more_value : (v : Value) → (get_or ss i d ≡ Empty → ⊥) → view v ≡ slot_data i (get_or ss i d) → items_view (vs ++ v ∷ []) ≡ slots_data (filled_slots 0 (take (i + 1) ss))
+  one_more_value v other is =
+      let s = get_or ss i d in
+      items_view-last vs v ∙ ap₂ then_item so_far is ∙ sym (slots_data-last (filled_slots 0 (take i ss)) (i, s))
+      ∙ ap slots_data (ap (λ ps. filled_slots 0 (take i ss) ++ ps) (sym (filled_first i s [] (not_empty s other))) ∙ sym filled_take)
+
+  pub no_more_value : get_or ss i d ≡ Empty → items_view vs ≡ slots_data (filled_slots 0 (take (i + 1) ss))
+  no_more_value empty =
+      so_far ∙ ap slots_data (sym (append-nil (filled_slots 0 (take i ss))) ∙ ap (λ s. filled_slots 0 (take i ss) ++ filled_slots i (s ∷ [])) (sym empty) ∙ sym filled_take)
+
+slots_spelled : (i : ℕ) (ss : List ArrSlot) → slots_of (slots_data (filled_slots i ss)) ≡ Some (filled_slots i ss)
+slots_spelled i [] = refl
+slots_spelled i (Empty ∷ ss) = slots_spelled (suc i) ss
+slots_spelled i (Top ∷ ss) = ap (option_map (λ ps. (i, Top) ∷ ps)) (slots_spelled (suc i) ss)
+slots_spelled i (Held x ∷ ss) = ap (option_map (λ ps. (i, Held x) ∷ ps)) (slots_spelled (suc i) ss)
+
+-- the value that the array is written as spells it
+pub array_spelled : (a : ArrayParts) → IsArray (array_data a) a
+array_spelled a = record { members = refl; cells = slots_spelled 0 a.cells; head = refl; tail = refl }

@@ -1,0 +1,458 @@
+-- A text is one trace at most.
+use Rattle.std.proofs.Common.{◌≡◌, ◌≢◌, ℕ, suc, ◌+◌, ◌≤◌, Bool, not, ◌&&◌, ◌==◌, nat_le, if◌then◌else◌, List, [], ◌∷◌, ◌++◌, map, length, slice_get, codes, bytes_eq, Option, Some, None, is_some, option_map, Result, Ok, Err, Vec, Global, ◌⊎◌, inl, inr, refl, sym, ap, ap₂, ◌∙◌, subst, subst₂, arith, map-id}
+use Rattle.std.proofs.Props.{props}
+use Rattle.std.proofs.lemmas.List.{length-map}
+use Rattle.std.proofs.lemmas.List.Folds.{list_all-map}
+use Rattle.std.proofs.lemmas.Option.{slice_get-map}
+use Rattle.std.specs.List.{list_all}
+use mathlib.Core.HLevel.{is_prop→PathP}
+use Rattle.serde_json.specs.Data.{Data, Items, no_items, item}
+use Rattle.serde_json.specs.Find.{get, as_array}
+use Rattle.serde_json.specs.Read.{read}
+use Rattle.rd_cell.specs.declared.places.SegName.{SegName}
+use Rattle.rd_cell.specs.declared.contents.ArrSlot.{ArrSlot}
+use Rattle.rd_cell.specs.declared.contents.ArrSlot.TheVariants.{Empty, Top, Value}
+use Rattle.rd_actor.specs.declared.actors.Actor.{Actor}
+use Rattle.rd_actor.specs.declared.actors.Pc.{Pc}
+use Rattle.rd_actor.specs.declared.actors.Pc.TheVariants.{Idle as AtIdle, E1, E2, E3, E4, E5, E6, E7, E8, E9, E10, E11, E12, E13, E14, Q1, Q2, Q3, Q4, Q5, Q6, Q7, Q8, Q9, Q10, Q11, Q12, Q13, Q14, A1, A2, B1, B2, B3}
+use Rattle.rd_ring.specs.Prelude.{COUNTER_END, MOST_SEGMENTS, MOST_CELLS, SLOTS}
+use Rattle.rd_ring.specs.declared.parts.SegmentParts.{SegmentParts}
+use Rattle.rd_ring.specs.Segments.{counters_fit}
+use Rattle.rd_segments.specs.declared.array.ArrayParts.{ArrayParts}
+use Rattle.rd_segments.specs.Lists.{by_number, by_name, count_in, count, segments_by}
+use Rattle.rd_segments.specs.Parts.{part_of_parts}
+use Rattle.rd_segments.specs.SpaceFields.{contents_by}
+use Rattle.rd_actor.specs.Words.{words_fit}
+use Rattle.rd_script.specs.Actors.{label}
+use Rattle.rd_step.specs.Prelude.{World, Refusal, MOST_ACTORS}
+use Rattle.rd_step.specs.declared.entries.Event.{Event}
+use Rattle.rd_step.specs.Starts.{fresh_world}
+use Rattle.rd_step.specs.Fields.{actor_at}
+use Rattle.rd_step.specs.Parts.{world_of_parts, first_flaw, indexes_fit, array_fits}
+use Rattle.rd_step.specs.WellFormed.{next_fits, names_fit, numbers_fit}
+use Rattle.rd_step.specs.declared.parts.Parts.{Parts}
+use Rattle.rd_step.specs.declared.flaws.Flaw.{Flaw}
+use Rattle.rd_step.specs.declared.flaws.Flaw.TheVariants.{Makers, PlaceNames, ActorNames, Counters, Indexes, ArrayCounters, ActorNumbers, ActorWords}
+use Rattle.rd_marks.specs.Names.{bytes_of}
+use Rattle.rd_marks.specs.Books.{Mark, BookState}
+use Rattle.rd_marks.specs.Rules.{GoThrough, MarksGoThrough}
+use Rattle.rd_trace.specs.Numbers.{member_count, number_at, list_at, SpellEach, SpellEachAt}
+use Rattle.rd_trace.specs.Actors.{IsActor}
+use Rattle.rd_trace.specs.Arrays.{filled_slots, IsArray}
+use Rattle.rd_trace.specs.Segments.{IsSegment, IsSegmentList}
+use Rattle.rd_trace.specs.Bookmarks.{IsMark}
+use Rattle.rd_trace.specs.Starts.{IsParts, IsStart, start_world, start_flaw}
+use Rattle.rd_trace.specs.declared.starts.Start.{Start}
+use Rattle.rd_trace.specs.declared.starts.Start.TheVariants.{Fresh, Parts as OfParts}
+use Rattle.rd_trace.specs.Saved.{Trace, IsFirstTrace, IsSecondTrace, IsTraceText, loaded_state, seen_mark, IsSameBook}
+use Rattle.rd_trace.specs.Traces.{IsTraceRing, IsRefusedAt, IsMarkRefusedAt}
+use Rattle.rd_trace.specs.Loading.{IsBookIn, Replays, LoadsTrace, IsReachable, LoadsAgain}
+use Rattle.rd_trace.specs.Writing.{IsTextOf}
+use Rattle.rd_trace.specs.declared.any_book.AnyBook.{AnyBook}
+use Rattle.rd_trace.specs.declared.faults.LoadTraceFault.{LoadTraceFault}
+use Rattle.rd_trace.specs.declared.faults.LoadTraceFault.TheVariants.{NoMemory, BadTrace, Flawed, TraceMark, TraceStep}
+
+pub some_same : {A : Type 0} (o : Option A) (a b : A) → o ≡ Some a → o ≡ Some b → a ≡ b
+some_same o a b h k = let both : Some a ≡ Some b = sym h ∙ k in cc
+
+-- ---- control points: the first of all whose label is a text
+
+abbrev first_of : List Pc → List ℕ → Pc
+first_of [] text = AtIdle
+first_of (pc ∷ pcs) text = if bytes_eq text (label pc) then pc else first_of pcs text
+
+abbrev all_points : List Pc
+all_points =
+    E1 ∷ E2 ∷ E3 ∷ E4 ∷ E5 ∷ E6 ∷ E7 ∷ E8 ∷ E9 ∷ E10 ∷ E11 ∷ E12 ∷ E13 ∷ E14 ∷ Q1 ∷ Q2 ∷ Q3 ∷ Q4 ∷ Q5 ∷ Q6 ∷ Q7 ∷ Q8 ∷ Q9 ∷ Q10 ∷ Q11 ∷ Q12 ∷ Q13 ∷ Q14 ∷ A1 ∷ A2 ∷ B1 ∷ B2 ∷ B3 ∷ []
+
+point_of : (pc : Pc) → first_of all_points (label pc) ≡ pc
+point_of AtIdle = refl
+point_of E1 = refl
+point_of E2 = refl
+point_of E3 = refl
+point_of E4 = refl
+point_of E5 = refl
+point_of E6 = refl
+point_of E7 = refl
+point_of E8 = refl
+point_of E9 = refl
+point_of E10 = refl
+point_of E11 = refl
+point_of E12 = refl
+point_of E13 = refl
+point_of E14 = refl
+point_of Q1 = refl
+point_of Q2 = refl
+point_of Q3 = refl
+point_of Q4 = refl
+point_of Q5 = refl
+point_of Q6 = refl
+point_of Q7 = refl
+point_of Q8 = refl
+point_of Q9 = refl
+point_of Q10 = refl
+point_of Q11 = refl
+point_of Q12 = refl
+point_of Q13 = refl
+point_of Q14 = refl
+point_of A1 = refl
+point_of A2 = refl
+point_of B1 = refl
+point_of B2 = refl
+point_of B3 = refl
+
+same_point : (p q : Pc) → label p ≡ label q → p ≡ q
+same_point p q e = sym (point_of p) ∙ ap (first_of all_points) e ∙ point_of q
+
+-- ---- actors
+
+same_actor : (d : Data) (a b : Actor) → IsActor d a → IsActor d b → a ≡ b
+same_actor d a b h k =
+    let pc = same_point a.pc b.pc (some_same _ _ _ h.pc k.pc) in
+    let pass = some_same _ a.pass b.pass h.pass k.pass in
+    let closed = some_same _ a.closed b.closed h.closed k.closed in
+    let safe = some_same _ a.safe b.safe h.safe k.safe in
+    let crq = some_same _ a.crq b.crq h.crq k.crq in
+    let new = some_same _ a.new b.new h.new k.new in
+    let next = some_same _ a.next b.next h.next k.next in
+    let op = some_same _ a.op b.op h.op k.op in
+    let t = some_same _ a.t b.t h.t k.t in
+    let head = some_same _ a.h b.h h.h k.h in
+    let val = some_same _ a.val b.val h.val k.val in
+    let idx = some_same _ a.idx b.idx h.idx k.idx in
+    λ i. record { pc = pc i; pass = pass i; closed = closed i; safe = safe i; crq = crq i; new = new i; next = next i; op = op i; t = t i; h = head i; val = val i; idx = idx i }
+
+-- ---- lists: what a value shows of a thing, a list of values shows of a list of things
+
+module _ {X Y : Type 0} (Spells : Data → X → Type 0) (seen : X → Y) (one : (d : Data) (x y : X) → Spells d x → Spells d y → seen x ≡ seen y) where
+  same_each : (ds : Items) (xs ys : List X) → SpellEach Spells ds xs → SpellEach Spells ds ys → map seen xs ≡ map seen ys
+  same_each no_items [] [] h k = refl
+  same_each no_items [] (y ∷ ys) h k = absurd k
+  same_each no_items (x ∷ xs) ys h k = absurd h
+  same_each (item d ds) [] ys h k = absurd h
+  same_each (item d ds) (x ∷ xs) [] h k = absurd k
+  same_each (item d ds) (x ∷ xs) (y ∷ ys) h k = ap₂ (λ z zs. z ∷ zs) (one d x y h.0 k.0) (same_each ds xs ys h.1 k.1)
+
+  same_list : (o : Option Items) (xs ys : List X) → (ds : Items) × (o ≡ Some ds) × SpellEach Spells ds xs → (ds : Items) × (o ≡ Some ds) × SpellEach Spells ds ys
+      → map seen xs ≡ map seen ys
+  same_list o xs ys (ds, is, each) (es, also, each_too) = same_each es xs ys (subst (λ z. SpellEach Spells z xs) (some_same o ds es is also) each) each_too
+
+same_actors : (d : Data) (xs ys : List Actor) → SpellEachAt IsActor (codes "actors") d xs → SpellEachAt IsActor (codes "actors") d ys → xs ≡ ys
+same_actors d xs ys h k = sym (map-id xs) ∙ same_list IsActor (λ a. a) same_actor _ xs ys h k ∙ map-id ys
+
+-- ---- the array
+
+-- what stands in front, and what is behind it
+abbrev front_number : List (ℕ × ArrSlot) → ℕ
+front_number [] = 0
+front_number (s ∷ ss) = s.0
+
+abbrev front_slot : List (ℕ × ArrSlot) → ArrSlot
+front_slot [] = Empty
+front_slot (s ∷ ss) = s.1
+
+abbrev behind_front : List (ℕ × ArrSlot) → List (ℕ × ArrSlot)
+behind_front [] = []
+behind_front (s ∷ ss) = ss
+
+-- none has a position before the first one's
+later_slot : (j : ℕ) (slots : List ArrSlot) (i : ℕ) (s : ArrSlot) (rest : List (ℕ × ArrSlot)) → filled_slots j slots ≡ (i, s) ∷ rest → j ≤ i
+later_slot j [] i s rest h = absurd (cc)
+later_slot j (Empty ∷ slots) i s rest h = let k = later_slot (suc j) slots i s rest h in omega (arith, k)
+later_slot j (Top ∷ slots) i s rest h = let e = ap front_number h in omega (arith, e)
+later_slot j (Value x ∷ slots) i s rest h = let e = ap front_number h in omega (arith, e)
+
+none_before : (i : ℕ) (slots : List ArrSlot) (s : ArrSlot) (rest : List (ℕ × ArrSlot)) → filled_slots (suc i) slots ≡ (i, s) ∷ rest → ⊥
+none_before i slots s rest h = let k = later_slot (suc i) slots i s rest h in omega (arith, k)
+
+fewer : {X : Type 0} (x y : X) (xs ys : List X) → length (x ∷ xs) ≡ length (y ∷ ys) → length xs ≡ length ys
+fewer x y xs ys h = omega (arith, h)
+
+same_slots : (i : ℕ) (xs ys : List ArrSlot) → length xs ≡ length ys → filled_slots i xs ≡ filled_slots i ys → xs ≡ ys
+same_slots i [] [] n h = refl
+same_slots i [] (b ∷ ys) n h = absurd (omega (arith, n))
+same_slots i (a ∷ xs) [] n h = absurd (omega (arith, n))
+same_slots i (Empty ∷ xs) (Empty ∷ ys) n h = ap (λ l. Empty ∷ l) (same_slots (suc i) xs ys (fewer Empty Empty xs ys n) h)
+same_slots i (Empty ∷ xs) (Top ∷ ys) n h = absurd (none_before i xs Top (filled_slots (suc i) ys) h)
+same_slots i (Empty ∷ xs) (Value y ∷ ys) n h = absurd (none_before i xs (Value y) (filled_slots (suc i) ys) h)
+same_slots i (Top ∷ xs) (Empty ∷ ys) n h = absurd (none_before i ys Top (filled_slots (suc i) xs) (sym h))
+same_slots i (Top ∷ xs) (Top ∷ ys) n h = ap (λ l. Top ∷ l) (same_slots (suc i) xs ys (fewer Top Top xs ys n) (ap behind_front h))
+same_slots i (Top ∷ xs) (Value y ∷ ys) n h = let e : Top ≡ Value y = ap front_slot h in absurd (cc)
+same_slots i (Value x ∷ xs) (Empty ∷ ys) n h = absurd (none_before i ys (Value x) (filled_slots (suc i) xs) (sym h))
+same_slots i (Value x ∷ xs) (Top ∷ ys) n h = let e : Value x ≡ Top = ap front_slot h in absurd (cc)
+same_slots i (Value x ∷ xs) (Value y ∷ ys) n h = ap₂ (λ s l. s ∷ l) (ap front_slot h) (same_slots (suc i) xs ys (fewer (Value x) (Value y) xs ys n) (ap behind_front h))
+
+same_array : (d : Data) (a b : ArrayParts) → IsArray d a → IsArray d b → a ≡ b
+same_array d a b h k =
+    let head = some_same _ a.head b.head h.head k.head in
+    let tail = some_same _ a.tail b.tail h.tail k.tail in
+    let filled = some_same _ (filled_slots 0 a.cells) (filled_slots 0 b.cells) h.cells k.cells in
+    let cells = same_slots 0 a.cells b.cells (a.sized ∙ sym b.sized) filled in
+    λ i. record {
+      head = head i;
+      tail = tail i;
+      cells = cells i;
+      sized = is_prop→PathP (λ j. length (cells j) ≡ SLOTS) (λ j. hlevel props) a.sized b.sized i;
+    }
+
+-- ---- segments
+
+same_segment : (R : ℕ) (d : Data) (s r : SegmentParts R) → IsSegment d s → IsSegment d r → s ≡ r
+same_segment R d s r h k =
+    let head = some_same _ s.head r.head h.head k.head in
+    let tail = some_same _ s.tail r.tail h.tail k.tail in
+    let closed = some_same _ s.closed r.closed h.closed k.closed in
+    let next = some_same _ s.next r.next h.next k.next in
+    let cells = some_same _ s.cells r.cells h.cells k.cells in
+    λ i. record {
+      head = head i;
+      tail = tail i;
+      closed = closed i;
+      next = next i;
+      cells = cells i;
+      small = is_prop→PathP (λ j. R ≤ MOST_CELLS) (λ j. hlevel props) s.small r.small i;
+      sized = is_prop→PathP (λ j. length (cells j) ≡ R) (λ j. hlevel props) s.sized r.sized i;
+    }
+
+abbrev items : {X : Type 0} → Vec X Global → List X
+items v = v.items
+
+same_segments : (R : ℕ) (d : Data) (v w : Vec (SegmentParts R) Global) → IsSegmentList d v → IsSegmentList d w → v.items ≡ w.items
+same_segments R d v w h k = sym (map-id v.items) ∙ same_list IsSegment (λ s. s) (same_segment R) (as_array d) v.items w.items h k ∙ map-id w.items
+
+same_makers : (R : ℕ) (d : Data) (vs ws : List (Vec (SegmentParts R) Global)) → SpellEachAt IsSegmentList (codes "segments") d vs → SpellEachAt IsSegmentList (codes "segments") d ws
+    → map items vs ≡ map items ws
+same_makers R d vs ws h k = same_list IsSegmentList items (same_segments R) (list_at (codes "segments") d) vs ws h k
+
+-- ---- what is seen of the makers' lists: their elements
+
+abbrev count_of : {X : Type 0} → Option (List X) → ℕ
+count_of None = 0
+count_of (Some xs) = length xs
+
+abbrev one_of : {X : Type 0} → Option (List X) → ℕ → Option X
+one_of None n = None
+one_of (Some xs) n = slice_get xs n
+
+counted : {X : Type 0} (o : Option (Vec X Global)) → count_in o ≡ count_of (option_map items o)
+counted None = refl
+counted (Some v) = refl
+
+numbered : {X : Type 0} (o : Option (Vec X Global)) (n : ℕ) → by_number o n ≡ one_of (option_map items o) n
+numbered None n = refl
+numbered (Some v) n = refl
+
+module _ {X : Type 0} (vs ws : List (Vec X Global)) (same : map items vs ≡ map items ws) where
+  same_length : length vs ≡ length ws
+  same_length = sym (length-map vs items) ∙ ap length same ∙ length-map ws items
+
+  same_all : (test : List X → Bool) → list_all (λ v. test v.items) vs ≡ list_all (λ v. test v.items) ws
+  same_all test = sym (list_all-map test items vs) ∙ ap (list_all test) same ∙ list_all-map test items ws
+
+  same_at : (m : ℕ) → option_map items (slice_get vs m) ≡ option_map items (slice_get ws m)
+  same_at m = sym (slice_get-map items vs m) ∙ ap (λ l. slice_get l m) same ∙ slice_get-map items ws m
+
+  same_count : (m : ℕ) → count vs m ≡ count ws m
+  same_count m = counted (slice_get vs m) ∙ ap count_of (same_at m) ∙ sym (counted (slice_get ws m))
+
+  same_name : (s : SegName) → by_name vs s ≡ by_name ws s
+  same_name s = numbered (slice_get vs s.maker) s.n ∙ ap (λ o. one_of o s.n) (same_at s.maker) ∙ sym (numbered (slice_get ws s.maker) s.n)
+
+-- ---- starts
+
+-- the first flaw of parts, by what is seen of them
+abbrev flaw_by : (R : ℕ) → List Actor → ℕ → ℕ → Bool → (SegName → Bool) → ((SegmentParts R → Bool) → Bool) → SegName → SegName → ArrayParts → Option Flaw
+flaw_by R actors makers roots few there each qhead qtail array =
+    if not (nat_le 1 (length actors) && nat_le (length actors) MOST_ACTORS && (makers == suc (length actors)) && (roots == 1) && few) then Some Makers
+    else if not (there qhead && there qtail && each (λ s. next_fits there s.next)) then Some PlaceNames
+    else if not (list_all (names_fit there) actors) then Some ActorNames
+    else if not (each counters_fit) then Some Counters
+    else if not (each (indexes_fit (COUNTER_END + R))) then Some Indexes
+    else if not (array_fits array) then Some ArrayCounters
+    else if not (list_all (numbers_fit R) actors) then Some ActorNumbers
+    else if not (list_all words_fit actors) then Some ActorWords
+    else None
+
+module _ (R : ℕ) (d : Data) (p q : Parts R) (h : IsParts d p) (k : IsParts d q) where
+  actors_same : p.actors.items ≡ q.actors.items
+  actors_same = same_actors d p.actors.items q.actors.items h.actors k.actors
+
+  makers_same : map items p.segments.items ≡ map items q.segments.items
+  makers_same = same_makers R d p.segments.items q.segments.items h.segments k.segments
+
+  names_same : (s : SegName) → by_name p.segments.items s ≡ by_name q.segments.items s
+  names_same = same_name p.segments.items q.segments.items makers_same
+
+  qhead_same : p.qhead ≡ q.qhead
+  qhead_same = some_same _ p.qhead q.qhead h.qhead k.qhead
+
+  qtail_same : p.qtail ≡ q.qtail
+  qtail_same = some_same _ p.qtail q.qtail h.qtail k.qtail
+
+  array_same : p.array ≡ q.array
+  array_same =
+      let one = some_same (get (codes "array") d) h.array.0 k.array.0 h.array.1 k.array.1 in
+      same_array k.array.0 p.array q.array (subst (λ x. IsArray x p.array) one h.array.2) k.array.2
+
+  one_world : world_of_parts p ≡ world_of_parts q
+  one_world = λ i. record {
+    at = contents_by (segments_by (λ n. part_of_parts (names_same n i))) (qhead_same i) (qtail_same i) (array_same i);
+    actor = actor_at (actors_same i);
+  }
+
+  one_flaw : first_flaw p ≡ first_flaw q
+  one_flaw =
+      let all = same_all p.segments.items q.segments.items makers_same in
+      let long = same_length p.segments.items q.segments.items makers_same in
+      let roots = same_count p.segments.items q.segments.items makers_same 0 in
+      λ i.
+      flaw_by R (actors_same i) (long i) (roots i) (all (λ l. nat_le (length l) MOST_SEGMENTS) i) (λ s. is_some (names_same s i))
+      (λ test. all (list_all test) i) (qhead_same i) (qtail_same i) (array_same i)
+
+two_counts : (d : Data) (n m : ℕ) → n ≢ m → member_count d ≡ Some n → member_count d ≡ Some m → ⊥
+two_counts d n m apart h k = apart (some_same (member_count d) n m h k)
+
+one_start : (R : ℕ) (d : Data) (s r : Start R) → IsStart d s → IsStart d r → (start_flaw s ≡ start_flaw r) × (start_world s ≡ start_world r)
+one_start R d (Fresh n) (Fresh m) h k = (refl, ap (fresh_world R) (some_same _ n m h.fresh.number k.fresh.number))
+one_start R d (Fresh n) (OfParts q) h k = absurd (two_counts d 1 5 (λ e. omega (arith, e)) h.members k.members)
+one_start R d (OfParts p) (Fresh m) h k = absurd (two_counts d 5 1 (λ e. omega (arith, e)) h.members k.members)
+one_start R d (OfParts p) (OfParts q) h k = (one_flaw R d p q h k, one_world R d p q h k)
+
+-- ---- bookmarks
+
+same_mark : (d : Data) (m n : Mark) → IsMark d m → IsMark d n → seen_mark m ≡ seen_mark n
+same_mark d m n h k =
+    let name = some_same _ (bytes_of m.name) (bytes_of n.name) h.name.text k.name.text in
+    let events = some_same _ m.events n.events h.events k.events in
+    λ i. (name i, events i)
+
+-- ---- traces
+
+-- two traces are the same, but for how their starts and names lie in memory
+pub record IsSameTrace {R Q : ℕ} (t : Trace R) (u : Trace Q) : Type 0 where
+  pub flaw : start_flaw t.start ≡ start_flaw u.start
+  pub world : start_world t.start ≡ start_world u.start
+  pub marks : map seen_mark t.marks ≡ map seen_mark u.marks
+  pub live : t.live ≡ u.live
+  pub undone : t.undone ≡ u.undone
+
+module _ (R : ℕ) (d : Data) (t u : Trace R) where
+  same_first : IsFirstTrace d t → IsFirstTrace d u → IsSameTrace t u
+  same_first h k =
+      let count = some_same _ h.actors.0 k.actors.0 h.actors.1.number k.actors.1.number in
+      record {
+        flaw = ap start_flaw h.actors.2 ∙ sym (ap start_flaw k.actors.2);
+        world = ap start_world h.actors.2 ∙ ap (fresh_world R) count ∙ sym (ap start_world k.actors.2);
+        marks = ap (map seen_mark) (h.marks ∙ sym k.marks);
+        live = some_same _ t.live u.live h.live k.live;
+        undone = h.undone ∙ sym k.undone;
+      }
+
+  same_second : IsSecondTrace d t → IsSecondTrace d u → IsSameTrace t u
+  same_second h k =
+      let at = some_same (get (codes "start") d) h.start.0 k.start.0 h.start.1 k.start.1 in
+      let start = one_start R k.start.0 t.start u.start (subst (λ x. IsStart x t.start) at h.start.2) k.start.2 in
+      record {
+        flaw = start.0;
+        world = start.1;
+        marks = same_list IsMark seen_mark same_mark (list_at (codes "marks") d) t.marks u.marks (h.marks.0, h.marks.1, h.marks.2.each) (k.marks.0, k.marks.1, k.marks.2.each);
+        live = some_same _ t.live u.live h.live k.live;
+        undone = some_same _ t.undone u.undone h.undone k.undone;
+      }
+
+  same_either : IsFirstTrace d t ⊎ IsSecondTrace d t → IsFirstTrace d u ⊎ IsSecondTrace d u → IsSameTrace t u
+  same_either (inl h) (inl k) = same_first h k
+  same_either (inl h) (inr k) = absurd (two_counts d 4 6 (λ e. omega (arith, e)) h.members k.members)
+  same_either (inr h) (inl k) = absurd (two_counts d 6 4 (λ e. omega (arith, e)) h.members k.members)
+  same_either (inr h) (inr k) = same_second h k
+
+ring_of : (R : ℕ) (d : Data) (t : Trace R) → IsFirstTrace d t ⊎ IsSecondTrace d t → number_at (codes "ring") d ≡ Some R
+ring_of R d t (inl h) = h.ring
+ring_of R d t (inr h) = h.ring
+
+-- the traces that a text is are over one ring, and the same
+pub same_trace : (text : List ℕ) (R Q : ℕ) (t : Trace R) (u : Trace Q) → IsTraceText text t → IsTraceText text u → (R ≡ Q) × IsSameTrace t u
+same_trace text R Q t u h k =
+    let d = k.1 in
+    let read_as : IsFirstTrace d t ⊎ IsSecondTrace d t = subst (λ x. IsFirstTrace x t ⊎ IsSecondTrace x t) (some_same (read text) h.1 d h.2 k.2) h.3.1 in
+    let ring = some_same _ R Q (ring_of R d t read_as) (ring_of Q d u k.3.1) in
+    (ring, subst (λ P. (v : Trace P) → IsFirstTrace d v ⊎ IsSecondTrace d v → IsSameTrace t v) ring (λ v is. same_either R d t v read_as is) u k.3.1)
+
+same_book : (R Q : ℕ) (t : Trace R) (u : Trace Q) → IsSameTrace t u → IsSameBook (loaded_state t) (loaded_state u)
+same_book R Q t u s = record { session = λ i. record { start = s.world i; live = s.live i; undone = s.undone i }; marks = s.marks }
+
+pub one_trace : (text : List ℕ) (R Q : ℕ) (t : Trace R) (u : Trace Q) → IsTraceText text t → IsTraceText text u → (R ≡ Q) × IsSameBook (loaded_state t) (loaded_state u)
+one_trace text R Q t u h k = let p = same_trace text R Q t u h k in (p.0, same_book R Q t u p.1)
+
+-- ---- a text that is loaded again
+
+-- what is seen of bookmarks goes through just if they do
+abbrev SeenGoThrough : ℕ → World → List (List ℕ × List Event) → Type 0
+SeenGoThrough R start [] = Unit {0}
+SeenGoThrough R start (m ∷ ms) = GoThrough R start m.1 × SeenGoThrough R start ms
+
+seen_go : (R : ℕ) (start : World) (ms : List Mark) → MarksGoThrough R start ms → SeenGoThrough R start (map seen_mark ms)
+seen_go R start [] h = tt
+seen_go R start (m ∷ ms) h = (h.0, seen_go R start ms h.1)
+
+marks_go : (R : ℕ) (start : World) (ms : List Mark) → SeenGoThrough R start (map seen_mark ms) → MarksGoThrough R start ms
+marks_go R start [] h = tt
+marks_go R start (m ∷ ms) h = (h.0, marks_go R start ms h.1)
+
+one_goes : (R : ℕ) (start : World) (before : List Mark) (m : Mark) (later : List Mark) → MarksGoThrough R start (before ++ m ∷ later) → GoThrough R start m.events
+one_goes R start [] m later h = h.0
+one_goes R start (x ∷ before) m later h = one_goes R start before m later h.1
+
+-- events that go through are not refused, as the lemmas on replaying show
+abbrev pub NoneRefused : Type 0
+NoneRefused = (R : ℕ) (start : World) (events : List Event) (n : ℕ) (cause : Refusal) → GoThrough R start events → IsRefusedAt R start events n cause → ⊥
+
+module _ (none_refused : NoneRefused) (R : ℕ) (t u : Trace R) (same : IsSameTrace t u) where
+  -- a trace that is another one goes through with it
+  still_reachable : IsReachable R (loaded_state u) → IsReachable R (loaded_state t)
+  still_reachable h = record {
+    marks = marks_go R (start_world t.start) t.marks
+        (subst₂ (SeenGoThrough R) (sym same.world) (sym same.marks) (seen_go R (start_world u.start) u.marks h.marks));
+    through = subst₂ (GoThrough R) (sym same.world) (ap₂ (λ es fs. es ++ fs) (sym same.live) (sym same.undone)) h.through;
+  }
+
+  no_mark_refused : IsReachable R (loaded_state u) → (m n : ℕ) (cause : Refusal) → IsMarkRefusedAt R (start_world t.start) t.marks m n cause → ⊥
+  no_mark_refused h m n cause at =
+      none_refused R (start_world t.start) at.mark.events n cause
+      (one_goes R (start_world t.start) at.before at.mark at.later (subst (MarksGoThrough R (start_world t.start)) at.all (still_reachable h).marks)) at.refused
+
+  no_step_refused : IsReachable R (loaded_state u) → (n : ℕ) (cause : Refusal) → IsRefusedAt R (start_world t.start) (t.live ++ t.undone) n cause → ⊥
+  no_step_refused h n cause at = none_refused R (start_world t.start) (t.live ++ t.undone) n cause (still_reachable h).through at
+
+module _ (none_refused : NoneRefused) (R : ℕ) (u : Trace R) (flawless : start_flaw u.start ≡ None) (reachable : IsReachable R (loaded_state u)) where
+  -- over the same ring
+  again : (t : Trace R) → IsSameTrace t u → (r : Result AnyBook LoadTraceFault) → (r ≡ Err BadTrace → ⊥) → Replays (IsBookIn R (loaded_state t)) t r → LoadsAgain R (loaded_state u) r
+  again t same (Ok book) some h = (h.1.0, subst (λ b. IsSameBook b (loaded_state u)) (sym h.1.1) (same_book R R t u same))
+  again t same (Err NoMemory) some h = refl
+  again t same (Err BadTrace) some h = absurd (some refl)
+  again t same (Err (Flawed flaw)) some h = let e : Some flaw ≡ None = sym h ∙ same.flaw ∙ flawless in absurd (cc)
+  again t same (Err (TraceMark m n cause)) some h = absurd (no_mark_refused none_refused R t u same reachable m n cause h.1)
+  again t same (Err (TraceStep n cause)) some h = absurd (no_step_refused none_refused R t u same reachable n cause h.1)
+
+  -- over the ring of the text
+  again_over : (text : List ℕ) (Q : ℕ) (t : Trace Q) → IsTraceText text u → IsTraceText text t → (r : Result AnyBook LoadTraceFault) → (r ≡ Err BadTrace → ⊥)
+      → Replays (IsBookIn Q (loaded_state t)) t r → LoadsAgain R (loaded_state u) r
+  again_over text Q t is_u is_t r some h =
+      let ring = (same_trace text R Q u t is_u is_t).0 in
+      subst (λ P. (v : Trace P) → IsTraceText text v → Replays (IsBookIn P (loaded_state v)) v r → LoadsAgain R (loaded_state u) r) ring
+      (λ v is_v g. again v (same_trace text R R v u is_v is_u).1 r some g) t is_t h
+
+  again_loaded : (text : List ℕ) → IsTraceText text u → (r : Result AnyBook LoadTraceFault) → LoadsTrace text r → LoadsAgain R (loaded_state u) r
+  again_loaded text is (Ok book) h = again_over text h.0 h.1 is h.2 (Ok book) (λ e. cc) h.3
+  again_loaded text is (Err NoMemory) h = refl
+  again_loaded text is (Err BadTrace) h = absurd (h R u is)
+  again_loaded text is (Err (Flawed flaw)) h = again_over text h.0 h.1 is h.2 (Err (Flawed flaw)) (λ e. cc) h.3
+  again_loaded text is (Err (TraceMark m n cause)) h = again_over text h.0 h.1 is h.2 (Err (TraceMark m n cause)) (λ e. cc) h.3
+  again_loaded text is (Err (TraceStep n cause)) h = again_over text h.0 h.1 is h.2 (Err (TraceStep n cause)) (λ e. cc) h.3
+
+-- a text that a book is written as gives the same book again, whatever loading it gives, unless memory was refused
+pub loads_again : NoneRefused → (text : List ℕ) (r : Result AnyBook LoadTraceFault) → LoadsTrace text r → (R : ℕ) (b : BookState) → IsTraceRing R → IsTextOf R b text → LoadsAgain R b r
+loads_again none_refused text r loads R b ring is =
+    let h = is.loads ring in
+    let u = h.reads.0 in
+    subst (λ s. LoadsAgain R s r) h.reads.3 (again_loaded none_refused R u h.reads.2 (subst (IsReachable R) (sym h.reads.3) h.reachable) text h.reads.1 r loads)

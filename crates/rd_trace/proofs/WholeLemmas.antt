@@ -1,0 +1,208 @@
+-- The value of a book has no float, and is not deep.
+use Rattle.std.proofs.Common.{◌≡◌, ℕ, suc, ◌≤◌, Bool, false, ◌||◌, List, [], ◌∷◌, codes, Option, Some, None, Vec, Global, inl, inr, refl, sym, ap₂, subst, arith}
+use Rattle.serde_json.specs.Data.{Data, null, boolean, number, string, array, object, unsigned, Items, no_items, item, Members, no_members, member, depth, items_depth, members_depth}
+use Rattle.serde_json.specs.Read.{max_depth}
+use Rattle.serde_json.specs.Written.{has_float, items_have_float, members_have_float}
+use Rattle.rd_cell.specs.declared.places.SegName.{SegName}
+use Rattle.rd_cell.specs.declared.cells.Cell.{Cell}
+use Rattle.rd_cell.specs.declared.contents.ArrSlot.{ArrSlot}
+use Rattle.rd_cell.specs.declared.contents.ArrSlot.TheVariants.{Empty, Top, Value}
+use Rattle.rd_ring.specs.declared.parts.SegmentParts.{SegmentParts}
+use Rattle.rd_segments.specs.declared.array.ArrayParts.{ArrayParts}
+use Rattle.rd_actor.specs.declared.actors.Actor.{Actor}
+use Rattle.rd_actor.specs.declared.actors.Op.{Op}
+use Rattle.rd_actor.specs.declared.actors.Op.TheVariants.{Enq as OpEnq, Deq as OpDeq, AEnq as OpAEnq, ADeq as OpADeq}
+use Rattle.rd_actor.specs.declared.actors.Act.TheVariants.{Enq, Deq, AEnq, ADeq, Go, Starve}
+use Rattle.rd_step.specs.Prelude.{World, Act}
+use Rattle.rd_step.specs.declared.entries.Event.{Event}
+use Rattle.rd_step.specs.declared.parts.Parts.{Parts}
+use Rattle.rd_marks.specs.Names.{bytes_of}
+use Rattle.rd_marks.specs.Books.{Mark, BookState}
+use Rattle.rd_trace.specs.Names.{name_data, next_data}
+use Rattle.rd_script.specs.Actors.{label}
+use Rattle.rd_trace.specs.Events.{short_data, long_data, act_data, events_data}
+use Rattle.rd_trace.specs.Actors.{value_data, op_data, actor_data, actors_data}
+use Rattle.rd_trace.specs.Segments.{cell_data, cells_data, segment_data, segments_data, makers_data}
+use Rattle.rd_trace.specs.Arrays.{filled_slots, content_data, slots_data, array_data}
+use Rattle.rd_trace.specs.Starts.{IsStartData, fresh_data, parts_data}
+use Rattle.rd_trace.specs.Bookmarks.{mark_data, marks_data}
+use Rattle.rd_trace.specs.Saved.{book_data}
+
+-- a value has no float, and is at most so deep; so are items, and members
+record IsPlain (n : ℕ) (d : Data) : Type 0 where
+  pub whole : has_float d ≡ false
+  pub shallow : depth d ≤ n
+
+record ArePlain (n : ℕ) (ds : Items) : Type 0 where
+  pub whole : items_have_float ds ≡ false
+  pub shallow : items_depth ds ≤ n
+
+record AreMembersPlain (n : ℕ) (ms : Members) : Type 0 where
+  pub whole : members_have_float ms ≡ false
+  pub shallow : members_depth ms ≤ n
+
+module _ (n : ℕ) where
+  null_plain : IsPlain n null
+  null_plain = record { whole = refl; shallow = omega arith }
+
+  boolean_plain : (b : Bool) → IsPlain n (boolean b)
+  boolean_plain b = record { whole = refl; shallow = omega arith }
+
+  number_plain : (x : ℕ) → IsPlain n (number (unsigned x))
+  number_plain x = record { whole = refl; shallow = omega arith }
+
+  string_plain : (s : List ℕ) → IsPlain n (string s)
+  string_plain s = record { whole = refl; shallow = omega arith }
+
+  none : ArePlain n no_items
+  none = record { whole = refl; shallow = omega arith }
+
+  more : {d : Data} {ds : Items} → IsPlain n d → ArePlain n ds → ArePlain n (item d ds)
+  more h k = record { whole = ap₂ (λ a b. a || b) h.whole k.whole; shallow = omega (arith, h.shallow, k.shallow) }
+
+  no_member : AreMembersPlain n no_members
+  no_member = record { whole = refl; shallow = omega arith }
+
+  with_member : {k : List ℕ} {d : Data} {ms : Members} → IsPlain n d → AreMembersPlain n ms → AreMembersPlain n (member k d ms)
+  with_member h j = record { whole = ap₂ (λ a b. a || b) h.whole j.whole; shallow = omega (arith, h.shallow, j.shallow) }
+
+  array_plain : {ds : Items} → ArePlain n ds → IsPlain (suc n) (array ds)
+  array_plain h = record { whole = h.whole; shallow = omega (arith, h.shallow) }
+
+  object_plain : {ms : Members} → AreMembersPlain n ms → IsPlain (suc n) (object ms)
+  object_plain h = record { whole = h.whole; shallow = omega (arith, h.shallow) }
+
+-- ---- names, values and events
+
+module _ (n : ℕ) where
+  name_plain : (s : SegName) → IsPlain (suc n) (name_data s)
+  name_plain s = array_plain n (more n (number_plain n s.maker) (more n (number_plain n s.n) (none n)))
+
+  next_plain : (next : Option SegName) → IsPlain (suc n) (next_data next)
+  next_plain None = null_plain (suc n)
+  next_plain (Some s) = name_plain s
+
+  value_plain : (o : Option ℕ) → IsPlain n (value_data o)
+  value_plain None = null_plain n
+  value_plain (Some x) = number_plain n x
+
+  short_plain : (word : List ℕ) (actor : ℕ) → IsPlain (suc n) (short_data word actor)
+  short_plain word actor = array_plain n (more n (string_plain n word) (more n (number_plain n actor) (none n)))
+
+  long_plain : {d : Data} (word : List ℕ) (actor : ℕ) → IsPlain n d → IsPlain (suc n) (long_data word actor d)
+  long_plain word actor h = array_plain n (more n (string_plain n word) (more n (number_plain n actor) (more n h (none n))))
+
+  act_plain : (actor : ℕ) (act : Act) → IsPlain (suc n) (act_data actor act)
+  act_plain actor (Enq x) = long_plain (codes "enq") actor (number_plain n x)
+  act_plain actor Deq = short_plain (codes "deq") actor
+  act_plain actor (AEnq x) = long_plain (codes "aenq") actor (number_plain n x)
+  act_plain actor ADeq = short_plain (codes "adeq") actor
+  act_plain actor Go = short_plain (codes "go") actor
+  act_plain actor (Starve choice) = long_plain (codes "starve") actor (boolean_plain n choice)
+
+  events_plain : (es : List Event) → ArePlain (suc n) (events_data es)
+  events_plain [] = none (suc n)
+  events_plain (e ∷ es) = more (suc n) (act_plain e.actor e.act) (events_plain es)
+
+-- ---- actors
+
+module _ (n : ℕ) where
+  op_plain : (o : Option Op) → IsPlain (suc n) (op_data o)
+  op_plain None = null_plain (suc n)
+  op_plain (Some (OpEnq x)) = array_plain n (more n (string_plain n (codes "enq")) (more n (number_plain n x) (none n)))
+  op_plain (Some OpDeq) = array_plain n (more n (string_plain n (codes "deq")) (none n))
+  op_plain (Some (OpAEnq x)) = array_plain n (more n (string_plain n (codes "aenq")) (more n (number_plain n x) (none n)))
+  op_plain (Some OpADeq) = array_plain n (more n (string_plain n (codes "adeq")) (none n))
+
+  actor_plain : (a : Actor) → IsPlain (suc (suc n)) (actor_data a)
+  actor_plain a =
+      let m = suc n in
+      let later = with_member m (number_plain m a.t) (with_member m (value_plain m a.val) (no_member m)) in
+      let stand = with_member m (number_plain m a.pass) (with_member m (string_plain m (label a.pc)) (with_member m (boolean_plain m a.safe) later)) in
+      let names = with_member m (name_plain n a.new) (with_member m (name_plain n a.next) (with_member m (op_plain a.op) stand)) in
+      object_plain m
+      (with_member m (boolean_plain m a.closed) (with_member m (name_plain n a.crq) (with_member m (number_plain m a.h) (with_member m (number_plain m a.idx) names))))
+
+  actors_plain : (xs : List Actor) → ArePlain (suc (suc n)) (actors_data xs)
+  actors_plain [] = none (suc (suc n))
+  actors_plain (a ∷ xs) = more (suc (suc n)) (actor_plain a) (actors_plain xs)
+
+-- ---- segments
+
+module _ (n : ℕ) where
+  cell_plain : (c : Cell) → IsPlain (suc n) (cell_data c)
+  cell_plain c = array_plain n (more n (boolean_plain n c.safe) (more n (number_plain n c.idx) (more n (value_plain n c.val) (none n))))
+
+  cells_plain : (cs : List Cell) → ArePlain (suc n) (cells_data cs)
+  cells_plain [] = none (suc n)
+  cells_plain (c ∷ cs) = more (suc n) (cell_plain c) (cells_plain cs)
+
+  segment_plain : {R : ℕ} (s : SegmentParts R) → IsPlain (suc (suc (suc n))) (segment_data s)
+  segment_plain s =
+      let m = suc (suc n) in
+      let ends = with_member m (next_plain (suc n) s.next) (with_member m (number_plain m s.tail) (no_member m)) in
+      object_plain m (with_member m (array_plain (suc n) (cells_plain s.cells)) (with_member m (boolean_plain m s.closed) (with_member m (number_plain m s.head) ends)))
+
+  segments_plain : {R : ℕ} (ss : List (SegmentParts R)) → ArePlain (suc (suc (suc n))) (segments_data ss)
+  segments_plain [] = none (suc (suc (suc n)))
+  segments_plain (s ∷ ss) = more (suc (suc (suc n))) (segment_plain s) (segments_plain ss)
+
+  makers_plain : {R : ℕ} (lists : List (Vec (SegmentParts R) Global)) → ArePlain (suc (suc (suc (suc n)))) (makers_data lists)
+  makers_plain [] = none (suc (suc (suc (suc n))))
+  makers_plain (list ∷ lists) = more (suc (suc (suc (suc n)))) (array_plain (suc (suc (suc n))) (segments_plain list.items)) (makers_plain lists)
+
+-- ---- the array
+
+module _ (n : ℕ) where
+  content_plain : (slot : ArrSlot) → IsPlain n (content_data slot)
+  content_plain Empty = null_plain n
+  content_plain Top = string_plain n (codes "top")
+  content_plain (Value x) = number_plain n x
+
+  slots_plain : (ss : List (ℕ × ArrSlot)) → ArePlain (suc n) (slots_data ss)
+  slots_plain [] = none (suc n)
+  slots_plain (s ∷ ss) = more (suc n) (array_plain n (more n (number_plain n s.0) (more n (content_plain s.1) (none n)))) (slots_plain ss)
+
+  whole_array_plain : (a : ArrayParts) → IsPlain (suc (suc (suc n))) (array_data a)
+  whole_array_plain a =
+      let m = suc (suc n) in
+      object_plain m (with_member m (array_plain (suc n) (slots_plain (filled_slots 0 a.cells))) (with_member m (number_plain m a.head) (with_member m (number_plain m a.tail) (no_member m))))
+
+-- ---- starts
+
+parts_plain : {R : ℕ} (p : Parts R) → IsPlain 6 (parts_data p)
+parts_plain p =
+    let names = with_member 5 (name_plain 4 p.qhead) (with_member 5 (name_plain 4 p.qtail) (with_member 5 (array_plain 4 (makers_plain 0 p.segments.items)) (no_member 5))) in
+    object_plain 5 (with_member 5 (array_plain 4 (actors_plain 2 p.actors.items)) (with_member 5 (whole_array_plain 2 p.array) names))
+
+fresh_plain : (count : ℕ) → IsPlain 6 (fresh_data count)
+fresh_plain count = object_plain 5 (with_member 5 (number_plain 5 count) (no_member 5))
+
+start_plain : (R : ℕ) (w : World) (d : Data) → IsStartData R w d → IsPlain 6 d
+start_plain R w d (inl (count, is_fresh, some, few, same)) = subst (IsPlain 6) (sym same) (fresh_plain count)
+start_plain R w d (inr (no_fresh, p, is_world, same)) = subst (IsPlain 6) (sym same) (parts_plain p)
+
+-- ---- bookmarks, and the book
+
+mark_plain : (n : ℕ) (m : Mark) → IsPlain (suc (suc (suc n))) (mark_data m)
+mark_plain n m =
+    let k = suc (suc n) in
+    object_plain k (with_member k (array_plain (suc n) (events_plain n m.events)) (with_member k (string_plain k (bytes_of m.name)) (no_member k)))
+
+marks_plain : (n : ℕ) (ms : List Mark) → ArePlain (suc (suc (suc n))) (marks_data ms)
+marks_plain n [] = none (suc (suc (suc n)))
+marks_plain n (m ∷ ms) = more (suc (suc (suc n))) (mark_plain n m) (marks_plain n ms)
+
+book_plain : (R : ℕ) (start : Data) (b : BookState) → IsPlain 6 start → IsPlain 7 (book_data R start b)
+book_plain R start b h =
+    let undone = with_member 6 (array_plain 5 (events_plain 4 b.session.undone)) (with_member 6 (number_plain 6 2) (no_member 6)) in
+    let ring = with_member 6 (number_plain 6 R) (with_member 6 h undone) in
+    object_plain 6 (with_member 6 (array_plain 5 (events_plain 4 b.session.live)) (with_member 6 (array_plain 5 (marks_plain 2 b.marks)) ring))
+
+-- no number of a book's value is a float
+pub whole_book : (R : ℕ) (start : Data) (b : BookState) → IsStartData R b.session.start start → has_float (book_data R start b) ≡ false
+whole_book R start b h = (book_plain R start b (start_plain R b.session.start start h)).whole
+
+-- and it is no deeper than what is read
+pub shallow_book : (R : ℕ) (start : Data) (b : BookState) → IsStartData R b.session.start start → depth (book_data R start b) ≤ max_depth
+shallow_book R start b h = let k = (book_plain R start b (start_plain R b.session.start start h)).shallow in omega (arith, k)

@@ -1,0 +1,6 @@
+use Rattle.rd_trace.proofs.MarkLemmas.{AreRead}
+use Rattle.rd_trace.proofs.bookmarks.marks_in.Given as goal
+
+-- the bookmarks that the values before this one spell
+abbrev pub invariant-loop-value : goal.invariant-loop-value
+invariant-loop-value l = AreRead l.value-items l.value-index l.marks.items

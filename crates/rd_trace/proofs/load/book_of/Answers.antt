@@ -1,0 +1,16 @@
+use Rattle.std.proofs.Common.{◌≤◌, subst, arith}
+use Rattle.std.proofs.lemmas.List.{length-map}
+use Rattle.serde_json.specs.View.{view}
+use Rattle.rd_marks.specs.NameBytes.{MOST_MARKS}
+use Rattle.rd_trace.specs.Bookmarks.{saved_mark}
+use Rattle.rd_trace.specs.Saved.{saved_trace}
+use Rattle.rd_trace.proofs.LoadLemmas.{counted, names_differ, few_marks}
+use Rattle.rd_trace.proofs.load.book_of.Goals as goal
+
+pub replay-requires : goal.replay-requires
+replay-requires g c =
+    let d = view c.args.value in
+    let t = saved_trace c.in_ok-session.session in
+    let is = c.in_ok-session.ensures in
+    let few = subst (λ n. n ≤ MOST_MARKS) (length-map c.in_ok-session.session.marks.items saved_mark) (few_marks d t is) in
+    (omega arith, (omega arith, (c.requires.positive, (c.requires.small, (counted d t is, (names_differ d t is, few))))))

@@ -1,0 +1,9 @@
+use Rattle.std.proofs.Common.{map, take}
+use Rattle.rd_marks.specs.BookViews.{book_state}
+use Rattle.rd_trace.specs.Bookmarks.{saved_mark}
+use Rattle.rd_trace.proofs.ReplayLemmas.{HasSet}
+use Rattle.rd_trace.proofs.replay.set_marks.Given as goal
+
+-- the bookmarks before this one were set
+abbrev pub invariant-loop-i : goal.invariant-loop-i
+invariant-loop-i g l = HasSet g.row.R (book_state l.fn.book) (book_state l.book) (map saved_mark (take l.i l.fn.marks))

@@ -1,0 +1,104 @@
+-- Actors as values: an object with a member for each word of an actor's record.
+use Rattle.std.specs.Prelude.{◌≡◌, ℕ, List, [], ◌∷◌, codes, bytes_eq, if◌then◌else◌, Option, Some, None, option_map, option_and_then, Result, Ok, Err, Vec}
+use Rattle.std.specs.Global.{Global}
+use Rattle.serde_json.specs.Data.{Data, null, boolean, number, string, array, object, unsigned, Items, no_items, item, no_members, member}
+use Rattle.serde_json.specs.Find.{get, as_str, as_u64}
+use Rattle.rd_actor.specs.declared.actors.Actor.{Actor}
+use Rattle.rd_actor.specs.declared.actors.Op.{Op}
+use Rattle.rd_actor.specs.declared.actors.Op.TheVariants.{Enq, Deq, AEnq, ADeq}
+use Rattle.rd_script.specs.Actors.{label}
+use Rattle.rd_trace.specs.Numbers.{whole_number, member_count, number_at, byte_at, bit_at, text_at, SpellEach}
+use Rattle.rd_trace.specs.Names.{name_at, name_data}
+use Rattle.rd_trace.specs.declared.faults.FormFault.{FormFault}
+use Rattle.rd_trace.specs.declared.faults.FormFault.TheVariants.{NoMemory, BadForm}
+
+-- the value of a cell or of an actor, or that there is none
+abbrev pub value_of : Data → Option (Option ℕ)
+value_of null = Some None
+value_of (boolean b) = None
+value_of (number n) = option_map Some (as_u64 n)
+value_of (string s) = None
+value_of (array ds) = None
+value_of (object ms) = None
+
+abbrev pub value_data : Option ℕ → Data
+value_data None = null
+value_data (Some x) = number (unsigned x)
+
+-- the call that a word alone says
+abbrev pub short_op : List ℕ → Option (Option Op)
+short_op word =
+    if bytes_eq word (codes "deq") then Some (Some Deq)
+    else if bytes_eq word (codes "adeq") then Some (Some ADeq)
+    else None
+
+-- the call that a word and a number say
+abbrev pub long_op : List ℕ → ℕ → Option (Option Op)
+long_op word x =
+    if bytes_eq word (codes "enq") then Some (Some (Enq x))
+    else if bytes_eq word (codes "aenq") then Some (Some (AEnq x))
+    else None
+
+abbrev pub op_of_items : Items → Option (Option Op)
+op_of_items no_items = None
+op_of_items (item word no_items) = option_and_then short_op (as_str word)
+op_of_items (item word (item d no_items)) = option_and_then (λ w. option_and_then (long_op w) (whole_number d)) (as_str word)
+op_of_items (item word (item d (item more rest))) = None
+
+-- the call that a value spells, or that there is none
+abbrev pub op_of : Data → Option (Option Op)
+op_of null = Some None
+op_of (boolean b) = None
+op_of (number n) = None
+op_of (string s) = None
+op_of (array ds) = op_of_items ds
+op_of (object ms) = None
+
+abbrev pub op_data : Option Op → Data
+op_data None = null
+op_data (Some (Enq x)) = array (item (string (codes "enq")) (item (number (unsigned x)) no_items))
+op_data (Some Deq) = array (item (string (codes "deq")) no_items)
+op_data (Some (AEnq x)) = array (item (string (codes "aenq")) (item (number (unsigned x)) no_items))
+op_data (Some ADeq) = array (item (string (codes "adeq")) no_items)
+
+-- a value is an object of twelve members, one for each word of the actor, and so of no other
+pub record IsActor (d : Data) (a : Actor) : Type 0 where
+  pub members : member_count d ≡ Some 12
+  pub closed : bit_at (codes "closed") d ≡ Some a.closed
+  pub crq : name_at (codes "crq") d ≡ Some a.crq
+  pub h : number_at (codes "h") d ≡ Some a.h
+  pub idx : number_at (codes "idx") d ≡ Some a.idx
+  pub new : name_at (codes "new") d ≡ Some a.new
+  pub next : name_at (codes "next") d ≡ Some a.next
+  pub op : option_and_then op_of (get (codes "op") d) ≡ Some a.op
+  pub pass : byte_at (codes "pass") d ≡ Some a.pass
+  pub pc : text_at (codes "pc") d ≡ Some (label a.pc)
+  pub safe : bit_at (codes "safe") d ≡ Some a.safe
+  pub t : number_at (codes "t") d ≡ Some a.t
+  pub val : option_and_then value_of (get (codes "val") d) ≡ Some a.val
+
+-- the value that an actor is written as
+abbrev pub actor_data : Actor → Data
+actor_data a = object (
+    member (codes "closed") (boolean a.closed)
+    (member (codes "crq") (name_data a.crq)
+    (member (codes "h") (number (unsigned a.h))
+    (member (codes "idx") (number (unsigned a.idx))
+    (member (codes "new") (name_data a.new)
+    (member (codes "next") (name_data a.next)
+    (member (codes "op") (op_data a.op)
+    (member (codes "pass") (number (unsigned a.pass))
+    (member (codes "pc") (string (label a.pc))
+    (member (codes "safe") (boolean a.safe)
+    (member (codes "t") (number (unsigned a.t))
+    (member (codes "val") (value_data a.val) no_members))))))))))))
+
+abbrev pub actors_data : List Actor → Items
+actors_data [] = no_items
+actors_data (a ∷ rest) = item (actor_data a) (actors_data rest)
+
+-- what is read of a list of actors
+abbrev pub ReadsActors : Items → Result (Vec Actor Global) FormFault → Type 0
+ReadsActors ds (Ok actors) = SpellEach IsActor ds actors.items
+ReadsActors ds (Err NoMemory) = Unit {0}
+ReadsActors ds (Err BadForm) = (actors : List Actor) → SpellEach IsActor ds actors → ⊥

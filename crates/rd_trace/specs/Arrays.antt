@@ -1,0 +1,67 @@
+-- The array as a value: an object with its counters and those of its slots that aren't empty, each with its position.
+use Rattle.std.specs.Prelude.{◌≡◌, ℕ, suc, List, [], ◌∷◌, codes, bytes_eq, if◌then◌else◌, Option, Some, None, option_map, option_and_then}
+use Rattle.serde_json.specs.Data.{Data, null, boolean, number, string, array, object, unsigned, Items, no_items, item, no_members, member}
+use Rattle.serde_json.specs.Find.{as_array, as_u64}
+use Rattle.rd_cell.specs.declared.contents.ArrSlot.{ArrSlot}
+use Rattle.rd_cell.specs.declared.contents.ArrSlot.TheVariants.{Empty, Top, Value}
+use Rattle.rd_segments.specs.declared.array.ArrayParts.{ArrayParts}
+use Rattle.rd_trace.specs.Numbers.{whole_number, member_count, number_at, list_at}
+
+-- what a value says of a slot that isn't empty
+abbrev pub slot_content : Data → Option ArrSlot
+slot_content null = None
+slot_content (boolean b) = None
+slot_content (number n) = option_map Value (as_u64 n)
+slot_content (string s) = if bytes_eq s (codes "top") then Some Top else None
+slot_content (array ds) = None
+slot_content (object ms) = None
+
+abbrev pub slot_of_items : Items → Option (ℕ × ArrSlot)
+slot_of_items no_items = None
+slot_of_items (item i no_items) = None
+slot_of_items (item i (item s no_items)) = option_and_then (λ position. option_map (λ slot. (position, slot)) (slot_content s)) (whole_number i)
+slot_of_items (item i (item s (item more rest))) = None
+
+-- the position and the slot that a value spells
+abbrev pub slot_of : Data → Option (ℕ × ArrSlot)
+slot_of d = option_and_then slot_of_items (as_array d)
+
+-- those that values spell, each one in its place
+abbrev pub slots_of : Items → Option (List (ℕ × ArrSlot))
+slots_of no_items = Some []
+slots_of (item d ds) = option_and_then (λ s. option_map (λ ss. s ∷ ss) (slots_of ds)) (slot_of d)
+
+-- the slots that aren't empty with their positions, the first one standing at this position
+abbrev pub filled_slots : ℕ → List ArrSlot → List (ℕ × ArrSlot)
+filled_slots i [] = []
+filled_slots i (Empty ∷ slots) = filled_slots (suc i) slots
+filled_slots i (Top ∷ slots) = (i, Top) ∷ filled_slots (suc i) slots
+filled_slots i (Value x ∷ slots) = (i, Value x) ∷ filled_slots (suc i) slots
+
+-- a value is an object of three members: the counters, and the slots that aren't empty, their positions rising
+pub record IsArray (d : Data) (a : ArrayParts) : Type 0 where
+  pub members : member_count d ≡ Some 3
+  pub cells : option_and_then slots_of (list_at (codes "cells") d) ≡ Some (filled_slots 0 a.cells)
+  pub head : number_at (codes "head") d ≡ Some a.head
+  pub tail : number_at (codes "tail") d ≡ Some a.tail
+
+-- what is said of a slot, which isn't empty where it is written
+abbrev pub content_data : ArrSlot → Data
+content_data Empty = null
+content_data Top = string (codes "top")
+content_data (Value x) = number (unsigned x)
+
+-- the value of a slot with its position
+abbrev pub slot_data : ℕ → ArrSlot → Data
+slot_data position slot = array (item (number (unsigned position)) (item (content_data slot) no_items))
+
+abbrev pub slots_data : List (ℕ × ArrSlot) → Items
+slots_data [] = no_items
+slots_data (s ∷ ss) = item (slot_data s.0 s.1) (slots_data ss)
+
+-- the value that the array is written as
+abbrev pub array_data : ArrayParts → Data
+array_data a = object (
+    member (codes "cells") (array (slots_data (filled_slots 0 a.cells)))
+    (member (codes "head") (number (unsigned a.head))
+    (member (codes "tail") (number (unsigned a.tail)) no_members)))

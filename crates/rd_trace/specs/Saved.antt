@@ -1,0 +1,122 @@
+-- Whole sessions as values and as texts: version 1, which is only read, and version 2, which is read and written.
+use Rattle.std.specs.Prelude.{◌≡◌, ◌⊎◌, ℕ, List, [], ◌∷◌, ◌++◌, map, codes, Some, None, Result, Ok, Err, IsUtf8}
+use Rattle.serde_json.specs.Data.{Data, number, array, object, unsigned, Items, no_members, member}
+use Rattle.serde_json.specs.Find.{get}
+use Rattle.serde_json.specs.Read.{read}
+use Rattle.serde_json.specs.View.{view}
+use Rattle.serde_json.specs.Written.{compact_text}
+use Rattle.serde_json.specs.declared.value.Value.{Value}
+use Rattle.rd_step.specs.declared.entries.Event.{Event}
+use Rattle.rd_marks.specs.Names.{bytes_of}
+use Rattle.rd_marks.specs.Books.{Mark, BookState}
+use Rattle.rd_trace.specs.Numbers.{member_count, number_at, list_at}
+use Rattle.rd_trace.specs.Events.{events_at, events_data}
+use Rattle.rd_trace.specs.Starts.{IsStart, IsActorCount, IsStartData, start_world, start_flaw}
+use Rattle.rd_trace.specs.Bookmarks.{AreMarks, marks_data, saved_mark}
+use Rattle.rd_trace.specs.Traces.{IsTraceRing}
+use Rattle.rd_trace.specs.declared.starts.Start.{Start}
+use Rattle.rd_trace.specs.declared.starts.Start.TheVariants.{Fresh}
+use Rattle.rd_trace.specs.declared.saved.SavedSession.{SavedSession}
+use Rattle.rd_trace.specs.declared.faults.FormFault.{FormFault}
+use Rattle.rd_trace.specs.declared.faults.FormFault.TheVariants.{NoMemory, BadForm}
+
+-- a session over rings of so many cells that is handed on: where it begins, its bookmarks, its live and its undone events
+pub record Trace (R : ℕ) : Type 0 where
+  pub start : Start R
+  pub marks : List Mark
+  pub live : List Event
+  pub undone : List Event
+
+-- the session that was read
+abbrev pub saved_trace : {R : ℕ} → SavedSession R → Trace R
+saved_trace s = record { start = s.start; marks = map saved_mark s.marks.items; live = s.events.items; undone = s.undone.items }
+
+-- the book of a trace: its start, live events, undone events and bookmarks
+abbrev pub loaded_state : {R : ℕ} → Trace R → BookState
+loaded_state t = record {
+  session = record { start = start_world t.start; live = t.live; undone = t.undone };
+  marks = t.marks;
+}
+
+-- a bookmark as it is spelled: the bytes of its name, and its events. Names with the same bytes are equal, though the room that
+-- is left behind the bytes may differ, which no call shows
+abbrev pub seen_mark : Mark → List ℕ × List Event
+seen_mark m = (bytes_of m.name, m.events)
+
+-- two books are the same: they have one session, and bookmarks with equal names and the same events in the same order
+pub record IsSameBook (a b : BookState) : Type 0 where
+  pub session : a.session ≡ b.session
+  pub marks : map seen_mark a.marks ≡ map seen_mark b.marks
+
+-- a value is a trace of version 1: an object of four members; nothing is undone, and there is no bookmark
+pub record IsFirstTrace {R : ℕ} (d : Data) (t : Trace R) : Type 0 where
+  pub members : member_count d ≡ Some 4
+  pub version : number_at (codes "version") d ≡ Some 1
+  pub ring : number_at (codes "ring") d ≡ Some R
+  pub actors : (count : ℕ) × IsActorCount (codes "actors") d count × (t.start ≡ Fresh count)
+  pub live : events_at (codes "events") d ≡ Some t.live
+  pub marks : t.marks ≡ []
+  pub undone : t.undone ≡ []
+
+-- a value is a trace of version 2: an object of six members
+pub record IsSecondTrace {R : ℕ} (d : Data) (t : Trace R) : Type 0 where
+  pub members : member_count d ≡ Some 6
+  pub version : number_at (codes "version") d ≡ Some 2
+  pub ring : number_at (codes "ring") d ≡ Some R
+  pub start : (e : Data) × (get (codes "start") d ≡ Some e) × IsStart e t.start
+  pub marks : (ds : Items) × (list_at (codes "marks") d ≡ Some ds) × AreMarks ds t.marks
+  pub live : events_at (codes "events") d ≡ Some t.live
+  pub undone : events_at (codes "undone") d ≡ Some t.undone
+
+-- a value is a trace, over rings that a trace may have
+abbrev pub IsTrace : {R : ℕ} → Data → Trace R → Type 0
+IsTrace {R} d t = IsTraceRing R × (IsFirstTrace d t ⊎ IsSecondTrace d t)
+
+-- a text is a trace: it is JSON, and its value is one
+abbrev pub IsTraceText : {R : ℕ} → List ℕ → Trace R → Type 0
+IsTraceText text t = IsUtf8 text × (d : Data) × (read text ≡ Some d) × IsTrace d t
+
+-- a value is a trace of version 2 of this state, whose start has no flaw
+abbrev pub SpellsBook : ℕ → BookState → Data → Type 0
+SpellsBook R b d = (t : Trace R) × IsSecondTrace d t × (start_flaw t.start ≡ None) × (loaded_state t ≡ b)
+
+-- what is read of a value that has this ring
+abbrev pub ReadsTrace : {R : ℕ} → Data → Result (SavedSession R) FormFault → Type 0
+ReadsTrace d (Ok s) = IsFirstTrace d (saved_trace s) ⊎ IsSecondTrace d (saved_trace s)
+ReadsTrace d (Err NoMemory) = Unit {0}
+ReadsTrace {R} d (Err BadForm) = (t : Trace R) → IsFirstTrace d t ⊎ IsSecondTrace d t → ⊥
+
+-- what is read of one of version 1, and of one of version 2
+abbrev pub ReadsFirst : {R : ℕ} → Data → Result (SavedSession R) FormFault → Type 0
+ReadsFirst d (Ok s) = IsFirstTrace d (saved_trace s)
+ReadsFirst d (Err NoMemory) = Unit {0}
+ReadsFirst {R} d (Err BadForm) = (t : Trace R) → IsFirstTrace d t → ⊥
+
+abbrev pub ReadsSecond : {R : ℕ} → Data → Result (SavedSession R) FormFault → Type 0
+ReadsSecond d (Ok s) = IsSecondTrace d (saved_trace s)
+ReadsSecond d (Err NoMemory) = Unit {0}
+ReadsSecond {R} d (Err BadForm) = (t : Trace R) → IsSecondTrace d t → ⊥
+
+-- the object of the values of a book's parts
+abbrev pub book_object : Items → Items → ℕ → Data → Items → Data
+book_object events marks cells start undone = object (
+    member (codes "events") (array events)
+    (member (codes "marks") (array marks)
+    (member (codes "ring") (number (unsigned cells))
+    (member (codes "start") start
+    (member (codes "undone") (array undone)
+    (member (codes "version") (number (unsigned 2)) no_members))))))
+
+-- the value that a book is written as, its start being written as this one
+abbrev pub book_data : ℕ → Data → BookState → Data
+book_data R start b = book_object (events_data b.session.live) (marks_data b.marks) R start (events_data b.session.undone)
+
+-- a text is what a book is written as: JSON without a space, its keys in the order of the alphabet, and a line feed
+abbrev pub IsWrittenAs : ℕ → BookState → List ℕ → Type 0
+IsWrittenAs R b text = (start : Data) × IsStartData R b.session.start start × (text ≡ compact_text (book_data R start b) ++ 10 ∷ [])
+
+-- what is read of a text: the value that it is as JSON
+abbrev pub ReadsText : List ℕ → Result Value FormFault → Type 0
+ReadsText text (Ok value) = IsUtf8 text × (read text ≡ Some (view value))
+ReadsText text (Err NoMemory) = Unit {0}
+ReadsText text (Err BadForm) = (d : Data) → IsUtf8 text → read text ≡ Some d → ⊥

@@ -1,0 +1,66 @@
+-- What the parts of replaying a trace give: worlds, steps, bookmarks. No public clause cites them.
+use Rattle.std.specs.Prelude.{◌≡◌, ◌≢◌, ◌⊎◌, ◌++◌, ℕ, List, [], Some, None, Result, Ok, Err}
+use Rattle.rd_step.specs.Prelude.{World, model}
+use Rattle.rd_cell.specs.declared.refusal.Refusal.TheVariants.{NoMemory as NoMemoryRefused}
+use Rattle.rd_step.specs.declared.worlds.World.{World as CodeWorld}
+use Rattle.rd_step.specs.declared.entries.Event.{Event}
+use Rattle.rd_marks.specs.Books.{Mark, BookState, with_session}
+use Rattle.rd_trace.specs.declared.faults.LoadTraceFault.{LoadTraceFault}
+use Rattle.rd_trace.specs.declared.faults.LoadTraceFault.TheVariants.{NoMemory, BadTrace, Flawed, TraceMark, TraceStep}
+use Rattle.rd_trace.specs.declared.replay.RefusedEvent.{RefusedEvent}
+use Rattle.rd_trace.specs.declared.starts.Start.{Start}
+use Rattle.rd_trace.specs.Starts.{start_world, start_flaw}
+use Rattle.rd_marks.specs.Rules.{GoThrough, MarksGoThrough}
+use Rattle.rd_trace.specs.Traces.{session_at, IsRefusedAt, IsMarkRefusedAt}
+
+-- the world that is made of a start
+abbrev pub MakesWorld : {R : ℕ} → Start R → Result (CodeWorld R) LoadTraceFault → Type 0
+MakesWorld start (Ok world) = (start_flaw start ≡ None) × (model world ≡ start_world start)
+MakesWorld start (Err NoMemory) = start_flaw start ≡ None
+MakesWorld start (Err (Flawed flaw)) = start_flaw start ≡ Some flaw
+MakesWorld start (Err BadTrace) = ⊥
+MakesWorld start (Err (TraceMark m n cause)) = ⊥
+MakesWorld start (Err (TraceStep n cause)) = ⊥
+
+-- just these events are live, nothing is undone, and the start and the bookmarks are as they were
+abbrev pub IsAt : BookState → List Event → BookState → Type 0
+IsAt old live new = new ≡ with_session old (session_at old.session.start live)
+
+-- one of these events from the start was refused, if not for memory
+abbrev pub RefusesOne : ℕ → World → List Event → RefusedEvent → Type 0
+RefusesOne R start events refused = (refused.cause ≡ NoMemoryRefused) ⊎ ((refused.cause ≢ NoMemoryRefused) × IsRefusedAt R start events refused.step refused.cause)
+
+-- events were put behind the live ones; without any the undone ones stay
+abbrev pub StepsAll : ℕ → BookState → List Event → BookState → Result (Unit {0}) RefusedEvent → Type 0
+StepsAll R old [] new result = (result ≡ Ok tt) × (new ≡ old)
+StepsAll R old events new (Ok _) = IsAt old (old.session.live ++ events) new × GoThrough R old.session.start (old.session.live ++ events)
+StepsAll R old events new (Err refused) = RefusesOne R old.session.start (old.session.live ++ events) refused
+
+-- just these events were made live
+abbrev pub GoesTo : ℕ → BookState → List Event → BookState → Result (Unit {0}) RefusedEvent → Type 0
+GoesTo R old events new (Ok _) = IsAt old events new × GoThrough R old.session.start events
+GoesTo R old events new (Err refused) = RefusesOne R old.session.start events refused
+
+-- just these events were made live, and just those undone
+abbrev pub MakesLive : ℕ → BookState → List Event → List Event → BookState → Result (Unit {0}) RefusedEvent → Type 0
+MakesLive R old live undone new (Ok _) =
+    (new ≡ with_session old (record { start = old.session.start; live = live; undone = undone })) × GoThrough R old.session.start (live ++ undone)
+MakesLive R old live undone new (Err refused) = RefusesOne R old.session.start (live ++ undone) refused
+
+-- bookmarks were set, each at its events
+abbrev pub SetsMarks : ℕ → BookState → List Mark → BookState → Result (Unit {0}) LoadTraceFault → Type 0
+SetsMarks R old marks new (Ok _) = (new.marks ≡ marks) × (new.session.start ≡ old.session.start) × MarksGoThrough R old.session.start marks
+SetsMarks R old marks new (Err NoMemory) = Unit {0}
+SetsMarks R old marks new (Err (TraceMark m n cause)) = IsMarkRefusedAt R old.session.start marks m n cause
+SetsMarks R old marks new (Err BadTrace) = ⊥
+SetsMarks R old marks new (Err (Flawed flaw)) = ⊥
+SetsMarks R old marks new (Err (TraceStep n cause)) = ⊥
+
+-- the fault that a refused event comes to: of a live or an undone one, and of one of a bookmark
+abbrev pub IsFaultOfStep : RefusedEvent → LoadTraceFault → Type 0
+IsFaultOfStep refused fault =
+    ((refused.cause ≡ NoMemoryRefused) × (fault ≡ NoMemory)) ⊎ ((refused.cause ≢ NoMemoryRefused) × (fault ≡ TraceStep refused.step refused.cause))
+
+abbrev pub IsFaultOfMark : RefusedEvent → ℕ → LoadTraceFault → Type 0
+IsFaultOfMark refused m fault =
+    ((refused.cause ≡ NoMemoryRefused) × (fault ≡ NoMemory)) ⊎ ((refused.cause ≢ NoMemoryRefused) × (fault ≡ TraceMark m refused.step refused.cause))

@@ -1,0 +1,252 @@
+//! Actors: an object with a member for each word of an actor's record.
+
+ghost use Rattle.std.specs.Prelude.{◌≡◌, Some, IfOk, OnOk, IfSome, IfNone};
+ghost use Rattle.serde_json.specs.Data.{number, string, unsigned};
+ghost use Rattle.serde_json.specs.Find.{as_str};
+ghost use Rattle.serde_json.specs.View.{view, items_view};
+ghost use Rattle.rd_actor.specs.declared.actors.Actor.{Actor};
+ghost use Rattle.rd_actor.specs.declared.actors.Pc.{Pc};
+ghost use Rattle.rd_script.specs.Actors.{label};
+ghost use Rattle.rd_trace.specs.Numbers.{byte_number, SpellEach};
+ghost use Rattle.rd_trace.specs.Actors.{op_of, short_op, long_op, op_data, value_of, IsActor, actor_data, actors_data, ReadsActors};
+
+use super::faults::FormFault;
+use super::names::{name_in, name_value};
+use super::numbers::{bit_at, byte_in, member_count, number_at};
+use rd_actor::{Actor, Op, Pc};
+use rd_script::label_of;
+use serde_json::{Map, Value, json, put};
+use std::alloc::{AllocError, Global};
+use std::str;
+
+/// The members of an actor.
+const MEMBERS: usize = 12;
+
+const CLOSED: &str = "closed";
+
+const CRQ: &str = "crq";
+
+const H: &str = "h";
+
+const IDX: &str = "idx";
+
+const NEW: &str = "new";
+
+const NEXT: &str = "next";
+
+const OP: &str = "op";
+
+const PASS: &str = "pass";
+
+const PC: &str = "pc";
+
+const SAFE: &str = "safe";
+
+const T: &str = "t";
+
+const VAL: &str = "val";
+
+/// The actors that the values of a list spell, in their order.
+pub fn actors_in(alloc: Global, list: &Vec<Value>) -> Result<Vec<Actor>, FormFault>
+    ensures { ReadsActors (items_view list.now.items) result }
+{
+    let mut actors = Vec::with_capacity(alloc, list.len())?;
+    for value in list {
+        let Some(actor) = actor_in(value) else {
+            return Err(FormFault::BadForm);
+        };
+        if actors.push(actor).is_err() {
+            return Err(FormFault::NoMemory);
+        }
+    }
+    Ok(actors)
+}
+
+/// The values of actors, in order.
+pub fn actors_value(alloc: Global, actors: &[Actor]) -> Result<Vec<Value>, AllocError>
+    ensures values { IfOk result (λ values. items_view values.items ≡ actors_data actors.now) }
+    ensures spelled { OnOk result (SpellEach IsActor (actors_data actors.now) actors.now) }
+{
+    let mut values = Vec::with_capacity(alloc, actors.len())?;
+    for actor in actors {
+        values.push(actor_value(alloc, actor)?)?;
+    }
+    Ok(values)
+}
+
+/// The actor that a value spells.
+fn actor_in(value: &Value) -> Option<Actor>
+    ensures some { IfSome result (IsActor (view value.now)) }
+    ensures none { IfNone result ((actor : Actor) → IsActor (view value.now) actor → ⊥) }
+{
+    if member_count(value)? != MEMBERS {
+        return None;
+    }
+    Some(Actor {
+        pc: pc_in(value.get(PC)?)?,
+        pass: byte_in(value.get(PASS)?)?,
+        closed: bit_at(value, CLOSED)?,
+        safe: bit_at(value, SAFE)?,
+        crq: name_in(value.get(CRQ)?)?,
+        new: name_in(value.get(NEW)?)?,
+        next: name_in(value.get(NEXT)?)?,
+        op: op_in(value.get(OP)?)?,
+        t: number_at(value, T)?,
+        h: number_at(value, H)?,
+        val: value_in(value.get(VAL)?)?,
+        idx: number_at(value, IDX)?,
+    })
+}
+
+/// The value of an actor.
+fn actor_value(alloc: Global, actor: &Actor) -> Result<Value, AllocError>
+    ensures value { IfOk result (λ value. view value ≡ actor_data actor.now) }
+    ensures spelled { OnOk result (IsActor (actor_data actor.now) actor.now) }
+{
+    // Each member has a step of its own here, which the proof can name; it cannot name those of `json!`.
+    let mut members = Map::new(alloc);
+    put(&mut members, alloc, CLOSED, Value::from(actor.closed))?;
+    put(&mut members, alloc, CRQ, name_value(alloc, actor.crq)?)?;
+    put(&mut members, alloc, H, Value::from(actor.h))?;
+    put(&mut members, alloc, IDX, Value::from(actor.idx))?;
+    put(&mut members, alloc, NEW, name_value(alloc, actor.new)?)?;
+    put(&mut members, alloc, NEXT, name_value(alloc, actor.next)?)?;
+    put(&mut members, alloc, OP, op_value(alloc, actor.op)?)?;
+    put(&mut members, alloc, PASS, pass_value(actor.pass))?;
+    put(&mut members, alloc, PC, pc_value(alloc, actor.pc)?)?;
+    put(&mut members, alloc, SAFE, Value::from(actor.safe))?;
+    put(&mut members, alloc, T, Value::from(actor.t))?;
+    put(&mut members, alloc, VAL, Value::from(actor.val))?;
+    Ok(Value::Object(members))
+}
+
+/// The value of the pass of an actor.
+fn pass_value(pass: u8) -> Value
+    ensures value { view result ≡ number (unsigned pass) }
+    ensures spelled { byte_number (number (unsigned pass)) ≡ Some pass }
+{
+    Value::from(pass)
+}
+
+/// The value that a cell or an actor has, or that there is none.
+pub fn value_in(value: &Value) -> Option<Option<u64>>
+    ensures { result ≡ value_of (view value.now) }
+{
+    if value.is_null() {
+        return Some(None);
+    }
+    Some(Some(value.as_u64()?))
+}
+
+/// The call that a value spells, or that there is none.
+#[tactic(auto, using(crate::proofs::ActorLemmas::no_op))]
+fn op_in(value: &Value) -> Option<Option<Op>>
+    ensures { result ≡ op_of (view value.now) }
+{
+    if value.is_null() {
+        return Some(None);
+    }
+    let items = value.as_array()?;
+    match items.as_slice() {
+        [word] => short_op(word.as_str()?),
+        [word, value] => long_op(word.as_str()?, value.as_u64()?),
+        _ => None,
+    }
+}
+
+/// The call that a word alone says.
+fn short_op(word: &str) -> Option<Option<Op>>
+    ensures { result ≡ short_op word.now }
+{
+    match word {
+        "deq" => Some(Some(Op::Deq)),
+        "adeq" => Some(Some(Op::ADeq)),
+        _ => None,
+    }
+}
+
+/// The call that a word and a number say.
+fn long_op(word: &str, value: u64) -> Option<Option<Op>>
+    ensures { result ≡ long_op word.now value }
+{
+    match word {
+        "enq" => Some(Some(Op::Enq(value))),
+        "aenq" => Some(Some(Op::AEnq(value))),
+        _ => None,
+    }
+}
+
+/// The value of a call, or of none.
+fn op_value(alloc: Global, op: Option<Op>) -> Result<Value, AllocError>
+    ensures { IfOk result (λ value. view value ≡ op_data op) }
+{
+    match op {
+        None => Ok(Value::Null),
+        Some(Op::Enq(x)) => json!(in alloc; ["enq", x]),
+        Some(Op::Deq) => json!(in alloc; ["deq"]),
+        Some(Op::AEnq(x)) => json!(in alloc; ["aenq", x]),
+        Some(Op::ADeq) => json!(in alloc; ["adeq"]),
+    }
+}
+
+/// All control points.
+const POINTS: &[Pc] = &[
+    Pc::Idle,
+    Pc::E1,
+    Pc::E2,
+    Pc::E3,
+    Pc::E4,
+    Pc::E5,
+    Pc::E6,
+    Pc::E7,
+    Pc::E8,
+    Pc::E9,
+    Pc::E10,
+    Pc::E11,
+    Pc::E12,
+    Pc::E13,
+    Pc::E14,
+    Pc::Q1,
+    Pc::Q2,
+    Pc::Q3,
+    Pc::Q4,
+    Pc::Q5,
+    Pc::Q6,
+    Pc::Q7,
+    Pc::Q8,
+    Pc::Q9,
+    Pc::Q10,
+    Pc::Q11,
+    Pc::Q12,
+    Pc::Q13,
+    Pc::Q14,
+    Pc::A1,
+    Pc::A2,
+    Pc::B1,
+    Pc::B2,
+    Pc::B3,
+];
+
+/// The control point whose label a value is.
+fn pc_in(value: &Value) -> Option<Pc>
+    ensures some { IfSome result (λ pc. as_str (view value.now) ≡ Some (label pc)) }
+    ensures none { IfNone result ((pc : Pc) → as_str (view value.now) ≡ Some (label pc) → ⊥) }
+{
+    let word = value.as_str()?;
+    for pc in POINTS {
+        if label_of(*pc) == word.as_bytes() {
+            return Some(*pc);
+        }
+    }
+    None
+}
+
+/// The value of a control point: its label.
+fn pc_value(alloc: Global, pc: Pc) -> Result<Value, AllocError>
+    ensures { IfOk result (λ value. view value ≡ string (label pc)) }
+{
+    match str::from_utf8(label_of(pc)) {
+        Err(_) => Ok(Value::Null),
+        Ok(label) => json!(in alloc; label),
+    }
+}

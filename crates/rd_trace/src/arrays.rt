@@ -1,0 +1,127 @@
+//! The array: an object with its counters and those of its slots that aren't empty, each with its position.
+
+ghost use Rattle.std.specs.Prelude.{◌≡◌, List, Some, IfOk, IfSome, IfNone, length};
+ghost use Rattle.serde_json.specs.View.{view, items_view};
+ghost use Rattle.rd_step.specs.Prelude.{SLOTS};
+ghost use Rattle.rd_cell.specs.declared.contents.ArrSlot.{ArrSlot};
+ghost use Rattle.rd_segments.specs.declared.array.ArrayParts.{ArrayParts};
+ghost use Rattle.rd_trace.specs.Arrays.{slot_content, slot_of, slots_of, content_data, slot_data, slots_data, filled_slots, IsArray, array_data};
+
+use super::numbers::{member_count, number_at};
+use rd_cell::ArrSlot;
+use rd_cell::limits::SLOTS;
+use rd_step::ArrayParts;
+use serde_json::{Value, json};
+use std::alloc::{AllocError, Global};
+
+/// The members of the array.
+const MEMBERS: usize = 3;
+
+const CELLS: &str = "cells";
+
+const HEAD: &str = "head";
+
+const TAIL: &str = "tail";
+
+/// The array that a value spells.
+pub fn array_in(value: &Value) -> Option<ArrayParts>
+    ensures some { IfSome result (IsArray (view value.now)) }
+    ensures none { IfNone result ((parts : ArrayParts) → IsArray (view value.now) parts → ⊥) }
+{
+    if member_count(value)? != MEMBERS {
+        return None;
+    }
+    Some(ArrayParts {
+        head: number_at(value, HEAD)?,
+        tail: number_at(value, TAIL)?,
+        cells: slots_in(value.get(CELLS)?.as_array()?)?,
+    })
+}
+
+/// The value of the array.
+pub fn array_value(alloc: Global, array: &ArrayParts) -> Result<Value, AllocError>
+    ensures { IfOk result (λ value. view value ≡ array_data array.now) }
+{
+    let cells = slots_value(alloc, &array.cells)?;
+    json!(in alloc; {CELLS: cells, HEAD: array.head, TAIL: array.tail})
+}
+
+/// All slots, of which the values of a list spell those that aren't empty, their positions rising.
+fn slots_in(list: &Vec<Value>) -> Option<[ArrSlot; SLOTS]>
+    ensures some { IfSome result (λ slots. slots_of (items_view list.now.items) ≡ Some (filled_slots 0 slots)) }
+    ensures length { IfSome result (λ slots. length slots ≡ SLOTS) }
+    ensures none { IfNone result ((slots : List ArrSlot) → length slots ≡ SLOTS → slots_of (items_view list.now.items) ≡ Some (filled_slots 0 slots) → ⊥) }
+{
+    let mut slots = [ArrSlot::Empty; SLOTS];
+    let mut free = 0;
+    for value in list {
+        let (position, slot) = slot_in(value)?;
+        if position < free || position >= SLOTS {
+            return None;
+        }
+        slots[position] = slot;
+        free = position + 1;
+    }
+    Some(slots)
+}
+
+/// The values of the slots that aren't empty, with their positions.
+fn slots_value(alloc: Global, slots: &[ArrSlot]) -> Result<Vec<Value>, AllocError>
+    ensures { IfOk result (λ values. items_view values.items ≡ slots_data (filled_slots 0 slots.now)) }
+{
+    let mut values = Vec::new(alloc);
+    for position in 0..slots.len() {
+        match slots[position] {
+            ArrSlot::Empty => {}
+            slot => values.push(slot_value(alloc, position, slot)?)?,
+        }
+    }
+    Ok(values)
+}
+
+/// The value of a slot with its position.
+fn slot_value(alloc: Global, position: usize, slot: ArrSlot) -> Result<Value, AllocError>
+    ensures { IfOk result (λ value. view value ≡ slot_data position slot) }
+{
+    let content = content_value(alloc, slot)?;
+    json!(in alloc; [position as u64, content])
+}
+
+/// The value of the content of a slot, which no empty one has.
+fn content_value(alloc: Global, slot: ArrSlot) -> Result<Value, AllocError>
+    ensures { IfOk result (λ value. view value ≡ content_data slot) }
+{
+    match slot {
+        ArrSlot::Empty => Ok(Value::Null),
+        ArrSlot::Top => Value::try_from_str(alloc, TOP),
+        ArrSlot::Value(x) => Ok(Value::from(x)),
+    }
+}
+
+/// What stands for a slot that a dequeue reached first.
+const TOP: &str = "top";
+
+/// The position and the slot that a value spells.
+#[tactic(auto, using(crate::proofs::ArrayLemmas::no_slot))]
+fn slot_in(value: &Value) -> Option<(usize, ArrSlot)>
+    ensures { result ≡ slot_of (view value.now) }
+{
+    let items = value.as_array()?;
+    match items.as_slice() {
+        [position, content] => Some((position.as_u64()? as usize, content_in(content)?)),
+        _ => None,
+    }
+}
+
+/// What a value says of a slot that isn't empty.
+fn content_in(value: &Value) -> Option<ArrSlot>
+    ensures { result ≡ slot_content (view value.now) }
+{
+    if let Some(word) = value.as_str() {
+        if word == TOP {
+            return Some(ArrSlot::Top);
+        }
+        return None;
+    }
+    Some(ArrSlot::Value(value.as_u64()?))
+}

@@ -1,0 +1,163 @@
+//! Bookmarks: an object with the name and the list of events.
+
+ghost use Rattle.std.specs.Prelude.{◌≡◌, Some, IfOk, OnOk, IfSome, IfNone, option_map};
+ghost use Rattle.std.specs.List.{list_any};
+ghost use Rattle.serde_json.specs.View.{view, items_view};
+ghost use Rattle.rd_marks.specs.BookViews.{book_state};
+ghost use Rattle.rd_marks.specs.Books.{mark_events};
+ghost use Rattle.rd_marks.specs.Names.{same_name};
+ghost use Rattle.rd_marks.specs.Rules.{KeepsRules};
+ghost use Rattle.rd_step.specs.Run.{events};
+ghost use Rattle.rd_marks.specs.declared.names.MarkName.{MarkName};
+ghost use Rattle.rd_trace.specs.Numbers.{text_at};
+ghost use Rattle.rd_trace.specs.Events.{ReadsEventsAt};
+ghost use Rattle.rd_trace.specs.Bookmarks.{AreMarks, IsMark, ReadsMarks, ReadsMark, HasMarkName, marks_data, mark_data, mark_object};
+
+use super::events::{events_in, events_value};
+use super::faults::FormFault;
+use super::numbers::member_count;
+use rd_cell::limits::MOST_MARKS;
+use rd_marks::{Book, MarkName};
+use rd_step::{Entry, Event};
+use serde_json::{Value, json};
+use std::alloc::{AllocError, Global};
+
+/// The members of a bookmark.
+const MEMBERS: usize = 2;
+
+const EVENTS: &str = "events";
+
+const NAME: &str = "name";
+
+/// A bookmark that was read.
+#[derive(Drop)]
+pub struct SavedMark {
+    /// Its name.
+    pub name: MarkName,
+    /// The events that were live when it was set.
+    pub events: Vec<Event>,
+}
+
+/// The bookmarks that the values of a list spell, in their order: at most 64, with different names.
+pub fn marks_in(alloc: Global, list: &Vec<Value>) -> Result<Vec<SavedMark>, FormFault>
+    ensures { ReadsMarks (items_view list.now.items) result }
+{
+    let count = list.len();
+    if count > MOST_MARKS {
+        return Err(FormFault::BadForm);
+    }
+    let mut marks = Vec::with_capacity(alloc, count)?;
+    for value in list {
+        let mark = mark_in(alloc, value)?;
+        if is_taken(&marks, mark.name) {
+            return Err(FormFault::BadForm);
+        }
+        if marks.push(mark).is_err() {
+            return Err(FormFault::NoMemory);
+        }
+    }
+    Ok(marks)
+}
+
+/// Whether one of these bookmarks has this name.
+fn is_taken(marks: &[SavedMark], name: MarkName) -> bool
+    ensures { result ≡ list_any (λ mark. same_name name mark.name) marks.now }
+{
+    marks.iter().any(|mark| name == mark.name)
+}
+
+/// The bookmark that a value spells.
+fn mark_in(alloc: Global, value: &Value) -> Result<SavedMark, FormFault>
+    ensures { ReadsMark (view value.now) result }
+{
+    let Some(name) = name_in(value) else {
+        return Err(FormFault::BadForm);
+    };
+    Ok(SavedMark {
+        name,
+        events: events_at(alloc, value, EVENTS)?,
+    })
+}
+
+/// The events that the list at a key of an object spells.
+pub fn events_at(alloc: Global, value: &Value, key: &str) -> Result<Vec<Event>, FormFault>
+    ensures { ReadsEventsAt key.now (view value.now) result }
+{
+    match value.get(key).and_then(Value::as_array) {
+        None => Err(FormFault::BadForm),
+        Some(list) => events_in(alloc, list),
+    }
+}
+
+/// The name of the bookmark that a value spells, if it has the members of one.
+fn name_in(value: &Value) -> Option<MarkName>
+    ensures some { IfSome result (HasMarkName (view value.now)) }
+    ensures none { IfNone result ((name : MarkName) → HasMarkName (view value.now) name → ⊥) }
+{
+    if member_count(value)? != MEMBERS {
+        return None;
+    }
+    let text = text_at(value, NAME)?;
+    match MarkName::new(text.as_bytes()) {
+        Err(_) => None,
+        Ok(name) => Some(name),
+    }
+}
+
+/// The text at a key of an object.
+fn text_at<'a>(value: &'a Value, key: &str) -> Option<&'a str>
+    ensures { option_map (λ text. text.now) result ≡ text_at key.now (view value.now) }
+{
+    value.get(key).and_then(Value::as_str)
+}
+
+/// The values of the bookmarks of a book, in order.
+pub fn marks_value<const R: usize>(alloc: Global, book: &Book<R>) -> Result<Vec<Value>, AllocError>
+    ensures values { IfOk result (λ values. items_view values.items ≡ marks_data (book_state book.now).marks) }
+    ensures spelled { OnOk result (AreMarks (marks_data (book_state book.now).marks) (book_state book.now).marks) }
+    ensures rules { KeepsRules R (book_state book.now) }
+{
+    let count = book.marks();
+    let mut values = Vec::with_capacity(alloc, count as usize)?;
+    for i in 0..count {
+        if let Ok(mark) = book.mark_at(i + 1) {
+            values.push(mark_value(alloc, book, i + 1, mark.0)?)?;
+        }
+    }
+    Ok(values)
+}
+
+/// The value of the bookmark of this number and this name.
+fn mark_value<const R: usize>(
+    alloc: Global,
+    book: &Book<R>,
+    i: u64,
+    name: MarkName,
+) -> Result<Value, AllocError>
+    ensures value { IfOk result (λ value. IfSome (mark_events (book_state book.now) i) (λ es. view value ≡ mark_data (record { name = name; events = es }))) }
+    ensures spelled { OnOk result (IfSome (mark_events (book_state book.now) i) (λ es. IsMark (mark_data (record { name = name; events = es })) (record { name = name; events = es }))) }
+{
+    let Ok(records) = book.mark_records(alloc, i) else {
+        return Err(AllocError);
+    };
+    let events = events_value(alloc, &events_of(alloc, &records)?)?;
+    mark_object(alloc, events, name.as_str())
+}
+
+/// The object of the values of a bookmark's events and of its name.
+fn mark_object(alloc: Global, events: Vec<Value>, name: &str) -> Result<Value, AllocError>
+    ensures { IfOk result (λ value. view value ≡ mark_object (items_view events.items) name.now) }
+{
+    json!(in alloc; {EVENTS: events, NAME: name})
+}
+
+/// The events of records.
+fn events_of(alloc: Global, records: &[Entry]) -> Result<Vec<Event>, AllocError>
+    ensures { IfOk result (λ list. list.items ≡ events records.now) }
+{
+    let mut events = Vec::with_capacity(alloc, records.len())?;
+    for record in records {
+        events.push(record.event)?;
+    }
+    Ok(events)
+}

@@ -1,0 +1,130 @@
+//! Events: an array of a word and an actor, and of a number or a choice if the word takes one.
+
+ghost use Rattle.std.specs.Prelude.{◌≡◌, Some, IfOk, OnOk, option_and_then};
+ghost use Rattle.serde_json.specs.Find.{as_str};
+ghost use Rattle.serde_json.specs.View.{view, items_view};
+ghost use Rattle.rd_trace.specs.Numbers.{byte_number};
+ghost use Rattle.rd_trace.specs.Events.{act_of_word, act_with, event_by, event_of, events_of, short_data, long_data, act_data, events_data, ReadsEvents};
+
+use super::faults::FormFault;
+use super::numbers::byte_in;
+use rd_actor::Act;
+use rd_step::Event;
+use serde_json::{Value, json};
+use std::alloc::{AllocError, Global};
+
+/// The events that the values of a list spell, in their order.
+pub fn events_in(alloc: Global, list: &Vec<Value>) -> Result<Vec<Event>, FormFault>
+    ensures { ReadsEvents (items_view list.now.items) result }
+{
+    let mut events = Vec::with_capacity(alloc, list.len())?;
+    for value in list {
+        let Some(event) = event_in(value) else {
+            return Err(FormFault::BadForm);
+        };
+        if events.push(event).is_err() {
+            return Err(FormFault::NoMemory);
+        }
+    }
+    Ok(events)
+}
+
+/// The event that a value spells.
+#[tactic(auto, using(crate::proofs::EventLemmas::other_length))]
+fn event_in(value: &Value) -> Option<Event>
+    ensures { result ≡ event_of (view value.now) }
+{
+    let items = value.as_array()?;
+    match items.as_slice() {
+        [word, actor] => short_event(word, actor),
+        [word, actor, value] => long_event(word, actor, value),
+        _ => None,
+    }
+}
+
+/// The event of a word alone.
+fn short_event(word: &Value, actor: &Value) -> Option<Event>
+    ensures { result ≡ event_by (option_and_then act_of_word (as_str (view word.now))) (byte_number (view actor.now)) }
+{
+    let act = act_of_word(word.as_str()?)?;
+    Some(Event {
+        actor: byte_in(actor)?,
+        act,
+    })
+}
+
+/// The event of a word and a value.
+fn long_event(word: &Value, actor: &Value, value: &Value) -> Option<Event>
+    ensures { result ≡ event_by (option_and_then (λ w. act_with w (view value.now)) (as_str (view word.now))) (byte_number (view actor.now)) }
+{
+    let act = act_with(word.as_str()?, value)?;
+    Some(Event {
+        actor: byte_in(actor)?,
+        act,
+    })
+}
+
+/// The act that a word alone says.
+fn act_of_word(word: &str) -> Option<Act>
+    ensures { result ≡ act_of_word word.now }
+{
+    match word {
+        "go" => Some(Act::Go),
+        "deq" => Some(Act::Deq),
+        "adeq" => Some(Act::ADeq),
+        _ => None,
+    }
+}
+
+/// The act that a word and a value say.
+fn act_with(word: &str, value: &Value) -> Option<Act>
+    ensures { result ≡ act_with word.now (view value.now) }
+{
+    match word {
+        "enq" => Some(Act::Enq(value.as_u64()?)),
+        "aenq" => Some(Act::AEnq(value.as_u64()?)),
+        "starve" => Some(Act::Starve(value.as_bool()?)),
+        _ => None,
+    }
+}
+
+/// The values of events, in order.
+pub fn events_value(alloc: Global, events: &[Event]) -> Result<Vec<Value>, AllocError>
+    ensures values { IfOk result (λ values. items_view values.items ≡ events_data events.now) }
+    ensures spelled { OnOk result (events_of (events_data events.now) ≡ Some events.now) }
+{
+    let mut values = Vec::with_capacity(alloc, events.len())?;
+    for event in events {
+        values.push(event_value(alloc, *event)?)?;
+    }
+    Ok(values)
+}
+
+/// The value of an event.
+fn event_value(alloc: Global, event: Event) -> Result<Value, AllocError>
+    ensures value { IfOk result (λ value. view value ≡ act_data event.actor event.act) }
+    ensures spelled { event_of (act_data event.actor event.act) ≡ Some event }
+{
+    match event.act {
+        Act::Enq(x) => long_value(alloc, "enq", event.actor, Value::from(x)),
+        Act::Deq => short_value(alloc, "deq", event.actor),
+        Act::AEnq(x) => long_value(alloc, "aenq", event.actor, Value::from(x)),
+        Act::ADeq => short_value(alloc, "adeq", event.actor),
+        Act::Go => short_value(alloc, "go", event.actor),
+        Act::Starve(choice) => long_value(alloc, "starve", event.actor, Value::from(choice)),
+    }
+}
+
+/// The value of an event of a word alone.
+fn short_value(alloc: Global, word: &str, actor: u8) -> Result<Value, AllocError>
+    ensures { IfOk result (λ value. view value ≡ short_data word.now actor) }
+{
+    json!(in alloc; [word, actor])
+}
+
+/// The value of an event of a word and a value.
+fn long_value(alloc: Global, word: &str, actor: u8, last: Value) -> Result<Value, AllocError>
+    ensures { IfOk result (λ value. view value ≡ long_data word.now actor (view last)) }
+{
+    json!(in alloc; [word, actor, last])
+}

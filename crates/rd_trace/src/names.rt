@@ -1,0 +1,54 @@
+//! Names of segments: `[M,S]`, and `null` where a next names none.
+
+ghost use Rattle.std.specs.Prelude.{◌≡◌, Some, IfOk};
+ghost use Rattle.serde_json.specs.View.{view};
+ghost use Rattle.rd_trace.specs.Names.{name_of, next_of, name_data, next_data};
+
+use super::numbers::{byte_in, word_in};
+use rd_cell::SegName;
+use serde_json::{Value, json};
+use std::alloc::{AllocError, Global};
+
+/// The name that a value spells.
+#[tactic(auto, using(crate::proofs::NumberLemmas::no_name))]
+pub fn name_in(value: &Value) -> Option<SegName>
+    ensures { result ≡ name_of (view value.now) }
+{
+    let items = value.as_array()?;
+    match items.as_slice() {
+        [maker, n] => Some(SegName {
+            maker: byte_in(maker)?,
+            n: word_in(n)?,
+        }),
+        _ => None,
+    }
+}
+
+/// The value of a name.
+pub fn name_value(alloc: Global, name: SegName) -> Result<Value, AllocError>
+    ensures value { IfOk result (λ value. view value ≡ name_data name) }
+    ensures spelled { name_of (name_data name) ≡ Some name }
+{
+    json!(in alloc; [name.maker, name.n])
+}
+
+/// The name of the next segment that a value spells, or that there is none.
+pub fn next_in(value: &Value) -> Option<Option<SegName>>
+    ensures { result ≡ next_of (view value.now) }
+{
+    if value.is_null() {
+        return Some(None);
+    }
+    Some(Some(name_in(value)?))
+}
+
+/// The value of the name of the next segment, or of none.
+pub fn next_value(alloc: Global, next: Option<SegName>) -> Result<Value, AllocError>
+    ensures value { IfOk result (λ value. view value ≡ next_data next) }
+    ensures spelled { next_of (next_data next) ≡ Some next }
+{
+    match next {
+        None => Ok(Value::Null),
+        Some(name) => name_value(alloc, name),
+    }
+}
