@@ -2,7 +2,7 @@
 
 ghost use Rattle.std.specs.Prelude.{◌≡◌};
 ghost use Rattle.rd_cell.specs.declared.places.TheConstants.SegName.{ROOT};
-ghost use Rattle.rd_cell.specs.Places.{is_array, is_of, is_of_cell, overlaps, root, segment_of, index_half, is_nothing, written};
+ghost use Rattle.rd_cell.specs.Places.{covers, is_array, is_of, is_of_cell, overlaps, root, segment_of, index_half, is_nothing, written};
 
 /// The name of a segment: (maker, n) is the one that this actor made as its n-th, from 0. The root is (0, 0).
 #[derive(Clone, Copy, Debug, PartialEq, Eq)]
@@ -116,16 +116,26 @@ pub fn written(place: Option<Place>, wrote: Wrote) -> Option<Place>
 }
 
 /// Whether two places overlap: they are equal, or one is the cell of which the other is a half, or the whole of the segment that
-/// the other belongs to. A scan for a dependant asks this of each step, so each place is looked at once.
+/// the other belongs to. A scan for a dependant asks this of each step, so each place is looked at once if it can be.
 #[inline(always)]
 pub fn overlaps(a: Place, b: Place) -> bool
     ensures { result ≡ overlaps a b }
 {
-    match (a, b) {
-        (Place::Whole(name), _) => is_of(name, b),
-        (_, Place::Whole(name)) => is_of(name, a),
-        (Place::Cell(name, i), _) => is_of_cell(name, i, b),
-        (_, Place::Cell(name, i)) => is_of_cell(name, i, a),
+    match a {
+        Place::Whole(name) => is_of(name, b),
+        Place::Cell(name, i) => is_of_cell(name, i, b) || covers(b, a),
+        _ => covers(b, a),
+    }
+}
+
+/// Whether a write of `a` may change what is at `b`.
+#[inline(always)]
+fn covers(a: Place, b: Place) -> bool
+    ensures { result ≡ covers a b }
+{
+    match a {
+        Place::Whole(name) => is_of(name, b),
+        Place::Cell(name, i) => is_of_cell(name, i, b),
         _ => a == b,
     }
 }

@@ -1,6 +1,6 @@
 -- The first dependant, from the first later positions in an actor's list, a place's and a segment's.
-use Rattle.std.proofs.Common.{◌≡◌, ℕ, zero, suc, ◌+◌, ◌<◌, ◌≤◌, min, Bool, true, false, not, ◌&&◌, ◌||◌, ◌==◌, ◌⊎◌, inl, inr, if◌then◌else◌, nat_lt, List, [], ◌∷◌, length, drop, Option, Some, None, refl, sym, ap, subst, ◌∙◌, arith}
-use Rattle.std.proofs.lemmas.Bool.{or_cases, or_left, or_right}
+use Rattle.std.proofs.Common.{◌≡◌, ℕ, zero, suc, ◌+◌, ◌<◌, ◌≤◌, min, Bool, true, false, not, ◌&&◌, ◌||◌, ◌==◌, ◌⊎◌, inl, inr, if◌then◌else◌, nat_lt, List, [], ◌∷◌, length, drop, Option, Some, None, refl, sym, ap, subst, ◌∙◌, arith, eqb-true, eq-eqb}
+use Rattle.std.proofs.lemmas.Bool.{or_cases, or_left, or_right, false≢true}
 use Rattle.std.proofs.lemmas.Bool.Decides.{nat_tests}
 use Rattle.std.specs.Cmp.{both_ways}
 use Rattle.rd_cell.specs.declared.places.SegName.{SegName}
@@ -12,11 +12,11 @@ use Rattle.rd_step.specs.declared.entries.Entry.{Entry}
 use Rattle.rd_step.specs.Prelude.{Wrote, WroteNothing, WrotePlace, WroteIndex}
 use Rattle.rd_step.specs.Dependence.{first_from, first_after, first_dependant, numbered, depends}
 use Rattle.rd_depend.specs.declared.index.DependIndex.{DependIndex}
+use Rattle.rd_depend.specs.declared.index.keys.Key.{Key}
 use Rattle.rd_depend.specs.declared.index.keys.Key.TheVariants.{At, In}
 use Rattle.rd_depend.specs.Keys.{is_kept_at, is_under}
 use Rattle.rd_depend.specs.Lists.{AscendsFrom, IsAscending, first_above, earlier}
 use Rattle.rd_depend.specs.Index.{Touch, By, Under, reached, is_value_written, touches, positions_from, positions, kept, IsIndexOf}
-use Rattle.rd_depend.proofs.IndexLists.{ascends_lower}
 use Rattle.rd_depend.proofs.IndexPositions.{positions-ascend, positions-number, number-within, ascending}
 
 -- the same test
@@ -438,13 +438,15 @@ pub found_alone : (v : Wrote) (p : Place) → segment_of p ≡ None → ((t : Se
 found_alone v p none other k es =
     ap (first_above k) (positions-same (touches (Under (is_nothing v) (At p))) (meets p v) (meets-alone p v none other) 1 es)
 
+-- a place that is no cell
+pub no_cell_at : (p : Place) → ((t : SegName) (i : ℕ) → p ≡ Cell t i → ⊥) → is_cell_at p ≡ false
+no_cell_at (Cell t i) h = absurd (h t i refl)
+no_cell_at _ h = refl
+
 pub found_own : (v : Wrote) (p : Place) (s : SegName) → segment_of p ≡ Some s → ((t : SegName) (i : ℕ) → p ≡ Cell t i → ⊥) → (k : ℕ) (es : List Entry)
     → first_above k (positions (beside p s (is_nothing v)) es) ≡ first_above k (positions (meets p v) es)
-found_own v p s own no_cell k es = ap (first_above k) (positions-same (beside p s (is_nothing v)) (meets p v) (meets-own p s v own (plain p no_cell)) 1 es)
-  where
-    plain : (r : Place) → ((t : SegName) (i : ℕ) → r ≡ Cell t i → ⊥) → is_cell_at r ≡ false
-    plain (Cell t i) e = absurd (e t i refl)
-    plain _ e = refl
+found_own v p s own no_cell k es =
+    ap (first_above k) (positions-same (beside p s (is_nothing v)) (meets p v) (meets-own p s v own (no_cell_at p no_cell)) 1 es)
 
 pub found_cell : (v : Wrote) (p : Place) (s : SegName) (i : ℕ) → p ≡ Cell s i → (k : ℕ) (es : List Entry)
     → earlier (first_above k (positions (touches (Under (not (is_value_written v)) (At (Val s i)))) es)) (first_above k (positions (beside (Idx s i) s (is_nothing v)) es))
