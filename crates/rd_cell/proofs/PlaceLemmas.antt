@@ -132,43 +132,6 @@ covers_at p q e = subst (λ (x : Place). covers p x ≡ true) e (covers-refl p)
 pub covers-other : (p q : Place) → covers p q ≡ false → is_place p q ≡ false
 covers-other p q h = false_from_ne_true (is_place p q) (λ e. both_ways (covers p q) h (covers_at p q (is_place-true p q e)))
 
--- what overlaps the whole of a segment is the segment's
-pub overlaps-whole : (s : SegName) (q : Place) → is_of s q ≡ overlaps (Whole s) q
-overlaps-whole s q = both_ways_of (is_of s q) (covers q (Whole s)) (λ h. by (covers_cases q (Whole s) h))
-  where
-    both_ways_of : (a b : Bool) → (b ≡ true → a ≡ true) → a ≡ (a || b)
-    both_ways_of true b h = refl
-    both_ways_of false true h = h refl
-    both_ways_of false false h = refl
-
-    by : Covering q (Whole s) → is_of s q ≡ true
-    by (itself e) = subst (λ (p : Place). is_of s p ≡ true) (sym e) (is_name-refl s)
-    by (as_cell t i e f) = cc
-    by (as_whole t e f) =
-        subst (λ (p : Place). is_of s p ≡ true) (sym e) (subst (λ (u : SegName). is_name s u ≡ true) (sym (is_name-true t s f)) (is_name-refl s))
-
--- what overlaps a place that names no others covers it
-covered_by : (p q : Place) → covers q p ≡ (is_place p q || covers q p)
-covered_by p q = absorbed (is_place p q) (covers q p) (λ h. covers_at q p (sym (is_place-true p q h)))
-  where
-    absorbed : (a b : Bool) → (a ≡ true → b ≡ true) → b ≡ (a || b)
-    absorbed true b h = h refl
-    absorbed false b h = refl
-
-pub overlaps-plain : (p q : Place) → ((s : SegName) → p ≡ Whole s → ⊥) → ((s : SegName) (i : ℕ) → p ≡ Cell s i → ⊥) → covers q p ≡ overlaps p q
-overlaps-plain (Whole s) q h k = absurd (h s refl)
-overlaps-plain (Cell s i) q h k = absurd (k s i refl)
-overlaps-plain QHead q h k = covered_by QHead q
-overlaps-plain QTail q h k = covered_by QTail q
-overlaps-plain (Head s) q h k = covered_by (Head s) q
-overlaps-plain (Tail s) q h k = covered_by (Tail s) q
-overlaps-plain (Next s) q h k = covered_by (Next s) q
-overlaps-plain (Val s i) q h k = covered_by (Val s i) q
-overlaps-plain (Idx s i) q h k = covered_by (Idx s i) q
-overlaps-plain ArrHead q h k = covered_by ArrHead q
-overlaps-plain ArrTail q h k = covered_by ArrTail q
-overlaps-plain (ArrCell i) q h k = covered_by (ArrCell i) q
-
 -- overlap is symmetric
 pub overlaps-sym : (p q : Place) → overlaps p q ≡ true → overlaps q p ≡ true
 overlaps-sym p q h =
