@@ -1,5 +1,5 @@
 -- What the laws of the machine say.
-use Rattle.std.specs.Prelude.{◌≡◌, ℕ, false, List, Some, Ok, Err}
+use Rattle.std.specs.Prelude.{◌≡◌, ℕ, true, false, List, Some, Ok, Err}
 use Rattle.rd_ring.specs.Prelude.{Place, Content, Operation, Refusal, NoActor, NotIdle, ActorIdle, NeedsChoice, NoChoice, CounterEnd, ArrayEnd, SegmentsEnd, NoSuchPlace, some_covers, is_nothing, written, Contents, operand, effect}
 use Rattle.rd_actor.specs.declared.actors.Actor.{Actor}
 use Rattle.rd_step.specs.World.{World}
