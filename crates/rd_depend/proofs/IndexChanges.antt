@@ -66,6 +66,18 @@ puts_where k wrote p old new put = record { lists = put.lists; room = put.room }
 takes_where : (k : Option Key) (wrote : Bool) (old new : Table) → TakesLast k wrote old new → TakesWhere (λ w q. counts w wrote && is_that q k) old new
 takes_where k wrote old new took = record { lists = took.lists; room = took.room }
 
+-- what is ready stays so where no list changes
+pub ready_kept : (t u : Table) (k : Option Key) (wrote : Bool) (slot : Option ℕ) → KeepsLists t u → AreReady t k wrote slot → AreReady u k wrote slot
+ready_kept t u None wrote slot keeps ready = ready
+ready_kept t u (Some q) wrote slot keeps ready = (
+  ready.0,
+  ready.1,
+  record {
+    at = keeps.slots q ready.0 ready.2.at;
+    room = λ w c. omega (arith, ready.2.room w c, keeps.room w q);
+  },
+)
+
 -- what is ready under one key stays so where another is put
 pub ready_after : (t u : Table) (s k : Option Key) (wrote other : Bool) (p : ℕ) (slot : Option ℕ) → ((q : Key) → s ≡ Some q → is_that q k ≡ false)
     → AreReady t s wrote slot → Puts k other p t u → AreReady u s wrote slot

@@ -26,20 +26,20 @@ returns-in-Cell c = record {
   cost = omega (arith, c.first_under-by_value.ensures.cost, c.first_beside.ensures.cost);
 }
 
-pub returns-in_default-in-None : goal.returns-in_default-in-None
-returns-in_default-in-None c = record {
+pub returns-in-None : goal.returns-in-None
+returns-in-None c = record {
   answer = λ es is.
-      found_in c.args.self.now es is c.requires.few (Under c.is_nothing-reads.result (At c.args.place)) c.args.k c.first_under.result c.first_under.ensures.answer
+      found_in c.args.self.now es is c.requires.few (Under c.is_nothing-reads.result (At c.args.place)) c.args.k c.first_under-in-None.result c.first_under-in-None.ensures.answer
       ∙ ap (λ (b : Bool). first_above c.args.k (positions (touches (Under b (At c.args.place))) es)) c.is_nothing-reads.ensures
       ∙ found_alone c.args.wrote c.args.place (sym c.segment.ensures ∙ c.in-None.is) c.in_default.not-Whole c.args.k es;
-  cost = omega (arith, c.first_under.ensures.cost);
+  cost = omega (arith, c.first_under-in-None.ensures.cost);
 }
 
-pub returns-in_default-in-Some : goal.returns-in_default-in-Some
-returns-in_default-in-Some c = record {
+pub returns-in-Some : goal.returns-in-Some
+returns-in-Some c = record {
   answer = λ es is.
-      c.first_beside.ensures.answer es is
+      c.first_beside-in-Some.ensures.answer es is
       ∙ ap (λ (b : Bool). first_above c.args.k (positions (beside c.args.place c.in-Some.name b) es)) c.is_nothing-reads.ensures
       ∙ found_own c.args.wrote c.args.place c.in-Some.name (sym c.segment.ensures ∙ c.in-Some.is) c.in_default.not-Cell c.args.k es;
-  cost = omega (arith, c.first_beside.ensures.cost);
+  cost = omega (arith, c.first_beside-in-Some.ensures.cost);
 }

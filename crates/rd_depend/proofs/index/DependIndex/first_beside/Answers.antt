@@ -12,7 +12,7 @@ returns c = record {
       c.earlier.ensures
       ∙ (λ i. earlier
       (found_in c.args.self.now es is c.requires.few (Under c.args.writes (At c.args.place)) c.args.k c.first_under-own.result c.first_under-own.ensures.answer i)
-      (found_in c.args.self.now es is c.requires.few (Under c.args.writes (At (Whole c.args.name))) c.args.k c.first_under-2.result c.first_under-2.ensures.answer i))
+      (found_in c.args.self.now es is c.requires.few (Under c.args.writes (At (Whole c.args.name))) c.args.k c.first_under.result c.first_under.ensures.answer i))
       ∙ found_beside c.args.writes c.args.place c.args.name c.args.k es;
-  cost = omega (arith, c.first_under-own.ensures.cost, c.first_under-2.ensures.cost);
+  cost = omega (arith, c.first_under-own.ensures.cost, c.first_under.ensures.cost);
 }

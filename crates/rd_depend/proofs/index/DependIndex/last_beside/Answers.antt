@@ -12,7 +12,7 @@ returns c = record {
       c.later.ensures
       ∙ (λ i. later
       (last_in c.args.self.now es is c.requires.few (Under true (At c.args.place)) c.args.n c.last_under-own.result c.last_under-own.ensures.answer i)
-      (last_in c.args.self.now es is c.requires.few (Under true (At (Whole c.args.name))) c.args.n c.last_under-2.result c.last_under-2.ensures.answer i))
+      (last_in c.args.self.now es is c.requires.few (Under true (At (Whole c.args.name))) c.args.n c.last_under.result c.last_under.ensures.answer i))
       ∙ last_beside c.args.place c.args.name (take c.args.n es);
-  cost = omega (arith, c.last_under-own.ensures.cost, c.last_under-2.ensures.cost);
+  cost = omega (arith, c.last_under-own.ensures.cost, c.last_under.ensures.cost);
 }

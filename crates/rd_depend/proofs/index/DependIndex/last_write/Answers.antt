@@ -22,18 +22,18 @@ returns-in-Cell c = record {
   cost = omega (arith, c.last_under-by_value.ensures.cost, c.last_beside.ensures.cost);
 }
 
-pub returns-in_default-in-None : goal.returns-in_default-in-None
-returns-in_default-in-None c = record {
+pub returns-in-None : goal.returns-in-None
+returns-in-None c = record {
   answer = λ es is.
-      last_in c.args.self.now es is c.requires.few (Under true (At c.args.place)) c.args.n c.last_under.result c.last_under.ensures.answer
+      last_in c.args.self.now es is c.requires.few (Under true (At c.args.place)) c.args.n c.last_under-in-None.result c.last_under-in-None.ensures.answer
       ∙ last_alone c.args.place (sym c.segment.ensures ∙ c.in-None.is) c.in_default.not-Whole (take c.args.n es);
-  cost = omega (arith, c.last_under.ensures.cost);
+  cost = omega (arith, c.last_under-in-None.ensures.cost);
 }
 
-pub returns-in_default-in-Some : goal.returns-in_default-in-Some
-returns-in_default-in-Some c = record {
+pub returns-in-Some : goal.returns-in-Some
+returns-in-Some c = record {
   answer = λ es is.
-      c.last_beside.ensures.answer es is
+      c.last_beside-in-Some.ensures.answer es is
       ∙ last_own c.args.place c.in-Some.name (sym c.segment.ensures ∙ c.in-Some.is) c.in_default.not-Cell (take c.args.n es);
-  cost = omega (arith, c.last_beside.ensures.cost);
+  cost = omega (arith, c.last_beside-in-Some.ensures.cost);
 }

@@ -1,4 +1,4 @@
-use Rattle.std.proofs.Common.{Bool, sym, subst, refl}
+use Rattle.std.proofs.Common.{◌+◌, Bool, sym, subst, refl}
 use Rattle.rd_depend.specs.Keys.{place_key, value_key, segment_key}
 use Rattle.rd_depend.specs.Tables.{AreReady, Puts}
 use Rattle.rd_depend.proofs.IndexKeys.{value_other, segment_other, segment_other_value}
@@ -71,6 +71,6 @@ returns c =
     (ready_after c.args.self.now.by_key c.put.new.self (segment_key x.place) (place_key x.place) _ _ _ c.args.slots.segment (segment_other x.place) last first)
     second) in
     adds _ _ x c.put.new.self c.put-2.new.self _ c.from-actor.result c.from-actor.ensures refl refl c.put_in.ensures.lists c.put_in.ensures.room
-    (subst (λ (b : Bool). Puts (place_key x.place) b _ c.args.self.now.by_key c.put.new.self) c.is_written-wrote.ensures first)
-    (subst (λ (b : Bool). Puts (value_key x.place) b _ c.put.new.self c.put-2.new.self) c.is_value_written-value_written.ensures second)
-    (subst (λ (b : Bool). Puts (segment_key x.place) b _ c.put-2.new.self c.put-3.new.self) c.is_written-wrote.ensures third)
+    (subst (λ (b : Bool). Puts (place_key x.place) b (c.args.self.now.len + 1) c.args.self.now.by_key c.put.new.self) c.is_written-wrote.ensures first)
+    (subst (λ (b : Bool). Puts (value_key x.place) b (c.args.self.now.len + 1) c.put.new.self c.put-2.new.self) c.is_value_written-value_written.ensures second)
+    (subst (λ (b : Bool). Puts (segment_key x.place) b (c.args.self.now.len + 1) c.put-2.new.self c.put-3.new.self) c.is_written-wrote.ensures third)
