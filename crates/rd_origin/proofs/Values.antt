@@ -115,7 +115,7 @@ share_had v (CellAt s i) _ r k e h = h
 share_had v _ c r k e h = h
 
 -- whatever an operation does, a place that can't have a value has none
-always_none : (v : ℕ) (r : Result Performed Refusal) → IfOk r (λ did. (None ≡ Some v) ⊎ (None ≡ None))
+always_none : (v : ℕ) (r : Result Performed Refusal) → IfOk r (λ did. HasOnly v None)
 always_none v (Err refusal) = tt
 always_none v (Ok did) = inr refl
 

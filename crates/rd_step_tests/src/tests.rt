@@ -123,9 +123,8 @@ fn put(places: &mut Places, place: Place, content: Content) {
         }
         (Place::Idx(_, i), Content::Idx { safe, idx }) => {
             if i < 4 {
-                let cell = &mut places.root.cells[usize::from(i)];
-                cell.safe = safe;
-                cell.idx = idx;
+                let val = places.root.cells[usize::from(i)].val;
+                places.root.cells[usize::from(i)] = Cell { safe, idx, val };
             }
         }
         (Place::ArrHead, Content::Number(count)) => places.array.head = count,
