@@ -1,17 +1,16 @@
 -- The calls of an index, from what they do to its lists.
 use Rattle.std.proofs.Common.{◌≡◌, ℕ, zero, suc, ◌+◌, ◌-◌, ◌<◌, ◌≤◌, Bool, true, false, not, ◌&&◌, ◌||◌, ◌==◌, if◌then◌else◌, List, [], ◌∷◌, ◌++◌, length, take, drop, Option, Some, None, slice_get, get_or, refl, sym, ap, subst, ◌∙◌, append_assoc, arith, eq-eqb, Result, Ok, Err, OnOk, is_err}
 use Rattle.rd_step.specs.declared.entries.Entry.{Entry}
-use Rattle.rd_cell.specs.declared.places.Place.{Place}
 use Rattle.rd_depend.specs.declared.index.DependIndex.{DependIndex}
 use Rattle.rd_depend.specs.declared.index.keys.Key.{Key}
 use Rattle.rd_depend.specs.declared.index.table.Table.{Table}
 use Rattle.rd_step.specs.Prelude.{is_nothing}
 use Rattle.rd_depend.specs.Keys.{is_that, is_under, place_key, value_key, segment_key}
-use Rattle.rd_depend.specs.Lists.{Lists, list_at, spare_at, one_if, closed, IsAscending}
-use Rattle.rd_depend.specs.Tables.{kept_in, spare_in, capacity_in, counts, AreReady, IsReady, KeepsLists, Puts, TakesLast, HasLast, Closes}
-use Rattle.rd_depend.specs.Index.{Touch, By, Under, touches, reached, is_value_written, positions, kept, spare, number_of, IsIndexOf, HasRoomFor, IsLast, IsHeld, Adds, Keeps, Drops, IsReadyFor, EndsWith, without_entry}
+use Rattle.rd_depend.specs.Lists.{Lists, list_at, spare_at, one_if}
+use Rattle.rd_depend.specs.Tables.{kept_in, spare_in, counts, AreReady, KeepsLists, Puts, TakesLast, HasLast}
+use Rattle.rd_depend.specs.Index.{Touch, By, Under, touches, reached, is_value_written, positions, kept, spare, number_of, IsIndexOf, HasRoomFor, IsLast, Adds, Keeps, Drops, EndsWith}
 use Rattle.rd_depend.proofs.IndexKeys.{at_place, at_value, at_segment, at_one, under, place_not_value, not_segment}
-use Rattle.rd_depend.proofs.IndexPositions.{positions-push, positions-pop, positions-number, positions-remove, number-remove, length-remove, ascending}
+use Rattle.rd_depend.proofs.IndexPositions.{positions-push, positions-pop}
 
 -- one change after another, where no list is changed by both
 

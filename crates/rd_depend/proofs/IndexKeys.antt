@@ -1,5 +1,5 @@
 -- What is kept under a key, and the three keys of a place: its own, that of a cell's value half, and its segment's.
-use Rattle.std.proofs.Common.{◌≡◌, ℕ, Bool, true, false, not, ◌==◌, ◌&&◌, ◌||◌, Option, Some, None, refl, sym, ap, subst, ◌∙◌}
+use Rattle.std.proofs.Common.{◌≡◌, ℕ, Bool, true, false, not, ◌==◌, ◌&&◌, ◌||◌, Option, Some, None, refl, sym, ap, ◌∙◌}
 use Rattle.std.proofs.lemmas.Bool.{both_ways, or_left, or_right}
 use Rattle.rd_cell.specs.declared.places.SegName.{SegName}
 use Rattle.rd_cell.specs.declared.places.Place.{Place}
@@ -9,7 +9,7 @@ use Rattle.rd_step.specs.declared.entries.Entry.{Entry}
 use Rattle.rd_step.specs.Prelude.{Wrote, WroteNothing, WrotePlace, WroteIndex}
 use Rattle.rd_depend.specs.declared.index.keys.Key.{Key}
 use Rattle.rd_depend.specs.declared.index.keys.Key.TheVariants.{At, In}
-use Rattle.rd_depend.specs.Keys.{is_key, is_that, is_kept_at, is_under, place_key, value_of_place, value_key, segment_of_place, segment_key}
+use Rattle.rd_depend.specs.Keys.{is_that, is_kept_at, is_under, place_key, value_of_place, value_key, segment_of_place, segment_key}
 use Rattle.rd_depend.specs.Tables.{counts}
 use Rattle.rd_depend.specs.Index.{reached, is_value_written}
 use Rattle.rd_depend.specs.KeyLaws.{is_key-refl}

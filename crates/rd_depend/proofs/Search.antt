@@ -1,5 +1,5 @@
 -- The first record by an actor in a list.
-use Rattle.std.proofs.Common.{◌≡◌, ◌≢◌, ◌↔◌, ℕ, zero, suc, Bool, IsTrue, ◌+◌, ◌-◌, ◌<◌, ◌≤◌, true, false, not, ◌==◌, ◌&&◌, ◌||◌, refl, sym, ◌∙◌, ap, subst, arith, List, [], ◌∷◌, ◌++◌, length, get_or, take, drop, append_assoc, length-drop}
+use Rattle.std.proofs.Common.{◌≡◌, ◌≢◌, ◌↔◌, ℕ, zero, suc, Bool, IsTrue, ◌+◌, ◌-◌, ◌<◌, ◌≤◌, true, false, not, ◌==◌, refl, sym, ◌∙◌, ap, subst, arith, List, [], ◌∷◌, ◌++◌, length, get_or, take, drop, append_assoc, length-drop}
 use Rattle.std.proofs.lemmas.Bool.{eqb-false, not-true, not_from_false, and_parts, and_from, or_parts}
 use Rattle.std.specs.List.{list_all, remove}
 use Rattle.std.proofs.Math.Seq.{drop-cons, take-append_seam}

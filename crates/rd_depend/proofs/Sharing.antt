@@ -1,10 +1,10 @@
 -- Two records depend on each other exactly where they have one actor, or share a place of the map that one of them wrote.
-use Rattle.std.proofs.Common.{◌≡◌, ◌↔◌, ◌⊎◌, true, ◌==◌, ◌||◌, inl, inr, refl, subst, Option, Some, None, eqb-true, eq-eqb}
+use Rattle.std.proofs.Common.{◌≡◌, ◌↔◌, ◌⊎◌, Bool, true, false, not, ◌==◌, inl, inr, refl, subst, Option, Some, None, eqb-true, eq-eqb}
 use Rattle.std.proofs.lemmas.Bool.{or_cases, or_left, or_right}
 use Rattle.rd_cell.proofs.PlaceLemmas.{is_place-true, is_place-refl, covers-refl, both_cover, written-covers}
-use Rattle.rd_step.specs.Prelude.{Place, QHead, QTail, Head, Tail, Next, CellAt, ValAt, IdxAt, WholeOf, ArrHead, ArrTail, ArrCell, covers, overlaps, some_covers, some_overlap, written, interfere, depends}
+use Rattle.rd_step.specs.Prelude.{Place, QHead, QTail, Head, Tail, Next, CellAt, ValAt, IdxAt, WholeOf, ArrHead, ArrTail, ArrCell, covers, overlaps, some_covers, some_overlap, written, interfere, depends, Wrote, WroteNothing, WrotePlace, WroteIndex, is_nothing}
 use Rattle.rd_step.specs.declared.entries.Entry.{Entry}
-use Rattle.rd_depend.specs.Sharing.{is_of_map, touched, wrote, SharesPlace}
+use Rattle.rd_depend.specs.Sharing.{is_of_map, wrote, SharesPlace, one_wrote}
 
 -- a place of the map that a place names
 abbrev part : Place → Place
@@ -100,3 +100,29 @@ shared x y = (forth, back)
     back : (x.event.actor ≡ y.event.actor) ⊎ SharesPlace x y → depends x y ≡ true
     back (inl e) = or_left (x.event.actor == y.event.actor) (interfere x.place x.wrote y.place y.wrote) (eq-eqb x.event.actor y.event.actor e)
     back (inr s) = or_right (x.event.actor == y.event.actor) (interfere x.place x.wrote y.place y.wrote) (interferes x y s)
+
+-- where two records interfere, one of them wrote, and their places overlap
+
+written_wrote : (p : Option Place) (w : Wrote) (q : Place) → some_covers (written p w) q ≡ true → not (is_nothing w) ≡ true
+written_wrote None w q h = cc
+written_wrote (Some p) WroteNothing q h = cc
+written_wrote (Some p) WrotePlace q h = refl
+written_wrote (Some p) WroteIndex q h = refl
+
+by_one : (x y : Entry) → SharesPlace x y → one_wrote x y ≡ true
+by_one x y s =
+    elim (or_cases (wrote x s.place) (wrote y s.place) s.one_wrote) [
+      | inl a ↦ or_left (not (is_nothing x.wrote)) (not (is_nothing y.wrote)) (written_wrote x.place x.wrote s.place a)
+      | inr b ↦ or_right (not (is_nothing x.wrote)) (not (is_nothing y.wrote)) (written_wrote y.place y.wrote s.place b)
+    ]
+
+not_so : (b c : Bool) → (b ≡ true → c ≡ true) → c ≡ false → b ≡ false
+not_so true c f h = let t = f refl in cc
+not_so false c f h = refl
+
+pub nobody_wrote : (x y : Entry) → one_wrote x y ≡ false → interfere x.place x.wrote y.place y.wrote ≡ false
+nobody_wrote x y = not_so (interfere x.place x.wrote y.place y.wrote) (one_wrote x y) (λ h. by_one x y (shares x y h))
+
+pub apart : (x y : Entry) → some_overlap x.place y.place ≡ false → interfere x.place x.wrote y.place y.wrote ≡ false
+apart x y = not_so (interfere x.place x.wrote y.place y.wrote) (some_overlap x.place y.place)
+    (λ h. let s = shares x y h in both_cover x.place y.place s.place s.first s.second)

@@ -9,7 +9,7 @@ use Rattle.rd_depend.specs.declared.index.changing.Slots.{Slots}
 use Rattle.rd_depend.specs.declared.index.keys.Key.{Key}
 use Rattle.rd_depend.specs.Keys.{is_under, place_key, value_key, segment_key}
 use Rattle.rd_depend.specs.Lists.{list_at, capacity_at, one_if, spare_at, closed, up_to, IsAscending}
-use Rattle.rd_depend.specs.Tables.{counts, kept_in, capacity_in, spare_in, AreReady}
+use Rattle.rd_depend.specs.Tables.{kept_in, capacity_in, spare_in, AreReady}
 
 -- what a list of positions is kept for: an actor, or a place or a segment, of all steps that touched it or of those that wrote it
 pub data Touch : Type 0 where

@@ -1,6 +1,6 @@
 -- Dependence in the words of the map from places to contents: what two records touched of it, and what they wrote.
-use Rattle.std.specs.Prelude.{◌≡◌, Bool, true, false, ◌||◌}
-use Rattle.rd_step.specs.Prelude.{Place, CellAt, WholeOf, some_covers, written}
+use Rattle.std.specs.Prelude.{◌≡◌, Bool, true, false, not, ◌||◌}
+use Rattle.rd_step.specs.Prelude.{Place, CellAt, WholeOf, some_covers, written, is_nothing}
 use Rattle.rd_step.specs.declared.entries.Entry.{Entry}
 
 -- whether a place is one of the map: a cell and the whole of a segment are names for several
@@ -24,3 +24,7 @@ pub record SharesPlace (x y : Entry) : Type 0 where
   pub first : touched x place ≡ true
   pub second : touched y place ≡ true
   pub one_wrote : (wrote x place || wrote y place) ≡ true
+
+-- one of two records wrote anything
+abbrev pub one_wrote : Entry → Entry → Bool
+one_wrote x y = not (is_nothing x.wrote) || not (is_nothing y.wrote)

@@ -1,21 +1,42 @@
 //! Dependence of two records, and the first dependant in a list of them.
 
 ghost use Rattle.std.specs.Prelude.{◌≡◌, ◌≤◌, length};
-ghost use Rattle.rd_step.specs.Prelude.{some_overlap, depends, first_dependant};
+ghost use Rattle.rd_step.specs.Prelude.{some_overlap, interfere, depends, first_dependant};
+ghost use Rattle.rd_depend.specs.Sharing.{one_wrote};
 
 use rd_cell::{Place, overlaps};
 use rd_step::Entry;
 
 /// Whether two steps depend on each other: they have one actor, or there is a place that both touched and one of them wrote. It
-/// is the same either way round, so a write depends on a read before it as a read on a write. What was written is asked before
-/// places are compared: most steps that a scan meets only read.
+/// is the same either way round, so a write depends on a read before it as a read on a write. Who wrote is asked before the
+/// places are compared, and what was written of them last: most steps that a scan meets only read, or were made elsewhere.
 #[inline(always)]
 pub fn depends(a: &Entry, b: &Entry) -> bool
     ensures { result ≡ depends a.now b.now }
 {
-    a.event.actor == b.event.actor
-        || some_overlap(a.written(), b.place)
-        || some_overlap(a.place, b.written())
+    a.event.actor == b.event.actor || interfere(a, b)
+}
+
+/// Whether there is a place that both touched and one of them wrote.
+#[inline(always)]
+fn interfere(a: &Entry, b: &Entry) -> bool
+    ensures { result ≡ interfere a.now.place a.now.wrote b.now.place b.now.wrote }
+{
+    if !one_wrote(a, b) {
+        return false;
+    }
+    if !some_overlap(a.place, b.place) {
+        return false;
+    }
+    some_overlap(a.written(), b.place) || some_overlap(a.place, b.written())
+}
+
+/// Whether one of the steps wrote anything.
+#[inline(always)]
+fn one_wrote(a: &Entry, b: &Entry) -> bool
+    ensures { result ≡ one_wrote a.now b.now }
+{
+    !a.wrote.is_nothing() || !b.wrote.is_nothing()
 }
 
 /// Whether both places are there, and overlap.

@@ -1,4 +1,4 @@
-use Rattle.std.proofs.Common.{◌≡◌, Bool, not, sym, ◌∙◌, ap, arith}
+use Rattle.std.proofs.Common.{Bool, not, sym, ◌∙◌, ap, arith}
 use Rattle.rd_cell.specs.declared.places.Place.TheVariants.{Val, Idx}
 use Rattle.rd_depend.specs.declared.index.keys.Key.TheVariants.{At, In}
 use Rattle.rd_depend.specs.Lists.{earlier, first_above}

@@ -1,5 +1,5 @@
 use Rattle.std.proofs.Common.{true, take, sym, ◌∙◌, arith}
-use Rattle.rd_cell.specs.declared.places.Place.TheVariants.{Val, Idx}
+use Rattle.rd_cell.specs.declared.places.Place.TheVariants.{Val}
 use Rattle.rd_depend.specs.declared.index.keys.Key.TheVariants.{At, In}
 use Rattle.rd_depend.specs.Lists.{later}
 use Rattle.rd_depend.specs.Index.{Under}
