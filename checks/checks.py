@@ -209,8 +209,9 @@ def fault_in_words(program, words, _script, ended):
 
 QUERIES = ["len", "marks", "markat 1", "markat 2", "show qhead", "show qtail", "show ahead", "show atail", "show acell 0", "show acell 1"]
 QUERIES += [f"show {kind} {name}" for name in ("0.0", "1.0", "2.0") for kind in ("head", "tail", "next", "whole")]
-QUERIES += [f"show cell {name} {at}" for name in ("0.0", "1.0", "2.0") for at in (0, 1)] + [f"actor {number}" for number in (1, 2, 3, 4)]
-QUERIES += ["step 1", "step 7", "step 26", "step 28", "writer qtail", "writer tail 0.0", "origin 7"]
+QUERIES += [f"show {kind} {name} {at}" for name in ("0.0", "1.0", "2.0") for kind in ("cell", "value", "index") for at in (0, 1)]
+QUERIES += [f"actor {number}" for number in (1, 2, 3, 4)]
+QUERIES += ["step 1", "step 7", "step 26", "step 28", "writer qtail", "writer tail 0.0", "writer cell 0.0 0", "writer value 0.0 0", "origin 7"]
 
 # up to the two makings of a ring behind a full one, that of actor 1 last, and both actors' next step: over rings of two cells
 RACE = ["enq 1 7"] + ["go 1"] * 6 + ["enq 1 8"] + ["go 1"] * 6 + ["enq 1 9"] + ["go 1"] * 2 + ["enq 2 10"] + ["go 2"] * 2 + ["go 1"] * 5

@@ -28,7 +28,8 @@ BAD_TRACE = "lcrqdb: refused 27 BadTrace\n"
 
 NUMBER = rb"(?:0|[1-9][0-9]*)"
 MOST = {"A": 2**8 - 1, "X": 2**64 - 1, "M": 2**8 - 1, "S": 2**32 - 1, "I": 2**8 - 1}
-PLACES = ["qhead", "qtail", "head M.S", "tail M.S", "next M.S", "cell M.S I", "whole M.S", "ahead", "atail", "acell I"]
+PLACES = ["qhead", "qtail", "head M.S", "tail M.S", "next M.S", "cell M.S I", "value M.S I", "index M.S I", "whole M.S"]
+PLACES += ["ahead", "atail", "acell I"]
 FORMS = ["enq A X", "deq A", "aenq A X", "adeq A", "go A", "starve A yes", "starve A no", "undo", "undo X", "roll X", "back X"]
 FORMS += ["redo", "forward X", "mark NAME", "drop NAME", "goto NAME", "marks", "markat X", "same NAME NAME", "origin X"]
 FORMS += ["actor A", "step X", "len"] + [f"{word} {place}" for word in ("show", "writer") for place in PLACES]
@@ -101,6 +102,7 @@ SPELLED = ["enq 1 7", "enq 255 18446744073709551615", "deq 2", "aenq 1 0", "adeq
 SPELLED += ["undo", "undo 3", "roll 1", "back 0", "redo", "forward 2", "mark a", "mark abcdefghij-45678", "drop a", "goto a-1"]
 SPELLED += ["marks", "markat 1", "same a b", "origin 4", "writer qtail", "writer cell 0.0 0", "show qhead", "show head 1.0"]
 SPELLED += ["show tail 255.4294967295", "show next 0.0", "show cell 0.0 255", "show whole 1.0", "show ahead", "show atail"]
+SPELLED += ["show value 0.0 3", "show index 255.4294967295 255", "writer value 0.0 0", "writer index 16.1 10"]
 SPELLED += ["show acell 63", "actor 1", "step 1", "len"]
 
 

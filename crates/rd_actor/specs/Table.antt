@@ -1,8 +1,9 @@
 -- The table of control points, one row a control point: what an actor asks for there, and how it goes on.
 use Rattle.std.specs.Prelude.{ℕ, ◌+◌, ◌%◌, ◌^◌, ◌<◌, Bool, true, false, ◌==◌, ◌&&◌, ◌||◌, nat_lt, nat_le, if◌then◌else◌, Option, Some, None, is_some, is_none, Result, Ok, Err}
 use Rattle.rd_cell.specs.declared.cells.Cell.{Cell}
+use Rattle.rd_cell.specs.declared.places.SegName.{SegName}
 use Rattle.rd_cell.specs.declared.places.Place.{Place}
-use Rattle.rd_cell.specs.declared.places.Place.TheVariants.{QHead, QTail, Head, Tail, Next, Cell as CellAt, ArrHead, ArrTail, ArrCell}
+use Rattle.rd_cell.specs.declared.places.Place.TheVariants.{QHead, QTail, Head, Tail, Next, Cell as CellAt, Val as ValAt, Idx as IdxAt, ArrHead, ArrTail, ArrCell}
 use Rattle.rd_cell.specs.declared.contents.ArrSlot.{ArrSlot}
 use Rattle.rd_cell.specs.declared.contents.ArrSlot.TheVariants.{Empty as NobodyYet, Top, Value as Held}
 use Rattle.rd_cell.specs.declared.contents.Content.TheVariants.{Name, Number, Tail as TailIs, Next as NextIs, Slot}
@@ -31,12 +32,12 @@ value_of (Some (Enqueue x)) = x
 value_of (Some (EnqueueInArray x)) = x
 value_of _ = 0
 
--- the cell that an enqueue works on, and the one that a dequeue works on
-abbrev pub tail_cell : ℕ → Actor → Place
-tail_cell R a = CellAt a.crq (a.t % R)
+-- the cell that an enqueue works on, or a half of it, by the kind of place, and the same for a dequeue
+abbrev pub at_tail : ℕ → (SegName → ℕ → Place) → Actor → Place
+at_tail R kind a = kind a.crq (a.t % R)
 
-abbrev pub head_cell : ℕ → Actor → Place
-head_cell R a = CellAt a.crq (a.h % R)
+abbrev pub at_head : ℕ → (SegName → ℕ → Place) → Actor → Place
+at_head R kind a = kind a.crq (a.h % R)
 
 -- a cell of these words
 abbrev pub cell_of : Bool → ℕ → Option ℕ → Cell
@@ -48,10 +49,10 @@ need_at R E1 a = Ok (At QTail Read)
 need_at R E2 a = Ok (At (Next a.crq) Read)
 need_at R E3 a = Ok (At QTail (CasName a.crq a.next))
 need_at R E4 a = Ok (At (Tail a.crq) Add)
-need_at R E5 a = Ok (At (tail_cell R a) ReadValue)
-need_at R E6 a = Ok (At (tail_cell R a) ReadSafeAndIndex)
+need_at R E5 a = Ok (At (at_tail R ValAt a) ReadValue)
+need_at R E6 a = Ok (At (at_tail R IdxAt a) ReadSafeAndIndex)
 need_at R E7 a = Ok (At (Head a.crq) Read)
-need_at R E8 a = Ok (At (tail_cell R a) (Cas2 (cell_of a.safe a.idx None) (cell_of true a.t (Some (value_of a.op)))))
+need_at R E8 a = Ok (At (at_tail R CellAt a) (Cas2 (cell_of a.safe a.idx None) (cell_of true a.t (Some (value_of a.op)))))
 need_at R E9 a = Ok (At (Head a.crq) Read)
 need_at R E10 a = Err NeedsChoice
 need_at R E11 a = Ok (At (Tail a.crq) Close)
@@ -60,11 +61,11 @@ need_at R E13 a = Ok (At (Next a.crq) (CasNext a.new))
 need_at R E14 a = Ok (At QTail (CasName a.crq a.new))
 need_at R Q1 a = Ok (At QHead Read)
 need_at R Q2 a = Ok (At (Head a.crq) Add)
-need_at R Q3 a = Ok (At (head_cell R a) ReadValue)
-need_at R Q4 a = Ok (At (head_cell R a) ReadSafeAndIndex)
-need_at R Q5 a = Ok (At (head_cell R a) (Cas2 (cell_of a.safe a.idx a.val) (cell_of a.safe (a.h + R) None)))
-need_at R Q6 a = Ok (At (head_cell R a) (Cas2 (cell_of a.safe a.idx a.val) (cell_of false a.idx a.val)))
-need_at R Q7 a = Ok (At (head_cell R a) (Cas2 (cell_of a.safe a.idx None) (cell_of a.safe (a.h + R) None)))
+need_at R Q3 a = Ok (At (at_head R ValAt a) ReadValue)
+need_at R Q4 a = Ok (At (at_head R IdxAt a) ReadSafeAndIndex)
+need_at R Q5 a = Ok (At (at_head R CellAt a) (Cas2 (cell_of a.safe a.idx a.val) (cell_of a.safe (a.h + R) None)))
+need_at R Q6 a = Ok (At (at_head R CellAt a) (Cas2 (cell_of a.safe a.idx a.val) (cell_of false a.idx a.val)))
+need_at R Q7 a = Ok (At (at_head R CellAt a) (Cas2 (cell_of a.safe a.idx None) (cell_of a.safe (a.h + R) None)))
 need_at R Q8 a = Ok (At (Tail a.crq) Read)
 need_at R Q9 a = Ok (At (Tail a.crq) Read)
 need_at R Q10 a = Ok (At (Head a.crq) Read)

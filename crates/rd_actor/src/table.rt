@@ -48,8 +48,14 @@ fn need_at<const R: usize>(actor: &Actor) -> Result<Access, Refusal>
         Pc::E2 | Pc::Q13 => Ok(Access::At(Place::Next(crq), Operation::Read)),
         Pc::E3 => Ok(Access::At(Place::QTail, cas_name(actor, actor.next))),
         Pc::E4 => Ok(Access::At(Place::Tail(crq), Operation::Add)),
-        Pc::E5 => Ok(Access::At(cell_at::<R>(actor, actor.t), Operation::ReadValue)),
-        Pc::E6 => Ok(Access::At(cell_at::<R>(actor, actor.t), Operation::ReadSafeAndIndex)),
+        Pc::E5 => Ok(Access::At(
+            Place::Val(crq, index_of::<R>(actor.t)),
+            Operation::ReadValue,
+        )),
+        Pc::E6 => Ok(Access::At(
+            Place::Idx(crq, index_of::<R>(actor.t)),
+            Operation::ReadSafeAndIndex,
+        )),
         Pc::E7 | Pc::E9 | Pc::Q10 => Ok(Access::At(Place::Head(crq), Operation::Read)),
         Pc::E8 => Ok(Access::At(cell_at::<R>(actor, actor.t), put_value(actor))),
         Pc::E10 => Err(Refusal::NeedsChoice),
@@ -59,8 +65,14 @@ fn need_at<const R: usize>(actor: &Actor) -> Result<Access, Refusal>
         Pc::E14 => Ok(Access::At(Place::QTail, cas_name(actor, actor.new))),
         Pc::Q1 => Ok(Access::At(Place::QHead, Operation::Read)),
         Pc::Q2 => Ok(Access::At(Place::Head(crq), Operation::Add)),
-        Pc::Q3 => Ok(Access::At(cell_at::<R>(actor, actor.h), Operation::ReadValue)),
-        Pc::Q4 => Ok(Access::At(cell_at::<R>(actor, actor.h), Operation::ReadSafeAndIndex)),
+        Pc::Q3 => Ok(Access::At(
+            Place::Val(crq, index_of::<R>(actor.h)),
+            Operation::ReadValue,
+        )),
+        Pc::Q4 => Ok(Access::At(
+            Place::Idx(crq, index_of::<R>(actor.h)),
+            Operation::ReadSafeAndIndex,
+        )),
         Pc::Q5 => Ok(Access::At(cell_at::<R>(actor, actor.h), move_on::<R>(actor, actor.val))),
         Pc::Q6 => Ok(Access::At(cell_at::<R>(actor, actor.h), mark_unsafe(actor))),
         Pc::Q7 => Ok(Access::At(cell_at::<R>(actor, actor.h), move_on::<R>(actor, None))),
@@ -427,7 +439,16 @@ fn cell_at<const R: usize>(actor: &Actor, position: u64) -> Place
     requires small { R ≤ MOST_CELLS }
     ensures { result ≡ CellAt actor.now.crq (position % R) }
 {
-    Place::Cell(actor.crq, (position % R as u64) as u8)
+    Place::Cell(actor.crq, index_of::<R>(position))
+}
+
+/// The index of this position's cell in a ring.
+fn index_of<const R: usize>(position: u64) -> u8
+    requires positive { 1 ≤ R }
+    requires small { R ≤ MOST_CELLS }
+    ensures { result ≡ position % R }
+{
+    (position % R as u64) as u8
 }
 
 /// The slot of the array at this position, which is 0 to 63 for the actors of a world.

@@ -28,10 +28,18 @@ const ACTOR: Actor = Actor {
     pass: 1,
 };
 
-/// The cells of its positions 5 and 6 in a ring of four.
+/// The cells of its positions 5 and 6 in a ring of four, and their halves.
 const AT_TAIL: Place = Place::Cell(CRQ, 1);
 
 const AT_HEAD: Place = Place::Cell(CRQ, 2);
+
+const VALUE_AT_TAIL: Place = Place::Val(CRQ, 1);
+
+const INDEX_AT_TAIL: Place = Place::Idx(CRQ, 1);
+
+const VALUE_AT_HEAD: Place = Place::Val(CRQ, 2);
+
+const INDEX_AT_HEAD: Place = Place::Idx(CRQ, 2);
 
 /// What it read from a cell, with the value and without it, and what it would put there.
 const READ: Cell = Cell {
@@ -74,8 +82,11 @@ const NEEDS: &[(Pc, Access)] = &[
         ),
     ),
     (Pc::E4, Access::At(Place::Tail(CRQ), Operation::Add)),
-    (Pc::E5, Access::At(AT_TAIL, Operation::ReadValue)),
-    (Pc::E6, Access::At(AT_TAIL, Operation::ReadSafeAndIndex)),
+    (Pc::E5, Access::At(VALUE_AT_TAIL, Operation::ReadValue)),
+    (
+        Pc::E6,
+        Access::At(INDEX_AT_TAIL, Operation::ReadSafeAndIndex),
+    ),
     (Pc::E7, Access::At(Place::Head(CRQ), Operation::Read)),
     (
         Pc::E8,
@@ -100,8 +111,11 @@ const NEEDS: &[(Pc, Access)] = &[
     ),
     (Pc::Q1, Access::At(Place::QHead, Operation::Read)),
     (Pc::Q2, Access::At(Place::Head(CRQ), Operation::Add)),
-    (Pc::Q3, Access::At(AT_HEAD, Operation::ReadValue)),
-    (Pc::Q4, Access::At(AT_HEAD, Operation::ReadSafeAndIndex)),
+    (Pc::Q3, Access::At(VALUE_AT_HEAD, Operation::ReadValue)),
+    (
+        Pc::Q4,
+        Access::At(INDEX_AT_HEAD, Operation::ReadSafeAndIndex),
+    ),
     (
         Pc::Q5,
         Access::At(

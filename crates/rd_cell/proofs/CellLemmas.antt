@@ -14,13 +14,13 @@ is_bit-refl : (a : Bool) → is_bit a a ≡ true
 is_bit-refl true = refl
 is_bit-refl false = refl
 
-is_value-true : (a b : Option ℕ) → is_value a b ≡ true → a ≡ b
+pub is_value-true : (a b : Option ℕ) → is_value a b ≡ true → a ≡ b
 is_value-true None None h = refl
 is_value-true (Some x) (Some y) h = ap Some (eqb-true x y h)
 is_value-true None (Some y) h = cc
 is_value-true (Some x) None h = cc
 
-is_value-refl : (a : Option ℕ) → is_value a a ≡ true
+pub is_value-refl : (a : Option ℕ) → is_value a a ≡ true
 is_value-refl None = refl
 is_value-refl (Some x) = eq-eqb x x refl
 

@@ -1,9 +1,11 @@
 -- What each access does to the contents of all places.
-use Rattle.std.specs.Prelude.{◌≡◌, ◌<◌, ◌≤◌, ℕ, zero, suc, ◌+◌, Bool, true, nat_lt, if◌then◌else◌, Option, Some, None, is_some, option_map, Result, Ok, Err}
+use Rattle.std.specs.Prelude.{◌≡◌, ◌<◌, ◌≤◌, ℕ, zero, suc, ◌+◌, Bool, true, nat_lt, if◌then◌else◌, Option, Some, None, is_some, Result, Ok, Err}
 use Rattle.rd_cell.specs.declared.limits.TheConstants.{MOST_SEGMENTS}
 use Rattle.rd_cell.specs.declared.places.SegName.{SegName}
 use Rattle.rd_cell.specs.declared.places.Place.{Place}
 use Rattle.rd_cell.specs.declared.places.Place.TheVariants.{Head, Whole}
+use Rattle.rd_cell.specs.declared.places.Wrote.{Wrote}
+use Rattle.rd_cell.specs.declared.places.Wrote.TheVariants.{Nothing as WroteNothing, Place as WrotePlace}
 use Rattle.rd_cell.specs.declared.contents.Content.{Content}
 use Rattle.rd_cell.specs.declared.operations.Operation.{Operation}
 use Rattle.rd_cell.specs.declared.operations.Answer.{Answer}
@@ -13,25 +15,26 @@ use Rattle.rd_cell.specs.declared.access.Access.TheVariants.{NoPlace, At, Make}
 use Rattle.rd_cell.specs.declared.access.Done.{Done}
 use Rattle.rd_cell.specs.declared.refusal.Refusal.{Refusal}
 use Rattle.rd_cell.specs.declared.refusal.Refusal.TheVariants.{SegmentsEnd, NoMemory, NoSuchPlace}
-use Rattle.rd_cell.specs.Places.{is_place}
+use Rattle.rd_cell.specs.Places.{is_place, written}
 use Rattle.rd_cell.specs.Contents.{Contents, share, after_write_at, restore, operand, holding}
-use Rattle.rd_cell.specs.Operations.{Effect, effect}
+use Rattle.rd_cell.specs.Operations.{Effect, effect, wrote_by}
 
--- what an access did: its place and what that had, if there is one, its answer, and what the places that its place
--- covers were given, if it wrote
+-- what an access did: its place and what that had, if there is one, its answer, what it wrote of its place, and what each place
+-- that it wrote was given
 pub record Performed : Type 0 where
   pub place : Option Place
   pub old : Option Content
   pub answer : Answer
-  pub writes : Option Contents
+  pub wrote : Wrote
+  pub given : Contents
 
 -- the contents after an access
 abbrev pub contents_after : Performed → Contents → Contents
-contents_after did = after_write_at did.place did.writes
+contents_after did = after_write_at (written did.place did.wrote) did.given
 
 -- what the entry of a step records of an access
 abbrev pub done_of : Performed → Done
-done_of did = record { place = did.place; old = did.old; answer = did.answer; wrote = is_some did.writes }
+done_of did = record { place = did.place; old = did.old; answer = did.answer; wrote = did.wrote }
 
 -- how many of the maker's segments are there, from the n-th on, looking at so many names at most
 unfoldable pub number_made_from : ℕ → Contents → ℕ → ℕ → ℕ
@@ -45,11 +48,11 @@ number_made at maker = number_made_from MOST_SEGMENTS at maker 0
 
 -- no access
 abbrev pub no_access : Performed
-no_access = record { place = None; old = None; answer = Nothing; writes = None }
+no_access = record { place = None; old = None; answer = Nothing; wrote = WroteNothing; given = λ q. None }
 
 -- an operation with this effect at a place that had this content
 abbrev pub effect_at : Place → Content → Effect → Performed
-effect_at p c e = record { place = Some p; old = Some c; answer = e.answer; writes = option_map (λ d. share (Some d)) e.writes }
+effect_at p c e = record { place = Some p; old = Some c; answer = e.answer; wrote = wrote_by c e.writes; given = share p e.writes }
 
 -- an operation at a place that had this content, with this effect or refused
 abbrev pub perform_effect : Place → Content → Result Effect Refusal → Result Performed Refusal
@@ -65,7 +68,7 @@ operate p op (Some c) = perform_effect p c (effect op c)
 abbrev pub make : ℕ → SegName → ℕ → Result Performed Refusal
 make R s x =
     if nat_lt s.n MOST_SEGMENTS
-    then Ok (record { place = Some (Whole s); old = None; answer = Made s; writes = Some (holding R x) })
+    then Ok (record { place = Some (Whole s); old = None; answer = Made s; wrote = WrotePlace; given = holding R x })
     else Err SegmentsEnd
 
 -- what an access by this actor does if each place has what `at` says
@@ -97,7 +100,7 @@ OperatesOn p op done old new = HasEffect (is_place p) (operate p op (Some old)) 
 -- this segment was made, with R cells and holding x
 abbrev pub Makes : ℕ → SegName → ℕ → Contents → Contents → Type 0
 Makes R s x old new =
-    HasEffect everywhere (make R s x) (record { place = Some (Whole s); old = None; answer = Made s; wrote = true }) old new
+    HasEffect everywhere (make R s x) (record { place = Some (Whole s); old = None; answer = Made s; wrote = WrotePlace }) old new
 
 -- this content was put back at the place, or its places were taken away, on the places that are looked at
 abbrev pub Restores : (Place → Bool) → Place → Option Content → Contents → Contents → Type 0

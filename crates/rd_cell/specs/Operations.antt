@@ -3,7 +3,10 @@ use Rattle.std.specs.Prelude.{ℕ, ◌+◌, Bool, true, false, not, ◌==◌, �
 use Rattle.rd_cell.specs.declared.limits.TheConstants.{COUNTER_END, SLOTS}
 use Rattle.rd_cell.specs.declared.places.Place.{Place}
 use Rattle.rd_cell.specs.declared.contents.Content.{Content}
-use Rattle.rd_cell.specs.declared.contents.Content.TheVariants.{Name, Number, Tail, Next, Cell, Slot}
+use Rattle.rd_cell.specs.declared.contents.Content.TheVariants.{Name, Number, Tail, Next, Cell, Val, Idx, Slot}
+use Rattle.rd_cell.specs.declared.cells.Cell.{Cell as Words}
+use Rattle.rd_cell.specs.declared.places.Wrote.{Wrote}
+use Rattle.rd_cell.specs.declared.places.Wrote.TheVariants.{Nothing, Place as AllOfPlace, Index}
 use Rattle.rd_cell.specs.declared.operations.Operation.{Operation}
 use Rattle.rd_cell.specs.declared.operations.Operation.TheVariants.{Read, ReadValue, ReadSafeAndIndex, Add, AddArray, Close, CasName, CasNext, CasTail, Cas2, Swap}
 use Rattle.rd_cell.specs.declared.operations.Answer.{Answer}
@@ -11,7 +14,7 @@ use Rattle.rd_cell.specs.declared.operations.Answer.TheVariants.{Found, Value, S
 use Rattle.rd_cell.specs.declared.refusal.Refusal.{Refusal}
 use Rattle.rd_cell.specs.declared.refusal.Refusal.TheVariants.{CounterEnd, ArrayEnd, NoSuchPlace}
 use Rattle.rd_cell.specs.Places.{is_name, is_array}
-use Rattle.rd_cell.specs.Cells.{is_cell}
+use Rattle.rd_cell.specs.Cells.{is_value, is_cell}
 
 -- what an operation does to one content: what it answers, and the content that it writes, or none if it only reads
 pub record Effect : Type 0 where
@@ -41,8 +44,8 @@ effect Read (Name s) = reads (Found (Name s))
 effect Read (Number n) = reads (Found (Number n))
 effect Read (Tail c n) = reads (Found (Tail c n))
 effect Read (Next m) = reads (Found (Next m))
-effect ReadValue (Cell c) = reads (Value c.val)
-effect ReadSafeAndIndex (Cell c) = reads (SafeAndIndex c.safe c.idx)
+effect ReadValue (Val val) = reads (Value val)
+effect ReadSafeAndIndex (Idx safe idx) = reads (SafeAndIndex safe idx)
 effect Add (Number n) = adds COUNTER_END n CounterEnd (Number n) (Number (n + 1))
 effect Add (Tail c n) = adds COUNTER_END n CounterEnd (Tail c n) (Tail c (n + 1))
 effect AddArray (Number n) = adds SLOTS n ArrayEnd (Number n) (Number (n + 1))
@@ -55,14 +58,28 @@ effect (Cas2 old new) (Cell c) = swaps (is_cell c old) (Cell new)
 effect (Swap new) (Slot old) = writes (Found (Slot old)) (Slot new)
 effect _ _ = Err NoSuchPlace
 
+-- what putting a new cell over an old one writes: the index half always, and the value half if the values differ
+abbrev pub wrote_cell : Words → Words → Wrote
+wrote_cell old new = if is_value old.val new.val then Index else AllOfPlace
+
+-- what writing a new content over an old one writes: all of its place, but for a cell that keeps its value
+abbrev pub wrote_content : Content → Content → Wrote
+wrote_content (Cell old) (Cell new) = wrote_cell old new
+wrote_content _ _ = AllOfPlace
+
+-- what an effect wrote of the place that had this content
+abbrev pub wrote_by : Content → Option Content → Wrote
+wrote_by old None = Nothing
+wrote_by old (Some new) = wrote_content old new
+
 -- what a read answers on a content of its kind
 abbrev pub read_answer : Operation → Content → Option Answer
 read_answer Read (Name s) = Some (Found (Name s))
 read_answer Read (Number n) = Some (Found (Number n))
 read_answer Read (Tail c n) = Some (Found (Tail c n))
 read_answer Read (Next m) = Some (Found (Next m))
-read_answer ReadValue (Cell c) = Some (Value c.val)
-read_answer ReadSafeAndIndex (Cell c) = Some (SafeAndIndex c.safe c.idx)
+read_answer ReadValue (Val val) = Some (Value val)
+read_answer ReadSafeAndIndex (Idx safe idx) = Some (SafeAndIndex safe idx)
 read_answer _ _ = None
 
 -- whether an operation is one for the places of a segment, and puts no counter past its end

@@ -1,8 +1,10 @@
--- Places: when two are equal, and when two overlap.
-use Rattle.std.specs.Prelude.{Bool, true, false, ◌==◌, ◌&&◌, ◌||◌, Option, Some, None}
+-- Places: when two are equal, when two overlap, and which of them an access wrote.
+use Rattle.std.specs.Prelude.{ℕ, Bool, true, false, ◌==◌, ◌&&◌, ◌||◌, Option, Some, None}
 use Rattle.rd_cell.specs.declared.places.SegName.{SegName}
 use Rattle.rd_cell.specs.declared.places.Place.{Place}
-use Rattle.rd_cell.specs.declared.places.Place.TheVariants.{QHead, QTail, Head, Tail, Next, Cell, Whole, ArrHead, ArrTail, ArrCell}
+use Rattle.rd_cell.specs.declared.places.Place.TheVariants.{QHead, QTail, Head, Tail, Next, Cell, Val, Idx, Whole, ArrHead, ArrTail, ArrCell}
+use Rattle.rd_cell.specs.declared.places.Wrote.{Wrote}
+use Rattle.rd_cell.specs.declared.places.Wrote.TheVariants.{Nothing, Place as AllOfPlace, Index}
 
 -- the segment that is there from the start
 abbrev pub root : SegName
@@ -18,8 +20,17 @@ is_of s (Head t) = is_name s t
 is_of s (Tail t) = is_name s t
 is_of s (Next t) = is_name s t
 is_of s (Cell t i) = is_name s t
+is_of s (Val t i) = is_name s t
+is_of s (Idx t i) = is_name s t
 is_of s (Whole t) = is_name s t
 is_of s _ = false
+
+-- whether the place is one of a cell's two halves, or the cell itself
+abbrev pub is_of_cell : SegName → ℕ → Place → Bool
+is_of_cell s i (Cell t j) = is_name s t && (i == j)
+is_of_cell s i (Val t j) = is_name s t && (i == j)
+is_of_cell s i (Idx t j) = is_name s t && (i == j)
+is_of_cell s i _ = false
 
 -- whether a place is one of the segment that the first is of
 abbrev pub is_beside : Place → Place → Bool
@@ -27,15 +38,19 @@ is_beside (Head s) q = is_of s q
 is_beside (Tail s) q = is_of s q
 is_beside (Next s) q = is_of s q
 is_beside (Cell s i) q = is_of s q
+is_beside (Val s i) q = is_of s q
+is_beside (Idx s i) q = is_of s q
 is_beside (Whole s) q = is_of s q
 is_beside _ q = false
 
--- the segment that has a place of the map, if one does
+-- the segment that has a place, if one does; the whole of a segment is none of its places
 abbrev pub segment_of : Place → Option SegName
 segment_of (Head s) = Some s
 segment_of (Tail s) = Some s
 segment_of (Next s) = Some s
 segment_of (Cell s i) = Some s
+segment_of (Val s i) = Some s
+segment_of (Idx s i) = Some s
 segment_of _ = None
 
 -- whether the place is one of the array's
@@ -53,15 +68,18 @@ is_place (Head s) (Head t) = is_name s t
 is_place (Tail s) (Tail t) = is_name s t
 is_place (Next s) (Next t) = is_name s t
 is_place (Cell s i) (Cell t j) = is_name s t && (i == j)
+is_place (Val s i) (Val t j) = is_name s t && (i == j)
+is_place (Idx s i) (Idx t j) = is_name s t && (i == j)
 is_place (Whole s) (Whole t) = is_name s t
 is_place ArrHead ArrHead = true
 is_place ArrTail ArrTail = true
 is_place (ArrCell i) (ArrCell j) = i == j
 is_place _ _ = false
 
--- whether a write of p may change what is at q: q is p, or p is the whole of q's segment
+-- whether a write of p may change what is at q: q is p, or p is the cell of which q is a half, or the whole of q's segment
 abbrev pub covers : Place → Place → Bool
 covers (Whole s) q = is_of s q
+covers (Cell s i) q = is_of_cell s i q
 covers p q = is_place p q
 
 -- whether two places overlap: one covers the other
@@ -77,3 +95,29 @@ some_covers (Some p) q = covers p q
 abbrev pub some_overlap : Option Place → Option Place → Bool
 some_overlap (Some p) (Some q) = overlaps p q
 some_overlap _ _ = false
+
+-- whether an access wrote nothing
+abbrev pub is_nothing : Wrote → Bool
+is_nothing Nothing = true
+is_nothing _ = false
+
+-- the half of a cell that has its safe bit and its index, and any other place itself
+abbrev pub index_half : Place → Place
+index_half (Cell s i) = Idx s i
+index_half p = p
+
+-- the place whose places an access at p wrote
+abbrev pub written_at : Place → Wrote → Option Place
+written_at p Nothing = None
+written_at p AllOfPlace = Some p
+written_at p Index = Some (index_half p)
+
+-- the same of an access that has a place or none. Which places of the map an access touches is what its place covers, and which
+-- of them it wrote is what this one covers
+abbrev pub written : Option Place → Wrote → Option Place
+written None w = None
+written (Some p) w = written_at p w
+
+-- whether two accesses interfere: there is a place that both touch, and one of them wrote it
+abbrev pub interfere : Option Place → Wrote → Option Place → Wrote → Bool
+interfere p v q w = some_overlap (written p v) q || some_overlap p (written q w)

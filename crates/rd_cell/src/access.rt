@@ -1,11 +1,12 @@
 //! The one access of a step, and what the entry of the step records of it.
 
 ghost use Rattle.std.specs.Prelude.{◌≡◌, Some, if◌then◌else◌};
+ghost use Rattle.rd_cell.specs.declared.places.Wrote.TheVariants.{Nothing as WroteNothing};
 ghost use Rattle.rd_cell.specs.declared.operations.Answer.TheVariants.{Won, Lost};
 
 use super::contents::Content;
 use super::operations::{Answer, Operation};
-use super::places::{Place, SegName};
+use super::places::{Place, SegName, Wrote};
 
 /// The one access of a step.
 #[derive(Clone, Copy, Debug, PartialEq, Eq)]
@@ -27,13 +28,14 @@ pub struct Done {
     pub old: Option<Content>,
     /// What the access answered.
     pub answer: Answer,
-    /// Whether it wrote: each making and operation does, but for reads and compare-and-swaps that lost.
-    pub wrote: bool,
+    /// What it wrote of its place: all of it, but for reads and compare-and-swaps that lost, which write nothing, and for a
+    /// double-word compare-and-swap that won and left the cell's value as it was, which writes the index half.
+    pub wrote: Wrote,
 }
 
 impl Done {
-    /// An operation that found this content, answered this, and wrote or not.
-    pub fn at(place: Place, found: Content, answer: Answer, wrote: bool) -> Done
+    /// An operation that found this content, answered this, and wrote this of its place.
+    pub fn at(place: Place, found: Content, answer: Answer, wrote: Wrote) -> Done
         ensures { result ≡ record { place = Some place; old = Some found; answer = answer; wrote = wrote } }
     {
         Done {
@@ -44,11 +46,15 @@ impl Done {
         }
     }
 
-    /// A compare-and-swap that found this content, and won or lost.
-    pub fn swapped(place: Place, found: Content, won: bool) -> Done
-        ensures { result ≡ record { place = Some place; old = Some found; answer = if won then Won else Lost; wrote = won } }
+    /// A compare-and-swap that found this content, and lost, or won and wrote this of its place.
+    pub fn swapped(place: Place, found: Content, won: bool, written: Wrote) -> Done
+        ensures { result ≡ record { place = Some place; old = Some found; answer = if won then Won else Lost; wrote = if won then written else WroteNothing } }
     {
-        let answer = if won { Answer::Won } else { Answer::Lost };
-        Done::at(place, found, answer, won)
+        let (answer, wrote) = if won {
+            (Answer::Won, written)
+        } else {
+            (Answer::Lost, Wrote::Nothing)
+        };
+        Done::at(place, found, answer, wrote)
     }
 }

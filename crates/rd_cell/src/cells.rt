@@ -2,6 +2,9 @@
 
 ghost use Rattle.std.specs.Prelude.{◌≡◌, ◌↔◌, IsTrue};
 ghost use Rattle.std.specs.Bool.{OnTrue, OnFalse};
+ghost use Rattle.rd_cell.specs.Operations.{wrote_cell};
+
+use super::places::Wrote;
 
 /// One cell of a ring (Morrison and Afek 2013). "No value" is the absent option.
 #[derive(Clone, Copy, Debug, PartialEq, Eq)]
@@ -15,6 +18,17 @@ pub struct Cell {
 }
 
 impl Cell {
+    /// What putting `new` over this cell writes: its index half always, and its value half if the values differ.
+    pub fn wrote(self, new: Cell) -> Wrote
+        ensures { result ≡ wrote_cell self new }
+    {
+        if self.val == new.val {
+            Wrote::Index
+        } else {
+            Wrote::Place
+        }
+    }
+
     /// Compare-and-swap of the whole cell (CAS2): if the cell equals `old` it becomes `new` and the answer is true, even
     /// if `old` and `new` are equal; else it stays as it is and the answer is false.
     pub fn cas2(&mut self, old: Cell, new: Cell) -> bool

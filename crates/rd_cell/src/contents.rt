@@ -32,8 +32,17 @@ pub enum Content {
     },
     /// The segment that follows, or none.
     Next(Option<SegName>),
-    /// A cell of a ring.
+    /// A cell of a ring: what its two halves have together.
     Cell(Cell),
+    /// The value of a cell, or none.
+    Val(Option<u64>),
+    /// The safe bit and the index of a cell.
+    Idx {
+        /// The safe bit.
+        safe: bool,
+        /// The index.
+        idx: u64,
+    },
     /// That a segment is there.
     Whole,
     /// A slot of the array.

@@ -16,5 +16,5 @@ pub use access::{Access, Done};
 pub use cells::Cell;
 pub use contents::{ArrSlot, Content};
 pub use operations::{Answer, Operation};
-pub use places::{Place, SegName, is_of, overlaps};
+pub use places::{Place, SegName, Wrote, is_of, overlaps, written};
 pub use refusal::Refusal;

@@ -12,9 +12,9 @@ use super::places::SegName;
 pub enum Operation {
     /// Reads a name, a number, a tail or a next.
     Read,
-    /// Reads the value of a cell.
+    /// Reads the value of a cell, at its value half.
     ReadValue,
-    /// Reads the safe bit and the index of a cell.
+    /// Reads the safe bit and the index of a cell, at its index half.
     ReadSafeAndIndex,
     /// Fetch-and-add of 1 on a segment's counter, which ends at 2^62.
     Add,
@@ -85,10 +85,10 @@ impl Operation {
                 Operation::Read,
                 Content::Name(_) | Content::Number(_) | Content::Tail { .. } | Content::Next(_),
             ) => Some(Answer::Found(content)),
-            (Operation::ReadValue, Content::Cell(cell)) => Some(Answer::Value(cell.val)),
-            (Operation::ReadSafeAndIndex, Content::Cell(cell)) => Some(Answer::SafeAndIndex {
-                safe: cell.safe,
-                idx: cell.idx,
+            (Operation::ReadValue, Content::Val(val)) => Some(Answer::Value(val)),
+            (Operation::ReadSafeAndIndex, Content::Idx { safe, idx }) => Some(Answer::SafeAndIndex {
+                safe,
+                idx,
             }),
             _ => None,
         }

@@ -1,8 +1,8 @@
-//! Segment names, the ten kinds of place, and which places overlap.
+//! Segment names, the twelve kinds of place, which places overlap, and which of them an access wrote.
 
 ghost use Rattle.std.specs.Prelude.{◌≡◌};
 ghost use Rattle.rd_cell.specs.declared.places.TheConstants.SegName.{ROOT};
-ghost use Rattle.rd_cell.specs.Places.{is_array, is_of, overlaps, root, segment_of};
+ghost use Rattle.rd_cell.specs.Places.{covers, is_array, is_of, is_of_cell, overlaps, root, segment_of, index_half, is_nothing, written};
 
 /// The name of a segment: (maker, n) is the one that this actor made as its n-th, from 0. The root is (0, 0).
 #[derive(Clone, Copy, Debug, PartialEq, Eq)]
@@ -31,8 +31,12 @@ pub enum Place {
     Tail(SegName),
     /// The name of the segment that follows a segment, or none.
     Next(SegName),
-    /// One cell of a segment, by its index from 0.
+    /// One cell of a segment, by its index from 0: its two halves together, which a double-word compare-and-swap reads.
     Cell(SegName, u8),
+    /// The value half of a cell.
+    Val(SegName, u8),
+    /// The index half of a cell: its safe bit and its index.
+    Idx(SegName, u8),
     /// All places of one segment together: what its making writes.
     Whole(SegName),
     /// The head counter of the array queue.
@@ -43,14 +47,38 @@ pub enum Place {
     ArrCell(u8),
 }
 
+/// What an access wrote of its place.
+#[derive(Clone, Copy, Debug, PartialEq, Eq)]
+pub enum Wrote {
+    /// Nothing: it only read.
+    Nothing,
+    /// All that the place names.
+    Place,
+    /// Of a cell the index half alone: its value stayed as it was.
+    Index,
+}
+
+impl Wrote {
+    /// Whether the access wrote nothing.
+    pub fn is_nothing(self) -> bool
+        ensures { result ≡ is_nothing self }
+    {
+        matches!(self, Wrote::Nothing)
+    }
+}
+
 impl Place {
     /// The segment that has this place; none for the queue's ends, the array's places and the whole of a segment.
     pub fn segment(self) -> Option<SegName>
         ensures { result ≡ segment_of self }
     {
         match self {
-            Place::Head(name) | Place::Tail(name) | Place::Next(name) | Place::Cell(name, _) =>
-                Some(name),
+            Place::Head(name)
+            | Place::Tail(name)
+            | Place::Next(name)
+            | Place::Cell(name, _)
+            | Place::Val(name, _)
+            | Place::Idx(name, _) => Some(name),
             _ => None,
         }
     }
@@ -61,18 +89,64 @@ impl Place {
     {
         matches!(self, Place::ArrHead | Place::ArrTail | Place::ArrCell(_))
     }
+
+    /// The index half of a cell, and any other place itself.
+    pub fn index_half(self) -> Place
+        ensures { result ≡ index_half self }
+    {
+        match self {
+            Place::Cell(name, i) => Place::Idx(name, i),
+            _ => self,
+        }
+    }
 }
 
-/// Whether two places overlap: they are equal, or one is the whole of the segment that the other belongs to. A scan for a
-/// dependant asks this of each step, so each place is looked at once.
+/// The place whose places an access wrote, or none if it only read or had no place. What an access touches is what its place
+/// names, and what it wrote is what this one names: dependence is defined by these two alone.
+#[inline(always)]
+pub fn written(place: Option<Place>, wrote: Wrote) -> Option<Place>
+    ensures { result ≡ written place wrote }
+{
+    let place = place?;
+    match wrote {
+        Wrote::Nothing => None,
+        Wrote::Place => Some(place),
+        Wrote::Index => Some(place.index_half()),
+    }
+}
+
+/// Whether two places overlap: they are equal, or one is the cell of which the other is a half, or the whole of the segment that
+/// the other belongs to. A scan for a dependant asks this of each step, so each place is looked at once if it can be.
 #[inline(always)]
 pub fn overlaps(a: Place, b: Place) -> bool
     ensures { result ≡ overlaps a b }
 {
-    match (a, b) {
-        (Place::Whole(name), _) => is_of(name, b),
-        (_, Place::Whole(name)) => is_of(name, a),
+    match a {
+        Place::Whole(name) => is_of(name, b),
+        Place::Cell(name, i) => is_of_cell(name, i, b) || covers(b, a),
+        _ => covers(b, a),
+    }
+}
+
+/// Whether a write of `a` may change what is at `b`.
+#[inline(always)]
+fn covers(a: Place, b: Place) -> bool
+    ensures { result ≡ covers a b }
+{
+    match a {
+        Place::Whole(name) => is_of(name, b),
+        Place::Cell(name, i) => is_of_cell(name, i, b),
         _ => a == b,
+    }
+}
+
+/// Whether the place is a half of the cell, or the cell itself.
+fn is_of_cell(name: SegName, i: u8, place: Place) -> bool
+    ensures { result ≡ is_of_cell name i place }
+{
+    match place {
+        Place::Cell(of, j) | Place::Val(of, j) | Place::Idx(of, j) => name == of && i == j,
+        _ => false,
     }
 }
 
@@ -85,6 +159,8 @@ pub fn is_of(name: SegName, place: Place) -> bool
         | Place::Tail(of)
         | Place::Next(of)
         | Place::Cell(of, _)
+        | Place::Val(of, _)
+        | Place::Idx(of, _)
         | Place::Whole(of) => name == of,
         Place::QHead | Place::QTail | Place::ArrHead | Place::ArrTail | Place::ArrCell(_) => false,
     }

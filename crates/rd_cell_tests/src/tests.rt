@@ -4,7 +4,7 @@ use rd_cell::access::Done;
 use rd_cell::cells::Cell;
 use rd_cell::contents::{ArrSlot, Content};
 use rd_cell::operations::{Answer, Operation};
-use rd_cell::places::{Place, SegName, is_of, overlaps};
+use rd_cell::places::{Place, SegName, Wrote, is_of, overlaps, written};
 
 /// The first segment that actor 1 makes.
 const FIRST: SegName = SegName { maker: 1, n: 0 };
@@ -17,6 +17,8 @@ const PLACES: &[(Place, Option<SegName>, bool)] = &[
     (Place::Tail(FIRST), Some(FIRST), false),
     (Place::Next(FIRST), Some(FIRST), false),
     (Place::Cell(FIRST, 3), Some(FIRST), false),
+    (Place::Val(FIRST, 3), Some(FIRST), false),
+    (Place::Idx(FIRST, 3), Some(FIRST), false),
     (Place::Whole(FIRST), None, false),
     (Place::ArrHead, None, true),
     (Place::ArrTail, None, true),
@@ -24,7 +26,7 @@ const PLACES: &[(Place, Option<SegName>, bool)] = &[
 ];
 
 #[test]
-fn places_overlap_if_equal_or_if_one_is_the_whole_segment_of_the_other(rt: HostRuntime) {
+fn places_overlap_if_they_are_equal_or_one_names_the_other(rt: HostRuntime) {
     assert_eq!(rt; SegName::ROOT, SegName { maker: 0, n: 0 });
     for &(place, segment, array) in PLACES {
         assert_eq!(rt; place.segment(), segment, "{place:?}");
@@ -35,12 +37,51 @@ fn places_overlap_if_equal_or_if_one_is_the_whole_segment_of_the_other(rt: HostR
         for &(other, of, _) in PLACES {
             let whole_of_other = place == Place::Whole(FIRST) && of.is_some();
             let whole_of_this = other == Place::Whole(FIRST) && segment.is_some();
-            let meet = place == other || whole_of_other || whole_of_this;
+            let whole = whole_of_other || whole_of_this;
+            let meet = place == other || whole || is_half(place, other) || is_half(other, place);
             assert_eq!(rt; overlaps(place, other), meet, "{place:?} and {other:?}");
         }
     }
     assert!(rt; !overlaps(Place::Cell(FIRST, 3), Place::Cell(FIRST, 2)));
+    assert!(rt; !overlaps(Place::Cell(FIRST, 3), Place::Val(FIRST, 2)));
+    assert!(rt; !overlaps(Place::Cell(FIRST, 3), Place::Idx(SegName::ROOT, 3)));
     assert!(rt; !overlaps(Place::Whole(SegName::ROOT), Place::Head(FIRST)));
+}
+
+/// Whether the second place is a half of the first, which is the third cell.
+fn is_half(cell: Place, half: Place) -> bool {
+    cell == Place::Cell(FIRST, 3) && (half == Place::Val(FIRST, 3) || half == Place::Idx(FIRST, 3))
+}
+
+/// A place, what an access wrote there, and the place that names what it wrote.
+const WRITTEN: &[(Option<Place>, Wrote, Option<Place>)] = &[
+    (None, Wrote::Nothing, None),
+    (Some(Place::QTail), Wrote::Nothing, None),
+    (Some(Place::QTail), Wrote::Place, Some(Place::QTail)),
+    (Some(Place::Cell(FIRST, 3)), Wrote::Nothing, None),
+    (
+        Some(Place::Cell(FIRST, 3)),
+        Wrote::Place,
+        Some(Place::Cell(FIRST, 3)),
+    ),
+    (
+        Some(Place::Cell(FIRST, 3)),
+        Wrote::Index,
+        Some(Place::Idx(FIRST, 3)),
+    ),
+    (
+        Some(Place::Whole(FIRST)),
+        Wrote::Place,
+        Some(Place::Whole(FIRST)),
+    ),
+];
+
+#[test]
+fn what_was_written_is_all_of_a_place_or_the_index_half_of_a_cell(rt: HostRuntime) {
+    for &(place, wrote, wanted) in WRITTEN {
+        assert_eq!(rt; written(place, wrote), wanted, "{place:?}, {wrote:?}");
+        assert_eq!(rt; wrote.is_nothing(), wrote == Wrote::Nothing);
+    }
 }
 
 /// A cell with a value, as a content.
@@ -75,10 +116,23 @@ const READS: &[(Operation, Content, Option<Answer>)] = &[
     ),
     (Operation::Read, FULL, None),
     (Operation::Read, Content::Slot(ArrSlot::Top), None),
-    (Operation::ReadValue, FULL, Some(Answer::Value(Some(7)))),
+    (Operation::ReadValue, FULL, None),
+    (
+        Operation::ReadValue,
+        Content::Val(Some(7)),
+        Some(Answer::Value(Some(7))),
+    ),
+    (
+        Operation::ReadValue,
+        Content::Val(None),
+        Some(Answer::Value(None)),
+    ),
     (
         Operation::ReadSafeAndIndex,
-        FULL,
+        Content::Idx {
+            safe: false,
+            idx: 4,
+        },
         Some(Answer::SafeAndIndex {
             safe: false,
             idx: 4,
@@ -106,17 +160,45 @@ fn what_was_done_says_what_it_found(rt: HostRuntime) {
         place: Some(place),
         old: Some(OPEN_2),
         answer: Answer::Found(OPEN_2),
-        wrote: true,
+        wrote: Wrote::Place,
     };
-    assert_eq!(rt; Done::at(place, OPEN_2, Answer::Found(OPEN_2), true), added);
-    for (won, answer) in [(true, Answer::Won), (false, Answer::Lost)] {
+    assert_eq!(rt;
+        Done::at(place, OPEN_2, Answer::Found(OPEN_2), Wrote::Place),
+        added
+    );
+    for (won, answer, wrote) in [
+        (true, Answer::Won, Wrote::Place),
+        (false, Answer::Lost, Wrote::Nothing),
+    ] {
         let swapped = Done {
             answer,
-            wrote: won,
+            wrote,
             ..added
         };
-        assert_eq!(rt; Done::swapped(place, OPEN_2, won), swapped);
+        assert_eq!(rt; Done::swapped(place, OPEN_2, won, Wrote::Place), swapped);
     }
+}
+
+#[test]
+fn a_swap_of_a_cell_writes_the_value_half_if_the_values_differ(rt: HostRuntime) {
+    let marked = Cell {
+        safe: false,
+        idx: 4,
+        val: Some(7),
+    };
+    let whole = Cell {
+        safe: true,
+        ..marked
+    };
+    let emptied = Cell {
+        val: None,
+        ..marked
+    };
+    assert_eq!(rt; whole.wrote(marked), Wrote::Index);
+    assert_eq!(rt; whole.wrote(whole), Wrote::Index);
+    assert_eq!(rt; whole.wrote(emptied), Wrote::Place);
+    assert_eq!(rt; emptied.wrote(emptied), Wrote::Index);
+    assert_eq!(rt; emptied.wrote(marked), Wrote::Place);
 }
 
 #[test]

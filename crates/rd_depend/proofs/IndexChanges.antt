@@ -1,113 +1,179 @@
 -- The calls of an index, from what they do to its lists.
-use Rattle.std.proofs.Common.{◌≡◌, ℕ, zero, suc, ◌+◌, ◌-◌, ◌<◌, ◌≤◌, Bool, true, false, ◌&&◌, ◌||◌, ◌==◌, if◌then◌else◌, List, [], ◌∷◌, ◌++◌, length, take, drop, Option, Some, None, slice_get, get_or, refl, sym, ap, subst, ◌∙◌, append_assoc, arith, eq-eqb, Result, Ok, Err, OnOk, is_err}
+use Rattle.std.proofs.Common.{◌≡◌, ℕ, zero, suc, ◌+◌, ◌-◌, ◌<◌, ◌≤◌, Bool, true, false, not, ◌&&◌, ◌||◌, ◌==◌, if◌then◌else◌, List, [], ◌∷◌, ◌++◌, length, take, drop, Option, Some, None, slice_get, get_or, refl, sym, ap, subst, ◌∙◌, append_assoc, arith, eq-eqb, Result, Ok, Err, OnOk, is_err}
 use Rattle.rd_step.specs.declared.entries.Entry.{Entry}
-use Rattle.rd_cell.specs.declared.places.Place.{Place}
 use Rattle.rd_depend.specs.declared.index.DependIndex.{DependIndex}
 use Rattle.rd_depend.specs.declared.index.keys.Key.{Key}
 use Rattle.rd_depend.specs.declared.index.table.Table.{Table}
-use Rattle.rd_depend.specs.Keys.{is_that, is_under, place_key, segment_key}
+use Rattle.rd_step.specs.Prelude.{is_nothing}
+use Rattle.rd_depend.specs.Keys.{is_that, is_under, place_key, value_key, segment_key}
 use Rattle.rd_depend.specs.Lists.{Lists, list_at, spare_at, one_if}
-use Rattle.rd_depend.specs.Tables.{kept_in, spare_in, counts, AreReady, Puts, TakesLast, HasLast}
-use Rattle.rd_depend.specs.Index.{Touch, By, Under, touches, positions, kept, spare, number_of, IsIndexOf, HasRoomFor, IsLast, Adds, Keeps, Drops, EndsWith}
-use Rattle.rd_depend.proofs.IndexKeys.{under, apart, segment_apart}
+use Rattle.rd_depend.specs.Tables.{kept_in, spare_in, counts, AreReady, KeepsLists, Puts, TakesLast, HasLast}
+use Rattle.rd_depend.specs.Index.{Touch, By, Under, touches, reached, is_value_written, positions, kept, spare, number_of, IsIndexOf, HasRoomFor, IsLast, Adds, Keeps, Drops, EndsWith}
+use Rattle.rd_depend.proofs.IndexKeys.{at_place, at_value, at_segment, at_one, under, place_not_value, not_segment}
 use Rattle.rd_depend.proofs.IndexPositions.{positions-push, positions-pop}
 
--- two changes, under a place's key and its segment's
+-- one change after another, where no list is changed by both
 
-twice : (c b1 b2 u : Bool) (old : List ℕ) (f : List ℕ → List ℕ) → u ≡ (b1 || b2) → (b1 && b2) ≡ false
-    → (if c && b2 then f (if c && b1 then f old else old) else (if c && b1 then f old else old)) ≡ (if c && u then f old else old)
-twice true true true u old f h g = absurd cc
-twice true true false u old f h g = ap (λ (b : Bool). if b then f old else old) (sym h)
-twice true false true u old f h g = ap (λ (b : Bool). if b then f old else old) (sym h)
-twice true false false u old f h g = ap (λ (b : Bool). if b then f old else old) (sym h)
-twice false b1 b2 u old f h g = refl
+twice : (a b : Bool) (old : List ℕ) (f : List ℕ → List ℕ) → (a && b) ≡ false
+    → (if b then f (if a then f old else old) else (if a then f old else old)) ≡ (if a || b then f old else old)
+twice true true old f h = absurd cc
+twice true false old f h = refl
+twice false true old f h = refl
+twice false false old f h = refl
 
-bits : (c b1 b2 u : Bool) → u ≡ (b1 || b2) → (b1 && b2) ≡ false → one_if (c && b1) + one_if (c && b2) ≡ one_if (c && u)
-bits true true true u h g = absurd cc
-bits true true false u h g = ap one_if (sym h)
-bits true false true u h g = ap one_if (sym h)
-bits true false false u h g = ap one_if (sym h)
-bits false b1 b2 u h g = refl
+bits : (a b : Bool) → (a && b) ≡ false → one_if a + one_if b ≡ one_if (a || b)
+bits true true h = absurd cc
+bits true false h = refl
+bits false true h = refl
+bits false false h = refl
 
--- what is ready under the segment's key stays so
-pub ready_after : (t u : Table) (o : Option Place) (wrote : Bool) (p : ℕ) (slot : Option ℕ) → AreReady t (segment_key o) wrote slot
-    → Puts (place_key o) wrote p t u → AreReady u (segment_key o) wrote slot
-ready_after t u o wrote p slot ready put = by (segment_key o) (λ k h. segment_apart k o h) ready
+-- which lists of a table a change is made in
+abbrev Where : Type 0
+Where = Bool → Key → Bool
+
+-- the position stands at the end of these lists
+pub record PutsWhere (test : Where) (p : ℕ) (old new : Table) : Type 0 where
+  pub lists : (w : Bool) (q : Key) → kept_in new w q ≡ (if test w q then kept_in old w q ++ p ∷ [] else kept_in old w q)
+  pub room : (w : Bool) (q : Key) → spare_in old w q ≤ spare_in new w q + one_if (test w q)
+
+-- these lists have lost their last position
+pub record TakesWhere (test : Where) (old new : Table) : Type 0 where
+  pub lists : (w : Bool) (q : Key) → kept_in new w q ≡ (if test w q then take (length (kept_in old w q) - 1) (kept_in old w q) else kept_in old w q)
+  pub room : (w : Bool) (q : Key) → spare_in new w q ≡ spare_in old w q + one_if (test w q)
+
+both_put : (a b : Where) (p : ℕ) (old mid new : Table) → ((w : Bool) (q : Key) → (a w q && b w q) ≡ false) → PutsWhere a p old mid → PutsWhere b p mid new
+    → PutsWhere (λ w q. a w q || b w q) p old new
+both_put a b p old mid new apart first second = record {
+  lists = λ w q.
+      second.lists w q ∙ ap (λ (l : List ℕ). if b w q then l ++ p ∷ [] else l) (first.lists w q)
+      ∙ twice (a w q) (b w q) (kept_in old w q) (λ (l : List ℕ). l ++ p ∷ []) (apart w q);
+  room = λ w q. let e = bits (a w q) (b w q) (apart w q) in omega (arith, e, first.room w q, second.room w q);
+}
+
+both_take : (a b : Where) (old mid new : Table) → ((w : Bool) (q : Key) → (a w q && b w q) ≡ false) → TakesWhere a old mid → TakesWhere b mid new
+    → TakesWhere (λ w q. a w q || b w q) old new
+both_take a b old mid new apart first second = record {
+  lists = λ w q.
+      second.lists w q ∙ ap (λ (l : List ℕ). if b w q then take (length l - 1) l else l) (first.lists w q)
+      ∙ twice (a w q) (b w q) (kept_in old w q) (λ (l : List ℕ). take (length l - 1) l) (apart w q);
+  room = λ w q. let e = bits (a w q) (b w q) (apart w q) in omega (arith, e, first.room w q, second.room w q);
+}
+
+puts_where : (k : Option Key) (wrote : Bool) (p : ℕ) (old new : Table) → Puts k wrote p old new → PutsWhere (λ w q. counts w wrote && is_that q k) p old new
+puts_where k wrote p old new put = record { lists = put.lists; room = put.room }
+
+takes_where : (k : Option Key) (wrote : Bool) (old new : Table) → TakesLast k wrote old new → TakesWhere (λ w q. counts w wrote && is_that q k) old new
+takes_where k wrote old new took = record { lists = took.lists; room = took.room }
+
+-- what is ready stays so where no list changes
+pub ready_kept : (t u : Table) (k : Option Key) (wrote : Bool) (slot : Option ℕ) → KeepsLists t u → AreReady t k wrote slot → AreReady u k wrote slot
+ready_kept t u None wrote slot keeps ready = ready
+ready_kept t u (Some q) wrote slot keeps ready = (
+  ready.0,
+  ready.1,
+  record {
+    at = keeps.slots q ready.0 ready.2.at;
+    room = λ w c. omega (arith, ready.2.room w c, keeps.room w q);
+  },
+)
+
+-- what is ready under one key stays so where another is put
+pub ready_after : (t u : Table) (s k : Option Key) (wrote other : Bool) (p : ℕ) (slot : Option ℕ) → ((q : Key) → s ≡ Some q → is_that q k ≡ false)
+    → AreReady t s wrote slot → Puts k other p t u → AreReady u s wrote slot
+ready_after t u None k wrote other p slot apart ready put = ready
+ready_after t u (Some q) k wrote other p slot apart ready put = (
+  ready.0,
+  ready.1,
+  record {
+    at = put.slots q ∙ ready.2.at;
+    room = λ w c. let e : one_if (counts w other && is_that q k) ≡ 0 = ap (λ (b : Bool). one_if (counts w other && b)) (apart q refl) ∙ none (counts w other) in
+        omega (arith, ready.2.room w c, put.room w q, e);
+  },
+)
   where
-    by : (s : Option Key) → ((k : Key) → s ≡ Some k → is_that k (place_key o) ≡ false) → AreReady t s wrote slot → AreReady u s wrote slot
-    by None apart_from r = r
-    by (Some k) apart_from r = (
-      r.0,
-      r.1,
-      record {
-        at = put.slots k ∙ r.2.at;
-        room = λ w c. let e : one_if (counts w wrote && is_that k (place_key o)) ≡ 0 = ap (λ (b : Bool). one_if (counts w wrote && b)) (apart_from k refl) ∙ none (counts w wrote) in
-            omega (arith, r.2.room w c, put.room w k, e);
-      },
-    )
-      where
-        none : (b : Bool) → one_if (b && false) ≡ 0
-        none true = refl
-        none false = refl
+    none : (b : Bool) → one_if (b && false) ≡ 0
+    none true = refl
+    none false = refl
 
-pub last_after : (t u : Table) (o : Option Place) (wrote : Bool) → HasLast t (segment_key o) wrote → TakesLast (place_key o) wrote t u → HasLast u (segment_key o) wrote
-last_after t u o wrote has took = λ w k h c.
+-- and what has a last position keeps it where another key's is taken
+pub last_after : (t u : Table) (s k : Option Key) (wrote other : Bool) → ((q : Key) → s ≡ Some q → is_that q k ≡ false)
+    → HasLast t s wrote → TakesLast k other t u → HasLast u s wrote
+last_after t u s k wrote other apart has took = λ w q h c.
     let f : List ℕ → List ℕ = λ l. take (length l - 1) l in
-    let same : kept_in u w k ≡ kept_in t w k =
-    took.lists w k ∙ ap (λ (b : Bool). if counts w wrote && b then f (kept_in t w k) else kept_in t w k) (segment_apart k o h) ∙ none (counts w wrote) (f (kept_in t w k)) (kept_in t w k) in
-    subst (λ (l : List ℕ). 1 ≤ length l) (sym same) (has w k h c)
+    let same : kept_in u w q ≡ kept_in t w q =
+    took.lists w q ∙ ap (λ (b : Bool). if counts w other && b then f (kept_in t w q) else kept_in t w q) (apart q h)
+    ∙ none (counts w other) (f (kept_in t w q)) (kept_in t w q) in
+    subst (λ (l : List ℕ). 1 ≤ length l) (sym same) (has w q h c)
   where
     none : (b : Bool) (l m : List ℕ) → (if b && false then l else m) ≡ m
     none true l m = refl
     none false l m = refl
 
-pub adds : (old new : DependIndex) (x : Entry) (mid : Table) (p actor : ℕ) → actor ≡ x.event.actor → p ≡ old.len + 1 → new.len ≡ old.len + 1
+-- the changes under a step's three keys
+all_put : (x : Entry) (p : ℕ) (old one two new : Table) → Puts (place_key x.place) (not (is_nothing x.wrote)) p old one
+    → Puts (value_key x.place) (is_value_written x.wrote) p one two → Puts (segment_key x.place) (not (is_nothing x.wrote)) p two new
+    → PutsWhere (λ w q. at_one w x.wrote x.place q) p old new
+all_put x p old one two new a b c =
+    both_put (λ w q. at_place w x.wrote x.place q || at_value w x.wrote x.place q) (λ w q. at_segment w x.wrote x.place q) p old two new
+    (not_segment x.wrote x.place)
+    (both_put (λ w q. at_place w x.wrote x.place q) (λ w q. at_value w x.wrote x.place q) p old one two (place_not_value x.wrote x.place)
+    (puts_where (place_key x.place) (not (is_nothing x.wrote)) p old one a) (puts_where (value_key x.place) (is_value_written x.wrote) p one two b))
+    (puts_where (segment_key x.place) (not (is_nothing x.wrote)) p two new c)
+
+all_taken : (x : Entry) (old one two new : Table) → TakesLast (place_key x.place) (not (is_nothing x.wrote)) old one
+    → TakesLast (value_key x.place) (is_value_written x.wrote) one two → TakesLast (segment_key x.place) (not (is_nothing x.wrote)) two new
+    → TakesWhere (λ w q. at_one w x.wrote x.place q) old new
+all_taken x old one two new a b c =
+    both_take (λ w q. at_place w x.wrote x.place q || at_value w x.wrote x.place q) (λ w q. at_segment w x.wrote x.place q) old two new
+    (not_segment x.wrote x.place)
+    (both_take (λ w q. at_place w x.wrote x.place q) (λ w q. at_value w x.wrote x.place q) old one two (place_not_value x.wrote x.place)
+    (takes_where (place_key x.place) (not (is_nothing x.wrote)) old one a) (takes_where (value_key x.place) (is_value_written x.wrote) one two b))
+    (takes_where (segment_key x.place) (not (is_nothing x.wrote)) two new c)
+
+pub adds : (old new : DependIndex) (x : Entry) (one two : Table) (p actor : ℕ) → actor ≡ x.event.actor → p ≡ old.len + 1 → new.len ≡ old.len + 1
     → ((i : ℕ) → list_at new.by_actor.items i ≡ (if i == actor then list_at old.by_actor.items i ++ p ∷ [] else list_at old.by_actor.items i))
     → ((i : ℕ) → spare_at old.by_actor.items i ≤ spare_at new.by_actor.items i + one_if (i == actor))
-    → Puts (place_key x.place) x.wrote p old.by_key mid → Puts (segment_key x.place) x.wrote p mid new.by_key → Adds x old new
-adds old new x mid p actor same is len lists_by room_by first second = record {
+    → Puts (place_key x.place) (not (is_nothing x.wrote)) p old.by_key one → Puts (value_key x.place) (is_value_written x.wrote) p one two
+    → Puts (segment_key x.place) (not (is_nothing x.wrote)) p two new.by_key → Adds x old new
+adds old new x one two p actor same is len lists_by room_by a b c = record {
   lists = λ t. lists t ∙ ap (λ (m : ℕ). if touches t x then kept old t ++ m ∷ [] else kept old t) is;
   room = room;
   len = len;
 }
   where
+    all : PutsWhere (λ w q. at_one w x.wrote x.place q) p old.by_key new.by_key
+    all = all_put x p old.by_key one two new.by_key a b c
+
     lists : (t : Touch) → kept new t ≡ (if touches t x then kept old t ++ p ∷ [] else kept old t)
-    lists (By a) = lists_by a ∙ ap (λ (n : ℕ). if a == n then list_at old.by_actor.items a ++ p ∷ [] else list_at old.by_actor.items a) same
+    lists (By n) = lists_by n ∙ ap (λ (m : ℕ). if n == m then list_at old.by_actor.items n ++ p ∷ [] else list_at old.by_actor.items n) same
     lists (Under w k) =
-        let f : List ℕ → List ℕ = λ l. l ++ p ∷ [] in
-        second.lists w k
-        ∙ ap (λ (l : List ℕ). if counts w x.wrote && is_that k (segment_key x.place) then f l else l) (first.lists w k)
-        ∙ twice (counts w x.wrote) (is_that k (place_key x.place)) (is_that k (segment_key x.place)) (is_under k x.place) (kept_in old.by_key w k) f
-        (under k x.place) (apart k x.place)
+        all.lists w k ∙ ap (λ (t : Bool). if t then kept_in old.by_key w k ++ p ∷ [] else kept_in old.by_key w k) (sym (under w k x))
 
     room : (t : Touch) → spare old t ≤ spare new t + one_if (touches t x)
-    room (By a) = subst (λ (n : ℕ). spare_at old.by_actor.items a ≤ spare_at new.by_actor.items a + one_if (a == n)) same (room_by a)
-    room (Under w k) =
-        let e = bits (counts w x.wrote) (is_that k (place_key x.place)) (is_that k (segment_key x.place)) (is_under k x.place) (under k x.place) (apart k x.place) in
-        omega (arith, e, first.room w k, second.room w k)
+    room (By n) = subst (λ (m : ℕ). spare_at old.by_actor.items n ≤ spare_at new.by_actor.items n + one_if (n == m)) same (room_by n)
+    room (Under w k) = let e = ap one_if (under w k x) in omega (arith, e, all.room w k)
 
-pub drops : (old new : DependIndex) (x : Entry) (mid : Table) (actor : ℕ) → actor ≡ x.event.actor → new.len + 1 ≡ old.len
+pub drops : (old new : DependIndex) (x : Entry) (one two : Table) (actor : ℕ) → actor ≡ x.event.actor → new.len + 1 ≡ old.len
     → ((i : ℕ) → list_at new.by_actor.items i ≡ (if i == actor then take (length (list_at old.by_actor.items i) - 1) (list_at old.by_actor.items i) else list_at old.by_actor.items i))
     → ((i : ℕ) → spare_at new.by_actor.items i ≡ spare_at old.by_actor.items i + one_if (i == actor))
-    → TakesLast (place_key x.place) x.wrote old.by_key mid → TakesLast (segment_key x.place) x.wrote mid new.by_key → Drops x old new
-drops old new x mid actor same len lists_by room_by first second = record { lists = lists; room = room; len = len }
+    → TakesLast (place_key x.place) (not (is_nothing x.wrote)) old.by_key one → TakesLast (value_key x.place) (is_value_written x.wrote) one two
+    → TakesLast (segment_key x.place) (not (is_nothing x.wrote)) two new.by_key → Drops x old new
+drops old new x one two actor same len lists_by room_by a b c = record { lists = lists; room = room; len = len }
   where
+    all : TakesWhere (λ w q. at_one w x.wrote x.place q) old.by_key new.by_key
+    all = all_taken x old.by_key one two new.by_key a b c
+
     lists : (t : Touch) → kept new t ≡ (if touches t x then take (length (kept old t) - 1) (kept old t) else kept old t)
-    lists (By a) =
-        let l = list_at old.by_actor.items a in
-        lists_by a ∙ ap (λ (n : ℕ). if a == n then take (length l - 1) l else l) same
+    lists (By n) =
+        let l = list_at old.by_actor.items n in
+        lists_by n ∙ ap (λ (m : ℕ). if n == m then take (length l - 1) l else l) same
     lists (Under w k) =
-        let f : List ℕ → List ℕ = λ l. take (length l - 1) l in
-        second.lists w k
-        ∙ ap (λ (l : List ℕ). if counts w x.wrote && is_that k (segment_key x.place) then f l else l) (first.lists w k)
-        ∙ twice (counts w x.wrote) (is_that k (place_key x.place)) (is_that k (segment_key x.place)) (is_under k x.place) (kept_in old.by_key w k) f
-        (under k x.place) (apart k x.place)
+        let l = kept_in old.by_key w k in
+        all.lists w k ∙ ap (λ (t : Bool). if t then take (length l - 1) l else l) (sym (under w k x))
 
     room : (t : Touch) → spare new t ≡ spare old t + one_if (touches t x)
-    room (By a) = room_by a ∙ ap (λ (n : ℕ). spare_at old.by_actor.items a + one_if (a == n)) same
-    room (Under w k) =
-        let e = bits (counts w x.wrote) (is_that k (place_key x.place)) (is_that k (segment_key x.place)) (is_under k x.place) (under k x.place) (apart k x.place) in
-        omega (arith, e, first.room w k, second.room w k)
+    room (By n) = room_by n ∙ ap (λ (m : ℕ). spare_at old.by_actor.items n + one_if (n == m)) same
+    room (Under w k) = let e = ap one_if (under w k x) in omega (arith, e, all.room w k)
 
 -- where there was room
 
@@ -118,9 +184,6 @@ within_spare (v ∷ vs) (suc i) h = let rest : i < length vs = within_spare vs i
 
 pub touched_by : (x : Entry) → touches (By x.event.actor) x ≡ true
 touched_by x = eq-eqb x.event.actor x.event.actor refl
-
-pub touched_under : (x : Entry) (w : Bool) (k : Key) → is_under k x.place ≡ true → counts w x.wrote ≡ true → touches (Under w k) x ≡ true
-touched_under x w k h c = (λ i. c i && h i)
 
 -- what was kept before, and what is added then
 pub then_adds : (old mid new : DependIndex) (x : Entry) → Keeps old mid → Adds x mid new → Adds x old new
@@ -193,12 +256,14 @@ last_touched old x last t h =
     some [] p = omega arith
     some (q ∷ ps) p = omega arith
 
-pub last_under : (old : DependIndex) (x : Entry) → IsLast old x → (o : Option Key) → ((k : Key) → o ≡ Some k → is_under k x.place ≡ true) → HasLast old.by_key o x.wrote
-last_under old x last o own_key = λ w k h c. last_touched old x last (Under w k) (touched_under x w k (own_key k h) c)
+pub last_under : (old : DependIndex) (x : Entry) (wrote : Bool) → IsLast old x → (o : Option Key)
+    → ((w : Bool) (k : Key) → o ≡ Some k → counts w wrote ≡ true → is_under k (reached w x) ≡ true) → HasLast old.by_key o wrote
+last_under old x wrote last o held = λ w k h c. last_touched old x last (Under w k) (held w k h c)
 
-pub spare_under : (old : DependIndex) (x : Entry) → ((t : Touch) → touches t x ≡ true → 0 < spare old t) → (o : Option Key) → ((k : Key) → o ≡ Some k → is_under k x.place ≡ true)
-    → (w : Bool) (k : Key) → o ≡ Some k → counts w x.wrote ≡ true → 0 < spare_in old.by_key w k
-spare_under old x has o own_key w k h c = has (Under w k) (touched_under x w k (own_key k h) c)
+pub spare_under : (old : DependIndex) (x : Entry) (wrote : Bool) → ((t : Touch) → touches t x ≡ true → 0 < spare old t) → (o : Option Key)
+    → ((w : Bool) (k : Key) → o ≡ Some k → counts w wrote ≡ true → is_under k (reached w x) ≡ true)
+    → (w : Bool) (k : Key) → o ≡ Some k → counts w wrote ≡ true → 0 < spare_in old.by_key w k
+spare_under old x wrote has o held w k h c = has (Under w k) (held w k h c)
 
 -- several entries
 

@@ -1,21 +1,22 @@
 -- The first dependant, from the first later positions in an actor's list, a place's and a segment's.
-use Rattle.std.proofs.Common.{◌≡◌, ℕ, zero, suc, ◌+◌, ◌<◌, ◌≤◌, min, Bool, true, false, not, ◌&&◌, ◌||◌, ◌==◌, ◌⊎◌, inl, inr, if◌then◌else◌, nat_lt, List, [], ◌∷◌, length, drop, Option, Some, None, refl, sym, ap, subst, ◌∙◌, arith}
-use Rattle.std.proofs.lemmas.Bool.{or_cases, or_left, or_right}
+use Rattle.std.proofs.Common.{◌≡◌, ℕ, zero, suc, ◌+◌, ◌<◌, ◌≤◌, min, Bool, true, false, not, ◌&&◌, ◌||◌, ◌==◌, inl, inr, if◌then◌else◌, nat_lt, List, [], ◌∷◌, length, drop, Option, Some, None, refl, sym, ap, subst, ◌∙◌, arith, eqb-true, eq-eqb}
+use Rattle.std.proofs.lemmas.Bool.{or_cases, or_left, or_right, false≢true}
 use Rattle.std.proofs.lemmas.Bool.Decides.{nat_tests}
 use Rattle.std.specs.Cmp.{both_ways}
 use Rattle.rd_cell.specs.declared.places.SegName.{SegName}
 use Rattle.rd_cell.specs.declared.places.Place.{Place}
-use Rattle.rd_cell.specs.declared.places.Place.TheVariants.{Head, Tail, Next, Cell, Whole}
-use Rattle.rd_cell.specs.Places.{is_name, is_of, is_place, segment_of, covers, overlaps, some_overlap}
-use Rattle.rd_cell.proofs.PlaceLemmas.{is_name-true, is_name-refl, is_place-true, is_place-refl, is_of-name, covers_cases, covers-refl}
+use Rattle.rd_cell.specs.declared.places.Place.TheVariants.{QHead, QTail, Head, Tail, Next, Cell, Val, Idx, Whole, ArrHead, ArrTail, ArrCell}
+use Rattle.rd_cell.specs.Places.{is_name, is_of, is_of_cell, is_place, segment_of, covers, overlaps, some_overlap, index_half, is_nothing, written, interfere}
+use Rattle.rd_cell.proofs.PlaceLemmas.{is_name-true, is_name-refl, is_place-true, is_place-refl, is_of-name, is_of_cell-of, Covering, itself, as_cell, as_whole, covers_cases, covers_at}
 use Rattle.rd_step.specs.declared.entries.Entry.{Entry}
+use Rattle.rd_step.specs.Prelude.{Wrote, WroteNothing, WrotePlace, WroteIndex}
 use Rattle.rd_step.specs.Dependence.{first_from, first_after, first_dependant, numbered, depends}
 use Rattle.rd_depend.specs.declared.index.DependIndex.{DependIndex}
+use Rattle.rd_depend.specs.declared.index.keys.Key.{Key}
 use Rattle.rd_depend.specs.declared.index.keys.Key.TheVariants.{At, In}
-use Rattle.rd_depend.specs.Keys.{is_under}
+use Rattle.rd_depend.specs.Keys.{is_kept_at, is_under}
 use Rattle.rd_depend.specs.Lists.{AscendsFrom, IsAscending, first_above, earlier}
-use Rattle.rd_depend.specs.Tables.{counts}
-use Rattle.rd_depend.specs.Index.{Touch, By, Under, touches, positions_from, positions, kept, IsIndexOf}
+use Rattle.rd_depend.specs.Index.{Touch, By, Under, reached, is_value_written, touches, positions_from, positions, kept, IsIndexOf}
 use Rattle.rd_depend.proofs.IndexPositions.{positions-ascend, positions-number, number-within, ascending}
 
 -- the same test
@@ -119,18 +120,26 @@ is_name-sym s t = both_ways (is_name s t) (is_name t s)
 pub overlaps-whole : (s : SegName) (o : Option Place) → some_overlap (Some (Whole s)) o ≡ is_under (In s) o
 overlaps-whole s None = refl
 overlaps-whole s (Some q) = both_ways (overlaps (Whole s) q) (is_of s q)
-    (λ h. elim (or_cases (is_of s q) (covers q (Whole s)) h) [ inl a ↦ a | inr b ↦ of_it (covers_cases q (Whole s) b) ])
+    (λ h. elim (or_cases (is_of s q) (covers q (Whole s)) h) [ inl a ↦ a | inr b ↦ by (covers_cases q (Whole s) b) ])
     (λ h. or_left (is_of s q) (covers q (Whole s)) h)
   where
-    of_it : (q ≡ Whole s) ⊎ ((t : SegName) × (q ≡ Whole t) × (is_of t (Whole s) ≡ true)) → is_of s q ≡ true
-    of_it (inl e) = subst (λ (p : Place). is_of s p ≡ true) (sym e) (is_name-refl s)
-    of_it (inr w) = subst (λ (p : Place). is_of s p ≡ true) (sym w.1) (is_name-sym s w.0 ∙ w.2)
+    by : Covering q (Whole s) → is_of s q ≡ true
+    by (itself e) = subst (λ (p : Place). is_of s p ≡ true) (sym e) (is_name-refl s)
+    by (as_cell t i e f) = cc
+    by (as_whole t e f) = subst (λ (p : Place). is_of s p ≡ true) (sym e) (is_name-sym s t ∙ f)
+
+-- whether a place is a cell, which names its two halves
+abbrev pub is_cell_at : Place → Bool
+is_cell_at (Cell s i) = true
+is_cell_at _ = false
 
 of_own : (p : Place) (s : SegName) → segment_of p ≡ Some s → is_of s p ≡ true
 of_own (Head t) s h = let e : t ≡ s = cc in subst (λ (r : SegName). is_name r t ≡ true) e (is_name-refl t)
 of_own (Tail t) s h = let e : t ≡ s = cc in subst (λ (r : SegName). is_name r t ≡ true) e (is_name-refl t)
 of_own (Next t) s h = let e : t ≡ s = cc in subst (λ (r : SegName). is_name r t ≡ true) e (is_name-refl t)
 of_own (Cell t i) s h = let e : t ≡ s = cc in subst (λ (r : SegName). is_name r t ≡ true) e (is_name-refl t)
+of_own (Val t i) s h = let e : t ≡ s = cc in subst (λ (r : SegName). is_name r t ≡ true) e (is_name-refl t)
+of_own (Idx t i) s h = let e : t ≡ s = cc in subst (λ (r : SegName). is_name r t ≡ true) e (is_name-refl t)
 of_own _ s h = absurd cc
 
 not_whole : (p : Place) (s : SegName) → segment_of p ≡ Some s → (t : SegName) → p ≡ Whole t → ⊥
@@ -139,43 +148,127 @@ not_whole p s h t e = none (ap segment_of (sym e) ∙ h)
     none : None ≡ Some s → ⊥
     none g = cc
 
--- those that overlap a place of a segment are that place and the whole of the segment
-pub overlaps-own : (p : Place) (s : SegName) → segment_of p ≡ Some s → (o : Option Place) → some_overlap (Some p) o ≡ (is_under (At p) o || is_under (At (Whole s)) o)
-overlaps-own p s h None = refl
-overlaps-own p s h (Some q) = both_ways (overlaps p q) (is_place p q || is_place (Whole s) q) forth back
+not_cell : (p : Place) → is_cell_at p ≡ false → (t : SegName) (i : ℕ) → p ≡ Cell t i → ⊥
+not_cell p h t i e = false≢true (sym h ∙ ap is_cell_at e)
+
+-- a place is kept under its own key
+kept_itself : (p : Place) → is_cell_at p ≡ false → is_kept_at p p ≡ true
+kept_itself (Cell s i) h = cc
+kept_itself QHead h = refl
+kept_itself QTail h = refl
+kept_itself (Head s) h = is_place-refl (Head s)
+kept_itself (Tail s) h = is_place-refl (Tail s)
+kept_itself (Next s) h = is_place-refl (Next s)
+kept_itself (Val s i) h = is_place-refl (Val s i)
+kept_itself (Idx s i) h = is_place-refl (Idx s i)
+kept_itself (Whole s) h = is_place-refl (Whole s)
+kept_itself ArrHead h = refl
+kept_itself ArrTail h = refl
+kept_itself (ArrCell i) h = is_place-refl (ArrCell i)
+
+cell-sym : (s t : SegName) (i j : ℕ) → (is_name t s && (j == i)) ≡ (is_name s t && (i == j))
+cell-sym s t i j = λ l. is_name-sym t s l && number-sym j i l
   where
-    same : p ≡ q → (is_place p q || is_place (Whole s) q) ≡ true
-    same e = or_left (is_place p q) (is_place (Whole s) q) (subst (λ (r : Place). is_place p r ≡ true) e (is_place-refl p))
+    number-sym : (m n : ℕ) → (m == n) ≡ (n == m)
+    number-sym m n = both_ways (m == n) (n == m)
+        (λ h. eq-eqb n m (sym (eqb-true m n h))) (λ h. eq-eqb m n (sym (eqb-true n m h)))
 
-    by_p : (p ≡ q) ⊎ ((t : SegName) × (p ≡ Whole t) × (is_of t q ≡ true)) → (is_place p q || is_place (Whole s) q) ≡ true
-    by_p (inl e) = same e
-    by_p (inr w) = absurd (not_whole p s h w.0 w.1)
+at_own : (p q : Place) → is_place p q ≡ true → covers q p ≡ true
+at_own p q h = covers_at q p (sym (is_place-true p q h))
 
-    by_q : (q ≡ p) ⊎ ((t : SegName) × (q ≡ Whole t) × (is_of t p ≡ true)) → (is_place p q || is_place (Whole s) q) ≡ true
-    by_q (inl e) = same (sym e)
-    by_q (inr w) = or_right (is_place p q) (is_place (Whole s) q)
-        (subst (λ (r : Place). is_place (Whole s) r ≡ true) (sym w.1) (is_of-name s w.0 p (of_own p s h) w.2))
+-- a cell is kept under its halves
+kept_half : (t : SegName) (j : ℕ) (p : Place) → is_of_cell t j p ≡ true → is_cell_at p ≡ false → is_kept_at p (Cell t j) ≡ true
+kept_half t j (Val u k) h n = cell-sym t u j k ∙ h
+kept_half t j (Idx u k) h n = or_left (is_name u t && (k == j)) false (cell-sym t u j k ∙ h)
+kept_half t j (Cell u k) h n = cc
+kept_half t j _ h n = cc
 
-    forth : overlaps p q ≡ true → (is_place p q || is_place (Whole s) q) ≡ true
+-- what is kept under a key covers its place
+kept_covers : (p q : Place) → is_kept_at p q ≡ true → covers q p ≡ true
+kept_covers p (Cell t j) h =
+    elim (or_cases (is_place p (Idx t j)) (is_place p (Val t j)) h) [
+      | inl a ↦ subst (λ (r : Place). is_of_cell t j r ≡ true) (sym (is_place-true p (Idx t j) a)) (is_place-refl (Cell t j))
+      | inr b ↦ subst (λ (r : Place). is_of_cell t j r ≡ true) (sym (is_place-true p (Val t j) b)) (is_place-refl (Cell t j))
+    ]
+kept_covers p (Head t) h = at_own p (Head t) h
+kept_covers p (Tail t) h = at_own p (Tail t) h
+kept_covers p (Next t) h = at_own p (Next t) h
+kept_covers p (Val t j) h = at_own p (Val t j) h
+kept_covers p (Idx t j) h = at_own p (Idx t j) h
+kept_covers p (Whole t) h = at_own p (Whole t) h
+kept_covers p QHead h = at_own p QHead h
+kept_covers p QTail h = at_own p QTail h
+kept_covers p ArrHead h = at_own p ArrHead h
+kept_covers p ArrTail h = at_own p ArrTail h
+kept_covers p (ArrCell j) h = at_own p (ArrCell j) h
+
+-- those that overlap a place of a segment are that place, the cell of which it is a half, and the whole of the segment
+pub overlaps-own : (p : Place) (s : SegName) → segment_of p ≡ Some s → is_cell_at p ≡ false → (o : Option Place)
+    → some_overlap (Some p) o ≡ (is_under (At p) o || is_under (At (Whole s)) o)
+overlaps-own p s h n None = refl
+overlaps-own p s h n (Some q) = both_ways (overlaps p q) (is_kept_at p q || is_kept_at (Whole s) q) forth back
+  where
+    same : p ≡ q → (is_kept_at p q || is_kept_at (Whole s) q) ≡ true
+    same e = or_left (is_kept_at p q) (is_kept_at (Whole s) q) (subst (λ (r : Place). is_kept_at p r ≡ true) e (kept_itself p n))
+
+    by_p : Covering p q → (is_kept_at p q || is_kept_at (Whole s) q) ≡ true
+    by_p (itself e) = same e
+    by_p (as_cell t i e f) = absurd (not_cell p n t i e)
+    by_p (as_whole t e f) = absurd (not_whole p s h t e)
+
+    by_q : Covering q p → (is_kept_at p q || is_kept_at (Whole s) q) ≡ true
+    by_q (itself e) = same (sym e)
+    by_q (as_cell t i e f) =
+        or_left (is_kept_at p q) (is_kept_at (Whole s) q) (subst (λ (r : Place). is_kept_at p r ≡ true) (sym e) (kept_half t i p f n))
+    by_q (as_whole t e f) = or_right (is_kept_at p q) (is_kept_at (Whole s) q)
+        (subst (λ (r : Place). is_kept_at (Whole s) r ≡ true) (sym e) (is_of-name s t p (of_own p s h) f))
+
+    forth : overlaps p q ≡ true → (is_kept_at p q || is_kept_at (Whole s) q) ≡ true
     forth g = elim (or_cases (covers p q) (covers q p) g) [ inl a ↦ by_p (covers_cases p q a) | inr b ↦ by_q (covers_cases q p b) ]
 
-    back : (is_place p q || is_place (Whole s) q) ≡ true → overlaps p q ≡ true
-    back g = elim (or_cases (is_place p q) (is_place (Whole s) q) g) [
-      | inl a ↦ or_left (covers p q) (covers q p) (subst (λ (r : Place). covers p r ≡ true) (is_place-true p q a) (covers-refl p))
-      | inr b ↦ or_right (covers p q) (covers q p) (subst (λ (r : Place). covers r p ≡ true) (is_place-true (Whole s) q b) (of_own p s h))
+    whole : Covering q (Whole s) → covers q p ≡ true
+    whole (itself e) = subst (λ (r : Place). covers r p ≡ true) (sym e) (of_own p s h)
+    whole (as_cell t i e f) = cc
+    whole (as_whole t e f) =
+        subst (λ (r : Place). covers r p ≡ true) (sym e) (subst (λ (r : SegName). is_of r p ≡ true) (sym (is_name-true t s f)) (of_own p s h))
+
+    back : (is_kept_at p q || is_kept_at (Whole s) q) ≡ true → overlaps p q ≡ true
+    back g = elim (or_cases (is_kept_at p q) (is_kept_at (Whole s) q) g) [
+      | inl a ↦ or_right (covers p q) (covers q p) (kept_covers p q a)
+      | inr b ↦ or_right (covers p q) (covers q p) (whole (covers_cases q (Whole s) (kept_covers (Whole s) q b)))
     ]
+
+either_same : (a b : Bool) → b ≡ a → (a || b) ≡ (a || ((a || false) || false))
+either_same true b h = refl
+either_same false b h = h
+
+-- those that overlap a cell are its halves, the cell, and the whole of the segment
+pub overlaps-cell : (s : SegName) (i : ℕ) (o : Option Place)
+    → some_overlap (Some (Cell s i)) o ≡ (is_under (At (Val s i)) o || (is_under (At (Idx s i)) o || is_under (At (Whole s)) o))
+overlaps-cell s i None = refl
+overlaps-cell s i (Some (Cell t j)) = either_same (is_name s t && (i == j)) (is_name t s && (j == i)) (cell-sym s t i j)
+overlaps-cell s i (Some (Whole t)) = is_name-sym t s
+overlaps-cell s i (Some _) = refl
 
 -- a place of no segment, which isn't the whole of one, overlaps itself alone
 pub overlaps-alone : (p : Place) → segment_of p ≡ None → ((t : SegName) → p ≡ Whole t → ⊥) → (o : Option Place) → some_overlap (Some p) o ≡ is_under (At p) o
 overlaps-alone p h other None = refl
-overlaps-alone p h other (Some q) = both_ways (overlaps p q) (is_place p q) forth back
+overlaps-alone p h other (Some q) = both_ways (overlaps p q) (is_kept_at p q) forth (λ g. or_right (covers p q) (covers q p) (kept_covers p q g))
   where
-    same : p ≡ q → is_place p q ≡ true
-    same e = subst (λ (r : Place). is_place p r ≡ true) e (is_place-refl p)
+    none_cell : (t : SegName) (i : ℕ) → p ≡ Cell t i → ⊥
+    none_cell t i e = let g : None ≡ Some t = sym h ∙ ap segment_of e in cc
 
-    by_p : (p ≡ q) ⊎ ((t : SegName) × (p ≡ Whole t) × (is_of t q ≡ true)) → is_place p q ≡ true
-    by_p (inl e) = same e
-    by_p (inr w) = absurd (other w.0 w.1)
+    plain : (r : Place) → segment_of r ≡ None → is_cell_at r ≡ false
+    plain (Cell t i) e = cc
+    plain _ e = refl
+
+    same : p ≡ q → is_kept_at p q ≡ true
+    same e = subst (λ (r : Place). is_kept_at p r ≡ true) e (kept_itself p (plain p h))
+
+    by_p : Covering p q → is_kept_at p q ≡ true
+    by_p (itself e) = same e
+    by_p (as_cell t i e f) = absurd (none_cell t i e)
+    by_p (as_whole t e f) = absurd (other t e)
 
     none_of : (r : Place) → segment_of r ≡ None → ((t : SegName) → r ≡ Whole t → ⊥) → (t : SegName) → is_of t r ≡ true → ⊥
     none_of (Whole u) e f t g = f u refl
@@ -183,17 +276,17 @@ overlaps-alone p h other (Some q) = both_ways (overlaps p q) (is_place p q) fort
     none_of (Tail u) e f t g = cc
     none_of (Next u) e f t g = cc
     none_of (Cell u i) e f t g = cc
+    none_of (Val u i) e f t g = cc
+    none_of (Idx u i) e f t g = cc
     none_of _ e f t g = cc
 
-    by_q : (q ≡ p) ⊎ ((t : SegName) × (q ≡ Whole t) × (is_of t p ≡ true)) → is_place p q ≡ true
-    by_q (inl e) = same (sym e)
-    by_q (inr w) = absurd (none_of p h other w.0 w.2)
+    by_q : Covering q p → is_kept_at p q ≡ true
+    by_q (itself e) = same (sym e)
+    by_q (as_cell t i e f) = absurd (none_of p h other t (is_of_cell-of t i p f))
+    by_q (as_whole t e f) = absurd (none_of p h other t f)
 
-    forth : overlaps p q ≡ true → is_place p q ≡ true
+    forth : overlaps p q ≡ true → is_kept_at p q ≡ true
     forth g = elim (or_cases (covers p q) (covers q p) g) [ inl a ↦ by_p (covers_cases p q a) | inr b ↦ by_q (covers_cases q p b) ]
-
-    back : is_place p q ≡ true → overlaps p q ≡ true
-    back g = or_left (covers p q) (covers q p) (subst (λ (r : Place). covers p r ≡ true) (is_place-true p q g) (covers-refl p))
 
 -- the lists of an index
 
@@ -205,26 +298,49 @@ kept-short index es is few t =
     let e : length (kept index t) ≡ length (positions (touches t) es) = ap length (is.lists t) in
     omega (arith, e, positions-number (touches t) 1 es, number-within (touches t) es, is.len)
 
--- a step depends on those of its actor, and on those at places that overlap its own, if one of the two wrote
-pub depends-some : (x y : Entry) (p : Place) → x.place ≡ Some p → depends x y ≡ (touches (By x.event.actor) y || (counts (not x.wrote) y.wrote && some_overlap (Some p) y.place))
-depends-some x y p h =
-    ap (λ (o : Option Place). (x.event.actor == y.event.actor) || (some_overlap o y.place && (x.wrote || y.wrote))) h
-    ∙ ap (λ (b : Bool). (x.event.actor == y.event.actor) || b) (turned (some_overlap (Some p) y.place) x.wrote y.wrote)
-  where
-    turned : (b c d : Bool) → (b && (c || d)) ≡ (counts (not c) d && b)
-    turned true true d = refl
-    turned true false true = refl
-    turned true false false = refl
-    turned false true d = refl
-    turned false false true = refl
-    turned false false false = refl
+-- a step depends on those of its actor, and on those that interfere with its access
+pub depends-some : (x y : Entry) (p : Place) → x.place ≡ Some p → depends x y ≡ (touches (By x.event.actor) y || interfere (Some p) x.wrote y.place y.wrote)
+depends-some x y p h = ap (λ (o : Option Place). (x.event.actor == y.event.actor) || interfere o x.wrote y.place y.wrote) h
 
 pub depends-none : (x y : Entry) → x.place ≡ None → touches (By x.event.actor) y ≡ depends x y
-depends-none x y h = sym (ap (λ (o : Option Place). (x.event.actor == y.event.actor) || (some_overlap o y.place && (x.wrote || y.wrote))) h ∙ plain (x.event.actor == y.event.actor))
+depends-none x y h = sym (ap (λ (o : Option Place). (x.event.actor == y.event.actor) || interfere o x.wrote y.place y.wrote) h ∙ plain (x.event.actor == y.event.actor))
   where
     plain : (b : Bool) → (b || false) ≡ b
     plain true = refl
     plain false = refl
+
+-- What is written is touched
+
+half_kept : (q : Key) (p : Place) → is_under q (Some (index_half p)) ≡ true → is_under q (Some p) ≡ true
+half_kept (At r) (Cell s i) h = or_left (is_place r (Idx s i)) (is_place r (Val s i)) h
+half_kept (In t) (Cell s i) h = h
+half_kept q QHead h = h
+half_kept q QTail h = h
+half_kept q (Head s) h = h
+half_kept q (Tail s) h = h
+half_kept q (Next s) h = h
+half_kept q (Val s i) h = h
+half_kept q (Idx s i) h = h
+half_kept q (Whole s) h = h
+half_kept q ArrHead h = h
+half_kept q ArrTail h = h
+half_kept q (ArrCell i) h = h
+
+written_kept : (q : Key) (o : Option Place) (v : Wrote) → is_under q (written o v) ≡ true → is_under q o ≡ true
+written_kept q None v h = h
+written_kept (At r) (Some p) WroteNothing h = cc
+written_kept (In s) (Some p) WroteNothing h = cc
+written_kept q (Some p) WrotePlace h = h
+written_kept q (Some p) WroteIndex h = half_kept q p h
+
+-- so looking at what is touched finds what is written too
+touched_alone : (q : Key) (o : Option Place) (v : Wrote) → (is_under q o || is_under q (written o v)) ≡ is_under q o
+touched_alone q o v = by (is_under q o) (is_under q (written o v)) (written_kept q o v)
+  where
+    by : (a b : Bool) → (b ≡ true → a ≡ true) → (a || b) ≡ a
+    by true b h = refl
+    by false true h = absurd (false≢true (h refl))
+    by false false h = refl
 
 -- what the searches find
 
@@ -232,34 +348,121 @@ pub found_in : (index : DependIndex) (es : List Entry) → IsIndexOf index es �
     → (IsAscending (kept index t) → length (kept index t) < 131072 → r ≡ first_above k (kept index t)) → r ≡ first_above k (positions (touches t) es)
 found_in index es is few t k r found = found (kept-ascends index es is t) (kept-short index es is few t) ∙ ap (first_above k) (is.lists t)
 
--- the test of a place, of all entries or of those that wrote
-abbrev pub at_place : Bool → Place → Entry → Bool
-at_place w p y = counts w y.wrote && some_overlap (Some p) y.place
+-- an access interferes with this step, if it wrote this of its place
+abbrev pub meets : Place → Wrote → Entry → Bool
+meets p v y = interfere (Some p) v y.place y.wrote
 
-pub found_whole : (w : Bool) (p : Place) (s : SegName) → p ≡ Whole s → (k : ℕ) (es : List Entry)
-    → first_above k (positions (touches (Under w (In s))) es) ≡ first_above k (positions (at_place w p) es)
-found_whole w p s h k es = ap (first_above k) (positions-same (touches (Under w (In s))) (at_place w p)
-    (λ y. ap (λ (b : Bool). counts w y.wrote && b) (sym (ap (λ (q : Place). some_overlap (Some q) y.place) h ∙ overlaps-whole s y.place))) 1 es)
-
-pub found_alone : (w : Bool) (p : Place) → segment_of p ≡ None → ((t : SegName) → p ≡ Whole t → ⊥) → (k : ℕ) (es : List Entry)
-    → first_above k (positions (touches (Under w (At p))) es) ≡ first_above k (positions (at_place w p) es)
-found_alone w p none other k es = ap (first_above k) (positions-same (touches (Under w (At p))) (at_place w p)
-    (λ y. ap (λ (b : Bool). counts w y.wrote && b) (sym (overlaps-alone p none other y.place))) 1 es)
-
-pub found_both : (w : Bool) (p : Place) (s : SegName) → segment_of p ≡ Some s → (k : ℕ) (es : List Entry)
-    → earlier (first_above k (positions (touches (Under w (At p))) es)) (first_above k (positions (touches (Under w (At (Whole s)))) es))
-    ≡ first_above k (positions (at_place w p) es)
-found_both w p s h k es = earlier-first (touches (Under w (At p))) (touches (Under w (At (Whole s)))) (at_place w p)
-    (λ y. ap (λ (b : Bool). counts w y.wrote && b) (overlaps-own p s h y.place) ∙ spread (counts w y.wrote) (is_under (At p) y.place) (is_under (At (Whole s)) y.place)) k 1 es
+-- whether one of these keys holds what a step touched, or what it wrote
+two_either : (a b : Key) (o : Option Place) (v : Wrote)
+    → ((is_under a o || is_under b o) || (is_under a (written o v) || is_under b (written o v))) ≡ (is_under a o || is_under b o)
+two_either a b o v = by (is_under a o) (is_under b o) (is_under a (written o v)) (is_under b (written o v)) (written_kept a o v) (written_kept b o v)
   where
-    spread : (a b c : Bool) → (a && (b || c)) ≡ ((a && b) || (a && c))
-    spread true b c = refl
-    spread false b c = refl
+    by : (x y z w : Bool) → (z ≡ true → x ≡ true) → (w ≡ true → y ≡ true) → ((x || y) || (z || w)) ≡ (x || y)
+    by true y z w h k = refl
+    by false true z w h k = refl
+    by false false true w h k = absurd (false≢true (h refl))
+    by false false false true h k = absurd (false≢true (k refl))
+    by false false false false h k = refl
+
+-- the steps that interfere with an access at the whole of a segment
+meets-whole : (s : SegName) (v : Wrote) (y : Entry) → touches (Under (is_nothing v) (In s)) y ≡ meets (Whole s) v y
+meets-whole s WroteNothing y = sym (overlaps-whole s (written y.place y.wrote))
+meets-whole s WrotePlace y =
+    sym ((λ i. overlaps-whole s y.place i || overlaps-whole s (written y.place y.wrote) i) ∙ touched_alone (In s) y.place y.wrote)
+meets-whole s WroteIndex y =
+    sym ((λ i. overlaps-whole s y.place i || overlaps-whole s (written y.place y.wrote) i) ∙ touched_alone (In s) y.place y.wrote)
+
+-- at a place of a segment that is no cell
+abbrev pub beside : Place → SegName → Bool → Entry → Bool
+beside p s w y = is_under (At p) (reached w y) || is_under (At (Whole s)) (reached w y)
+
+meets-own : (p : Place) (s : SegName) (v : Wrote) → segment_of p ≡ Some s → is_cell_at p ≡ false → (y : Entry) → beside p s (is_nothing v) y ≡ meets p v y
+meets-own p s WroteNothing h n y = sym (overlaps-own p s h n (written y.place y.wrote))
+meets-own p s WrotePlace h n y =
+    sym ((λ i. overlaps-own p s h n y.place i || overlaps-own p s h n (written y.place y.wrote) i) ∙ two_either (At p) (At (Whole s)) y.place y.wrote)
+meets-own p s WroteIndex h n y =
+    sym ((λ i. some_overlap (Some (no_half p n i)) y.place || some_overlap (Some p) (written y.place y.wrote))
+    ∙ (λ i. overlaps-own p s h n y.place i || overlaps-own p s h n (written y.place y.wrote) i) ∙ two_either (At p) (At (Whole s)) y.place y.wrote)
+  where
+    no_half : (r : Place) → is_cell_at r ≡ false → index_half r ≡ r
+    no_half (Cell t i) e = cc
+    no_half _ e = refl
+
+-- at a place of no segment
+meets-alone : (p : Place) (v : Wrote) → segment_of p ≡ None → ((t : SegName) → p ≡ Whole t → ⊥) → (y : Entry)
+    → touches (Under (is_nothing v) (At p)) y ≡ meets p v y
+meets-alone p WroteNothing h other y = sym (overlaps-alone p h other (written y.place y.wrote))
+meets-alone p WrotePlace h other y =
+    sym ((λ i. overlaps-alone p h other y.place i || overlaps-alone p h other (written y.place y.wrote) i) ∙ touched_alone (At p) y.place y.wrote)
+meets-alone p WroteIndex h other y =
+    sym ((λ i. some_overlap (Some (no_half p h i)) y.place || some_overlap (Some p) (written y.place y.wrote))
+    ∙ (λ i. overlaps-alone p h other y.place i || overlaps-alone p h other (written y.place y.wrote) i) ∙ touched_alone (At p) y.place y.wrote)
+  where
+    no_half : (r : Place) → segment_of r ≡ None → index_half r ≡ r
+    no_half (Cell t i) e = cc
+    no_half _ e = refl
+
+-- at a cell: its value half is touched, and written where it is not kept; its index half is written wherever anything is
+meets-cell : (s : SegName) (i : ℕ) (v : Wrote) (y : Entry)
+    → (is_under (At (Val s i)) (reached (not (is_value_written v)) y) || beside (Idx s i) s (is_nothing v) y) ≡ meets (Cell s i) v y
+meets-cell s i WroteNothing y = sym (overlaps-cell s i (written y.place y.wrote))
+meets-cell s i WrotePlace y =
+    sym ((λ l. overlaps-cell s i y.place l || overlaps-cell s i (written y.place y.wrote) l)
+    ∙ three (is_under (At (Val s i)) y.place) (is_under (At (Idx s i)) y.place || is_under (At (Whole s)) y.place)
+    (is_under (At (Val s i)) (written y.place y.wrote)) (is_under (At (Idx s i)) (written y.place y.wrote) || is_under (At (Whole s)) (written y.place y.wrote))
+    (touched_alone (At (Val s i)) y.place y.wrote) (two_either (At (Idx s i)) (At (Whole s)) y.place y.wrote))
+  where
+    three : (a b c d : Bool) → (a || c) ≡ a → (b || d) ≡ b → ((a || b) || (c || d)) ≡ (a || b)
+    three true b c d h k = refl
+    three false true c d h k = refl
+    three false false c d h k = λ l. h l || k l
+meets-cell s i WroteIndex y =
+    sym ((λ l. overlaps-own (Idx s i) s refl refl y.place l || overlaps-cell s i (written y.place y.wrote) l)
+    ∙ turn (is_under (At (Idx s i)) y.place || is_under (At (Whole s)) y.place) (is_under (At (Val s i)) (written y.place y.wrote))
+    (is_under (At (Idx s i)) (written y.place y.wrote) || is_under (At (Whole s)) (written y.place y.wrote))
+    (two_either (At (Idx s i)) (At (Whole s)) y.place y.wrote))
+  where
+    turn : (b c d : Bool) → (b || d) ≡ b → (b || (c || d)) ≡ (c || b)
+    turn true true d h = refl
+    turn true false d h = refl
+    turn false true d h = refl
+    turn false false d h = h
+
+pub found_whole : (v : Wrote) (p : Place) (s : SegName) → p ≡ Whole s → (k : ℕ) (es : List Entry)
+    → first_above k (positions (touches (Under (is_nothing v) (In s))) es) ≡ first_above k (positions (meets p v) es)
+found_whole v p s h k es = ap (first_above k) (positions-same (touches (Under (is_nothing v) (In s))) (meets p v)
+    (λ y. meets-whole s v y ∙ ap (λ (q : Place). meets q v y) (sym h)) 1 es)
+
+pub found_alone : (v : Wrote) (p : Place) → segment_of p ≡ None → ((t : SegName) → p ≡ Whole t → ⊥) → (k : ℕ) (es : List Entry)
+    → first_above k (positions (touches (Under (is_nothing v) (At p))) es) ≡ first_above k (positions (meets p v) es)
+found_alone v p none other k es =
+    ap (first_above k) (positions-same (touches (Under (is_nothing v) (At p))) (meets p v) (meets-alone p v none other) 1 es)
+
+-- a place that is no cell
+pub no_cell_at : (p : Place) → ((t : SegName) (i : ℕ) → p ≡ Cell t i → ⊥) → is_cell_at p ≡ false
+no_cell_at (Cell t i) h = absurd (h t i refl)
+no_cell_at _ h = refl
+
+pub found_own : (v : Wrote) (p : Place) (s : SegName) → segment_of p ≡ Some s → ((t : SegName) (i : ℕ) → p ≡ Cell t i → ⊥) → (k : ℕ) (es : List Entry)
+    → first_above k (positions (beside p s (is_nothing v)) es) ≡ first_above k (positions (meets p v) es)
+found_own v p s own no_cell k es =
+    ap (first_above k) (positions-same (beside p s (is_nothing v)) (meets p v) (meets-own p s v own (no_cell_at p no_cell)) 1 es)
+
+pub found_cell : (v : Wrote) (p : Place) (s : SegName) (i : ℕ) → p ≡ Cell s i → (k : ℕ) (es : List Entry)
+    → earlier (first_above k (positions (touches (Under (not (is_value_written v)) (At (Val s i)))) es)) (first_above k (positions (beside (Idx s i) s (is_nothing v)) es))
+    ≡ first_above k (positions (meets p v) es)
+found_cell v p s i h k es = earlier-first (touches (Under (not (is_value_written v)) (At (Val s i)))) (beside (Idx s i) s (is_nothing v)) (meets p v)
+    (λ y. sym (meets-cell s i v y ∙ ap (λ (q : Place). meets q v y) (sym h))) k 1 es
+
+pub found_beside : (w : Bool) (p : Place) (s : SegName) (k : ℕ) (es : List Entry)
+    → earlier (first_above k (positions (touches (Under w (At p))) es)) (first_above k (positions (touches (Under w (At (Whole s)))) es))
+    ≡ first_above k (positions (beside p s w) es)
+found_beside w p s k es = earlier-first (touches (Under w (At p))) (touches (Under w (At (Whole s)))) (beside p s w) (λ y. refl) k 1 es
 
 pub found_either : (x : Entry) (p : Place) → x.place ≡ Some p → (k : ℕ) (es : List Entry)
-    → earlier (first_above k (positions (touches (By x.event.actor)) es)) (first_above k (positions (at_place (not x.wrote) p) es))
+    → earlier (first_above k (positions (touches (By x.event.actor)) es)) (first_above k (positions (meets p x.wrote) es))
     ≡ first_above k (positions (depends x) es)
-found_either x p h k es = earlier-first (touches (By x.event.actor)) (at_place (not x.wrote) p) (depends x) (λ y. depends-some x y p h) k 1 es
+found_either x p h k es = earlier-first (touches (By x.event.actor)) (meets p x.wrote) (depends x) (λ y. depends-some x y p h) k 1 es
 
 pub found_by : (x : Entry) → x.place ≡ None → (k : ℕ) (es : List Entry)
     → first_above k (positions (touches (By x.event.actor)) es) ≡ first_above k (positions (depends x) es)

@@ -1,19 +1,18 @@
 -- The last writer of a place, from the last positions up to a number in a place's list and a segment's.
-use Rattle.std.proofs.Common.{◌≡◌, ℕ, zero, suc, ◌+◌, ◌-◌, ◌<◌, ◌≤◌, max, Bool, true, false, ◌&&◌, ◌||◌, if◌then◌else◌, nat_lt, List, [], ◌∷◌, length, get_or, take, Option, Some, None, refl, sym, ap, ◌∙◌, arith}
+use Rattle.std.proofs.Common.{◌≡◌, ℕ, zero, suc, ◌+◌, ◌-◌, ◌<◌, ◌≤◌, max, Bool, true, false, ◌||◌, if◌then◌else◌, nat_lt, List, [], ◌∷◌, length, get_or, take, Option, Some, None, refl, sym, ap, ◌∙◌, arith}
 use Rattle.std.proofs.Math.Bool.{or_comm}
 use Rattle.rd_cell.specs.declared.places.SegName.{SegName}
 use Rattle.rd_cell.specs.declared.places.Place.{Place}
-use Rattle.rd_cell.specs.declared.places.Place.TheVariants.{Whole}
+use Rattle.rd_cell.specs.declared.places.Place.TheVariants.{Cell, Val, Idx, Whole}
 use Rattle.rd_cell.specs.Places.{segment_of, covers, some_overlap}
 use Rattle.rd_step.specs.declared.entries.Entry.{Entry}
 use Rattle.rd_depend.specs.declared.index.DependIndex.{DependIndex}
 use Rattle.rd_depend.specs.declared.index.keys.Key.TheVariants.{At, In}
-use Rattle.rd_depend.specs.Keys.{is_under}
 use Rattle.rd_depend.specs.Lists.{IsAscending, number_up_to, up_to, last_or, last_of, later}
-use Rattle.rd_depend.specs.Index.{Touch, Under, touches, positions_from, positions, kept, IsIndexOf}
+use Rattle.rd_depend.specs.Index.{Touch, Under, reached, touches, positions_from, positions, kept, IsIndexOf}
 use Rattle.rd_depend.specs.Writers.{behind, last_position, writes_to}
 use Rattle.rd_depend.proofs.IndexCuts.{positions-up_to}
-use Rattle.rd_depend.proofs.IndexFirst.{kept-ascends, kept-short, overlaps-whole, overlaps-own, overlaps-alone}
+use Rattle.rd_depend.proofs.IndexFirst.{kept-ascends, kept-short, overlaps-whole, overlaps-own, overlaps-cell, overlaps-alone, no_cell_at, beside}
 
 -- the last of ascending positions up to a number stands before those that are greater
 
@@ -110,20 +109,27 @@ meet None (Some q) = refl
 meet (Some p) None = refl
 meet (Some p) (Some q) = or_comm (covers p q) (covers q p)
 
+-- the steps that wrote a place, or one of the places that it names: by the keys under which what they wrote is kept
+
 pub last_whole : (p : Place) (s : SegName) → p ≡ Whole s → (es : List Entry) → last_position (touches (Under true (In s))) es ≡ last_position (writes_to p) es
 last_whole p s h = last-same (touches (Under true (In s))) (writes_to p)
-    (λ y. ap (λ (b : Bool). y.wrote && b) (sym (meet y.place (Some p) ∙ ap (λ (q : Place). some_overlap (Some q) y.place) h ∙ overlaps-whole s y.place)))
+    (λ y. sym (meet (reached true y) (Some p) ∙ ap (λ (q : Place). some_overlap (Some q) (reached true y)) h ∙ overlaps-whole s (reached true y)))
 
 pub last_alone : (p : Place) → segment_of p ≡ None → ((t : SegName) → p ≡ Whole t → ⊥) → (es : List Entry)
     → last_position (touches (Under true (At p))) es ≡ last_position (writes_to p) es
 last_alone p none other = last-same (touches (Under true (At p))) (writes_to p)
-    (λ y. ap (λ (b : Bool). y.wrote && b) (sym (meet y.place (Some p) ∙ overlaps-alone p none other y.place)))
+    (λ y. sym (meet (reached true y) (Some p) ∙ overlaps-alone p none other (reached true y)))
 
-pub last_both : (p : Place) (s : SegName) → segment_of p ≡ Some s → (es : List Entry)
-    → later (last_position (touches (Under true (At p))) es) (last_position (touches (Under true (At (Whole s)))) es) ≡ last_position (writes_to p) es
-last_both p s h = later-last (touches (Under true (At p))) (touches (Under true (At (Whole s)))) (writes_to p)
-    (λ y. ap (λ (b : Bool). y.wrote && b) (meet y.place (Some p) ∙ overlaps-own p s h y.place) ∙ spread y.wrote (is_under (At p) y.place) (is_under (At (Whole s)) y.place))
-  where
-    spread : (a b c : Bool) → (a && (b || c)) ≡ ((a && b) || (a && c))
-    spread true b c = refl
-    spread false b c = refl
+pub last_own : (p : Place) (s : SegName) → segment_of p ≡ Some s → ((t : SegName) (i : ℕ) → p ≡ Cell t i → ⊥) → (es : List Entry)
+    → last_position (beside p s true) es ≡ last_position (writes_to p) es
+last_own p s own no_cell = last-same (beside p s true) (writes_to p)
+    (λ y. sym (meet (reached true y) (Some p) ∙ overlaps-own p s own (no_cell_at p no_cell) (reached true y)))
+
+pub last_cell : (p : Place) (s : SegName) (i : ℕ) → p ≡ Cell s i → (es : List Entry)
+    → later (last_position (touches (Under true (At (Val s i)))) es) (last_position (beside (Idx s i) s true) es) ≡ last_position (writes_to p) es
+last_cell p s i h = later-last (touches (Under true (At (Val s i)))) (beside (Idx s i) s true) (writes_to p)
+    (λ y. meet (reached true y) (Some p) ∙ ap (λ (q : Place). some_overlap (Some q) (reached true y)) h ∙ overlaps-cell s i (reached true y))
+
+pub last_beside : (p : Place) (s : SegName) (es : List Entry)
+    → later (last_position (touches (Under true (At p))) es) (last_position (touches (Under true (At (Whole s)))) es) ≡ last_position (beside p s true) es
+last_beside p s = later-last (touches (Under true (At p))) (touches (Under true (At (Whole s)))) (beside p s true) (λ y. refl)

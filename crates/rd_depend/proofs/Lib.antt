@@ -10,6 +10,7 @@ pub mod IndexCuts
 pub mod LastPositions
 pub mod IndexWriters
 pub mod Moving
+pub mod Sharing
 pub mod Search
 pub mod Reaching
 pub mod Exactness

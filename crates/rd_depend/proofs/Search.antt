@@ -1,10 +1,10 @@
 -- The first record by an actor in a list.
-use Rattle.std.proofs.Common.{◌≡◌, ◌≢◌, ◌↔◌, ℕ, zero, suc, Bool, IsTrue, ◌+◌, ◌-◌, ◌<◌, ◌≤◌, true, false, not, ◌==◌, ◌&&◌, ◌||◌, refl, sym, ◌∙◌, ap, subst, arith, List, [], ◌∷◌, ◌++◌, length, get_or, take, drop, append_assoc, length-drop}
+use Rattle.std.proofs.Common.{◌≡◌, ◌≢◌, ◌↔◌, ℕ, zero, suc, Bool, IsTrue, ◌+◌, ◌-◌, ◌<◌, ◌≤◌, true, false, not, ◌==◌, refl, sym, ◌∙◌, ap, subst, arith, List, [], ◌∷◌, ◌++◌, length, get_or, take, drop, append_assoc, length-drop}
 use Rattle.std.proofs.lemmas.Bool.{eqb-false, not-true, not_from_false, and_parts, and_from, or_parts}
 use Rattle.std.specs.List.{list_all, remove}
 use Rattle.std.proofs.Math.Seq.{drop-cons, take-append_seam}
 use Rattle.std.proofs.lemmas.List.{take_more, take-append-drop, drop-append-le, length-take-le, take_all, get_or_at, get_or_default}
-use Rattle.rd_step.specs.Prelude.{some_overlap, depends, IsFree}
+use Rattle.rd_step.specs.Prelude.{interfere, depends, IsFree}
 use Rattle.rd_step.specs.declared.entries.Event.{Event}
 use Rattle.rd_step.specs.declared.entries.Entry.{Entry}
 use Rattle.rd_depend.specs.Equivalence.{HasNoneBy, IsFirstBy, MayComeFirst, CannotComeFirst}
@@ -88,7 +88,7 @@ is_free-from x (y ∷ ys) h =
 pub free_none_by : (x : Entry) (xs : List Entry) → IsFree x xs → HasNoneBy x.event.actor xs
 free_none_by x [] h = tt
 free_none_by x (y ∷ ys) h =
-    let parts = or_parts (x.event.actor == y.event.actor) (some_overlap x.place y.place && (x.wrote || y.wrote)) h.0 in
+    let parts = or_parts (x.event.actor == y.event.actor) (interfere x.place x.wrote y.place y.wrote) h.0 in
     (eqb-false x.event.actor y.event.actor parts.0, free_none_by x ys h.1)
 
 none_by-middle : (n : ℕ) (xs ys : List Entry) (y : Entry) → HasNoneBy n (xs ++ y ∷ ys) → n ≢ y.event.actor

@@ -1,23 +1,35 @@
--- What an index keeps: of the entries of a list, the positions of those that touch an actor, a place or a segment.
-use Rattle.std.specs.Prelude.{◌≡◌, ℕ, ◌+◌, ◌-◌, ◌≤◌, Bool, ◌==◌, ◌&&◌, if◌then◌else◌, List, [], ◌∷◌, ◌++◌, length, take, drop, Some, ◌<◌}
+-- What an index keeps: of the entries of a list, the positions of those that touch an actor, a place or a segment, and of those
+-- that wrote a place or one of a segment.
+use Rattle.std.specs.Prelude.{◌≡◌, ℕ, ◌+◌, ◌-◌, ◌≤◌, Bool, true, false, ◌==◌, not, if◌then◌else◌, List, [], ◌∷◌, ◌++◌, length, take, drop, Option, Some, ◌<◌}
+use Rattle.rd_step.specs.Prelude.{Place, Wrote, WrotePlace, is_nothing, written}
 use Rattle.rd_step.specs.declared.entries.Entry.{Entry}
 use Rattle.rd_step.specs.Dependence.{numbered}
 use Rattle.rd_depend.specs.declared.index.DependIndex.{DependIndex}
 use Rattle.rd_depend.specs.declared.index.changing.Slots.{Slots}
 use Rattle.rd_depend.specs.declared.index.keys.Key.{Key}
-use Rattle.rd_depend.specs.Keys.{is_under, place_key, segment_key}
+use Rattle.rd_depend.specs.Keys.{is_under, place_key, value_key, segment_key}
 use Rattle.rd_depend.specs.Lists.{list_at, capacity_at, one_if, spare_at, closed, up_to, IsAscending}
-use Rattle.rd_depend.specs.Tables.{counts, kept_in, capacity_in, spare_in, AreReady}
+use Rattle.rd_depend.specs.Tables.{kept_in, capacity_in, spare_in, AreReady}
 
--- what a list of positions is kept for: an actor, or a place or a segment, of all steps there or of those that wrote
+-- what a list of positions is kept for: an actor, or a place or a segment, of all steps that touched it or of those that wrote it
 pub data Touch : Type 0 where
   By : ℕ → Touch
   Under : Bool → Key → Touch
 
+-- the place that names what an entry's step touched, or what it wrote
+abbrev pub reached : Bool → Entry → Option Place
+reached false x = x.place
+reached true x = written x.place x.wrote
+
 -- whether an entry is to be kept there
 abbrev pub touches : Touch → Entry → Bool
 touches (By a) x = a == x.event.actor
-touches (Under w k) x = counts w x.wrote && is_under k x.place
+touches (Under w k) x = is_under k (reached w x)
+
+-- whether a step that wrote this wrote the value half of its cell
+abbrev pub is_value_written : Wrote → Bool
+is_value_written WrotePlace = true
+is_value_written _ = false
 
 -- the positions of the entries that pass the test, the first entry being at n
 abbrev pub positions_from : (Entry → Bool) → ℕ → List Entry → List ℕ
@@ -83,8 +95,9 @@ pub record Keeps (old new : DependIndex) : Type 0 where
 -- there is room for the entry's position wherever it is to be kept, and the keys have these indices
 pub record IsReadyFor (index : DependIndex) (x : Entry) (slots : Slots) : Type 0 where
   pub actor : 0 < spare_at index.by_actor.items x.event.actor
-  pub place : AreReady index.by_key (place_key x.place) x.wrote slots.place
-  pub segment : AreReady index.by_key (segment_key x.place) x.wrote slots.segment
+  pub place : AreReady index.by_key (place_key x.place) (not (is_nothing x.wrote)) slots.place
+  pub value : AreReady index.by_key (value_key x.place) (is_value_written x.wrote) slots.value
+  pub segment : AreReady index.by_key (segment_key x.place) (not (is_nothing x.wrote)) slots.segment
 
 -- the list is as before where the entry is not kept, and lost its last position where it is
 pub record Drops (x : Entry) (old new : DependIndex) : Type 0 where

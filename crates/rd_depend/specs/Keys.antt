@@ -1,10 +1,10 @@
--- Keys: what a list of positions is kept for, apart from the actors.
-use Rattle.std.specs.Prelude.{ℕ, ◌+◌, ◌*◌, Bool, false, List, [], ◌∷◌, Option, Some, None, suc, if◌then◌else◌}
+-- Keys: what a list of positions is kept for, apart from the actors. A cell is kept under its two halves.
+use Rattle.std.specs.Prelude.{ℕ, ◌+◌, ◌*◌, Bool, false, ◌||◌, List, [], ◌∷◌, Option, Some, None, suc, if◌then◌else◌}
 use Rattle.std.specs.Option.{option_map}
 use Rattle.rd_cell.specs.declared.places.SegName.{SegName}
 use Rattle.rd_cell.specs.declared.places.Place.{Place}
-use Rattle.rd_cell.specs.declared.places.Place.TheVariants.{QHead, QTail, Head, Tail, Next, Cell, Whole, ArrHead, ArrTail, ArrCell}
-use Rattle.rd_cell.specs.Places.{is_name, is_of, is_place, root}
+use Rattle.rd_cell.specs.declared.places.Place.TheVariants.{QHead, QTail, Head, Tail, Next, Cell, Val, Idx, Whole, ArrHead, ArrTail, ArrCell}
+use Rattle.rd_cell.specs.Places.{is_name, is_of, is_place, index_half, root}
 use Rattle.rd_depend.specs.declared.index.keys.Key.{Key}
 use Rattle.rd_depend.specs.declared.index.keys.Key.TheVariants.{At, In}
 
@@ -19,16 +19,31 @@ abbrev pub is_that : Key → Option Key → Bool
 is_that q None = false
 is_that q (Some k) = is_key q k
 
--- whether a step at this place, if it has one, is kept under the key
+-- whether a place is kept under the key of another: it is that place, or the cell of which that is a half
+abbrev pub is_kept_at : Place → Place → Bool
+is_kept_at p (Cell s i) = is_place p (Idx s i) || is_place p (Val s i)
+is_kept_at p q = is_place p q
+
+-- whether a place, if there is one, is kept under the key
 abbrev pub is_under : Key → Option Place → Bool
 is_under k None = false
-is_under (At p) (Some q) = is_place p q
+is_under (At p) (Some q) = is_kept_at p q
 is_under (In s) (Some q) = is_of s q
 
--- the key of a place, if there is one
+-- the key of a place, if there is one: of a cell that of its index half
 abbrev pub place_key : Option Place → Option Key
 place_key None = None
-place_key (Some p) = Some (At p)
+place_key (Some p) = Some (At (index_half p))
+
+-- the key of a cell's value half
+abbrev pub value_of_place : Place → Option Key
+value_of_place (Cell s i) = Some (At (Val s i))
+value_of_place _ = None
+
+-- the same of a place, if there is one
+abbrev pub value_key : Option Place → Option Key
+value_key None = None
+value_key (Some p) = value_of_place p
 
 -- the key of the segment that a place is one of, or the whole of
 abbrev pub segment_of_place : Place → Option Key
@@ -36,6 +51,8 @@ segment_of_place (Head s) = Some (In s)
 segment_of_place (Tail s) = Some (In s)
 segment_of_place (Next s) = Some (In s)
 segment_of_place (Cell s i) = Some (In s)
+segment_of_place (Val s i) = Some (In s)
+segment_of_place (Idx s i) = Some (In s)
 segment_of_place (Whole s) = Some (In s)
 segment_of_place _ = None
 
@@ -65,6 +82,8 @@ place_number (Whole s) = packed 6 s 0
 place_number ArrHead = 7
 place_number ArrTail = 8
 place_number (ArrCell i) = packed 9 root i
+place_number (Val s i) = packed 11 s i
+place_number (Idx s i) = packed 12 s i
 
 -- the number that a key is hashed as
 abbrev pub key_number : Key → ℕ

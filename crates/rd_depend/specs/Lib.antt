@@ -7,4 +7,5 @@ pub mod Lists
 pub mod Tables
 pub mod Index
 pub mod Writers
+pub mod Sharing
 pub mod KeyLaws

@@ -1,6 +1,6 @@
 -- The step that last wrote a place, as a position in a list, counted from 1.
-use Rattle.std.specs.Prelude.{ℕ, suc, ◌&&◌, Bool, if◌then◌else◌, List, [], ◌∷◌, Option, Some, None}
-use Rattle.rd_step.specs.Prelude.{Place, some_overlap}
+use Rattle.std.specs.Prelude.{ℕ, suc, Bool, if◌then◌else◌, List, [], ◌∷◌, Option, Some, None}
+use Rattle.rd_step.specs.Prelude.{Place, some_overlap, written}
 use Rattle.rd_step.specs.declared.entries.Entry.{Entry}
 
 -- a position in a list with one more element in front, of which this says whether it is one of those sought
@@ -13,6 +13,6 @@ abbrev pub last_position : {X : Type 0} → (X → Bool) → List X → Option �
 last_position test [] = None
 last_position test (x ∷ xs) = behind (test x) (last_position test xs)
 
--- whether the step wrote a place that overlaps this one
+-- whether the step wrote this place, or one of the places that it names
 abbrev pub writes_to : Place → Entry → Bool
-writes_to place x = x.wrote && some_overlap x.place (Some place)
+writes_to place x = some_overlap (written x.place x.wrote) (Some place)

@@ -1,22 +1,45 @@
 //! Dependence of two records, and the first dependant in a list of them.
 
 ghost use Rattle.std.specs.Prelude.{◌≡◌, ◌≤◌, length};
-ghost use Rattle.rd_step.specs.Prelude.{some_overlap, depends, first_dependant};
+ghost use Rattle.rd_step.specs.Prelude.{some_overlap, interfere, depends, first_dependant};
+ghost use Rattle.rd_depend.specs.Sharing.{one_wrote};
 
 use rd_cell::{Place, overlaps};
 use rd_step::Entry;
 
-/// Whether two steps depend on each other: they have one actor, or their places overlap and one of them wrote. It is
-/// the same either way round, so a write depends on a read before it as a read on a write. Who wrote is asked before the
-/// places are compared: most steps that a scan meets only read.
+/// Whether two steps depend on each other: they have one actor, or there is a place that both touched and one of them wrote. It
+/// is the same either way round, so a write depends on a read before it as a read on a write. Who wrote is asked before the
+/// places are compared, and what was written of them last: most steps that a scan meets only read, or were made elsewhere.
 #[inline(always)]
 pub fn depends(a: &Entry, b: &Entry) -> bool
     ensures { result ≡ depends a.now b.now }
 {
-    a.event.actor == b.event.actor || ((a.wrote || b.wrote) && some_overlap(a.place, b.place))
+    a.event.actor == b.event.actor || interfere(a, b)
 }
 
-/// Whether both accesses have places, and these overlap.
+/// Whether there is a place that both touched and one of them wrote.
+#[inline(always)]
+fn interfere(a: &Entry, b: &Entry) -> bool
+    ensures { result ≡ interfere a.now.place a.now.wrote b.now.place b.now.wrote }
+{
+    if !one_wrote(a, b) {
+        return false;
+    }
+    if !some_overlap(a.place, b.place) {
+        return false;
+    }
+    some_overlap(a.written(), b.place) || some_overlap(a.place, b.written())
+}
+
+/// Whether one of the steps wrote anything.
+#[inline(always)]
+fn one_wrote(a: &Entry, b: &Entry) -> bool
+    ensures { result ≡ one_wrote a.now b.now }
+{
+    !a.wrote.is_nothing() || !b.wrote.is_nothing()
+}
+
+/// Whether both places are there, and overlap.
 #[inline(always)]
 fn some_overlap(a: Option<Place>, b: Option<Place>) -> bool
     ensures { result ≡ some_overlap a b }

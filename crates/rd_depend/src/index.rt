@@ -140,14 +140,14 @@ impl DependIndex {
         self.first_above(k as u32, entry, probes)
     }
 
-    /// The last position up to `n` whose entry wrote this place, or one that overlaps it; none if there is none. It makes at
-    /// most 38 probes, and takes no memory.
+    /// The last position up to `n` whose entry wrote this place, or one of the places that it names; none if there is none. It
+    /// makes at most 57 probes, and takes no memory.
     pub fn last_writer(&self, n: u64, place: Place, probes: &mut Probes) -> Option<u64>
         requires within { n ≤ self.now.len }
         requires few { self.now.len ≤ MOST_STEPS }
         requires counted { probes.old.count < 2 ^ 32 }
         ensures answer { (es : List Record) → IsIndexOf self.now es → result ≡ last_position (writes_to place) (take n es) }
-        ensures cost { probes.new.count ≤ probes.old.count + 38 }
+        ensures cost { probes.new.count ≤ probes.old.count + 57 }
     {
         self.last_write(n as u32, place, probes)
     }

@@ -1,10 +1,17 @@
 //! Laws of dependence and of equivalence: each is the contract of a function that does nothing.
 
-ghost use Rattle.std.specs.Prelude.{◌≡◌, ℕ, List, Ok};
+ghost use Rattle.std.specs.Prelude.{◌≡◌, ◌↔◌, ◌⊎◌, ℕ, true, List, Ok};
 ghost use Rattle.rd_step.specs.declared.entries.Event.{Event};
 ghost use Rattle.rd_step.specs.declared.entries.Entry.{Entry as Record};
 ghost use Rattle.rd_step.specs.Prelude.{World, Ran, run, depends};
 ghost use Rattle.rd_step.specs.Equivalence.{IsEquivalent};
+ghost use Rattle.rd_depend.specs.Sharing.{SharesPlace};
+
+/// Two records depend on each other exactly where they have one actor, or there is a place of the map that both touched and at
+/// least one of them wrote.
+pub fn records_depend_where_they_share_an_actor_or_a_place()
+    ensures { (x y : Record) → (depends x y ≡ true) ↔ ((x.event.actor ≡ y.event.actor) ⊎ SharesPlace x y) }
+{}
 
 /// Dependence is the same either way round.
 pub fn dependence_is_symmetric()

@@ -1,6 +1,6 @@
 //! Which step depends on which, and the first later step that depends on a given one.
 //!
-//! Two steps depend on each other if they have one actor, or if their places overlap and one of them wrote (Danos and
+//! Two steps depend on each other if they have one actor, or if there is a place that both touched and one of them wrote (Danos and
 //! Krivine 2004 for what must be undone first; the places and the symmetry are our profile's). The search is the plain
 //! scan from the step on; it takes no memory.
 #![tactic(auto)]

@@ -4,15 +4,15 @@ mod equivalence;
 mod index;
 
 use rd_actor::{Act, Actor};
-use rd_cell::{Answer, Place, SegName};
+use rd_cell::{Answer, Place, SegName, Wrote};
 use rd_depend::dependence::{depends, first_dependant};
 use rd_depend::moves::move_before;
 use rd_step::{Entry, Event};
 use std::process::Abort;
 use std::test::Fail;
 
-/// What dependence looks at: the actor, the place, and whether the access wrote.
-type Access = (u8, Option<Place>, bool);
+/// What dependence looks at: the actor, the place, and what the access wrote of it.
+type Access = (u8, Option<Place>, Wrote);
 
 /// A segment that actor 1 made.
 const MADE: SegName = SegName { maker: 1, n: 0 };
@@ -21,32 +21,84 @@ const MADE: SegName = SegName { maker: 1, n: 0 };
 const OTHER: SegName = SegName { maker: 1, n: 1 };
 
 /// A read of the tail of a segment by an actor.
-const READS_TAIL: Access = (1, Some(Place::Tail(MADE)), false);
+const READS_TAIL: Access = (1, Some(Place::Tail(MADE)), Wrote::Nothing);
 
 /// A write of it by another actor.
-const WRITES_TAIL: Access = (2, Some(Place::Tail(MADE)), true);
+const WRITES_TAIL: Access = (2, Some(Place::Tail(MADE)), Wrote::Place);
 
 /// A call, which has no place.
-const CALLS: Access = (3, None, false);
+const CALLS: Access = (3, None, Wrote::Nothing);
 
 /// The making of a segment.
-const MAKES: Access = (1, Some(Place::Whole(MADE)), true);
+const MAKES: Access = (1, Some(Place::Whole(MADE)), Wrote::Place);
 
 /// Pairs of accesses, and whether they depend on each other.
-const PAIRS: [(Access, Access, bool); 12] = [
+const PAIRS: [(Access, Access, bool); 24] = [
     (READS_TAIL, WRITES_TAIL, true),
-    (READS_TAIL, (2, Some(Place::Tail(MADE)), false), false),
-    (WRITES_TAIL, (3, Some(Place::Tail(MADE)), true), true),
-    (READS_TAIL, (2, Some(Place::Head(MADE)), true), false),
-    (READS_TAIL, (2, Some(Place::Tail(OTHER)), true), false),
-    (READS_TAIL, (1, Some(Place::Head(OTHER)), false), true),
+    (
+        READS_TAIL,
+        (2, Some(Place::Tail(MADE)), Wrote::Nothing),
+        false,
+    ),
+    (
+        WRITES_TAIL,
+        (3, Some(Place::Tail(MADE)), Wrote::Place),
+        true,
+    ),
+    (
+        READS_TAIL,
+        (2, Some(Place::Head(MADE)), Wrote::Place),
+        false,
+    ),
+    (
+        READS_TAIL,
+        (2, Some(Place::Tail(OTHER)), Wrote::Place),
+        false,
+    ),
+    (
+        READS_TAIL,
+        (1, Some(Place::Head(OTHER)), Wrote::Nothing),
+        true,
+    ),
     (CALLS, WRITES_TAIL, false),
-    (CALLS, (3, None, false), true),
-    (MAKES, (2, Some(Place::Cell(MADE, 0)), false), true),
-    (MAKES, (2, Some(Place::Next(MADE)), true), true),
-    (MAKES, (2, Some(Place::Cell(OTHER, 0)), true), false),
-    (MAKES, (2, Some(Place::QTail), true), false),
+    (CALLS, (3, None, Wrote::Nothing), true),
+    (MAKES, (2, Some(Place::Cell(MADE, 0)), Wrote::Nothing), true),
+    (MAKES, (2, Some(Place::Next(MADE)), Wrote::Place), true),
+    (MAKES, (2, Some(Place::Cell(OTHER, 0)), Wrote::Place), false),
+    (MAKES, (2, Some(Place::QTail), Wrote::Place), false),
+    (MAKES, (2, Some(Place::Val(MADE, 0)), Wrote::Nothing), true),
+    (MAKES, (2, Some(Place::Idx(MADE, 0)), Wrote::Nothing), true),
+    (
+        READS_VALUE,
+        (2, Some(Place::Idx(MADE, 3)), Wrote::Nothing),
+        false,
+    ),
+    (READS_VALUE, MARKS, false),
+    (READS_VALUE, FILLS, true),
+    (READS_VALUE, LOSES, false),
+    (
+        READS_VALUE,
+        (3, Some(Place::Cell(MADE, 2)), Wrote::Place),
+        false,
+    ),
+    (READS_INDEX, MARKS, true),
+    (READS_INDEX, FILLS, true),
+    (LOSES, MARKS, true),
+    (LOSES, FILLS, true),
+    (MARKS, FILLS, true),
 ];
+
+/// A read of the value of a cell, and one of its safe bit and index.
+const READS_VALUE: Access = (1, Some(Place::Val(MADE, 3)), Wrote::Nothing);
+
+const READS_INDEX: Access = (1, Some(Place::Idx(MADE, 3)), Wrote::Nothing);
+
+/// A double-word swap that wins and keeps the value, one that wins and puts another there, and one that loses.
+const MARKS: Access = (3, Some(Place::Cell(MADE, 3)), Wrote::Index);
+
+const FILLS: Access = (4, Some(Place::Cell(MADE, 3)), Wrote::Place);
+
+const LOSES: Access = (5, Some(Place::Cell(MADE, 3)), Wrote::Nothing);
 
 /// A record with this access.
 fn record(access: Access) -> Entry {
@@ -77,9 +129,9 @@ fn two_steps_depend_on_each_other_or_not(rt: HostRuntime) {
 const RUN: [Access; 5] = [
     CALLS,
     READS_TAIL,
-    (2, Some(Place::Tail(OTHER)), true),
+    (2, Some(Place::Tail(OTHER)), Wrote::Place),
     WRITES_TAIL,
-    (4, Some(Place::Tail(MADE)), false),
+    (4, Some(Place::Tail(MADE)), Wrote::Nothing),
 ];
 
 /// Its steps by number, each with its first dependant.

@@ -1,7 +1,7 @@
 -- A step that only read is undone by its actor's words alone: its place still has what it found.
-use Rattle.std.proofs.Common.{◌≡◌, ℕ, false, inl, inr, refl, sym, ◌∙◌, subst, Option, None}
+use Rattle.std.proofs.Common.{◌≡◌, ℕ, true, inl, inr, refl, sym, ◌∙◌, subst, Option, None}
 use Rattle.std.proofs.lemmas.Bool.{cases_Bool, cond-true, cond-false}
-use Rattle.rd_step.specs.Prelude.{Place, Content, World, unstep, IsWellFormed}
+use Rattle.rd_step.specs.Prelude.{Place, Content, is_nothing, World, unstep, IsWellFormed}
 use Rattle.rd_step.specs.declared.entries.Entry.{Entry}
 use Rattle.rd_step.specs.Room.{room_returned}
 use Rattle.rd_step.specs.Step.{revert, with_actor, CanPutBack}
@@ -18,7 +18,7 @@ pub record Undoes (R : ℕ) (now : World) (x : Entry) (o : Option Place × Optio
   pub formed : IsWellFormed R (revert now x.event.actor x.old_actor o.0 o.1)
   pub room : (m : ℕ) → room_returned o.0 o.1 m ≡ room_returned x.place x.old_content m
 
-undoes_read : (R : ℕ) (now : World) (x : Entry) → WasStepped R now x → x.wrote ≡ false → Undoes R now x (None, None)
+undoes_read : (R : ℕ) (now : World) (x : Entry) → WasStepped R now x → is_nothing x.wrote ≡ true → Undoes R now x (None, None)
 undoes_read R now x was e =
     let again = (taken_out R now x was).again in
     let found : now.at ≡ (unstep now x).at = (changes_only R (unstep now x) was.event (record { world = now; entry = x }) again).reading e in
@@ -37,7 +37,11 @@ undoes_write R now x was =
 
 pub undoes : (R : ℕ) (now : World) (x : Entry) (o : Option Place × Option Content) → WasStepped R now x → o ≡ overwritten x → Undoes R now x o
 undoes R now x o was is =
-    elim (cases_Bool x.wrote) [
-      | inl e ↦ subst (λ (p : Option Place × Option Content). Undoes R now x p) (sym (is ∙ cond-true x.wrote (x.place, x.old_content) (None, None) e)) (undoes_write R now x was)
-      | inr e ↦ subst (λ (p : Option Place × Option Content). Undoes R now x p) (sym (is ∙ cond-false x.wrote (x.place, x.old_content) (None, None) e)) (undoes_read R now x was e)
+    elim (cases_Bool (is_nothing x.wrote)) [
+      | inl e ↦
+          subst (λ (p : Option Place × Option Content). Undoes R now x p)
+          (sym (is ∙ cond-true (is_nothing x.wrote) (None, None) (x.place, x.old_content) e)) (undoes_read R now x was e)
+      | inr e ↦
+          subst (λ (p : Option Place × Option Content). Undoes R now x p)
+          (sym (is ∙ cond-false (is_nothing x.wrote) (None, None) (x.place, x.old_content) e)) (undoes_write R now x was)
     ]

@@ -1,7 +1,7 @@
 -- A step that only read, made again by its actor's words alone.
 use Rattle.std.proofs.Common.{◌≡◌, ℕ, true, false, refl, sym, ◌∙◌, ap, subst, Option, None, is_some, Ok}
-use Rattle.std.proofs.lemmas.Bool.{cond-false}
-use Rattle.rd_step.specs.Prelude.{Place, Content, Actor, after, World, Stepped, step, IsWellFormed}
+use Rattle.std.proofs.lemmas.Bool.{cond-true}
+use Rattle.rd_step.specs.Prelude.{Place, Content, is_nothing, Actor, after, World, Stepped, step, IsWellFormed}
 use Rattle.rd_step.specs.declared.entries.Entry.{Entry}
 use Rattle.rd_step.specs.Step.{with_actor, revert, CanPutBack}
 use Rattle.rd_step.specs.Touched.{overwritten}
@@ -19,7 +19,7 @@ pub record IsReadAgain (R : ℕ) (w v : World) (x : Entry) (words : Actor) (o : 
 
 -- a step that only read overwrote nothing
 read_again_alone : (R : ℕ) (w v : World) (x : Entry) (words : Actor) → IsWellFormed R w
-    → step R w x.event ≡ Ok (record { world = v; entry = x }) → x.wrote ≡ false
+    → step R w x.event ≡ Ok (record { world = v; entry = x }) → is_nothing x.wrote ≡ true
     → words ≡ (after R x.old_actor x.event.act x.answer).0 → IsReadAgain R w v x words (None, None)
 read_again_alone R w v x words formed h reads is =
     let s : Stepped = record { world = v; entry = x } in
@@ -37,10 +37,10 @@ read_again_alone R w v x words formed h reads is =
     }
 
 pub read_again : (R : ℕ) (w v : World) (x : Entry) (words : Actor) (o : Option Place × Option Content) → IsWellFormed R w
-    → step R w x.event ≡ Ok (record { world = v; entry = x }) → x.wrote ≡ false
+    → step R w x.event ≡ Ok (record { world = v; entry = x }) → is_nothing x.wrote ≡ true
     → words ≡ (after R x.old_actor x.event.act x.answer).0 → o ≡ overwritten x → IsReadAgain R w v x words o
 read_again R w v x words o formed h reads is nothing =
-    subst (λ (p : Option Place × Option Content). IsReadAgain R w v x words p) (sym (nothing ∙ cond-false x.wrote (x.place, x.old_content) (None, None) reads))
+    subst (λ (p : Option Place × Option Content). IsReadAgain R w v x words p) (sym (nothing ∙ cond-true (is_nothing x.wrote) (None, None) (x.place, x.old_content) reads))
     (read_again_alone R w v x words formed h reads is)
 
 -- a step that is made again leaves the record that it is known to leave

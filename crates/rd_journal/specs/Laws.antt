@@ -1,6 +1,6 @@
 -- What the laws of the journal say.
 use Rattle.std.specs.Prelude.{◌≡◌, ℕ, ◌-◌, ◌++◌, Some, take, drop, Ok}
-use Rattle.rd_step.specs.Prelude.{Place, World, step, closure_of, without_closure, run}
+use Rattle.rd_step.specs.Prelude.{Place, operand, World, step, closure_of, without_closure, run}
 use Rattle.rd_step.specs.declared.entries.Entry.{Entry}
 use Rattle.rd_journal.specs.Journal.{Journal, start_of, events, run_entries}
 
@@ -12,7 +12,7 @@ pub record IsStepAfter (R k : ℕ) (j : Journal) (x : Entry) : Type 0 where
   pub after : World
   pub goes : step R before x.event ≡ Ok (record { world = after; entry = x })
   pub old_actor : before.actor x.event.actor ≡ Some x.old_actor
-  pub old_content : (p : Place) → x.place ≡ Some p → before.at p ≡ x.old_content
+  pub old_content : (p : Place) → x.place ≡ Some p → operand before.at p ≡ x.old_content
 
 -- the n-th live record is the last one, all others stand in their order, and no record changed, nor did the world
 pub record IsMovedLast (n : ℕ) (old new : Journal) : Type 0 where

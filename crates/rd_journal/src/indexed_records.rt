@@ -233,7 +233,7 @@ impl IndexedRecords {
         }
     }
 
-    /// The number of the last live step that wrote this place, or one that overlaps it, or none: by the plain scan of what the
+    /// The number of the last live step that wrote this place, or one of the places that it names, or none: by the plain scan of what the
     /// index does not reach, and by the index before that.
     pub(crate) fn last_writer(&self, place: Place) -> Option<u64>
         ensures { result ≡ last_position (writes_to place) (live_records self.now.records) }
@@ -245,7 +245,7 @@ impl IndexedRecords {
         }
     }
 
-    /// The number of the last of the first `n` records that wrote this place, or one that overlaps it, or none, by the index.
+    /// The number of the last of the first `n` records that wrote this place, or one of the places that it names, or none, by the index.
     fn last_covered_writer(&self, place: Place, n: u64) -> Option<u64>
         requires { n ≤ self.now.index.len }
         ensures { result ≡ last_position (writes_to place) (take n (kept_records self.now.records)) }

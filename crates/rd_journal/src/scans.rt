@@ -37,7 +37,7 @@ pub(crate) fn depends_on_one(records: &LiveRecords, later: &Entry) -> bool
     false
 }
 
-/// The number of the last record that wrote this place, or one that overlaps it, if it is behind the first `start` ones.
+/// The number of the last record that wrote this place, or one of the places that it names, if it is behind the first `start` ones.
 pub(crate) fn last_writer_behind(records: &LiveRecords, place: Place, start: usize) -> Option<u64>
     requires { start ≤ length records.now }
     ensures { MatchOption result
@@ -52,9 +52,10 @@ pub(crate) fn last_writer_behind(records: &LiveRecords, place: Place, start: usi
     None
 }
 
-/// Whether the step wrote this place, or one that overlaps it.
+/// Whether the step wrote this place, or one of the places that it names.
 fn writes_to(place: Place, step: &Entry) -> bool
     ensures { result ≡ writes_to place step.now }
 {
-    step.wrote && step.place.is_some_and(|written| overlaps(written, place))
+    step.written()
+        .is_some_and(|written| overlaps(written, place))
 }

@@ -292,7 +292,7 @@ impl<const R: usize> Session<R> {
         Ok(*self.records.live_at(k as usize - 1))
     }
 
-    /// The number of the last live step that wrote this place, or one that overlaps it; none if no live step did. It asks the
+    /// The number of the last live step that wrote this place, or one of the places that it names; none if no live step did. It asks the
     /// index of dependants, and scans the steps that this does not reach for want of memory. It takes no memory.
     pub fn last_writer(&self, place: Place) -> Option<u64>
         ensures { result ≡ last_position (writes_to place) (journal self.now).live }

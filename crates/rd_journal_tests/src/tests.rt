@@ -13,7 +13,7 @@ mod walks;
 mod whole_runs;
 
 use rd_actor::{Act, Actor, OpReply, Pc};
-use rd_cell::{Answer, Content, Place, Refusal};
+use rd_cell::{Answer, Content, Place, Refusal, Wrote};
 use rd_journal::sessions::Session;
 use rd_step::Event;
 use std::process::Abort;
@@ -42,8 +42,8 @@ enum Line {
     Actor(u8, Actor),
     /// This actor stands at this control point.
     Stands(u8, Pc),
-    /// The live step of this number was made by this actor at this place; it wrote or not, and was answered this.
-    Step(u64, u8, Place, bool, Answer),
+    /// The live step of this number was made by this actor at this place; it wrote this of it, and was answered this.
+    Step(u64, u8, Place, Wrote, Answer),
     /// There is no live step of this number, and the refusal says so.
     NoStep(u64, Refusal),
 }
@@ -186,11 +186,11 @@ fn stands<const R: usize>(session: &Session<R>, actor: u8) -> Option<Pc> {
     Some(session.world().actor(actor)?.pc)
 }
 
-/// Whose step this was, at which place, whether it wrote, and what it was answered.
+/// Whose step this was, at which place, what it wrote of it, and what it was answered.
 fn step_of<const R: usize>(
     session: &Session<R>,
     k: u64,
-) -> Option<(u8, Option<Place>, bool, Answer)> {
+) -> Option<(u8, Option<Place>, Wrote, Answer)> {
     let entry = session.entry(k).ok()?;
     Some((entry.event.actor, entry.place, entry.wrote, entry.answer))
 }

@@ -49,7 +49,7 @@ pub enum Command {
     Same(MarkName, MarkName),
     /// `origin K`: where the value came from that the live step of this number took.
     Origin(u64),
-    /// `writer PLACE`: the live step that last wrote the place, or one that overlaps it.
+    /// `writer PLACE`: the live step that last wrote the place, or one of the places that it names.
     Writer(Place),
     /// `show PLACE`: what is at the place.
     Show(Place),

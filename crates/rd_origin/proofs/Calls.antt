@@ -63,10 +63,10 @@ call_stays_along R n o w v (x ∷ xs) h none was =
     (call_stays R w x.event (record { world = first.after; entry = x }) n o first.goes none.0 was)
 
 pub value_stays_along : (R : ℕ) (q : Place) (u : ℕ) (w v : World) (xs : List Entry) → run R w (events xs) ≡ Ok (record { world = v; entries = xs })
-    → NonePasses (puts_into q) xs → HoldsOnly u (w.at q) → HoldsOnly u (v.at q)
+    → NonePasses (puts_into q) xs → HoldsOnly u w.at q → HoldsOnly u v.at q
 value_stays_along R q u w v [] h none was =
     let last : as_ok (record { world = w; entries = [] }) ≡ Ok (record { world = v; entries = [] }) = h in
-    subst (λ (z : World). HoldsOnly u (z.at q)) (ap (λ (y : Ran). y.world) (as_ok-same (record { world = w; entries = [] }) (record { world = v; entries = [] }) last)) was
+    subst (λ (z : World). HoldsOnly u z.at q) (ap (λ (y : Ran). y.world) (as_ok-same (record { world = w; entries = [] }) (record { world = v; entries = [] }) last)) was
 value_stays_along R q u w v (x ∷ xs) h none was =
     let first = beginning R w x xs v h in
     value_stays_along R q u first.after v xs first.rest none.1

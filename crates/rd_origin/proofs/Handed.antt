@@ -1,6 +1,6 @@
 -- What is taken is the argument of the call whose put it was.
 use Rattle.std.proofs.Common.{◌≡◌, ℕ, suc, ◌-◌, Bool, true, false, if◌then◌else◌, inl, inr, refl, sym, ◌∙◌, ap, subst, append_assoc, List, ◌∷◌, ◌++◌, length, take, ok_or, Option, Some, None, Ok, Err}
-use Rattle.rd_step.specs.Prelude.{Place, Content, NoSuchStep, NotATake, OpReply, World, Stepped, Ran, run, IsWellFormed}
+use Rattle.rd_step.specs.Prelude.{Place, Contents, NoSuchStep, NotATake, OpReply, World, Stepped, Ran, run, IsWellFormed}
 use Rattle.rd_step.specs.Dependence.{numbered}
 use Rattle.rd_actor.specs.declared.actors.OpReply.TheVariants.{Value as Dequeued}
 use Rattle.rd_actor.specs.Table.{value_of}
@@ -19,7 +19,7 @@ use Rattle.rd_origin.specs.Laws.{IsHandedOver}
 use Rattle.rd_origin.proofs.Split.{at_seam, before_seam, apart, NonePasses, apart_at_last}
 use Rattle.rd_origin.proofs.Rows.{IsStill}
 use Rattle.rd_origin.proofs.Ops.{called, argued}
-use Rattle.rd_origin.proofs.Values.{held, HoldsOnly}
+use Rattle.rd_origin.proofs.Values.{held_at, HoldsOnly}
 use Rattle.rd_origin.proofs.Puts.{put}
 use Rattle.rd_origin.proofs.Takes.{taken_held}
 use Rattle.rd_origin.proofs.Calls.{IsIn, begun, call_stays_along, value_stays_along}
@@ -140,9 +140,9 @@ taken_apart xs c p k n =
 
 -- The value
 
-same_value : (v u : ℕ) (o : Option Content) → HoldsOnly v o → held o ≡ Some u → Some v ≡ Some u
-same_value v u o (inl is) h = sym is ∙ h
-same_value v u o (inr none) h = let wrong : None ≡ Some u = sym none ∙ h in cc
+same_value : (v u : ℕ) (at : Contents) (q : Place) → HoldsOnly v at q → held_at at q ≡ Some u → Some v ≡ Some u
+same_value v u at q (inl is) h = sym is ∙ h
+same_value v u at q (inr none) h = let wrong : None ≡ Some u = sym none ∙ h in cc
 
 argument_taken : (R : ℕ) (w v : World) (xs : List Entry) (c p k : ℕ) (a : Apart xs c p k) → IsWellFormed R w
     → run R w (events xs) ≡ Ok (record { world = v; entries = xs }) → argument a.call.event.act ≡ Some a.value
@@ -162,11 +162,11 @@ argument_taken R w v xs c p k a formed ran =
     (begun R one.before a.call.event called_step a.put.event.actor one.goes a.calls) in
     let p = put R two.before a.put.event put_step a.cell formed_two two.goes a.puts in
     let still : IsStill (called a.call.event.act) p.a.op = subst (IsIn (called a.call.event.act)) p.has in_call in
-    let holds : HoldsOnly (value_of p.a.op) (three.before.at a.cell) =
+    let holds : HoldsOnly (value_of p.a.op) three.before.at a.cell =
     value_stays_along R a.cell (value_of p.a.op) two.after three.before a.behind three.ran a.no_put p.holds in
-    let found : held (three.before.at a.cell) ≡ Some a.value =
+    let found : held_at three.before.at a.cell ≡ Some a.value =
     taken_held R three.before a.taken.event taken_step a.cell a.value three.goes a.replies a.place in
-    argued a.call.event.act p.a.op p.puts still ∙ same_value (value_of p.a.op) a.value (three.before.at a.cell) holds found
+    argued a.call.event.act p.a.op p.puts still ∙ same_value (value_of p.a.op) a.value three.before.at a.cell holds found
 
 pub handed_over : (R : ℕ) (w : World) (es : List Event) (ran : Ran) (c p k : ℕ) → IsWellFormed R w → run R w es ≡ Ok ran
     → origin ran.entries k ≡ Ok (record { call = Some c; put = Some p; take = k }) → IsHandedOver ran.entries c k

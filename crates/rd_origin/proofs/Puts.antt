@@ -1,17 +1,17 @@
 -- A put leaves the value of the enqueue that its actor is in, or none.
-use Rattle.std.proofs.Common.{◌≡◌, ℕ, ◌%◌, Bool, true, false, ◌==◌, ◌&&◌, nat_lt, nat_le, inl, inr, refl, sym, ◌∙◌, ap, subst, Option, Some, None, is_none, Result, Ok, IfOk}
+use Rattle.std.proofs.Common.{◌≡◌, ℕ, ◌%◌, Bool, true, false, not, ◌==◌, ◌&&◌, nat_lt, nat_le, inl, inr, refl, sym, ◌∙◌, ap, subst, Option, Some, None, is_none, Result, Ok, IfOk}
 use Rattle.std.proofs.lemmas.Bool.{cond_both, and_parts, cond-true}
 use Rattle.std.proofs.lemmas.Result.{IfOk-at_ok}
-use Rattle.rd_step.specs.Prelude.{SLOTS, MOST_SEGMENTS, Cell, SegName, Place, CellAt, WholeOf, ArrCell, Held, Content, CellIs, Slot, Access, Refusal, Contents, is_name, is_of, is_place, is_there, Performed, perform, Actor, Act, need, after, World, Stepped, step, IsWellFormed}
+use Rattle.rd_step.specs.Prelude.{SLOTS, MOST_SEGMENTS, Cell, SegName, Place, CellAt, ValAt, IdxAt, WholeOf, ArrCell, Held, Wrote, WrotePlace, WroteIndex, is_nothing, written, operand, Content, CellIs, ValIs, Slot, Access, Refusal, Contents, is_name, is_of, is_place, is_there, Performed, perform, Actor, Act, need, after, World, Stepped, step, IsWellFormed}
 use Rattle.rd_cell.specs.declared.operations.Operation.TheVariants.{Cas2, Swap}
-use Rattle.rd_cell.specs.Cells.{is_cell, new_cell, value_in_cell}
-use Rattle.rd_cell.specs.Contents.{holding}
-use Rattle.rd_cell.specs.Operations.{swaps}
+use Rattle.rd_cell.specs.Cells.{is_value, is_cell, value_in_cell}
+use Rattle.rd_cell.specs.Contents.{share, after_write, after_write_at, holding}
+use Rattle.rd_cell.specs.Operations.{swaps, wrote_cell}
 use Rattle.rd_cell.specs.Access.{no_access, perform_effect, operate, make, number_made}
 use Rattle.rd_actor.specs.declared.actors.Act.TheVariants.{Enq, Deq, AEnq, ADeq, Go, Starve}
 use Rattle.rd_actor.specs.declared.actors.Pc.{Pc}
 use Rattle.rd_actor.specs.declared.actors.Pc.TheVariants.{E8, E12, A2}
-use Rattle.rd_actor.specs.Table.{need_at, value_of, cell_of, tail_cell}
+use Rattle.rd_actor.specs.Table.{need_at, value_of, cell_of, at_tail}
 use Rattle.rd_actor.specs.Words.{words_fit_at, enqueue_fits, enqueues, array_enqueues}
 use Rattle.rd_step.specs.declared.entries.Event.{Event}
 use Rattle.rd_step.specs.WellFormed.{record_fits, actor_fits}
@@ -19,7 +19,10 @@ use Rattle.rd_step.proofs.Fits.{words_of}
 use Rattle.rd_step.proofs.Steps.{took}
 use Rattle.rd_origin.specs.Origins.{is_first_cell, puts_into}
 use Rattle.rd_origin.proofs.Ops.{puts_values, enqueue_puts, array_enqueue_puts}
-use Rattle.rd_origin.proofs.Values.{HoldsOnly, LeavesOnly}
+use Rattle.rd_origin.proofs.Values.{held, HasOnly, HoldsOnly, LeavesOnly}
+use Rattle.rd_cell.proofs.PlaceLemmas.{is_place-true, is_place-refl}
+use Rattle.rd_cell.proofs.CellLemmas.{is_value-true}
+use Rattle.rd_cell.proofs.AccessLemmas.{halves_there}
 use Rattle.rd_origin.proofs.Steps.{IsPutter, puts_by, same_puts, none_puts, AtNone, call_at_none, choice_at_none}
 
 abbrev PutsOnly : ℕ → Contents → Pc → Place → Performed → Type 0
@@ -31,38 +34,64 @@ putter A2 q did h = inr (inl refl)
 putter E12 q did h = inr (inr refl)
 putter _ q did h = cc
 
-cas_puts : (v : ℕ) (s : SegName) (i : ℕ) (old new : Cell) (o : Option Content) (at : Contents) (q : Place) → new.val ≡ Some v
+-- a cell that was won for an enqueue has its value: it is written where the values differ, and else was there
+cell_filled : (v : ℕ) (s : SegName) (i : ℕ) (c new : Cell) (at : Contents) → operand at (CellAt s i) ≡ Some (CellIs c) → new.val ≡ Some v
+    → HasOnly v (after_write_at (written (Some (CellAt s i)) (wrote_cell c new)) (share (CellAt s i) (Some (CellIs new))) at (ValAt s i))
+cell_filled v s i c new at found h =
+    cond_both (is_value c.val new.val) WroteIndex WrotePlace
+    (λ (w : Wrote). HasOnly v (after_write_at (written (Some (CellAt s i)) w) (share (CellAt s i) (Some (CellIs new))) at (ValAt s i)))
+    (λ e.
+    let parts = halves_there (at (ValAt s i)) (at (IdxAt s i)) (CellIs c) found in
+    let cell : c ≡ parts.0 = let k : CellIs c ≡ CellIs parts.0 = parts.1 in cc in
+    inl (ap held parts.2 ∙ ap (λ (x : Cell). x.val) (sym cell) ∙ is_value-true c.val new.val e ∙ h))
+    (λ e. inl (ap held (cond-true (is_name s s && (i == i)) (Some (ValIs new.val)) (at (ValAt s i)) (is_place-refl (CellAt s i))) ∙ h))
+
+cas_puts : (v : ℕ) (s : SegName) (i : ℕ) (old new : Cell) (o : Option Content) (at : Contents) (q : Place) → operand at (CellAt s i) ≡ o → new.val ≡ Some v
     → IfOk (operate (CellAt s i) (Cas2 old new) o) (PutsOnly v at E8 q)
-cas_puts v s i old new None at q h = tt
-cas_puts v s i old new (Some (CellIs c)) at q h = by (is_cell c old)
+cas_puts v s i old new None at q found h = tt
+cas_puts v s i old new (Some (CellIs c)) at q found h = by (is_cell c old)
   where
+    own : (w : Wrote) → (not (is_nothing w) && is_place (CellAt s i) q) ≡ true → CellAt s i ≡ q
+    own w e = is_place-true (CellAt s i) q (and_parts (not (is_nothing w)) (is_place (CellAt s i) q) e).1
+
     by : (b : Bool) → IfOk (perform_effect (CellAt s i) (CellIs c) (swaps b (CellIs new))) (PutsOnly v at E8 q)
     by false = λ e. cc
-    by true = λ e. subst (HoldsOnly v) (sym (cond-true (is_place (CellAt s i) q) (Some (CellIs new)) (at q) e)) (inl h)
-cas_puts v s i old new (Some _) at q h = tt
+    by true = λ e.
+        subst (λ (r : Place). HoldsOnly v (after_write_at (written (Some (CellAt s i)) (wrote_cell c new)) (share (CellAt s i) (Some (CellIs new))) at) r)
+        (own (wrote_cell c new) e) (cell_filled v s i c new at found h)
+cas_puts v s i old new (Some _) at q found h = tt
 
 swap_puts : (v i : ℕ) (o : Option Content) (at : Contents) (q : Place) → IfOk (operate (ArrCell i) (Swap (Held v)) o) (PutsOnly v at A2 q)
 swap_puts v i None at q = tt
-swap_puts v i (Some (Slot old)) at q =
-    λ e. subst (HoldsOnly v) (sym (cond-true (is_place (ArrCell i) q) (Some (Slot (Held v))) (at q) e)) (inl refl)
+swap_puts v i (Some (Slot old)) at q = λ e. by q e
+  where
+    by : (r : Place) → is_place (ArrCell i) r ≡ true → HoldsOnly v (after_write (ArrCell i) (share (ArrCell i) (Some (Slot (Held v)))) at) r
+    by (ArrCell j) e = inl (ap held (cond-true (i == j) (Some (Slot (Held v))) (at (ArrCell j)) e))
+    by _ e = cc
 swap_puts v i (Some _) at q = tt
 
 -- a new segment has its value in its cell 0
-first_holds : (R x : ℕ) (s : SegName) (q : Place) → is_first_cell (Some (WholeOf s)) q ≡ true → (is_of s q ≡ true) × HoldsOnly x (holding R x q)
+first_holds : (R x : ℕ) (s : SegName) (q : Place) → is_first_cell (Some (WholeOf s)) q ≡ true → (is_of s q ≡ true) × HoldsOnly x (holding R x) q
 first_holds R x s (CellAt t i) e =
     let parts = and_parts (is_name s t) (i == 0) e in (
       parts.0,
-      cond_both (nat_lt i R) (Some (CellIs (new_cell i (value_in_cell x i)))) None (HoldsOnly x)
+      cond_both (nat_lt i R) (Some (ValIs (value_in_cell x i))) None (HasOnly x)
           (λ l. inl (cond-true (i == 0) (Some x) None parts.1)) (λ l. inr refl),
     )
 first_holds R x s _ e = cc
+
+made_there : (R x : ℕ) (s : SegName) (at : Contents) (q : Place) → is_of s q ≡ true → HoldsOnly x (holding R x) q
+    → HoldsOnly x (after_write (WholeOf s) (holding R x) at) q
+made_there R x s at (CellAt t i) e h = subst (HasOnly x) (sym (cond-true (is_name s t) (holding R x (ValAt t i)) (at (ValAt t i)) e)) h
+made_there R x s at (ArrCell i) e h = cc
+made_there R x s at _ e h = inr refl
 
 make_puts : (R x : ℕ) (s : SegName) (at : Contents) (q : Place) → IfOk (make R s x) (PutsOnly x at E12 q)
 make_puts R x s at q =
     cond_both (nat_lt s.n MOST_SEGMENTS) _ _ (λ (r : Result Performed Refusal). IfOk r (PutsOnly x at E12 q))
     (λ below e.
     let first = first_holds R x s q e in
-    subst (HoldsOnly x) (sym (cond-true (is_of s q) (holding R x q) (at q) first.0)) first.1) (λ e. tt)
+    made_there R x s at q first.0 first.1) (λ e. tt)
 
 abbrev RowPuts : ℕ → ℕ → Contents → Place → Actor → Pc → Type 0
 RowPuts R n at q a pc = AtNone R n at (PutsOnly (value_of a.op) at pc q) (need_at R pc a)
@@ -70,7 +99,7 @@ RowPuts R n at q a pc = AtNone R n at (PutsOnly (value_of a.op) at pc q) (need_a
 row_puts : (R n : ℕ) (at : Contents) (q : Place) (a : Actor) (pc : Pc) → IsPutter pc → RowPuts R n at q a pc
 row_puts R n at q a pc (inl e) =
     subst (RowPuts R n at q a) (sym e)
-    (cas_puts (value_of a.op) a.crq (a.t % R) (cell_of a.safe a.idx None) (cell_of true a.t (Some (value_of a.op))) (at (tail_cell R a)) at q refl)
+    (cas_puts (value_of a.op) a.crq (a.t % R) (cell_of a.safe a.idx None) (cell_of true a.t (Some (value_of a.op))) (operand at (at_tail R CellAt a)) at q refl refl)
 row_puts R n at q a pc (inr (inl e)) = subst (RowPuts R n at q a) (sym e) (swap_puts (value_of a.op) a.t (at (ArrCell a.t)) at q)
 row_puts R n at q a pc (inr (inr e)) =
     subst (RowPuts R n at q a) (sym e) (make_puts R (value_of a.op) (record { maker = n; n = number_made at n }) at q)
@@ -104,7 +133,7 @@ pub record Put (w : World) (e : Event) (s : Stepped) (q : Place) : Type 0 where
   pub a : Actor
   pub has : w.actor e.actor ≡ Some a
   pub puts : puts_values a.op ≡ true
-  pub holds : HoldsOnly (value_of a.op) (s.world.at q)
+  pub holds : HoldsOnly (value_of a.op) s.world.at q
 
 pub put : (R : ℕ) (w : World) (e : Event) (s : Stepped) (q : Place) → IsWellFormed R w → step R w e ≡ Ok s → puts_into q s.entry ≡ true → Put w e s q
 put R w e s q formed goes h =
@@ -120,5 +149,5 @@ put R w e s q formed goes h =
       a = t.a;
       has = t.has;
       puts = putter_op t.a.pc t.a stands (words_of R (is_there w.at) t.a fits);
-      holds = subst (λ (x : Stepped). HoldsOnly (value_of t.a.op) (x.world.at q)) t.ends (holds puts);
+      holds = subst (λ (x : Stepped). HoldsOnly (value_of t.a.op) x.world.at q) t.ends (holds puts);
     }

@@ -4,7 +4,7 @@ use Rattle.rd_step.specs.Prelude.{Place, Content, content_at, Refusal, NoSuchPla
 use Rattle.rd_step.specs.declared.entries.Entry.{Entry}
 use Rattle.rd_depend.specs.Writers.{last_position, writes_to}
 
--- the greatest position that wrote an overlapping place, if this place is there
+-- the greatest position that wrote this place or one that it names, if this place is there
 abbrev pub writer_at : List Entry → Place → Option Content → Result (Option ℕ) Refusal
 writer_at entries place None = Err NoSuchPlace
 writer_at entries place (Some content) = Ok (last_position (writes_to place) entries)

@@ -61,7 +61,7 @@ fn last_call(steps: &LiveRecords, number: Option<u64>) -> Option<u64>
     last_below(steps, number, StepKind::CallBy(step.event.actor))
 }
 
-/// The last live step that wrote this place, or one that overlaps it; none if no live step did. It takes no memory. The session
+/// The last live step that wrote this place, or one of the places that it names; none if no live step did. It takes no memory. The session
 /// finds it in its index, and scans from the back those live steps alone that the index does not reach for want of memory.
 ///
 /// # Errors

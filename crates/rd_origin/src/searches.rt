@@ -69,7 +69,7 @@ fn puts_into(cell: Place, step: &Entry) -> bool
     ensures { result ≡ puts_into cell step.now }
 {
     match step.old_actor.pc {
-        Pc::E8 => step.wrote && is_at(step.place, cell),
+        Pc::E8 => !step.wrote.is_nothing() && is_at(step.place, cell),
         Pc::A2 => is_at(step.place, cell),
         Pc::E12 => is_first_cell(step.place, cell),
         _ => false,

@@ -4,11 +4,13 @@ pub use Rattle.rd_cell.specs.declared.limits.TheConstants.{COUNTER_END, MOST_SEG
 pub use Rattle.rd_cell.specs.declared.cells.Cell.{Cell}
 pub use Rattle.rd_cell.specs.declared.places.SegName.{SegName}
 pub use Rattle.rd_cell.specs.declared.places.Place.{Place}
-pub use Rattle.rd_cell.specs.declared.places.Place.TheVariants.{QHead, QTail, Head, Tail, Next, Cell as CellAt, Whole as WholeOf, ArrHead, ArrTail, ArrCell}
+pub use Rattle.rd_cell.specs.declared.places.Place.TheVariants.{QHead, QTail, Head, Tail, Next, Cell as CellAt, Val as ValAt, Idx as IdxAt, Whole as WholeOf, ArrHead, ArrTail, ArrCell}
+pub use Rattle.rd_cell.specs.declared.places.Wrote.{Wrote}
+pub use Rattle.rd_cell.specs.declared.places.Wrote.TheVariants.{Nothing as WroteNothing, Place as WrotePlace, Index as WroteIndex}
 pub use Rattle.rd_cell.specs.declared.contents.ArrSlot.{ArrSlot}
 pub use Rattle.rd_cell.specs.declared.contents.ArrSlot.TheVariants.{Empty, Top, Value as Held}
 pub use Rattle.rd_cell.specs.declared.contents.Content.{Content}
-pub use Rattle.rd_cell.specs.declared.contents.Content.TheVariants.{Name, Number, Tail as TailIs, Next as NextIs, Cell as CellIs, Whole, Slot}
+pub use Rattle.rd_cell.specs.declared.contents.Content.TheVariants.{Name, Number, Tail as TailIs, Next as NextIs, Cell as CellIs, Val as ValIs, Idx as IdxIs, Whole, Slot}
 pub use Rattle.rd_cell.specs.declared.operations.Operation.{Operation}
 pub use Rattle.rd_cell.specs.declared.operations.Operation.TheVariants.{Read, ReadValue, ReadSafeAndIndex, Add, AddArray, Close, CasName, CasNext, CasTail, Cas2, Swap}
 pub use Rattle.rd_cell.specs.declared.operations.Answer.{Answer}
@@ -18,8 +20,8 @@ pub use Rattle.rd_cell.specs.declared.access.Access.TheVariants.{NoPlace, At, Ma
 pub use Rattle.rd_cell.specs.declared.access.Done.{Done}
 pub use Rattle.rd_cell.specs.declared.refusal.Refusal.{Refusal}
 pub use Rattle.rd_cell.specs.declared.refusal.Refusal.TheVariants.{NoActor, NotIdle, Idle as ActorIdle, NeedsChoice, NoChoice, CounterEnd, SegmentsEnd, ArrayEnd, TooLong, NothingToUndo, NothingToRedo, NoSuchStep, Depended, NoMark, MarkTaken, TooManyMarks, BadName, NotATake, NoSuchPlace, NoMemory}
-pub use Rattle.rd_cell.specs.Places.{root, is_name, is_of, is_beside, segment_of, is_array, is_place, covers, overlaps, some_covers, some_overlap}
+pub use Rattle.rd_cell.specs.Places.{root, is_name, is_of, is_beside, segment_of, is_array, is_of_cell, is_place, covers, overlaps, some_covers, some_overlap, is_nothing, index_half, written, interfere}
 pub use Rattle.rd_cell.specs.Cells.{is_cell, new_cell}
-pub use Rattle.rd_cell.specs.Contents.{Contents, after_write, share, restore, operand, may_have, is_there, content_at, fresh, holding}
-pub use Rattle.rd_cell.specs.Operations.{Effect, effect}
+pub use Rattle.rd_cell.specs.Contents.{Contents, after_write, half, cell_of_halves, share, restore, operand, may_have, is_there, content_at, fresh, holding}
+pub use Rattle.rd_cell.specs.Operations.{Effect, effect, wrote_cell, wrote_content, wrote_by}
 pub use Rattle.rd_cell.specs.Access.{Performed, contents_after, done_of, number_made, operate, make, perform, HasEffect, Operates, OperatesOn, Makes, Restores, RefusesMaking, everywhere}

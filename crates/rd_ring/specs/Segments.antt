@@ -1,6 +1,6 @@
 -- What a segment has at each of its places, and what its operations do.
 use Rattle.std.specs.Prelude.{◌≡◌, ℕ, Bool, ◌&&◌, nat_le, if◌then◌else◌, List, Option, Some, None, option_map, slice_get, Err}
-use Rattle.rd_ring.specs.Prelude.{COUNTER_END, Cell, SegName, Place, Head, Tail, Next, CellAt, Content, Number, TailIs, NextIs, CellIs, Operation, Answer, Won, Lost, Refusal, is_of, Contents, operand, operate, Operates, Restores}
+use Rattle.rd_ring.specs.Prelude.{COUNTER_END, Cell, SegName, Place, Head, Tail, Next, ValAt, IdxAt, Wrote, WroteNothing, Content, Number, TailIs, NextIs, ValIs, IdxIs, Operation, Answer, Won, Lost, Refusal, is_of, Contents, operand, operate, Operates, Restores}
 use Rattle.rd_ring.specs.declared.segments.Segment.{Segment}
 use Rattle.rd_ring.specs.declared.parts.SegmentParts.{SegmentParts}
 
@@ -9,7 +9,8 @@ abbrev pub part_with : ℕ → ℕ → Bool → Option SegName → List Cell →
 part_with head tail closed next cells (Head name) = Some (Number head)
 part_with head tail closed next cells (Tail name) = Some (TailIs closed tail)
 part_with head tail closed next cells (Next name) = Some (NextIs next)
-part_with head tail closed next cells (CellAt name i) = option_map CellIs (slice_get cells i)
+part_with head tail closed next cells (ValAt name i) = option_map (λ c. ValIs c.val) (slice_get cells i)
+part_with head tail closed next cells (IdxAt name i) = option_map (λ c. IdxIs c.safe c.idx) (slice_get cells i)
 part_with head tail closed next cells _ = None
 
 -- the content of a segment's place
@@ -32,9 +33,9 @@ head_count s = s.head
 abbrev pub tail_count : {R : ℕ} → Segment R → ℕ
 tail_count s = s.tail
 
--- whatever the segment is named, an operation at this place of it found this content, answered this, wrote or not, and
--- left every other place of it as it was
-pub record OperatesAt {R : ℕ} (place : SegName → Place) (op : Operation) (found : Content) (answer : Answer) (wrote : Bool) (old new : Segment R) : Type 0 where
+-- whatever the segment is named, an operation at this place of it found this content, answered this, wrote this of it, and
+-- left every other place as it was
+pub record OperatesAt {R : ℕ} (place : SegName → Place) (op : Operation) (found : Content) (answer : Answer) (wrote : Wrote) (old new : Segment R) : Type 0 where
   pub named : (s : SegName)
       → Operates (is_of s) (place s) op (record { place = Some (place s); old = Some found; answer = answer; wrote = wrote }) (part old) (part new)
 
@@ -49,3 +50,7 @@ pub record RestoresAt {R : ℕ} (place : SegName → Place) (content : Content) 
 -- the answer of a compare-and-swap
 abbrev pub swap_answer : Bool → Answer
 swap_answer won = if won then Won else Lost
+
+-- what a compare-and-swap wrote that writes this if it wins
+abbrev pub swap_wrote : Bool → Wrote → Wrote
+swap_wrote won wrote = if won then wrote else WroteNothing

@@ -5,7 +5,7 @@ ghost use Rattle.rd_ring.specs.Prelude.{is_beside, may_have, operand, operate, O
 ghost use Rattle.rd_cell.specs.Operations.{suits_segments};
 
 use super::segments::Segment;
-use rd_cell::{Answer, Content, Done, Operation, Place, Refusal};
+use rd_cell::{Answer, Content, Done, Operation, Place, Refusal, Wrote};
 
 impl<const R: usize> Segment<R> {
     ghost use Rattle.rd_ring.specs.Segments.{part};
@@ -27,32 +27,32 @@ impl<const R: usize> Segment<R> {
             Some(found) => found,
         };
         if let Some(answer) = operation.read(found) {
-            return Ok(Done::at(place, found, answer, false));
+            return Ok(Done::at(place, found, answer, Wrote::Nothing));
         }
         match (place, operation) {
             (Place::Head(_), Operation::Add) => match self.add_head() {
                 Err(refusal) => Err(refusal),
-                Ok(_) => Ok(Done::at(place, found, Answer::Found(found), true)),
+                Ok(_) => Ok(Done::at(place, found, Answer::Found(found), Wrote::Place)),
             },
             (Place::Tail(_), Operation::Add) => match self.add_tail() {
                 Err(refusal) => Err(refusal),
-                Ok(_) => Ok(Done::at(place, found, Answer::Found(found), true)),
+                Ok(_) => Ok(Done::at(place, found, Answer::Found(found), Wrote::Place)),
             },
             (Place::Tail(_), Operation::Close) => {
                 let closed = self.close();
-                Ok(Done::at(place, found, Answer::WasClosed(closed), true))
+                Ok(Done::at(place, found, Answer::WasClosed(closed), Wrote::Place))
             }
             (Place::Tail(_), Operation::CasTail { old, new }) => {
                 let won = self.cas_tail(old, new);
-                Ok(Done::swapped(place, found, won))
+                Ok(Done::swapped(place, found, won, Wrote::Place))
             }
             (Place::Next(_), Operation::CasNext(new)) => {
                 let won = self.cas_next(new);
-                Ok(Done::swapped(place, found, won))
+                Ok(Done::swapped(place, found, won, Wrote::Place))
             }
             (Place::Cell(_, i), Operation::Cas2 { old, new }) => {
                 let won = self.cas2_cell(i, old, new);
-                Ok(Done::swapped(place, found, won))
+                Ok(Done::swapped(place, found, won, old.wrote(new)))
             }
             _ => Err(Refusal::NoSuchPlace),
         }
@@ -60,7 +60,7 @@ impl<const R: usize> Segment<R> {
 
     /// Puts the content from before back at one of the segment's places: the inverse of each operation that writes.
     pub fn restore(&mut self, place: Place, content: Content)
-        requires there { IsTrue (is_some (part self.old place)) }
+        requires there { IsTrue (is_some (operand (part self.old) place)) }
         requires kind { IsTrue (may_have place content) }
         ensures { Restores (is_beside place) place (Some content) (part self.old) (part self.new) }
     {
@@ -69,6 +69,8 @@ impl<const R: usize> Segment<R> {
             (Place::Tail(_), Content::Tail { closed, count }) => self.restore_tail(closed, count),
             (Place::Next(_), Content::Next(next)) => self.restore_next(next),
             (Place::Cell(_, i), Content::Cell(cell)) => self.restore_cell(i, cell),
+            (Place::Val(_, i), Content::Val(val)) => self.restore_value(i, val),
+            (Place::Idx(_, i), Content::Idx { safe, idx }) => self.restore_index(i, safe, idx),
             _ => unreachable!(),
         }
     }

@@ -1,7 +1,7 @@
 //! The segment and its operations.
 
 ghost use Rattle.std.specs.Prelude.{◌≡◌, ℕ, ◌<◌, ◌≤◌, ◌↔◌, true, false, Some, None, Err, IsSome, IsTrue, IfOk, IfErr, OnErr, option_map, slice_get, length};
-ghost use Rattle.rd_ring.specs.Prelude.{COUNTER_END, MOST_CELLS, SegName, Head, Tail, Next, CellAt, Content, Number, TailIs, NextIs, CellIs, Add, Close, CasTail, CasNext, Cas2, Found, WasClosed, root, fresh, holding, new_cell};
+ghost use Rattle.rd_ring.specs.Prelude.{COUNTER_END, MOST_CELLS, SegName, Head, Tail, Next, CellAt, ValAt, IdxAt, WrotePlace, Content, Number, TailIs, NextIs, CellIs, ValIs, IdxIs, Add, Close, CasTail, CasNext, Cas2, Found, WasClosed, root, fresh, holding, new_cell, operand, wrote_cell};
 
 use super::parts::SegmentParts;
 use rd_cell::limits::COUNTER_END;
@@ -22,7 +22,7 @@ pub struct Segment<const R: usize> {
 }
 
 impl<const R: usize> Segment<R> {
-    ghost use Rattle.rd_ring.specs.Segments.{part, part_from, counters_fit, head_count, tail_count, swap_answer, OperatesAt, RefusesAt, RestoresAt};
+    ghost use Rattle.rd_ring.specs.Segments.{part, part_from, counters_fit, head_count, tail_count, swap_answer, swap_wrote, OperatesAt, RefusesAt, RestoresAt};
 
     /// A fresh segment: both counters are 0, it is open, no segment follows, and cell u is safe at index u and empty.
     pub fn fresh() -> Self
@@ -83,9 +83,10 @@ impl<const R: usize> Segment<R> {
         }
     }
 
-    /// What is at a place of the segment, whatever the segment is named there; none if it has no such place.
+    /// What is at a place of the segment, whatever the segment is named there, and of a cell what its halves have together; none
+    /// if the segment has no such place.
     pub fn content(&self, place: Place) -> Option<Content>
-        ensures { result ≡ part self.now place }
+        ensures { result ≡ operand (part self.now) place }
     {
         match place {
             Place::Head(_) => Some(Content::Number(self.head)),
@@ -97,6 +98,17 @@ impl<const R: usize> Segment<R> {
             Place::Cell(_, i) => match self.cell(i) {
                 None => None,
                 Some(cell) => Some(Content::Cell(cell)),
+            },
+            Place::Val(_, i) => match self.cell(i) {
+                None => None,
+                Some(cell) => Some(Content::Val(cell.val)),
+            },
+            Place::Idx(_, i) => match self.cell(i) {
+                None => None,
+                Some(cell) => Some(Content::Idx {
+                    safe: cell.safe,
+                    idx: cell.idx,
+                }),
             },
             _ => None,
         }
@@ -127,7 +139,9 @@ impl<const R: usize> Segment<R> {
 
     /// The cell of this index, or none from `R` on.
     pub fn cell(&self, i: u8) -> Option<Cell>
-        ensures value { (s : SegName) → part self.now (CellAt s i) ≡ option_map CellIs result }
+        ensures value { (s : SegName) → operand (part self.now) (CellAt s i) ≡ option_map CellIs result }
+        ensures value_half { (s : SegName) → part self.now (ValAt s i) ≡ option_map (λ c. ValIs c.val) result }
+        ensures index_half { (s : SegName) → part self.now (IdxAt s i) ≡ option_map (λ c. IdxIs c.safe c.idx) result }
         ensures there { IsSome result ↔ (i < R) }
     {
         self.cells.get(i as usize).copied()
@@ -139,7 +153,7 @@ impl<const R: usize> Segment<R> {
     ///
     /// `CounterEnd` exactly if the counter is 2^62; the segment is then as before.
     pub fn add_head(&mut self) -> Result<u64, Refusal>
-        ensures ok { IfOk result (λ n. OperatesAt Head Add (Number n) (Found (Number n)) true self.old self.new) }
+        ensures ok { IfOk result (λ n. OperatesAt Head Add (Number n) (Found (Number n)) WrotePlace self.old self.new) }
         ensures err { IfErr result (λ e. RefusesAt Head Add self.old e) }
         ensures end { (result ≡ Err Refusal.CounterEnd) ↔ (head_count self.old ≡ COUNTER_END) }
         ensures unchanged { OnErr result (self.new ≡ self.old) }
@@ -158,7 +172,7 @@ impl<const R: usize> Segment<R> {
     ///
     /// `CounterEnd` exactly if the counter is 2^62; the segment is then as before.
     pub fn add_tail(&mut self) -> Result<(bool, u64), Refusal>
-        ensures ok { IfOk result (λ old. OperatesAt Tail Add (TailIs old.0 old.1) (Found (TailIs old.0 old.1)) true self.old self.new) }
+        ensures ok { IfOk result (λ old. OperatesAt Tail Add (TailIs old.0 old.1) (Found (TailIs old.0 old.1)) WrotePlace self.old self.new) }
         ensures err { IfErr result (λ e. RefusesAt Tail Add self.old e) }
         ensures end { (result ≡ Err Refusal.CounterEnd) ↔ (tail_count self.old ≡ COUNTER_END) }
         ensures unchanged { OnErr result (self.new ≡ self.old) }
@@ -173,7 +187,7 @@ impl<const R: usize> Segment<R> {
 
     /// Test-and-set of the closed bit: answers the old bit.
     pub fn close(&mut self) -> bool
-        ensures { OperatesAt Tail Close (TailIs result (tail_count self.old)) (WasClosed result) true self.old self.new }
+        ensures { OperatesAt Tail Close (TailIs result (tail_count self.old)) (WasClosed result) WrotePlace self.old self.new }
     {
         let old = self.closed;
         self.closed = true;
@@ -184,7 +198,7 @@ impl<const R: usize> Segment<R> {
     pub fn cas_tail(&mut self, old: u64, new: u64) -> bool
         requires { new ≤ COUNTER_END }
         ensures { (c : Content) → part self.old (Tail root) ≡ Some c
-            → OperatesAt Tail (CasTail old new) c (swap_answer result) result self.old self.new }
+            → OperatesAt Tail (CasTail old new) c (swap_answer result) (swap_wrote result WrotePlace) self.old self.new }
     {
         let won = !self.closed && self.tail == old;
         if won {
@@ -196,7 +210,7 @@ impl<const R: usize> Segment<R> {
     /// Compare-and-swap of the next, from none: answers whether it won.
     pub fn cas_next(&mut self, new: SegName) -> bool
         ensures { (c : Content) → part self.old (Next root) ≡ Some c
-            → OperatesAt Next (CasNext new) c (swap_answer result) result self.old self.new }
+            → OperatesAt Next (CasNext new) c (swap_answer result) (swap_wrote result WrotePlace) self.old self.new }
     {
         let won = self.next.is_none();
         if won {
@@ -208,8 +222,8 @@ impl<const R: usize> Segment<R> {
     /// Compare-and-swap of a whole cell: answers whether it won.
     pub fn cas2_cell(&mut self, i: u8, old: Cell, new: Cell) -> bool
         requires { i < R }
-        ensures { (c : Content) → part self.old (CellAt root i) ≡ Some c
-            → OperatesAt (λ s. CellAt s i) (Cas2 old new) c (swap_answer result) result self.old self.new }
+        ensures { (c : Content) → operand (part self.old) (CellAt root i) ≡ Some c
+            → OperatesAt (λ s. CellAt s i) (Cas2 old new) c (swap_answer result) (swap_wrote result (wrote_cell old new)) self.old self.new }
     {
         let mut cell = self.cells[usize::from(i)];
         let won = cell.cas2(old, new);
@@ -247,6 +261,24 @@ impl<const R: usize> Segment<R> {
         ensures { RestoresAt (λ s. CellAt s i) (CellIs cell) self.old self.new }
     {
         self.cells[usize::from(i)] = cell;
+    }
+
+    /// The inverse of what writes a value half: the value becomes the one from before.
+    pub fn restore_value(&mut self, i: u8, val: Option<u64>)
+        requires { i < R }
+        ensures { RestoresAt (λ s. ValAt s i) (ValIs val) self.old self.new }
+    {
+        self.cells[usize::from(i)].val = val;
+    }
+
+    /// The inverse of what writes an index half: the safe bit and the index become those from before.
+    pub fn restore_index(&mut self, i: u8, safe: bool, idx: u64)
+        requires { i < R }
+        ensures { RestoresAt (λ s. IdxAt s i) (IdxIs safe idx) self.old self.new }
+    {
+        let cell = &mut self.cells[usize::from(i)];
+        cell.safe = safe;
+        cell.idx = idx;
     }
 }
 

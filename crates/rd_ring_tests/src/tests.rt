@@ -1,7 +1,7 @@
 //! The tests of one segment, with a ring of four cells.
 
 use rd_cell::limits::COUNTER_END;
-use rd_cell::{Answer, Cell, Content, Done, Operation, Place, Refusal, SegName};
+use rd_cell::{Answer, Cell, Content, Done, Operation, Place, Refusal, SegName, Wrote};
 use rd_ring::parts::SegmentParts;
 use rd_ring::segments::Segment;
 
@@ -24,6 +24,14 @@ fn a_fresh_segment_is_open_and_empty(rt: HostRuntime) {
         Some(Content::Cell(last))
     );
     assert_eq!(rt; segment.content(Place::Cell(at, 4)), None);
+    assert_eq!(rt;
+        segment.content(Place::Val(at, 3)),
+        Some(Content::Val(None))
+    );
+    assert_eq!(rt; segment.content(Place::Val(at, 4)), None);
+    let index = Content::Idx { safe: true, idx: 3 };
+    assert_eq!(rt; segment.content(Place::Idx(at, 3)), Some(index));
+    assert_eq!(rt; segment.content(Place::Idx(at, 4)), None);
     assert_eq!(rt; segment.content(Place::Whole(at)), None);
     assert_eq!(rt; segment.content(Place::QHead), None);
 }
@@ -130,7 +138,7 @@ fn an_operation_is_done_and_put_back_at_its_place(rt: HostRuntime) {
         place: Some(place),
         old: Some(found),
         answer: Answer::Found(found),
-        wrote: true,
+        wrote: Wrote::Place,
     };
     assert_eq!(rt; segment.operate(place, Operation::Add), Ok(done));
     assert_eq!(rt; segment.content(place), Some(Content::Number(1)));
@@ -140,6 +148,78 @@ fn an_operation_is_done_and_put_back_at_its_place(rt: HostRuntime) {
         segment.operate(Place::QHead, Operation::Read),
         Err(Refusal::NoSuchPlace)
     );
+}
+
+/// A cell that is swapped for another, whether that wins, and what it writes.
+const SWAPS: &[(Cell, Cell, bool, Wrote)] = &[
+    (MARKED, MARKED, true, Wrote::Index),
+    (
+        MARKED,
+        Cell {
+            safe: true,
+            ..MARKED
+        },
+        true,
+        Wrote::Index,
+    ),
+    (
+        MARKED,
+        Cell {
+            val: None,
+            ..MARKED
+        },
+        true,
+        Wrote::Place,
+    ),
+    (Cell { idx: 8, ..MARKED }, MARKED, false, Wrote::Nothing),
+];
+
+#[test]
+fn a_swap_of_a_cell_writes_the_halves_that_it_may_change(rt: HostRuntime) {
+    let place = Place::Cell(SegName::ROOT, 2);
+    for &(old, new, won, wrote) in SWAPS {
+        let mut segment = Segment::<4>::fresh();
+        segment.restore_cell(2, MARKED);
+        let done = Done {
+            place: Some(place),
+            old: Some(Content::Cell(MARKED)),
+            answer: if won { Answer::Won } else { Answer::Lost },
+            wrote,
+        };
+        assert_eq!(rt;
+            segment.operate(place, Operation::Cas2 { old, new }),
+            Ok(done)
+        );
+        assert_eq!(rt; segment.cell(2), Some(if won { new } else { MARKED }));
+    }
+}
+
+#[test]
+fn a_half_of_a_cell_is_read_and_put_back_alone(rt: HostRuntime) {
+    let mut segment = Segment::<4>::fresh();
+    let at = SegName::ROOT;
+    segment.restore(Place::Val(at, 1), Content::Val(Some(7)));
+    let index = Content::Idx {
+        safe: false,
+        idx: 9,
+    };
+    segment.restore(Place::Idx(at, 1), index);
+    assert_eq!(rt; segment.cell(1), Some(MARKED));
+    let value = segment.operate(Place::Val(at, 1), Operation::ReadValue);
+    assert_eq!(rt; value.map(|done| done.answer), Ok(Answer::Value(Some(7))));
+    let read = segment.operate(Place::Idx(at, 1), Operation::ReadSafeAndIndex);
+    let done = Done {
+        place: Some(Place::Idx(at, 1)),
+        old: Some(index),
+        answer: Answer::SafeAndIndex {
+            safe: false,
+            idx: 9,
+        },
+        wrote: Wrote::Nothing,
+    };
+    assert_eq!(rt; read, Ok(done));
+    let refused = segment.operate(Place::Val(at, 1), Operation::ReadSafeAndIndex);
+    assert_eq!(rt; refused, Err(Refusal::NoSuchPlace));
 }
 
 #[test]

@@ -4,7 +4,7 @@ use Rattle.std.specs.Cmp.Lexicographic.{pointwise}
 use Rattle.std.specs.Fmt.{decimal}
 use Rattle.std.specs.List.{slice_split}
 use Rattle.std.proofs.lemmas.Fmt.{decimal_injective}
-use Rattle.rd_step.specs.Prelude.{SegName, Place, QHead, QTail, Head, Tail, Next, CellAt, WholeOf, ArrHead, ArrTail, ArrCell}
+use Rattle.rd_step.specs.Prelude.{SegName, Place, QHead, QTail, Head, Tail, Next, CellAt, ValAt, IdxAt, WholeOf, ArrHead, ArrTail, ArrCell}
 use Rattle.rd_marks.specs.declared.names.MarkName.{MarkName}
 use Rattle.rd_marks.specs.declared.commands.Command.{Command}
 use Rattle.rd_marks.specs.declared.commands.Command.TheVariants.{Enq, Deq, ArrayEnq, ArrayDeq, Go, Starve, Undo, UndoAt, Roll, Back, Redo, Forward, Mark, DropMark, GotoMark, Marks, MarkAt, Same, Origin, Writer, Show, Actor, Step, Len}
@@ -15,7 +15,7 @@ use Rattle.rd_script.specs.Spelling.{IsInRange, IsPlaceInRange, IsSegmentInRange
 use Rattle.rd_script.specs.Texts.{yes_or_no}
 use Rattle.rd_script.specs.Words.{keyword_text, keyword_of, arguments_of, kind_text, kind_of, place_arguments}
 use Rattle.rd_script.specs.declared.reading.places.PlaceKind.{PlaceKind}
-use Rattle.rd_script.specs.declared.reading.places.PlaceKind.TheVariants.{QHead as QHeadWord, QTail as QTailWord, Head as HeadOf, Tail as TailOf, Next as NextOf, Cell as CellWord, Whole as WholeWord, ArrHead as ArrHeadWord, ArrTail as ArrTailWord, ArrCell as ArrCellWord}
+use Rattle.rd_script.specs.declared.reading.places.PlaceKind.TheVariants.{QHead as QHeadWord, QTail as QTailWord, Head as HeadOf, Tail as TailOf, Next as NextOf, Cell as CellWord, Value as ValueWord, Index as IndexWord, Whole as WholeWord, ArrHead as ArrHeadWord, ArrTail as ArrTailWord, ArrCell as ArrCellWord}
 use Rattle.rd_script.proofs.KeywordLemmas.{keywords, kinds}
 use Rattle.rd_script.proofs.NumeralLemmas.{name_parts}
 
@@ -150,6 +150,8 @@ kind_of_own_text HeadOf = refl
 kind_of_own_text TailOf = refl
 kind_of_own_text NextOf = refl
 kind_of_own_text CellWord = refl
+kind_of_own_text ValueWord = refl
+kind_of_own_text IndexWord = refl
 kind_of_own_text WholeWord = refl
 kind_of_own_text ArrHeadWord = refl
 kind_of_own_text ArrTailWord = refl
@@ -171,6 +173,8 @@ IsPlaceOf HeadOf p = (s : SegName) × (p ≡ Head s)
 IsPlaceOf TailOf p = (s : SegName) × (p ≡ Tail s)
 IsPlaceOf NextOf p = (s : SegName) × (p ≡ Next s)
 IsPlaceOf CellWord p = (s : SegName) × (i : ℕ) × (p ≡ CellAt s i)
+IsPlaceOf ValueWord p = (s : SegName) × (i : ℕ) × (p ≡ ValAt s i)
+IsPlaceOf IndexWord p = (s : SegName) × (i : ℕ) × (p ≡ IdxAt s i)
 IsPlaceOf WholeWord p = (s : SegName) × (p ≡ WholeOf s)
 IsPlaceOf ArrHeadWord p = p ≡ ArrHead
 IsPlaceOf ArrTailWord p = p ≡ ArrTail
@@ -184,6 +188,8 @@ own_place (Head s) = (s, refl)
 own_place (Tail s) = (s, refl)
 own_place (Next s) = (s, refl)
 own_place (CellAt s i) = (s, i, refl)
+own_place (ValAt s i) = (s, i, refl)
+own_place (IdxAt s i) = (s, i, refl)
 own_place (WholeOf s) = (s, refl)
 own_place ArrHead = refl
 own_place ArrTail = refl
@@ -210,6 +216,16 @@ same_place p (CellAt t j) small below k e =
     let range = subst IsPlaceInRange o.2 small in
     let words = sym (ap place_arguments o.2) ∙ e in
     o.2 ∙ ap (λ s. CellAt s o.1) (same_segment o.0 t range.0 below.0 (ap (word_at 0) words)) ∙ ap (CellAt t) (same_byte o.1 j range.1 below.1 (ap (word_at 1) words))
+same_place p (ValAt t j) small below k e =
+    let o = place_of ValueWord p k in
+    let range = subst IsPlaceInRange o.2 small in
+    let words = sym (ap place_arguments o.2) ∙ e in
+    o.2 ∙ ap (λ s. ValAt s o.1) (same_segment o.0 t range.0 below.0 (ap (word_at 0) words)) ∙ ap (ValAt t) (same_byte o.1 j range.1 below.1 (ap (word_at 1) words))
+same_place p (IdxAt t j) small below k e =
+    let o = place_of IndexWord p k in
+    let range = subst IsPlaceInRange o.2 small in
+    let words = sym (ap place_arguments o.2) ∙ e in
+    o.2 ∙ ap (λ s. IdxAt s o.1) (same_segment o.0 t range.0 below.0 (ap (word_at 0) words)) ∙ ap (IdxAt t) (same_byte o.1 j range.1 below.1 (ap (word_at 1) words))
 same_place p (WholeOf t) small below k e =
     let o = place_of WholeWord p k in
     o.1 ∙ ap WholeOf (same_segment o.0 t (subst IsPlaceInRange o.1 small) below (ap (word_at 0) (sym (ap place_arguments o.1) ∙ e)))

@@ -4,7 +4,7 @@ use Rattle.std.proofs.lemmas.Bool.{and_parts}
 use Rattle.std.specs.Char.{is_ascii_graphic}
 use Rattle.std.specs.Fmt.{decimal}
 use Rattle.std.specs.List.{list_all, slice_split, join_with_byte}
-use Rattle.rd_step.specs.Prelude.{SegName, Place, QHead, QTail, Head, Tail, Next, CellAt, WholeOf, ArrHead, ArrTail, ArrCell}
+use Rattle.rd_step.specs.Prelude.{SegName, Place, QHead, QTail, Head, Tail, Next, CellAt, ValAt, IdxAt, WholeOf, ArrHead, ArrTail, ArrCell}
 use Rattle.rd_marks.specs.NameBytes.{is_mark_name, is_name_byte, MOST_NAME_BYTES}
 use Rattle.rd_marks.specs.Names.{bytes_of}
 use Rattle.rd_marks.specs.declared.commands.Command.{Command}
@@ -27,6 +27,8 @@ place_join (Head s) = refl
 place_join (Tail s) = refl
 place_join (Next s) = refl
 place_join (CellAt s i) = refl
+place_join (ValAt s i) = refl
+place_join (IdxAt s i) = refl
 place_join (WholeOf s) = refl
 place_join ArrHead = refl
 place_join ArrTail = refl
@@ -112,6 +114,8 @@ free_place (Head s) small = (refl, (free_segment s small, tt))
 free_place (Tail s) small = (refl, (free_segment s small, tt))
 free_place (Next s) small = (refl, (free_segment s small, tt))
 free_place (CellAt s i) small = (refl, (free_segment s small.0, (free_byte i small.1, tt)))
+free_place (ValAt s i) small = (refl, (free_segment s small.0, (free_byte i small.1, tt)))
+free_place (IdxAt s i) small = (refl, (free_segment s small.0, (free_byte i small.1, tt)))
 free_place (WholeOf s) small = (refl, (free_segment s small, tt))
 free_place ArrHead small = (refl, tt)
 free_place ArrTail small = (refl, tt)
@@ -160,6 +164,8 @@ few_place_words (Head s) = omega arith
 few_place_words (Tail s) = omega arith
 few_place_words (Next s) = omega arith
 few_place_words (CellAt s i) = omega arith
+few_place_words (ValAt s i) = omega arith
+few_place_words (IdxAt s i) = omega arith
 few_place_words (WholeOf s) = omega arith
 few_place_words ArrHead = omega arith
 few_place_words ArrTail = omega arith

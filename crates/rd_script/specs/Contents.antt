@@ -2,8 +2,8 @@
 use Rattle.std.specs.Prelude.{ℕ, Bool, true, false, List, ◌++◌, codes, Option, Some, None}
 use Rattle.std.specs.Fmt.{decimal}
 use Rattle.rd_step.specs.Prelude.{SegName, Place, Content, Cell, ArrSlot}
-use Rattle.rd_step.specs.Prelude.{QHead, QTail, Head, Tail, Next, CellAt, WholeOf, ArrHead, ArrTail, ArrCell}
-use Rattle.rd_step.specs.Prelude.{Name, Number, TailIs, NextIs, CellIs, Whole, Slot, Empty, Top, Held}
+use Rattle.rd_step.specs.Prelude.{QHead, QTail, Head, Tail, Next, CellAt, ValAt, IdxAt, WholeOf, ArrHead, ArrTail, ArrCell}
+use Rattle.rd_step.specs.Prelude.{Name, Number, TailIs, NextIs, CellIs, ValIs, IdxIs, Whole, Slot, Empty, Top, Held}
 use Rattle.rd_script.specs.Texts.{spaced_number, bit_number}
 
 -- a segment's name: its maker, a full stop, and its number
@@ -29,6 +29,10 @@ tail_word true = codes "closed"
 abbrev pub cell_words : Cell → List ℕ
 cell_words c = decimal (bit_number c.safe) ++ spaced_number c.idx ++ codes " " ++ value_words c.val
 
+-- a safe bit and an index
+abbrev pub index_words : Bool → ℕ → List ℕ
+index_words safe idx = decimal (bit_number safe) ++ spaced_number idx
+
 -- a slot of the array
 abbrev pub slot_words : ArrSlot → List ℕ
 slot_words Empty = codes "empty"
@@ -42,6 +46,8 @@ content_words (Number n) = decimal n
 content_words (TailIs closed count) = tail_word closed ++ spaced_number count
 content_words (NextIs next) = next_words next
 content_words (CellIs c) = cell_words c
+content_words (ValIs val) = value_words val
+content_words (IdxIs safe idx) = index_words safe idx
 content_words Whole = codes "exists"
 content_words (Slot slot) = slot_words slot
 
@@ -53,6 +59,8 @@ place_words (Head s) = codes "head " ++ name_words s
 place_words (Tail s) = codes "tail " ++ name_words s
 place_words (Next s) = codes "next " ++ name_words s
 place_words (CellAt s i) = codes "cell " ++ name_words s ++ spaced_number i
+place_words (ValAt s i) = codes "value " ++ name_words s ++ spaced_number i
+place_words (IdxAt s i) = codes "index " ++ name_words s ++ spaced_number i
 place_words (WholeOf s) = codes "whole " ++ name_words s
 place_words ArrHead = codes "ahead"
 place_words ArrTail = codes "atail"

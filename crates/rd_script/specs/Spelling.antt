@@ -2,7 +2,7 @@
 use Rattle.std.specs.Prelude.{◌≡◌, ◌≢◌, ℕ, ◌<◌, ◌≤◌, ◌^◌, ◌⊎◌, Bool, true, false, ◌&&◌, not, ◌==◌, List, [], ◌++◌, length, codes, Option, Some, None, Result, Ok, Err}
 use Rattle.std.specs.List.{list_all}
 use Rattle.std.specs.Char.{is_ascii_graphic}
-use Rattle.rd_step.specs.Prelude.{SegName, Place, Head, Tail, Next, CellAt, WholeOf, ArrCell}
+use Rattle.rd_step.specs.Prelude.{SegName, Place, Head, Tail, Next, CellAt, ValAt, IdxAt, WholeOf, ArrCell}
 use Rattle.rd_step.specs.declared.entries.Event.{Event}
 use Rattle.rd_marks.specs.NameBytes.{is_mark_name}
 use Rattle.rd_marks.specs.Names.{bytes_of}
@@ -53,6 +53,8 @@ IsPlaceInRange (Head s) = IsSegmentInRange s
 IsPlaceInRange (Tail s) = IsSegmentInRange s
 IsPlaceInRange (Next s) = IsSegmentInRange s
 IsPlaceInRange (CellAt s i) = IsSegmentInRange s × (i < 256)
+IsPlaceInRange (ValAt s i) = IsSegmentInRange s × (i < 256)
+IsPlaceInRange (IdxAt s i) = IsSegmentInRange s × (i < 256)
 IsPlaceInRange (WholeOf s) = IsSegmentInRange s
 IsPlaceInRange (ArrCell i) = i < 256
 IsPlaceInRange _ = Unit {0}

@@ -1,13 +1,12 @@
--- The words of a step: its event, the place of its access, whether it wrote, what it answered, and what its call replied.
-use Rattle.std.specs.Prelude.{ℕ, Bool, true, false, List, ◌++◌, codes, Option, Some, None}
-use Rattle.std.specs.Fmt.{decimal}
+-- The words of a step: its event, the place of its access, what it wrote of it, what it answered, and what its call replied.
+use Rattle.std.specs.Prelude.{ℕ, List, ◌++◌, codes, Option, Some, None}
 use Rattle.rd_cell.specs.declared.operations.Answer.TheVariants.{Nothing, Found, Value as ValueRead, SafeAndIndex, WasClosed, Won, Lost, Made}
 use Rattle.rd_actor.specs.declared.actors.OpReply.TheVariants.{Enqueued, Value, Empty}
-use Rattle.rd_step.specs.Prelude.{Answer, OpReply, Place}
+use Rattle.rd_step.specs.Prelude.{Answer, OpReply, Place, Wrote, WroteNothing, WrotePlace, WroteIndex}
 use Rattle.rd_step.specs.declared.entries.Entry.{Entry}
-use Rattle.rd_script.specs.Texts.{spaced_number, bit_number}
+use Rattle.rd_script.specs.Texts.{spaced_number}
 use Rattle.rd_script.specs.Events.{event_words}
-use Rattle.rd_script.specs.Contents.{name_words, value_words, tail_word, content_words, place_words}
+use Rattle.rd_script.specs.Contents.{name_words, value_words, tail_word, index_words, content_words, place_words}
 
 -- the place of a step, if it has one
 abbrev pub step_place : Option Place → List ℕ
@@ -15,17 +14,18 @@ step_place None = codes "-"
 step_place (Some place) = place_words place
 
 -- how a step touched its place, if it has one
-abbrev pub access_word : Option Place → Bool → List ℕ
+abbrev pub access_word : Option Place → Wrote → List ℕ
 access_word None wrote = codes "none"
-access_word (Some place) false = codes "read"
-access_word (Some place) true = codes "wrote"
+access_word (Some place) WroteNothing = codes "read"
+access_word (Some place) WrotePlace = codes "wrote"
+access_word (Some place) WroteIndex = codes "wrote index"
 
 -- what an access answered
 abbrev pub access_answer : Answer → List ℕ
 access_answer Nothing = codes "-"
 access_answer (Found content) = content_words content
 access_answer (ValueRead value) = value_words value
-access_answer (SafeAndIndex safe idx) = decimal (bit_number safe) ++ spaced_number idx
+access_answer (SafeAndIndex safe idx) = index_words safe idx
 access_answer (WasClosed closed) = codes "was " ++ tail_word closed
 access_answer Won = codes "won"
 access_answer Lost = codes "lost"

@@ -2,7 +2,7 @@
 -- word by word, and the spelling of a whole line.
 use Rattle.std.specs.Prelude.{◌≡◌, ◌≢◌, ℕ, true, false, ◌&&◌, List, [], ◌∷◌, codes, Option, Some, None, Result, Ok, Err}
 use Rattle.std.specs.Fmt.{decimal}
-use Rattle.rd_step.specs.Prelude.{Place, QHead, QTail, Head, Tail, Next, CellAt, WholeOf, ArrHead, ArrTail, ArrCell}
+use Rattle.rd_step.specs.Prelude.{Place, QHead, QTail, Head, Tail, Next, CellAt, ValAt, IdxAt, WholeOf, ArrHead, ArrTail, ArrCell}
 use Rattle.rd_marks.specs.NameBytes.{is_mark_name}
 use Rattle.rd_marks.specs.Names.{bytes_of}
 use Rattle.rd_marks.specs.declared.names.MarkName.{MarkName}
@@ -13,7 +13,7 @@ use Rattle.rd_script.specs.declared.faults.LineFault.TheVariants.{BadLine, LineT
 use Rattle.rd_script.specs.declared.reading.keywords.Keyword.{Keyword}
 use Rattle.rd_script.specs.declared.reading.keywords.Keyword.TheVariants.{Enq as EnqWord, Deq as DeqWord, ArrayEnq as ArrayEnqWord, ArrayDeq as ArrayDeqWord, Go as GoWord, Starve as StarveWord, Undo as UndoWord, Roll as RollWord, Back as BackWord, Redo as RedoWord, Forward as ForwardWord, Mark as MarkWord, Drop as DropWord, Goto as GotoWord, Marks as MarksWord, MarkAt as MarkAtWord, Same as SameWord, Origin as OriginWord, Writer as WriterWord, Show as ShowWord, Actor as ActorWord, Step as StepWord, Len as LenWord}
 use Rattle.rd_script.specs.declared.reading.places.PlaceKind.{PlaceKind}
-use Rattle.rd_script.specs.declared.reading.places.PlaceKind.TheVariants.{QHead as QHeadWord, QTail as QTailWord, Head as HeadOf, Tail as TailOf, Next as NextOf, Cell as CellWord, Whole as WholeWord, ArrHead as ArrHeadWord, ArrTail as ArrTailWord, ArrCell as ArrCellWord}
+use Rattle.rd_script.specs.declared.reading.places.PlaceKind.TheVariants.{QHead as QHeadWord, QTail as QTailWord, Head as HeadOf, Tail as TailOf, Next as NextOf, Cell as CellWord, Value as ValueWord, Index as IndexWord, Whole as WholeWord, ArrHead as ArrHeadWord, ArrTail as ArrTailWord, ArrCell as ArrCellWord}
 use Rattle.rd_script.specs.Texts.{yes_or_no}
 use Rattle.rd_script.specs.Contents.{name_words}
 use Rattle.rd_script.specs.Spelling.{IsInRange, IsPlaceInRange, is_word}
@@ -79,6 +79,8 @@ kind_text HeadOf = codes "head"
 kind_text TailOf = codes "tail"
 kind_text NextOf = codes "next"
 kind_text CellWord = codes "cell"
+kind_text ValueWord = codes "value"
+kind_text IndexWord = codes "index"
 kind_text WholeWord = codes "whole"
 kind_text ArrHeadWord = codes "ahead"
 kind_text ArrTailWord = codes "atail"
@@ -92,6 +94,8 @@ kind_of (Head s) = HeadOf
 kind_of (Tail s) = TailOf
 kind_of (Next s) = NextOf
 kind_of (CellAt s i) = CellWord
+kind_of (ValAt s i) = ValueWord
+kind_of (IdxAt s i) = IndexWord
 kind_of (WholeOf s) = WholeWord
 kind_of ArrHead = ArrHeadWord
 kind_of ArrTail = ArrTailWord
@@ -103,6 +107,8 @@ place_arguments (Head s) = name_words s ∷ []
 place_arguments (Tail s) = name_words s ∷ []
 place_arguments (Next s) = name_words s ∷ []
 place_arguments (CellAt s i) = name_words s ∷ decimal i ∷ []
+place_arguments (ValAt s i) = name_words s ∷ decimal i ∷ []
+place_arguments (IdxAt s i) = name_words s ∷ decimal i ∷ []
 place_arguments (WholeOf s) = name_words s ∷ []
 place_arguments (ArrCell i) = decimal i ∷ []
 place_arguments _ = []

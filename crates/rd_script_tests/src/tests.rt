@@ -3,6 +3,7 @@
 //! Rows are borrowed, and one helper walks those of a kind, with one assertion: so their proof is cheap.
 
 mod devices;
+mod halves;
 mod lone_faults;
 mod long_runs;
 mod origins;
@@ -181,6 +182,15 @@ fn a_cell_is_its_safe_bit_its_index_and_its_value(rt: HostRuntime) {
                     val: Some(u64::MAX),
                 }),
                 "is 1 18446744073709551615 18446744073709551615\n",
+            ),
+            (Content::Val(None), "is none\n"),
+            (Content::Val(Some(u64::MAX)), "is 18446744073709551615\n"),
+            (
+                Content::Idx {
+                    safe: true,
+                    idx: u64::MAX,
+                },
+                "is 1 18446744073709551615\n",
             ),
         ],
     );

@@ -5,7 +5,7 @@ use Rattle.std.proofs.lemmas.Bool.{cases_lt, cond-true, cond-false, eqb-false}
 use Rattle.std.proofs.lemmas.List.{get_or-replicate}
 use Rattle.std.proofs.lemmas.Option.{slice_get_past, slice_get-get_or}
 use mathlib.Core.Path.{fun_ext}
-use Rattle.rd_ring.specs.Prelude.{SLOTS, Place, ArrHead, ArrTail, ArrCell, ArrSlot, Empty, Number, Slot, Operation, Read, AddArray, Swap, Found, Done, Refusal, ArrayEnd, is_place, effect, everywhere, Operates, OperatesOn}
+use Rattle.rd_ring.specs.Prelude.{SLOTS, Place, ArrHead, ArrTail, ArrCell, ArrSlot, Empty, WroteNothing, WrotePlace, Number, Slot, Operation, Read, AddArray, Swap, Found, Done, Refusal, ArrayEnd, is_place, effect, everywhere, Operates, OperatesOn}
 use Rattle.rd_cell.specs.Operations.{writes}
 use Rattle.rd_cell.proofs.ListLemmas.{slice_get-set_same, slice_get-set_other}
 use Rattle.rd_cell.proofs.EffectLemmas.{wrote_on, read_on, place_operates}
@@ -35,20 +35,20 @@ fresh_by = fun_ext each
 -- A counter and a slot
 
 pub reads_counter : (p : Place) (op : Operation) (n : ℕ) (done : Done) → op ≡ Read
-    → done ≡ record { place = Some p; old = Some (Number n); answer = Found (Number n); wrote = false } → OperatesOn p op done (Number n) (Number n)
+    → done ≡ record { place = Some p; old = Some (Number n); answer = Found (Number n); wrote = WroteNothing } → OperatesOn p op done (Number n) (Number n)
 reads_counter p op n done is notes = read_on p op (Number n) (Found (Number n)) done (ap (λ (o : Operation). effect o (Number n)) is) notes
 
 pub adds_counter : (p : Place) (op : Operation) (n : ℕ) (done : Done) → op ≡ AddArray → n < SLOTS
-    → done ≡ record { place = Some p; old = Some (Number n); answer = Found (Number n); wrote = true } → OperatesOn p op done (Number n) (Number (n + 1))
+    → done ≡ record { place = Some p; old = Some (Number n); answer = Found (Number n); wrote = WrotePlace } → OperatesOn p op done (Number n) (Number (n + 1))
 adds_counter p op n done is below notes =
-    wrote_on p op (Number n) (Number (n + 1)) (Found (Number n)) done
+    wrote_on p op (Number n) (Number (n + 1)) (Found (Number n)) done refl
     (ap (λ (o : Operation). effect o (Number n)) is
     ∙ cond-true (nat_lt n SLOTS) (writes (Found (Number n)) (Number (n + 1))) (Err ArrayEnd) (lt-ltb n SLOTS below)) notes
 
 pub swaps_slot : (p : Place) (op : Operation) (old new : ArrSlot) (done : Done) → op ≡ Swap new
-    → done ≡ record { place = Some p; old = Some (Slot old); answer = Found (Slot old); wrote = true } → OperatesOn p op done (Slot old) (Slot new)
+    → done ≡ record { place = Some p; old = Some (Slot old); answer = Found (Slot old); wrote = WrotePlace } → OperatesOn p op done (Slot old) (Slot new)
 swaps_slot p op old new done is notes =
-    wrote_on p op (Slot old) (Slot new) (Found (Slot old)) done (ap (λ (o : Operation). effect o (Slot old)) is) notes
+    wrote_on p op (Slot old) (Slot new) (Found (Slot old)) done refl (ap (λ (o : Operation). effect o (Slot old)) is) notes
 
 -- One place of the array
 

@@ -1,10 +1,10 @@
 -- The makers' lists after a change of one segment.
 use Rattle.std.proofs.Common.{◌≡◌, ◌≢◌, ℕ, zero, suc, ◌+◌, ◌-◌, ◌<◌, ◌≤◌, Bool, true, false, ◌==◌, ◌&&◌, if◌then◌else◌, ◌⊎◌, inl, inr, refl, sym, ◌∙◌, ap, subst, arith, List, [], ◌∷◌, ◌++◌, take, length, set, get_or, Option, Some, None, is_some, slice_get, eq-eqb, ne_eqb, Result, Ok, Err, OnErr, OnOk}
 use Rattle.std.specs.Vec.{with_item}
-use Rattle.std.proofs.lemmas.Bool.{cases_eq, cases_lt, cond-true, cond-false, and_from, and_left, and_right}
+use Rattle.std.proofs.lemmas.Bool.{cases_eq, cases_lt, cond-true, cond-false, both_ways, and_from, and_left, and_right}
 use Rattle.std.proofs.lemmas.Option.{slice_get_past, slice_get_within, slice_get-get_or}
 use Rattle.std.specs.declared.alloc.AllocError.{AllocError}
-use Rattle.rd_ring.specs.Prelude.{SegName, Place, root, is_name}
+use Rattle.rd_ring.specs.Prelude.{SegName, Place, CellAt, WholeOf, root, is_name, operand}
 use Rattle.rd_cell.proofs.ListLemmas.{slice_get-set_same, slice_get-set_other, slice_get-push_same, slice_get-push_other, slice_get-take_same, slice_get-take_other}
 use Rattle.rd_ring.specs.declared.segments.Segment.{Segment}
 use Rattle.rd_segments.specs.Lists.{ListOf, by_number, by_name, part_of, count_in, count, Changes, IsLengthened}
@@ -92,8 +92,14 @@ maker_within makers name there =
     elim (cases_lt name.maker (length makers))
     [ inl lt ↦ lt | inr past ↦ absurd (cc (ap (λ x. is_some (by_number x name.n)) (slice_get_past makers name.maker past), there)) ]
 
-pub segment_there : {R : ℕ} (o : Option (Segment R)) (p : Place) → is_some (part_of o p) ≡ true → is_some o ≡ true
-segment_there None p h = h
+-- where nothing is there, there is nothing to work on
+nothing_to_work_on : (p : Place) → is_some (operand (λ q. None) p) ≡ false
+nothing_to_work_on (CellAt s i) = refl
+nothing_to_work_on (WholeOf s) = refl
+nothing_to_work_on _ = refl
+
+pub segment_there : {R : ℕ} (o : Option (Segment R)) (p : Place) → is_some (operand (part_of o) p) ≡ true → is_some o ≡ true
+segment_there None p h = absurd (both_ways (is_some (operand (λ (q : Place). None) p)) (nothing_to_work_on p) h)
 segment_there (Some s) p h = refl
 
 -- a maker's list is read at its number

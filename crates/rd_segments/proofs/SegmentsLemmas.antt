@@ -3,7 +3,7 @@ use Rattle.std.proofs.Common.{◌≡◌, ℕ, ◌-◌, ◌<◌, true, false, nat
 use Rattle.std.specs.Vec.{with_item}
 use Rattle.std.proofs.lemmas.Bool.{cases_Bool, cond-true, cond-false}
 use mathlib.Core.Path.{fun_ext}
-use Rattle.rd_ring.specs.Prelude.{MOST_SEGMENTS, SegName, Place, Head, Tail, Next, CellAt, WholeOf, Content, Operation, Made, Done, Refusal, is_name, is_of, is_beside, segment_of, Contents, holding, operand, operate, everywhere, Operates, Makes, Restores, RefusesMaking}
+use Rattle.rd_ring.specs.Prelude.{MOST_SEGMENTS, SegName, Place, Head, Tail, Next, CellAt, ValAt, IdxAt, WholeOf, WrotePlace, Content, Operation, Made, Done, Refusal, is_name, is_of, is_beside, segment_of, Contents, holding, operand, operate, everywhere, Operates, Makes, Restores, RefusesMaking}
 use Rattle.rd_cell.proofs.PlaceLemmas.{is_name-true, is_name-refl}
 use Rattle.rd_cell.proofs.EffectLemmas.{Agrees, operand_agrees, lift_operates, lift_restore, beside_is_of, not_covered_outside}
 use Rattle.rd_ring.specs.declared.segments.Segment.{Segment}
@@ -18,7 +18,9 @@ pub segments_part : {R : ℕ} (makers : List (ListOf R)) (name : SegName) (segme
 segments_part {R} makers name segment (Head t) there h = sym (ap (λ (o : Option (Segment R)). part_of o (Head t)) (ap (by_name makers) (sym (is_name-true name t h)) ∙ there))
 segments_part {R} makers name segment (Tail t) there h = sym (ap (λ (o : Option (Segment R)). part_of o (Tail t)) (ap (by_name makers) (sym (is_name-true name t h)) ∙ there))
 segments_part {R} makers name segment (Next t) there h = sym (ap (λ (o : Option (Segment R)). part_of o (Next t)) (ap (by_name makers) (sym (is_name-true name t h)) ∙ there))
-segments_part {R} makers name segment (CellAt t i) there h = sym (ap (λ (o : Option (Segment R)). part_of o (CellAt t i)) (ap (by_name makers) (sym (is_name-true name t h)) ∙ there))
+segments_part {R} makers name segment (ValAt t i) there h = sym (ap (λ (o : Option (Segment R)). part_of o (ValAt t i)) (ap (by_name makers) (sym (is_name-true name t h)) ∙ there))
+segments_part {R} makers name segment (IdxAt t i) there h = sym (ap (λ (o : Option (Segment R)). part_of o (IdxAt t i)) (ap (by_name makers) (sym (is_name-true name t h)) ∙ there))
+segments_part makers name segment (CellAt t i) there h = refl
 segments_part makers name segment (WholeOf t) there h = refl
 segments_part makers name segment _ there h = cc
 
@@ -28,7 +30,8 @@ pub segments_none : {R : ℕ} (makers : List (ListOf R)) (name : SegName) (q : P
 segments_none {R} makers name (Head t) none h = ap (λ (o : Option (Segment R)). part_of o (Head t)) (ap (by_name makers) (sym (is_name-true name t h)) ∙ none)
 segments_none {R} makers name (Tail t) none h = ap (λ (o : Option (Segment R)). part_of o (Tail t)) (ap (by_name makers) (sym (is_name-true name t h)) ∙ none)
 segments_none {R} makers name (Next t) none h = ap (λ (o : Option (Segment R)). part_of o (Next t)) (ap (by_name makers) (sym (is_name-true name t h)) ∙ none)
-segments_none {R} makers name (CellAt t i) none h = ap (λ (o : Option (Segment R)). part_of o (CellAt t i)) (ap (by_name makers) (sym (is_name-true name t h)) ∙ none)
+segments_none {R} makers name (ValAt t i) none h = ap (λ (o : Option (Segment R)). part_of o (ValAt t i)) (ap (by_name makers) (sym (is_name-true name t h)) ∙ none)
+segments_none {R} makers name (IdxAt t i) none h = ap (λ (o : Option (Segment R)). part_of o (IdxAt t i)) (ap (by_name makers) (sym (is_name-true name t h)) ∙ none)
 segments_none makers name _ none h = refl
 
 -- the places of the other segments have what they had
@@ -37,7 +40,8 @@ pub segments_other : {R : ℕ} (old new : List (ListOf R)) (name : SegName) (o :
 segments_other {R} old new name o (Head t) changes h = ap (λ (x : Option (Segment R)). part_of x (Head t)) (changes.at t ∙ cond-false (is_name name t) o (by_name old t) h)
 segments_other {R} old new name o (Tail t) changes h = ap (λ (x : Option (Segment R)). part_of x (Tail t)) (changes.at t ∙ cond-false (is_name name t) o (by_name old t) h)
 segments_other {R} old new name o (Next t) changes h = ap (λ (x : Option (Segment R)). part_of x (Next t)) (changes.at t ∙ cond-false (is_name name t) o (by_name old t) h)
-segments_other {R} old new name o (CellAt t i) changes h = ap (λ (x : Option (Segment R)). part_of x (CellAt t i)) (changes.at t ∙ cond-false (is_name name t) o (by_name old t) h)
+segments_other {R} old new name o (ValAt t i) changes h = ap (λ (x : Option (Segment R)). part_of x (ValAt t i)) (changes.at t ∙ cond-false (is_name name t) o (by_name old t) h)
+segments_other {R} old new name o (IdxAt t i) changes h = ap (λ (x : Option (Segment R)). part_of x (IdxAt t i)) (changes.at t ∙ cond-false (is_name name t) o (by_name old t) h)
 segments_other old new name o _ changes h = refl
 
 -- the places are those of the names alone
@@ -48,7 +52,8 @@ segments_same {R} old new same = fun_ext each
     each (Head t) = ap (λ (o : Option (Segment R)). part_of o (Head t)) (same t)
     each (Tail t) = ap (λ (o : Option (Segment R)). part_of o (Tail t)) (same t)
     each (Next t) = ap (λ (o : Option (Segment R)). part_of o (Next t)) (same t)
-    each (CellAt t i) = ap (λ (o : Option (Segment R)). part_of o (CellAt t i)) (same t)
+    each (ValAt t i) = ap (λ (o : Option (Segment R)). part_of o (ValAt t i)) (same t)
+    each (IdxAt t i) = ap (λ (o : Option (Segment R)). part_of o (IdxAt t i)) (same t)
     each _ = refl
 
 -- the name of a change has what it says
@@ -156,7 +161,7 @@ makes_in {R} makers maker m value list left reads (Ok name) h =
     let changes = list_lengthened makers maker m value name list left reads.maker_is reads.within reads.list_is h in
     let below : name.n < MOST_SEGMENTS = let e = ap (λ (s : SegName). s.n) h.name_is in let b = h.below in omega arith in
     record {
-      performed = record { place = Some (WholeOf name); old = None; answer = Made name; writes = Some (holding R value) };
+      performed = record { place = Some (WholeOf name); old = None; answer = Made name; wrote = WrotePlace; given = holding R value };
       performs = cond-true (nat_lt name.n MOST_SEGMENTS) _ _ (lt-ltb name.n MOST_SEGMENTS below);
       keeps = refl;
       leaves = λ q _.

@@ -2,8 +2,8 @@
 use Rattle.std.proofs.Common.{◌≡◌, ℕ, true, false, Bool, if◌then◌else◌, inl, inr, refl, sym, ◌∙◌, ap, subst, List, Option, Some, None, is_some, Result, Ok, Err, IfOk, IfErr, OnErr}
 use Rattle.std.proofs.lemmas.Bool.{cases_Bool, cond-true, cond-false, cond_both, false_from_ne_true, both_ways}
 use mathlib.Core.Path.{fun_ext}
-use Rattle.rd_ring.specs.Prelude.{SegName, Place, QHead, QTail, Head, Tail, Next, CellAt, WholeOf, ArrHead, ArrTail, ArrCell, Content, Name, Operation, Done, Refusal, NoSuchPlace, root, is_name, is_of, is_place, is_array, segment_of, covers, Contents, restore, fresh, operand, operate, make, everywhere, Operates, OperatesOn, Makes, Restores}
-use Rattle.rd_cell.proofs.PlaceLemmas.{covers_cases, is_place-true}
+use Rattle.rd_ring.specs.Prelude.{SegName, Place, QHead, QTail, Head, Tail, Next, CellAt, ValAt, IdxAt, WholeOf, ArrHead, ArrTail, ArrCell, Content, Name, Operation, Done, Refusal, NoSuchPlace, root, is_name, is_of, is_place, is_array, segment_of, covers, Contents, cell_of_halves, share, restore, fresh, operand, operate, make, everywhere, Operates, OperatesOn, Makes, Restores}
+use Rattle.rd_cell.proofs.PlaceLemmas.{Covering, itself, as_cell, as_whole, covers_cases, is_of_cell-of, is_place-true}
 use Rattle.rd_cell.proofs.AccessLemmas.{place-make}
 use Rattle.rd_cell.proofs.EffectLemmas.{Agrees, lift, lift_operates, lift_restore, operand_agrees, narrow, place_operates}
 use Rattle.rd_ring.specs.declared.segments.Segment.{Segment}
@@ -28,6 +28,8 @@ of_some s (Head t) h = refl
 of_some s (Tail t) h = refl
 of_some s (Next t) h = refl
 of_some s (CellAt t i) h = refl
+of_some s (ValAt t i) h = refl
+of_some s (IdxAt t i) h = refl
 of_some s (WholeOf t) h = refl
 of_some s _ h = cc
 
@@ -36,6 +38,8 @@ own_of (Head s) name h = refl
 own_of (Tail s) name h = refl
 own_of (Next s) name h = refl
 own_of (CellAt s i) name h = refl
+own_of (ValAt s i) name h = refl
+own_of (IdxAt s i) name h = refl
 own_of _ name h = cc
 
 -- a place of the segments covers no other
@@ -43,7 +47,12 @@ segments_cover : (p q : Place) → of_segments p ≡ true → of_segments q ≡ 
 segments_cover p q own other =
     false_from_ne_true (covers p q) (λ k.
     both_ways (of_segments q) other
-    (elim (covers_cases p q k) [ inl e ↦ subst (λ (x : Place). of_segments x ≡ true) e own | inr w ↦ of_some w.0 q w.2 ]))
+    (by (covers_cases p q k)))
+  where
+    by : Covering p q → of_segments q ≡ true
+    by (itself e) = subst (λ (x : Place). of_segments x ≡ true) e own
+    by (as_cell s i e f) = of_some s q (is_of_cell-of s i q f)
+    by (as_whole s e f) = of_some s q f
 
 -- the segments' places are those of the space
 segments_agree : (old new : Contents) (qhead qtail : SegName) (array : ArrayParts) (p : Place) → of_segments p ≡ true
@@ -60,6 +69,8 @@ segments_agree old new qhead qtail array p own = record {
     inside segments (Tail t) h = refl
     inside segments (Next t) h = refl
     inside segments (CellAt t i) h = refl
+    inside segments (ValAt t i) h = refl
+    inside segments (IdxAt t i) h = refl
     inside segments (WholeOf t) h = refl
     inside segments _ h = cc
 
@@ -101,7 +112,12 @@ operand_none : {R : ℕ} (makers : List (ListOf R)) (name : SegName) (p : Place)
 operand_none {R} makers name (Head s) own none = let e : s ≡ name = cc in ap (λ n. part_of (by_name makers n) (Head s)) e ∙ ap (λ (o : Option (Segment R)). part_of o (Head s)) none
 operand_none {R} makers name (Tail s) own none = let e : s ≡ name = cc in ap (λ n. part_of (by_name makers n) (Tail s)) e ∙ ap (λ (o : Option (Segment R)). part_of o (Tail s)) none
 operand_none {R} makers name (Next s) own none = let e : s ≡ name = cc in ap (λ n. part_of (by_name makers n) (Next s)) e ∙ ap (λ (o : Option (Segment R)). part_of o (Next s)) none
-operand_none {R} makers name (CellAt s i) own none = let e : s ≡ name = cc in ap (λ n. part_of (by_name makers n) (CellAt s i)) e ∙ ap (λ (o : Option (Segment R)). part_of o (CellAt s i)) none
+operand_none {R} makers name (CellAt s i) own none =
+    let e : s ≡ name = cc in
+    ap (λ n. cell_of_halves (part_of (by_name makers n) (ValAt s i)) (part_of (by_name makers n) (IdxAt s i))) e
+    ∙ ap (λ (o : Option (Segment R)). cell_of_halves (part_of o (ValAt s i)) (part_of o (IdxAt s i))) none
+operand_none {R} makers name (ValAt s i) own none = let e : s ≡ name = cc in ap (λ n. part_of (by_name makers n) (ValAt s i)) e ∙ ap (λ (o : Option (Segment R)). part_of o (ValAt s i)) none
+operand_none {R} makers name (IdxAt s i) own none = let e : s ≡ name = cc in ap (λ n. part_of (by_name makers n) (IdxAt s i)) e ∙ ap (λ (o : Option (Segment R)). part_of o (IdxAt s i)) none
 operand_none makers name _ own none = cc
 
 pub space_absent : {R : ℕ} (makers : List (ListOf R)) (qhead qtail : SegName) (array : ArrayParts) (name : SegName) (p : Place) (op : Operation) → segment_of p ≡ Some name
@@ -109,13 +125,16 @@ pub space_absent : {R : ℕ} (makers : List (ListOf R)) (qhead qtail : SegName) 
 space_absent makers qhead qtail array name p op own none =
     ap (operate p op) (operand_of_segments makers qhead qtail array name p own ∙ operand_none makers name p own none)
 
--- what is at a place of a segment that is there is what the segment has
+-- what an operation at a place of a segment works on is what the segment has there
 pub at_segment : {R : ℕ} (makers : List (ListOf R)) (qhead qtail : SegName) (array : ArrayParts) (p : Place) (name : SegName) → segment_of p ≡ Some name
-    → contents_of makers qhead qtail array p ≡ part_of (by_name makers name) p
+    → operand (contents_of makers qhead qtail array) p ≡ operand (part_of (by_name makers name)) p
 at_segment makers qhead qtail array (Head s) name h = let e : s ≡ name = cc in ap (λ n. part_of (by_name makers n) (Head s)) e
 at_segment makers qhead qtail array (Tail s) name h = let e : s ≡ name = cc in ap (λ n. part_of (by_name makers n) (Tail s)) e
 at_segment makers qhead qtail array (Next s) name h = let e : s ≡ name = cc in ap (λ n. part_of (by_name makers n) (Next s)) e
-at_segment makers qhead qtail array (CellAt s i) name h = let e : s ≡ name = cc in ap (λ n. part_of (by_name makers n) (CellAt s i)) e
+at_segment makers qhead qtail array (CellAt s i) name h =
+    let e : s ≡ name = cc in ap (λ n. cell_of_halves (part_of (by_name makers n) (ValAt s i)) (part_of (by_name makers n) (IdxAt s i))) e
+at_segment makers qhead qtail array (ValAt s i) name h = let e : s ≡ name = cc in ap (λ n. part_of (by_name makers n) (ValAt s i)) e
+at_segment makers qhead qtail array (IdxAt s i) name h = let e : s ≡ name = cc in ap (λ n. part_of (by_name makers n) (IdxAt s i)) e
 at_segment makers qhead qtail array _ name h = cc
 
 -- the map is that of the segments' places
@@ -185,26 +204,26 @@ tail_operates makers qhead old new array p op at r =
     (λ q h. tail_others makers qhead old new array q h) r)
 
 -- what is put back at one of them
-end_restored : (p : Place) (c : Content) (old new : Contents) → ((q : Place) → covers p q ≡ is_place p q) → new p ≡ Some c
+end_restored : (p : Place) (c : Content) (old new : Contents) → ((q : Place) → covers p q ≡ is_place p q) → ((q : Place) → share p (Some c) q ≡ Some c) → new p ≡ Some c
     → ((q : Place) → is_place p q ≡ false → new q ≡ old q) → new ≡ restore (Some p) (Some c) old
-end_restored p c old new plain left others =
+end_restored p c old new plain shared left others =
     fun_ext (λ q.
     elim (cases_Bool (is_place p q)) [
-      | inl h ↦ ap new (sym (is_place-true p q h)) ∙ left ∙ sym (cond-true (covers p q) (Some c) (old q) (plain q ∙ h))
-      | inr h ↦ others q h ∙ sym (cond-false (covers p q) (Some c) (old q) (plain q ∙ h))
+      | inl h ↦ ap new (sym (is_place-true p q h)) ∙ left ∙ sym (cond-true (covers p q) (share p (Some c) q) (old q) (plain q ∙ h) ∙ shared q)
+      | inr h ↦ others q h ∙ sym (cond-false (covers p q) (share p (Some c) q) (old q) (plain q ∙ h))
     ])
 
 pub head_restored : {R : ℕ} (makers : List (ListOf R)) (old new qtail : SegName) (array : ArrayParts) (p : Place) (c : Content) → p ≡ QHead → c ≡ Name new
     → contents_of makers new qtail array ≡ restore (Some p) (Some c) (contents_of makers old qtail array)
 head_restored makers old new qtail array p c at is =
-    end_restored QHead (Name new) (contents_of makers old qtail array) (contents_of makers new qtail array) (λ q. refl) refl
+    end_restored QHead (Name new) (contents_of makers old qtail array) (contents_of makers new qtail array) (λ q. refl) (λ q. refl) refl
     (λ q h. head_others makers old new qtail array q h)
     ∙ (λ i. restore (Some (sym at i)) (Some (sym is i)) (contents_of makers old qtail array))
 
 pub tail_restored : {R : ℕ} (makers : List (ListOf R)) (qhead old new : SegName) (array : ArrayParts) (p : Place) (c : Content) → p ≡ QTail → c ≡ Name new
     → contents_of makers qhead new array ≡ restore (Some p) (Some c) (contents_of makers qhead old array)
 tail_restored makers qhead old new array p c at is =
-    end_restored QTail (Name new) (contents_of makers qhead old array) (contents_of makers qhead new array) (λ q. refl) refl
+    end_restored QTail (Name new) (contents_of makers qhead old array) (contents_of makers qhead new array) (λ q. refl) (λ q. refl) refl
     (λ q h. tail_others makers qhead old new array q h)
     ∙ (λ i. restore (Some (sym at i)) (Some (sym is i)) (contents_of makers qhead old array))
 
@@ -299,7 +318,9 @@ space_fresh {R} makers array h k = fun_ext each
     each (Head t) = fresh_parts makers t (Head t) h refl
     each (Tail t) = fresh_parts makers t (Tail t) h refl
     each (Next t) = fresh_parts makers t (Next t) h refl
-    each (CellAt t i) = fresh_parts makers t (CellAt t i) h refl
+    each (ValAt t i) = fresh_parts makers t (ValAt t i) h refl
+    each (IdxAt t i) = fresh_parts makers t (IdxAt t i) h refl
+    each (CellAt t i) = sym (cond_both (is_name root t) (fresh R (CellAt t i)) None (λ (x : Option Content). x ≡ None) (λ e. refl) (λ e. refl))
     each (WholeOf t) = sym (cond_both (is_name root t) (fresh R (WholeOf t)) None (λ (x : Option Content). x ≡ None) (λ e. refl) (λ e. refl))
     each ArrHead = ap (λ (at : Contents). at ArrHead) k
     each ArrTail = ap (λ (at : Contents). at ArrTail) k

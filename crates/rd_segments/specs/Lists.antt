@@ -1,7 +1,7 @@
 -- The makers' lists of segments, as one map from the segments' places to contents.
 use Rattle.std.specs.Prelude.{◌≡◌, ℕ, ◌<◌, ◌++◌, ◌∷◌, [], List, Vec, Option, Some, None, slice_get, if◌then◌else◌, length}
 use Rattle.std.specs.declared.alloc.Global.{Global}
-use Rattle.rd_ring.specs.Prelude.{MOST_SEGMENTS, SegName, Place, Head, Tail, Next, CellAt, Content, Contents, root, is_name, fresh, holding}
+use Rattle.rd_ring.specs.Prelude.{MOST_SEGMENTS, SegName, Place, Head, Tail, Next, ValAt, IdxAt, Content, Contents, root, is_name, fresh, holding}
 use Rattle.rd_ring.specs.declared.segments.Segment.{Segment}
 use Rattle.rd_ring.specs.Segments.{part}
 
@@ -28,7 +28,8 @@ abbrev pub segments_by : (SegName → Contents) → Contents
 segments_by segment (Head n) = segment n (Head n)
 segments_by segment (Tail n) = segment n (Tail n)
 segments_by segment (Next n) = segment n (Next n)
-segments_by segment (CellAt n i) = segment n (CellAt n i)
+segments_by segment (ValAt n i) = segment n (ValAt n i)
+segments_by segment (IdxAt n i) = segment n (IdxAt n i)
 segments_by segment _ = None
 
 -- what the segments of these lists have at their places

@@ -6,7 +6,7 @@ ghost use Rattle.rd_ring.specs.Prelude.{SLOTS, Number, Slot, may_have, operand, 
 ghost use Rattle.rd_cell.specs.Operations.{suits_array};
 
 use rd_cell::limits::SLOTS;
-use rd_cell::{Answer, ArrSlot, Content, Done, Operation, Place, Refusal};
+use rd_cell::{Answer, ArrSlot, Content, Done, Operation, Place, Refusal, Wrote};
 
 /// The words of the array.
 #[derive(Clone, Copy, Debug)]
@@ -102,13 +102,13 @@ fn operate_on_counter(
 {
     let found = Content::Number(*counter);
     match operation {
-        Operation::Read => Ok(Done::at(place, found, Answer::Found(found), false)),
+        Operation::Read => Ok(Done::at(place, found, Answer::Found(found), Wrote::Nothing)),
         Operation::AddArray => {
             if *counter >= SLOTS as u64 {
                 return Err(Refusal::ArrayEnd);
             }
             *counter += 1;
-            Ok(Done::at(place, found, Answer::Found(found), true))
+            Ok(Done::at(place, found, Answer::Found(found), Wrote::Place))
         }
         _ => Err(Refusal::NoSuchPlace),
     }
@@ -124,7 +124,7 @@ fn operate_on_slot(slot: &mut ArrSlot, place: Place, operation: Operation) -> Re
     match operation {
         Operation::Swap(new) => {
             *slot = new;
-            Ok(Done::at(place, found, Answer::Found(found), true))
+            Ok(Done::at(place, found, Answer::Found(found), Wrote::Place))
         }
         _ => Err(Refusal::NoSuchPlace),
     }

@@ -3,7 +3,7 @@
 ghost use Rattle.std.specs.Prelude.{◌≡◌, Some, Err, IfOk, IfErr, OnErr};
 ghost use Rattle.rd_ring.specs.Prelude.{Name, operate, OperatesOn};
 
-use rd_cell::{Answer, Content, Done, Operation, Place, Refusal, SegName};
+use rd_cell::{Answer, Content, Done, Operation, Place, Refusal, SegName, Wrote};
 
 /// Does an operation at one of the queue's ends: a read or a compare-and-swap of its name.
 ///
@@ -21,13 +21,13 @@ pub fn operate_on_name(
 {
     let found = Content::Name(*name);
     match operation {
-        Operation::Read => Ok(Done::at(place, found, Answer::Found(found), false)),
+        Operation::Read => Ok(Done::at(place, found, Answer::Found(found), Wrote::Nothing)),
         Operation::CasName { old, new } => {
             let won = *name == old;
             if won {
                 *name = new;
             }
-            Ok(Done::swapped(place, found, won))
+            Ok(Done::swapped(place, found, won, Wrote::Place))
         }
         _ => Err(Refusal::NoSuchPlace),
     }

@@ -51,7 +51,7 @@ pub fn restore_in<const R: usize>(
     content: Content,
 )
     requires small { R ≤ MOST_CELLS }
-    requires there { IsTrue (is_some (part_of (by_name makers.old.items name) place)) }
+    requires there { IsTrue (is_some (operand (part_of (by_name makers.old.items name)) place)) }
     requires its { segment_of place ≡ Some name }
     requires kind { IsTrue (may_have place content) }
     ensures done { Restores everywhere place (Some content) (segments_of makers.old.items) (segments_of makers.new.items) }

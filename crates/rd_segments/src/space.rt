@@ -114,7 +114,8 @@ impl<const R: usize> Space<R> {
         self.array
     }
 
-    /// What is at a place, or none if it is not there. The whole of a segment that is there has `Whole`.
+    /// What is at a place, or none if it is not there. A cell has what its halves have together, and the whole of a segment that
+    /// is there has `Whole`.
     pub fn content(&self, place: Place) -> Option<Content>
         ensures { result ≡ content_at (contents self.now) place }
     {
@@ -125,12 +126,15 @@ impl<const R: usize> Space<R> {
                 None => None,
                 Some(_) => Some(Content::Whole),
             },
-            Place::Head(name) | Place::Tail(name) | Place::Next(name) | Place::Cell(name, _) => {
-                match find(&self.makers, name) {
-                    None => None,
-                    Some(segment) => segment.content(place),
-                }
-            }
+            Place::Head(name)
+            | Place::Tail(name)
+            | Place::Next(name)
+            | Place::Cell(name, _)
+            | Place::Val(name, _)
+            | Place::Idx(name, _) => match find(&self.makers, name) {
+                None => None,
+                Some(segment) => segment.content(place),
+            },
             Place::ArrHead | Place::ArrTail | Place::ArrCell(_) => self.array.content(place),
         }
     }
@@ -199,7 +203,7 @@ impl<const R: usize> Space<R> {
 
     /// Puts the content from before back at a place that is there.
     pub fn restore(&mut self, place: Place, content: Content)
-        requires there { IsTrue (is_some (contents self.old place)) }
+        requires there { IsTrue (is_some (operand (contents self.old) place)) }
         requires kind { IsTrue (may_have place content) }
         ensures done { contents self.new ≡ restore (Some place) (Some content) (contents self.old) }
         ensures kept { (m : ℕ) → room self.new m ≡ room self.old m }

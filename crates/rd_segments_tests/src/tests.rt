@@ -5,7 +5,7 @@ ghost use Rattle.rd_ring.specs.Segments.{counters_fit};
 ghost use Rattle.rd_segments.specs.Space.{lists};
 
 use rd_cell::limits::SLOTS;
-use rd_cell::{Answer, ArrSlot, Cell, Content, Done, Operation, Place, Refusal, SegName};
+use rd_cell::{Answer, ArrSlot, Cell, Content, Done, Operation, Place, Refusal, SegName, Wrote};
 use rd_ring::SegmentParts;
 use rd_segments::array::ArrayParts;
 use rd_segments::space::Space;
@@ -53,7 +53,7 @@ fn an_add_says_what_it_found(rt: HostRuntime) -> Result<(), Fail> {
         place: Some(tail),
         old: Some(before),
         answer: Answer::Found(before),
-        wrote: true,
+        wrote: Wrote::Place,
     };
     assert_eq!(rt; space.operate(tail, Operation::Add), Ok(done));
     assert_eq!(rt; space.content(tail), Some(after));
@@ -80,6 +80,13 @@ fn each_maker_counts_its_own_segments(rt: HostRuntime) -> Result<(), Fail> {
         space.content(Place::Cell(second, 0)),
         Some(Content::Cell(held))
     );
+    assert_eq!(rt;
+        space.content(Place::Val(second, 0)),
+        Some(Content::Val(Some(9)))
+    );
+    let index = Content::Idx { safe: true, idx: 3 };
+    assert_eq!(rt; space.content(Place::Idx(second, 3)), Some(index));
+    assert_eq!(rt; space.content(Place::Idx(second, 4)), None);
     assert_eq!(rt; space.content(Place::Whole(second)), Some(Content::Whole));
     let tail = Content::Tail {
         closed: false,
@@ -202,7 +209,7 @@ fn an_operation_on_the_array_is_done_and_put_back(rt: HostRuntime) {
         place: Some(place),
         old: Some(found),
         answer: Answer::Found(found),
-        wrote: true,
+        wrote: Wrote::Place,
     };
     assert_eq!(rt;
         array.operate(place, Operation::Swap(ArrSlot::Value(7))),

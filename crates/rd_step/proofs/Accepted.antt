@@ -2,7 +2,7 @@
 use Rattle.std.proofs.Common.{◌≡◌, ℕ, zero, suc, ◌+◌, ◌≤◌, Bool, true, false, not, ◌==◌, ◌&&◌, nat_lt, nat_le, ◌↔◌, if◌then◌else◌, inl, inr, refl, ◌∙◌, ap, subst, arith, List, [], ◌∷◌, length, slice_get, Option, Some, None, option_map, le-leb, ltb-true, eq-eqb}
 use Rattle.std.specs.List.{list_all}
 use Rattle.std.proofs.lemmas.Bool.{cases_lt, and_parts, and_from}
-use Rattle.rd_ring.specs.Prelude.{MOST_ACTORS, SLOTS, MOST_SEGMENTS, COUNTER_END, Cell, SegName, Place, QHead, QTail, Head, Tail, Next, CellAt, ArrHead, ArrTail, CellIs}
+use Rattle.rd_ring.specs.Prelude.{MOST_ACTORS, SLOTS, MOST_SEGMENTS, COUNTER_END, Cell, SegName, Place, QHead, QTail, Head, Tail, Next, IdxAt, ArrHead, ArrTail, IdxIs}
 use Rattle.rd_ring.specs.declared.parts.SegmentParts.{SegmentParts}
 use Rattle.rd_ring.specs.Segments.{part_from, counters_fit}
 use Rattle.rd_segments.specs.Lists.{by_number, by_name, count_in, count}
@@ -125,8 +125,8 @@ counters_within R p formed s x e =
 cell_within : (R : ℕ) (p : Parts R) → IsWellFormed R (world_of_parts p) → (s : SegName) (x : SegmentParts R) → by_name p.segments.items s ≡ Some x
     → (i : ℕ) (c : Cell) → slice_get x.cells i ≡ Some c → nat_le c.idx (COUNTER_END + R) ≡ true
 cell_within R p formed s x e i c at =
-    subst (λ (o : Option Cell). place_fits R (has p) (CellAt s i) (option_map CellIs o) ≡ true) at
-    (part_fits R p s x (CellAt s i) e (contents_fit R p formed (CellAt s i)))
+    subst (λ (o : Option Cell). place_fits R (has p) (IdxAt s i) (option_map (λ x. IdxIs x.safe x.idx) o) ≡ true) at
+    (part_fits R p s x (IdxAt s i) e (contents_fit R p formed (IdxAt s i)))
 
 indexes_within : (R : ℕ) (p : Parts R) → IsWellFormed R (world_of_parts p) → (s : SegName) (x : SegmentParts R) → by_name p.segments.items s ≡ Some x
     → indexes_fit (COUNTER_END + R) x ≡ true

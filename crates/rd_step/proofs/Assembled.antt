@@ -4,7 +4,7 @@ use Rattle.std.specs.List.{list_all}
 use Rattle.std.proofs.lemmas.Bool.{cases_lt, and_parts, and_from, both_ways}
 use Rattle.std.proofs.lemmas.Option.{slice_get_past}
 use mathlib.Core.Path.{fun_ext}
-use Rattle.rd_ring.specs.Prelude.{MOST_ACTORS, SLOTS, MOST_SEGMENTS, COUNTER_END, Cell, SegName, Place, QHead, QTail, Head, Tail, Next, CellAt, WholeOf, ArrHead, ArrTail, ArrCell, ArrSlot, CellIs, Slot, is_there}
+use Rattle.rd_ring.specs.Prelude.{MOST_ACTORS, SLOTS, MOST_SEGMENTS, COUNTER_END, Cell, SegName, Place, QHead, QTail, Head, Tail, Next, CellAt, ValAt, IdxAt, WholeOf, ArrHead, ArrTail, ArrCell, ArrSlot, ValIs, IdxIs, Slot, is_there}
 use Rattle.rd_ring.specs.declared.parts.SegmentParts.{SegmentParts}
 use Rattle.rd_ring.specs.Segments.{counters_fit}
 use Rattle.rd_segments.specs.Lists.{by_number, by_name, count_in, count}
@@ -182,9 +182,13 @@ and_true : (b : Bool) → b ≡ (b && true)
 and_true true = refl
 and_true false = refl
 
-cell_there : (R : ℕ) (o : Option (SegmentParts R)) (s : SegName) (i : ℕ) → is_some (part_of_parts o (CellAt s i)) ≡ (nat_lt i R && is_some o)
-cell_there R None s i = and_false (nat_lt i R)
-cell_there R (Some x) s i = some_in CellIs x.cells i R x.sized ∙ and_true (nat_lt i R)
+value_there : (R : ℕ) (o : Option (SegmentParts R)) (s : SegName) (i : ℕ) → is_some (part_of_parts o (ValAt s i)) ≡ (nat_lt i R && is_some o)
+value_there R None s i = and_false (nat_lt i R)
+value_there R (Some x) s i = some_in (λ (c : Cell). ValIs c.val) x.cells i R x.sized ∙ and_true (nat_lt i R)
+
+index_there : (R : ℕ) (o : Option (SegmentParts R)) (s : SegName) (i : ℕ) → is_some (part_of_parts o (IdxAt s i)) ≡ (nat_lt i R && is_some o)
+index_there R None s i = and_false (nat_lt i R)
+index_there R (Some x) s i = some_in (λ (c : Cell). IdxIs c.safe c.idx) x.cells i R x.sized ∙ and_true (nat_lt i R)
 
 tail_there : {R : ℕ} (o : Option (SegmentParts R)) (s : SegName) → is_some (part_of_parts o (Tail s)) ≡ is_some o
 tail_there None s = refl
@@ -200,7 +204,9 @@ places_belong p QTail = refl
 places_belong p (Head s) = there_if (by_name p.segments.items s) s
 places_belong p (Tail s) = tail_there (by_name p.segments.items s) s
 places_belong p (Next s) = next_there (by_name p.segments.items s) s
-places_belong {R} p (CellAt s i) = cell_there R (by_name p.segments.items s) s i
+places_belong {R} p (ValAt s i) = value_there R (by_name p.segments.items s) s i
+places_belong {R} p (IdxAt s i) = index_there R (by_name p.segments.items s) s i
+places_belong p (CellAt s i) = refl
 places_belong p (WholeOf s) = refl
 places_belong p ArrHead = refl
 places_belong p ArrTail = refl
@@ -225,16 +231,24 @@ link_fits : {R : ℕ} (p : Parts R) (s : SegName) (o : Option (SegmentParts R)) 
 link_fits p s None f e = refl
 link_fits p s (Some x) f e = each_at (λ y. next_fits (has p) y.next) p.segments.items s x f.nexts e
 
-cell_fits : (R : ℕ) (there : Presence) (s : SegName) (i : ℕ) (cells : List Cell) (o : Option Cell) → list_all (λ c. nat_le c.idx (COUNTER_END + R)) cells ≡ true
-    → slice_get cells i ≡ o → place_fits R there (CellAt s i) (option_map CellIs o) ≡ true
-cell_fits R there s i cells None h e = refl
-cell_fits R there s i cells (Some c) h e = all_at (λ x. nat_le x.idx (COUNTER_END + R)) cells i c h e
+value_fits : (R : ℕ) (there : Presence) (s : SegName) (i : ℕ) (o : Option Cell) → place_fits R there (ValAt s i) (option_map (λ c. ValIs c.val) o) ≡ true
+value_fits R there s i None = refl
+value_fits R there s i (Some c) = refl
 
-cell_of_fits : (R : ℕ) (p : Parts R) (s : SegName) (i : ℕ) (o : Option (SegmentParts R)) → NoFlaw p → by_name p.segments.items s ≡ o
-    → place_fits R (has p) (CellAt s i) (part_of_parts o (CellAt s i)) ≡ true
-cell_of_fits R p s i None f e = refl
-cell_of_fits R p s i (Some x) f e =
-    cell_fits R (has p) s i x.cells (slice_get x.cells i) (each_at (indexes_fit (COUNTER_END + R)) p.segments.items s x f.indexes e) refl
+value_of_fits : (R : ℕ) (p : Parts R) (s : SegName) (i : ℕ) (o : Option (SegmentParts R)) → place_fits R (has p) (ValAt s i) (part_of_parts o (ValAt s i)) ≡ true
+value_of_fits R p s i None = refl
+value_of_fits R p s i (Some x) = value_fits R (has p) s i (slice_get x.cells i)
+
+index_fits : (R : ℕ) (there : Presence) (s : SegName) (i : ℕ) (cells : List Cell) (o : Option Cell) → list_all (λ c. nat_le c.idx (COUNTER_END + R)) cells ≡ true
+    → slice_get cells i ≡ o → place_fits R there (IdxAt s i) (option_map (λ c. IdxIs c.safe c.idx) o) ≡ true
+index_fits R there s i cells None h e = refl
+index_fits R there s i cells (Some c) h e = all_at (λ x. nat_le x.idx (COUNTER_END + R)) cells i c h e
+
+index_of_fits : (R : ℕ) (p : Parts R) (s : SegName) (i : ℕ) (o : Option (SegmentParts R)) → NoFlaw p → by_name p.segments.items s ≡ o
+    → place_fits R (has p) (IdxAt s i) (part_of_parts o (IdxAt s i)) ≡ true
+index_of_fits R p s i None f e = refl
+index_of_fits R p s i (Some x) f e =
+    index_fits R (has p) s i x.cells (slice_get x.cells i) (each_at (indexes_fit (COUNTER_END + R)) p.segments.items s x f.indexes e) refl
 
 slot_fits : (R : ℕ) (there : Presence) (i : ℕ) (o : Option ArrSlot) → place_fits R there (ArrCell i) (option_map Slot o) ≡ true
 slot_fits R there i None = refl
@@ -246,7 +260,9 @@ contents_fit R p f QTail = f.qtail
 contents_fit R p f (Head s) = head_fits p s (by_name p.segments.items s) f refl
 contents_fit R p f (Tail s) = tail_fits p s (by_name p.segments.items s) f refl
 contents_fit R p f (Next s) = link_fits p s (by_name p.segments.items s) f refl
-contents_fit R p f (CellAt s i) = cell_of_fits R p s i (by_name p.segments.items s) f refl
+contents_fit R p f (ValAt s i) = value_of_fits R p s i (by_name p.segments.items s)
+contents_fit R p f (IdxAt s i) = index_of_fits R p s i (by_name p.segments.items s) f refl
+contents_fit R p f (CellAt s i) = refl
 contents_fit R p f (WholeOf s) = refl
 contents_fit R p f ArrHead = f.array_head
 contents_fit R p f ArrTail = f.array_tail

@@ -1,7 +1,7 @@
 -- An operation that fits, on a content that fits its place, writes one that fits there, and answers what fits.
-use Rattle.std.proofs.Common.{◌≡◌, ℕ, ◌+◌, ◌<◌, ◌≤◌, Bool, true, false, not, ◌==◌, ◌&&◌, nat_lt, nat_le, refl, arith, Some, None, IfSome, Result, IfOk, lt-ltb, ltb-true, leb-true, le-leb}
+use Rattle.std.proofs.Common.{◌≡◌, ℕ, ◌+◌, ◌<◌, ◌≤◌, Bool, true, false, not, ◌==◌, ◌&&◌, nat_lt, nat_le, refl, arith, Option, Some, None, IfSome, Result, IfOk, lt-ltb, ltb-true, leb-true, le-leb}
 use Rattle.std.proofs.lemmas.Bool.{cond_both}
-use Rattle.rd_ring.specs.Prelude.{SLOTS, COUNTER_END, Cell, SegName, Place, QHead, QTail, Head, Tail, Next, CellAt, ArrHead, ArrTail, ArrCell, ArrSlot, Content, Name, Number, TailIs, NextIs, CellIs, Slot, Found, Won, Lost, Answer, Operation, Read, ReadValue, ReadSafeAndIndex, Add, AddArray, Close, CasName, CasNext, CasTail, Cas2, Swap, Refusal, CounterEnd, ArrayEnd, is_name, is_cell, Effect, effect}
+use Rattle.rd_ring.specs.Prelude.{SLOTS, COUNTER_END, Cell, SegName, Place, QHead, QTail, Head, Tail, Next, CellAt, ValAt, IdxAt, ArrHead, ArrTail, ArrCell, ArrSlot, Content, Name, Number, TailIs, NextIs, CellIs, ValIs, IdxIs, Slot, Found, Won, Lost, Answer, Operation, Read, ReadValue, ReadSafeAndIndex, Add, AddArray, Close, CasName, CasNext, CasTail, Cas2, Swap, Refusal, CounterEnd, ArrayEnd, is_name, is_cell, Effect, effect}
 use Rattle.rd_cell.specs.Operations.{swaps, adds}
 use Rattle.rd_step.specs.WellFormed.{Presence, content_fits}
 use Rattle.rd_step.proofs.Fits.{op_fits, answer_fits, has_slot}
@@ -68,10 +68,17 @@ on_next R there _ s m f h = tt
 
 on_cell : (R : ℕ) (there : Presence) (op : Operation) (s : SegName) (i : ℕ) (c : Cell) → op_fits R there (CellAt s i) op ≡ true
     → nat_le c.idx (COUNTER_END + R) ≡ true → IfOk (effect op (CellIs c)) (EffectFits R there (CellAt s i) op)
-on_cell R there ReadValue s i c f h = (tt, refl, refl)
-on_cell R there ReadSafeAndIndex s i c f h = (tt, h, refl)
 on_cell R there (Cas2 old new) s i c f h = swaps_fit R there (CellAt s i) (Cas2 old new) (is_cell c old) (CellIs new) f (λ a. refl)
 on_cell R there _ s i c f h = tt
+
+on_value : (R : ℕ) (there : Presence) (op : Operation) (s : SegName) (i : ℕ) (val : Option ℕ) → IfOk (effect op (ValIs val)) (EffectFits R there (ValAt s i) op)
+on_value R there ReadValue s i val = (tt, refl, refl)
+on_value R there _ s i val = tt
+
+on_index : (R : ℕ) (there : Presence) (op : Operation) (s : SegName) (i : ℕ) (safe : Bool) (idx : ℕ) → nat_le idx (COUNTER_END + R) ≡ true
+    → IfOk (effect op (IdxIs safe idx)) (EffectFits R there (IdxAt s i) op)
+on_index R there ReadSafeAndIndex s i safe idx h = (tt, h, refl)
+on_index R there _ s i safe idx h = tt
 
 -- a position of the array is one that a counter may have, and has a slot if it is below the end
 small_position : (n : ℕ) → nat_le n SLOTS ≡ true → nat_le n COUNTER_END ≡ true
@@ -111,6 +118,8 @@ effect_fits R there (Tail s) op (TailIs c n) f h = on_count R there op s c n f h
 effect_fits R there (Next s) op (NextIs None) f h = on_none R there op s f
 effect_fits R there (Next s) op (NextIs (Some m)) f h = on_next R there op s m f h
 effect_fits R there (CellAt s i) op (CellIs c) f h = on_cell R there op s i c f h
+effect_fits R there (ValAt s i) op (ValIs val) f h = on_value R there op s i val
+effect_fits R there (IdxAt s i) op (IdxIs safe idx) f h = on_index R there op s i safe idx h
 effect_fits R there ArrHead op (Number n) f h = on_array_head R there op n f h
 effect_fits R there ArrTail op (Number n) f h = on_array_tail R there op n f h
 effect_fits R there (ArrCell i) op (Slot slot) f h = on_slot R there op i slot

@@ -1,7 +1,7 @@
 -- Which accesses and answers fit, and that an actor whose record fits asks for an access that fits.
 use Rattle.std.proofs.Common.{nat_lt, ◌≡◌, ℕ, ◌+◌, ◌≤◌, Bool, true, not, ◌&&◌, nat_le, refl, arith, Option, Some, None, IfOk, le-leb, leb-true}
 use Rattle.std.proofs.lemmas.Bool.{and_parts, and_from}
-use Rattle.rd_ring.specs.Prelude.{SLOTS, COUNTER_END, SegName, Place, QHead, QTail, Head, Tail, Next, CellAt, ArrHead, ArrTail, ArrCell, Content, Name, Number, TailIs, NextIs, CellIs, Slot, Access, NoPlace, At, Make, Answer, Found, SafeAndIndex, Made, Operation, Add, AddArray, CasName, CasNext, CasTail, Cas2, is_array, may_have}
+use Rattle.rd_ring.specs.Prelude.{SLOTS, COUNTER_END, SegName, Place, QHead, QTail, Head, Tail, Next, CellAt, ValAt, IdxAt, ArrHead, ArrTail, ArrCell, Content, Name, Number, TailIs, NextIs, CellIs, ValIs, IdxIs, Slot, Access, NoPlace, At, Make, Answer, Found, SafeAndIndex, Made, Operation, Add, AddArray, CasName, CasNext, CasTail, Cas2, is_array, may_have}
 use Rattle.rd_actor.specs.declared.actors.Act.{Act}
 use Rattle.rd_actor.specs.declared.actors.Act.TheVariants.{Enq, Deq, AEnq, ADeq, Go, Starve}
 use Rattle.rd_actor.specs.declared.actors.Actor.{Actor}
@@ -60,6 +60,8 @@ content_grows R there there' (Tail s) (TailIs closed n) more h = h
 content_grows R there there' (Next s) (NextIs None) more h = h
 content_grows R there there' (Next s) (NextIs (Some m)) more h = more m h
 content_grows R there there' (CellAt s i) (CellIs c) more h = h
+content_grows R there there' (ValAt s i) (ValIs val) more h = h
+content_grows R there there' (IdxAt s i) (IdxIs safe idx) more h = h
 content_grows R there there' ArrHead (Number n) more h = h
 content_grows R there there' ArrTail (Number n) more h = h
 content_grows R there there' (ArrCell i) (Slot slot) more h = h
@@ -91,6 +93,8 @@ may_fit R there (Head s) (Number n) h = h
 may_fit R there (Tail s) (TailIs closed n) h = h
 may_fit R there (Next s) (NextIs m) h = refl
 may_fit R there (CellAt s i) (CellIs c) h = refl
+may_fit R there (ValAt s i) (ValIs val) h = refl
+may_fit R there (IdxAt s i) (IdxIs safe idx) h = refl
 may_fit R there ArrHead (Number n) h = h
 may_fit R there ArrTail (Number n) h = h
 may_fit R there (ArrCell i) (Slot slot) h = refl

@@ -4,10 +4,11 @@ use Rattle.std.proofs.Common.{◌≡◌, ℕ, zero, suc, ◌+◌, ◌<◌, true,
 use Rattle.std.proofs.lemmas.Bool.{cases_eq, cases_Bool, cond-true, cond-false, cond_both, and_right}
 use Rattle.std.proofs.lemmas.Result.{IfOk-at_ok}
 use mathlib.Core.Path.{fun_ext}
-use Rattle.rd_ring.specs.Prelude.{MOST_SEGMENTS, SegName, Place, Head, Tail, Next, CellAt, WholeOf, Content, Access, NoPlace, At, Make, Operation, Refusal, is_of, covers, Contents, after_write, operand, restore, is_there, holding, Effect, effect, Performed, contents_after, operate, make, perform}
+use Rattle.rd_ring.specs.Prelude.{MOST_SEGMENTS, SegName, Place, Head, Tail, Next, CellAt, ValAt, IdxAt, WholeOf, Content, Access, NoPlace, At, Make, Operation, Refusal, is_of, covers, written, wrote_by, share, Contents, after_write, operand, restore, is_there, holding, Effect, effect, Performed, contents_after, operate, make, perform}
 use Rattle.rd_cell.specs.Access.{effect_at, number_made_from, number_made, perform_effect}
 use Rattle.rd_cell.proofs.PlaceLemmas.{is_name-true}
-use Rattle.rd_cell.proofs.AccessLemmas.{after_write-outside, operand-covered}
+use Rattle.rd_cell.proofs.AccessLemmas.{is_cell_at, after_write-outside, operand-covered}
+use Rattle.rd_cell.proofs.EffectLemmas.{not_written}
 use Rattle.rd_actor.specs.declared.actors.Actor.{Actor}
 use Rattle.rd_actor.specs.Table.{after}
 use Rattle.rd_step.specs.World.{World}
@@ -15,24 +16,30 @@ use Rattle.rd_step.specs.declared.entries.Event.{Event}
 use Rattle.rd_step.specs.Step.{Stepped, with_actor, step, unstep}
 use Rattle.rd_step.specs.Run.{Ran, run_preceded_by, run_from_step, run}
 use Rattle.rd_step.specs.WellFormed.{Presence, belongs, IsWellFormed}
+use Rattle.rd_step.proofs.Halves.{nothing_there, bare_cell}
 use Rattle.rd_step.proofs.Steps.{took, with_actor-same, with_actor-other}
 
 -- the contents that an access left, with what was at its place put back, are those from before it
 abbrev PutsBack : Contents → Performed → Type 0
 PutsBack at did = (q : Place) → restore did.place did.old (contents_after did at) q ≡ at q
 
-back-effect : (p : Place) (c : Content) (e : Effect) (at : Contents) → operand at p ≡ Some c → PutsBack at (effect_at p c e)
-back-effect p c e at h q =
-    cond_both (covers p q) (Some c) (contents_after (effect_at p c e) at q) (λ (o : Option Content). o ≡ at q)
-    (λ k. sym (operand-covered p at c q h k)) (λ k. after_write-outside (Some p) (effect_at p c e).writes at q k)
+-- a cell is no place of the map
+abbrev Bare : Contents → Type 0
+Bare at = (q : Place) → is_cell_at q ≡ true → at q ≡ None
 
-back-result : (p : Place) (c : Content) (r : Result Effect Refusal) (at : Contents) → operand at p ≡ Some c → IfOk (perform_effect p c r) (PutsBack at)
-back-result p c (Err x) at h = tt
-back-result p c (Ok e) at h = back-effect p c e at h
+back-effect : (p : Place) (c : Content) (e : Effect) (at : Contents) → Bare at → operand at p ≡ Some c → PutsBack at (effect_at p c e)
+back-effect p c e at bare h q =
+    cond_both (covers p q) (share p (Some c) q) (contents_after (effect_at p c e) at q) (λ (o : Option Content). o ≡ at q)
+    (λ k. sym (operand-covered p at c q h (bare q) k))
+    (λ k. after_write-outside (written (Some p) (wrote_by c e.writes)) (share p e.writes) at q (not_written (Some p) (wrote_by c e.writes) q k))
 
-back-operate : (p : Place) (op : Operation) (o : Option Content) (at : Contents) → operand at p ≡ o → IfOk (operate p op o) (PutsBack at)
-back-operate p op None at h = tt
-back-operate p op (Some c) at h = back-result p c (effect op c) at h
+back-result : (p : Place) (c : Content) (r : Result Effect Refusal) (at : Contents) → Bare at → operand at p ≡ Some c → IfOk (perform_effect p c r) (PutsBack at)
+back-result p c (Err x) at bare h = tt
+back-result p c (Ok e) at bare h = back-effect p c e at bare h
+
+back-operate : (p : Place) (op : Operation) (o : Option Content) (at : Contents) → Bare at → operand at p ≡ o → IfOk (operate p op o) (PutsBack at)
+back-operate p op None at bare h = tt
+back-operate p op (Some c) at bare h = back-result p c (effect op c) at bare h
 
 -- below the bound, the number that counting ends at names no segment that is there
 number_made_from-absent : (more : ℕ) (at : Contents) (m n : ℕ) → number_made_from more at m n < n + more
@@ -58,13 +65,11 @@ pub absent_place : (R : ℕ) (there : Presence) (s : SegName) (q : Place) → th
 absent_place R there s (Head t) h e = subst (λ (x : SegName). there x ≡ false) (is_name-true s t e) h
 absent_place R there s (Tail t) h e = subst (λ (x : SegName). there x ≡ false) (is_name-true s t e) h
 absent_place R there s (Next t) h e = subst (λ (x : SegName). there x ≡ false) (is_name-true s t e) h
-absent_place R there s (CellAt t i) h e = and_right (nat_lt i R) (there t) (subst (λ (x : SegName). there x ≡ false) (is_name-true s t e) h)
+absent_place R there s (ValAt t i) h e = and_right (nat_lt i R) (there t) (subst (λ (x : SegName). there x ≡ false) (is_name-true s t e) h)
+absent_place R there s (IdxAt t i) h e = and_right (nat_lt i R) (there t) (subst (λ (x : SegName). there x ≡ false) (is_name-true s t e) h)
+absent_place R there s (CellAt t i) h e = refl
 absent_place R there s (WholeOf t) h e = refl
 absent_place R there s _ h e = cc
-
-nothing_there : (o : Option Content) → is_some o ≡ false → o ≡ None
-nothing_there None h = refl
-nothing_there (Some c) h = cc
 
 back-make : (R actor n x : ℕ) (w : World) → IsWellFormed R w → (n < MOST_SEGMENTS → is_there w.at (record { maker = actor; n = n }) ≡ false)
     → IfOk (make R (record { maker = actor; n = n }) x) (PutsBack w.at)
@@ -79,7 +84,7 @@ back-make R actor n x w formed absent =
 
 back-perform : (R actor : ℕ) (w : World) (x : Access) → IsWellFormed R w → IfOk (perform R actor w.at x) (PutsBack w.at)
 back-perform R actor w NoPlace formed = λ q. refl
-back-perform R actor w (At p op) formed = back-operate p op (operand w.at p) w.at refl
+back-perform R actor w (At p op) formed = back-operate p op (operand w.at p) w.at (bare_cell R w formed) refl
 back-perform R actor w (Make x) formed = back-make R actor (number_made w.at actor) x w formed (number_made-absent w.at actor)
 
 -- the actors with one's old record put back are those from before

@@ -1,19 +1,20 @@
 -- A step keeps a world well-formed.
-use Rattle.std.proofs.Common.{◌≡◌, ℕ, Bool, true, ◌==◌, nat_lt, inl, inr, refl, sym, ◌∙◌, ap, subst, subst₂, Option, Some, None, is_some, option_map, IfSome, Result, Ok, Err, IfOk}
-use Rattle.std.proofs.lemmas.Bool.{cases_eq, cond_both}
+use Rattle.std.proofs.Common.{◌≡◌, ℕ, Bool, true, ◌==◌, nat_lt, inl, inr, refl, sym, ◌∙◌, ap, subst, subst₂, Option, Some, None, is_some, IfSome, Result, Ok, Err, IfOk}
+use Rattle.std.proofs.lemmas.Bool.{cases_eq, cases_Bool, cond_both}
 use Rattle.std.proofs.lemmas.Result.{IfOk-at_ok}
 use mathlib.Core.Path.{fun_ext}
-use Rattle.rd_ring.specs.Prelude.{SegName, Place, Head, Content, Access, NoPlace, At, Make, Nothing, Made, Operation, Refusal, MOST_SEGMENTS, root, covers, share, operand, contents_after, Contents, is_there, Effect, effect, Performed, number_made, operate, make, perform}
+use Rattle.rd_ring.specs.Prelude.{SegName, Place, Head, Content, Access, NoPlace, At, Make, Nothing, Made, Operation, Refusal, MOST_SEGMENTS, root, some_covers, written, share, wrote_content, wrote_by, operand, contents_after, Contents, is_there, Effect, effect, Performed, number_made, operate, make, perform}
 use Rattle.rd_cell.specs.Access.{effect_at, perform_effect}
 use Rattle.rd_cell.specs.Contents.{after_write_at}
-use Rattle.rd_cell.proofs.PlaceLemmas.{is_place-true, is_name-refl, covers-refl}
-use Rattle.rd_cell.proofs.AccessLemmas.{operand-plain, operand-covered, after-is_some}
+use Rattle.rd_cell.proofs.PlaceLemmas.{is_name-refl, written-covers}
+use Rattle.rd_cell.proofs.AccessLemmas.{after_write-outside, after_write-inside, after-is_some}
 use Rattle.rd_actor.specs.declared.actors.Actor.{Actor}
 use Rattle.rd_actor.specs.Table.{need, after}
 use Rattle.rd_step.specs.World.{World}
 use Rattle.rd_step.specs.declared.entries.Event.{Event}
 use Rattle.rd_step.specs.Step.{Stepped, with_actor, step_outcome, step}
 use Rattle.rd_step.specs.WellFormed.{Presence, belongs, content_fits, place_fits, record_fits, actor_fits, is_actor, IsNumbered, AreMade, IsWellFormed}
+use Rattle.rd_step.proofs.Halves.{bare_cell, operand_fits, share_fits, same_kinds}
 use Rattle.rd_step.proofs.Steps.{took, with_actor-same, with_actor-other}
 use Rattle.rd_step.proofs.Fits.{op_fits, access_fits, record_grows, actor_grows, need_fits}
 use Rattle.rd_step.proofs.Effects.{EffectFits, effect_fits}
@@ -33,17 +34,22 @@ is_actor-same n a b actors has = fun_ext each
         ]
 
 -- what is left at each place by an operation at one that is there fits, if what is written fits
-effect_left_fits : (R : ℕ) (there : Presence) (at : Contents) (p : Place) (c : Content) (f : Effect) (q : Place) → operand at p ≡ Some c
+effect_left_fits : (R : ℕ) (there : Presence) (at : Contents) (p : Place) (c : Content) (f : Effect) (q : Place)
     → IfSome f.writes (λ d. content_fits R there p d ≡ true) → place_fits R there q (at q) ≡ true
     → place_fits R there q (contents_after (effect_at p c f) at q) ≡ true
-effect_left_fits R there at p c f q found =
-    elim f.writes as (λ w. IfSome w (λ d. content_fits R there p d ≡ true) → place_fits R there q (at q) ≡ true
-    → place_fits R there q (after_write_at (Some p) (option_map (λ (d : Content). share (Some d)) w) at q) ≡ true) [
-      | None ↦ λ h k. k
-      | Some d ↦ λ h k.
-          cond_both (covers p q) (Some d) (at q) (λ (o : Option Content). place_fits R there q o ≡ true)
-          (λ e. subst (λ (x : Place). content_fits R there x d ≡ true) (is_place-true p q (sym (operand-plain p at c q found) ∙ e)) h) (λ e. k)
-    ]
+effect_left_fits R there at p c f q fits was = by f.writes fits
+  where
+    by : (o : Option Content) → IfSome o (λ d. content_fits R there p d ≡ true)
+        → place_fits R there q (after_write_at (written (Some p) (wrote_by c o)) (share p o) at q) ≡ true
+    by None h = was
+    by (Some d) h =
+        let place : Option Place = written (Some p) (wrote_content c d) in
+        elim (cases_Bool (some_covers place q)) [
+          | inl m ↦
+              subst (λ (o : Option Content). place_fits R there q o ≡ true) (sym (after_write-inside place (share p (Some d)) at q m))
+              (share_fits R there p d q h (written-covers (Some p) (wrote_content c d) q m))
+          | inr m ↦ subst (λ (o : Option Content). place_fits R there q o ≡ true) (sym (after_write-outside place (share p (Some d)) at q m)) was
+        ]
 
 -- a step that makes no segment keeps the world well-formed, if what it writes and the actor's next record fit
 pub keeps_by : (R : ℕ) (w : World) (n : ℕ) (a next : Actor) (p : Place) (c : Content) (f : Effect)
@@ -52,7 +58,9 @@ pub keeps_by : (R : ℕ) (w : World) (n : ℕ) (a next : Actor) (p : Place) (c :
     → IsWellFormed R (record { at = contents_after (effect_at p c f) w.at; actor = with_actor n next w.actor })
 keeps_by R w n a next p c f formed has there_is fits next_fits =
     let at' : Contents = contents_after (effect_at p c f) w.at in
-    let some : (q : Place) → is_some (at' q) ≡ is_some (w.at q) = λ q. after-is_some p c f w.at q there_is in
+    let here : content_fits R (is_there w.at) p c ≡ true = operand_fits R (is_there w.at) w.at p c formed.contents there_is in
+    let some : (q : Place) → is_some (at' q) ≡ is_some (w.at q) =
+    λ q. after-is_some p c f w.at q there_is (bare_cell R w formed q) (same_kinds R (is_there w.at) p c f.writes q here fits) in
     let presence : is_there w.at ≡ is_there at' = sym (fun_ext (λ (s : SegName). some (Head s))) in
     let actors : is_actor w.actor ≡ is_actor (with_actor n next w.actor) = sym (is_actor-same n a next w.actor has) in
     let each_actor : (m : ℕ) → actor_fits R (is_there w.at) (with_actor n next w.actor m) ≡ true =
@@ -63,7 +71,7 @@ keeps_by R w n a next p c f formed has there_is fits next_fits =
       places = λ q. some q ∙ formed.places q ∙ ap (λ (there : Presence). belongs R there q) presence;
       contents = λ q.
           subst (λ (there : Presence). place_fits R there q (at' q) ≡ true) presence
-          (effect_left_fits R (is_there w.at) w.at p c f q there_is fits (formed.contents q));
+          (effect_left_fits R (is_there w.at) w.at p c f q fits (formed.contents q));
       actors = λ m. subst (λ (there : Presence). actor_fits R there (with_actor n next w.actor m) ≡ true) presence (each_actor m);
     }
 
@@ -122,8 +130,7 @@ keeps_operate : (R : ℕ) (w : World) (e : Event) (a : Actor) (p : Place) (op : 
     → op_fits R (is_there w.at) p op ≡ true → IfOk (operate p op o) (Keeps R w e a)
 keeps_operate R w e a p op None formed has needs fits found good = tt
 keeps_operate R w e a p op (Some c) formed has needs fits found good =
-    let here : content_fits R (is_there w.at) p c ≡ true =
-    subst (λ (o : Option Content). place_fits R (is_there w.at) p o ≡ true) (operand-covered p w.at c p found (covers-refl p)) (formed.contents p) in
+    let here : content_fits R (is_there w.at) p c ≡ true = operand_fits R (is_there w.at) w.at p c formed.contents found in
     keeps_done R w e a p op c (effect op c) formed has needs fits found (effect_fits R (is_there w.at) p op c good here)
 
 keeps_make : (R : ℕ) (w : World) (e : Event) (a : Actor) (v : ℕ) → IsWellFormed R w → w.actor e.actor ≡ Some a

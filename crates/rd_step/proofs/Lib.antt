@@ -1,6 +1,7 @@
 pub mod PassedUp
 pub mod Steps
 pub mod Commute
+pub mod Halves
 pub mod Fits
 pub mod Effects
 pub mod Rows

@@ -2,7 +2,7 @@
 -- belong there.
 use Rattle.std.proofs.Common.{◌≡◌, ℕ, zero, suc, ◌+◌, ◌<◌, ◌≤◌, Bool, true, false, not, ◌==◌, ◌&&◌, nat_lt, inl, inr, refl, sym, ◌∙◌, ap, subst, arith, Option, Some, None, is_some, ltb-true, le-leb, eqb-true}
 use Rattle.std.proofs.lemmas.Bool.{cases_eq, cases_Bool, cond-true, cond-false, cond_both, and_parts, and_from, and_left}
-use Rattle.rd_ring.specs.Prelude.{MOST_SEGMENTS, COUNTER_END, SegName, Place, Head, Tail, Next, CellAt, WholeOf, Content, Number, CellIs, root, is_name, is_of, Contents, is_there, after_write, holding, new_cell}
+use Rattle.rd_ring.specs.Prelude.{MOST_SEGMENTS, COUNTER_END, SegName, Place, Head, Tail, Next, CellAt, ValAt, IdxAt, WholeOf, Content, Number, ValIs, IdxIs, root, is_name, is_of, Contents, is_there, after_write, holding}
 use Rattle.rd_cell.specs.Cells.{value_in_cell}
 use Rattle.rd_cell.specs.Access.{number_made_from, number_made}
 use Rattle.rd_cell.proofs.PlaceLemmas.{is_name-true}
@@ -87,10 +87,15 @@ new_place : (R : ℕ) (s : SegName) (x : ℕ) (there : Presence) (p : Place) →
 new_place R s x there (Head t) h e = sym (h t e)
 new_place R s x there (Tail t) h e = sym (h t e)
 new_place R s x there (Next t) h e = sym (h t e)
-new_place R s x there (CellAt t i) h e =
-    cond_both (nat_lt i R) (Some (CellIs (new_cell i (value_in_cell x i)))) None
+new_place R s x there (ValAt t i) h e =
+    cond_both (nat_lt i R) (Some (ValIs (value_in_cell x i))) None
     (λ (o : Option Content). is_some o ≡ (nat_lt i R && there t))
     (λ b. sym (and_from (nat_lt i R) (there t) b (h t e))) (λ b. sym (and_left (nat_lt i R) (there t) b))
+new_place R s x there (IdxAt t i) h e =
+    cond_both (nat_lt i R) (Some (IdxIs true i)) None
+    (λ (o : Option Content). is_some o ≡ (nat_lt i R && there t))
+    (λ b. sym (and_from (nat_lt i R) (there t) b (h t e))) (λ b. sym (and_left (nat_lt i R) (there t) b))
+new_place R s x there (CellAt t i) h e = refl
 new_place R s x there (WholeOf t) h e = refl
 new_place R s x there _ h e = cc
 
@@ -100,7 +105,8 @@ old_place : (R : ℕ) (s : SegName) (there there' : Presence) (p : Place) → ((
 old_place R s there there' (Head t) h e = sym (h t e)
 old_place R s there there' (Tail t) h e = sym (h t e)
 old_place R s there there' (Next t) h e = sym (h t e)
-old_place R s there there' (CellAt t i) h e = ap (λ (b : Bool). nat_lt i R && b) (sym (h t e))
+old_place R s there there' (ValAt t i) h e = ap (λ (b : Bool). nat_lt i R && b) (sym (h t e))
+old_place R s there there' (IdxAt t i) h e = ap (λ (b : Bool). nat_lt i R && b) (sym (h t e))
 old_place R s there there' _ h e = refl
 
 pub laid_places : (R : ℕ) (s : SegName) (x : ℕ) (at : Contents) → ((p : Place) → is_some (at p) ≡ belongs R (is_there at) p) → (p : Place)
@@ -120,9 +126,12 @@ new_fits : (R : ℕ) (x : ℕ) (there : Presence) (p : Place) → place_fits R t
 new_fits R x there (Head t) = refl
 new_fits R x there (Tail t) = refl
 new_fits R x there (Next t) = refl
-new_fits R x there (CellAt t i) =
-    cond_both (nat_lt i R) (Some (CellIs (new_cell i (value_in_cell x i)))) None
-    (λ (o : Option Content). place_fits R there (CellAt t i) o ≡ true)
+new_fits R x there (ValAt t i) =
+    cond_both (nat_lt i R) (Some (ValIs (value_in_cell x i))) None
+    (λ (o : Option Content). place_fits R there (ValAt t i) o ≡ true) (λ b. refl) (λ b. refl)
+new_fits R x there (IdxAt t i) =
+    cond_both (nat_lt i R) (Some (IdxIs true i)) None
+    (λ (o : Option Content). place_fits R there (IdxAt t i) o ≡ true)
     (λ b. let below : i < R = ltb-true i R b in le-leb i (COUNTER_END + R) (omega arith)) (λ b. refl)
 new_fits R x there _ = refl
 

@@ -3,11 +3,12 @@ use Rattle.std.proofs.Common.{◌≡◌, ◌≢◌, ℕ, ◌+◌, ◌%◌, ◌<�
 use Rattle.std.proofs.lemmas.Bool.{cond_both, and_parts, and_from}
 use Rattle.std.proofs.lemmas.Result.{IfOk-at_ok}
 use mathlib.Core.Path.{fun_ext}
-use Rattle.rd_ring.specs.Prelude.{SLOTS, MOST_SEGMENTS, COUNTER_END, Cell, SegName, Place, QHead, QTail, Head, Tail, Next, CellAt, ArrHead, ArrTail, ArrCell, ArrSlot, Empty as NobodyYet, Top, Held, Content, Name, Number, TailIs, NextIs, CellIs, Slot, Operation, Read, ReadValue, ReadSafeAndIndex, Add, AddArray, Close, CasName, CasNext, CasTail, Cas2, Swap, Found, Won, Lost, Nothing, Made, Access, NoPlace, At, Make, Refusal, NoActor, CounterEnd, ArrayEnd, NoSuchPlace, is_name, is_cell, Contents, is_there, operand, Effect, effect, Performed, number_made, operate, make, perform}
+use Rattle.rd_ring.specs.Prelude.{SLOTS, MOST_SEGMENTS, COUNTER_END, Cell, SegName, Place, QHead, QTail, Head, Tail, Next, CellAt, ValAt, IdxAt, Wrote, WroteNothing, ArrHead, ArrTail, ArrCell, ArrSlot, Empty as NobodyYet, Top, Held, Content, Name, Number, TailIs, NextIs, CellIs, ValIs, IdxIs, Slot, Operation, Read, ReadValue, ReadSafeAndIndex, Add, AddArray, Close, CasName, CasNext, CasTail, Cas2, Swap, Found, Won, Lost, Nothing, Made, Access, NoPlace, At, Make, Refusal, NoActor, CounterEnd, ArrayEnd, NoSuchPlace, is_name, is_cell, some_covers, is_nothing, written, Contents, is_there, operand, Effect, effect, Performed, number_made, operate, make, perform}
 use Rattle.rd_cell.specs.Cells.{is_bit}
 use Rattle.rd_cell.specs.Operations.{swaps, adds}
 use Rattle.rd_cell.specs.Access.{perform_effect}
-use Rattle.rd_cell.proofs.AccessLemmas.{after_write-outside, after_write-none}
+use Rattle.rd_cell.proofs.AccessLemmas.{after_write-outside}
+use Rattle.rd_cell.proofs.PlaceLemmas.{written-covers}
 use Rattle.rd_actor.specs.declared.actors.Act.{Act}
 use Rattle.rd_actor.specs.declared.actors.Act.TheVariants.{Enq, Deq, AEnq, ADeq, Go, Starve}
 use Rattle.rd_actor.specs.declared.actors.Actor.{Actor}
@@ -22,7 +23,8 @@ use Rattle.rd_step.specs.World.{World}
 use Rattle.rd_step.specs.declared.entries.Event.{Event}
 use Rattle.rd_step.specs.Step.{Stepped, step, step_of_actor, step_of_need, step_of_access}
 use Rattle.rd_step.specs.Laws.{IsStepRefusal, SuitsContent, MovesOn, ChangesOnly}
-use Rattle.rd_step.specs.WellFormed.{Presence, belongs, content_fits, place_fits, record_fits, actor_fits, IsWellFormed}
+use Rattle.rd_step.specs.WellFormed.{Presence, content_fits, place_fits, record_fits, actor_fits, IsWellFormed}
+use Rattle.rd_step.proofs.Halves.{has_place, has_operand}
 use Rattle.rd_step.proofs.Fits.{PartsFit, parts_of, words_of}
 use Rattle.rd_step.proofs.Steps.{took, with_actor-same, with_actor-other}
 
@@ -54,6 +56,16 @@ cell_kind : (R : ℕ) (there : Presence) (s : SegName) (i : ℕ) (P : Content �
     → content_fits R there (CellAt s i) c ≡ true → P c
 cell_kind R there s i P f (CellIs x) h = f x
 cell_kind R there s i P f _ h = cc
+
+value_kind : (R : ℕ) (there : Presence) (s : SegName) (i : ℕ) (P : Content → Type 0) → ((val : Option ℕ) → P (ValIs val)) → (c : Content)
+    → content_fits R there (ValAt s i) c ≡ true → P c
+value_kind R there s i P f (ValIs val) h = f val
+value_kind R there s i P f _ h = cc
+
+index_kind : (R : ℕ) (there : Presence) (s : SegName) (i : ℕ) (P : Content → Type 0) → ((safe : Bool) (idx : ℕ) → P (IdxIs safe idx)) → (c : Content)
+    → content_fits R there (IdxAt s i) c ≡ true → P c
+index_kind R there s i P f (IdxIs safe idx) h = f safe idx
+index_kind R there s i P f _ h = cc
 
 array_head_kind : (R : ℕ) (there : Presence) (P : Content → Type 0) → ((n : ℕ) → P (Number n)) → (c : Content) → content_fits R there ArrHead c ≡ true → P c
 array_head_kind R there P f (Number n) h = f n
@@ -120,8 +132,8 @@ row_leads R there E1 a w = λ c h. tail_end_kind R there (λ (x : Content). Goes
 row_leads R there E2 a w = λ c h. next_kind R there a.crq (λ (x : Content). Goes R E2 a (effect Read x)) (λ e. cc) (λ m e. cc) c h
 row_leads R there E3 a w = λ c h. tail_end_kind R there (λ (x : Content). Goes R E3 a (effect (CasName a.crq a.next) x)) (λ s. swaps_lead R E3 a (is_name s a.crq) (Name a.next) (λ e. cc) (λ e. cc)) c h
 row_leads R there E4 a w = λ c h. tail_kind R there a.crq (λ (x : Content). Goes R E4 a (effect Add x)) (λ closed n. adds_lead R E4 a COUNTER_END n (TailIs closed n) (TailIs closed (n + 1)) (other closed E12 E5 E4 (λ e. cc) (λ e. cc))) c h
-row_leads R there E5 a w = λ c h. cell_kind R there a.crq (a.t % R) (λ (x : Content). Goes R E5 a (effect ReadValue x)) (λ x e. cc) c h
-row_leads R there E6 a w = λ c h. cell_kind R there a.crq (a.t % R) (λ (x : Content). Goes R E6 a (effect ReadSafeAndIndex x)) (λ x. other (is_none a.val && nat_le x.idx a.t) (if x.safe then E8 else E7) E9 E6 (other x.safe E8 E7 E6 (λ e. cc) (λ e. cc)) (λ e. cc)) c h
+row_leads R there E5 a w = λ c h. value_kind R there a.crq (a.t % R) (λ (x : Content). Goes R E5 a (effect ReadValue x)) (λ x e. cc) c h
+row_leads R there E6 a w = λ c h. index_kind R there a.crq (a.t % R) (λ (x : Content). Goes R E6 a (effect ReadSafeAndIndex x)) (λ safe idx. other (is_none a.val && nat_le idx a.t) (if safe then E8 else E7) E9 E6 (other safe E8 E7 E6 (λ e. cc) (λ e. cc)) (λ e. cc)) c h
 row_leads R there E7 a w = λ c h. head_kind R there a.crq (λ (x : Content). Goes R E7 a (effect Read x)) (λ g. other (nat_le g a.t) E8 E9 E7 (λ e. cc) (λ e. cc)) c h
 row_leads R there E8 a w = λ c h. cell_kind R there a.crq (a.t % R) (λ (x : Content). Goes R E8 a (effect (Cas2 (cell_of a.safe a.idx None) (cell_of true a.t (Some (value_of a.op)))) x)) (λ x. swaps_lead R E8 a _ _ (λ e. cc) (λ e. cc)) c h
 row_leads R there E9 a w = λ c h. head_kind R there a.crq (λ (x : Content). Goes R E9 a (effect Read x)) (λ g. other (nat_le (g + R) a.t) E11 E10 E9 (λ e. cc) (λ e. cc)) c h
@@ -132,8 +144,8 @@ row_leads R there E13 a w = λ c h. next_kind R there a.crq (λ (x : Content). G
 row_leads R there E14 a w = λ c h. tail_end_kind R there (λ (x : Content). Goes R E14 a (effect (CasName a.crq a.new) x)) (λ s. swaps_lead R E14 a (is_name s a.crq) (Name a.new) (λ e. cc) (λ e. cc)) c h
 row_leads R there Q1 a w = λ c h. end_kind R there (λ (x : Content). Goes R Q1 a (effect Read x)) (λ s e. cc) c h
 row_leads R there Q2 a w = λ c h. head_kind R there a.crq (λ (x : Content). Goes R Q2 a (effect Add x)) (λ g. adds_lead R Q2 a COUNTER_END g (Number g) (Number (g + 1)) (λ e. cc)) c h
-row_leads R there Q3 a w = λ c h. cell_kind R there a.crq (a.h % R) (λ (x : Content). Goes R Q3 a (effect ReadValue x)) (λ x e. cc) c h
-row_leads R there Q4 a w = λ c h. cell_kind R there a.crq (a.h % R) (λ (x : Content). Goes R Q4 a (effect ReadSafeAndIndex x)) (λ x. other (nat_lt a.h x.idx) Q8 (if is_some a.val then (if x.idx == a.h then Q5 else Q6) else Q7) Q4 (λ e. cc) (other (is_some a.val) (if x.idx == a.h then Q5 else Q6) Q7 Q4 (other (x.idx == a.h) Q5 Q6 Q4 (λ e. cc) (λ e. cc)) (λ e. cc))) c h
+row_leads R there Q3 a w = λ c h. value_kind R there a.crq (a.h % R) (λ (x : Content). Goes R Q3 a (effect ReadValue x)) (λ x e. cc) c h
+row_leads R there Q4 a w = λ c h. index_kind R there a.crq (a.h % R) (λ (x : Content). Goes R Q4 a (effect ReadSafeAndIndex x)) (λ safe idx. other (nat_lt a.h idx) Q8 (if is_some a.val then (if idx == a.h then Q5 else Q6) else Q7) Q4 (λ e. cc) (other (is_some a.val) (if idx == a.h then Q5 else Q6) Q7 Q4 (other (idx == a.h) Q5 Q6 Q4 (λ e. cc) (λ e. cc)) (λ e. cc))) c h
 row_leads R there Q5 a w = λ c h. cell_kind R there a.crq (a.h % R) (λ (x : Content). Goes R Q5 a (effect (Cas2 (cell_of a.safe a.idx a.val) (cell_of a.safe (a.h + R) None)) x)) (λ x. swaps_lead R Q5 a (is_cell x (cell_of a.safe a.idx a.val)) (CellIs (cell_of a.safe (a.h + R) None)) (take_leads a a.val (and_parts (pass_fits a) (is_some a.val) (and_parts (pass_fits a && is_some a.val) (a.idx == a.h) w).0).1) (λ e. cc)) c h
 row_leads R there Q6 a w = λ c h. cell_kind R there a.crq (a.h % R) (λ (x : Content). Goes R Q6 a (effect (Cas2 (cell_of a.safe a.idx a.val) (cell_of false a.idx a.val)) x)) (λ x. swaps_lead R Q6 a (is_cell x (cell_of a.safe a.idx a.val)) (CellIs (cell_of false a.idx a.val)) (λ e. cc) (λ e. cc)) c h
 row_leads R there Q7 a w = λ c h. cell_kind R there a.crq (a.h % R) (λ (x : Content). Goes R Q7 a (effect (Cas2 (cell_of a.safe a.idx None) (cell_of a.safe (a.h + R) None)) x)) (λ x. swaps_lead R Q7 a (is_cell x (cell_of a.safe a.idx None)) (CellIs (cell_of a.safe (a.h + R) None)) (λ e. cc) (λ e. cc)) c h
@@ -153,39 +165,39 @@ row_leads R there Idle a w = tt
 
 -- The places that are asked for are there
 
--- an access at a place that belongs to the world
+-- an access at a place that is there
 abbrev IsAtPlace : ℕ → Presence → Access → Type 0
-IsAtPlace R there (At p op) = (belongs R there p ≡ true) × ((at : Contents) → operand at p ≡ at p)
+IsAtPlace R there (At p op) = has_place R there p ≡ true
 IsAtPlace R there _ = Unit {0}
 
-cell_place : (R : ℕ) (there : Presence) (s : SegName) (n : ℕ) → 1 ≤ R → there s ≡ true → IsAtPlace R there (At (CellAt s (n % R)) Read)
+cell_place : (R : ℕ) (there : Presence) (s : SegName) (n : ℕ) → 1 ≤ R → there s ≡ true → (nat_lt (n % R) R && there s) ≡ true
 cell_place R there s n some h =
     let below : n % R < R = omega arith in
-    (and_from (nat_lt (n % R) R) (there s) (lt-ltb (n % R) R below) h, λ at. refl)
+    and_from (nat_lt (n % R) R) (there s) (lt-ltb (n % R) R below) h
 
 row_place : (R : ℕ) (there : Presence) (pc : Pc) (a : Actor) → 1 ≤ R → PartsFit R there a → words_fit_at pc a ≡ true
     → IfOk (need_at R pc a) (IsAtPlace R there)
-row_place R there E1 a some f w = (refl, λ at. refl)
-row_place R there E3 a some f w = (refl, λ at. refl)
-row_place R there E14 a some f w = (refl, λ at. refl)
-row_place R there Q1 a some f w = (refl, λ at. refl)
-row_place R there Q14 a some f w = (refl, λ at. refl)
-row_place R there A1 a some f w = (refl, λ at. refl)
-row_place R there B1 a some f w = (refl, λ at. refl)
-row_place R there B3 a some f w = (refl, λ at. refl)
-row_place R there E2 a some f w = (f.crq, λ at. refl)
-row_place R there E4 a some f w = (f.crq, λ at. refl)
-row_place R there E7 a some f w = (f.crq, λ at. refl)
-row_place R there E9 a some f w = (f.crq, λ at. refl)
-row_place R there E11 a some f w = (f.crq, λ at. refl)
-row_place R there E13 a some f w = (f.crq, λ at. refl)
-row_place R there Q2 a some f w = (f.crq, λ at. refl)
-row_place R there Q8 a some f w = (f.crq, λ at. refl)
-row_place R there Q9 a some f w = (f.crq, λ at. refl)
-row_place R there Q10 a some f w = (f.crq, λ at. refl)
-row_place R there Q11 a some f w = (f.crq, λ at. refl)
-row_place R there Q12 a some f w = (f.crq, λ at. refl)
-row_place R there Q13 a some f w = (f.crq, λ at. refl)
+row_place R there E1 a some f w = refl
+row_place R there E3 a some f w = refl
+row_place R there E14 a some f w = refl
+row_place R there Q1 a some f w = refl
+row_place R there Q14 a some f w = refl
+row_place R there A1 a some f w = refl
+row_place R there B1 a some f w = refl
+row_place R there B3 a some f w = refl
+row_place R there E2 a some f w = f.crq
+row_place R there E4 a some f w = f.crq
+row_place R there E7 a some f w = f.crq
+row_place R there E9 a some f w = f.crq
+row_place R there E11 a some f w = f.crq
+row_place R there E13 a some f w = f.crq
+row_place R there Q2 a some f w = f.crq
+row_place R there Q8 a some f w = f.crq
+row_place R there Q9 a some f w = f.crq
+row_place R there Q10 a some f w = f.crq
+row_place R there Q11 a some f w = f.crq
+row_place R there Q12 a some f w = f.crq
+row_place R there Q13 a some f w = f.crq
 row_place R there E5 a some f w = cell_place R there a.crq a.t some f.crq
 row_place R there E6 a some f w = cell_place R there a.crq a.t some f.crq
 row_place R there E8 a some f w = cell_place R there a.crq a.t some f.crq
@@ -194,15 +206,11 @@ row_place R there Q4 a some f w = cell_place R there a.crq a.h some f.crq
 row_place R there Q5 a some f w = cell_place R there a.crq a.h some f.crq
 row_place R there Q6 a some f w = cell_place R there a.crq a.h some f.crq
 row_place R there Q7 a some f w = cell_place R there a.crq a.h some f.crq
-row_place R there A2 a some f w = ((and_parts (array_enqueues a.op && (a.pass == 0)) (nat_lt a.t SLOTS) w).1, λ at. refl)
-row_place R there B2 a some f w = ((and_parts (array_dequeues a.op && (a.pass == 0)) (nat_lt a.h SLOTS) w).1, λ at. refl)
+row_place R there A2 a some f w = (and_parts (array_enqueues a.op && (a.pass == 0)) (nat_lt a.t SLOTS) w).1
+row_place R there B2 a some f w = (and_parts (array_dequeues a.op && (a.pass == 0)) (nat_lt a.h SLOTS) w).1
 row_place R there _ a some f w = tt
 
 -- A step
-
-some_there : (o : Option Content) → is_some o ≡ true → (c : Content) × (o ≡ Some c)
-some_there (Some c) h = (c, refl)
-some_there None h = cc
 
 -- what an operation that is asked for at a control point works on
 pub record WorksOn (R : ℕ) (w : World) (pc : Pc) (a : Actor) (p : Place) (op : Operation) : Type 0 where
@@ -216,12 +224,8 @@ works_on R w pc a p op some formed parts words needs =
     let there = is_there w.at in
     let place : IsAtPlace R there (At p op) = IfOk-at_ok (IsAtPlace R there) needs (row_place R there pc a some parts words) in
     let leads : Leads R there pc a (At p op) = IfOk-at_ok (Leads R there pc a) needs (row_leads R there pc a words) in
-    let content = some_there (w.at p) (formed.places p ∙ place.0) in
-    record {
-      content = content.0;
-      found = place.1 w.at ∙ content.1;
-      goes = leads content.0 (subst (λ (o : Option Content). place_fits R there p o ≡ true) content.1 (formed.contents p));
-    }
+    let on = has_operand R w p formed place in
+    record { content = on.content; found = on.found; goes = leads on.content on.fits }
 
 -- what an access of an actor leads to: another control point, or a refusal of a step
 abbrev Ends : ℕ → Actor → Act → Result Performed Refusal → Type 0
@@ -385,13 +389,19 @@ moves_on R w e s some formed h =
     let is_pc : next.0.pc ≡ b.pc = ap (λ (x : Actor). x.pc) (let k : next.0 ≡ b = cc in k) in
     ends (is_pc ∙ sym same ∙ sym was_pc))
 
--- a step changes one place, or those of one segment, and one actor
+nothing_written : (p : Option Place) (w : Wrote) (q : Place) → is_nothing w ≡ true → some_covers (written p w) q ≡ false
+nothing_written None w q h = refl
+nothing_written (Some p) WroteNothing q h = refl
+nothing_written (Some p) _ q h = cc
+
+-- a step changes one place, the two of one cell, or those of one segment, and one actor
 pub changes_only : (R : ℕ) (w : World) (e : Event) (s : Stepped) → step R w e ≡ Ok s → ChangesOnly e s.entry w s.world
 changes_only R w e s h =
     let t = took R w e s h in
     subst (λ (x : Stepped). ChangesOnly e x.entry w x.world) t.ends
     (record {
-      outside = λ q k. after_write-outside t.did.place t.did.writes w.at q k;
-      reading = λ k. fun_ext (λ q. after_write-none t.did.place t.did.writes w.at q k);
+      outside = λ q k. after_write-outside (written t.did.place t.did.wrote) t.did.given w.at q k;
+      inside = λ q k. written-covers t.did.place t.did.wrote q k;
+      reading = λ k. fun_ext (λ q. after_write-outside (written t.did.place t.did.wrote) t.did.given w.at q (nothing_written t.did.place t.did.wrote q k));
       others = λ n ne. with_actor-other e.actor (after R t.a e.act t.did.answer).0 w.actor n ne;
     })

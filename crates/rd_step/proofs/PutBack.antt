@@ -4,13 +4,14 @@ use Rattle.std.proofs.lemmas.Bool.{cond_both, cond-false, and_left, and_right, n
 use Rattle.std.proofs.lemmas.Result.{IfOk-at_ok}
 use Rattle.rd_ring.specs.Prelude.{MOST_SEGMENTS, operand, SegName, Place, Head, Content, Access, NoPlace, At, Make, Operation, Refusal, is_of, Contents, is_there, holding, Effect, effect, Performed, contents_after, number_made, operate, make, perform}
 use Rattle.rd_cell.specs.Access.{perform_effect}
-use Rattle.rd_cell.proofs.PlaceLemmas.{is_name-refl, covers-refl}
-use Rattle.rd_cell.proofs.AccessLemmas.{after-is_some, operand-covered}
+use Rattle.rd_cell.proofs.PlaceLemmas.{is_name-refl}
+use Rattle.rd_cell.proofs.AccessLemmas.{is_cell_at, keeps-operate, keeps-perform}
 use Rattle.rd_actor.specs.declared.actors.Actor.{Actor}
 use Rattle.rd_step.specs.World.{World}
 use Rattle.rd_step.specs.declared.entries.Event.{Event}
 use Rattle.rd_step.specs.Step.{Stepped, step, CanPutBack}
 use Rattle.rd_step.specs.WellFormed.{content_fits, place_fits, IsWellFormed}
+use Rattle.rd_step.proofs.Halves.{bare_cell, operand_fits, operand_stays}
 use Rattle.rd_step.proofs.Steps.{took}
 use Rattle.rd_step.proofs.Fits.{may_fit}
 use Rattle.rd_step.proofs.Making.{laid_new, laid_other}
@@ -22,14 +23,6 @@ use Rattle.rd_step.proofs.Inverse.{number_made-absent, absent_place}
 abbrev StaysAt : Contents → Place → Performed → Type 0
 StaysAt at q did = is_some (contents_after did at q) ≡ is_some (at q)
 
-stays-effect : (at : Contents) (q p : Place) (c : Content) (r : Result Effect Refusal) → operand at p ≡ Some c → IfOk (perform_effect p c r) (StaysAt at q)
-stays-effect at q p c (Err x) h = tt
-stays-effect at q p c (Ok e) h = after-is_some p c e at q h
-
-stays-operate : (at : Contents) (q p : Place) (op : Operation) (o : Option Content) → operand at p ≡ o → IfOk (operate p op o) (StaysAt at q)
-stays-operate at q p op None h = tt
-stays-operate at q p op (Some c) h = stays-effect at q p c (effect op c) h
-
 stays-make : (R : ℕ) (s : SegName) (x : ℕ) (at : Contents) (q : Place) → (s.n < MOST_SEGMENTS → is_of s q ≡ false)
     → IfOk (make R s x) (StaysAt at q)
 stays-make R s x at q other =
@@ -37,11 +30,11 @@ stays-make R s x at q other =
     (λ e. ap is_some (cond-false (is_of s q) (holding R x q) (at q) (other (ltb-true s.n MOST_SEGMENTS e)))) (λ e. tt)
 
 -- an access keeps which places are there that are none of its actor's next segment
-stays-perform : (R actor : ℕ) (at : Contents) (x : Access) (q : Place)
+stays-perform : (R actor : ℕ) (at : Contents) (x : Access) (q : Place) → (is_cell_at q ≡ true → at q ≡ None)
     → (number_made at actor < MOST_SEGMENTS → is_of (record { maker = actor; n = number_made at actor }) q ≡ false) → IfOk (perform R actor at x) (StaysAt at q)
-stays-perform R actor at NoPlace q other = refl
-stays-perform R actor at (At p op) q other = stays-operate at q p op (operand at p) refl
-stays-perform R actor at (Make x) q other = stays-make R (record { maker = actor; n = number_made at actor }) x at q other
+stays-perform R actor at NoPlace q bare other = refl
+stays-perform R actor at (At p op) q bare other = keeps-operate p op (operand at p) at q refl bare
+stays-perform R actor at (Make x) q bare other = stays-make R (record { maker = actor; n = number_made at actor }) x at q other
 
 -- a place that is there is none of a segment that an actor may make next
 not_next : (R : ℕ) (w : World) (n : ℕ) (q : Place) → IsWellFormed R w → is_some (w.at q) ≡ true → number_made w.at n < MOST_SEGMENTS
@@ -55,7 +48,7 @@ pub stays_at : (R : ℕ) (w : World) (e : Event) (s : Stepped) (q : Place) → I
     → is_some (s.world.at q) ≡ true
 stays_at R w e s q formed h there =
     let t = took R w e s h in
-    let same : StaysAt w.at q t.did = IfOk-at_ok (StaysAt w.at q) t.does (stays-perform R e.actor w.at t.access q (not_next R w e.actor q formed there)) in
+    let same : StaysAt w.at q t.did = IfOk-at_ok (StaysAt w.at q) t.does (stays-perform R e.actor w.at t.access q (bare_cell R w formed q) (not_next R w e.actor q formed there)) in
     subst (λ (x : Stepped). is_some (x.world.at q) ≡ true) t.ends (same ∙ there)
 
 -- a step by one actor keeps which of another's segments are there
@@ -67,32 +60,34 @@ others_stay R w e s n k h other =
     subst (λ (x : Stepped). (n == x.entry.event.actor) ≡ false → is_some (x.world.at q) ≡ is_some (w.at q)) t.ends
     (λ ne.
     let apart : n ≢ e.actor = eqb-false n e.actor ne in
-    IfOk-at_ok (StaysAt w.at q) t.does
-    (stays-perform R e.actor w.at t.access q (λ below. and_left (e.actor == n) (number_made w.at e.actor == k) (ne_eqb e.actor n (λ same. apart (sym same))))))
+    IfOk-at_ok (StaysAt w.at q) t.does (keeps-perform R e.actor w.at t.access n k (λ same. apart (sym same))))
     other
 
 -- What may be put back
 
--- what is there after an access goes on to be there, and its actor makes no segment more
-record GoesOn (n : ℕ) (after at : Contents) : Type 0 where
+-- what is there after an access goes on to be there, what is there fits, and the actor makes no segment more
+record GoesOn (R n : ℕ) (after at : Contents) : Type 0 where
+  pub fits : (q : Place) → place_fits R (is_there at) q (at q) ≡ true
   pub stays : (q : Place) → is_some (after q) ≡ true → is_some (at q) ≡ true
   pub made : (k : ℕ) → is_there at (record { maker = n; n = k }) ≡ is_there after (record { maker = n; n = k })
 
-abbrev CanGoBack : ℕ → Contents → Contents → Performed → Type 0
-CanGoBack n before at did = GoesOn n (contents_after did before) at → CanPutBack at did.place did.old
+abbrev CanGoBack : ℕ → ℕ → Contents → Contents → Performed → Type 0
+CanGoBack R n before at did = GoesOn R n (contents_after did before) at → CanPutBack at did.place did.old
 
 can-effect : (R n : ℕ) (w : World) (at : Contents) (p : Place) (c : Content) (r : Result Effect Refusal) → operand w.at p ≡ Some c
-    → content_fits R (is_there w.at) p c ≡ true → IfOk (perform_effect p c r) (CanGoBack n w.at at)
-can-effect R n w at p c (Err x) found fits = tt
-can-effect R n w at p c (Ok e) found fits = λ on.
-    (on.stays p (after-is_some p c e w.at p found ∙ ap is_some (operand-covered p w.at c p found (covers-refl p))), may_fit R (is_there w.at) p c fits)
+    → content_fits R (is_there w.at) p c ≡ true → ((q : Place) → IfOk (perform_effect p c r) (StaysAt w.at q)) → IfOk (perform_effect p c r) (CanGoBack R n w.at at)
+can-effect R n w at p c (Err x) found fits stays = tt
+can-effect R n w at p c (Ok e) found fits stays = λ on. (
+  operand_stays R (is_there at) w.at at p c found on.fits (λ q there. on.stays q (stays q ∙ there)),
+  may_fit R (is_there w.at) p c fits,
+)
 
 can-operate : (R n : ℕ) (w : World) (at : Contents) (p : Place) (op : Operation) (o : Option Content) → IsWellFormed R w → operand w.at p ≡ o
-    → IfOk (operate p op o) (CanGoBack n w.at at)
+    → IfOk (operate p op o) (CanGoBack R n w.at at)
 can-operate R n w at p op None formed found = tt
 can-operate R n w at p op (Some c) formed found =
-    can-effect R n w at p c (effect op c) found
-    (subst (λ (o : Option Content). place_fits R (is_there w.at) p o ≡ true) (operand-covered p w.at c p found (covers-refl p)) (formed.contents p))
+    can-effect R n w at p c (effect op c) found (operand_fits R (is_there w.at) w.at p c formed.contents found)
+    (λ q. keeps-operate p op (Some c) w.at q found (bare_cell R w formed q))
 
 -- an actor's number is not 0
 numbered : (is_actor : ℕ → Bool) (n : ℕ) → not (is_actor 0) ≡ true → is_actor n ≡ true → 1 ≤ n
@@ -100,12 +95,12 @@ numbered is_actor zero h k = absurd (both_ways (is_actor 0) (not-true (is_actor 
 numbered is_actor (suc n) h k = omega arith
 
 can-make : (R : ℕ) (w : World) (n : ℕ) (a : Actor) (at : Contents) (x : ℕ) → IsWellFormed R w → w.actor n ≡ Some a
-    → IfOk (make R (record { maker = n; n = number_made w.at n }) x) (CanGoBack n w.at at)
+    → IfOk (make R (record { maker = n; n = number_made w.at n }) x) (CanGoBack R n w.at at)
 can-make R w n a at x formed has =
     let m : ℕ = number_made w.at n in
     let s : SegName = record { maker = n; n = m } in
     let next : SegName = record { maker = n; n = m + 1 } in
-    cond_both (nat_lt m MOST_SEGMENTS) _ _ (λ (r : Result Performed Refusal). IfOk r (CanGoBack n w.at at))
+    cond_both (nat_lt m MOST_SEGMENTS) _ _ (λ (r : Result Performed Refusal). IfOk r (CanGoBack R n w.at at))
     (λ below on.
     let absent : is_there w.at s ≡ false = number_made-absent w.at n (ltb-true m MOST_SEGMENTS below) in
     let not_next : is_there w.at next ≡ false = false_from_ne_true (is_there w.at next) (λ there.
@@ -121,7 +116,7 @@ can-make R w n a at x formed has =
     (λ e. tt)
 
 can-perform : (R : ℕ) (w : World) (n : ℕ) (a : Actor) (at : Contents) (x : Access) → IsWellFormed R w → w.actor n ≡ Some a
-    → IfOk (perform R n w.at x) (CanGoBack n w.at at)
+    → IfOk (perform R n w.at x) (CanGoBack R n w.at at)
 can-perform R w n a at NoPlace formed has = λ on. tt
 can-perform R w n a at (At p op) formed has = can-operate R n w at p op (operand w.at p) formed refl
 can-perform R w n a at (Make x) formed has = can-make R w n a at x formed has
@@ -131,9 +126,9 @@ can-perform R w n a at (Make x) formed has = can-make R w n a at x formed has
 pub entry_can : (R : ℕ) (w : World) (e : Event) (s : Stepped) (at : Contents) → IsWellFormed R w → step R w e ≡ Ok s
     → ((q : Place) → is_some (s.world.at q) ≡ true → is_some (at q) ≡ true)
     → ((k : ℕ) → is_there at (record { maker = s.entry.event.actor; n = k }) ≡ is_there s.world.at (record { maker = s.entry.event.actor; n = k }))
-    → CanPutBack at s.entry.place s.entry.old_content
-entry_can R w e s at formed h stays same =
+    → ((q : Place) → place_fits R (is_there at) q (at q) ≡ true) → CanPutBack at s.entry.place s.entry.old_content
+entry_can R w e s at formed h stays same fits =
     let t = took R w e s h in
-    subst (λ (x : Stepped). GoesOn x.entry.event.actor x.world.at at → CanPutBack at x.entry.place x.entry.old_content) t.ends
-    (IfOk-at_ok (CanGoBack e.actor w.at at) t.does (can-perform R w e.actor t.a at t.access formed t.has))
-    (record { stays = stays; made = same })
+    subst (λ (x : Stepped). GoesOn R x.entry.event.actor x.world.at at → CanPutBack at x.entry.place x.entry.old_content) t.ends
+    (IfOk-at_ok (CanGoBack R e.actor w.at at) t.does (can-perform R w e.actor t.a at t.access formed t.has))
+    (record { fits = fits; stays = stays; made = same })

@@ -1,7 +1,7 @@
 -- A step on which no later one depends may be taken out of a run, and go last.
 use Rattle.std.proofs.Common.{◌≡◌, ℕ, true, ◌==◌, ◌&&◌, ◌||◌, refl, sym, ◌∙◌, ap, subst, List, [], ◌∷◌, Option, Some, is_some, Ok}
 use Rattle.std.proofs.lemmas.Bool.{cond_both, or_parts}
-use Rattle.rd_ring.specs.Prelude.{Place, is_there, some_overlap}
+use Rattle.rd_ring.specs.Prelude.{Place, is_there, interfere}
 use Rattle.rd_actor.specs.declared.actors.Actor.{Actor}
 use Rattle.rd_actor.specs.Table.{after}
 use Rattle.rd_step.specs.World.{World}
@@ -107,7 +107,7 @@ run_others R w (e ∷ es) r x k h free =
     let ran = ran_on R w e es r h in
     let p : ran.rest.world ≡ r.world = ap (λ (y : Ran). y.world) ran.joins in
     let parts : IsFree x (ran.one.entry ∷ ran.rest.entries) = subst (λ (y : Ran). IsFree x y.entries) (sym ran.joins) free in
-    let other = or_parts (x.event.actor == ran.one.entry.event.actor) (some_overlap x.place ran.one.entry.place && (x.wrote || ran.one.entry.wrote)) parts.0 in
+    let other = or_parts (x.event.actor == ran.one.entry.event.actor) (interfere x.place x.wrote ran.one.entry.place ran.one.entry.wrote) parts.0 in
     ap (λ (v : World). is_there v.at (record { maker = x.event.actor; n = k })) (sym p)
     ∙ run_others R ran.one.world es ran.rest x k ran.goes_on parts.1
     ∙ others_stay R w e ran.one x.event.actor k ran.goes other.0
@@ -136,7 +136,7 @@ can_undo_ran R w e s es r formed h k free =
       actor_there = run_stays_actor R s.world es r s.entry.event.actor k (entry_actor R w e s h);
       place_there =
           entry_can R w e s r.world.at formed h (λ q there. run_stays_at R s.world es r q formed' k there)
-          (λ n. run_others R s.world es r s.entry n k free);
+          (λ n. run_others R s.world es r s.entry n k free) (run_keeps R s.world es r formed' k).contents;
       formed = (removes R w e s es r formed h k free).well_formed;
     }
 

@@ -2,7 +2,7 @@
 use Rattle.std.proofs.Common.{◌≡◌, ℕ, nat_lt, Bool, true, false, refl, ◌∙◌, ap, subst, Option, Some, None, is_some, Result, Ok, Err, IfOk}
 use Rattle.std.proofs.lemmas.Bool.{cond_both}
 use Rattle.std.proofs.lemmas.Result.{IfOk-at_ok}
-use Rattle.rd_ring.specs.Prelude.{MOST_SEGMENTS, Place, Content, Access, NoPlace, At, Make, Operation, Refusal, Contents, operand, Effect, effect, Performed, number_made, operate, make, perform}
+use Rattle.rd_ring.specs.Prelude.{MOST_SEGMENTS, Place, Content, Access, NoPlace, At, Make, Operation, Refusal, is_nothing, Contents, operand, Effect, effect, Performed, number_made, operate, make, perform}
 use Rattle.rd_cell.specs.Access.{perform_effect}
 use Rattle.rd_segments.specs.Room.{room_used, room_returned}
 use Rattle.rd_step.specs.World.{World}
@@ -42,7 +42,7 @@ room_used_returned R w e s m h =
 
 -- an access that did this returns no room if it only read
 abbrev ReturnsNone : ℕ → Performed → Type 0
-ReturnsNone m did = is_some did.writes ≡ false → room_returned did.place did.old m ≡ 0
+ReturnsNone m did = is_nothing did.wrote ≡ true → room_returned did.place did.old m ≡ 0
 
 none-effect : (p : Place) (c : Content) (r : Result Effect Refusal) (m : ℕ) → IfOk (perform_effect p c r) (ReturnsNone m)
 none-effect p c (Err x) m = tt
@@ -62,9 +62,9 @@ none-perform R actor at (At p op) m = none-operate p op (operand at p) m
 none-perform R actor at (Make x) m = none-make R actor (number_made at actor) x m
 
 -- undoing a step that only read gives no room back
-pub read_returns_none : (R : ℕ) (w : World) (e : Event) (s : Stepped) (m : ℕ) → step R w e ≡ Ok s → s.entry.wrote ≡ false
+pub read_returns_none : (R : ℕ) (w : World) (e : Event) (s : Stepped) (m : ℕ) → step R w e ≡ Ok s → is_nothing s.entry.wrote ≡ true
     → room_returned s.entry.place s.entry.old_content m ≡ 0
 read_returns_none R w e s m h =
     let t = took R w e s h in
-    subst (λ (x : Stepped). x.entry.wrote ≡ false → room_returned x.entry.place x.entry.old_content m ≡ 0) t.ends
+    subst (λ (x : Stepped). is_nothing x.entry.wrote ≡ true → room_returned x.entry.place x.entry.old_content m ≡ 0) t.ends
     (IfOk-at_ok (ReturnsNone m) t.does (none-perform R e.actor w.at t.access m))

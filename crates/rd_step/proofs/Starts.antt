@@ -3,7 +3,7 @@ use Rattle.std.proofs.Common.{◌≡◌, ℕ, zero, suc, ◌+◌, ◌<◌, ◌�
 use Rattle.std.proofs.lemmas.Bool.{cases_Bool, cases_lt, cond-true, cond-false, cond_both, and_from}
 use Rattle.std.proofs.lemmas.Option.{slice_get_past}
 use mathlib.Core.Path.{fun_ext}
-use Rattle.rd_ring.specs.Prelude.{MOST_ACTORS, COUNTER_END, SegName, Place, QHead, QTail, Head, Tail, Next, CellAt, WholeOf, ArrHead, ArrTail, ArrCell, Content, Number, TailIs, NextIs, CellIs, Slot, Empty as NobodyYet, root, is_name, is_there, new_cell}
+use Rattle.rd_ring.specs.Prelude.{MOST_ACTORS, COUNTER_END, SegName, Place, QHead, QTail, Head, Tail, Next, CellAt, ValAt, IdxAt, WholeOf, ArrHead, ArrTail, ArrCell, Content, Number, TailIs, NextIs, ValIs, IdxIs, Slot, Empty as NobodyYet, root, is_name, is_there, new_cell}
 use Rattle.rd_cell.proofs.PlaceLemmas.{is_name-true}
 use Rattle.rd_segments.specs.declared.space.Space.{Space}
 use Rattle.rd_segments.specs.SpaceFields.{fresh_space}
@@ -72,7 +72,9 @@ places_first R QTail = refl
 places_first R (Head s) = refl
 places_first R (Tail s) = some_either (is_name root s) (TailIs false 0) (Number 0)
 places_first R (Next s) = some_either (is_name root s) (NextIs None) (Number 0)
-places_first R (CellAt s i) = some_cell (is_name root s) (nat_lt i R) (CellIs (new_cell i None)) (Number 0)
+places_first R (ValAt s i) = some_cell (is_name root s) (nat_lt i R) (ValIs None) (Number 0)
+places_first R (IdxAt s i) = some_cell (is_name root s) (nat_lt i R) (IdxIs true i) (Number 0)
+places_first R (CellAt s i) = none_either (is_name root s)
 places_first R (WholeOf s) = none_either (is_name root s)
 places_first R ArrHead = refl
 places_first R ArrTail = refl
@@ -83,9 +85,9 @@ fits_if : (R : ℕ) (there : Presence) (p : Place) (b : Bool) (o : Option Conten
 fits_if R there p true o h = h
 fits_if R there p false o h = refl
 
-cell_first : (R : ℕ) (s : SegName) (i : ℕ) → place_fits R (there_first R) (CellAt s i) (if nat_lt i R then Some (CellIs (new_cell i None)) else None) ≡ true
-cell_first R s i =
-    cond_both (nat_lt i R) (Some (CellIs (new_cell i None))) None (λ (o : Option Content). place_fits R (there_first R) (CellAt s i) o ≡ true)
+index_first : (R : ℕ) (s : SegName) (i : ℕ) → place_fits R (there_first R) (IdxAt s i) (if nat_lt i R then Some (IdxIs true i) else None) ≡ true
+index_first R s i =
+    cond_both (nat_lt i R) (Some (IdxIs true i)) None (λ (o : Option Content). place_fits R (there_first R) (IdxAt s i) o ≡ true)
     (λ h. let l = ltb-true i R h in le-leb i (COUNTER_END + R) (omega arith)) (λ h. refl)
 
 contents_first : (R : ℕ) (p : Place) → place_fits R (there_first R) p (fresh_space R p) ≡ true
@@ -94,7 +96,12 @@ contents_first R QTail = refl
 contents_first R (Head s) = fits_if R (there_first R) (Head s) (is_name root s) (Some (Number 0)) refl
 contents_first R (Tail s) = fits_if R (there_first R) (Tail s) (is_name root s) (Some (TailIs false 0)) refl
 contents_first R (Next s) = fits_if R (there_first R) (Next s) (is_name root s) (Some (NextIs None)) refl
-contents_first R (CellAt s i) = fits_if R (there_first R) (CellAt s i) (is_name root s) (if nat_lt i R then Some (CellIs (new_cell i None)) else None) (cell_first R s i)
+contents_first R (ValAt s i) =
+    fits_if R (there_first R) (ValAt s i) (is_name root s) (if nat_lt i R then Some (ValIs None) else None)
+    (fits_if R (there_first R) (ValAt s i) (nat_lt i R) (Some (ValIs None)) refl)
+contents_first R (IdxAt s i) =
+    fits_if R (there_first R) (IdxAt s i) (is_name root s) (if nat_lt i R then Some (IdxIs true i) else None) (index_first R s i)
+contents_first R (CellAt s i) = fits_if R (there_first R) (CellAt s i) (is_name root s) None refl
 contents_first R (WholeOf s) = fits_if R (there_first R) (WholeOf s) (is_name root s) None refl
 contents_first R ArrHead = refl
 contents_first R ArrTail = refl

@@ -2,7 +2,7 @@
 use Rattle.std.proofs.Common.{◌≡◌, ℕ, zero, suc, ◌+◌, ◌-◌, ◌<◌, ◌≤◌, Bool, true, false, not, nat_lt, inl, inr, refl, sym, ◌∙◌, ap, subst, arith, List, [], ◌∷◌, length, set, slice_get, Option, Some, None, is_some, IsSome, is_ok, IsOk, IfOk, OnErr, Result, Ok, Err, lt-ltb, le-ltb, leb-true, ltb-true, ne_eqb}
 use Rattle.std.proofs.lemmas.Bool.{cases_lt, cond-true, cond-false, cond_both, both_ways, and_parts}
 use mathlib.Core.Path.{fun_ext}
-use Rattle.rd_ring.specs.Prelude.{COUNTER_END, MOST_SEGMENTS, MOST_CELLS, MOST_ACTORS, SegName, Place, WholeOf, Access, NoPlace, At, Make, Made, Nothing, Operation, Add, AddArray, CasTail, Done, Refusal, SegmentsEnd, NoMemory, Contents, is_there, is_array, Performed, contents_after, number_made, make, perform, restore, everywhere, HasEffect, Operates, Makes, RefusesMaking}
+use Rattle.rd_ring.specs.Prelude.{COUNTER_END, MOST_SEGMENTS, MOST_CELLS, MOST_ACTORS, SegName, Place, WholeOf, WroteNothing, WrotePlace, Access, NoPlace, At, Make, Made, Nothing, Operation, Add, AddArray, CasTail, Done, Refusal, SegmentsEnd, NoMemory, Contents, is_there, is_array, Performed, contents_after, number_made, make, perform, restore, everywhere, HasEffect, Operates, Makes, RefusesMaking}
 use Rattle.rd_cell.specs.Access.{no_access}
 use Rattle.rd_cell.specs.Operations.{suits_array, suits_segments, suits as suits_at}
 use Rattle.rd_segments.specs.declared.space.Space.{Space}
@@ -29,7 +29,7 @@ use Rattle.std.proofs.lemmas.Result.{IfOk-at_ok}
 -- Accesses
 
 pub nothing_performed : (R actor : ℕ) (at : Contents) (x : Access) (done : Done) → x ≡ NoPlace
-    → done ≡ record { place = None; old = None; answer = Nothing; wrote = false } → HasEffect everywhere (perform R actor at x) done at at
+    → done ≡ record { place = None; old = None; answer = Nothing; wrote = WroteNothing } → HasEffect everywhere (perform R actor at x) done at at
 nothing_performed R actor at x done is notes = record {
   performed = no_access;
   performs = ap (perform R actor at) is;
@@ -49,7 +49,7 @@ made_in space m few = counts space.makers.items space.qhead space.qtail space.ar
 
 pub makes_access : {R : ℕ} (old : Space R) (new : Contents) (actor x : ℕ) (name : SegName) (done : Done) → making_count old actor ≤ MOST_SEGMENTS
     → name ≡ record { maker = actor; n = making_count old actor } → Makes R name x (contents old) new
-    → done ≡ record { place = Some (WholeOf name); old = None; answer = Made name; wrote = true }
+    → done ≡ record { place = Some (WholeOf name); old = None; answer = Made name; wrote = WrotePlace }
     → HasEffect everywhere (perform R actor (contents old) (Make x)) done (contents old) new
 makes_access {R} old new actor x name done few is m notes =
     let e : record { maker = actor; n = number_made (contents old) actor } ≡ name = (λ i. record { maker = actor; n = made_in old actor few i }) ∙ sym is in

@@ -1,13 +1,13 @@
 -- Which step depends on which (Danos and Krivine 2004: what must be undone first; the places and the symmetry are
 -- our profile's), what is left if a step is taken out, and the causal closure of a step.
 use Rattle.std.specs.Prelude.{◌≡◌, ◌<◌, ◌≤◌, true, false, ℕ, zero, suc, ◌+◌, ◌-◌, Bool, nat_lt, ◌==◌, ◌&&◌, ◌||◌, if◌then◌else◌, List, [], ◌∷◌, ◌++◌, length, take, drop, Option, Some, None, slice_get}
-use Rattle.rd_ring.specs.Prelude.{some_overlap}
+use Rattle.rd_ring.specs.Prelude.{interfere}
 use Rattle.rd_step.specs.declared.entries.Event.{Event}
 use Rattle.rd_step.specs.declared.entries.Entry.{Entry}
 
--- whether two steps depend on each other: they have one actor, or their places overlap and one of them wrote
+-- whether two steps depend on each other: they have one actor, or there is a place that both touched and one of them wrote
 abbrev pub depends : Entry → Entry → Bool
-depends x y = (x.event.actor == y.event.actor) || (some_overlap x.place y.place && (x.wrote || y.wrote))
+depends x y = (x.event.actor == y.event.actor) || interfere x.place x.wrote y.place y.wrote
 
 -- none of these entries depends on x
 abbrev pub IsFree : Entry → List Entry → Type 0

@@ -1,6 +1,6 @@
 -- What the laws of the machine say.
-use Rattle.std.specs.Prelude.{◌≡◌, ℕ, false, List, Some, Ok, Err}
-use Rattle.rd_ring.specs.Prelude.{Place, Content, Operation, Refusal, NoActor, NotIdle, ActorIdle, NeedsChoice, NoChoice, CounterEnd, ArrayEnd, SegmentsEnd, NoSuchPlace, some_covers, Contents, operand, effect}
+use Rattle.std.specs.Prelude.{◌≡◌, ℕ, true, false, List, Some, Ok, Err}
+use Rattle.rd_ring.specs.Prelude.{Place, Content, Operation, Refusal, NoActor, NotIdle, ActorIdle, NeedsChoice, NoChoice, CounterEnd, ArrayEnd, SegmentsEnd, NoSuchPlace, some_covers, is_nothing, written, Contents, operand, effect}
 use Rattle.rd_actor.specs.declared.actors.Actor.{Actor}
 use Rattle.rd_step.specs.World.{World}
 use Rattle.rd_step.specs.declared.entries.Event.{Event}
@@ -70,13 +70,14 @@ pub record SuitsContent (at : Contents) (p : Place) (op : Operation) : Type 0 wh
 abbrev pub MovesOn : Event → World → World → Type 0
 MovesOn e old new = (a b : Actor) → old.actor e.actor ≡ Some a → new.actor e.actor ≡ Some b → a.pc ≡ b.pc → ⊥
 
--- nothing changed but the places that the entry's place covers, these only by a write, and the event's actor
+-- nothing changed but the places that the entry's step wrote, which are of its place, and the event's actor
 pub record ChangesOnly (e : Event) (x : Entry) (old new : World) : Type 0 where
-  pub outside : (q : Place) → some_covers x.place q ≡ false → new.at q ≡ old.at q
-  pub reading : x.wrote ≡ false → new.at ≡ old.at
+  pub outside : (q : Place) → some_covers (written x.place x.wrote) q ≡ false → new.at q ≡ old.at q
+  pub inside : (q : Place) → some_covers (written x.place x.wrote) q ≡ true → some_covers x.place q ≡ true
+  pub reading : is_nothing x.wrote ≡ true → new.at ≡ old.at
   pub others : (n : ℕ) → (n ≡ e.actor → ⊥) → new.actor n ≡ old.actor n
 
 -- the entry's old words are the words of its actor and the content of its place in this world
 pub record KeepsOldWords (before : World) (x : Entry) : Type 0 where
   pub actor : before.actor x.event.actor ≡ Some x.old_actor
-  pub content : (p : Place) → x.place ≡ Some p → before.at p ≡ x.old_content
+  pub content : (p : Place) → x.place ≡ Some p → operand before.at p ≡ x.old_content

@@ -1,6 +1,6 @@
 -- Well-formed worlds.
 use Rattle.std.specs.Prelude.{◌≡◌, ℕ, zero, suc, ◌+◌, ◌≤◌, Bool, true, false, not, ◌==◌, ◌&&◌, nat_lt, nat_le, Option, Some, None, is_some, IsTrue}
-use Rattle.rd_ring.specs.Prelude.{COUNTER_END, MOST_SEGMENTS, SLOTS, MOST_ACTORS, SegName, Place, QHead, QTail, Head, Tail, Next, CellAt, ArrHead, ArrTail, ArrCell, Content, Name, Number, TailIs, NextIs, CellIs, Slot, root, is_there}
+use Rattle.rd_ring.specs.Prelude.{COUNTER_END, MOST_SEGMENTS, SLOTS, MOST_ACTORS, SegName, Place, QHead, QTail, Head, Tail, Next, CellAt, ValAt, IdxAt, ArrHead, ArrTail, ArrCell, Content, Name, Number, TailIs, NextIs, CellIs, ValIs, IdxIs, Slot, root, is_there}
 use Rattle.rd_actor.specs.declared.actors.Actor.{Actor}
 use Rattle.rd_actor.specs.Words.{words_fit}
 use Rattle.rd_step.specs.World.{World}
@@ -9,15 +9,16 @@ use Rattle.rd_step.specs.World.{World}
 abbrev pub Presence : Type 0
 Presence = SegName → Bool
 
--- which places are there: the queue's ends, those of each segment that is there, and the array's. The whole of a
--- segment is a name for its places, and no place of the map
+-- which places are there: the queue's ends, those of each segment that is there, and the array's. A cell and the whole of a
+-- segment are names for several places, and no places of the map
 abbrev pub belongs : ℕ → Presence → Place → Bool
 belongs R there QHead = true
 belongs R there QTail = true
 belongs R there (Head s) = there s
 belongs R there (Tail s) = there s
 belongs R there (Next s) = there s
-belongs R there (CellAt s i) = nat_lt i R && there s
+belongs R there (ValAt s i) = nat_lt i R && there s
+belongs R there (IdxAt s i) = nat_lt i R && there s
 belongs R there ArrHead = true
 belongs R there ArrTail = true
 belongs R there (ArrCell i) = nat_lt i SLOTS
@@ -37,6 +38,8 @@ content_fits R there (Head s) (Number n) = nat_le n COUNTER_END
 content_fits R there (Tail s) (TailIs closed n) = nat_le n COUNTER_END
 content_fits R there (Next s) (NextIs m) = next_fits there m
 content_fits R there (CellAt s i) (CellIs c) = nat_le c.idx (COUNTER_END + R)
+content_fits R there (ValAt s i) (ValIs val) = true
+content_fits R there (IdxAt s i) (IdxIs safe idx) = nat_le idx (COUNTER_END + R)
 content_fits R there ArrHead (Number n) = nat_le n SLOTS
 content_fits R there ArrTail (Number n) = nat_le n SLOTS
 content_fits R there (ArrCell i) (Slot slot) = true

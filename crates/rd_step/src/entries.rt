@@ -1,10 +1,11 @@
 //! What may happen to a world, and what the journal keeps of it: a record, which says what its step touched.
 
 ghost use Rattle.std.specs.Prelude.{◌≡◌};
+ghost use Rattle.rd_cell.specs.Places.{written};
 ghost use Rattle.rd_step.specs.Touched.{made, made_at, overwritten};
 
 use rd_actor::{Act, Actor, OpReply};
-use rd_cell::{Answer, Content, Place, SegName};
+use rd_cell::{Answer, Content, Place, SegName, Wrote, written};
 
 /// One atomic step of one actor: what is scheduled.
 #[derive(Clone, Copy, Debug, PartialEq, Eq)]
@@ -22,8 +23,8 @@ pub struct Entry {
     pub event: Event,
     /// The place of its access, or none.
     pub place: Option<Place>,
-    /// Whether the access wrote.
-    pub wrote: bool,
+    /// What the access wrote of its place.
+    pub wrote: Wrote,
     /// What the access answered.
     pub answer: Answer,
     /// What the actor's call replied, if the step ended it.
@@ -39,11 +40,19 @@ impl Entry {
     pub fn overwritten(&self) -> (Option<Place>, Option<Content>)
         ensures { result ≡ overwritten self.now }
     {
-        if self.wrote {
-            (self.place, self.old_content)
-        } else {
+        if self.wrote.is_nothing() {
             (None, None)
+        } else {
+            (self.place, self.old_content)
         }
+    }
+
+    /// The place that names what the step wrote, or none if it only read or had no place. What the step touched is what its own
+    /// place names.
+    pub fn written(&self) -> Option<Place>
+        ensures { result ≡ written self.now.place self.now.wrote }
+    {
+        written(self.place, self.wrote)
     }
 
     /// The segment that the step made, or none if it made none.

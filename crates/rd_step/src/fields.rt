@@ -1,7 +1,7 @@
 //! What a step and its undoing do to the fields of a world: an access, an actor's words, and what is put back.
 
 ghost use Rattle.std.specs.Prelude.{◌≡◌, ◌+◌, ◌<◌, ◌≤◌, ℕ, true, false, Some, None, Ok, Err, IsSome, IsTrue, IfOk, IfErr, OnErr, length, vec_capacity};
-ghost use Rattle.rd_ring.specs.Prelude.{MOST_CELLS, MOST_SEGMENTS, Make, Nothing, perform, restore, everywhere, HasEffect};
+ghost use Rattle.rd_ring.specs.Prelude.{MOST_CELLS, MOST_SEGMENTS, Make, Nothing, WroteNothing, perform, restore, everywhere, HasEffect};
 ghost use Rattle.rd_segments.specs.Room.{room_used, room_returned};
 ghost use Rattle.rd_segments.specs.Space.{contents, lists, making_count, room, capacity};
 ghost use Rattle.rd_step.specs.Step.{revert, with_actor, CanPutBack};
@@ -10,7 +10,7 @@ ghost use Rattle.rd_step.specs.Room.{makes, IsRefused};
 
 use super::entries::made_at;
 use rd_actor::Actor;
-use rd_cell::{Access, Answer, Content, Done, Place, Refusal};
+use rd_cell::{Access, Answer, Content, Done, Place, Refusal, Wrote};
 use rd_segments::Space;
 
 /// Puts back the words of one actor and the content of one place, if one is named.
@@ -112,13 +112,13 @@ pub fn perform<const R: usize>(
 
 /// What a step without an access did.
 fn nothing_done() -> Done
-    ensures { result ≡ record { place = None; old = None; answer = Nothing; wrote = false } }
+    ensures { result ≡ record { place = None; old = None; answer = Nothing; wrote = WroteNothing } }
 {
     Done {
         place: None,
         old: None,
         answer: Answer::Nothing,
-        wrote: false,
+        wrote: Wrote::Nothing,
     }
 }
 
@@ -139,6 +139,6 @@ fn make<const R: usize>(space: &mut Space<R>, actor: u8, value: u64) -> Result<D
         place: Some(Place::Whole(name)),
         old: None,
         answer: Answer::Made(name),
-        wrote: true,
+        wrote: Wrote::Place,
     })
 }

@@ -9,7 +9,7 @@ mod starts;
 mod touched;
 
 use rd_actor::{Act, Actor, Op, Pc};
-use rd_cell::{Answer, ArrSlot, Cell, Content, Place, Refusal, SegName};
+use rd_cell::{Answer, ArrSlot, Cell, Content, Place, Refusal, SegName, Wrote};
 use rd_ring::SegmentParts;
 use rd_segments::ArrayParts;
 use rd_step::entries::{Entry, Event};
@@ -121,6 +121,12 @@ fn put(places: &mut Places, place: Place, content: Content) {
                 places.root.cells[usize::from(i)] = cell;
             }
         }
+        (Place::Idx(_, i), Content::Idx { safe, idx }) => {
+            if i < 4 {
+                let val = places.root.cells[usize::from(i)].val;
+                places.root.cells[usize::from(i)] = Cell { safe, idx, val };
+            }
+        }
         (Place::ArrHead, Content::Number(count)) => places.array.head = count,
         (Place::ArrTail, Content::Number(count)) => places.array.tail = count,
         (Place::ArrCell(i), Content::Slot(slot)) => {
@@ -200,7 +206,7 @@ fn two_adds_draw_two_positions(rt: HostRuntime) -> Result<(), Fail> {
     let first = Entry {
         event: go(1),
         place: Some(tail),
-        wrote: true,
+        wrote: Wrote::Place,
         answer: Answer::Found(open(0)),
         reply: None,
         old_actor: Actor::poised(1),

@@ -12,7 +12,7 @@ use Rattle.rd_cell.specs.Places.{root, is_name}
 use Rattle.rd_cell.specs.Cells.{new_cell}
 use Rattle.rd_cell.specs.Contents.{Contents, fresh}
 use Rattle.rd_cell.proofs.PlaceLemmas.{is_name-true, is_name-refl}
-use Rattle.rd_ring.specs.Prelude.{SLOTS, MOST_ACTORS, SegName, Place, QHead, QTail, Head, Tail, Next, CellAt, WholeOf, ArrHead, ArrTail, ArrCell, Content, Name, Number, TailIs, NextIs, CellIs, Slot}
+use Rattle.rd_ring.specs.Prelude.{SLOTS, MOST_ACTORS, SegName, Place, QHead, QTail, Head, Tail, Next, CellAt, ValAt, IdxAt, WholeOf, ArrHead, ArrTail, ArrCell, Cell, Content, Name, Number, TailIs, NextIs, ValIs, IdxIs, Slot}
 use Rattle.rd_ring.specs.declared.parts.SegmentParts.{SegmentParts}
 use Rattle.rd_ring.specs.Segments.{part_from}
 use Rattle.rd_actor.specs.Actors.{idle}
@@ -103,16 +103,16 @@ first_test a first one failed = ((λ e. absurd (both_ways a failed e)), (λ w. f
 -- ---- a fresh segment
 
 module _ {R : ℕ} (s : SegmentParts R) where
-  cell_at : AreFreshCells s.cells → (i : ℕ) → option_map CellIs (slice_get s.cells i) ≡ (if nat_lt i R then Some (CellIs (new_cell i None)) else None)
-  cell_at all i =
+  half_at : (f : Cell → Content) → AreFreshCells s.cells → (i : ℕ) → option_map f (slice_get s.cells i) ≡ (if nat_lt i R then Some (f (new_cell i None)) else None)
+  half_at f all i =
       elim (cases_lt i R) [
         | inl h ↦
             let within : i < length s.cells = omega (arith, s.sized) in
-            ap (option_map CellIs) (slice_get-get_or s.cells i (new_cell i None) within ∙ ap Some (all i (new_cell i None) within))
-            ∙ sym (cond-true (nat_lt i R) (Some (CellIs (new_cell i None))) None (lt-ltb i R h))
+            ap (option_map f) (slice_get-get_or s.cells i (new_cell i None) within ∙ ap Some (all i (new_cell i None) within))
+            ∙ sym (cond-true (nat_lt i R) (Some (f (new_cell i None))) None (lt-ltb i R h))
         | inr h ↦
-            ap (option_map CellIs) (slice_get_past s.cells i (omega (arith, s.sized)))
-            ∙ sym (cond-false (nat_lt i R) (Some (CellIs (new_cell i None))) None (le-ltb i R h))
+            ap (option_map f) (slice_get_past s.cells i (omega (arith, s.sized)))
+            ∙ sym (cond-false (nat_lt i R) (Some (f (new_cell i None))) None (le-ltb i R h))
       ]
 
   pub segment_fresh : s.head ≡ 0 → s.tail ≡ 0 → s.closed ≡ false → s.next ≡ None → AreFreshCells s.cells → part_from s ≡ fresh R
@@ -122,7 +122,8 @@ module _ {R : ℕ} (s : SegmentParts R) where
       each (Head n) = ap (λ h. Some (Number h)) head
       each (Tail n) = (λ i. Some (TailIs (closed i) (tail i)))
       each (Next n) = ap (λ m. Some (NextIs m)) next
-      each (CellAt n i) = cell_at cells i
+      each (ValAt n i) = half_at (λ c. ValIs c.val) cells i
+      each (IdxAt n i) = half_at (λ c. IdxIs c.safe c.idx) cells i
       each _ = refl
 
   -- and back
@@ -140,10 +141,17 @@ module _ {R : ℕ} (s : SegmentParts R) where
 
   pub fresh_cells : part_from s ≡ fresh R → AreFreshCells s.cells
   fresh_cells e k d within =
-      let h : Some (CellIs (get_or s.cells k d)) ≡ Some (CellIs (new_cell k None)) =
-      sym (ap (option_map CellIs) (slice_get-get_or s.cells k d within)) ∙ ap (λ (f : Contents). f (CellAt root k)) e
-      ∙ cond-true (nat_lt k R) (Some (CellIs (new_cell k None))) None (lt-ltb k R (omega (arith, s.sized))) in
-      cc
+      let c : Cell = get_or s.cells k d in
+      let value : Some (ValIs c.val) ≡ Some (ValIs None) =
+      sym (ap (option_map (λ x. ValIs x.val)) (slice_get-get_or s.cells k d within)) ∙ ap (λ (f : Contents). f (ValAt root k)) e
+      ∙ cond-true (nat_lt k R) (Some (ValIs None)) None (lt-ltb k R (omega (arith, s.sized))) in
+      let index : Some (IdxIs c.safe c.idx) ≡ Some (IdxIs true k) =
+      sym (ap (option_map (λ x. IdxIs x.safe x.idx)) (slice_get-get_or s.cells k d within)) ∙ ap (λ (f : Contents). f (IdxAt root k)) e
+      ∙ cond-true (nat_lt k R) (Some (IdxIs true k)) None (lt-ltb k R (omega (arith, s.sized))) in
+      let v : c.val ≡ None = cc in
+      let safe : c.safe ≡ true = cc in
+      let idx : c.idx ≡ k = cc in
+      λ i. record { safe = safe i; idx = idx i; val = v i }
 
 -- ---- the makers' lists
 
@@ -260,9 +268,13 @@ next_named : {R : ℕ} (o : Option (SegmentParts R)) (s t : SegName) → part_of
 next_named None s t = refl
 next_named (Some p) s t = refl
 
-cell_named : {R : ℕ} (o : Option (SegmentParts R)) (s t : SegName) (i : ℕ) → part_of_parts o (CellAt t i) ≡ part_of_parts o (CellAt s i)
-cell_named None s t i = refl
-cell_named (Some p) s t i = refl
+value_named : {R : ℕ} (o : Option (SegmentParts R)) (s t : SegName) (i : ℕ) → part_of_parts o (ValAt t i) ≡ part_of_parts o (ValAt s i)
+value_named None s t i = refl
+value_named (Some p) s t i = refl
+
+index_named : {R : ℕ} (o : Option (SegmentParts R)) (s t : SegName) (i : ℕ) → part_of_parts o (IdxAt t i) ≡ part_of_parts o (IdxAt s i)
+index_named None s t i = refl
+index_named (Some p) s t i = refl
 
 -- it has nothing at a place of another kind
 abbrev nothing : Option Content
@@ -275,6 +287,10 @@ qhead_nothing (Some p) = refl
 qtail_nothing : {R : ℕ} (o : Option (SegmentParts R)) → part_of_parts o QTail ≡ nothing
 qtail_nothing None = refl
 qtail_nothing (Some p) = refl
+
+cell_nothing : {R : ℕ} (o : Option (SegmentParts R)) (t : SegName) (i : ℕ) → part_of_parts o (CellAt t i) ≡ nothing
+cell_nothing None t i = refl
+cell_nothing (Some p) t i = refl
 
 whole_nothing : {R : ℕ} (o : Option (SegmentParts R)) (t : SegName) → part_of_parts o (WholeOf t) ≡ nothing
 whole_nothing None t = refl
@@ -320,7 +336,9 @@ module _ {R : ℕ} (p : Parts R) where
     of_space (Head s) = of_segment s (Head s)
     of_space (Tail s) = of_segment s (Tail s)
     of_space (Next s) = of_segment s (Next s)
-    of_space (CellAt s i) = of_segment s (CellAt s i)
+    of_space (CellAt s i) = sym (if_none (is_name root s))
+    of_space (ValAt s i) = of_segment s (ValAt s i)
+    of_space (IdxAt s i) = of_segment s (IdxAt s i)
     of_space (WholeOf s) = sym (if_none (is_name root s))
     of_space ArrHead = ap (λ (f : Contents). f ArrHead) array
     of_space ArrTail = ap (λ (f : Contents). f ArrTail) array
@@ -337,7 +355,9 @@ module _ {R : ℕ} (p : Parts R) where
     fresh_root (Head t) = head_named (by_name p.segments.items root) root t ∙ at_place (Head root)
     fresh_root (Tail t) = tail_named (by_name p.segments.items root) root t ∙ at_place (Tail root)
     fresh_root (Next t) = next_named (by_name p.segments.items root) root t ∙ at_place (Next root)
-    fresh_root (CellAt t i) = cell_named (by_name p.segments.items root) root t i ∙ at_place (CellAt root i)
+    fresh_root (ValAt t i) = value_named (by_name p.segments.items root) root t i ∙ at_place (ValAt root i)
+    fresh_root (IdxAt t i) = index_named (by_name p.segments.items root) root t i ∙ at_place (IdxAt root i)
+    fresh_root (CellAt t i) = cell_nothing (by_name p.segments.items root) t i
     fresh_root QHead = qhead_nothing (by_name p.segments.items root)
     fresh_root QTail = qtail_nothing (by_name p.segments.items root)
     fresh_root (WholeOf t) = whole_nothing (by_name p.segments.items root) t

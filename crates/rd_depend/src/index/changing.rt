@@ -1,15 +1,16 @@
 //! What the calls of the index do to its lists.
 
-ghost use Rattle.std.specs.Prelude.{◌≡◌, ◌+◌, ◌<◌, ◌≤◌, ◌++◌, length, take, true, ℕ, List, IsOk, IfOk, OnOk, OnErr};
+ghost use Rattle.std.specs.Prelude.{◌≡◌, ◌+◌, ◌<◌, ◌≤◌, ◌++◌, length, take, not, true, ℕ, List, IsOk, IfOk, OnOk, OnErr};
 ghost use Rattle.rd_step.specs.declared.entries.Entry.{Entry as Record};
-ghost use Rattle.rd_depend.specs.Keys.{place_key, segment_key};
-ghost use Rattle.rd_depend.specs.Index.{Touch, Adds, Keeps, Drops, ClosesAll, CutsAll, IsIndexOf, IsIndex, IsLast, IsReadyFor, EndsWith, number_of, touches, spare};
+ghost use Rattle.rd_cell.specs.Places.{is_nothing};
+ghost use Rattle.rd_depend.specs.Keys.{place_key, value_key, segment_key};
+ghost use Rattle.rd_depend.specs.Index.{Touch, Adds, Keeps, Drops, ClosesAll, CutsAll, IsIndexOf, IsIndex, IsLast, IsReadyFor, EndsWith, number_of, touches, spare, is_value_written};
 
 use super::DependIndex;
 use super::keys::Key;
 use super::lists::{close_all, cut_all, grow, put_in, reserve_in, take_last_in};
-use rd_cell::Place;
 use rd_cell::limits::MOST_STEPS;
+use rd_cell::{Place, Wrote};
 use rd_step::Entry;
 use std::alloc::AllocError;
 
@@ -17,6 +18,7 @@ use std::alloc::AllocError;
 #[derive(Clone, Copy)]
 struct Slots {
     place: Option<usize>,
+    value: Option<usize>,
     segment: Option<usize>,
 }
 
@@ -42,13 +44,22 @@ impl DependIndex {
         let actor = usize::from(entry.event.actor);
         grow(&mut self.by_actor, self.alloc, actor + 1)?;
         reserve_in(&mut self.by_actor, actor)?;
+        let wrote = is_written(entry.wrote);
+        let value_written = is_value_written(entry.wrote);
         let place = self
             .by_key
-            .reserve(self.alloc, place_key(entry.place), entry.wrote)?;
+            .reserve(self.alloc, place_key(entry.place), wrote)?;
+        let value = self
+            .by_key
+            .reserve(self.alloc, value_key(entry.place), value_written)?;
         let segment = self
             .by_key
-            .reserve(self.alloc, segment_key(entry.place), entry.wrote)?;
-        Ok(Slots { place, segment })
+            .reserve(self.alloc, segment_key(entry.place), wrote)?;
+        Ok(Slots {
+            place,
+            value,
+            segment,
+        })
     }
 
     /// Puts the entry at the next position, for which there is room.
@@ -61,8 +72,11 @@ impl DependIndex {
         let position = self.len as u32;
         let actor = usize::from(entry.event.actor);
         put_in(&mut self.by_actor, actor, position);
-        self.by_key.put(slots.place, position, entry.wrote);
-        self.by_key.put(slots.segment, position, entry.wrote);
+        let wrote = is_written(entry.wrote);
+        let value_written = is_value_written(entry.wrote);
+        self.by_key.put(slots.place, position, wrote);
+        self.by_key.put(slots.value, position, value_written);
+        self.by_key.put(slots.segment, position, wrote);
     }
 
     /// Takes the last position away, which is the entry's.
@@ -72,8 +86,11 @@ impl DependIndex {
     {
         self.len -= 1;
         take_last_in(&mut self.by_actor, usize::from(entry.event.actor));
-        self.by_key.take_last(place_key(entry.place), entry.wrote);
-        self.by_key.take_last(segment_key(entry.place), entry.wrote);
+        let wrote = is_written(entry.wrote);
+        let value_written = is_value_written(entry.wrote);
+        self.by_key.take_last(place_key(entry.place), wrote);
+        self.by_key.take_last(value_key(entry.place), value_written);
+        self.by_key.take_last(segment_key(entry.place), wrote);
     }
 
     /// Takes a position away; later ones are one less.
@@ -124,14 +141,38 @@ impl DependIndex {
     }
 }
 
-/// The key of the place, if there is one.
+/// The key of the place, if there is one: of a cell that of its index half.
 fn place_key(place: Option<Place>) -> Option<Key>
     ensures { result ≡ place_key place }
 {
     match place {
         None => None,
-        Some(place) => Some(Key::At(place)),
+        Some(place) => Some(Key::At(place.index_half())),
     }
+}
+
+/// The key of the cell's value half, if the place is a cell.
+fn value_key(place: Option<Place>) -> Option<Key>
+    ensures { result ≡ value_key place }
+{
+    match place {
+        Some(Place::Cell(name, index)) => Some(Key::At(Place::Val(name, index))),
+        _ => None,
+    }
+}
+
+/// Whether a step that wrote this wrote anything.
+fn is_written(wrote: Wrote) -> bool
+    ensures { result ≡ not (is_nothing wrote) }
+{
+    !wrote.is_nothing()
+}
+
+/// Whether a step that wrote this wrote the value half of its cell.
+pub(super) fn is_value_written(wrote: Wrote) -> bool
+    ensures { result ≡ is_value_written wrote }
+{
+    matches!(wrote, Wrote::Place)
 }
 
 /// The key of the segment that the place is one of, if there is one.

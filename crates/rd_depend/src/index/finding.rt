@@ -1,20 +1,24 @@
-//! The first dependant by look-ups: the first later position of the actor, and the first one at a place that overlaps, if so
-//! of those that wrote.
+//! The first dependant by look-ups: the first later position of the actor, and for each place that the step touched the first one
+//! that touched it, or if the step only read it that wrote it.
 
-ghost use Rattle.std.specs.Prelude.{◌≡◌, ◌+◌, ◌<◌, ◌≤◌, ◌^◌, ◌&&◌, List, Some, length};
-ghost use Rattle.rd_cell.specs.Places.{some_overlap};
+ghost use Rattle.std.specs.Prelude.{◌≡◌, ◌+◌, ◌<◌, ◌≤◌, ◌^◌, ◌||◌, List, Some, length};
+ghost use Rattle.rd_cell.specs.declared.places.Place.TheVariants.{Whole};
+ghost use Rattle.rd_cell.specs.Places.{interfere};
 ghost use Rattle.rd_step.specs.declared.entries.Entry.{Entry as Record};
 ghost use Rattle.rd_step.specs.Prelude.{depends};
 ghost use Rattle.rd_depend.specs.Lists.{list_at, first_above, earlier, IsAscending};
-ghost use Rattle.rd_depend.specs.Tables.{counts, kept_in};
-ghost use Rattle.rd_depend.specs.Index.{IsIndexOf, positions};
+ghost use Rattle.rd_depend.specs.Tables.{kept_in};
+ghost use Rattle.rd_depend.specs.Index.{IsIndexOf, positions, reached};
+ghost use Rattle.rd_depend.specs.Keys.{is_under};
+ghost use Rattle.rd_depend.specs.declared.index.keys.Key.TheVariants.{At};
 
 use super::DependIndex;
+use super::changing::is_value_written;
 use super::keys::Key;
 use super::positions::Positions;
 use super::probes::Probes;
-use rd_cell::Place;
 use rd_cell::limits::MOST_STEPS;
+use rd_cell::{Place, SegName, Wrote};
 use rd_step::Entry;
 
 impl DependIndex {
@@ -28,29 +32,53 @@ impl DependIndex {
         let by_actor = self.first_by(k, entry.event.actor, probes);
         match entry.place {
             None => by_actor,
-            Some(place) => earlier(by_actor, self.first_at(k, place, !entry.wrote, probes)),
+            Some(place) => earlier(by_actor, self.first_at(k, place, entry.wrote, probes)),
         }
     }
 
-    /// The first position greater than `k` at a place that overlaps this one, of all or of those that wrote.
-    fn first_at(&self, k: u32, place: Place, writes: bool, probes: &mut Probes) -> Option<u64>
+    /// The first position greater than `k` of a step that interferes with an access that wrote this of its place.
+    fn first_at(&self, k: u32, place: Place, wrote: Wrote, probes: &mut Probes) -> Option<u64>
         requires few { self.now.len ≤ MOST_STEPS }
         requires counted { probes.old.count < 2 ^ 33 }
         ensures answer { (es : List Record) → IsIndexOf self.now es
-            → result ≡ first_above k (positions (λ y. counts writes y.wrote && some_overlap (Some place) y.place) es) }
+            → result ≡ first_above k (positions (λ y. interfere (Some place) wrote y.place y.wrote) es) }
+        ensures cost { probes.new.count ≤ probes.old.count + 57 }
+    {
+        let reads = wrote.is_nothing();
+        match place {
+            Place::Whole(name) => self.first_under(k, Key::In(name), reads, probes),
+            Place::Cell(name, index) => {
+                let value = Key::At(Place::Val(name, index));
+                let by_value = self.first_under(k, value, !is_value_written(wrote), probes);
+                let half = Place::Idx(name, index);
+                earlier(by_value, self.first_beside(k, half, name, reads, probes))
+            }
+            _ => match place.segment() {
+                None => self.first_under(k, Key::At(place), reads, probes),
+                Some(name) => self.first_beside(k, place, name, reads, probes),
+            },
+        }
+    }
+
+    /// The first position greater than `k` at a place of the segment or at the whole of it, of all steps that touched it or of those
+    /// that wrote it.
+    fn first_beside(
+        &self,
+        k: u32,
+        place: Place,
+        name: SegName,
+        writes: bool,
+        probes: &mut Probes,
+    ) -> Option<u64>
+        requires few { self.now.len ≤ MOST_STEPS }
+        requires counted { probes.old.count < 2 ^ 33 + 19 }
+        ensures answer { (es : List Record) → IsIndexOf self.now es
+            → result ≡ first_above k (positions (λ y. is_under (At place) (reached writes y) || is_under (At (Whole name)) (reached writes y)) es) }
         ensures cost { probes.new.count ≤ probes.old.count + 38 }
     {
-        if let Place::Whole(name) = place {
-            return self.first_under(k, Key::In(name), writes, probes);
-        }
         let own = self.first_under(k, Key::At(place), writes, probes);
-        let Some(name) = place.segment() else {
-            return own;
-        };
-        earlier(
-            own,
-            self.first_under(k, Key::At(Place::Whole(name)), writes, probes),
-        )
+        let whole = Key::At(Place::Whole(name));
+        earlier(own, self.first_under(k, whole, writes, probes))
     }
 
     /// The first position greater than `k` that is kept under the key; at most 19 probes.

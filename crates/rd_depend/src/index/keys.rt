@@ -1,4 +1,4 @@
-//! What a list of positions is kept for, apart from the actors: a place or a segment.
+//! What a list of positions is kept for, apart from the actors: a place or a segment. A cell is kept under its two halves.
 //!
 //! Keys are hashed as one number, since all of them are looked up at each step.
 
@@ -15,7 +15,7 @@ use std::hash::{Hash, Hasher};
 /// A place or a segment.
 #[derive(Clone, Copy, Debug)]
 pub(crate) enum Key {
-    /// For the steps at this place alone.
+    /// For the steps at this place alone, or for a half of a cell also for those at the cell.
     At(Place),
     /// For the steps at each place of this segment, the whole of it included.
     In(SegName),
@@ -31,6 +31,8 @@ impl Key {
             | Place::Tail(name)
             | Place::Next(name)
             | Place::Cell(name, _)
+            | Place::Val(name, _)
+            | Place::Idx(name, _)
             | Place::Whole(name) => Some(Key::In(name)),
             Place::QHead | Place::QTail | Place::ArrHead | Place::ArrTail | Place::ArrCell(_) =>
                 None,
@@ -63,6 +65,8 @@ fn place_number(place: Place) -> u64
         Place::ArrHead => 7,
         Place::ArrTail => 8,
         Place::ArrCell(index) => packed(9, SegName::ROOT, index),
+        Place::Val(name, index) => packed(11, name, index),
+        Place::Idx(name, index) => packed(12, name, index),
     }
 }
 

@@ -1,4 +1,4 @@
-//! The lists of places and of segments: of each, the positions that touch it, and apart from these those that wrote.
+//! The lists of places and of segments: of each, the positions that touch it, and apart from these those that wrote it.
 
 ghost use Rattle.std.specs.Prelude.{◌≡◌, ◌<◌, length};
 

@@ -64,8 +64,8 @@ const ADDS_SWAPPED: Schedule = &[
     (1, Act::Go),
 ];
 
-/// An enqueue draws cell 0 of the root. A dequeue marks the cell, and then the enqueue reads its value.
-const MARKED_THEN_READ: Schedule = &[
+/// An enqueue draws cell 0 of the root. A dequeue moves the cell on to its next round, and then the enqueue reads its value.
+const MOVED_THEN_VALUE_READ: Schedule = &[
     (1, Act::Enq(7)),
     (1, Act::Go),
     (1, Act::Go),
@@ -79,8 +79,8 @@ const MARKED_THEN_READ: Schedule = &[
     (1, Act::Go),
 ];
 
-/// The same, but the enqueue reads the cell just before it is marked.
-const READ_THEN_MARKED: Schedule = &[
+/// The same, but the enqueue reads the value just before the cell is moved on, which leaves the value as it is.
+const VALUE_READ_THEN_MOVED: Schedule = &[
     (1, Act::Enq(7)),
     (1, Act::Go),
     (1, Act::Go),
@@ -90,6 +90,38 @@ const READ_THEN_MARKED: Schedule = &[
     (2, Act::Go),
     (2, Act::Go),
     (2, Act::Go),
+    (1, Act::Go),
+    (2, Act::Go),
+];
+
+/// The enqueue reads the value and then the index, all after the cell is moved on.
+const MOVED_THEN_INDEX_READ: Schedule = &[
+    (1, Act::Enq(7)),
+    (1, Act::Go),
+    (1, Act::Go),
+    (1, Act::Go),
+    (2, Act::Deq),
+    (2, Act::Go),
+    (2, Act::Go),
+    (2, Act::Go),
+    (2, Act::Go),
+    (2, Act::Go),
+    (1, Act::Go),
+    (1, Act::Go),
+];
+
+/// The same, but both before that: the index that it reads is another one.
+const INDEX_READ_THEN_MOVED: Schedule = &[
+    (1, Act::Enq(7)),
+    (1, Act::Go),
+    (1, Act::Go),
+    (1, Act::Go),
+    (2, Act::Deq),
+    (2, Act::Go),
+    (2, Act::Go),
+    (2, Act::Go),
+    (2, Act::Go),
+    (1, Act::Go),
     (1, Act::Go),
     (2, Act::Go),
 ];
@@ -135,7 +167,7 @@ const SECOND_THEN_FIRST: Schedule = &[
 ];
 
 /// Pairs of schedules, and whether they are equivalent.
-const PAIRS: [(Schedule, Schedule, bool); 15] = [
+const PAIRS: [(Schedule, Schedule, bool); 16] = [
     (&[], &[], true),
     (&[], ONE_READ, false),
     (TWO_CALLS, TWO_CALLS, true),
@@ -147,7 +179,8 @@ const PAIRS: [(Schedule, Schedule, bool); 15] = [
     (READS_SWAPPED, ONE_READ, false),
     (TWO_ADDS, SAME_PLACES_READ, true),
     (TWO_ADDS, ADDS_SWAPPED, false),
-    (MARKED_THEN_READ, READ_THEN_MARKED, false),
+    (MOVED_THEN_VALUE_READ, VALUE_READ_THEN_MOVED, true),
+    (MOVED_THEN_INDEX_READ, INDEX_READ_THEN_MOVED, false),
     (FIRST_THEN_SECOND, SECOND_THEN_FIRST, false),
     (THREE_CALLS, LAST_CALL_FIRST, true),
     (THREE_CALLS, SECOND_ACTOR_FIRST, false),

@@ -5,7 +5,7 @@ ghost use Rattle.rd_depend.specs.Index.{IsIndexOf};
 
 use super::{Access, MADE, OTHER, record};
 use rd_cell::limits::MOST_STEPS;
-use rd_cell::{Place, overlaps};
+use rd_cell::{Place, Wrote, overlaps};
 use rd_depend::dependence::first_dependant;
 use rd_depend::index::{DependIndex, Probes};
 use rd_step::Entry;
@@ -100,7 +100,7 @@ impl Both {
                 "among {n}, of {place:?}"
             );
         }
-        assert!(rt; probes.count() <= 38);
+        assert!(rt; probes.count() <= 57);
     }
 
     /// Compares each, and the last writers among all and among half of them.
@@ -118,7 +118,10 @@ impl Both {
 fn last_writer(entries: &[Entry], place: Place) -> Option<u64> {
     for at in (0..entries.len()).rev() {
         let entry = entries[at];
-        if entry.wrote && entry.place.is_some_and(|written| overlaps(written, place)) {
+        if entry
+            .written()
+            .is_some_and(|written| overlaps(written, place))
+        {
             return Some(at as u64 + 1);
         }
     }
@@ -126,7 +129,7 @@ fn last_writer(entries: &[Entry], place: Place) -> Option<u64> {
 }
 
 /// Places of which some overlap.
-const PLACES: [Option<Place>; 16] = [
+const PLACES: [Option<Place>; 20] = [
     None,
     Some(Place::QHead),
     Some(Place::QTail),
@@ -135,6 +138,10 @@ const PLACES: [Option<Place>; 16] = [
     Some(Place::Next(MADE)),
     Some(Place::Cell(MADE, 0)),
     Some(Place::Cell(MADE, 1)),
+    Some(Place::Val(MADE, 0)),
+    Some(Place::Idx(MADE, 0)),
+    Some(Place::Val(MADE, 1)),
+    Some(Place::Idx(OTHER, 1)),
     Some(Place::Whole(MADE)),
     Some(Place::Head(OTHER)),
     Some(Place::Cell(OTHER, 1)),
@@ -169,8 +176,13 @@ impl Draws {
     /// An access by one of the actors up to this number.
     fn access(&mut self, actors: u8) -> Access {
         let actor = self.below(u32::from(actors) + 1).min(255) as u8;
-        let place = PLACES[self.below(16) as usize];
-        (actor, place, self.below(3) == 0)
+        let place = PLACES[self.below(20) as usize];
+        let wrote = match self.below(6) {
+            0 => Wrote::Place,
+            1 => Wrote::Index,
+            _ => Wrote::Nothing,
+        };
+        (actor, place, wrote)
     }
 }
 
@@ -208,7 +220,7 @@ const AT: [usize; 7] = [0, 1, 255, 256, 32_767, 65_533, 65_534];
 fn as_many_entries_as_there_may_be_are_found_by_few_probes(rt: HostRuntime) -> Result<(), Fail> {
     let mut both = Both::new(rt.alloc());
     for _ in 0..MOST_STEPS {
-        both.push(record((1, Some(Place::Tail(MADE)), true)))?;
+        both.push(record((1, Some(Place::Tail(MADE)), Wrote::Place)))?;
     }
     for at in AT {
         assert!(rt; both.compare(&rt, at) <= 96);
@@ -224,13 +236,13 @@ fn as_many_entries_as_there_may_be_are_found_by_few_probes(rt: HostRuntime) -> R
 
 /// Reads of a segment's cells by several actors, and a write of the whole of it between them.
 const WHOLE: [Access; 7] = [
-    (1, Some(Place::Cell(MADE, 0)), false),
-    (2, Some(Place::Cell(MADE, 1)), false),
-    (3, Some(Place::Whole(MADE)), true),
-    (4, Some(Place::Cell(OTHER, 0)), true),
-    (5, Some(Place::Cell(MADE, 0)), false),
-    (6, Some(Place::Whole(MADE)), false),
-    (7, Some(Place::Cell(MADE, 1)), true),
+    (1, Some(Place::Cell(MADE, 0)), Wrote::Nothing),
+    (2, Some(Place::Cell(MADE, 1)), Wrote::Nothing),
+    (3, Some(Place::Whole(MADE)), Wrote::Place),
+    (4, Some(Place::Cell(OTHER, 0)), Wrote::Place),
+    (5, Some(Place::Cell(MADE, 0)), Wrote::Nothing),
+    (6, Some(Place::Whole(MADE)), Wrote::Nothing),
+    (7, Some(Place::Cell(MADE, 1)), Wrote::Place),
 ];
 
 #[test]

@@ -74,7 +74,7 @@ fn step_again<const R: usize>(world: &mut World<R>, entry: &Entry)
     ensures room { (m : ℕ) → world_room world.old m
         ≤ world_room world.new m + room_used (makes_segment R (model world.old) entry.now.event) entry.now.event.actor m }
 {
-    if entry.wrote {
+    if !entry.wrote.is_nothing() {
         match world.step(entry.event) {
             Err(_) => unreachable!(),
             Ok(_) => {}

@@ -2,7 +2,7 @@
 //! can be, in several orders, against the run of what remains, stepped afresh.
 
 use rd_actor::{Act, Actor, Op, OpReply, Pc};
-use rd_cell::{Answer, Cell, Content, Place, Refusal, SegName};
+use rd_cell::{Answer, Cell, Content, Place, Refusal, SegName, Wrote};
 use rd_journal::sessions::Session;
 use rd_step::{Entry, Event, World};
 use std::alloc::Global;
@@ -69,8 +69,8 @@ pub(super) fn walk<const R: usize>(
     }
 }
 
-/// A record without its old words: its event, its place, whether it wrote, and what it answered and replied.
-pub(super) fn shown(entry: Entry) -> (Event, Option<Place>, bool, Answer, Option<OpReply>) {
+/// A record without its old words: its event, its place, what it wrote of it, and what it answered and replied.
+pub(super) fn shown(entry: Entry) -> (Event, Option<Place>, Wrote, Answer, Option<OpReply>) {
     (
         entry.event,
         entry.place,
@@ -114,7 +114,7 @@ fn a_step_in_the_middle_is_undone_and_redone_last(rt: HostRuntime) -> Result<(),
         (
             event,
             Some(Place::QTail),
-            false,
+            Wrote::Nothing,
             Answer::Found(Content::Name(ROOT)),
             None,
         )
@@ -162,6 +162,64 @@ const READ_AND_LATER_WRITE: &[(Line, Reply)] = &[
 fn a_read_is_kept_by_a_later_write(rt: HostRuntime) -> Result<(), Fail> {
     let mut session = Session::open(rt.alloc(), World::<2>::fresh(rt.alloc(), 4)?);
     walk(&rt, &mut session, READ_AND_LATER_WRITE);
+    Ok(())
+}
+
+/// A dequeue draws the position of a value, and waits. Another one draws a position behind it, finds the older value, and marks
+/// its cell unsafe, which leaves the value.
+const MARKED: [(Line, Reply); 8] = [
+    (Line::Act(1, Act::Enq(7)), Ok((1, 0))),
+    (Line::Go(1, 6), Ok((7, 0))),
+    (Line::Act(2, Act::Deq), Ok((8, 0))),
+    (Line::Go(2, 2), Ok((10, 0))),
+    (Line::Act(3, Act::Deq), Ok((11, 0))),
+    (Line::Go(3, 11), Ok((22, 0))),
+    (Line::Act(3, Act::Deq), Ok((23, 0))),
+    (Line::Go(3, 5), Ok((28, 0))),
+];
+
+/// The first dequeue reads the value, and the marking is undone alone; what is read next is the safe bit and the index.
+const MARKING_UNDONE: [(Line, Reply); 2] = [
+    (Line::Go(2, 1), Ok((29, 0))),
+    (Line::UndoAt(28), Ok((28, 1))),
+];
+
+/// The same without the undoing: the first step that depends on the marking reads the safe bit.
+const TAKEN: [(Line, Reply); 2] = [
+    (Line::Go(2, 3), Ok((31, 0))),
+    (Line::UndoAt(28), Err(Refusal::Depended(30))),
+];
+
+/// The first cell of the root with a safe bit, holding 7.
+fn holding_7(safe: bool) -> Option<Content> {
+    Some(Content::Cell(Cell {
+        safe,
+        idx: 0,
+        val: Some(7),
+    }))
+}
+
+#[test]
+fn a_marking_is_undone_below_a_later_read_of_the_value(rt: HostRuntime) -> Result<(), Fail> {
+    let cell = Place::Cell(ROOT, 0);
+    let mut session = Session::open(rt.alloc(), World::<2>::fresh(rt.alloc(), 4)?);
+    walk(&rt, &mut session, &MARKED);
+    walk(&rt, &mut session, &TAKEN);
+    let mut session = Session::open(rt.alloc(), World::<2>::fresh(rt.alloc(), 4)?);
+    walk(&rt, &mut session, &MARKED);
+    walk(&rt, &mut session, &MARKING_UNDONE);
+    assert_eq!(rt; session.world().content(cell), holding_7(true));
+    let event = Event {
+        actor: 2,
+        act: Act::Go,
+    };
+    let read = Some(Place::Val(ROOT, 0));
+    assert_eq!(rt;
+        shown(session.entry(28)?),
+        (event, read, Wrote::Nothing, Answer::Value(Some(7)), None)
+    );
+    walk(&rt, &mut session, &[(Line::Redo, Ok((29, 0)))]);
+    assert_eq!(rt; session.world().content(cell), holding_7(false));
     Ok(())
 }
 
@@ -230,7 +288,13 @@ fn a_making_is_undone_alone_and_renames_no_other(rt: HostRuntime) -> Result<(), 
     };
     assert_eq!(rt;
         shown(session.entry(30)?),
-        (event, Some(Place::Next(ROOT)), false, Answer::Lost, None)
+        (
+            event,
+            Some(Place::Next(ROOT)),
+            Wrote::Nothing,
+            Answer::Lost,
+            None
+        )
     );
     assert_eq!(rt;
         session.world().content(Place::Next(ROOT)),
@@ -272,7 +336,7 @@ fn a_number_that_no_step_has_is_refused(rt: HostRuntime) -> Result<(), Fail> {
     };
     assert_eq!(rt;
         shown(session.entry(1)?),
-        (event, None, false, Answer::Nothing, None)
+        (event, None, Wrote::Nothing, Answer::Nothing, None)
     );
     Ok(())
 }

@@ -6,7 +6,7 @@ use super::lone_undo::{
     mixed_run, same_world, shown, walk,
 };
 use rd_actor::Act;
-use rd_cell::{Answer, Content, Place, Refusal, SegName};
+use rd_cell::{Answer, Content, Place, Refusal, SegName, Wrote};
 use rd_journal::sessions::Session;
 use rd_step::{Event, World};
 use std::alloc::Global;
@@ -44,7 +44,7 @@ fn a_making_is_rolled_back_with_its_link(rt: HostRuntime) -> Result<(), Fail> {
         (
             event,
             Some(Place::Whole(made)),
-            true,
+            Wrote::Place,
             Answer::Made(made),
             None,
         )

@@ -4,7 +4,7 @@ ghost use Rattle.std.specs.Prelude.{◌≤◌};
 
 use super::{Line, Move, applied, play, stands};
 use rd_actor::{Act, Actor, OpReply, Pc};
-use rd_cell::{Answer, ArrSlot, Cell, Content, Place, Refusal, SegName};
+use rd_cell::{Answer, ArrSlot, Cell, Content, Place, Refusal, SegName, Wrote};
 use rd_journal::sessions::Session;
 use rd_step::World;
 use std::alloc::Global;
@@ -353,7 +353,7 @@ const BOTH_MAKE: &[Line] = &[
     Line::Is(Place::Cell(SECOND, 0), HOLDS_10),
     Line::Walk(2, &[Pc::E13], None),
     Line::Walk(1, &[Pc::E13], None),
-    Line::Step(30, 1, Place::Next(ROOT), false, Answer::Lost),
+    Line::Step(30, 1, Place::Next(ROOT), Wrote::Nothing, Answer::Lost),
     Line::Is(Place::Next(ROOT), Content::Next(Some(SECOND))),
     Line::Is(Place::Whole(FIRST), Content::Whole),
 ];
@@ -361,10 +361,10 @@ const BOTH_MAKE: &[Line] = &[
 /// The enqueue that lost helps the queue's tail on, so that the other's own try loses and it is over all the same.
 const LOSER_HELPS: &[Line] = &[
     Line::Walk(1, &[Pc::E1, Pc::E2, Pc::E3], None),
-    Line::Step(33, 1, Place::QTail, true, Answer::Won),
+    Line::Step(33, 1, Place::QTail, Wrote::Place, Answer::Won),
     Line::Is(Place::QTail, Content::Name(SECOND)),
     Line::Walk(2, &[Pc::E14], ENQUEUED),
-    Line::Step(34, 2, Place::QTail, false, Answer::Lost),
+    Line::Step(34, 2, Place::QTail, Wrote::Nothing, Answer::Lost),
     Line::Stands(1, Pc::E1),
 ];
 

@@ -16,7 +16,7 @@ const FIRST: SegName = SegName { maker: 1, n: 0 };
 const SECOND: SegName = SegName { maker: 2, n: 0 };
 
 /// Places of which some overlap, and the last of which is never there.
-const PLACES: [Place; 18] = [
+const PLACES: [Place; 22] = [
     Place::QHead,
     Place::QTail,
     Place::ArrHead,
@@ -29,6 +29,10 @@ const PLACES: [Place; 18] = [
     Place::Next(ROOT),
     Place::Cell(ROOT, 0),
     Place::Cell(ROOT, 1),
+    Place::Val(ROOT, 0),
+    Place::Idx(ROOT, 0),
+    Place::Val(ROOT, 1),
+    Place::Idx(ROOT, 1),
     Place::Whole(FIRST),
     Place::Tail(FIRST),
     Place::Cell(FIRST, 0),
@@ -37,12 +41,15 @@ const PLACES: [Place; 18] = [
     Place::Cell(ROOT, 2),
 ];
 
-/// The last live step that wrote the place or one that overlaps it, by a scan.
+/// The last live step that wrote the place or one of the places that it names, by a scan.
 fn scanned(session: &Session<2>, place: Place) -> Option<u64> {
     let steps = session.live();
     for at in (0..steps.len()).rev() {
         let step = steps.at(at);
-        if step.wrote && step.place.is_some_and(|written| overlaps(written, place)) {
+        if step
+            .written()
+            .is_some_and(|written| overlaps(written, place))
+        {
             return Some(at as u64 + 1);
         }
     }

@@ -26,6 +26,10 @@ pub enum PlaceKind {
     Next,
     /// `cell`
     Cell,
+    /// `value`
+    Value,
+    /// `index`
+    Index,
     /// `whole`
     Whole,
     /// `ahead`
@@ -38,13 +42,15 @@ pub enum PlaceKind {
 
 impl PlaceKind {
     /// All kinds of places.
-    const ALL: [PlaceKind; 10] = [
+    const ALL: [PlaceKind; 12] = [
         PlaceKind::QHead,
         PlaceKind::QTail,
         PlaceKind::Head,
         PlaceKind::Tail,
         PlaceKind::Next,
         PlaceKind::Cell,
+        PlaceKind::Value,
+        PlaceKind::Index,
         PlaceKind::Whole,
         PlaceKind::ArrHead,
         PlaceKind::ArrTail,
@@ -75,6 +81,8 @@ impl PlaceKind {
             PlaceKind::Tail => b"tail",
             PlaceKind::Next => b"next",
             PlaceKind::Cell => b"cell",
+            PlaceKind::Value => b"value",
+            PlaceKind::Index => b"index",
             PlaceKind::Whole => b"whole",
             PlaceKind::ArrHead => b"ahead",
             PlaceKind::ArrTail => b"atail",
@@ -97,6 +105,12 @@ impl PlaceKind {
             (PlaceKind::Whole, [segment]) => Place::Whole(segment_in(segment)?),
             (PlaceKind::Cell, [segment, index]) => {
                 Place::Cell(segment_in(segment)?, byte_in(index)?)
+            }
+            (PlaceKind::Value, [segment, index]) => {
+                Place::Val(segment_in(segment)?, byte_in(index)?)
+            }
+            (PlaceKind::Index, [segment, index]) => {
+                Place::Idx(segment_in(segment)?, byte_in(index)?)
             }
             (PlaceKind::ArrCell, [index]) => Place::ArrCell(byte_in(index)?),
             _ => return None,

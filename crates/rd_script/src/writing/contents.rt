@@ -2,7 +2,7 @@
 
 ghost use Rattle.std.specs.Prelude.{◌≡◌, ◌≤◌, ◌++◌, length};
 ghost use Rattle.rd_script.specs.Puts.{Puts};
-ghost use Rattle.rd_script.specs.Contents.{name_words, value_words, next_words, tail_word, cell_words, slot_words, content_words};
+ghost use Rattle.rd_script.specs.Contents.{name_words, value_words, next_words, tail_word, cell_words, index_words, slot_words, content_words};
 
 use super::numbers::{bit_number, put_counted, put_number, put_spaced};
 use super::texts::{Text, put};
@@ -19,6 +19,8 @@ pub fn put_content(text: &mut Text, content: Content)
         Content::Tail { closed, count } => put_counted(text, tail_word(closed), count),
         Content::Next(next) => put_next(text, next),
         Content::Cell(cell) => put_cell(text, cell),
+        Content::Val(value) => put_value(text, value),
+        Content::Idx { safe, idx } => put_index(text, safe, idx),
         Content::Whole => put(text, b"exists"),
         Content::Slot(slot) => put_slot(text, slot),
     }
@@ -73,6 +75,15 @@ fn put_cell(text: &mut Text, cell: Cell)
     put_spaced(text, cell.idx);
     put(text, b" ");
     put_value(text, cell.val);
+}
+
+/// Puts a safe bit and an index behind the text.
+pub fn put_index(text: &mut Text, safe: bool, idx: u64)
+    ensures words { Puts text.old.items text.new.items (index_words safe idx) }
+    ensures len { length (index_words safe idx) ≤ 41 }
+{
+    put_number(text, bit_number(safe));
+    put_spaced(text, idx);
 }
 
 /// Puts what a slot of the array has behind the text.

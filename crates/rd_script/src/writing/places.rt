@@ -12,7 +12,7 @@ use rd_cell::{Place, SegName};
 /// Puts a place behind the text.
 pub fn put_place(text: &mut Text, place: Place)
     ensures words { Puts text.old.items text.new.items (place_words place) }
-    ensures len { length (place_words place) ≤ 67 }
+    ensures len { length (place_words place) ≤ 68 }
 {
     match place {
         Place::QHead => put(text, b"qhead"),
@@ -22,6 +22,14 @@ pub fn put_place(text: &mut Text, place: Place)
         Place::Next(name) => put_named(text, b"next ", name),
         Place::Cell(name, index) => {
             put_named(text, b"cell ", name);
+            put_spaced(text, u64::from(index));
+        }
+        Place::Val(name, index) => {
+            put_named(text, b"value ", name);
+            put_spaced(text, u64::from(index));
+        }
+        Place::Idx(name, index) => {
+            put_named(text, b"index ", name);
             put_spaced(text, u64::from(index));
         }
         Place::Whole(name) => put_named(text, b"whole ", name),

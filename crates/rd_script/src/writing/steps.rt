@@ -4,13 +4,13 @@ ghost use Rattle.std.specs.Prelude.{◌≡◌, ◌≤◌, ◌++◌, length};
 ghost use Rattle.rd_script.specs.Puts.{Puts};
 ghost use Rattle.rd_script.specs.Steps.{step_place, access_word, access_answer, reply_word, step_reply, done_words, step_words};
 
-use super::contents::{put_content, put_name, put_value, tail_word};
+use super::contents::{put_content, put_index, put_name, put_value, tail_word};
 use super::events::put_event;
-use super::numbers::{bit_number, put_counted, put_number, put_spaced};
+use super::numbers::put_counted;
 use super::places::put_place;
 use super::texts::{Text, put};
 use rd_actor::OpReply;
-use rd_cell::{Answer, Place};
+use rd_cell::{Answer, Place, Wrote};
 use rd_step::Entry;
 
 /// Puts all words of a step behind the text.
@@ -42,7 +42,7 @@ pub fn put_call_reply(text: &mut Text, reply: OpReply)
 /// Puts what the access of a step did behind the text.
 fn put_done(text: &mut Text, entry: &Entry)
     ensures words { Puts text.old.items text.new.items (done_words entry.now) }
-    ensures len { length (done_words entry.now) ≤ 138 }
+    ensures len { length (done_words entry.now) ≤ 145 }
 {
     put_step_place(text, entry.place);
     put(text, b"; ");
@@ -54,7 +54,7 @@ fn put_done(text: &mut Text, entry: &Entry)
 /// Puts the place of a step, if it has one, behind the text.
 fn put_step_place(text: &mut Text, place: Option<Place>)
     ensures words { Puts text.old.items text.new.items (step_place place) }
-    ensures len { length (step_place place) ≤ 67 }
+    ensures len { length (step_place place) ≤ 68 }
 {
     match place {
         None => put(text, b"-"),
@@ -63,14 +63,15 @@ fn put_step_place(text: &mut Text, place: Option<Place>)
 }
 
 /// How a step touched its place, if it has one.
-fn access_word(place: Option<Place>, wrote: bool) -> &'static [u8]
+fn access_word(place: Option<Place>, wrote: Wrote) -> &'static [u8]
     ensures name { result.now ≡ access_word place wrote }
-    ensures len { length result.now ≤ 5 }
+    ensures len { length result.now ≤ 11 }
 {
     match (place, wrote) {
         (None, _) => b"none",
-        (Some(_), false) => b"read",
-        (Some(_), true) => b"wrote",
+        (Some(_), Wrote::Nothing) => b"read",
+        (Some(_), Wrote::Place) => b"wrote",
+        (Some(_), Wrote::Index) => b"wrote index",
     }
 }
 
@@ -83,10 +84,7 @@ fn put_access_answer(text: &mut Text, answer: Answer)
         Answer::Nothing => put(text, b"-"),
         Answer::Found(content) => put_content(text, content),
         Answer::Value(value) => put_value(text, value),
-        Answer::SafeAndIndex { safe, idx } => {
-            put_number(text, bit_number(safe));
-            put_spaced(text, idx);
-        }
+        Answer::SafeAndIndex { safe, idx } => put_index(text, safe, idx),
         Answer::WasClosed(closed) => {
             put(text, b"was ");
             put(text, tail_word(closed));

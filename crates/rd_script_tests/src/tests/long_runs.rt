@@ -124,6 +124,8 @@ fn no_line_of_a_long_script_is_refused_memory(rt: HostRuntime) -> Result<(), Fai
             "origin K",
             "writer qtail",
             "writer cell 0.0 1",
+            "writer value 0.0 1",
+            "show index 0.0 K",
             "show tail 0.0",
             "show acell K",
             "actor A",

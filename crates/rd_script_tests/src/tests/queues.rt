@@ -157,7 +157,7 @@ fn a_dequeue_marks_a_cell_unsafe_that_holds_an_earlier_value(rt: HostRuntime) ->
             ("origin 32\n", "refused 12 NoSuchStep 31\n"),
             ("writer cell 0.0 0\n", "writer 31\n"),
             ("show cell 0.0 0\n", "is 0 2 none\n"),
-            ("undo 28\n", "refused 13 Depended 29\n"),
+            ("undo 28\n", "refused 13 Depended 30\n"),
         ],
     )
 }

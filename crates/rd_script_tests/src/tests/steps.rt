@@ -2,7 +2,7 @@
 
 use super::{IDLE, LONGEST, reply_is};
 use rd_actor::{Act, Actor, Op, OpReply, Pc};
-use rd_cell::{Answer, ArrSlot, Content, Place, SegName};
+use rd_cell::{Answer, ArrSlot, Content, Place, SegName, Wrote};
 use rd_marks::Reply;
 use rd_step::{Entry, Event};
 use std::process::Abort;
@@ -14,7 +14,7 @@ const READ: Entry = Entry {
         act: Act::Go,
     },
     place: Some(Place::QTail),
-    wrote: false,
+    wrote: Wrote::Nothing,
     answer: Answer::Found(Content::Name(SegName::ROOT)),
     reply: None,
     old_actor: Actor {
@@ -175,6 +175,22 @@ fn each_place_has_its_words(rt: HostRuntime) {
             (
                 4,
                 Entry {
+                    place: Some(Place::Val(SegName { maker: 1, n: 20 }, 3)),
+                    ..READ
+                },
+                "step 4; go 1; value 1.20 3; read; 0.0; -\n",
+            ),
+            (
+                4,
+                Entry {
+                    place: Some(Place::Idx(SegName { maker: 1, n: 20 }, 3)),
+                    ..READ
+                },
+                "step 4; go 1; index 1.20 3; read; 0.0; -\n",
+            ),
+            (
+                4,
+                Entry {
                     place: Some(Place::Whole(SegName { maker: 1, n: 20 })),
                     ..READ
                 },
@@ -216,7 +232,7 @@ fn each_answer_has_its_words(rt: HostRuntime) {
             (
                 5,
                 Entry {
-                    wrote: true,
+                    wrote: Wrote::Place,
                     answer: Answer::Found(Content::Tail {
                         closed: false,
                         count: 3,
@@ -228,7 +244,7 @@ fn each_answer_has_its_words(rt: HostRuntime) {
             (
                 5,
                 Entry {
-                    wrote: false,
+                    wrote: Wrote::Nothing,
                     answer: Answer::Found(Content::Next(None)),
                     ..READ
                 },
@@ -237,7 +253,7 @@ fn each_answer_has_its_words(rt: HostRuntime) {
             (
                 5,
                 Entry {
-                    wrote: true,
+                    wrote: Wrote::Place,
                     answer: Answer::Found(Content::Slot(ArrSlot::Top)),
                     ..READ
                 },
@@ -246,7 +262,7 @@ fn each_answer_has_its_words(rt: HostRuntime) {
             (
                 5,
                 Entry {
-                    wrote: false,
+                    wrote: Wrote::Nothing,
                     answer: Answer::Value(None),
                     ..READ
                 },
@@ -255,7 +271,7 @@ fn each_answer_has_its_words(rt: HostRuntime) {
             (
                 5,
                 Entry {
-                    wrote: false,
+                    wrote: Wrote::Nothing,
                     answer: Answer::Value(Some(7)),
                     ..READ
                 },
@@ -264,7 +280,7 @@ fn each_answer_has_its_words(rt: HostRuntime) {
             (
                 5,
                 Entry {
-                    wrote: false,
+                    wrote: Wrote::Nothing,
                     answer: Answer::SafeAndIndex { safe: true, idx: 6 },
                     ..READ
                 },
@@ -273,7 +289,7 @@ fn each_answer_has_its_words(rt: HostRuntime) {
             (
                 5,
                 Entry {
-                    wrote: true,
+                    wrote: Wrote::Place,
                     answer: Answer::WasClosed(false),
                     ..READ
                 },
@@ -282,7 +298,7 @@ fn each_answer_has_its_words(rt: HostRuntime) {
             (
                 5,
                 Entry {
-                    wrote: true,
+                    wrote: Wrote::Place,
                     answer: Answer::WasClosed(true),
                     ..READ
                 },
@@ -291,7 +307,7 @@ fn each_answer_has_its_words(rt: HostRuntime) {
             (
                 5,
                 Entry {
-                    wrote: true,
+                    wrote: Wrote::Place,
                     answer: Answer::Won,
                     ..READ
                 },
@@ -300,7 +316,7 @@ fn each_answer_has_its_words(rt: HostRuntime) {
             (
                 5,
                 Entry {
-                    wrote: false,
+                    wrote: Wrote::Nothing,
                     answer: Answer::Lost,
                     ..READ
                 },
@@ -318,7 +334,7 @@ fn a_making_shows_the_whole_of_the_new_segment(rt: HostRuntime) {
             27,
             Entry {
                 place: Some(Place::Whole(SegName { maker: 1, n: 0 })),
-                wrote: true,
+                wrote: Wrote::Place,
                 answer: Answer::Made(SegName { maker: 1, n: 0 }),
                 old_content: None,
                 ..READ
@@ -372,8 +388,8 @@ fn the_longest_step_fits(rt: HostRuntime) {
                     actor: u8::MAX,
                     act: Act::AEnq(u64::MAX),
                 },
-                place: Some(Place::Cell(LONGEST, u8::MAX)),
-                wrote: true,
+                place: Some(Place::Val(LONGEST, u8::MAX)),
+                wrote: Wrote::Index,
                 answer: Answer::SafeAndIndex {
                     safe: true,
                     idx: u64::MAX,
@@ -381,7 +397,7 @@ fn the_longest_step_fits(rt: HostRuntime) {
                 reply: Some(OpReply::Value(u64::MAX)),
                 ..READ
             },
-            "step 18446744073709551615; aenq 255 18446744073709551615; cell 255.4294967295 255; wrote; 1 18446744073709551615; value 18446744073709551615\n",
+            "step 18446744073709551615; aenq 255 18446744073709551615; value 255.4294967295 255; wrote index; 1 18446744073709551615; value 18446744073709551615\n",
         )],
     );
 }

@@ -54,7 +54,7 @@ fn step_row(rt: &impl Abort, alloc: Global, i: usize, row: Row) -> Result<(), Fa
     let entry = Entry {
         event: GO,
         place: Some(row.place),
-        wrote: row.writes.is_some(),
+        wrote: wrote(row),
         answer: row.answer,
         reply,
         old_actor: actor,
@@ -68,8 +68,19 @@ fn step_row(rt: &impl Abort, alloc: Global, i: usize, row: Row) -> Result<(), Fa
     Ok(())
 }
 
-/// The cell of the positions 1, 5 and 9 in a ring of four.
+/// What the row's access writes of its place: a double-word compare-and-swap that wins at Q6 or Q7 leaves the value as it was.
+fn wrote(row: Row) -> Wrote {
+    match (row.writes, row.at) {
+        (None, _) => Wrote::Nothing,
+        (Some(_), Pc::Q6 | Pc::Q7) => Wrote::Index,
+        (Some(_), _) => Wrote::Place,
+    }
+}
+
+/// The cell of the positions 1, 5 and 9 in a ring of four, and its index half.
 const CELL: Place = Place::Cell(ROOT, 1);
+
+const INDEX: Place = Place::Idx(ROOT, 1);
 
 const TAIL: Place = Place::Tail(ROOT);
 
@@ -103,6 +114,14 @@ const OPEN_7: Content = Content::Tail {
 const CLOSED_3: Content = Content::Tail {
     closed: true,
     count: 3,
+};
+
+/// This safe bit and index of a cell.
+const INDEX_SAFE_9: Content = Content::Idx { safe: true, idx: 9 };
+
+const INDEX_UNSAFE_9: Content = Content::Idx {
+    safe: false,
+    idx: 9,
 };
 
 /// A cell of this safe bit and index, without a value and with 7.
@@ -190,8 +209,8 @@ const ROWS: &[Row] = &[
         at: Pc::E6,
         op: ENQ,
         words: &[T(5)],
-        place: CELL,
-        found: SAFE_9,
+        place: INDEX,
+        found: INDEX_SAFE_9,
         answer: Answer::SafeAndIndex { safe: true, idx: 9 },
         writes: None,
         then: Then::Goes(Pc::E9, &[Safe(true), Idx(9)]),
@@ -200,8 +219,8 @@ const ROWS: &[Row] = &[
         at: Pc::E6,
         op: ENQ,
         words: &[T(9)],
-        place: CELL,
-        found: UNSAFE_9,
+        place: INDEX,
+        found: INDEX_UNSAFE_9,
         answer: Answer::SafeAndIndex {
             safe: false,
             idx: 9,
@@ -293,8 +312,8 @@ const ROWS: &[Row] = &[
         at: Pc::Q4,
         op: DEQ,
         words: &[Pass(1), H(5), Val(7)],
-        place: CELL,
-        found: SAFE_9,
+        place: INDEX,
+        found: INDEX_SAFE_9,
         answer: Answer::SafeAndIndex { safe: true, idx: 9 },
         writes: None,
         then: Then::Goes(Pc::Q8, &[Safe(true), Idx(9)]),
@@ -563,7 +582,7 @@ fn a_choice_leads_to_the_closing_or_to_the_next_position(rt: HostRuntime) -> Res
         let entry = Entry {
             event,
             place: None,
-            wrote: false,
+            wrote: Wrote::Nothing,
             answer: Answer::Nothing,
             reply: None,
             old_actor: actor,

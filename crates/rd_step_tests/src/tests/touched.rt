@@ -1,16 +1,17 @@
 //! What the record of a step says that the step touched, by examples.
 
 use rd_actor::{Act, Actor};
-use rd_cell::{Answer, Content, Place, SegName};
+use rd_cell::{Answer, Cell, Content, Place, SegName, Wrote};
 use rd_step::entries::{Entry, Event};
 
 /// A record, by what matters of it, and what it says.
 #[derive(Clone, Copy)]
 struct Row {
     place: Option<Place>,
-    wrote: bool,
+    wrote: Wrote,
     old_content: Option<Content>,
     overwritten: (Option<Place>, Option<Content>),
+    written: Option<Place>,
     made: Option<SegName>,
 }
 
@@ -20,35 +21,54 @@ const MADE: SegName = SegName { maker: 2, n: 0 };
 /// What a place of the queue's end had.
 const ROOT_NAMED: Content = Content::Name(SegName::ROOT);
 
-/// A call, a read, a write, and a making.
-const ROWS: [Row; 4] = [
+/// What a cell had.
+const FULL: Content = Content::Cell(Cell {
+    safe: true,
+    idx: 3,
+    val: Some(7),
+});
+
+/// A call, a read, a write, a making, and a swap of a cell that keeps its value.
+const ROWS: [Row; 5] = [
     Row {
         place: None,
-        wrote: false,
+        wrote: Wrote::Nothing,
         old_content: None,
         overwritten: (None, None),
+        written: None,
         made: None,
     },
     Row {
         place: Some(Place::QTail),
-        wrote: false,
+        wrote: Wrote::Nothing,
         old_content: Some(ROOT_NAMED),
         overwritten: (None, None),
+        written: None,
         made: None,
     },
     Row {
         place: Some(Place::QTail),
-        wrote: true,
+        wrote: Wrote::Place,
         old_content: Some(ROOT_NAMED),
         overwritten: (Some(Place::QTail), Some(ROOT_NAMED)),
+        written: Some(Place::QTail),
         made: None,
     },
     Row {
         place: Some(Place::Whole(MADE)),
-        wrote: true,
+        wrote: Wrote::Place,
         old_content: None,
         overwritten: (Some(Place::Whole(MADE)), None),
+        written: Some(Place::Whole(MADE)),
         made: Some(MADE),
+    },
+    Row {
+        place: Some(Place::Cell(MADE, 3)),
+        wrote: Wrote::Index,
+        old_content: Some(FULL),
+        overwritten: (Some(Place::Cell(MADE, 3)), Some(FULL)),
+        written: Some(Place::Idx(MADE, 3)),
+        made: None,
     },
 ];
 
@@ -68,6 +88,7 @@ fn a_record_says_what_its_step_overwrote_and_made(rt: HostRuntime) {
             old_content: row.old_content,
         };
         assert_eq!(rt; entry.overwritten(), row.overwritten, "{entry:?}");
+        assert_eq!(rt; entry.written(), row.written, "{entry:?}");
         assert_eq!(rt; entry.made(), row.made, "{entry:?}");
     }
 }

@@ -77,7 +77,7 @@ const FIRST_ROWS: &[Row] = &[
     Row {
         trace: b"{\"actors\":4,\"events\":[[\"enq\",1,7],[\"go\",1],[\"aenq\",2,18446744073709551615],[\"deq\",3],[\"go\",3],[\"go\",3],[\"go\",3]],\"ring\":2,\"version\":1}\n",
         script: b"len\nstep 3\nstep 7\nshow head 0.0\nback 2\nshow head 0.0",
-        report: b"at 7 0\nstep 3; aenq 2 18446744073709551615; -; none; -; -\nstep 7; go 3; cell 0.0 0; read; none; -\nis 1\nat 5 2\nis 0\n",
+        report: b"at 7 0\nstep 3; aenq 2 18446744073709551615; -; none; -; -\nstep 7; go 3; value 0.0 0; read; none; -\nis 1\nat 5 2\nis 0\n",
     },
 ];
 
@@ -87,7 +87,7 @@ const ROWS: &[Row] = &[
     Row {
         trace: TRACE,
         script: b"len\nmarkat 1\nshow head 0.0\nforward 2\nstep 7\nshow head 0.0",
-        report: b"at 5 2\nmark a 7\nis 0\nat 7 0\nstep 7; go 3; cell 0.0 0; read; none; -\nis 1\n",
+        report: b"at 5 2\nmark a 7\nis 0\nat 7 0\nstep 7; go 3; value 0.0 0; read; none; -\nis 1\n",
     },
     Row {
         trace: b"{\"events\":[[\"enq\",1,7]],\"marks\":[],\"ring\":4,\"start\":{\"fresh\":4},\"undone\":[[\"go\",1]],\"version\":2}\n",

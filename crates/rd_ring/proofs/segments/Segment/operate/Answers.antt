@@ -1,5 +1,5 @@
-use Rattle.std.proofs.Common.{true, sym, ◌∙◌, ap, arith, refl, Some}
-use Rattle.rd_ring.specs.Prelude.{Head, Tail, Next, CellAt, Content, Found, WasClosed}
+use Rattle.std.proofs.Common.{true, sym, ◌∙◌, ap, arith, refl, Some, if◌then◌else◌}
+use Rattle.rd_ring.specs.Prelude.{Head, Tail, Next, CellAt, Content, Wrote, WroteNothing, WrotePlace, Won, Lost, Found, WasClosed, operand}
 use Rattle.rd_ring.specs.Segments.{part}
 use Rattle.rd_ring.proofs.OperationLemmas.{reads_at, does_at, refuses_at, cell_is_within}
 use Rattle.rd_ring.proofs.segments.Segment.operate.Goals as goal
@@ -23,7 +23,7 @@ pub returns-in-Ok-clause-ok : goal.returns-in-Ok-clause-ok
 returns-in-Ok-clause-ok g c =
     does_at c.args.self.now _ (λ s. Head s) _ c.args.place _ c.args.operation _ c.in-Some.found _ _ c.at-in-Ok.result (λ q. refl)
     c.in-Head-Add.is-0 c.in-Head-Add.is-1 (sym c.in-Some.ensures) c.in-Ok.ensures.ok
-    (λ e. c.at-in-Ok.ensures ∙ ap (λ (x : Content). record { place = Some c.args.place; old = Some x; answer = Found x; wrote = true }) e)
+    (λ e. c.at-in-Ok.ensures ∙ ap (λ (x : Content). record { place = Some c.args.place; old = Some x; answer = Found x; wrote = WrotePlace }) e)
 
 pub returns-in-Err-add_tail-clause-err : goal.returns-in-Err-add_tail-clause-err
 returns-in-Err-add_tail-clause-err g c =
@@ -33,28 +33,31 @@ pub returns-in-Ok-add_tail-clause-ok : goal.returns-in-Ok-add_tail-clause-ok
 returns-in-Ok-add_tail-clause-ok g c =
     does_at c.args.self.now _ (λ s. Tail s) _ c.args.place _ c.args.operation _ c.in-Some.found _ _ c.at-in-Ok-add_tail.result (λ q. refl)
     c.in-Tail-Add.is-0 c.in-Tail-Add.is-1 (sym c.in-Some.ensures) c.in-Ok-add_tail.ensures.ok
-    (λ e. c.at-in-Ok-add_tail.ensures ∙ ap (λ (x : Content). record { place = Some c.args.place; old = Some x; answer = Found x; wrote = true }) e)
+    (λ e. c.at-in-Ok-add_tail.ensures ∙ ap (λ (x : Content). record { place = Some c.args.place; old = Some x; answer = Found x; wrote = WrotePlace }) e)
 
 pub returns-in-Tail-Close-clause-ok : goal.returns-in-Tail-Close-clause-ok
 returns-in-Tail-Close-clause-ok g c =
     does_at c.args.self.now _ (λ s. Tail s) _ c.args.place _ c.args.operation _ c.in-Some.found _ _ c.at-in-Tail-Close.result (λ q. refl)
     c.in-Tail-Close.is-0 c.in-Tail-Close.is-1 (sym c.in-Some.ensures) c.close-closed.ensures
-    (λ e. c.at-in-Tail-Close.ensures ∙ ap (λ (x : Content). record { place = Some c.args.place; old = Some x; answer = WasClosed c.close-closed.result; wrote = true }) e)
+    (λ e. c.at-in-Tail-Close.ensures ∙ ap (λ (x : Content). record { place = Some c.args.place; old = Some x; answer = WasClosed c.close-closed.result; wrote = WrotePlace }) e)
 
 pub returns-in-Tail-CasTail-clause-ok : goal.returns-in-Tail-CasTail-clause-ok
 returns-in-Tail-CasTail-clause-ok g c =
-    let there = sym (ap (part c.args.self.now) c.in-Tail-CasTail.is-0) ∙ sym c.in-Some.ensures in
+    let there = sym (ap (operand (part c.args.self.now)) c.in-Tail-CasTail.is-0) ∙ sym c.in-Some.ensures in
     does_at c.args.self.now _ (λ s. Tail s) _ c.args.place _ c.args.operation _ c.in-Some.found _ _ c.swapped.result (λ q. refl)
     c.in-Tail-CasTail.is-0 c.in-Tail-CasTail.is-1 (sym c.in-Some.ensures) (c.cas_tail-won.ensures c.in-Some.found there) (λ e. c.swapped.ensures)
 
 pub returns-in-Next-CasNext-clause-ok : goal.returns-in-Next-CasNext-clause-ok
 returns-in-Next-CasNext-clause-ok g c =
-    let there = sym (ap (part c.args.self.now) c.in-Next-CasNext.is-0) ∙ sym c.in-Some.ensures in
+    let there = sym (ap (operand (part c.args.self.now)) c.in-Next-CasNext.is-0) ∙ sym c.in-Some.ensures in
     does_at c.args.self.now _ (λ s. Next s) _ c.args.place _ c.args.operation _ c.in-Some.found _ _ c.swapped-in-Next-CasNext.result (λ q. refl)
     c.in-Next-CasNext.is-0 c.in-Next-CasNext.is-1 (sym c.in-Some.ensures) (c.cas_next-won.ensures c.in-Some.found there) (λ e. c.swapped-in-Next-CasNext.ensures)
 
 pub returns-in-Cell-Cas2-clause-ok : goal.returns-in-Cell-Cas2-clause-ok
 returns-in-Cell-Cas2-clause-ok g c =
-    let there = sym (ap (part c.args.self.now) c.in-Cell-Cas2.is-0) ∙ sym c.in-Some.ensures in
+    let there = sym (ap (operand (part c.args.self.now)) c.in-Cell-Cas2.is-0) ∙ sym c.in-Some.ensures in
     does_at c.args.self.now _ (λ s. CellAt s c.in-Cell-Cas2.i) _ c.args.place _ c.args.operation _ c.in-Some.found _ _ c.swapped-in-Cell-Cas2.result (λ q. refl)
-    c.in-Cell-Cas2.is-0 c.in-Cell-Cas2.is-1 (sym c.in-Some.ensures) (c.cas2_cell-won.ensures c.in-Some.found there) (λ e. c.swapped-in-Cell-Cas2.ensures)
+    c.in-Cell-Cas2.is-0 c.in-Cell-Cas2.is-1 (sym c.in-Some.ensures) (c.cas2_cell-won.ensures c.in-Some.found there)
+    (λ e.
+    c.swapped-in-Cell-Cas2.ensures
+    ∙ ap (λ (w : Wrote). record { place = Some c.args.place; old = Some c.in-Some.found; answer = if c.cas2_cell-won.result then Won else Lost; wrote = if c.cas2_cell-won.result then w else WroteNothing }) c.wrote.ensures)
