@@ -186,8 +186,16 @@ def refused_undo_jobs(steps, few):
     return jobs
 
 
+def goto_at_random_job(marked, marks, few):
+    """Going from one of these bookmarks to another by chance."""
+    steps, source = marked.steps, random.Random(SEED)
+    ends = [source.randint(1, marks) for _ in range(20 if few else 200)]
+    lines = marked.lines + [f"goto m{number}" for number in ends]
+    return Job(f"`goto` among {marks} marks by chance", steps, lines, len(ends), marked, f"at {ends[-1] * steps // marks} 0")
+
+
 def mark_jobs(base, marks, few):
-    """Bookmarks all along a random run, going from the first to the last and back, and comparing."""
+    """Bookmarks all along a random run, going from one to another, and comparing."""
     steps, lines = base.steps, []
     for number in range(1, marks + 1):
         lines += base.lines[(number - 1) * steps // marks:number * steps // marks] + [f"mark m{number}"]
@@ -202,6 +210,7 @@ def mark_jobs(base, marks, few):
     return [
         marked,
         Job("`goto` the first mark and the last", steps, lines + goes, 2 * times, marked, f"at {steps} 0"),
+        goto_at_random_job(marked, marks, few),
         neighbours,
         Job("`goto` a mark that has one step more or less", steps, near + hops, many, neighbours, f"at {steps - 1} 0"),
         two,
