@@ -1,5 +1,5 @@
 -- Accesses that do not interfere commute.
-use Rattle.std.proofs.Common.{◌≡◌, ℕ, zero, suc, ◌+◌, Bool, true, false, ◌==◌, ◌&&◌, ◌||◌, if◌then◌else◌, nat_lt, inl, inr, refl, sym, ◌∙◌, ap, ap₂, subst, eqb-true, Option, Some, None, is_some, IfSome, Result, Ok, Err, IfOk}
+use Rattle.std.proofs.Common.{◌≡◌, ℕ, zero, suc, ◌+◌, Bool, true, false, ◌==◌, ◌&&◌, if◌then◌else◌, nat_lt, inl, inr, refl, sym, ◌∙◌, ap, ap₂, subst, eqb-true, Option, Some, None, is_some, IfSome, Result, Ok, Err, IfOk}
 use Rattle.std.proofs.lemmas.Bool.{cases_Bool, both_ways, and_left, and_parts, or_parts, ne_eqb, cond_both, cond-true, cond-false}
 use Rattle.std.proofs.lemmas.Result.{IfOk-at_ok}
 use mathlib.Core.Path.{fun_ext}
@@ -15,7 +15,7 @@ use Rattle.rd_cell.specs.declared.operations.Operation.TheVariants.{Cas2}
 use Rattle.rd_cell.specs.declared.access.Access.{Access}
 use Rattle.rd_cell.specs.declared.access.Access.TheVariants.{NoPlace, At, Make}
 use Rattle.rd_cell.specs.declared.refusal.Refusal.{Refusal}
-use Rattle.rd_cell.specs.Places.{is_name, is_of_cell, is_place, covers, some_covers, some_overlap, written, interfere}
+use Rattle.rd_cell.specs.Places.{is_name, is_of_cell, covers, some_covers, some_overlap, written, interfere}
 use Rattle.rd_cell.specs.Contents.{Contents, half, halves, cell_of_halves, share, after_write_at, operand, holding}
 use Rattle.rd_cell.specs.Cells.{is_cell}
 use Rattle.rd_cell.specs.Operations.{Effect, swaps, effect, wrote_content, wrote_by}

@@ -1,5 +1,5 @@
 -- What clap's errors are to the program, and that the program's command is one of which clap's clauses are exact.
-use Rattle.std.proofs.Common.{◌≡◌, ◌∙◌, inl, inr, refl, sym, subst, ap, true, ℕ, List, [], Option, Some, None}
+use Rattle.std.proofs.Common.{◌≡◌, ◌∙◌, inl, inr, refl, sym, subst, ap, true, List, [], Option, Some, None}
 use Rattle.clap.specs.Simple.{App, HasMatchesOf, is_simple, subcommand_rows_of, with_subcommand}
 use Rattle.clap.specs.Kinds.{HasKind}
 use Rattle.clap.specs.Faults.{fault_of, is_simple_and_free}

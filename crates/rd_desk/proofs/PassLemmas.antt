@@ -1,5 +1,5 @@
 -- What a viewer's pass knows, by what the lock says of it.
-use Rattle.std.proofs.Common.{◌≡◌, ◌<◌, ◌≤◌, ℕ, List, [], ◌∷◌, ◌++◌, length, refl, sym, ap, ◌∙◌, subst, arith, Result, Ok, Err, IfOk, IfErr, OnOk, OnErr}
+use Rattle.std.proofs.Common.{◌≡◌, ◌<◌, ℕ, List, [], ◌∷◌, ◌++◌, length, sym, ap, ◌∙◌, subst, arith, Result, Ok, Err, IfOk, IfErr, OnOk, OnErr}
 use Rattle.std.proofs.lemmas.List.{append-nil}
 use mathlib.Core.List.{IsPrefix}
 use Rattle.rd_cell.specs.declared.refusal.Refusal.{Refusal}
@@ -7,7 +7,7 @@ use Rattle.rd_lock.specs.declared.views.Recorded.{Ghosts}
 use Rattle.rd_lock.specs.declared.passes.Pass.{Pass}
 use Rattle.rd_lock.specs.declared.locks.TicketLock.{TicketLock}
 use Rattle.rd_lock.specs.Histories.{Every, named, Adds}
-use Rattle.rd_lock.specs.Locks.{number, seen, own, next_seen, served_seen, IsSamePass, IsTaken, HasPut}
+use Rattle.rd_lock.specs.Locks.{number, seen, own, IsSamePass, IsTaken, HasPut}
 use Rattle.rd_lock.specs.Opening.{IsNewPass}
 use Rattle.rd_marks.specs.Books.{BookState}
 use Rattle.rd_marks.specs.declared.books.Book.{Book}

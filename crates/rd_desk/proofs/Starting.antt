@@ -1,5 +1,5 @@
 -- What holds while the viewers' threads are started, and while they are waited for.
-use Rattle.std.proofs.Common.{◌≡◌, ◌≤◌, ℕ, List, [], ◌∷◌, ◌++◌, length, reverse, refl, sym, ap, ◌∙◌, subst, Option, Some, Result, Ok, Err, IfOk, Vec, append_assoc}
+use Rattle.std.proofs.Common.{◌≡◌, List, [], ◌∷◌, ◌++◌, reverse, refl, sym, ap, ◌∙◌, subst, Option, Some, Result, Ok, Err, IfOk, Vec, append_assoc}
 use Rattle.std.specs.Result.{result_ok}
 use Rattle.std.proofs.lemmas.List.{append-nil, reverse-append}
 use Rattle.std.specs.declared.alloc.Global.{Global}
@@ -11,7 +11,7 @@ use Rattle.rd_marks.specs.declared.replies.Reply.{Reply}
 use Rattle.rd_desk.specs.declared.gates.DeskRefusal.{DeskRefusal}
 use Rattle.rd_desk.specs.declared.threads.Asked.{Asked}
 use Rattle.rd_desk.specs.declared.viewers.Ran.{Ran}
-use Rattle.rd_desk.specs.declared.viewers.Ran.TheVariants.{Answered, NoMemory}
+use Rattle.rd_desk.specs.declared.viewers.Ran.TheVariants.{Answered}
 use Rattle.rd_desk.specs.Rooms.{IsRoomFor}
 use Rattle.rd_desk.specs.Threads.{IsStarted}
 use Rattle.rd_desk.specs.Viewers.{Pairs, IsChain, IsRan}

@@ -1,5 +1,5 @@
 -- The room for a viewer's answers.
-use Rattle.std.specs.Prelude.{◌≡◌, ◌≤◌, List, [], length, Vec, vec_capacity}
+use Rattle.std.specs.Prelude.{◌≡◌, ◌≤◌, [], length, Vec, vec_capacity}
 
 -- the room for answers is empty, and enough for these commands
 abbrev pub IsRoomFor : {P C A Z Y : Type 0} → P × Vec C Z → Vec A Y → Type 0

@@ -1,5 +1,5 @@
 -- A step that only read, made again by its actor's words alone.
-use Rattle.std.proofs.Common.{◌≡◌, ℕ, true, false, refl, sym, ◌∙◌, ap, subst, Option, None, is_some, Ok}
+use Rattle.std.proofs.Common.{◌≡◌, ℕ, true, refl, sym, ◌∙◌, ap, subst, Option, None, is_some, Ok}
 use Rattle.std.proofs.lemmas.Bool.{cond-true}
 use Rattle.rd_step.specs.Prelude.{Place, Content, is_nothing, Actor, after, World, Stepped, step, IsWellFormed}
 use Rattle.rd_step.specs.declared.entries.Entry.{Entry}

@@ -1,5 +1,5 @@
 -- The events of a bookmark by their numbers, and a book at its start.
-use Rattle.std.proofs.Common.{◌≡◌, ℕ, zero, suc, ◌+◌, ◌-◌, ◌<◌, ◌≤◌, refl, sym, ap, ◌∙◌, List, [], ◌∷◌, ◌++◌, length, take, slice_get, option_map, Option, Some, None, arith, length-append, ◌⊎◌, inl, inr}
+use Rattle.std.proofs.Common.{◌≡◌, ℕ, zero, suc, ◌+◌, ◌<◌, ◌≤◌, refl, sym, ap, ◌∙◌, List, [], ◌∷◌, length, take, slice_get, option_map, Option, Some, None, arith, length-append, ◌⊎◌, inl, inr}
 use Rattle.std.proofs.lemmas.Option.{slice_get-map, slice_get_past}
 use Rattle.rd_cell.proofs.ListLemmas.{slice_get-push_same}
 use Rattle.rd_step.specs.declared.entries.Event.{Event}
@@ -8,10 +8,10 @@ use Rattle.rd_depend.specs.Beginnings.{Begins}
 use Rattle.rd_journal.specs.Journal.{events}
 use Rattle.rd_journal.specs.State.{event_at}
 use Rattle.rd_marks.specs.declared.names.MarkName.{MarkName}
-use Rattle.rd_marks.specs.Books.{Mark, BookState, mark_events, event_in, mark_event}
+use Rattle.rd_marks.specs.Books.{Mark, BookState, mark_events}
 use Rattle.rd_marks.specs.Marks.{mark_of, marks_of}
 use Rattle.rd_marks.specs.Tree.{MarkTree, IsTree, IsIn, depth_in, parent_in, entry_in, entry_of, path_in}
-use Rattle.rd_marks.proofs.TreeLemmas.{path_length, events_length, deep}
+use Rattle.rd_marks.proofs.TreeLemmas.{path_length, deep}
 use Rattle.rd_marks.proofs.FollowLemmas.{one_up}
 
 -- An event by its number in the path of a node

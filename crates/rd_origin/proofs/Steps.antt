@@ -2,10 +2,10 @@
 use Rattle.std.proofs.Common.{◌≡◌, ◌⊎◌, ℕ, ◌%◌, Bool, true, false, not, ◌==◌, ◌&&◌, nat_lt, inl, inr, refl, sym, ◌∙◌, subst, Option, Some, None, Result, Ok, Err, IfOk}
 use Rattle.std.proofs.lemmas.Bool.{cond_both, cond-false}
 use Rattle.std.proofs.lemmas.Result.{IfOk-at_ok}
-use Rattle.rd_step.specs.Prelude.{MOST_SEGMENTS, Cell, SegName, Place, CellAt, ValAt, WholeOf, ArrCell, ArrSlot, Held, Wrote, WroteNothing, WrotePlace, WroteIndex, Content, CellIs, Slot, Access, Refusal, Contents, is_of, is_name, is_place, is_nothing, written, operand, Performed, perform, Actor, Act, OpReply, need, after, World, Stepped, step}
+use Rattle.rd_step.specs.Prelude.{MOST_SEGMENTS, Cell, SegName, Place, CellAt, ValAt, ArrCell, ArrSlot, Held, Wrote, WroteNothing, WrotePlace, WroteIndex, Content, CellIs, Slot, Access, Refusal, Contents, is_name, is_place, is_nothing, written, operand, Performed, perform, Actor, Act, OpReply, need, after, World, Stepped, step}
 use Rattle.rd_cell.specs.declared.operations.Operation.TheVariants.{Cas2, Swap}
 use Rattle.rd_cell.specs.Cells.{is_value, is_cell}
-use Rattle.rd_cell.specs.Contents.{half, share, after_write, after_write_at, holding}
+use Rattle.rd_cell.specs.Contents.{half, share, after_write, after_write_at}
 use Rattle.rd_cell.specs.Operations.{swaps, wrote_cell}
 use Rattle.rd_cell.specs.Access.{no_access, perform_effect, operate, make, number_made}
 use Rattle.rd_actor.specs.declared.actors.Act.TheVariants.{Enq, Deq, AEnq, ADeq, Go, Starve}

@@ -1,7 +1,7 @@
 -- The value in a cell: no step but a put gives the cell another one.
 use Rattle.std.proofs.Common.{◌≡◌, ◌⊎◌, ℕ, ◌+◌, Bool, true, false, ◌==◌, ◌&&◌, nat_lt, inl, inr, refl, sym, ◌∙◌, ap, subst, Option, Some, None, IfSome, Result, Ok, Err, IfOk}
-use Rattle.std.proofs.lemmas.Bool.{cases_Bool, cond_both, cond-true, cond-false}
-use Rattle.rd_step.specs.Prelude.{COUNTER_END, SLOTS, MOST_SEGMENTS, Cell, SegName, Place, Head, Tail, Next, CellAt, ValAt, ArrCell, WholeOf, Empty as NobodyYet, Top, Held, Content, Name, Number, TailIs, NextIs, CellIs, ValIs, IdxIs, Slot, Operation, Access, Refusal, CounterEnd, ArrayEnd, Contents, covers, is_name, is_of, operand, Effect, effect, Performed, perform}
+use Rattle.std.proofs.lemmas.Bool.{cases_Bool, cond_both, cond-false}
+use Rattle.rd_step.specs.Prelude.{COUNTER_END, SLOTS, MOST_SEGMENTS, Cell, SegName, Place, CellAt, ValAt, ArrCell, WholeOf, Empty as NobodyYet, Top, Held, Content, Name, Number, TailIs, NextIs, CellIs, ValIs, IdxIs, Slot, Operation, Access, Refusal, CounterEnd, ArrayEnd, Contents, covers, is_name, is_of, operand, Effect, effect, Performed, perform}
 use Rattle.rd_cell.specs.declared.operations.Operation.TheVariants.{Read, ReadValue, ReadSafeAndIndex, Add, AddArray, Close, CasName, CasNext, CasTail, Cas2, Swap}
 use Rattle.rd_cell.specs.declared.access.Access.TheVariants.{NoPlace, At, Make}
 use Rattle.rd_cell.specs.Cells.{is_cell, value_in_cell}

@@ -1,5 +1,5 @@
 -- The array's map after an operation on one of its places.
-use Rattle.std.proofs.Common.{◌≡◌, ◌≢◌, ℕ, ◌+◌, ◌<◌, true, false, nat_lt, inl, inr, refl, sym, ◌∙◌, ap, subst, List, length, set, get_or, Some, None, option_map, slice_get, Result, Err, IfOk, lt-ltb, le-ltb}
+use Rattle.std.proofs.Common.{◌≡◌, ◌≢◌, ℕ, ◌+◌, ◌<◌, false, nat_lt, inl, inr, refl, sym, ◌∙◌, ap, subst, List, length, set, get_or, Some, None, option_map, slice_get, Result, Err, IfOk, lt-ltb, le-ltb}
 use Rattle.std.proofs.Math.ListN.{replicate}
 use Rattle.std.proofs.lemmas.Bool.{cases_lt, cond-true, cond-false, eqb-false}
 use Rattle.std.proofs.lemmas.List.{get_or-replicate}

@@ -1,5 +1,5 @@
 -- The old words of a step's record are the words from before the step.
-use Rattle.std.proofs.Common.{◌≡◌, ℕ, false, nat_lt, refl, sym, ◌∙◌, ap, subst, Option, Some, None, is_some, Result, Ok, Err, IfOk}
+use Rattle.std.proofs.Common.{◌≡◌, ℕ, nat_lt, refl, sym, ◌∙◌, ap, subst, Option, Some, None, Result, Ok, Err, IfOk}
 use Rattle.std.proofs.lemmas.Bool.{cond_both}
 use Rattle.std.proofs.lemmas.Result.{IfOk-at_ok}
 use Rattle.rd_ring.specs.Prelude.{MOST_SEGMENTS, SegName, Place, WholeOf, Content, Access, NoPlace, At, Make, Operation, Refusal, Contents, operand, Effect, effect, Performed, number_made, operate, make, perform}

@@ -23,7 +23,7 @@ use Rattle.rd_step.specs.World.{World}
 use Rattle.rd_step.specs.declared.entries.Event.{Event}
 use Rattle.rd_step.specs.Step.{Stepped, step, step_of_actor, step_of_need, step_of_access}
 use Rattle.rd_step.specs.Laws.{IsStepRefusal, SuitsContent, MovesOn, ChangesOnly}
-use Rattle.rd_step.specs.WellFormed.{Presence, content_fits, place_fits, record_fits, actor_fits, IsWellFormed}
+use Rattle.rd_step.specs.WellFormed.{Presence, content_fits, record_fits, actor_fits, IsWellFormed}
 use Rattle.rd_step.proofs.Halves.{has_place, has_operand}
 use Rattle.rd_step.proofs.Fits.{PartsFit, parts_of, words_of}
 use Rattle.rd_step.proofs.Steps.{took, with_actor-same, with_actor-other}

@@ -1,6 +1,6 @@
 -- A step takes nothing away, makes no segment of another actor, and what its entry keeps may be put back after it.
 use Rattle.std.proofs.Common.{◌≡◌, ◌≢◌, ℕ, zero, suc, ◌+◌, ◌<◌, ◌≤◌, Bool, true, false, not, ◌==◌, nat_lt, refl, sym, ◌∙◌, ap, subst, arith, Option, Some, None, is_some, Result, Ok, Err, IfOk, ltb-true}
-use Rattle.std.proofs.lemmas.Bool.{cond_both, cond-false, and_left, and_right, ne_eqb, eqb-false, both_ways, false_from_ne_true, not-true}
+use Rattle.std.proofs.lemmas.Bool.{cond_both, cond-false, and_right, ne_eqb, eqb-false, both_ways, false_from_ne_true, not-true}
 use Rattle.std.proofs.lemmas.Result.{IfOk-at_ok}
 use Rattle.rd_ring.specs.Prelude.{MOST_SEGMENTS, operand, SegName, Place, Head, Content, Access, NoPlace, At, Make, Operation, Refusal, is_of, Contents, is_there, holding, Effect, effect, Performed, contents_after, number_made, operate, make, perform}
 use Rattle.rd_cell.specs.Access.{perform_effect}

@@ -1,5 +1,5 @@
 -- A step on which no later one depends may be taken out of a run, and go last.
-use Rattle.std.proofs.Common.{◌≡◌, ℕ, true, ◌==◌, ◌&&◌, ◌||◌, refl, sym, ◌∙◌, ap, subst, List, [], ◌∷◌, Option, Some, is_some, Ok}
+use Rattle.std.proofs.Common.{◌≡◌, ℕ, true, ◌==◌, refl, sym, ◌∙◌, ap, subst, List, [], ◌∷◌, Option, Some, is_some, Ok}
 use Rattle.std.proofs.lemmas.Bool.{cond_both, or_parts}
 use Rattle.rd_ring.specs.Prelude.{Place, is_there, interfere}
 use Rattle.rd_actor.specs.declared.actors.Actor.{Actor}

@@ -1,5 +1,5 @@
 -- The room that a step uses is the room that its undoing gives back.
-use Rattle.std.proofs.Common.{◌≡◌, ℕ, nat_lt, Bool, true, false, refl, ◌∙◌, ap, subst, Option, Some, None, is_some, Result, Ok, Err, IfOk}
+use Rattle.std.proofs.Common.{◌≡◌, ℕ, nat_lt, Bool, true, refl, ◌∙◌, ap, subst, Option, Some, None, Result, Ok, Err, IfOk}
 use Rattle.std.proofs.lemmas.Bool.{cond_both}
 use Rattle.std.proofs.lemmas.Result.{IfOk-at_ok}
 use Rattle.rd_ring.specs.Prelude.{MOST_SEGMENTS, Place, Content, Access, NoPlace, At, Make, Operation, Refusal, is_nothing, Contents, operand, Effect, effect, Performed, number_made, operate, make, perform}

@@ -3,7 +3,7 @@ use Rattle.std.proofs.Common.{◌≡◌, ℕ, zero, suc, ◌+◌, ◌<◌, ◌�
 use Rattle.std.proofs.lemmas.Bool.{cases_Bool, cases_lt, cond-true, cond-false, cond_both, and_from}
 use Rattle.std.proofs.lemmas.Option.{slice_get_past}
 use mathlib.Core.Path.{fun_ext}
-use Rattle.rd_ring.specs.Prelude.{MOST_ACTORS, COUNTER_END, SegName, Place, QHead, QTail, Head, Tail, Next, CellAt, ValAt, IdxAt, WholeOf, ArrHead, ArrTail, ArrCell, Content, Number, TailIs, NextIs, ValIs, IdxIs, Slot, Empty as NobodyYet, root, is_name, is_there, new_cell}
+use Rattle.rd_ring.specs.Prelude.{MOST_ACTORS, COUNTER_END, SegName, Place, QHead, QTail, Head, Tail, Next, CellAt, ValAt, IdxAt, WholeOf, ArrHead, ArrTail, ArrCell, Content, Number, TailIs, NextIs, ValIs, IdxIs, Slot, Empty as NobodyYet, root, is_name, is_there}
 use Rattle.rd_cell.proofs.PlaceLemmas.{is_name-true}
 use Rattle.rd_segments.specs.declared.space.Space.{Space}
 use Rattle.rd_segments.specs.SpaceFields.{fresh_space}

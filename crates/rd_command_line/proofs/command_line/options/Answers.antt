@@ -1,4 +1,4 @@
-use Rattle.std.proofs.Common.{refl, ap, map, inr, sym, subst, ◌∙◌, false}
+use Rattle.std.proofs.Common.{refl, ap, map, inr, subst}
 use Rattle.std.specs.Prelude.{IfSome, IsNone}
 use Rattle.clap.proofs.TakesLemmas.{passed_up}
 use Rattle.clap.specs.Words.{subcommand_rows_of}

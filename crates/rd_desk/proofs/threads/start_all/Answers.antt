@@ -1,4 +1,4 @@
-use Rattle.std.proofs.Common.{arith, ap, sym, length, subst}
+use Rattle.std.proofs.Common.{arith, ap, length}
 use Rattle.std.proofs.lemmas.List.{nil_from_length}
 use denote.Param.Send.{sendable}
 use Rattle.rd_desk.proofs.Starting.{begins, next_is_ready, room_is_there, one_started, is_started}

@@ -1,8 +1,6 @@
-use Rattle.std.proofs.Common.{◌≡◌, [], None, refl, sym, ap}
+use Rattle.std.proofs.Common.{None, refl, sym, ap}
 use Rattle.rd_journal.specs.Sessions.{state}
 use Rattle.rd_journal.specs.State.{State}
-use Rattle.rd_marks.specs.Books.{BookState}
-use Rattle.rd_marks.specs.BookViews.{book_state}
 use Rattle.rd_marks.specs.TreeViews.{mark_tree}
 use Rattle.rd_marks.proofs.Here.{stands_at}
 use Rattle.rd_marks.proofs.Starts.{marks_stay}

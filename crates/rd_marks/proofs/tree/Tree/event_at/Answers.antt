@@ -1,5 +1,4 @@
 use Rattle.std.proofs.Common.{◌≡◌, ◌≤◌, inl, inr, sym, ap, ◌∙◌, Some, option_copied, arith}
-use Rattle.rd_step.specs.declared.entries.Entry.{Entry}
 use Rattle.rd_journal.specs.Journal.{events}
 use Rattle.rd_marks.specs.Tree.{depth_in, entry_in, path_in}
 use Rattle.rd_marks.specs.TreeViews.{mark_tree}

@@ -1,4 +1,4 @@
-use Rattle.std.proofs.Common.{true, sym, ◌∙◌, ap, arith, refl, Some, if◌then◌else◌}
+use Rattle.std.proofs.Common.{sym, ◌∙◌, ap, arith, refl, Some, if◌then◌else◌}
 use Rattle.rd_ring.specs.Prelude.{Head, Tail, Next, CellAt, Content, Wrote, WroteNothing, WrotePlace, Won, Lost, Found, WasClosed, operand}
 use Rattle.rd_ring.specs.Segments.{part}
 use Rattle.rd_ring.proofs.OperationLemmas.{reads_at, does_at, refuses_at, cell_is_within}
