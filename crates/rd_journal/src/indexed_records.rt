@@ -191,6 +191,12 @@ impl IndexedRecords {
         self.catch_up();
     }
 
+    /// Puts one last among the live ones.
+    pub(crate) fn push_plainly(&mut self, entry: &Entry)
+    {
+        self.records.put_live(entry);
+    }
+
     /// Exchanges the undone records for these, the first of which is in front, inside the room that there is.
     pub(crate) fn replace_undone(&mut self, given: &[Entry])
         requires room { length (live_records self.old.records) + length given.now ≤ records_capacity self.old.records }

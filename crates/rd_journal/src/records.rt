@@ -222,6 +222,13 @@ impl Records {
         }
     }
 
+    /// Puts a record last among the live ones.
+    pub(crate) fn put_live(&mut self, entry: &Entry)
+    {
+        self.put_behind(entry);
+        self.step_forward();
+    }
+
     /// Puts a record last among the undone ones: over the first discarded one, or where none is, into a new slot.
     fn put_behind(&mut self, entry: &Entry)
         requires room { length (live_records self.old) + length (undone_records self.old) < records_capacity self.old }

@@ -28,6 +28,8 @@ struct Node {
     parent: Option<usize>,
     /// How many records its path has.
     depth: usize,
+    /// A node far above it.
+    jump: Option<usize>,
     /// Where a child of it is, if there is one and it is no fork.
     child: Option<usize>,
 }
@@ -87,6 +89,18 @@ impl Tree {
             Some(key) => match self.nodes.get(key) {
                 None => None,
                 Some(node) => node.parent,
+            },
+        }
+    }
+
+    /// A node far above this one.
+    pub(crate) fn jump(&self, at: Option<usize>) -> Option<usize>
+    {
+        match at {
+            None => None,
+            Some(key) => match self.nodes.get(key) {
+                None => None,
+                Some(node) => node.jump,
             },
         }
     }
@@ -155,10 +169,13 @@ impl Tree {
     {
         let is_fork = self.is_parent(at);
         let depth = self.depth(at) + 1;
+        let far = self.jump(at);
+        let jump = if self.depth(at) - self.depth(far) == self.depth(far) - self.depth(self.jump(far)) { self.jump(far) } else { at };
         let key = self.nodes.insert_reserved(Node {
             entry,
             parent: at,
             depth,
+            jump,
             child: None,
         });
         if is_fork {

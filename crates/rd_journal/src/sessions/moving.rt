@@ -67,7 +67,7 @@ impl<const R: usize> Session<R> {
 
 /// Makes the step of a record again, which is known to leave that record. One that only read changes its actor alone, by the
 /// answer that the record keeps.
-fn step_again<const R: usize>(world: &mut World<R>, entry: &Entry)
+pub(super) fn step_again<const R: usize>(world: &mut World<R>, entry: &Entry)
     requires goes { (after : Model) × (step R (model world.old) entry.now.event ≡ Ok (record { world = after; entry = entry.now })) }
     requires room { IsTrue (makes_segment R (model world.old) entry.now.event) → 1 ≤ world_room world.old entry.now.event.actor }
     ensures done { step R (model world.old) entry.now.event ≡ Ok (record { world = model world.new; entry = entry.now }) }

@@ -50,8 +50,11 @@ impl<const R: usize> Session<R> {
         ensures capacity { capacity self.new ≡ capacity self.old }
     {
         self.undo_many(self.len() - kept);
-        self.records.replace_undone(given);
-        self.redo_many(given.len() as u64);
+        self.records.replace_undone(&[]);
+        for entry in given {
+            super::moving::step_again(&mut self.world, entry);
+            self.records.push_plainly(entry);
+        }
     }
 }
 

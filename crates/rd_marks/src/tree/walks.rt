@@ -63,7 +63,8 @@ impl Tree {
     {
         let mut at = from;
         while self.depth(at) > n {
-            at = self.parent(at);
+            let far = self.jump(at);
+            at = if self.depth(far) >= n { far } else { self.parent(at) };
         }
         at
     }
@@ -96,8 +97,15 @@ impl Tree {
         let mut a = self.ancestor(one, depth);
         let mut b = self.ancestor(other, depth);
         while a != b {
-            a = self.parent(a);
-            b = self.parent(b);
+            let far_a = self.jump(a);
+            let far_b = self.jump(b);
+            if far_a != far_b {
+                a = far_a;
+                b = far_b;
+            } else {
+                a = self.parent(a);
+                b = self.parent(b);
+            }
         }
         a
     }
