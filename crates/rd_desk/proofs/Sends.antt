@@ -94,16 +94,16 @@ pub indexed_fields : IsSend (IndexedRecords.the_field).row
 indexed_fields = struct_send (shape IndexedRecords.the_type) (records_fields, (search (sendable, crosses) depth 60 fits 100000, tt))
 
 pub session_fields : (R : RattleType) → IsSend (Session.the_field R).row
-session_fields R = struct_send (shape (Session.the_type R)) (world_fields R, (indexed_fields, tt))
+session_fields R = struct_send (shape (Session.the_type R)) (world_fields R, (indexed_fields, (search (sendable, crosses) depth 60 fits 100000, tt)))
 
 pub node_fields : IsSend (Node.the_field).row
-node_fields = struct_send (shape Node.the_type) (entry_fields, (search (sendable, crosses) depth 60 fits 100000, (search (sendable, crosses) depth 60 fits 100000, (search (sendable, crosses) depth 60 fits 100000, tt))))
+node_fields = struct_send (shape Node.the_type) (search (sendable, crosses) depth 60 fits 100000, (search (sendable, crosses) depth 60 fits 100000, (search (sendable, crosses) depth 60 fits 100000, tt)))
 
 pub node_send : IsSend Node.the_row
 node_send = recorded_send _ _ _ (Node.the_type).to_one node_fields
 
 pub tree_fields : IsSend (Tree.the_field).row
-tree_fields = search (node_send, sendable, crosses) depth 60 fits 100000
+tree_fields = search (node_send, entry_send, sendable, crosses) depth 60 fits 100000
 
 pub book_fields : (R : RattleType) → IsSend (Book.the_field R).row
 book_fields R = struct_send (shape (Book.the_type R)) (session_fields R, (tree_fields, (search (name_send, sendable, crosses) depth 60 fits 100000, (search (sendable, crosses) depth 60 fits 100000, (search (sendable, crosses) depth 60 fits 100000, tt)))))

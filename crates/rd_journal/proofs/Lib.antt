@@ -18,3 +18,4 @@ pub mod Closures
 pub mod RolledForward
 pub mod ReadAgain
 pub mod Backwards
+pub mod Ahead

@@ -4,7 +4,7 @@ use Rattle.std.proofs.Math.Seq.{take-add}
 use Rattle.std.proofs.lemmas.List.{length-take-le, take-take, drop-take, drop-drop, take_more, take_at, drop_at, take-append-le, drop-append-le}
 use Rattle.rd_journal.specs.declared.records.Records.{Records}
 use Rattle.rd_journal.specs.Numbers.{moved_behind}
-use Rattle.rd_journal.specs.Records.{all_records, live_records, undone_records}
+use Rattle.rd_journal.specs.Records.{all_records, live_records, ahead_records}
 use Rattle.rd_journal.proofs.ListLemmas.{behind_from, drop_before}
 use Rattle.rd_journal.proofs.Numbers.{at-length, order_below}
 
@@ -17,9 +17,9 @@ all-length r = at-length r.slots.items r.order.items (order_below (length r.slot
 pub live-length : (r : Records) → length (live_records r) ≡ r.live
 live-length r = length-take-le r.live (all_records r) (omega (arith, all-length r, r.within))
 
-pub undone-length : (r : Records) → length (undone_records r) ≡ r.undone
-undone-length r =
-    length-take-le r.undone (drop r.live (all_records r)) (omega (arith, all-length r, r.within, length-drop r.live (all_records r)))
+pub ahead-length : (r : Records) → length (ahead_records r) ≡ r.ahead
+ahead-length r =
+    length-take-le r.ahead (drop r.live (all_records r)) (omega (arith, all-length r, r.within, length-drop r.live (all_records r)))
 
 -- a list cut behind its first m elements, and again u elements behind them
 

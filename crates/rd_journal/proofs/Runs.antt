@@ -87,7 +87,7 @@ grown R w v xs zs ys x e runs h rest =
     }
 
 -- records that run on from a step's world run on, after the step's record, from the world before it
-preceded_entries : (x : Entry) (r : Result Ran Refusal) (ys : List Entry) → run_entries r ≡ Ok ys → run_entries (run_preceded_by x r) ≡ Ok (x ∷ ys)
+pub preceded_entries : (x : Entry) (r : Result Ran Refusal) (ys : List Entry) → run_entries r ≡ Ok ys → run_entries (run_preceded_by x r) ≡ Ok (x ∷ ys)
 preceded_entries x (Err refusal) ys h = cc
 preceded_entries x (Ok r) ys h = let e : r.entries ≡ ys = cc in ap (λ (zs : List Entry). Ok (x ∷ zs)) e
 

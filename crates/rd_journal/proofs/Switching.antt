@@ -11,7 +11,7 @@ use Rattle.rd_step.specs.Touched.{made, made_at}
 use Rattle.rd_step.proofs.Steps.{took, with_actor-other}
 use Rattle.rd_step.proofs.Room.{room_used_returned}
 use Rattle.rd_journal.specs.Journal.{Journal, events, world_before, start_of, IsRunFrom}
-use Rattle.rd_journal.specs.Moves.{IsMovedBack, IsMovedForward, IsSwitched}
+use Rattle.rd_journal.specs.Moves.{IsMovedBack, IsMovedForward, IsReplaced, IsSwitched}
 use Rattle.rd_journal.specs.Kept.{IsSession}
 use Rattle.rd_journal.specs.Room.{room_returned_by, HasRoom, HasRoomForAll}
 use Rattle.rd_journal.specs.State.{State, state_of, back_one, forward_one, times, switch}
@@ -120,12 +120,6 @@ room_for_all R w xs ys room ran n h has = record { at = each }
               has.at m there
           | inr e ↦ omega (arith, none_made R (world_before w xs) (take n xs ++ ys) m h e, returned_joined (take n xs) ys m)
         ]
-
--- these are the undone records, and all else is as it was
-pub record IsReplaced (given : List Entry) (old new : Journal) : Type 0 where
-  pub world : new.world ≡ old.world
-  pub live : new.live ≡ old.live
-  pub undone : new.undone ≡ given
 
 pub replaced_session : (R : ℕ) (given : List Entry) (old new : Journal) (before after : ℕ → ℕ) → IsSession R old before
     → IsRunFrom R (start_of old) (old.live ++ given) → length old.live + length given ≤ MOST_STEPS → HasRoom given after → IsReplaced given old new

@@ -4,7 +4,7 @@ use Rattle.rd_step.specs.declared.entries.Entry.{Entry}
 use Rattle.rd_journal.specs.declared.records.Records.{Records}
 use Rattle.rd_journal.specs.Numbers.{at_numbers}
 
--- the records in the order of their slots' numbers: those of the live steps, of the undone ones, and those that were discarded
+-- the records in the order of their slots' numbers: those of the live steps, of those ahead of them, and those that were discarded
 unfoldable pub all_records : Records → List Entry
 all_records r = at_numbers r.slots.items r.order.items
 
@@ -12,14 +12,14 @@ all_records r = at_numbers r.slots.items r.order.items
 abbrev pub live_records : Records → List Entry
 live_records r = take r.live (all_records r)
 
--- those of the undone steps, the one undone last in front
-abbrev pub undone_records : Records → List Entry
-undone_records r = take r.undone (drop r.live (all_records r))
+-- those of the steps ahead of them: the undone ones, the one undone last in front, and behind them those that a switch left there
+abbrev pub ahead_records : Records → List Entry
+ahead_records r = take r.ahead (drop r.live (all_records r))
 
--- the live ones, and behind them the undone ones
+-- the live ones, and behind them those ahead
 abbrev pub kept_records : Records → List Entry
-kept_records r = live_records r ++ undone_records r
+kept_records r = live_records r ++ ahead_records r
 
--- for how many records, live and undone ones, there is room
+-- for how many records, live ones and those ahead, there is room
 abbrev pub records_capacity : Records → ℕ
 records_capacity r = min (vec_capacity r.slots) (vec_capacity r.order)

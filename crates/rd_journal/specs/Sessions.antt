@@ -9,7 +9,7 @@ use Rattle.rd_journal.specs.State.{State, state_of}
 
 -- the session's world and records
 abbrev pub journal : {R : ℕ} → Session R → Journal
-journal s = journal_of (model s.world) s.records
+journal s = journal_of (model s.world) s.records s.undone
 
 -- the session's start, live events and undone events
 abbrev pub state : {R : ℕ} → Session R → State

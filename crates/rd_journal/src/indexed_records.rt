@@ -1,17 +1,18 @@
-//! The records of a session with an index of dependants over the first ones of them: of the live ones, and behind them of the
-//! undone ones.
+//! The records of a session with an index of dependants over the first ones of them: of the live ones, and behind them of
+//! those ahead.
 //!
 //! Steps that are undone or redone last change nothing of that list, so the index stays as it is then. What takes a record out of
 //! it, or puts another in, first takes the positions away that are no longer so. They are put there again when a call that may
 //! take memory makes a step live; if memory is refused then, the index reaches less far, and a plain scan looks at the rest.
 
-ghost use Rattle.std.specs.Prelude.{◌≡◌, ◌++◌, ◌+◌, ◌-◌, ◌<◌, ◌≤◌, ◌∷◌, [], List, None, Some, nat_lt, if◌then◌else◌, length, get_or, take, drop, OnOk, OnErr};
+ghost use Rattle.std.specs.Prelude.{◌≡◌, ◌++◌, ◌+◌, ◌-◌, ◌<◌, ◌≤◌, ◌∷◌, [], List, None, Some, nat_lt, if◌then◌else◌, length, get_or, take, drop, IsTrue, OnOk, OnErr};
 ghost use Rattle.rd_step.specs.declared.entries.Entry.{Entry as Record};
 ghost use Rattle.rd_step.specs.Dependence.{numbered};
 ghost use Rattle.rd_step.specs.Prelude.{closure_of, without_closure, first_dependant, MOST_STEPS};
+ghost use Rattle.rd_step.specs.Run.{events};
 ghost use Rattle.rd_depend.specs.Index.{IsIndexOf, IsHeld, without_entry};
 ghost use Rattle.rd_depend.specs.Writers.{last_position, writes_to};
-ghost use Rattle.rd_journal.specs.Records.{live_records, undone_records, kept_records, records_capacity};
+ghost use Rattle.rd_journal.specs.Records.{live_records, ahead_records, kept_records, records_capacity};
 
 use super::live_records::LiveRecords;
 use super::records::Records;
@@ -24,21 +25,21 @@ use std::alloc::{AllocError, Global};
 /// How many positions are taken out of the index one by one at most.
 const FEW: usize = 1_000;
 
-/// The records of the live and of the undone steps, and the index of the first ones of them.
+/// The records of the live steps and of those ahead of them, and the index of the first ones of them.
 #[derive(Drop)]
 pub(crate) struct IndexedRecords {
     records: Records,
-    /// Of the first of the live records and, behind them, of the undone ones.
+    /// Of the first of the live records and, behind them, of those ahead.
     index: DependIndex,
     ghost indexed: { IsIndexOf index (take index.len (kept_records records)) },
-    ghost few: { length (live_records records) + length (undone_records records) ≤ MOST_STEPS },
+    ghost few: { length (live_records records) + length (ahead_records records) ≤ MOST_STEPS },
 }
 
 impl IndexedRecords {
     /// No record. It takes no memory.
     pub(crate) fn new(alloc: Global) -> IndexedRecords
         ensures live { live_records result.records ≡ [] }
-        ensures undone { undone_records result.records ≡ [] }
+        ensures ahead { ahead_records result.records ≡ [] }
         ensures capacity { records_capacity result.records ≡ 0 }
     {
         IndexedRecords {
@@ -61,13 +62,6 @@ impl IndexedRecords {
         self.records.live_len()
     }
 
-    /// How many steps are undone.
-    pub(crate) fn undone_len(&self) -> usize
-        ensures { result ≡ length (undone_records self.now.records) }
-    {
-        self.records.undone_len()
-    }
-
     /// The record of the live step at this position, from 0.
     pub(crate) fn live_at(&self, position: usize) -> &Entry
         requires within { position < length (live_records self.now.records) }
@@ -85,53 +79,60 @@ impl IndexedRecords {
         self.records.last_live()
     }
 
-    /// The record of the step that was undone last.
-    pub(crate) fn first_undone(&self) -> &Entry
-        requires some { 1 ≤ length (undone_records self.now.records) }
-        ensures { undone_records self.now.records ≡ result.now ∷ drop 1 (undone_records self.now.records) }
+    /// The record of the next step ahead.
+    pub(crate) fn first_ahead(&self) -> &Entry
+        requires some { 1 ≤ length (ahead_records self.now.records) }
+        ensures { ahead_records self.now.records ≡ result.now ∷ drop 1 (ahead_records self.now.records) }
     {
-        self.records.first_undone()
+        self.records.first_ahead()
     }
 
-    /// The record of the undone step at this position, from 0.
-    pub(crate) fn undone_at(&self, position: usize) -> &Entry
-        requires within { position < length (undone_records self.now.records) }
-        ensures { result.now ≡ get_or (undone_records self.now.records) position result.now }
+    /// The record of the step ahead at this position, from 0.
+    pub(crate) fn ahead_at(&self, position: usize) -> &Entry
+        requires within { position < length (ahead_records self.now.records) }
+        ensures { result.now ≡ get_or (ahead_records self.now.records) position result.now }
     {
-        self.records.undone_at(position)
+        self.records.ahead_at(position)
     }
 
-    /// Makes the last live record the front of the undone ones.
+    /// Whether the events of these records are those of the first ones ahead.
+    pub(crate) fn are_ahead(&self, given: &[Entry]) -> bool
+        ensures { IsTrue result → events given.now ≡ events (take (length given.now) (ahead_records self.now.records)) }
+    {
+        self.records.are_ahead(given)
+    }
+
+    /// Makes the last live record the next one ahead.
     pub(crate) fn step_back(&mut self)
         requires some { 1 ≤ length (live_records self.old.records) }
         ensures live { live_records self.new.records
             ≡ take (length (live_records self.old.records) - 1) (live_records self.old.records) }
-        ensures undone { undone_records self.new.records
-            ≡ drop (length (live_records self.old.records) - 1) (live_records self.old.records) ++ undone_records self.old.records }
+        ensures ahead { ahead_records self.new.records
+            ≡ drop (length (live_records self.old.records) - 1) (live_records self.old.records) ++ ahead_records self.old.records }
         ensures capacity { records_capacity self.new.records ≡ records_capacity self.old.records }
     {
         self.records.step_back();
     }
 
-    /// Makes the front of the undone records the last live one, and has the index reach it if it can.
+    /// Makes the next record ahead the last live one, and has the index reach it if it can.
     pub(crate) fn step_forward(&mut self)
-        requires some { 1 ≤ length (undone_records self.old.records) }
-        ensures live { live_records self.new.records ≡ live_records self.old.records ++ take 1 (undone_records self.old.records) }
-        ensures undone { undone_records self.new.records ≡ drop 1 (undone_records self.old.records) }
+        requires some { 1 ≤ length (ahead_records self.old.records) }
+        ensures live { live_records self.new.records ≡ live_records self.old.records ++ take 1 (ahead_records self.old.records) }
+        ensures ahead { ahead_records self.new.records ≡ drop 1 (ahead_records self.old.records) }
         ensures capacity { records_capacity self.new.records ≡ records_capacity self.old.records }
     {
         self.records.step_forward();
         self.catch_up();
     }
 
-    /// Makes the `k`-th live record the front of the undone ones. All others stay in their order.
+    /// Makes the `k`-th live record the next one ahead. All others stay in their order.
     pub(crate) fn take_out(&mut self, k: usize)
         requires some { 1 ≤ k }
         requires position { k ≤ length (live_records self.old.records) }
         ensures live { live_records self.new.records
             ≡ take (k - 1) (live_records self.old.records) ++ drop k (live_records self.old.records) }
-        ensures undone { undone_records self.new.records
-            ≡ take 1 (drop (k - 1) (live_records self.old.records)) ++ undone_records self.old.records }
+        ensures ahead { ahead_records self.new.records
+            ≡ take 1 (drop (k - 1) (live_records self.old.records)) ++ ahead_records self.old.records }
         ensures capacity { records_capacity self.new.records ≡ records_capacity self.old.records }
     {
         self.forget_behind(self.live_len());
@@ -147,7 +148,7 @@ impl IndexedRecords {
         ensures count { result ≡ length (closure_of (live_records self.old.records) k) }
         ensures live { live_records self.new.records
             ≡ without_closure (live_records self.old.records) k ++ closure_of (live_records self.old.records) k }
-        ensures undone { undone_records self.new.records ≡ undone_records self.old.records }
+        ensures ahead { ahead_records self.new.records ≡ ahead_records self.old.records }
         ensures len { length (live_records self.new.records) ≡ length (live_records self.old.records) }
         ensures capacity { records_capacity self.new.records ≡ records_capacity self.old.records }
     {
@@ -155,12 +156,12 @@ impl IndexedRecords {
         self.records.put_closure_last(k)
     }
 
-    /// Makes room for one more live record: if a record is undone, or the room is there, it asks for none.
+    /// Makes room for one more live record: if a record is ahead, or the room is there, it asks for none.
     pub(crate) fn make_room(&mut self) -> Result<(), AllocError>
         ensures live { live_records self.new.records ≡ live_records self.old.records }
-        ensures undone { undone_records self.new.records ≡ undone_records self.old.records }
+        ensures ahead { ahead_records self.new.records ≡ ahead_records self.old.records }
         ensures ok { OnOk result (length (live_records self.new.records) < records_capacity self.new.records) }
-        ensures none { OnErr result (undone_records self.old.records ≡ []) }
+        ensures none { OnErr result (ahead_records self.old.records ≡ []) }
         ensures full { OnErr result (records_capacity self.old.records ≡ length (live_records self.old.records)) }
     {
         self.records.make_room()
@@ -169,7 +170,7 @@ impl IndexedRecords {
     /// Makes room for so many records. Room that is there is not asked for.
     pub(crate) fn make_room_for(&mut self, needed: usize) -> Result<(), AllocError>
         ensures live { live_records self.new.records ≡ live_records self.old.records }
-        ensures undone { undone_records self.new.records ≡ undone_records self.old.records }
+        ensures ahead { ahead_records self.new.records ≡ ahead_records self.old.records }
         ensures ok { OnOk result (needed ≤ records_capacity self.new.records) }
         ensures err { OnErr result (records_capacity self.old.records < needed) }
         ensures same { needed ≤ records_capacity self.old.records
@@ -178,12 +179,12 @@ impl IndexedRecords {
         self.records.make_room_for(needed)
     }
 
-    /// Puts a record last among the live ones, and discards the undone ones. Has the index reach it if it can.
+    /// Puts a record last among the live ones, and discards those ahead. Has the index reach it if it can.
     pub(crate) fn push(&mut self, entry: Entry)
         requires room { length (live_records self.old.records) < records_capacity self.old.records }
         requires few { length (live_records self.old.records) < MOST_STEPS }
         ensures live { live_records self.new.records ≡ live_records self.old.records ++ entry ∷ [] }
-        ensures undone { undone_records self.new.records ≡ [] }
+        ensures ahead { ahead_records self.new.records ≡ [] }
         ensures capacity { records_capacity self.new.records ≡ records_capacity self.old.records }
     {
         self.forget_behind(self.live_len());
@@ -191,16 +192,16 @@ impl IndexedRecords {
         self.catch_up();
     }
 
-    /// Exchanges the undone records for these, the first of which is in front, inside the room that there is.
-    pub(crate) fn replace_undone(&mut self, given: &[Entry])
+    /// Exchanges the records ahead for these, the first of which is the next one, inside the room that there is.
+    pub(crate) fn replace_ahead(&mut self, given: &[Entry])
         requires room { length (live_records self.old.records) + length given.now ≤ records_capacity self.old.records }
         requires few { length (live_records self.old.records) + length given.now ≤ MOST_STEPS }
         ensures live { live_records self.new.records ≡ live_records self.old.records }
-        ensures undone { undone_records self.new.records ≡ given.now }
+        ensures ahead { ahead_records self.new.records ≡ given.now }
         ensures capacity { records_capacity self.new.records ≡ records_capacity self.old.records }
     {
         self.forget_behind(self.live_len());
-        self.records.replace_undone(given);
+        self.records.replace_ahead(given);
     }
 
     /// The number of the first live step after the `k`-th that depends on it, or none: by the index as far as it reaches, and by

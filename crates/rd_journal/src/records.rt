@@ -1,51 +1,53 @@
 //! The records of a session. A record stays in the slot that it was put in; their order is a list of the slots' numbers: those of the
-//! live steps, then those of the undone ones, the one undone last in front, then those whose records were discarded.
+//! live steps, then of those ahead of them, the next one in front, then of those whose records were discarded. The steps ahead run on from
+//! the live ones and can be made again as they are: the undone ones, and behind these the ones that a switch left there.
 //!
 //! Only the border between the first two moves when a step is undone or redone last. A record that leaves the middle first has its
 //! number moved behind those of the other live ones. So the room that an undo needs was made by the step that it undoes.
 
 #![tactic(auto, unfolding(crate::specs::Records::all_records))]
 
-ghost use Rattle.std.specs.Prelude.{◌≡◌, ◌++◌, ◌+◌, ◌-◌, ◌<◌, ◌≤◌, ◌∷◌, [], length, get_or, take, drop, vec_capacity, OnOk, OnErr};
+ghost use Rattle.std.specs.Prelude.{◌≡◌, ◌↔◌, ◌++◌, ◌+◌, ◌-◌, ◌<◌, ◌≤◌, ◌∷◌, [], length, get_or, take, drop, vec_capacity, IsTrue, OnOk, OnErr};
 ghost use Rattle.rd_step.specs.Prelude.{closure_of, without_closure, MOST_STEPS};
+ghost use Rattle.rd_step.specs.Run.{events};
 ghost use Rattle.rd_journal.specs.Numbers.{IsOrder};
 
 mod slots;
 
 use super::live_records::{LiveRecords, entry_at};
-use rd_step::Entry;
+use rd_step::{Entry, Event};
 use slots::{make_room_in, move_behind, move_closure_last, put_at};
 use std::alloc::{AllocError, Global};
 
-/// The records of the live steps, in their order, and those of the undone ones, the one undone last in front.
+/// The records of the live steps, in their order, and those of the steps ahead of them, the next one in front.
 #[derive(Drop)]
 pub(crate) struct Records {
     /// The records, each where it was put, and those that were discarded and not yet written over.
     slots: Vec<Entry>,
-    /// The numbers of the slots: of the live records, of the undone ones, and of the discarded ones.
+    /// The numbers of the slots: of the live records, of those ahead, and of the discarded ones.
     order: Vec<u32>,
     /// How many are live.
     live: usize,
-    /// How many are undone.
-    undone: usize,
+    /// How many are ahead of the live ones.
+    ahead: usize,
     ghost order_of_all: { IsOrder (length slots.items) order.items },
-    ghost within: { live + undone ≤ length order.items },
+    ghost within: { live + ahead ≤ length order.items },
 }
 
 impl Records {
-    ghost use Rattle.rd_journal.specs.Records.{all_records, live_records, undone_records, kept_records, records_capacity};
+    ghost use Rattle.rd_journal.specs.Records.{all_records, live_records, ahead_records, kept_records, records_capacity};
 
     /// No record. It takes no memory.
     pub(crate) fn new(alloc: Global) -> Records
         ensures live { live_records result ≡ [] }
-        ensures undone { undone_records result ≡ [] }
+        ensures ahead { ahead_records result ≡ [] }
         ensures capacity { records_capacity result ≡ 0 }
     {
         Records {
             slots: Vec::new(alloc),
             order: Vec::new(alloc),
             live: 0,
-            undone: 0,
+            ahead: 0,
         }
     }
 
@@ -61,13 +63,6 @@ impl Records {
         ensures { result ≡ length (live_records self.now) }
     {
         self.live
-    }
-
-    /// How many steps are undone.
-    pub(crate) fn undone_len(&self) -> usize
-        ensures { result ≡ length (undone_records self.now) }
-    {
-        self.undone
     }
 
     /// The record of the live step at this position, from 0.
@@ -86,15 +81,15 @@ impl Records {
         self.at(self.live - 1)
     }
 
-    /// The record of the step that was undone last.
-    pub(crate) fn first_undone(&self) -> &Entry
-        requires some { 1 ≤ length (undone_records self.now) }
-        ensures { undone_records self.now ≡ result.now ∷ drop 1 (undone_records self.now) }
+    /// The record of the next step ahead.
+    pub(crate) fn first_ahead(&self) -> &Entry
+        requires some { 1 ≤ length (ahead_records self.now) }
+        ensures { ahead_records self.now ≡ result.now ∷ drop 1 (ahead_records self.now) }
     {
         self.at(self.live)
     }
 
-    /// The record at this position, from 0, of the live ones and of the undone ones behind them.
+    /// The record at this position, from 0, of the live ones and of those ahead of them.
     pub(crate) fn kept_at(&self, position: usize) -> &Entry
         requires within { position < length (kept_records self.now) }
         ensures { result.now ≡ get_or (kept_records self.now) position result.now }
@@ -102,12 +97,27 @@ impl Records {
         self.at(position)
     }
 
-    /// The record of the undone step at this position, from 0.
-    pub(crate) fn undone_at(&self, position: usize) -> &Entry
-        requires within { position < length (undone_records self.now) }
-        ensures { result.now ≡ get_or (undone_records self.now) position result.now }
+    /// The record of the step ahead at this position, from 0.
+    pub(crate) fn ahead_at(&self, position: usize) -> &Entry
+        requires within { position < length (ahead_records self.now) }
+        ensures { result.now ≡ get_or (ahead_records self.now) position result.now }
     {
         self.at(self.live + position)
+    }
+
+    /// Whether the events of these records are those of the first ones ahead.
+    pub(crate) fn are_ahead(&self, given: &[Entry]) -> bool
+        ensures { IsTrue result → events given.now ≡ events (take (length given.now) (ahead_records self.now)) }
+    {
+        if given.len() > self.ahead {
+            return false;
+        }
+        for index in 0..given.len() {
+            if !are_one_event(&self.ahead_at(index).event, &given[index].event) {
+                return false;
+            }
+        }
+        true
     }
 
     /// The record whose slot's number stands at this place of the order.
@@ -118,40 +128,40 @@ impl Records {
         entry_at(&self.slots, &self.order, place)
     }
 
-    /// Makes the last live record the front of the undone ones.
+    /// Makes the last live record the next one ahead.
     pub(crate) fn step_back(&mut self)
         requires some { 1 ≤ length (live_records self.old) }
         ensures live { live_records self.new ≡ take (length (live_records self.old) - 1) (live_records self.old) }
-        ensures undone { undone_records self.new
-            ≡ drop (length (live_records self.old) - 1) (live_records self.old) ++ undone_records self.old }
+        ensures ahead { ahead_records self.new
+            ≡ drop (length (live_records self.old) - 1) (live_records self.old) ++ ahead_records self.old }
         ensures capacity { records_capacity self.new ≡ records_capacity self.old }
     {
         self.live -= 1;
-        self.undone += 1;
+        self.ahead += 1;
     }
 
-    /// Makes the front of the undone records the last live one.
+    /// Makes the next record ahead the last live one.
     pub(crate) fn step_forward(&mut self)
-        requires some { 1 ≤ length (undone_records self.old) }
-        ensures live { live_records self.new ≡ live_records self.old ++ take 1 (undone_records self.old) }
-        ensures undone { undone_records self.new ≡ drop 1 (undone_records self.old) }
+        requires some { 1 ≤ length (ahead_records self.old) }
+        ensures live { live_records self.new ≡ live_records self.old ++ take 1 (ahead_records self.old) }
+        ensures ahead { ahead_records self.new ≡ drop 1 (ahead_records self.old) }
         ensures capacity { records_capacity self.new ≡ records_capacity self.old }
     {
         self.live += 1;
-        self.undone -= 1;
+        self.ahead -= 1;
     }
 
-    /// Makes the `k`-th live record the front of the undone ones. All others stay in their order.
+    /// Makes the `k`-th live record the next one ahead. All others stay in their order.
     pub(crate) fn take_out(&mut self, k: usize)
         requires some { 1 ≤ k }
         requires position { k ≤ length (live_records self.old) }
         ensures live { live_records self.new ≡ take (k - 1) (live_records self.old) ++ drop k (live_records self.old) }
-        ensures undone { undone_records self.new ≡ take 1 (drop (k - 1) (live_records self.old)) ++ undone_records self.old }
+        ensures ahead { ahead_records self.new ≡ take 1 (drop (k - 1) (live_records self.old)) ++ ahead_records self.old }
         ensures capacity { records_capacity self.new ≡ records_capacity self.old }
     {
         move_behind(&mut self.order, k, self.live);
         self.live -= 1;
-        self.undone += 1;
+        self.ahead += 1;
     }
 
     /// Puts the `k`-th live record and those that depend on it, directly or through others, behind the other live ones, all in
@@ -161,19 +171,19 @@ impl Records {
         requires position { k ≤ length (live_records self.old) }
         ensures count { result ≡ length (closure_of (live_records self.old) k) }
         ensures live { live_records self.new ≡ without_closure (live_records self.old) k ++ closure_of (live_records self.old) k }
-        ensures undone { undone_records self.new ≡ undone_records self.old }
+        ensures ahead { ahead_records self.new ≡ ahead_records self.old }
         ensures len { length (live_records self.new) ≡ length (live_records self.old) }
         ensures capacity { records_capacity self.new ≡ records_capacity self.old }
     {
         move_closure_last(&self.slots, &mut self.order, k, self.live)
     }
 
-    /// Makes room for one more live record: if a record is undone, or the room is there, it asks for none.
+    /// Makes room for one more live record: if a record is ahead, or the room is there, it asks for none.
     pub(crate) fn make_room(&mut self) -> Result<(), AllocError>
         ensures live { live_records self.new ≡ live_records self.old }
-        ensures undone { undone_records self.new ≡ undone_records self.old }
+        ensures ahead { ahead_records self.new ≡ ahead_records self.old }
         ensures ok { OnOk result (length (live_records self.new) < records_capacity self.new) }
-        ensures none { OnErr result (undone_records self.old ≡ []) }
+        ensures none { OnErr result (ahead_records self.old ≡ []) }
         ensures full { OnErr result (records_capacity self.old ≡ length (live_records self.old)) }
     {
         if self.live < self.order.len() {
@@ -186,7 +196,7 @@ impl Records {
     /// Makes room for so many records. Room that is there is not asked for.
     pub(crate) fn make_room_for(&mut self, needed: usize) -> Result<(), AllocError>
         ensures live { live_records self.new ≡ live_records self.old }
-        ensures undone { undone_records self.new ≡ undone_records self.old }
+        ensures ahead { ahead_records self.new ≡ ahead_records self.old }
         ensures ok { OnOk result (needed ≤ records_capacity self.new) }
         ensures err { OnErr result (records_capacity self.old < needed) }
         ensures same { needed ≤ records_capacity self.old → records_capacity self.new ≡ records_capacity self.old }
@@ -195,43 +205,50 @@ impl Records {
         make_room_in(&mut self.order, needed)
     }
 
-    /// Puts a record last among the live ones, and discards the undone ones.
+    /// Puts a record last among the live ones, and discards those ahead.
     pub(crate) fn push(&mut self, entry: Entry)
         requires room { length (live_records self.old) < records_capacity self.old }
         requires few { length (live_records self.old) < MOST_STEPS }
         ensures live { live_records self.new ≡ live_records self.old ++ entry ∷ [] }
-        ensures undone { undone_records self.new ≡ [] }
+        ensures ahead { ahead_records self.new ≡ [] }
         ensures capacity { records_capacity self.new ≡ records_capacity self.old }
     {
-        self.undone = 0;
+        self.ahead = 0;
         self.put_behind(&entry);
         self.step_forward();
     }
 
-    /// Exchanges the undone records for these, the first of which is in front, inside the room that there is.
-    pub(crate) fn replace_undone(&mut self, given: &[Entry])
+    /// Exchanges the records ahead for these, the first of which is the next one, inside the room that there is.
+    pub(crate) fn replace_ahead(&mut self, given: &[Entry])
         requires room { length (live_records self.old) + length given.now ≤ records_capacity self.old }
         requires few { length (live_records self.old) + length given.now ≤ MOST_STEPS }
         ensures live { live_records self.new ≡ live_records self.old }
-        ensures undone { undone_records self.new ≡ given.now }
+        ensures ahead { ahead_records self.new ≡ given.now }
         ensures capacity { records_capacity self.new ≡ records_capacity self.old }
     {
-        self.undone = 0;
+        self.ahead = 0;
         for entry in given {
             self.put_behind(entry);
         }
     }
 
-    /// Puts a record last among the undone ones: over the first discarded one, or where none is, into a new slot.
+    /// Puts a record last among those ahead: over the first discarded one, or where none is, into a new slot.
     fn put_behind(&mut self, entry: &Entry)
-        requires room { length (live_records self.old) + length (undone_records self.old) < records_capacity self.old }
-        requires few { length (live_records self.old) + length (undone_records self.old) < MOST_STEPS }
+        requires room { length (live_records self.old) + length (ahead_records self.old) < records_capacity self.old }
+        requires few { length (live_records self.old) + length (ahead_records self.old) < MOST_STEPS }
         ensures live { live_records self.new ≡ live_records self.old }
-        ensures undone { undone_records self.new ≡ undone_records self.old ++ entry.now ∷ [] }
+        ensures ahead { ahead_records self.new ≡ ahead_records self.old ++ entry.now ∷ [] }
         ensures capacity { records_capacity self.new ≡ records_capacity self.old }
     {
-        let place = self.live + self.undone;
+        let place = self.live + self.ahead;
         put_at(&mut self.slots, &mut self.order, place, entry);
-        self.undone += 1;
+        self.ahead += 1;
     }
+}
+
+/// Whether the two are one event.
+fn are_one_event(a: &Event, b: &Event) -> bool
+    ensures { IsTrue result ↔ (a.now ≡ b.now) }
+{
+    a == b
 }

@@ -2,7 +2,10 @@
 //!
 //! Undoing puts the old words of a live record back, and the record goes to the front of the undone ones: the last one, or any
 //! other on which no later one depends, or a record with all that depend on it. Redoing steps again. So the room that an undo
-//! needs was made by the step that it undoes. A switch exchanges the undone records for others and redoes them.
+//! needs was made by the step that it undoes. A switch exchanges the records ahead for others and redoes them.
+//!
+//! A switch to a beginning of the live steps leaves what it undoes ahead of them, though it is not undone for any caller. A switch that goes on
+//! with just those events makes them again, with no record copied and the index as it is.
 
 mod moving;
 mod removal;
@@ -13,8 +16,9 @@ ghost use Rattle.std.specs.Prelude.{◌≡◌, ◌⊎◌, ◌++◌, ◌+◌, ◌
 ghost use Rattle.rd_step.specs.Prelude.{model, room as world_room, step};
 ghost use Rattle.rd_depend.specs.Writers.{last_position, writes_to};
 ghost use Rattle.rd_journal.specs.Journal.{entry_of, events, start_of, IsRunFrom, IsRun};
-ghost use Rattle.rd_journal.specs.Kept.{journal_of, IsSession};
+ghost use Rattle.rd_journal.specs.Kept.{whole_journal, IsSession};
 ghost use Rattle.rd_journal.specs.Room.{MayBeOutOfMemory, IsOutOfMemory, ComesAfterRoom, LacksRoom};
+ghost use Rattle.rd_journal.specs.Records.{ahead_records};
 ghost use Rattle.rd_journal.specs.State.{run_of, apply, reply_to, undo, undo_at, back, redo, forward, roll, switch, event_at};
 ghost use Rattle.rd_journal.specs.Laws.{IsStepAfter};
 ghost use Rattle.rd_journal.specs.Moves.{IsLengthened, IsMovedBack, IsMovedForward, IsBeforeLast, IsTakenOutAt, IsWithout, IsSwitched, IsRolledBack, IsWithoutClosure, answer_at, roll_answer};
@@ -29,8 +33,12 @@ use std::alloc::Global;
 /// A world of rings of `R` cells, with the steps that led to it and those that were undone.
 pub struct Session<const R: usize> {
     world: World<R>,
+    /// Of the live steps and of those ahead of them: these are the undone ones, and behind them those that a switch left there.
     records: IndexedRecords,
-    ghost kept: { IsSession R (journal_of (model world) records) (world_room world) },
+    /// How many of the steps ahead are undone.
+    undone: usize,
+    ghost kept: { IsSession R (whole_journal (model world) records) (world_room world) },
+    ghost within: { undone ≤ length (ahead_records records.records) },
 }
 
 /// Written out and not derived, so that a proof of a function in which a session ends has one step for that, and not one for
@@ -40,6 +48,7 @@ impl<const R: usize> Drop for Session<R> {
         let Session {
             world: _world,
             records: _records,
+            undone: _,
         } = self;
     }
 }
@@ -56,6 +65,7 @@ impl<const R: usize> Session<R> {
         Session {
             world,
             records: IndexedRecords::new(alloc),
+            undone: 0,
         }
     }
 
@@ -87,6 +97,7 @@ impl<const R: usize> Session<R> {
         self.records.make_room()?;
         let entry = self.world.step(event)?;
         self.records.push(entry);
+        self.undone = 0;
         Ok((self.len(), entry))
     }
 
@@ -244,6 +255,10 @@ impl<const R: usize> Session<R> {
         ensures succeeds { entries.now ≡ [] → IsOk result }
         ensures capacity { n + length entries.now ≤ capacity self.old → capacity self.new ≡ capacity self.old }
     {
+        if self.goes_on_with(n, entries) {
+            self.redo_ahead(entries.len());
+            return Ok(());
+        }
         self.make_room_to_switch(n, entries)?;
         self.exchange(n, entries);
         Ok(())
@@ -262,7 +277,7 @@ impl<const R: usize> Session<R> {
         ensures count { result ≡ length (state self.now).undone }
         ensures records { result ≡ length (journal self.now).undone }
     {
-        self.records.undone_len() as u64
+        self.undone as u64
     }
 
     /// The records of the live steps, in their order. They are those of a run from the start.
@@ -307,7 +322,7 @@ impl<const R: usize> Session<R> {
         if i == 0 || i > self.undone_len() {
             return None;
         }
-        Some(self.records.undone_at(i as usize - 1).event)
+        Some(self.records.ahead_at(i as usize - 1).event)
     }
 
     /// The world that the session was opened in: a copy of the world, in which all live steps are undone.

@@ -18,3 +18,4 @@ pub mod Here
 pub mod LevelNodes
 pub mod MarkedEvents
 pub mod RulesLemmas
+pub mod RowLemmas

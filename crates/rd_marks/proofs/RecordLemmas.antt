@@ -1,13 +1,14 @@
 -- The records of a session's live steps, and that they are those of a run.
 use Rattle.std.proofs.Common.{◌≡◌, ℕ, zero, suc, drop, ◌+◌, ◌≤◌, refl, sym, ap, subst, ◌∙◌, List, [], ◌∷◌, ◌++◌, length, take, ◌-◌, Result, Ok, Err, OnOk, IfErr, length-drop, length-append, arith}
-use Rattle.std.proofs.Math.Seq.{take-length}
+use Rattle.std.proofs.Math.Seq.{take-length, take-append_seam}
 use Rattle.rd_step.specs.Prelude.{Refusal, NoMemory, MOST_STEPS, World, Stepped, step, Ran, run}
 use Rattle.rd_step.specs.Run.{run_preceded_by, run_from_step}
 use Rattle.rd_step.specs.declared.entries.Event.{Event}
 use Rattle.std.proofs.lemmas.List.{take-append-drop, drop-map}
 use Rattle.rd_step.specs.declared.entries.Entry.{Entry}
 use Rattle.rd_journal.specs.State.{State, state_of, switch}
-use Rattle.rd_journal.specs.Journal.{Journal, start_of, events, run_entries, IsRun, IsRunFrom}
+use Rattle.rd_journal.specs.Journal.{Journal, start_of, events, run_entries, IsRunFrom}
+use Rattle.rd_journal.proofs.Ahead.{first_run}
 use Rattle.rd_marks.specs.Layout.{IsRecordOfRun}
 
 -- the first events of some records are those of the first records
@@ -93,10 +94,10 @@ switched (Ok x) s t n zs ys given h k =
     ∙ ap (λ (es : List Event). record { start = s.start; live = es; undone = [] }) (joined_events n s.live ys h)
 
 -- what a switch to records of a run asks for
-pub may_switch : (R : ℕ) (j : Journal) (n : ℕ) (zs ys : List Entry) → zs ≡ drop n ys → IsRun R j → IsRecordOfRun R (start_of j) ys
+pub may_switch : (R : ℕ) (j : Journal) (n : ℕ) (zs ys : List Entry) → zs ≡ drop n ys → IsRunFrom R (start_of j) j.live → IsRecordOfRun R (start_of j) ys
     → take n (state_of j).live ≡ take n (events ys) → IsRunFrom R (start_of j) (take n j.live ++ zs)
-may_switch R j n zs ys given runs kept h =
-    let alike : take n j.live ≡ take n ys = begin_alike R n (start_of j) j.live ys (ap run_entries runs.live_ran) kept.ran h in
+may_switch R j n zs ys given ran kept h =
+    let alike : take n j.live ≡ take n ys = begin_alike R n (start_of j) j.live ys ran kept.ran h in
     let all : take n j.live ++ zs ≡ ys = ap (λ (xs : List Entry). take n j.live ++ xs) given ∙ joined n j.live ys alike in
     subst (λ (xs : List Entry). IsRunFrom R (start_of j) xs) (sym all) kept.ran
 
@@ -106,19 +107,8 @@ few_enough n zs ys given h k =
     omega arith
 
 -- the beginning of a run is a run
-run_goes_on : (y : Entry) (xs : List Entry) (q : Result Ran Refusal) → run_entries q ≡ Ok xs → run_entries (run_preceded_by y q) ≡ Ok (y ∷ xs)
-run_goes_on y xs (Err e) h = cc
-run_goes_on y xs (Ok ran) h =
-    let same : ran.entries ≡ xs = cc in
-    ap (λ (es : List Entry). Ok (y ∷ es)) same
-
-pub begins_run : (R : ℕ) (w : World) (xs ys : List Entry) → IsRunFrom R w (xs ++ ys) → IsRunFrom R w xs
-begins_run R w [] ys h = refl
-begins_run R w (x ∷ xs) ys h =
-    let b = began R w x (xs ++ ys) h in
-    let rest = begins_run R b.stepped.world xs ys b.rest in
-    ap (λ (r : Result Stepped Refusal). run_entries (run_from_step (λ v. run R v (events xs)) r)) b.goes
-    ∙ run_goes_on b.stepped.entry xs (run R b.stepped.world (events xs)) rest ∙ ap (λ (y : Entry). Ok (y ∷ xs)) b.entry
-
 pub begins_record : (R : ℕ) (w : World) (xs ys : List Entry) → IsRecordOfRun R w (xs ++ ys) → IsRecordOfRun R w xs
-begins_record R w xs ys h = record { few = omega (arith, h.few, length-append xs ys); ran = begins_run R w xs ys h.ran }
+begins_record R w xs ys h = record {
+  few = omega (arith, h.few, length-append xs ys);
+  ran = subst (λ (zs : List Entry). IsRunFrom R w zs) (take-append_seam xs ys) (first_run R (length xs) w (xs ++ ys) h.ran);
+}

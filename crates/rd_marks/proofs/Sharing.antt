@@ -19,7 +19,7 @@ use Rattle.rd_marks.specs.Names.{same_name}
 use Rattle.rd_marks.specs.Marks.{mark_of, marks_of}
 use Rattle.rd_marks.specs.Layout.{IsRecordOfRun, KeepsMarks, has_mark}
 use Rattle.rd_marks.specs.Tree.{TreeNode, MarkTree, IsIn, depth_in, path_in, IsTree, IsPartOf, AreLinkedBelow}
-use Rattle.rd_marks.specs.TreeLayout.{tree_of}
+use Rattle.rd_marks.specs.TreeLayout.{tree_of, AreRecorded}
 use Rattle.rd_marks.specs.Uses.{AreUsedExcept}
 use Rattle.rd_marks.proofs.TreeLemmas.{there, path_there, depth_there, path_kept, stays_in}
 use Rattle.rd_marks.proofs.NodeLemmas.{same_option, one_option}
@@ -34,17 +34,21 @@ pub record Keeps (R : ℕ) (w : World) (t : MarkTree) (ms : List (MarkName × Op
   pub runs : All (λ m. IsRecordOfRun R w (path_in t m.1)) ms
   pub used : AreUsedExcept t ms None
 
-pub keeps : (R : ℕ) (w : World) (nodes : Slab Node) (ms : List (MarkName × Option ℕ)) → KeepsMarks R w nodes ms → Keeps R w (tree_of nodes) ms
-keeps R w nodes ms kept = record { few = kept.few; present = kept.present; runs = kept.runs; used = used_from_slots nodes ms kept.used }
+pub keeps : (R : ℕ) (w : World) (nodes : Slab Node) (records : List Entry) (ms : List (MarkName × Option ℕ)) → AreRecorded nodes records → KeepsMarks R w nodes records ms
+    → Keeps R w (tree_of nodes records) ms
+keeps R w nodes records ms recorded kept =
+    record { few = kept.few; present = kept.present; runs = kept.runs; used = used_from_slots nodes records ms recorded kept.used }
 
-pub kept_by : (R : ℕ) (w : World) (nodes : Slab Node) (ms : List (MarkName × Option ℕ)) → Keeps R w (tree_of nodes) ms → KeepsMarks R w nodes ms
-kept_by R w nodes ms kept = record { few = kept.few; present = kept.present; runs = kept.runs; used = slots_from_used nodes ms kept.used }
+pub kept_by : (R : ℕ) (w : World) (nodes : Slab Node) (records : List Entry) (ms : List (MarkName × Option ℕ)) → Keeps R w (tree_of nodes records) ms
+    → KeepsMarks R w nodes records ms
+kept_by R w nodes records ms kept = record { few = kept.few; present = kept.present; runs = kept.runs; used = slots_from_used nodes records ms kept.used }
 
 -- the same tree in another room keeps the same
-pub kept_in : (R : ℕ) (w : World) (m n : Slab Node) (ms es : List (MarkName × Option ℕ)) → tree_of n ≡ tree_of m → es ≡ ms → KeepsMarks R w m ms → KeepsMarks R w n es
-kept_in R w m n ms es same entries kept =
-    kept_by R w n es (subst (λ (xs : List (MarkName × Option ℕ)). Keeps R w (tree_of n) xs) (sym entries)
-    (subst (λ (t : MarkTree). Keeps R w t ms) (sym same) (keeps R w m ms kept)))
+pub kept_in : (R : ℕ) (w : World) (m n : Slab Node) (xs ys : List Entry) (ms es : List (MarkName × Option ℕ)) → AreRecorded m xs → tree_of n ys ≡ tree_of m xs → es ≡ ms
+    → KeepsMarks R w m xs ms → KeepsMarks R w n ys es
+kept_in R w m n xs ys ms es recorded same entries kept =
+    kept_by R w n ys es (subst (λ (marks : List (MarkName × Option ℕ)). Keeps R w (tree_of n ys) marks) (sym entries)
+    (subst (λ (t : MarkTree). Keeps R w t ms) (sym same) (keeps R w m xs ms recorded kept)))
 
 -- Marks in a tree that has the nodes
 
@@ -167,19 +171,20 @@ node_run R w t name (m ∷ ms) at found all =
     ]) found
 
 -- what is kept without the mark of this name, once its nodes are gone that no other uses
-pub kept_without : (R : ℕ) (w : World) (m n : Slab Node) (name : MarkName) (ms es : List (MarkName × Option ℕ)) → es ≡ remove_entry (same_name name) ms → KeepsMarks R w m ms
-    → IsTree (tree_of n) → IsPartOf (tree_of n) (tree_of m) → All (λ x. IsIn (tree_of n) x.1) es → AreUsedExcept (tree_of n) es None → KeepsMarks R w n es
-kept_without R w m n name ms es entries kept rule part present used =
-    let t = tree_of m in
-    let u = tree_of n in
+pub kept_without : (R : ℕ) (w : World) (m n : Slab Node) (xs ys : List Entry) (name : MarkName) (ms es : List (MarkName × Option ℕ)) → es ≡ remove_entry (same_name name) ms
+    → KeepsMarks R w m xs ms → IsTree (tree_of n ys) → IsPartOf (tree_of n ys) (tree_of m xs) → All (λ x. IsIn (tree_of n ys) x.1) es
+    → AreUsedExcept (tree_of n ys) es None → KeepsMarks R w n ys es
+kept_without R w m n xs ys name ms es entries kept rule part present used =
+    let t = tree_of m xs in
+    let u = tree_of n ys in
     let fewer = shorter t name ms in
     let runs : All (λ x. IsRecordOfRun R w (path_in t x.1)) es =
-    subst (λ (xs : List (MarkName × Option ℕ)). All (λ x. IsRecordOfRun R w (path_in t x.1)) xs) (sym entries)
+    subst (λ (marks : List (MarkName × Option ℕ)). All (λ x. IsRecordOfRun R w (path_in t x.1)) marks) (sym entries)
     (all_without t name (λ x. IsRecordOfRun R w (path_in t x.1)) ms kept.runs) in
-    kept_by R w n es (record {
+    kept_by R w n ys es (record {
       few = omega (arith, kept.few, fewer, ap length entries);
       present = present;
-      runs = λ k d within. subst (λ (xs : List Entry). IsRecordOfRun R w xs) (path_kept u t rule part (get_or es k d).1 (present k d within)) (runs k d within);
+      runs = λ k d within. subst (λ (zs : List Entry). IsRecordOfRun R w zs) (path_kept u t rule part (get_or es k d).1 (present k d within)) (runs k d within);
       used = used;
     })
 
@@ -210,21 +215,21 @@ module _ (t u : MarkTree) (rule : IsTree t) (part : IsPartOf t u) (name : MarkNa
         ]
       ]
 
-pub kept_with : (R : ℕ) (w : World) (m n : Slab Node) (name : MarkName) (node : Option ℕ) (ms es : List (MarkName × Option ℕ)) → es ≡ ms ++ (name, node) ∷ [] → length ms < MOST_MARKS
-    → KeepsMarks R w m ms → IsTree (tree_of m) → IsPartOf (tree_of m) (tree_of n) → AreLinkedBelow (tree_of m) (tree_of n) node → IsIn (tree_of n) node
-    → IsRecordOfRun R w (path_in (tree_of n) node) → KeepsMarks R w n es
-kept_with R w m n name node ms es entries few kept rule part linked present run =
-    let t = tree_of m in
-    let u = tree_of n in
-    kept_by R w n es (record {
+pub kept_with : (R : ℕ) (w : World) (m n : Slab Node) (xs ys : List Entry) (name : MarkName) (node : Option ℕ) (ms es : List (MarkName × Option ℕ)) → es ≡ ms ++ (name, node) ∷ []
+    → length ms < MOST_MARKS → AreRecorded m xs → KeepsMarks R w m xs ms → IsTree (tree_of m xs) → IsPartOf (tree_of m xs) (tree_of n ys)
+    → AreLinkedBelow (tree_of m xs) (tree_of n ys) node → IsIn (tree_of n ys) node → IsRecordOfRun R w (path_in (tree_of n ys) node) → KeepsMarks R w n ys es
+kept_with R w m n xs ys name node ms es entries few recorded kept rule part linked present run =
+    let t = tree_of m xs in
+    let u = tree_of n ys in
+    kept_by R w n ys es (record {
       few = omega (arith, few, ap length entries, length-append ms ((name, node) ∷ []));
       present =
-          subst (λ (xs : List (MarkName × Option ℕ)). All (λ x. IsIn u x.1) xs) (sym entries)
+          subst (λ (marks : List (MarkName × Option ℕ)). All (λ x. IsIn u x.1) marks) (sym entries)
           (All-push (λ x. IsIn u x.1) ms (name, node) (present_kept t u rule part ms kept.present) present);
       runs =
-          subst (λ (xs : List (MarkName × Option ℕ)). All (λ x. IsRecordOfRun R w (path_in u x.1)) xs) (sym entries)
+          subst (λ (marks : List (MarkName × Option ℕ)). All (λ x. IsRecordOfRun R w (path_in u x.1)) marks) (sym entries)
           (All-push (λ x. IsRecordOfRun R w (path_in u x.1)) ms (name, node) (runs_kept t u rule part R w ms kept.present kept.runs) run);
-      used = used_with t u rule part name node ms es entries linked (keeps R w m ms kept).used;
+      used = used_with t u rule part name node ms es entries linked (keeps R w m xs ms recorded kept).used;
     })
 
 -- the marks are then as before, with one more

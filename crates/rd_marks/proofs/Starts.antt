@@ -2,6 +2,7 @@
 use Rattle.std.proofs.Common.{◌≡◌, ℕ, zero, suc, ◌==◌, nat_lt, Bool, true, false, if◌then◌else◌, refl, sym, ap, ◌∙◌, subst, List, length, Option, Some, None, Result, Ok, Err, OnOk, OnErr}
 use Rattle.rd_step.specs.Prelude.{Refusal, TooLong, NothingToUndo, NothingToRedo, NoSuchStep, World, Stepped}
 use Rattle.rd_step.specs.declared.entries.Event.{Event}
+use Rattle.rd_step.specs.declared.entries.Entry.{Entry}
 use Rattle.rd_journal.specs.Journal.{Journal, start_of}
 use Rattle.rd_journal.specs.State.{State, state_of, run_of, step_after, with_event, apply, back_one, forward_one, times, undo, back, redo, forward, one_out_unless, undo_at, dependant_in, roll, marked_out, closure_in}
 use Rattle.slab.specs.Slab.{Slab}
@@ -90,5 +91,6 @@ start_stays (Ok x) i j moved starts h g = starts (state_of j) h
 start_stays (Err e) i j moved starts h g = ap start_of g
 
 -- so the marks stay runs from it
-pub marks_stay : (R : ℕ) (v w : World) (nodes : Slab Node) (ms : List (MarkName × Option ℕ)) → w ≡ v → KeepsMarks R v nodes ms → KeepsMarks R w nodes ms
-marks_stay R v w nodes ms e k = subst (λ (u : World). KeepsMarks R u nodes ms) (sym e) k
+pub marks_stay : (R : ℕ) (v w : World) (nodes : Slab Node) (records : List Entry) (ms : List (MarkName × Option ℕ)) → w ≡ v → KeepsMarks R v nodes records ms
+    → KeepsMarks R w nodes records ms
+marks_stay R v w nodes records ms e k = subst (λ (u : World). KeepsMarks R u nodes records ms) (sym e) k

@@ -1,6 +1,6 @@
 -- Going to a node: what its path has in common with the live steps.
-use Rattle.std.proofs.Common.{◌≡◌, ℕ, zero, suc, ◌<◌, ◌≤◌, inl, inr, refl, sym, ap, ◌∙◌, List, [], ◌∷◌, ◌++◌, length, take, drop, Option, Some, None, length-append, arith}
-use Rattle.std.proofs.Math.Seq.{take-append_seam, drop-append_seam}
+use Rattle.std.proofs.Common.{◌≡◌, ℕ, zero, suc, ◌<◌, ◌≤◌, inl, inr, refl, sym, ap, ◌∙◌, subst, List, [], ◌∷◌, ◌++◌, length, take, drop, Option, Some, None, length-append, arith}
+use Rattle.std.proofs.Math.Seq.{take-append_seam, drop-append_seam, drop-length}
 use Rattle.std.proofs.lemmas.Bool.{cases_lt, cases_eq}
 use Rattle.std.proofs.lemmas.List.{map-append, append_assoc, append-nil, take-map, drop-map, take-append-drop}
 use Rattle.rd_step.specs.Run.{events}
@@ -84,6 +84,20 @@ module _ (t : MarkTree) (rule : IsTree t) where
       sym (take_shorter n (depth_in t b) live within) ∙ ap (take n) (sym begins)
       ∙ take-map (λ (x : Entry). x.event) n (path_in t b) ∙ ap events (ap (λ (m : ℕ). take m (path_in t b)) (sym long) ∙ first)
       ∙ sym (take-map (λ (x : Entry). x.event) n (path_in t node) ∙ ap events (ap (λ (m : ℕ). take m (path_in t node)) (sym long) ∙ second))
+
+  -- so that the live events keep as many as the node that both are below is deep
+  pub common_live : (b c node : Option ℕ) (n : ℕ) (es live : List Event) → es ≡ live → n ≡ depth_in t c → IsIn t b → IsIn t c → IsIn t node
+      → Begins (path_in t c) (path_in t b) → Begins (path_in t c) (path_in t node) → events (path_in t b) ≡ take (depth_in t b) es
+      → take n live ≡ take n (events (path_in t node))
+  common_live b c node n es live same deep b_in c_in node_in first second begins =
+      subst (λ (m : ℕ). take m live ≡ take m (events (path_in t node))) (sym deep)
+      (subst (λ (fs : List Event). take (depth_in t c) fs ≡ take (depth_in t c) (events (path_in t node))) same
+      (common_events b c node es b_in c_in node_in first second begins))
+
+  -- behind as many as it is deep, the path of a node has no records
+  pub none_behind : (node : Option ℕ) (n : ℕ) (zs : List Entry) → IsIn t node → depth_in t node ≡ n → zs ≡ drop n (path_in t node) → zs ≡ []
+  none_behind node n zs is all given =
+      given ∙ ap (λ (m : ℕ). drop m (path_in t node)) (sym all ∙ sym (path_length t rule node is)) ∙ drop-length (path_in t node)
 
   -- a node whose path begins the records is on the way to the deepest whose path does
   pub reached : (b node : Option ℕ) (xs : List Entry) → IsIn t b → IsIn t node → events (path_in t b) ≡ take (depth_in t b) (events xs) → IsNew t b (drop (depth_in t b) xs)

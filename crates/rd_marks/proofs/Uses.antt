@@ -1,17 +1,18 @@
 -- Which nodes are used: by the slots, and by children and marks.
-use Rattle.std.proofs.Common.{◌≡◌, ◌||◌, ◌↔◌, ℕ, zero, suc, ◌<◌, inl, inr, Bool, true, false, true≢false, nat_eq, refl, sym, ap, ◌∙◌, subst, List, [], ◌∷◌, get_or, option_map, Option, Some, None, All, IsTrue, is_some, slice_get, take, arith}
+use Rattle.std.proofs.Common.{◌≡◌, ◌||◌, ◌↔◌, ℕ, zero, suc, ◌<◌, inl, inr, Bool, true, false, true≢false, nat_eq, refl, sym, ap, ◌∙◌, subst, List, [], ◌∷◌, get_or, Option, Some, None, All, IsTrue, is_some, slice_get, take, arith}
 use Rattle.std.specs.Option.{option_eq, option_map_or}
 use Rattle.std.specs.List.{list_any}
 use Rattle.std.proofs.lemmas.Bool.{cases_eq, or_cases, or_left, or_right, or_from, or_parts}
 use Rattle.std.proofs.lemmas.List.Elements.{All-cons, All-nil}
 use Rattle.slab.specs.Slab.{Slab}
+use Rattle.rd_step.specs.declared.entries.Entry.{Entry}
 use Rattle.rd_marks.specs.declared.names.MarkName.{MarkName}
 use Rattle.rd_marks.specs.declared.tree.Node.{Node}
 use Rattle.rd_marks.specs.Layout.{is_below, has_child, has_mark}
 use Rattle.rd_marks.specs.Tree.{TreeNode, MarkTree, IsIn, depth_in, parent_in, HasChild, IsTree, IsPartOf, ChangesAt}
-use Rattle.rd_marks.specs.TreeLayout.{tree_of, node_of}
+use Rattle.rd_marks.specs.TreeLayout.{tree_of, node_of, AreRecorded}
 use Rattle.rd_marks.specs.Uses.{IsUsed, AreUsedExcept}
-use Rattle.rd_marks.proofs.NodeLemmas.{same_option, one_option, node_there}
+use Rattle.rd_marks.proofs.NodeLemmas.{same_option, one_option, recorded_at, node_there}
 use Rattle.rd_marks.proofs.TreeLemmas.{there, depth_there, parent_there}
 
 -- a slot with a child is that of a node
@@ -35,29 +36,31 @@ found_slot at (slot ∷ slots) zero n h k =
     or_left (is_below at slot) (list_any (λ s. is_below at s) slots) (ap (is_below at) h ∙ one_option n.parent at k)
 found_slot at (slot ∷ slots) (suc key) n h k = or_right (is_below at slot) (list_any (λ s. is_below at s) slots) (found_slot at slots key n h k)
 
-pub child_from_slots : (nodes : Slab Node) (at : Option ℕ) → has_child nodes at ≡ true → HasChild (tree_of nodes) at
-child_from_slots nodes at h =
+pub child_from_slots : (nodes : Slab Node) (records : List Entry) → AreRecorded nodes records → (at : Option ℕ) → has_child nodes at ≡ true → HasChild (tree_of nodes records) at
+child_from_slots nodes records recorded at h =
     let found = slot_found at nodes.slots h in
-    (found.0, record { node = node_of found.1; there = ap (option_map node_of) found.2; below = found.3 })
+    let x = recorded_at nodes records recorded found.0 found.1 found.2 in
+    (found.0, record { node = node_of found.1 x.its; there = x.there; below = found.3 })
 
-pub slots_from_child : (nodes : Slab Node) (at : Option ℕ) → HasChild (tree_of nodes) at → has_child nodes at ≡ true
-slots_from_child nodes at h =
-    let found = node_there nodes h.0 h.1.node h.1.there in
-    found_slot at nodes.slots h.0 found.0 found.1 (ap (λ (m : TreeNode). m.parent) found.2 ∙ h.1.below)
+pub slots_from_child : (nodes : Slab Node) (records : List Entry) (at : Option ℕ) → HasChild (tree_of nodes records) at → has_child nodes at ≡ true
+slots_from_child nodes records at h =
+    let found = node_there nodes records h.0 h.1.node h.1.there in
+    found_slot at nodes.slots h.0 found.0 found.1 (found.2 ∙ h.1.below)
 
-pub used_from_slots : (nodes : Slab Node) (ms : List (MarkName × Option ℕ))
-    → ((key : ℕ) (n : TreeNode) → tree_of nodes key ≡ Some n → (has_child nodes (Some key) || has_mark ms (Some key)) ≡ true) → AreUsedExcept (tree_of nodes) ms None
-used_from_slots nodes ms used key n e apart =
+pub used_from_slots : (nodes : Slab Node) (records : List Entry) (ms : List (MarkName × Option ℕ)) → AreRecorded nodes records
+    → ((key : ℕ) (n : TreeNode) → tree_of nodes records key ≡ Some n → (has_child nodes (Some key) || has_mark ms (Some key)) ≡ true)
+    → AreUsedExcept (tree_of nodes records) ms None
+used_from_slots nodes records ms recorded used key n e apart =
     elim (or_cases (has_child nodes (Some key)) (has_mark ms (Some key)) (used key n e)) [
-      | inl child ↦ inl (child_from_slots nodes (Some key) child)
+      | inl child ↦ inl (child_from_slots nodes records recorded (Some key) child)
       | inr mark ↦ inr mark
     ]
 
-pub slots_from_used : (nodes : Slab Node) (ms : List (MarkName × Option ℕ)) → AreUsedExcept (tree_of nodes) ms None
-    → (key : ℕ) (n : TreeNode) → tree_of nodes key ≡ Some n → (has_child nodes (Some key) || has_mark ms (Some key)) ≡ true
-slots_from_used nodes ms used key n e =
+pub slots_from_used : (nodes : Slab Node) (records : List Entry) (ms : List (MarkName × Option ℕ)) → AreUsedExcept (tree_of nodes records) ms None
+    → (key : ℕ) (n : TreeNode) → tree_of nodes records key ≡ Some n → (has_child nodes (Some key) || has_mark ms (Some key)) ≡ true
+slots_from_used nodes records ms used key n e =
     elim (used key n e (λ h. cc)) [
-      | inl child ↦ or_left (has_child nodes (Some key)) (has_mark ms (Some key)) (slots_from_child nodes (Some key) child)
+      | inl child ↦ or_left (has_child nodes (Some key)) (has_mark ms (Some key)) (slots_from_child nodes records (Some key) child)
       | inr mark ↦ or_right (has_child nodes (Some key)) (has_mark ms (Some key)) mark
     ]
 

@@ -35,11 +35,11 @@ has_mark marks at = list_any (λ m. option_eq nat_eq m.1 at) marks
 
 -- no more marks than there may be, each at a node whose path is the records of a run from the start; and each node has a child
 -- or a mark
-pub record KeepsMarks (R : ℕ) (start : World) (nodes : Slab Node) (marks : List (MarkName × Option ℕ)) : Type 0 where
+pub record KeepsMarks (R : ℕ) (start : World) (nodes : Slab Node) (records : List Entry) (marks : List (MarkName × Option ℕ)) : Type 0 where
   pub few : length marks ≤ MOST_MARKS
-  pub present : All (λ m. IsIn (tree_of nodes) m.1) marks
-  pub runs : All (λ m. IsRecordOfRun R start (path_in (tree_of nodes) m.1)) marks
-  pub used : (key : ℕ) (n : TreeNode) → tree_of nodes key ≡ Some n → (has_child nodes (Some key) || has_mark marks (Some key)) ≡ true
+  pub present : All (λ m. IsIn (tree_of nodes records) m.1) marks
+  pub runs : All (λ m. IsRecordOfRun R start (path_in (tree_of nodes records) m.1)) marks
+  pub used : (key : ℕ) (n : TreeNode) → tree_of nodes records key ≡ Some n → (has_child nodes (Some key) || has_mark marks (Some key)) ≡ true
 
 -- where the live steps stand in the tree: at a node, the events of whose path begin them
 pub record IsHere (t : MarkTree) (here : Option ℕ) (live : List Event) : Type 0 where

@@ -1,17 +1,29 @@
--- How a tree is kept: its nodes as what is at each key; and that each node can be found from the one above it.
-use Rattle.std.specs.Prelude.{◌≡◌, ◌==◌, true, ℕ, List, Option, Some, None, option_map}
+-- How a tree is kept: its nodes in a slab, and their records in a list by the same keys; and that each node can be found from the one
+-- above it.
+use Rattle.std.specs.Prelude.{◌≡◌, ◌==◌, ◌<◌, ◌+◌, ◌-◌, true, ℕ, List, length, drop, Option, Some, None, slice_get, slice_range}
 use Rattle.std.specs.List.{list_any}
 use Rattle.slab.specs.Slab.{Slab, get}
+use Rattle.rd_step.specs.declared.entries.Entry.{Entry}
 use Rattle.rd_marks.specs.declared.tree.Node.{Node}
-use Rattle.rd_marks.specs.Tree.{TreeNode, MarkTree, IsTree}
+use Rattle.rd_marks.specs.Tree.{TreeNode, MarkTree, depth_in, path_in, IsTree}
 
--- a node, without the child that it knows
-abbrev pub node_of : Node → TreeNode
-node_of n = record { entry = n.entry; parent = n.parent; depth = n.depth }
+-- a node with its record, without the child that it knows
+abbrev pub node_of : Node → Entry → TreeNode
+node_of n x = record { entry = x; parent = n.parent; depth = n.depth }
+
+-- what is at a key where the slab and the list have these
+abbrev pub node_with : Option Node → Option Entry → Option TreeNode
+node_with None x = None
+node_with (Some n) None = None
+node_with (Some n) (Some x) = Some (node_of n x)
 
 -- what is at each key
-abbrev pub tree_of : Slab Node → MarkTree
-tree_of nodes key = option_map node_of (get nodes key)
+abbrev pub tree_of : Slab Node → List Entry → MarkTree
+tree_of nodes records key = node_with (get nodes key) (slice_get records key)
+
+-- the list has a record at the key of each node
+abbrev pub AreRecorded : Slab Node → List Entry → Type 0
+AreRecorded nodes records = (key : ℕ) (n : Node) → get nodes key ≡ Some n → key < length records
 
 -- the child that a node knows, if it knows one
 abbrev pub child_known : Option Node → Option ℕ
@@ -27,7 +39,14 @@ known_in nodes top (Some key) = child_known (get nodes key)
 abbrev pub AreLinked : MarkTree → (Option ℕ → Option ℕ) → List ℕ → Type 0
 AreLinked t known forks = (key : ℕ) (n : TreeNode) → t key ≡ Some n → (known n.parent ≡ Some key → ⊥) → list_any (λ fork. fork == key) forks ≡ true
 
--- the rule of a tree, and that its nodes can be found
-pub record IsKept (nodes : Slab Node) (top : Option ℕ) (forks : List ℕ) : Type 0 where
-  pub tree : IsTree (tree_of nodes)
-  pub linked : AreLinked (tree_of nodes) (known_in nodes top) forks
+-- the rule of a tree, that its nodes can be found, and that each has a record
+pub record IsKept (nodes : Slab Node) (records : List Entry) (top : Option ℕ) (forks : List ℕ) : Type 0 where
+  pub tree : IsTree (tree_of nodes records)
+  pub linked : AreLinked (tree_of nodes records) (known_in nodes top) forks
+  pub recorded : AreRecorded nodes records
+
+-- the records from the first key up to the last are the end of the path of the node at the last, from the node so many above it on
+pub record IsRow (t : MarkTree) (records : List Entry) (first last above : ℕ) : Type 0 where
+  pub rises : first + above ≡ last
+  pub within : last < length records
+  pub path : slice_range records first (last + 1) ≡ drop (depth_in t (Some last) - above - 1) (path_in t (Some last))

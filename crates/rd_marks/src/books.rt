@@ -37,7 +37,7 @@ pub struct Book<const R: usize> {
     /// at the root.
     here: Option<usize>,
     alloc: Global,
-    ghost kept: { KeepsMarks R (state session).start tree.nodes marks.entries },
+    ghost kept: { KeepsMarks R (state session).start tree.nodes tree.records.items marks.entries },
     ghost stands: { IsHere (mark_tree tree) here (state session).live },
 }
 

@@ -44,11 +44,11 @@ pub(crate) fn put_mark<const R: usize>(
 ) -> Result<(), AllocError>
     requires new { is_some (marked_events (marks_of (mark_tree tree.old) marks.old.entries) name) ≡ false }
     requires few { length marks.old.entries < MOST_MARKS }
-    requires kept { KeepsMarks R (state session.now).start tree.old.nodes marks.old.entries }
+    requires kept { KeepsMarks R (state session.now).start tree.old.nodes tree.old.records.items marks.old.entries }
     requires here { IsHere (mark_tree tree.old) here.old (state session.now).live }
     ensures ok { OnOk result (marks_of (mark_tree tree.new) marks.new.entries
         ≡ marks_of (mark_tree tree.old) marks.old.entries ++ record { name = name; events = (state session.now).live } ∷ []) }
-    ensures kept { KeepsMarks R (state session.now).start tree.new.nodes marks.new.entries }
+    ensures kept { KeepsMarks R (state session.now).start tree.new.nodes tree.new.records.items marks.new.entries }
     ensures here { IsHere (mark_tree tree.new) here.new (state session.now).live }
     ensures unchanged { OnErr result (marks_of (mark_tree tree.new) marks.new.entries ≡ marks_of (mark_tree tree.old) marks.old.entries) }
 {
@@ -66,7 +66,8 @@ pub(crate) fn put_mark<const R: usize>(
 }
 
 /// Makes the steps of this node's path the live ones, with none undone: what they begin with in common with the live ones stays. What
-/// the live ones have in common with the tree is looked for from where they stand in it.
+/// the live ones have in common with the tree is looked for from where they stand in it. The others are copied only if the tree can't
+/// lend them.
 ///
 /// # Errors
 ///
@@ -89,6 +90,9 @@ pub(crate) fn switch_to<const R: usize>(
 {
     let beginning = tree.follow(here, &session.live());
     let common = tree.depth(tree.common(beginning, node));
+    if let Some(records) = tree.slice(node, common) {
+        return session.switch(common as u64, records);
+    }
     match tree.records(alloc, node, common) {
         Err(_) => Err(Refusal::NoMemory),
         Ok(records) => session.switch(common as u64, &records),

@@ -3,13 +3,17 @@
 //! A node has the record of one step; the records from the root down to it are its path, which is the list of a bookmark that is
 //! at it. Children of one parent are of different events. The root is no node: it is `None`, and its path is empty.
 //!
+//! The records are in a vector of their own, by the keys of their nodes. Nodes that are put one after another mostly get keys that
+//! rise by one, so a part of a path is often a part of the vector, and can be lent with nothing copied.
+//!
 //! A node knows one of its children, the one it got first; later ones are in `forks`, of which there are few. What is known of a
 //! child is looked at before it is believed, so nothing has to be set right when a node goes.
 
-ghost use Rattle.std.specs.Prelude.{◌≡◌, ◌≢◌, ◌↔◌, ◌⊎◌, ◌<◌, ◌≤◌, ◌+◌, ◌++◌, [], ◌∷◌, Some, None, suc, length, take, drop, IsTrue, MatchOption, IfOk, OnOk, OnErr, IsOk, get_or, option_copied, ℕ, true, false, Option, not, ◌==◌};
-ghost use Rattle.std.specs.List.{All, filter};
-ghost use Rattle.slab.specs.Slab.{slab_len};
+ghost use Rattle.std.specs.Prelude.{◌≡◌, ◌≢◌, ◌↔◌, ◌⊎◌, ◌<◌, ◌≤◌, ◌+◌, ◌++◌, [], ◌∷◌, Some, None, suc, length, take, drop, IsTrue, MatchOption, IfOk, OnOk, OnErr, IsOk, get_or, is_some, option_copied, ℕ, true, false, List, Option, not, ◌==◌, vec_capacity};
+ghost use Rattle.std.specs.List.{All, filter, slice_get};
+ghost use Rattle.slab.specs.Slab.{slab_len, ContainsKey, get};
 ghost use Rattle.rd_step.specs.Prelude.{MOST_STEPS};
+ghost use Rattle.rd_step.specs.declared.entries.Entry.{Entry};
 ghost use Rattle.rd_marks.specs.Tree.{IsIn};
 ghost use Rattle.rd_marks.specs.TreeLayout.{tree_of, known_in, IsKept};
 
@@ -19,11 +23,9 @@ use rd_step::{Entry, Event};
 use slab::Slab;
 use std::alloc::{AllocError, Global};
 
-/// A node: the record of its step, and where it is.
+/// Where a node is. Its record is in the tree's vector of records, at the node's key.
 #[derive(Clone, Copy)]
 struct Node {
-    /// The record.
-    entry: Entry,
     /// The node above it; none if that is the root.
     parent: Option<usize>,
     /// How many records its path has.
@@ -36,11 +38,13 @@ struct Node {
 #[derive(Drop)]
 pub(crate) struct Tree {
     nodes: Slab<Node>,
+    /// The record of each node, at its key. What is at a key that no node has is never read.
+    records: Vec<Entry>,
     /// Where a child of the root is, if there is one and it is no fork.
     top: Option<usize>,
     /// Nodes whose parents had a child before.
     forks: Vec<usize>,
-    ghost kept: { IsKept nodes top forks.items },
+    ghost kept: { IsKept nodes records.items top forks.items },
 }
 
 impl Tree {
@@ -53,6 +57,7 @@ impl Tree {
     {
         Tree {
             nodes: Slab::new(alloc),
+            records: Vec::new(alloc),
             top: None,
             forks: Vec::new(alloc),
         }
@@ -99,7 +104,7 @@ impl Tree {
             None => None,
             Some(key) => match self.nodes.get(key) {
                 None => None,
-                Some(node) => Some(&node.entry),
+                Some(_) => Some(&self.records[key]),
             },
         }
     }
@@ -137,6 +142,7 @@ impl Tree {
         ensures forks { OnOk result (HasForkRoom self.new) }
     {
         self.nodes.reserve(more)?;
+        reserve_records(&mut self.records, self.nodes.capacity())?;
         self.forks.reserve(1)
     }
 
@@ -156,11 +162,11 @@ impl Tree {
         let is_fork = self.is_parent(at);
         let depth = self.depth(at) + 1;
         let key = self.nodes.insert_reserved(Node {
-            entry,
             parent: at,
             depth,
             child: None,
         });
+        put_record(&mut self.records, key, entry);
         if is_fork {
             self.forks.push_reserved(key);
         } else {
@@ -262,7 +268,7 @@ impl Tree {
     {
         match self.nodes.get(key) {
             None => false,
-            Some(node) => node.parent == at && is_same(&node.entry.event, event),
+            Some(node) => node.parent == at && is_same(&self.records[key].event, event),
         }
     }
 }
@@ -281,10 +287,42 @@ fn forget(forks: &mut Vec<usize>, key: usize)
     forks.retain(|fork| *fork != key);
 }
 
+/// Makes room for a record at each key below this one.
+///
+/// # Errors
+///
+/// If memory was refused. The records stay.
+fn reserve_records(records: &mut Vec<Entry>, keys: usize) -> Result<(), AllocError>
+    ensures items { records.new.items ≡ records.old.items }
+    ensures ok { OnOk result (keys ≤ vec_capacity records.new) }
+{
+    if keys <= records.capacity() {
+        return Ok(());
+    }
+    records.reserve(keys - records.len())
+}
+
+/// Puts a record at this key, in the room that was made.
+fn put_record(records: &mut Vec<Entry>, key: usize, entry: Entry)
+    requires room { key < vec_capacity records.old }
+    ensures put { slice_get records.new.items key ≡ Some entry }
+    ensures others { (other : ℕ) → other < length records.old.items → (other ≡ key → ⊥)
+        → slice_get records.new.items other ≡ slice_get records.old.items other }
+    ensures longer { length records.old.items ≤ length records.new.items }
+    ensures capacity { vec_capacity records.new ≡ vec_capacity records.old }
+{
+    // The slab gives out a key that it has given out before, or the next one, so one more record is enough.
+    while records.len() <= key {
+        records.push_reserved(entry);
+    }
+    records[key] = entry;
+}
+
 /// Lets a node know its child.
 fn link(nodes: &mut Slab<Node>, top: &mut Option<usize>, at: Option<usize>, key: usize)
-    requires { IsIn (tree_of nodes.old) at }
-    ensures nodes { (other : ℕ) → tree_of nodes.new other ≡ tree_of nodes.old other }
+    requires { (key : ℕ) → at ≡ Some key → ContainsKey nodes.old key }
+    ensures nodes { (records : List Entry) (other : ℕ) → tree_of nodes.new records other ≡ tree_of nodes.old records other }
+    ensures keys { (other : ℕ) → is_some (get nodes.new other) ≡ is_some (get nodes.old other) }
     ensures known { known_in nodes.new top.new at ≡ Some key }
     ensures others { (other : Option ℕ) → (other ≡ at → ⊥) → known_in nodes.new top.new other ≡ known_in nodes.old top.old other }
     ensures len { slab_len nodes.new ≡ slab_len nodes.old }

@@ -3,6 +3,7 @@
 //! Rows are borrowed, and one helper walks those of a kind, with one assertion: so their proof is cheap.
 
 mod devices;
+mod going;
 mod halves;
 mod lone_faults;
 mod long_runs;

@@ -25,6 +25,7 @@ impl<const R: usize> Session<R> {
     {
         unstep(&mut self.world, self.records.last_live());
         self.records.step_back();
+        self.undone += 1;
     }
 
     /// Undoes the last `n` live steps, one after another.
@@ -48,8 +49,9 @@ impl<const R: usize> Session<R> {
         ensures state { state self.new ≡ forward_one (state self.old) }
         ensures capacity { capacity self.new ≡ capacity self.old }
     {
-        step_again(&mut self.world, self.records.first_undone());
+        step_again(&mut self.world, self.records.first_ahead());
         self.records.step_forward();
+        self.undone -= 1;
     }
 
     /// Redoes the `n` steps that were undone last, one after another.

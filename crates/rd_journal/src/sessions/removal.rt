@@ -23,6 +23,7 @@ impl<const R: usize> Session<R> {
     {
         unstep(&mut self.world, self.records.live_at(k as usize - 1));
         self.records.take_out(k as usize);
+        self.undone += 1;
     }
 
     /// Undoes the `k`-th live step and all later ones that depend on it, directly or through others. If none depends on it directly,

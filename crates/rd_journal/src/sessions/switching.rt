@@ -1,10 +1,11 @@
 //! Exchanging the records behind the first live ones: all room first, then the undoing, then the steps of the given ones.
 
-ghost use Rattle.std.specs.Prelude.{◌≡◌, ◌++◌, ◌+◌, ◌<◌, ◌≤◌, [], ℕ, length, take, get_or, IsOk, OnOk, IfErr};
+ghost use Rattle.std.specs.Prelude.{◌≡◌, ◌++◌, ◌+◌, ◌<◌, ◌≤◌, [], ℕ, length, take, get_or, IsTrue, IsOk, OnOk, IfErr};
 ghost use Rattle.rd_step.specs.Prelude.{model, room as world_room};
 ghost use Rattle.rd_journal.specs.Journal.{events, start_of, IsRunFrom};
-ghost use Rattle.rd_journal.specs.Moves.{IsSwitched};
-ghost use Rattle.rd_journal.specs.Room.{room_returned_by, HasRoomForAll, LacksRoom, LacksRoomForMakings};
+ghost use Rattle.rd_journal.specs.Moves.{IsReplaced, IsSwitched};
+ghost use Rattle.rd_journal.specs.Records.{ahead_records};
+ghost use Rattle.rd_journal.specs.Room.{room_returned_by, HasRoom, HasRoomForAll, LacksRoom, LacksRoomForMakings};
 ghost use Rattle.rd_journal.specs.State.{switch};
 
 use super::Session;
@@ -50,8 +51,44 @@ impl<const R: usize> Session<R> {
         ensures capacity { capacity self.new ≡ capacity self.old }
     {
         self.undo_many(self.len() - kept);
-        self.records.replace_undone(given);
+        self.put_ahead(given);
         self.redo_many(given.len() as u64);
+    }
+
+    /// Has these records be the undone ones. If there are none, those ahead stay where they are.
+    fn put_ahead(&mut self, given: &[Entry])
+        requires run { IsRunFrom R (start_of (journal self.old)) ((journal self.old).live ++ given.now) }
+        requires few { length (journal self.old).live + length given.now ≤ MOST_STEPS }
+        requires capacity { length (journal self.old).live + length given.now ≤ capacity self.old }
+        requires makings { HasRoom given.now (room self.old) }
+        ensures replaced { IsReplaced given.now (journal self.old) (journal self.new) }
+        ensures capacity { capacity self.new ≡ capacity self.old }
+    {
+        if given.is_empty() {
+            self.undone = 0;
+            return;
+        }
+        self.records.replace_ahead(given);
+        self.undone = given.len();
+    }
+
+    /// Whether all live steps stay and these are the records of the next ones ahead.
+    pub(super) fn goes_on_with(&self, kept: u64, given: &[Entry]) -> bool
+        requires run { IsRunFrom R (start_of (journal self.now)) (take kept (journal self.now).live ++ given.now) }
+        ensures { IsTrue result → (kept ≡ length (journal self.now).live) × (given.now ≡ take (length given.now) (ahead_records self.now.records.records)) }
+    {
+        kept == self.len() && self.records.are_ahead(given)
+    }
+
+    /// Makes the next `n` steps ahead again, and has no step be undone then. It takes no memory.
+    pub(super) fn redo_ahead(&mut self, n: usize)
+        requires within { n ≤ length (ahead_records self.old.records.records) }
+        ensures records { IsSwitched (length (journal self.old).live) (take n (ahead_records self.old.records.records)) (journal self.old) (journal self.new) }
+        ensures start { start_of (journal self.new) ≡ start_of (journal self.old) }
+        ensures capacity { capacity self.new ≡ capacity self.old }
+    {
+        self.undone = n;
+        self.redo_many(n as u64);
     }
 }
 

@@ -1,6 +1,6 @@
 //! Walks up and down the tree.
 
-ghost use Rattle.std.specs.Prelude.{◌≡◌, ◌≤◌, ◌+◌, ◌++◌, length, take, drop, min, IfOk, IsOk};
+ghost use Rattle.std.specs.Prelude.{◌≡◌, ◌<◌, ◌≤◌, ◌+◌, ◌++◌, length, take, drop, min, IfOk, IsOk, IfSome};
 ghost use Rattle.rd_step.specs.Prelude.{MOST_STEPS};
 ghost use Rattle.rd_step.specs.Run.{events};
 ghost use Rattle.rd_depend.specs.Beginnings.{Begins};
@@ -13,6 +13,7 @@ use std::alloc::{AllocError, Global};
 
 impl Tree {
     ghost use Rattle.rd_marks.specs.Tree.{IsIn, depth_in, path_in, IsNew, IsPartOf, AreLinkedBelow};
+    ghost use Rattle.rd_marks.specs.TreeLayout.{IsRow};
     ghost use Rattle.rd_marks.specs.TreeViews.{mark_tree, HasRoom, HasForkRoom};
 
     /// The deepest node whose path begins these records, found from one whose path does.
@@ -62,7 +63,7 @@ impl Tree {
         ensures depth { depth_in (mark_tree self.now) result ≡ min n (depth_in (mark_tree self.now) from) }
     {
         let mut at = from;
-        while self.depth(at) > n {
+        for _ in n..self.depth(from) {
             at = self.parent(at);
         }
         at
@@ -100,6 +101,37 @@ impl Tree {
             b = self.parent(b);
         }
         a
+    }
+
+    /// The records of a node's path behind the first `n`, lent from the tree if they are one behind another there, as those of nodes
+    /// that were put one after another mostly are. None if they are not, or if there are no such records.
+    pub(crate) fn slice(&self, from: Option<usize>, n: usize) -> Option<&[Entry]>
+        requires present { IsIn (mark_tree self.now) from }
+        requires within { n ≤ depth_in (mark_tree self.now) from }
+        ensures { IfSome result (λ records. records.now ≡ drop n (path_in (mark_tree self.now) from)) }
+    {
+        let last = from?;
+        let depth = self.depth(from);
+        if depth == n {
+            return None;
+        }
+        let first = self.first_in_row(last, depth - n - 1)?;
+        Some(&self.records[first..last + 1])
+    }
+
+    /// The key of the node so many above this one, if the nodes from it down to this one have keys that rise by one.
+    fn first_in_row(&self, last: usize, above: usize) -> Option<usize>
+        requires present { IsIn (mark_tree self.now) (Some last) }
+        requires within { above < depth_in (mark_tree self.now) (Some last) }
+        ensures { IfSome result (λ first. IsRow (mark_tree self.now) self.now.records.items first last above) }
+    {
+        for step in 0..above {
+            let key = last - step;
+            if key == 0 || self.parent(Some(key)) != Some(key - 1) {
+                return None;
+            }
+        }
+        Some(last - above)
     }
 
     /// The records of a node's path behind the first `n`.

@@ -17,13 +17,13 @@ use Rattle.rd_marks.proofs.marks.put_mark.Goals as goal
 
 pub returns-in_err-reserve-clause-kept : goal.returns-in_err-reserve-clause-kept
 returns-in_err-reserve-clause-kept g c =
-    kept_in g.row.R (state c.args.session.now).start c.args.tree.now.nodes c.reserve.new.self.nodes c.args.marks.now.entries c.args.marks.now.entries
-    c.reserve.ensures.nodes refl c.requires.kept
+    kept_in g.row.R (state c.args.session.now).start c.args.tree.now.nodes c.reserve.new.self.nodes c.args.tree.now.records.items
+    c.reserve.new.self.records.items c.args.marks.now.entries c.args.marks.now.entries c.args.tree.now.kept.recorded c.reserve.ensures.nodes refl c.requires.kept
 
 pub returns-in_err-reserve-2-clause-kept : goal.returns-in_err-reserve-2-clause-kept
 returns-in_err-reserve-2-clause-kept g c =
-    kept_in g.row.R (state c.args.session.now).start c.args.tree.now.nodes c.reserve.new.self.nodes c.args.marks.now.entries c.reserve-2.new.self.entries
-    c.reserve.ensures.nodes c.reserve-2.ensures.entries c.requires.kept
+    kept_in g.row.R (state c.args.session.now).start c.args.tree.now.nodes c.reserve.new.self.nodes c.args.tree.now.records.items
+    c.reserve.new.self.records.items c.args.marks.now.entries c.reserve-2.new.self.entries c.args.tree.now.kept.recorded c.reserve.ensures.nodes c.reserve-2.ensures.entries c.requires.kept
 
 pub follow-beginning-requires-clause-within : goal.follow-beginning-requires-clause-within
 follow-beginning-requires-clause-within g c =
@@ -63,7 +63,7 @@ returns-clause-ok g c =
     let node = c.grow-node.result in
     let rule = c.args.tree.now.kept.tree in
     let nodes = c.reserve.ensures.nodes in
-    let kept = keeps g.row.R w c.args.tree.now.nodes ms c.requires.kept in
+    let kept = keeps g.row.R w c.args.tree.now.nodes c.args.tree.now.records.items ms c.args.tree.now.kept.recorded c.requires.kept in
     let run : IsRecordOfRun g.row.R w live = record { few = c.live-live.ensures.few; ran = c.live-live.ensures.run } in
     let whole : path_in u node ≡ live =
     c.grow-node.ensures.path ∙ ap (λ (v : MarkTree). path_in v b ++ c.behind-rest.result) nodes
@@ -90,7 +90,7 @@ returns-clause-kept g c =
     let node = c.grow-node.result in
     let rule = c.args.tree.now.kept.tree in
     let nodes = c.reserve.ensures.nodes in
-    let kept = keeps g.row.R w c.args.tree.now.nodes ms c.requires.kept in
+    let kept = keeps g.row.R w c.args.tree.now.nodes c.args.tree.now.records.items ms c.args.tree.now.kept.recorded c.requires.kept in
     let run : IsRecordOfRun g.row.R w live = record { few = c.live-live.ensures.few; ran = c.live-live.ensures.run } in
     let whole : path_in u node ≡ live =
     c.grow-node.ensures.path ∙ ap (λ (v : MarkTree). path_in v b ++ c.behind-rest.result) nodes
@@ -100,8 +100,10 @@ returns-clause-kept g c =
     let entries : es ≡ ms ++ (c.args.name, node) ∷ [] =
     entries_put t c.args.name node ms es c.requires.new
     (c.in-Ok.ensures.entries ∙ ap (λ (xs : List (MarkName × Option ℕ)). insert_entry same_name xs c.args.name node) c.reserve-2.ensures.entries) in
-    kept_with g.row.R w c.reserve.new.self.nodes c.grow-node.new.self.nodes c.args.name node ms es entries c.requires.few
-    (kept_in g.row.R w c.args.tree.now.nodes c.reserve.new.self.nodes ms ms nodes refl c.requires.kept) c.reserve.new.self.kept.tree c.grow-node.ensures.kept
+    kept_with g.row.R w c.reserve.new.self.nodes c.grow-node.new.self.nodes c.reserve.new.self.records.items c.grow-node.new.self.records.items c.args.name node ms es entries
+    c.requires.few c.reserve.new.self.kept.recorded
+    (kept_in g.row.R w c.args.tree.now.nodes c.reserve.new.self.nodes c.args.tree.now.records.items c.reserve.new.self.records.items ms ms c.args.tree.now.kept.recorded nodes refl
+    c.requires.kept) c.reserve.new.self.kept.tree c.grow-node.ensures.kept
     c.grow-node.ensures.used c.grow-node.ensures.present (subst (λ (xs : List Entry). IsRecordOfRun g.row.R w xs) (sym whole) run)
 
 pub returns-clause-here : goal.returns-clause-here
@@ -116,7 +118,7 @@ returns-clause-here g c =
     let node = c.grow-node.result in
     let rule = c.args.tree.now.kept.tree in
     let nodes = c.reserve.ensures.nodes in
-    let kept = keeps g.row.R w c.args.tree.now.nodes ms c.requires.kept in
+    let kept = keeps g.row.R w c.args.tree.now.nodes c.args.tree.now.records.items ms c.args.tree.now.kept.recorded c.requires.kept in
     let run : IsRecordOfRun g.row.R w live = record { few = c.live-live.ensures.few; ran = c.live-live.ensures.run } in
     let whole : path_in u node ≡ live =
     c.grow-node.ensures.path ∙ ap (λ (v : MarkTree). path_in v b ++ c.behind-rest.result) nodes

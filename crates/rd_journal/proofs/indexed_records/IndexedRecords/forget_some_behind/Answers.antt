@@ -2,7 +2,7 @@ use Rattle.std.proofs.Common.{◌≤◌, ◌++◌, List, length, take, subst, ar
 use Rattle.std.proofs.lemmas.List.{take-take}
 use Rattle.rd_step.specs.declared.entries.Entry.{Entry}
 use Rattle.rd_depend.specs.Index.{IsIndexOf}
-use Rattle.rd_journal.specs.Records.{live_records, undone_records, kept_records}
+use Rattle.rd_journal.specs.Records.{live_records, ahead_records, kept_records}
 use Rattle.rd_journal.proofs.IndexedLemmas.{reaches, reached, reaches_within}
 use Rattle.rd_journal.proofs.indexed_records.IndexedRecords.forget_some_behind.Goals as goal
 
@@ -10,8 +10,8 @@ pub truncate-requires : goal.truncate-requires
 truncate-requires c =
     let self = c.args.self.now in
     let live = live_records self.records in
-    let undone = undone_records self.records in
-    record { few = omega (arith, reaches_within self.index (live ++ undone) self.indexed, length-append live undone, self.few) }
+    let ahead = ahead_records self.records in
+    record { few = omega (arith, reaches_within self.index (live ++ ahead) self.indexed, length-append live ahead, self.few) }
 
 pub invariant_of-self : goal.invariant_of-self
 invariant_of-self c =

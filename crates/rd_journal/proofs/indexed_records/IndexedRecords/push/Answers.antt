@@ -1,6 +1,6 @@
 use Rattle.std.proofs.Common.{◌≡◌, ◌+◌, ◌≤◌, ◌∷◌, [], length, take, ◌∙◌, ap, arith, length-append}
 use Rattle.std.proofs.lemmas.List.{take-append-le}
-use Rattle.rd_journal.specs.Records.{live_records, undone_records, kept_records}
+use Rattle.rd_journal.specs.Records.{live_records, ahead_records, kept_records}
 use Rattle.rd_journal.proofs.IndexedLemmas.{same_beginning, alike}
 use Rattle.rd_journal.proofs.indexed_records.IndexedRecords.push.Goals as goal
 
@@ -17,6 +17,6 @@ invariant_of-self c =
     record {
       indexed =
           same_beginning mid.index (kept_records mid.records) (kept_records new)
-          (alike live (undone_records mid.records) (live_records new) (undone_records new) m within (omega arith) same) mid.indexed;
-      few = omega (arith, longer, ap length c.push.ensures.undone, ap (λ r. length (live_records r)) records, c.requires.few);
+          (alike live (ahead_records mid.records) (live_records new) (ahead_records new) m within (omega arith) same) mid.indexed;
+      few = omega (arith, longer, ap length c.push.ensures.ahead, ap (λ r. length (live_records r)) records, c.requires.few);
     }

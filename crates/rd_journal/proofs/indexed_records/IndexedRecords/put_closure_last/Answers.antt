@@ -1,5 +1,5 @@
 use Rattle.std.proofs.Common.{◌≡◌, ◌-◌, ◌≤◌, length, take, ◌∙◌, ap, arith}
-use Rattle.rd_journal.specs.Records.{live_records, undone_records, kept_records}
+use Rattle.rd_journal.specs.Records.{live_records, ahead_records, kept_records}
 use Rattle.rd_journal.proofs.IndexedLemmas.{same_beginning, alike, closure_begins}
 use Rattle.rd_journal.proofs.indexed_records.IndexedRecords.put_closure_last.Goals as goal
 
@@ -16,6 +16,6 @@ invariant_of-self c =
     record {
       indexed =
           same_beginning mid.index (kept_records mid.records) (kept_records new)
-          (alike live (undone_records mid.records) (live_records new) (undone_records new) m (omega arith) (omega (arith, said.len)) same) mid.indexed;
-      few = omega (arith, said.len, ap length said.undone, mid.few);
+          (alike live (ahead_records mid.records) (live_records new) (ahead_records new) m (omega arith) (omega (arith, said.len)) same) mid.indexed;
+      few = omega (arith, said.len, ap length said.ahead, mid.few);
     }

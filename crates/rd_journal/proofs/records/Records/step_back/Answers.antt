@@ -9,8 +9,8 @@ returns-clause-live c =
     let self = c.args.self.now in
     cut_short (all_records self) self.live (omega (arith, all-length self, self.within))
 
-pub returns-clause-undone : goal.returns-clause-undone
+pub returns-clause-ahead : goal.returns-clause-ahead
 unfolding all_records
-returns-clause-undone c =
+returns-clause-ahead c =
     let self = c.args.self.now in
-    cut_back (all_records self) self.live self.undone (omega (arith, live-length self, c.requires)) (omega (arith, all-length self, self.within))
+    cut_back (all_records self) self.live self.ahead (omega (arith, live-length self, c.requires)) (omega (arith, all-length self, self.within))

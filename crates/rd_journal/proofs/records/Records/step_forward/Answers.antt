@@ -1,16 +1,16 @@
 use Rattle.std.proofs.Common.{arith}
 use Rattle.rd_journal.specs.Records.{all_records}
-use Rattle.rd_journal.proofs.RecordLemmas.{undone-length, cut_on, cut_on_rest}
+use Rattle.rd_journal.proofs.RecordLemmas.{ahead-length, cut_on, cut_on_rest}
 use Rattle.rd_journal.proofs.records.Records.step_forward.Goals as goal
 
 pub returns-clause-live : goal.returns-clause-live
 unfolding all_records
 returns-clause-live c =
     let self = c.args.self.now in
-    cut_on (all_records self) self.live self.undone (omega (arith, undone-length self))
+    cut_on (all_records self) self.live self.ahead (omega (arith, ahead-length self))
 
-pub returns-clause-undone : goal.returns-clause-undone
+pub returns-clause-ahead : goal.returns-clause-ahead
 unfolding all_records
-returns-clause-undone c =
+returns-clause-ahead c =
     let self = c.args.self.now in
-    cut_on_rest (all_records self) self.live self.undone (omega (arith, undone-length self))
+    cut_on_rest (all_records self) self.live self.ahead (omega (arith, ahead-length self))

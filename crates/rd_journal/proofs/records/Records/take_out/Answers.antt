@@ -33,12 +33,12 @@ returns-clause-live c =
     ∙ behind_before (all_records self) c.args.k self.live c.requires.some (omega (arith, live-length self, c.requires.position))
     (omega (arith, all-length self, self.within))
 
-pub returns-clause-undone : goal.returns-clause-undone
+pub returns-clause-ahead : goal.returns-clause-ahead
 unfolding all_records
-returns-clause-undone c =
+returns-clause-ahead c =
     let self = c.args.self.now in
     let below = order_below (length self.slots.items) self.order.items self.order_of_all in
-    ap (λ (ns : List ℕ). take (self.undone + 1) (drop (self.live - 1) (at_numbers self.slots.items ns))) c.move_behind.ensures.moved
-    ∙ ap (λ (es : List Entry). take (self.undone + 1) (drop (self.live - 1) es)) (at-moved_behind self.slots.items self.order.items c.args.k self.live below)
-    ∙ taken_out (all_records self) c.args.k self.live self.undone c.requires.some (omega (arith, live-length self, c.requires.position))
+    ap (λ (ns : List ℕ). take (self.ahead + 1) (drop (self.live - 1) (at_numbers self.slots.items ns))) c.move_behind.ensures.moved
+    ∙ ap (λ (es : List Entry). take (self.ahead + 1) (drop (self.live - 1) es)) (at-moved_behind self.slots.items self.order.items c.args.k self.live below)
+    ∙ taken_out (all_records self) c.args.k self.live self.ahead c.requires.some (omega (arith, live-length self, c.requires.position))
     (omega (arith, all-length self, self.within))

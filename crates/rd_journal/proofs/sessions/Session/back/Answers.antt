@@ -1,5 +1,6 @@
 use Rattle.std.proofs.Common.{◌≤◌, length, arith}
 use Rattle.rd_journal.specs.Sessions.{journal, state}
+use Rattle.rd_journal.proofs.Ahead.{is_session}
 use Rattle.rd_journal.proofs.Calls.{live_len, back_goes, before_last}
 use Rattle.rd_journal.proofs.sessions.Session.back.Goals as goal
 
@@ -11,4 +12,4 @@ returns-clause-ok g c =
 pub returns-clause-run : goal.returns-clause-run
 returns-clause-run g c =
     before_last g.row.R c.args.n (journal c.args.self.now) (journal c.undo_many.new.self) c.undo_many.ensures.records
-    c.undo_many.new.self.kept.runs c.undo_many.ensures.state
+    (is_session c.undo_many.new.self).runs c.undo_many.ensures.state

@@ -1,5 +1,6 @@
 use Rattle.std.proofs.Common.{◌-◌, inl, inr, arith}
 use Rattle.rd_journal.specs.Sessions.{journal}
+use Rattle.rd_journal.proofs.Ahead.{is_session}
 use Rattle.rd_journal.proofs.Calls.{entry_missing, entry_found}
 use Rattle.rd_journal.proofs.Words.{step_after}
 use Rattle.rd_journal.proofs.sessions.Session.entry.Goals as goal
@@ -18,4 +19,10 @@ returns-clause-found g c =
 pub returns-clause-step : goal.returns-clause-step
 returns-clause-step g c =
     let x = c.live_at.result.now in
-    step_after g.row.R (journal c.args.self.now) (c.args.k - 1) x c.args.self.now.kept.runs (omega (arith, c.len-len.ensures.records)) c.live_at.ensures
+    step_after g.row.R (journal c.args.self.now) (c.args.k - 1) x (is_session c.args.self.now).runs (omega (arith, c.len-len.ensures.records)) c.live_at.ensures
+
+pub returns-then-k-eq0-clause-runs : goal.returns-then-k-eq0-clause-runs
+returns-then-k-eq0-clause-runs g c = (is_session c.args.self.now).runs
+
+pub returns-clause-runs : goal.returns-clause-runs
+returns-clause-runs g c = (is_session c.args.self.now).runs

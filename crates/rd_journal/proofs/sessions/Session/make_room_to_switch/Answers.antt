@@ -1,7 +1,6 @@
-use Rattle.std.proofs.Common.{arith}
+use Rattle.std.proofs.Common.{ap, arith, length, take}
 use Rattle.rd_step.specs.Prelude.{model, room}
-use Rattle.rd_journal.specs.Kept.{journal_of}
-use Rattle.rd_journal.specs.Sessions.{journal}
+use Rattle.rd_journal.specs.Kept.{whole_journal}
 use Rattle.rd_journal.proofs.Calls.{same_session}
 use Rattle.rd_journal.proofs.sessions.Session.make_room_to_switch.Goals as goal
 
@@ -10,9 +9,10 @@ invariant_of-self g c =
     let self = c.args.self.now in
     record {
       kept =
-          same_session g.row.R (journal self) (journal_of (model self.world) c.make_room_for.new.self) (room self.world) (room self.world) self.kept
-          (λ i. record { world = model self.world; live = c.make_room_for.ensures.live i; undone = c.make_room_for.ensures.undone i })
+          same_session g.row.R (whole_journal (model self.world) self.records) (whole_journal (model self.world) c.make_room_for.new.self) (room self.world) (room self.world) self.kept
+          (λ i. record { world = model self.world; live = c.make_room_for.ensures.live i; undone = c.make_room_for.ensures.ahead i })
           (λ m. omega arith);
+      within = omega (arith, self.within, ap length c.make_room_for.ensures.ahead);
     }
 
 pub invariant_of-self-2 : goal.invariant_of-self-2
@@ -20,19 +20,20 @@ invariant_of-self-2 g c =
     let self = c.args.self.now in
     record {
       kept =
-          same_session g.row.R (journal self) (journal_of (model c.make_room_for_makings.new.world) c.make_room_for.new.self) (room self.world)
+          same_session g.row.R (whole_journal (model self.world) self.records) (whole_journal (model c.make_room_for_makings.new.world) c.make_room_for.new.self) (room self.world)
           (room c.make_room_for_makings.new.world) self.kept
           (λ i. record {
             world = c.make_room_for_makings.ensures.unchanged i;
             live = c.make_room_for.ensures.live i;
-            undone = c.make_room_for.ensures.undone i;
+            undone = c.make_room_for.ensures.ahead i;
           })
           c.make_room_for_makings.ensures.room;
+      within = omega (arith, self.within, ap length c.make_room_for.ensures.ahead);
     }
 
 pub returns-clause-unchanged : goal.returns-clause-unchanged
 returns-clause-unchanged g c = λ i. record {
   world = c.make_room_for_makings.ensures.unchanged i;
   live = c.make_room_for.ensures.live i;
-  undone = c.make_room_for.ensures.undone i;
+  undone = take c.args.self.now.undone (c.make_room_for.ensures.ahead i);
 }

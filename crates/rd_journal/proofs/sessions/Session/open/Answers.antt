@@ -1,11 +1,13 @@
+use Rattle.std.proofs.Common.{arith}
 use Rattle.rd_step.specs.Prelude.{model, room}
-use Rattle.rd_journal.specs.Kept.{journal_of}
+use Rattle.rd_journal.specs.Kept.{whole_journal}
 use Rattle.rd_journal.proofs.Calls.{opened_session}
 use Rattle.rd_journal.proofs.sessions.Session.open.Goals as goal
 
 pub invariant_of-result : goal.invariant_of-result
 invariant_of-result g c = record {
   kept =
-      opened_session g.row.R (journal_of (model c.args.world) c.new.result) (room c.args.world) c.args.world.well_formed
-      c.new.ensures.live c.new.ensures.undone;
+      opened_session g.row.R (whole_journal (model c.args.world) c.new.result) (room c.args.world) c.args.world.well_formed
+      c.new.ensures.live c.new.ensures.ahead;
+  within = omega arith;
 }

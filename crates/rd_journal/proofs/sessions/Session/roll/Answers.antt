@@ -1,6 +1,7 @@
 use Rattle.std.proofs.Common.{◌≤◌, ◌∙◌, Ok, length, inl, inr, sym, ap, arith}
 use Rattle.rd_journal.specs.Sessions.{journal}
 use Rattle.rd_journal.specs.State.{State}
+use Rattle.rd_journal.proofs.Ahead.{is_session}
 use Rattle.rd_journal.proofs.RolledBack.{rolled_state, rolled_run, roll_answer_missing, roll_answer_there, roll_missing, roll_there}
 use Rattle.rd_journal.proofs.sessions.Session.roll.Goals as goal
 use Rattle.rd_journal.proofs.sessions.Session.roll.Goals.{then-len-k-via-then-len-k, then-len-k-via-else-len-k+then-k-eq0}
@@ -19,7 +20,7 @@ pub returns-clause-ok : goal.returns-clause-ok
 returns-clause-ok g c =
     let old = journal c.args.self.now in
     let within : c.args.k ≤ length old.live = omega (arith, c.len-len.ensures.records) in
-    roll_there g.row.R old c.args.k c.args.self.now.kept.runs (omega arith) within
+    roll_there g.row.R old c.args.k (is_session c.args.self.now).runs (omega arith) within
     ∙ ap (λ (s : State). Ok s) (sym (rolled_state c.args.k old (journal c.undo_closure.new.self) c.undo_closure.ensures.records c.undo_closure.ensures.start))
 
 pub returns-clause-answer : goal.returns-clause-answer
@@ -31,4 +32,4 @@ returns-clause-answer g c =
 pub returns-clause-run : goal.returns-clause-run
 returns-clause-run g c =
     rolled_run g.row.R c.args.k (journal c.args.self.now) (journal c.undo_closure.new.self) c.undo_closure.ensures.records
-    c.undo_closure.ensures.start c.undo_closure.new.self.kept.runs
+    c.undo_closure.ensures.start (is_session c.undo_closure.new.self).runs

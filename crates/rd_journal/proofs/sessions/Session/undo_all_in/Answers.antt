@@ -2,6 +2,7 @@ use Rattle.std.proofs.Common.{◌≡◌, ℕ, ◌-◌, ◌+◌, sym, subst, arit
 use Rattle.rd_step.specs.Prelude.{World, model}
 use Rattle.rd_journal.specs.Journal.{start_of}
 use Rattle.rd_journal.specs.Sessions.{journal}
+use Rattle.rd_journal.proofs.Ahead.{is_session}
 use Rattle.rd_journal.proofs.Starting.{IsPartWay, all_left, none_left, may_go_on}
 use Rattle.rd_journal.proofs.sessions.Session.undo_all_in.Goals as goal
 
@@ -9,7 +10,7 @@ pub loop-undone-init : goal.loop-undone-init
 loop-undone-init g c = record {
   part_way =
       all_left g.row.R (model c.args.world.now) (journal c.args.self.now) (c.live_len-live.result - 0) c.requires
-      (omega (arith, c.live_len-live.ensures)) c.args.self.now.kept.runs;
+      (omega (arith, c.live_len-live.ensures)) (is_session c.args.self.now).runs;
 }
 
 pub unstep-requires : goal.unstep-requires

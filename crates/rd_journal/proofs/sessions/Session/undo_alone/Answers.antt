@@ -1,7 +1,9 @@
-use Rattle.std.proofs.Common.{arith}
+use Rattle.std.proofs.Common.{◌+◌, ap, arith, length}
 use Rattle.rd_step.specs.Prelude.{model, room}
 use Rattle.rd_journal.specs.Moves.{IsTakenOutAt}
-use Rattle.rd_journal.specs.Kept.{journal_of}
+use Rattle.rd_journal.specs.Kept.{whole_journal, with_undone}
+use Rattle.rd_journal.specs.Sessions.{journal}
+use Rattle.rd_journal.proofs.Ahead.{out_undone}
 use Rattle.rd_journal.proofs.LoneUndo.{IsNumber, may_undo_at, one_out_state, taken_out_front, taken_out_few}
 use Rattle.rd_journal.proofs.RoomLemmas.{given_back}
 use Rattle.rd_journal.proofs.sessions.Session.undo_alone.Goals as goal
@@ -9,7 +11,7 @@ use Rattle.rd_journal.proofs.sessions.Session.undo_alone.Goals as goal
 pub unstep-requires : goal.unstep-requires
 unstep-requires g c =
     let self = c.args.self.now in
-    let old = journal_of (model self.world) self.records in
+    let old = whole_journal (model self.world) self.records in
     let x = c.live_at.result.now in
     let at : IsNumber old.live c.args.k x = record { some = c.requires.some; within = c.requires.position; here = c.live_at.ensures } in
     (omega (arith, self.world.small), (may_undo_at g.row.R old c.args.k x at c.requires.free self.kept.runs).was)
@@ -17,29 +19,37 @@ unstep-requires g c =
 pub invariant_of-self : goal.invariant_of-self
 invariant_of-self g c =
     let self = c.args.self.now in
-    let old = journal_of (model self.world) self.records in
-    let new = journal_of (model c.unstep.new.world) c.take_out.new.self in
+    let old = whole_journal (model self.world) self.records in
+    let new = whole_journal (model c.unstep.new.world) c.take_out.new.self in
     let x = c.live_at.result.now in
     let at : IsNumber old.live c.args.k x = record { some = c.requires.some; within = c.requires.position; here = c.live_at.ensures } in
-    let moved : IsTakenOutAt c.args.k old new = record { live = c.take_out.ensures.live; undone = c.take_out.ensures.undone } in
+    let moved : IsTakenOutAt c.args.k old new = record { live = c.take_out.ensures.live; undone = c.take_out.ensures.ahead } in
     let may = may_undo_at g.row.R old c.args.k x at c.requires.free self.kept.runs in
+    let front = taken_out_front c.args.k old new x at moved in
     record {
       kept = record {
         few = taken_out_few c.args.k old new x at moved self.kept.few;
         runs = may.runs new (c.unstep.ensures.taken_out may.was) moved;
-        has_room =
-            given_back old.undone new.undone x (room self.world) (room c.unstep.new.world) (taken_out_front c.args.k old new x at moved)
-            self.kept.has_room c.unstep.ensures.room;
+        has_room = given_back old.undone new.undone x (room self.world) (room c.unstep.new.world) front self.kept.has_room c.unstep.ensures.room;
       };
+      within = omega (arith, self.within, ap length front);
     }
+
+pub returns-clause-records : goal.returns-clause-records
+returns-clause-records g c =
+    let self = c.args.self.now in
+    let old = whole_journal (model self.world) self.records in
+    let new = whole_journal (model c.unstep.new.world) c.take_out.new.self in
+    out_undone self.undone c.args.k old new c.requires.some c.requires.position (record { live = c.take_out.ensures.live; undone = c.take_out.ensures.ahead })
 
 pub returns-clause-state : goal.returns-clause-state
 returns-clause-state g c =
     let self = c.args.self.now in
-    let old = journal_of (model self.world) self.records in
-    let new = journal_of (model c.unstep.new.world) c.take_out.new.self in
+    let old = whole_journal (model self.world) self.records in
+    let new = whole_journal (model c.unstep.new.world) c.take_out.new.self in
     let x = c.live_at.result.now in
     let at : IsNumber old.live c.args.k x = record { some = c.requires.some; within = c.requires.position; here = c.live_at.ensures } in
-    let moved : IsTakenOutAt c.args.k old new = record { live = c.take_out.ensures.live; undone = c.take_out.ensures.undone } in
+    let moved : IsTakenOutAt c.args.k old new = record { live = c.take_out.ensures.live; undone = c.take_out.ensures.ahead } in
     let may = may_undo_at g.row.R old c.args.k x at c.requires.free self.kept.runs in
-    one_out_state c.args.k old new moved (may.start new (c.unstep.ensures.taken_out may.was) moved)
+    one_out_state c.args.k (journal self) (with_undone (self.undone + 1) new) (out_undone self.undone c.args.k old new c.requires.some c.requires.position moved)
+    (may.start new (c.unstep.ensures.taken_out may.was) moved)

@@ -3,6 +3,7 @@ use Rattle.rd_step.specs.Prelude.{first_dependant}
 use Rattle.rd_journal.specs.Moves.{answer_unless}
 use Rattle.rd_journal.specs.Sessions.{journal, state}
 use Rattle.rd_journal.specs.State.{State, one_out_unless}
+use Rattle.rd_journal.proofs.Ahead.{is_session}
 use Rattle.rd_journal.proofs.LoneUndo.{answer_missing, undo_at_missing, answer_there, undo_at_there, without_it}
 use Rattle.rd_journal.proofs.sessions.Session.undo_at.Goals as goal
 use Rattle.rd_journal.proofs.sessions.Session.undo_at.Goals.{then-len-k-via-then-len-k, then-len-k-via-else-len-k+then-k-eq0}
@@ -31,7 +32,7 @@ returns-in-Some-clause-err g c =
     let within : c.args.k ≤ length old.live = omega (arith, c.len-len.ensures.records) in
     let first : first_dependant old.live c.args.k ≡ Some c.in-Some.dependant =
     sym c.in-Some.ensures in
-    undo_at_there g.row.R old c.args.k c.args.self.now.kept.runs (omega arith) within ∙ ap (one_out_unless (state c.args.self.now) c.args.k) first
+    undo_at_there g.row.R old c.args.k (is_session c.args.self.now).runs (omega arith) within ∙ ap (one_out_unless (state c.args.self.now) c.args.k) first
 
 pub undo_alone-requires : goal.undo_alone-requires
 undo_alone-requires g c = (
@@ -51,7 +52,7 @@ returns-clause-ok g c =
     let within : c.args.k ≤ length old.live = omega (arith, c.len-len.ensures.records) in
     let first : first_dependant old.live c.args.k ≡ None =
     sym c.first_dependant.ensures ∙ c.in_default.is in
-    undo_at_there g.row.R old c.args.k c.args.self.now.kept.runs (omega arith) within
+    undo_at_there g.row.R old c.args.k (is_session c.args.self.now).runs (omega arith) within
     ∙ ap (one_out_unless (state c.args.self.now) c.args.k) first ∙ ap (λ (s : State). Ok s) (sym c.undo_alone.ensures.state)
 
 pub returns-clause-answer : goal.returns-clause-answer
@@ -65,4 +66,4 @@ returns-clause-answer g c =
 pub returns-clause-run : goal.returns-clause-run
 returns-clause-run g c =
     without_it g.row.R c.args.k (journal c.args.self.now) (journal c.undo_alone.new.self) c.undo_alone.ensures.records
-    c.undo_alone.ensures.state c.undo_alone.new.self.kept.runs
+    c.undo_alone.ensures.state (is_session c.undo_alone.new.self).runs

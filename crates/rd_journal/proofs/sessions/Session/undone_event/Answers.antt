@@ -1,4 +1,6 @@
-use Rattle.std.proofs.Common.{inl, inr, arith}
+use Rattle.std.proofs.Common.{◌-◌, ◌<◌, ◌∙◌, inl, inr, sym, arith}
+use Rattle.std.proofs.lemmas.List.{length-take, get_or-take}
+use Rattle.rd_journal.specs.Records.{ahead_records}
 use Rattle.rd_journal.specs.Sessions.{journal}
 use Rattle.rd_journal.proofs.Starting.{event_missing, event_found}
 use Rattle.rd_journal.proofs.sessions.Session.undone_event.Goals as goal
@@ -9,7 +11,16 @@ returns-then-i-eq0 g c =
     event_missing (journal c.args.self.now).undone c.args.i
     (elim c.then-i-eq0.branch [ then-i-eq0-via-then-i-eq0 w ↦ inl (omega arith) | then-i-eq0-via-else-i-eq0+then-i-undone_len w ↦ inr (omega (arith, w.undone_len.ensures.records)) ])
 
+pub ahead_at-requires : goal.ahead_at-requires
+ahead_at-requires g c =
+    let self = c.args.self.now in
+    record { within = omega (arith, c.undone_len.ensures.records, length-take self.undone (ahead_records self.records.records)) }
+
 pub returns : goal.returns
 returns g c =
-    event_found (journal c.args.self.now).undone c.args.i c.undone_at.result.now (omega arith) (omega (arith, c.undone_len.ensures.records))
-    c.undone_at.ensures
+    let self = c.args.self.now in
+    let all = ahead_records self.records.records in
+    let x = c.ahead_at.result.now in
+    let below : c.args.i - 1 < self.undone = omega (arith, c.undone_len.ensures.records, length-take self.undone all) in
+    event_found (journal self).undone c.args.i x (omega arith) (omega (arith, c.undone_len.ensures.records))
+    (c.ahead_at.ensures ∙ sym (get_or-take self.undone all (c.args.i - 1) x below))

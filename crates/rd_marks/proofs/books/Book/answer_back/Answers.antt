@@ -16,7 +16,7 @@ invariant_of-self g c =
     start_stays c.back-done.result (journal c.args.self.now.session) (journal c.back-done.new.self) (back old c.args.n)
     (back_start old c.args.n) c.back-done.ensures.ok c.back-done.ensures.unchanged in
     record {
-      kept = marks_stay g.row.R old.start (state c.back-done.new.self).start c.args.self.now.tree.nodes c.args.self.now.marks.entries start c.args.self.now.kept;
+      kept = marks_stay g.row.R old.start (state c.back-done.new.self).start c.args.self.now.tree.nodes c.args.self.now.tree.records.items c.args.self.now.marks.entries start c.args.self.now.kept;
       stands =
           after_undo (mark_tree book.tree) book.tree.kept.tree c.back-done.result book.here c.cut_back-self.result c.len.result (journal book.session) (journal c.back-done.new.self)
           book.stands c.cut_back-self.ensures.present c.cut_back-self.ensures.begins c.cut_back-self.ensures.ok c.back-done.ensures.unchanged c.back-done.ensures.records

@@ -13,7 +13,7 @@ invariant_of-self g c =
     start_stays c.apply.result (journal c.args.self.now.session) (journal c.apply.new.self) (apply g.row.R old c.args.event)
     (apply_start g.row.R old c.args.event) c.apply.ensures.ok c.apply.ensures.unchanged in
     record {
-      kept = marks_stay g.row.R old.start (state c.apply.new.self).start c.args.self.now.tree.nodes c.args.self.now.marks.entries start c.args.self.now.kept;
+      kept = marks_stay g.row.R old.start (state c.apply.new.self).start c.args.self.now.tree.nodes c.args.self.now.tree.records.items c.args.self.now.marks.entries start c.args.self.now.kept;
       stands =
           after_apply (mark_tree book.tree) c.apply.result book.here (journal book.session) (journal c.apply.new.self) book.stands c.apply.ensures.unchanged c.apply.ensures.records;
     }

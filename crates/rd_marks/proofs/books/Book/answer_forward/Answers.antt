@@ -16,7 +16,7 @@ invariant_of-self g c =
     start_stays c.forward-done.result (journal c.args.self.now.session) (journal c.forward-done.new.self) (forward old c.args.n)
     (forward_start old c.args.n) c.forward-done.ensures.ok c.forward-done.ensures.unchanged in
     record {
-      kept = marks_stay g.row.R old.start (state c.forward-done.new.self).start c.args.self.now.tree.nodes c.args.self.now.marks.entries start c.args.self.now.kept;
+      kept = marks_stay g.row.R old.start (state c.forward-done.new.self).start c.args.self.now.tree.nodes c.args.self.now.tree.records.items c.args.self.now.marks.entries start c.args.self.now.kept;
       stands =
           after_redo (mark_tree book.tree) c.forward-done.result book.here (journal book.session) (journal c.forward-done.new.self) book.stands c.forward-done.ensures.unchanged
           c.forward-done.ensures.records (forward_leaves c.args.n (journal book.session) (journal c.forward-done.new.self));

@@ -16,7 +16,7 @@ invariant_of-self g c =
     start_stays c.redo-done.result (journal c.args.self.now.session) (journal c.redo-done.new.self) (redo old)
     (redo_start old) c.redo-done.ensures.ok c.redo-done.ensures.unchanged in
     record {
-      kept = marks_stay g.row.R old.start (state c.redo-done.new.self).start c.args.self.now.tree.nodes c.args.self.now.marks.entries start c.args.self.now.kept;
+      kept = marks_stay g.row.R old.start (state c.redo-done.new.self).start c.args.self.now.tree.nodes c.args.self.now.tree.records.items c.args.self.now.marks.entries start c.args.self.now.kept;
       stands =
           after_redo (mark_tree book.tree) c.redo-done.result book.here (journal book.session) (journal c.redo-done.new.self) book.stands c.redo-done.ensures.unchanged
           c.redo-done.ensures.records (forward_leaves 1 (journal book.session) (journal c.redo-done.new.self));

@@ -16,7 +16,7 @@ invariant_of-self g c =
     start_stays c.roll-done.result (journal c.args.self.now.session) (journal c.roll-done.new.self) (roll g.row.R old c.args.k)
     (roll_start g.row.R old c.args.k) c.roll-done.ensures.ok c.roll-done.ensures.unchanged in
     record {
-      kept = marks_stay g.row.R old.start (state c.roll-done.new.self).start c.args.self.now.tree.nodes c.args.self.now.marks.entries start c.args.self.now.kept;
+      kept = marks_stay g.row.R old.start (state c.roll-done.new.self).start c.args.self.now.tree.nodes c.args.self.now.tree.records.items c.args.self.now.marks.entries start c.args.self.now.kept;
       stands =
           after_undo (mark_tree book.tree) book.tree.kept.tree c.roll-done.result book.here c.cut_back-self.result c.saturating_sub.result (journal book.session) (journal c.roll-done.new.self)
           book.stands c.cut_back-self.ensures.present c.cut_back-self.ensures.begins c.cut_back-self.ensures.ok c.roll-done.ensures.unchanged c.roll-done.ensures.records

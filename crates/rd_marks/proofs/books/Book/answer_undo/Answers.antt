@@ -16,7 +16,7 @@ invariant_of-self g c =
     start_stays c.undo-done.result (journal c.args.self.now.session) (journal c.undo-done.new.self) (undo old)
     (undo_start old) c.undo-done.ensures.ok c.undo-done.ensures.unchanged in
     record {
-      kept = marks_stay g.row.R old.start (state c.undo-done.new.self).start c.args.self.now.tree.nodes c.args.self.now.marks.entries start c.args.self.now.kept;
+      kept = marks_stay g.row.R old.start (state c.undo-done.new.self).start c.args.self.now.tree.nodes c.args.self.now.tree.records.items c.args.self.now.marks.entries start c.args.self.now.kept;
       stands =
           after_undo (mark_tree book.tree) book.tree.kept.tree c.undo-done.result book.here c.cut_back-self.result c.len.result (journal book.session) (journal c.undo-done.new.self)
           book.stands c.cut_back-self.ensures.present c.cut_back-self.ensures.begins c.cut_back-self.ensures.ok c.undo-done.ensures.unchanged c.undo-done.ensures.records

@@ -16,7 +16,7 @@ invariant_of-self g c =
     start_stays c.undo_at-done.result (journal c.args.self.now.session) (journal c.undo_at-done.new.self) (undo_at g.row.R old c.args.k)
     (undo_at_start g.row.R old c.args.k) c.undo_at-done.ensures.ok c.undo_at-done.ensures.unchanged in
     record {
-      kept = marks_stay g.row.R old.start (state c.undo_at-done.new.self).start c.args.self.now.tree.nodes c.args.self.now.marks.entries start c.args.self.now.kept;
+      kept = marks_stay g.row.R old.start (state c.undo_at-done.new.self).start c.args.self.now.tree.nodes c.args.self.now.tree.records.items c.args.self.now.marks.entries start c.args.self.now.kept;
       stands =
           after_undo (mark_tree book.tree) book.tree.kept.tree c.undo_at-done.result book.here c.cut_back-self.result c.saturating_sub.result (journal book.session) (journal c.undo_at-done.new.self)
           book.stands c.cut_back-self.ensures.present c.cut_back-self.ensures.begins c.cut_back-self.ensures.ok c.undo_at-done.ensures.unchanged c.undo_at-done.ensures.records

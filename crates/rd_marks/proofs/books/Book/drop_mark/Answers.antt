@@ -29,14 +29,16 @@ prune-requires-clause-marked g c =
 pub prune-requires-clause-used : goal.prune-requires-clause-used
 prune-requires-clause-used g c =
     let t = mark_tree c.args.self.now.tree in
-    let kept = keeps g.row.R (state c.args.self.now.session).start c.args.self.now.tree.nodes c.args.self.now.marks.entries c.args.self.now.kept in
+    let kept = keeps g.row.R (state c.args.self.now.session).start c.args.self.now.tree.nodes c.args.self.now.tree.records.items c.args.self.now.marks.entries
+    c.args.self.now.tree.kept.recorded c.args.self.now.kept in
     subst (λ (xs : List (MarkName × Option ℕ)). AreUsedExcept t xs c.in-Some.node.now) (sym c.shift_remove-gone.ensures.entries)
     (used_without t c.args.name c.args.self.now.marks.entries c.in-Some.node.now (sym c.in-Some.ensures.value) kept.used)
 
 pub invariant_of-self : goal.invariant_of-self
 invariant_of-self g c = record {
   kept =
-      kept_without g.row.R (state c.args.self.now.session).start c.args.self.now.tree.nodes c.prune.new.tree.nodes c.args.name c.args.self.now.marks.entries
+      kept_without g.row.R (state c.args.self.now.session).start c.args.self.now.tree.nodes c.prune.new.tree.nodes c.args.self.now.tree.records.items
+      c.prune.new.tree.records.items c.args.name c.args.self.now.marks.entries
       c.shift_remove-gone.new.self.entries c.shift_remove-gone.ensures.entries c.args.self.now.kept c.prune.new.tree.kept.tree c.prune.ensures.part c.prune.ensures.marked c.prune.ensures.used;
   stands = record {
     present = c.prune.ensures.here;

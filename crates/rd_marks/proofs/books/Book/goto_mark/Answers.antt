@@ -37,7 +37,7 @@ invariant_of-self g c =
     let book = c.args.self.now in
     let same = c.in_err-switch_to.ensures.unchanged in
     record {
-      kept = marks_stay g.row.R (state book.session).start (state c.switch_to.new.session).start book.tree.nodes book.marks.entries (ap start_of same) book.kept;
+      kept = marks_stay g.row.R (state book.session).start (state c.switch_to.new.session).start book.tree.nodes book.tree.records.items book.marks.entries (ap start_of same) book.kept;
       stands = subst (λ (j : Journal). IsHere (mark_tree book.tree) book.here (state_of j).live) (sym same) book.stands;
     }
 
@@ -55,7 +55,7 @@ invariant_of-self-2 g c =
     let went = c.in_ok-switch_to.ensures.ok in
     record {
       kept =
-          marks_stay g.row.R (state book.session).start (state c.switch_to.new.session).start book.tree.nodes book.marks.entries (ap (λ (s : State). s.start) went)
+          marks_stay g.row.R (state book.session).start (state c.switch_to.new.session).start book.tree.nodes book.tree.records.items book.marks.entries (ap (λ (s : State). s.start) went)
           book.kept;
       stands =
           stands_at t c.in-Some.node.now (state c.switch_to.new.session).live

@@ -12,7 +12,7 @@ invariant_of-self g c =
     let went = c.in-Ok.ensures.ok in
     record {
       kept =
-          marks_stay g.row.R (state book.session).start (state c.switch.new.self).start book.tree.nodes book.marks.entries (ap (λ (s : State). s.start) went)
+          marks_stay g.row.R (state book.session).start (state c.switch.new.self).start book.tree.nodes book.tree.records.items book.marks.entries (ap (λ (s : State). s.start) went)
           book.kept;
       stands = stands_at (mark_tree book.tree) None (state c.switch.new.self).live refl (sym (ap (λ (s : State). s.live) went));
     }

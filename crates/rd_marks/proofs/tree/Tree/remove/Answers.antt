@@ -1,6 +1,6 @@
-use Rattle.std.proofs.Common.{List, ℕ, None, sym, subst}
+use Rattle.std.proofs.Common.{List, ℕ, sym, subst}
 use Rattle.rd_marks.specs.TreeLayout.{tree_of, known_in, AreLinked}
-use Rattle.rd_marks.proofs.NodeLemmas.{changes_tree, knows_as_before}
+use Rattle.rd_marks.proofs.NodeLemmas.{takes_node, recorded_without, knows_as_before}
 use Rattle.rd_marks.proofs.TreeChanges.{tree_without, linked_without}
 use Rattle.rd_marks.proofs.tree.Tree.remove.Goals as goal
 
@@ -8,13 +8,17 @@ pub invariant_of-self : goal.invariant_of-self
 invariant_of-self c =
     let old = c.args.self.now in
     let nodes = c.remove-node.new.self in
-    let change = changes_tree old.nodes nodes c.args.key None c.remove-node.ensures.updates in
+    let records = old.records.items in
+    let key = c.args.key in
+    let updates = c.remove-node.ensures.updates in
+    let change = takes_node old.nodes nodes records key updates in
     record {
       kept = record {
-        tree = tree_without (tree_of old.nodes) (tree_of nodes) c.args.key old.kept.tree c.requires.leaf change;
+        tree = tree_without (tree_of old.nodes records) (tree_of nodes records) key old.kept.tree c.requires.leaf change;
         linked =
-            subst (λ (fs : List ℕ). AreLinked (tree_of nodes) (known_in nodes old.top) fs) (sym c.forget.ensures)
-            (linked_without (tree_of old.nodes) (tree_of nodes) c.args.key old.kept.tree c.requires.leaf change (known_in old.nodes old.top) (known_in nodes old.top)
-            old.forks.items (knows_as_before old.nodes nodes old.top c.args.key None c.remove-node.ensures.updates) old.kept.linked);
+            subst (λ (fs : List ℕ). AreLinked (tree_of nodes records) (known_in nodes old.top) fs) (sym c.forget.ensures)
+            (linked_without (tree_of old.nodes records) (tree_of nodes records) key old.kept.tree c.requires.leaf change (known_in old.nodes old.top) (known_in nodes old.top)
+            old.forks.items (knows_as_before old.nodes nodes old.top key _ updates) old.kept.linked);
+        recorded = recorded_without old.nodes nodes records key updates old.kept.recorded;
       };
     }

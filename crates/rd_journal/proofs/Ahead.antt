@@ -1,0 +1,142 @@
+-- A journal in which some of the steps ahead are undone, beside the one in which all are.
+use Rattle.std.proofs.Common.{◌≡◌, ℕ, zero, suc, ◌+◌, ◌-◌, ◌<◌, ◌≤◌, refl, sym, ◌∙◌, ap, subst, arith, List, [], ◌∷◌, ◌++◌, length, take, drop, get_or, Result, length-drop}
+use Rattle.std.proofs.Math.Seq.{take-length, drop-length, take-suc}
+use Rattle.std.proofs.lemmas.List.{length-take, length-take-le, map-append, take-append-drop, take-take, drop-take}
+use Rattle.rd_step.specs.Prelude.{Refusal, World, Stepped, run, room}
+use Rattle.rd_step.specs.Run.{run_entries, run_from_step}
+use Rattle.rd_step.specs.declared.entries.Event.{Event}
+use Rattle.rd_step.specs.declared.entries.Entry.{Entry}
+use Rattle.rd_step.proofs.RunParts.{first_step}
+use Rattle.rd_journal.specs.declared.sessions.Session.{Session}
+use Rattle.rd_journal.specs.Journal.{Journal, events, start_of, IsRun, IsRunFrom}
+use Rattle.rd_journal.specs.Kept.{with_undone, IsSession}
+use Rattle.rd_journal.specs.Moves.{IsMovedBack, IsMovedForward, IsTakenOutAt, IsSwitched}
+use Rattle.rd_journal.specs.Room.{room_returned_by}
+use Rattle.rd_journal.specs.Sessions.{journal}
+use Rattle.rd_journal.proofs.RecordLemmas.{take_over}
+use Rattle.rd_journal.proofs.Runs.{as_ok-same, preceded_entries}
+use Rattle.rd_journal.proofs.Switching.{returned_joined, runs_on}
+use Rattle.rd_journal.proofs.Walks.{BeginsUndone}
+
+-- The first steps of a run
+
+-- they are a run
+pub first_run : (R n : ℕ) (w : World) (xs : List Entry) → IsRunFrom R w xs → IsRunFrom R w (take n xs)
+first_run R zero w xs h = refl
+first_run R (suc n) w [] h = h
+first_run R (suc n) w (x ∷ xs) h =
+    let first = first_step R w x xs h in
+    ap (λ (r : Result Stepped Refusal). run_entries (run_from_step (λ v. run R v (events (take n xs))) r)) first.goes
+    ∙ preceded_entries x (run R first.after (events (take n xs))) (take n xs) (first_run R n first.after xs first.rest)
+
+-- runs of the same events leave the same records
+pub same_records : (R : ℕ) (w : World) (xs ys : List Entry) → IsRunFrom R w xs → IsRunFrom R w ys → events xs ≡ events ys → xs ≡ ys
+same_records R w xs ys h k same = as_ok-same xs ys (sym h ∙ ap (λ (es : List Event). run_entries (run R w es)) same ∙ k)
+
+-- the events of one record more
+pub same_events : (xs ys : List Entry) (i : ℕ) (y d : Entry) → i < length xs → i < length ys → y ≡ get_or ys i y → y.event ≡ (get_or xs i d).event
+    → events (take i xs) ≡ events (take i ys) → events (take (i + 1) xs) ≡ events (take (i + 1) ys)
+same_events xs ys i y d within below here same before =
+    let event = λ (z : Entry). z.event in
+    let next : i + 1 ≡ suc i = omega arith in
+    let one_more = λ (zs : List Entry) (z : Entry) (h : i < length zs).
+    ap (λ (n : ℕ). events (take n zs)) next ∙ ap events (take-suc zs i z h) ∙ map-append event (take i zs) (get_or zs i z ∷ []) in
+    one_more xs d within ∙ (λ k. before k ++ (sym same ∙ ap event here) k ∷ []) ∙ sym (one_more ys y below)
+
+-- The session
+
+pub run_undone : (R n : ℕ) (j : Journal) → IsRun R j → IsRun R (with_undone n j)
+run_undone R n j runs = record {
+  well_formed = runs.well_formed;
+  live_ran = runs.live_ran;
+  undone_run_on = first_run R n j.world j.undone runs.undone_run_on;
+}
+
+pub session_undone : (R n : ℕ) (j : Journal) (room : ℕ → ℕ) → IsSession R j room → IsSession R (with_undone n j) room
+session_undone R n j room session = record {
+  few = omega (arith, session.few, length-take n j.undone);
+  runs = run_undone R n j session.runs;
+  has_room = record {
+    at = λ m.
+        let parts = returned_joined (take n j.undone) (drop n j.undone) m in
+        let all = ap (λ (xs : List Entry). room_returned_by xs m) (take-append-drop n j.undone) in
+        let has = session.has_room.at m in
+        omega arith;
+  };
+}
+
+pub is_session : {R : ℕ} (s : Session R) → IsSession R (journal s) (room s.world)
+is_session {R} s = session_undone R s.undone _ (room s.world) s.kept
+
+-- Moves, where n of the steps ahead are undone
+
+pub back_undone : (n k : ℕ) (old new : Journal) → k ≤ length old.live → IsMovedBack k old new → IsMovedBack k (with_undone n old) (with_undone (n + k) new)
+back_undone n k old new few moved =
+    let l = old.live in
+    let len : length (drop (length l - k) l) ≡ k = omega (arith, length-drop (length l - k) l) in
+    record {
+      live = moved.live;
+      undone = ap (take (n + k)) moved.undone ∙ take_over (drop (length l - k) l) old.undone k n len;
+    }
+
+pub forward_undone : (n k : ℕ) (old new : Journal) → k ≤ n → IsMovedForward k old new → IsMovedForward k (with_undone n old) (with_undone (n - k) new)
+forward_undone n k old new enough moved =
+    let all : n ≡ k + (n - k) = omega arith in
+    record {
+      live = moved.live ∙ ap (λ (xs : List Entry). old.live ++ xs) (sym (take-take k n old.undone enough));
+      undone =
+          ap (take (n - k)) moved.undone
+          ∙ sym (ap (λ (m : ℕ). drop k (take m old.undone)) all ∙ drop-take k (n - k) old.undone);
+    }
+
+pub out_undone : (n k : ℕ) (old new : Journal) → 1 ≤ k → k ≤ length old.live → IsTakenOutAt k old new → IsTakenOutAt k (with_undone n old) (with_undone (n + 1) new)
+out_undone n k old new some within moved =
+    let one : length (take 1 (drop (k - 1) old.live)) ≡ 1 = length-take-le 1 (drop (k - 1) old.live) (omega (arith, length-drop (k - 1) old.live)) in
+    record {
+      live = moved.live;
+      undone = ap (take (n + 1)) moved.undone ∙ take_over (take 1 (drop (k - 1) old.live)) old.undone 1 n one;
+    }
+
+-- nothing is undone where nothing is ahead
+pub none_taken : (n : ℕ) (xs : List Entry) → xs ≡ [] → take n xs ≡ []
+none_taken zero xs none = refl
+none_taken (suc n) xs none = ap (take (suc n)) none
+
+-- the next step ahead is the first undone one
+pub first_undone : (n : ℕ) (j : Journal) (x : Entry) → 1 ≤ n → BeginsUndone j x → BeginsUndone (with_undone n j) x
+first_undone zero j x some first = absurd (omega arith)
+first_undone (suc n) j x some first =
+    let cut : take (suc n) j.undone ≡ x ∷ take n (drop 1 j.undone) = ap (take (suc n)) first in
+    cut ∙ ap (λ (xs : List Entry). x ∷ drop 1 xs) (sym cut)
+
+-- The next steps ahead, made again
+
+-- records that follow on from all live steps are those of the next steps ahead, if they are of the same events
+pub next_ahead : (R kept : ℕ) (whole : Journal) (given : List Entry) → IsRun R whole → IsRunFrom R (start_of whole) (take kept whole.live ++ given)
+    → kept ≡ length whole.live → events given ≡ events (take (length given) whole.undone) → given ≡ take (length given) whole.undone
+next_ahead R kept whole given runs h all same =
+    let live : take kept whole.live ≡ whole.live = ap (λ (n : ℕ). take n whole.live) all ∙ take-length whole.live in
+    let follows = subst (λ (xs : List Entry). IsRunFrom R (start_of whole) (xs ++ given)) live h in
+    same_records R whole.world given (take (length given) whole.undone) (runs_on R (start_of whole) whole.world whole.live given runs.live_ran follows)
+    (first_run R (length given) whole.world whole.undone runs.undone_run_on) same
+
+-- all that were undone are live again
+pub gone_on : (n m : ℕ) (old mid new : Journal) (ahead : List Entry) → mid.live ≡ old.live → mid.undone ≡ take n ahead → n ≤ length ahead → m ≡ length old.live
+    → IsMovedForward n mid new → IsSwitched m (take n ahead) old new
+gone_on n m old mid new ahead live undone enough all forward =
+    let len : length mid.undone ≡ n = ap length undone ∙ length-take-le n ahead enough in
+    record {
+      live =
+          forward.live
+          ∙ (λ i. (live ∙ sym (ap (λ (k : ℕ). take k old.live) all ∙ take-length old.live)) i ++ take n (undone i))
+          ∙ ap (λ (xs : List Entry). take m old.live ++ xs) (take-take n n ahead (omega arith));
+      undone = forward.undone ∙ ap (λ (k : ℕ). drop k mid.undone) (sym len) ∙ drop-length mid.undone;
+    }
+
+-- which is a switch to these records, if they are the ones ahead
+pub switched_on : (n : ℕ) (given xs : List Entry) (old new : Journal) → n ≡ length old.live → given ≡ xs → IsSwitched (length old.live) xs old new
+    → IsSwitched n given old new
+switched_on n given xs old new all same is = record {
+  live = is.live ∙ (λ i. take (sym all i) old.live ++ sym same i);
+  undone = is.undone;
+}

@@ -1,0 +1,16 @@
+use Rattle.std.proofs.Common.{◌∙◌, sym, arith, true≢false}
+use Rattle.rd_marks.specs.Tree.{IsChildBy}
+use Rattle.rd_marks.specs.TreeViews.{mark_tree}
+use Rattle.rd_marks.proofs.NodeLemmas.{all_more, all_seen}
+use Rattle.rd_marks.proofs.tree.Tree.fork_by.Goals as goal
+
+pub loop-index-preserved : goal.loop-index-preserved
+loop-index-preserved c =
+    all_more (λ fork. IsChildBy (mark_tree c.args.self.now) fork c.args.at c.args.event.now → ⊥) c.args.self.now.forks.items c.loop-index.index c.index-key.result.now
+    (omega (arith, c.loop-index-test.true, c.len-index-end.ensures)) c.index-key.ensures c.loop-index.invariant
+    (λ h. true≢false (sym (c.is_child_by.ensures.1 h) ∙ c.if-is_child_by.false))
+
+pub returns : goal.returns
+returns c =
+    all_seen (λ fork. IsChildBy (mark_tree c.args.self.now) fork c.args.at c.args.event.now → ⊥) c.args.self.now.forks.items c.loop-index.index
+    (omega (arith, c.loop-index-test.false, c.loop-index.auto.index-end, c.len-index-end.ensures)) c.loop-index.invariant
