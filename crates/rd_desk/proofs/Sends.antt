@@ -97,7 +97,7 @@ pub session_fields : (R : RattleType) → IsSend (Session.the_field R).row
 session_fields R = struct_send (shape (Session.the_type R)) (world_fields R, (indexed_fields, (search (sendable, crosses) depth 60 fits 100000, tt)))
 
 pub node_fields : IsSend (Node.the_field).row
-node_fields = struct_send (shape Node.the_type) (search (sendable, crosses) depth 60 fits 100000, (search (sendable, crosses) depth 60 fits 100000, (search (sendable, crosses) depth 60 fits 100000, tt)))
+node_fields = struct_send (shape Node.the_type) (search (sendable, crosses) depth 60 fits 100000, (search (sendable, crosses) depth 60 fits 100000, (search (sendable, crosses) depth 60 fits 100000, (search (sendable, crosses) depth 60 fits 100000, tt))))
 
 pub node_send : IsSend Node.the_row
 node_send = recorded_send _ _ _ (Node.the_type).to_one node_fields

@@ -19,6 +19,10 @@ pub fn unstep<const R: usize>(world: &mut World<R>, entry: &Entry)
         → IsTakenOut R (model world.old) (model world.new) entry.now was }
     ensures room { (m : ℕ) → room world.new m ≡ room world.old m + room_returned entry.now.place entry.now.old_content m }
 {
-    let (place, content) = entry.overwritten();
-    world.revert(entry.event.actor, entry.old_actor, place, content);
+    let actor = entry.event.actor;
+    if entry.wrote.is_nothing() {
+        world.revert(actor, entry.old_actor, None, None);
+    } else {
+        world.revert(actor, entry.old_actor, entry.place, entry.old_content);
+    }
 }

@@ -1,21 +1,21 @@
 -- A journal in which some of the steps ahead are undone, beside the one in which all are.
-use Rattle.std.proofs.Common.{◌≡◌, ℕ, zero, suc, ◌+◌, ◌-◌, ◌<◌, ◌≤◌, refl, sym, ◌∙◌, ap, subst, arith, List, [], ◌∷◌, ◌++◌, length, take, drop, get_or, Result, length-drop}
-use Rattle.std.proofs.Math.Seq.{take-length, drop-length, take-suc}
-use Rattle.std.proofs.lemmas.List.{length-take, length-take-le, map-append, take-append-drop, take-take, drop-take}
+use Rattle.std.proofs.Common.{◌≡◌, ℕ, zero, suc, ◌+◌, ◌-◌, ◌≤◌, refl, sym, ◌∙◌, ap, arith, List, [], ◌∷◌, ◌++◌, length, take, drop, Result, length-drop}
+use Rattle.std.proofs.Math.Seq.{take-length, drop-length, take-append-add}
+use Rattle.std.proofs.lemmas.List.{length-take, length-take-le, length-map, map-append, append_assoc, take-append-drop, take-append-le, take-map, take-take, drop-take}
 use Rattle.rd_step.specs.Prelude.{Refusal, World, Stepped, run, room}
 use Rattle.rd_step.specs.Run.{run_entries, run_from_step}
 use Rattle.rd_step.specs.declared.entries.Event.{Event}
 use Rattle.rd_step.specs.declared.entries.Entry.{Entry}
 use Rattle.rd_step.proofs.RunParts.{first_step}
 use Rattle.rd_journal.specs.declared.sessions.Session.{Session}
-use Rattle.rd_journal.specs.Journal.{Journal, events, start_of, IsRun, IsRunFrom}
+use Rattle.rd_journal.specs.Journal.{Journal, events, IsRun, IsRunFrom}
 use Rattle.rd_journal.specs.Kept.{with_undone, IsSession}
 use Rattle.rd_journal.specs.Moves.{IsMovedBack, IsMovedForward, IsTakenOutAt, IsSwitched}
 use Rattle.rd_journal.specs.Room.{room_returned_by}
 use Rattle.rd_journal.specs.Sessions.{journal}
 use Rattle.rd_journal.proofs.RecordLemmas.{take_over}
-use Rattle.rd_journal.proofs.Runs.{as_ok-same, preceded_entries}
-use Rattle.rd_journal.proofs.Switching.{returned_joined, runs_on}
+use Rattle.rd_journal.proofs.Runs.{preceded_entries}
+use Rattle.rd_journal.proofs.Switching.{returned_joined}
 use Rattle.rd_journal.proofs.Walks.{BeginsUndone}
 
 -- The first steps of a run
@@ -28,20 +28,6 @@ first_run R (suc n) w (x ∷ xs) h =
     let first = first_step R w x xs h in
     ap (λ (r : Result Stepped Refusal). run_entries (run_from_step (λ v. run R v (events (take n xs))) r)) first.goes
     ∙ preceded_entries x (run R first.after (events (take n xs))) (take n xs) (first_run R n first.after xs first.rest)
-
--- runs of the same events leave the same records
-pub same_records : (R : ℕ) (w : World) (xs ys : List Entry) → IsRunFrom R w xs → IsRunFrom R w ys → events xs ≡ events ys → xs ≡ ys
-same_records R w xs ys h k same = as_ok-same xs ys (sym h ∙ ap (λ (es : List Event). run_entries (run R w es)) same ∙ k)
-
--- the events of one record more
-pub same_events : (xs ys : List Entry) (i : ℕ) (y d : Entry) → i < length xs → i < length ys → y ≡ get_or ys i y → y.event ≡ (get_or xs i d).event
-    → events (take i xs) ≡ events (take i ys) → events (take (i + 1) xs) ≡ events (take (i + 1) ys)
-same_events xs ys i y d within below here same before =
-    let event = λ (z : Entry). z.event in
-    let next : i + 1 ≡ suc i = omega arith in
-    let one_more = λ (zs : List Entry) (z : Entry) (h : i < length zs).
-    ap (λ (n : ℕ). events (take n zs)) next ∙ ap events (take-suc zs i z h) ∙ map-append event (take i zs) (get_or zs i z ∷ []) in
-    one_more xs d within ∙ (λ k. before k ++ (sym same ∙ ap event here) k ∷ []) ∙ sym (one_more ys y below)
 
 -- The session
 
@@ -111,15 +97,6 @@ first_undone (suc n) j x some first =
 
 -- The next steps ahead, made again
 
--- records that follow on from all live steps are those of the next steps ahead, if they are of the same events
-pub next_ahead : (R kept : ℕ) (whole : Journal) (given : List Entry) → IsRun R whole → IsRunFrom R (start_of whole) (take kept whole.live ++ given)
-    → kept ≡ length whole.live → events given ≡ events (take (length given) whole.undone) → given ≡ take (length given) whole.undone
-next_ahead R kept whole given runs h all same =
-    let live : take kept whole.live ≡ whole.live = ap (λ (n : ℕ). take n whole.live) all ∙ take-length whole.live in
-    let follows = subst (λ (xs : List Entry). IsRunFrom R (start_of whole) (xs ++ given)) live h in
-    same_records R whole.world given (take (length given) whole.undone) (runs_on R (start_of whole) whole.world whole.live given runs.live_ran follows)
-    (first_run R (length given) whole.world whole.undone runs.undone_run_on) same
-
 -- all that were undone are live again
 pub gone_on : (n m : ℕ) (old mid new : Journal) (ahead : List Entry) → mid.live ≡ old.live → mid.undone ≡ take n ahead → n ≤ length ahead → m ≡ length old.live
     → IsMovedForward n mid new → IsSwitched m (take n ahead) old new
@@ -133,10 +110,46 @@ gone_on n m old mid new ahead live undone enough all forward =
       undone = forward.undone ∙ ap (λ (k : ℕ). drop k mid.undone) (sym len) ∙ drop-length mid.undone;
     }
 
--- which is a switch to these records, if they are the ones ahead
-pub switched_on : (n : ℕ) (given xs : List Entry) (old new : Journal) → n ≡ length old.live → given ≡ xs → IsSwitched (length old.live) xs old new
-    → IsSwitched n given old new
-switched_on n given xs old new all same is = record {
-  live = is.live ∙ (λ i. take (sym all i) old.live ++ sym same i);
-  undone = is.undone;
-}
+-- The track
+
+-- the live steps and those ahead of them
+abbrev pub track_of : Journal → List Event
+track_of j = events j.live ++ events j.undone
+
+pub same_track : (old new : Journal) → new.live ++ new.undone ≡ old.live ++ old.undone → track_of new ≡ track_of old
+same_track old new h =
+    let event = λ (x : Entry). x.event in
+    sym (map-append event new.live new.undone) ∙ ap events h ∙ map-append event old.live old.undone
+
+pub track_back : (n : ℕ) (old new : Journal) → IsMovedBack n old new → track_of new ≡ track_of old
+track_back n old new moved =
+    let k = length old.live - n in
+    same_track old new
+    ((λ i. moved.live i ++ moved.undone i) ∙ sym (append_assoc (take k old.live) (drop k old.live) old.undone)
+    ∙ ap (λ (xs : List Entry). xs ++ old.undone) (take-append-drop k old.live))
+
+pub track_forward : (n : ℕ) (old new : Journal) → IsMovedForward n old new → track_of new ≡ track_of old
+track_forward n old new moved =
+    same_track old new
+    ((λ i. moved.live i ++ moved.undone i) ∙ append_assoc old.live (take n old.undone) (drop n old.undone)
+    ∙ ap (λ (xs : List Entry). old.live ++ xs) (take-append-drop n old.undone))
+
+-- the first n steps of the track, where they are live
+pub along_back : (n k : ℕ) (old : Journal) (live : List Entry) → n ≤ length old.live → k ≡ length old.live - n → live ≡ take (length old.live - k) old.live
+    → events live ≡ take n (track_of old)
+along_back n k old live within is left =
+    let event = λ (x : Entry). x.event in
+    let low : length old.live - k ≡ n = omega arith in
+    let few : n ≤ length (events old.live) = omega (arith, length-map old.live event) in
+    ap events left ∙ ap (λ (m : ℕ). events (take m old.live)) low ∙ sym (take-map event n old.live)
+    ∙ sym (take-append-le n (events old.live) (events old.undone) few)
+
+-- and where some of them are ahead
+pub along_forward : (n k : ℕ) (old new : Journal) → n ≡ length old.live + k → IsSwitched (length old.live) (take k old.undone) old new
+    → events new.live ≡ take n (track_of old)
+along_forward n k old new all is =
+    let event = λ (x : Entry). x.event in
+    let long : n ≡ length (events old.live) + k = omega (arith, all, length-map old.live event) in
+    ap events (is.live ∙ ap (λ (xs : List Entry). xs ++ take k old.undone) (take-length old.live)) ∙ map-append event old.live (take k old.undone)
+    ∙ ap (λ (es : List Event). events old.live ++ es) (sym (take-map event k old.undone))
+    ∙ sym (ap (λ (m : ℕ). take m (track_of old)) long ∙ take-append-add (events old.live) (events old.undone) k)

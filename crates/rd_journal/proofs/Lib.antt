@@ -16,6 +16,5 @@ pub mod IndexedLemmas
 pub mod RolledBack
 pub mod Closures
 pub mod RolledForward
-pub mod ReadAgain
 pub mod Backwards
 pub mod Ahead

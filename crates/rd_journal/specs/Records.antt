@@ -12,7 +12,7 @@ all_records r = at_numbers r.slots.items r.order.items
 abbrev pub live_records : Records → List Entry
 live_records r = take r.live (all_records r)
 
--- those of the steps ahead of them: the undone ones, the one undone last in front, and behind them those that a switch left there
+-- those of the steps ahead of them: the undone ones, the one undone last in front, and behind them those that the live ones went back over
 abbrev pub ahead_records : Records → List Entry
 ahead_records r = take r.ahead (drop r.live (all_records r))
 

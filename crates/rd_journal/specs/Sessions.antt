@@ -1,10 +1,11 @@
--- The code's session, as its journal, as its state, and with its room: what public clauses cite.
-use Rattle.std.specs.Prelude.{ℕ}
+-- The code's session, as its journal, as its state, and with its track and its room: what public clauses cite.
+use Rattle.std.specs.Prelude.{ℕ, List, ◌++◌}
 use Rattle.rd_step.specs.Prelude.{model, room as world_room}
 use Rattle.rd_journal.specs.declared.sessions.Session.{Session}
-use Rattle.rd_journal.specs.Journal.{Journal}
+use Rattle.rd_step.specs.declared.entries.Event.{Event}
+use Rattle.rd_journal.specs.Journal.{Journal, events}
 use Rattle.rd_journal.specs.Kept.{journal_of}
-use Rattle.rd_journal.specs.Records.{records_capacity}
+use Rattle.rd_journal.specs.Records.{ahead_records, records_capacity}
 use Rattle.rd_journal.specs.State.{State, state_of}
 
 -- the session's world and records
@@ -14,6 +15,11 @@ journal s = journal_of (model s.world) s.records s.undone
 -- the session's start, live events and undone events
 abbrev pub state : {R : ℕ} → Session R → State
 state s = state_of (journal s)
+
+-- the events of the session's track, along which it goes back and forth: those of the live steps, and of the ones ahead of them, which
+-- are kept to be made again as they are: the undone ones, and behind these those that it went back over
+abbrev pub track : {R : ℕ} → Session R → List Event
+track s = (state s).live ++ events (ahead_records s.records.records)
 
 -- how many makings of an actor can't be refused for memory
 abbrev pub room : {R : ℕ} → Session R → ℕ → ℕ

@@ -9,7 +9,6 @@ ghost use Rattle.std.specs.Prelude.{◌≡◌, ◌++◌, ◌+◌, ◌-◌, ◌<�
 ghost use Rattle.rd_step.specs.declared.entries.Entry.{Entry as Record};
 ghost use Rattle.rd_step.specs.Dependence.{numbered};
 ghost use Rattle.rd_step.specs.Prelude.{closure_of, without_closure, first_dependant, MOST_STEPS};
-ghost use Rattle.rd_step.specs.Run.{events};
 ghost use Rattle.rd_depend.specs.Index.{IsIndexOf, IsHeld, without_entry};
 ghost use Rattle.rd_depend.specs.Writers.{last_position, writes_to};
 ghost use Rattle.rd_journal.specs.Records.{live_records, ahead_records, kept_records, records_capacity};
@@ -93,13 +92,6 @@ impl IndexedRecords {
         ensures { result.now ≡ get_or (ahead_records self.now.records) position result.now }
     {
         self.records.ahead_at(position)
-    }
-
-    /// Whether the events of these records are those of the first ones ahead.
-    pub(crate) fn are_ahead(&self, given: &[Entry]) -> bool
-        ensures { IsTrue result → events given.now ≡ events (take (length given.now) (ahead_records self.now.records)) }
-    {
-        self.records.are_ahead(given)
     }
 
     /// Makes the last live record the next one ahead.

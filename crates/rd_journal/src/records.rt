@@ -1,21 +1,20 @@
 //! The records of a session. A record stays in the slot that it was put in; their order is a list of the slots' numbers: those of the
 //! live steps, then of those ahead of them, the next one in front, then of those whose records were discarded. The steps ahead run on from
-//! the live ones and can be made again as they are: the undone ones, and behind these the ones that a switch left there.
+//! the live ones and can be made again as they are: the undone ones, and behind these the ones that the live ones went back over.
 //!
 //! Only the border between the first two moves when a step is undone or redone last. A record that leaves the middle first has its
 //! number moved behind those of the other live ones. So the room that an undo needs was made by the step that it undoes.
 
 #![tactic(auto, unfolding(crate::specs::Records::all_records))]
 
-ghost use Rattle.std.specs.Prelude.{◌≡◌, ◌↔◌, ◌++◌, ◌+◌, ◌-◌, ◌<◌, ◌≤◌, ◌∷◌, [], length, get_or, take, drop, vec_capacity, IsTrue, OnOk, OnErr};
+ghost use Rattle.std.specs.Prelude.{◌≡◌, ◌++◌, ◌+◌, ◌-◌, ◌<◌, ◌≤◌, ◌∷◌, [], length, get_or, take, drop, vec_capacity, OnOk, OnErr};
 ghost use Rattle.rd_step.specs.Prelude.{closure_of, without_closure, MOST_STEPS};
-ghost use Rattle.rd_step.specs.Run.{events};
 ghost use Rattle.rd_journal.specs.Numbers.{IsOrder};
 
 mod slots;
 
 use super::live_records::{LiveRecords, entry_at};
-use rd_step::{Entry, Event};
+use rd_step::Entry;
 use slots::{make_room_in, move_behind, move_closure_last, put_at};
 use std::alloc::{AllocError, Global};
 
@@ -103,21 +102,6 @@ impl Records {
         ensures { result.now ≡ get_or (ahead_records self.now) position result.now }
     {
         self.at(self.live + position)
-    }
-
-    /// Whether the events of these records are those of the first ones ahead.
-    pub(crate) fn are_ahead(&self, given: &[Entry]) -> bool
-        ensures { IsTrue result → events given.now ≡ events (take (length given.now) (ahead_records self.now)) }
-    {
-        if given.len() > self.ahead {
-            return false;
-        }
-        for index in 0..given.len() {
-            if !are_one_event(&self.ahead_at(index).event, &given[index].event) {
-                return false;
-            }
-        }
-        true
     }
 
     /// The record whose slot's number stands at this place of the order.
@@ -244,11 +228,4 @@ impl Records {
         put_at(&mut self.slots, &mut self.order, place, entry);
         self.ahead += 1;
     }
-}
-
-/// Whether the two are one event.
-fn are_one_event(a: &Event, b: &Event) -> bool
-    ensures { IsTrue result ↔ (a.now ≡ b.now) }
-{
-    a == b
 }

@@ -4,36 +4,36 @@
 //! other on which no later one depends, or a record with all that depend on it. Redoing steps again. So the room that an undo
 //! needs was made by the step that it undoes. A switch exchanges the records ahead for others and redoes them.
 //!
-//! A switch to a beginning of the live steps leaves what it undoes ahead of them, though it is not undone for any caller. A switch that goes on
-//! with just those events makes them again, with no record copied and the index as it is.
+//! The live steps with those ahead of them are the session's track. Who knows what lies on it goes along it: what that leaves ahead stays
+//! there, though it is not undone for any caller, and can be made again with no record copied and the index as it is.
+//!
+//! The calls that change a session are here, and how they move its steps in the other files of `sessions/`; `queries` has what it tells.
 
 mod moving;
+mod queries;
 mod removal;
 mod starting;
 mod switching;
 
-ghost use Rattle.std.specs.Prelude.{◌≡◌, ◌⊎◌, ◌++◌, ◌+◌, ◌≤◌, ◌<◌, ◌-◌, [], length, take, drop, Ok, Err, IsOk, OnOk, OnErr, IfOk, IfErr};
+ghost use Rattle.std.specs.Prelude.{◌≡◌, ◌⊎◌, ◌++◌, ◌+◌, ◌≤◌, [], length, take, drop, Ok, Err, IsOk, OnOk, OnErr, IfOk, IfErr};
 ghost use Rattle.rd_step.specs.Prelude.{model, room as world_room, step};
-ghost use Rattle.rd_depend.specs.Writers.{last_position, writes_to};
-ghost use Rattle.rd_journal.specs.Journal.{entry_of, events, start_of, IsRunFrom, IsRun};
+ghost use Rattle.rd_journal.specs.Journal.{events, start_of, IsRunFrom};
 ghost use Rattle.rd_journal.specs.Kept.{whole_journal, IsSession};
 ghost use Rattle.rd_journal.specs.Room.{MayBeOutOfMemory, IsOutOfMemory, ComesAfterRoom, LacksRoom};
 ghost use Rattle.rd_journal.specs.Records.{ahead_records};
-ghost use Rattle.rd_journal.specs.State.{run_of, apply, reply_to, undo, undo_at, back, redo, forward, roll, switch, event_at};
-ghost use Rattle.rd_journal.specs.Laws.{IsStepAfter};
+ghost use Rattle.rd_journal.specs.State.{apply, reply_to, undo, undo_at, back, redo, forward, roll, switch};
 ghost use Rattle.rd_journal.specs.Moves.{IsLengthened, IsMovedBack, IsMovedForward, IsBeforeLast, IsTakenOutAt, IsWithout, IsSwitched, IsRolledBack, IsWithoutClosure, answer_at, roll_answer};
 
 use super::indexed_records::IndexedRecords;
-use super::live_records::LiveRecords;
+use rd_cell::Refusal;
 use rd_cell::limits::MOST_STEPS;
-use rd_cell::{Place, Refusal};
 use rd_step::{Entry, Event, World};
 use std::alloc::Global;
 
 /// A world of rings of `R` cells, with the steps that led to it and those that were undone.
 pub struct Session<const R: usize> {
     world: World<R>,
-    /// Of the live steps and of those ahead of them: these are the undone ones, and behind them those that a switch left there.
+    /// Of the live steps and of those ahead of them: these are the undone ones, and behind them those that the live ones went back over.
     records: IndexedRecords,
     /// How many of the steps ahead are undone.
     undone: usize,
@@ -54,7 +54,7 @@ impl<const R: usize> Drop for Session<R> {
 }
 
 impl<const R: usize> Session<R> {
-    ghost use Rattle.rd_journal.specs.Sessions.{journal, state, room, capacity};
+    ghost use Rattle.rd_journal.specs.Sessions.{journal, state, track, room, capacity};
 
     /// Opens a session in a world, which is its start. It takes no memory.
     pub fn open(alloc: Global, world: World<R>) -> Session<R>
@@ -90,6 +90,7 @@ impl<const R: usize> Session<R> {
             ⊎ ((refusal ≡ Refusal.NoMemory) × IsOutOfMemory R (journal self.old) (capacity self.old) (room self.old) event)) }
         ensures order { IfErr result (λ refusal. ComesAfterRoom (length (journal self.new).live) (capacity self.new) refusal) }
         ensures unchanged { OnErr result (journal self.new ≡ journal self.old) }
+        ensures track { OnErr result (track self.new ≡ track self.old) }
     {
         if self.records.live_len() == MOST_STEPS {
             return Err(Refusal::TooLong);
@@ -113,6 +114,7 @@ impl<const R: usize> Session<R> {
         ensures err { IfErr result (λ refusal. undo (state self.old) ≡ Err refusal) }
         ensures unchanged { OnErr result (journal self.new ≡ journal self.old) }
         ensures capacity { capacity self.new ≡ capacity self.old }
+        ensures track { track self.new ≡ track self.old }
     {
         if self.records.live_len() == 0 {
             return Err(Refusal::NothingToUndo(0));
@@ -137,6 +139,7 @@ impl<const R: usize> Session<R> {
         ensures err { IfErr result (λ refusal. undo_at R (state self.old) k ≡ Err refusal) }
         ensures unchanged { OnErr result (journal self.new ≡ journal self.old) }
         ensures capacity { capacity self.new ≡ capacity self.old }
+        ensures track { OnErr result (track self.new ≡ track self.old) }
     {
         let len = self.len();
         if len < k || k == 0 {
@@ -167,6 +170,7 @@ impl<const R: usize> Session<R> {
         ensures err { IfErr result (λ refusal. roll R (state self.old) k ≡ Err refusal) }
         ensures unchanged { OnErr result (journal self.new ≡ journal self.old) }
         ensures capacity { capacity self.new ≡ capacity self.old }
+        ensures track { OnErr result (track self.new ≡ track self.old) }
     {
         let len = self.len();
         if len < k || k == 0 {
@@ -189,6 +193,7 @@ impl<const R: usize> Session<R> {
         ensures err { IfErr result (λ refusal. back (state self.old) n ≡ Err refusal) }
         ensures unchanged { OnErr result (journal self.new ≡ journal self.old) }
         ensures capacity { capacity self.new ≡ capacity self.old }
+        ensures track { track self.new ≡ track self.old }
     {
         let len = self.len();
         if n > len {
@@ -209,6 +214,7 @@ impl<const R: usize> Session<R> {
         ensures err { IfErr result (λ refusal. redo (state self.old) ≡ Err refusal) }
         ensures unchanged { OnErr result (journal self.new ≡ journal self.old) }
         ensures capacity { capacity self.new ≡ capacity self.old }
+        ensures track { track self.new ≡ track self.old }
     {
         if self.undone_len() == 0 {
             return Err(Refusal::NothingToRedo);
@@ -228,6 +234,7 @@ impl<const R: usize> Session<R> {
         ensures err { IfErr result (λ refusal. forward (state self.old) n ≡ Err refusal) }
         ensures unchanged { OnErr result (journal self.new ≡ journal self.old) }
         ensures capacity { capacity self.new ≡ capacity self.old }
+        ensures track { track self.new ≡ track self.old }
     {
         if n > self.undone_len() {
             return Err(Refusal::NothingToRedo);
@@ -254,98 +261,28 @@ impl<const R: usize> Session<R> {
         ensures unchanged { OnErr result (journal self.new ≡ journal self.old) }
         ensures succeeds { entries.now ≡ [] → IsOk result }
         ensures capacity { n + length entries.now ≤ capacity self.old → capacity self.new ≡ capacity self.old }
+        ensures track { OnErr result (track self.new ≡ track self.old) }
     {
-        if self.goes_on_with(n, entries) {
-            self.redo_ahead(entries.len());
-            return Ok(());
-        }
         self.make_room_to_switch(n, entries)?;
         self.exchange(n, entries);
         Ok(())
     }
 
-    /// The number of live steps.
-    pub fn len(&self) -> u64
-        ensures count { result ≡ length (state self.now).live }
-        ensures records { result ≡ length (journal self.now).live }
-    {
-        self.records.live_len() as u64
-    }
-
-    /// The number of undone steps.
-    pub fn undone_len(&self) -> u64
-        ensures count { result ≡ length (state self.now).undone }
-        ensures records { result ≡ length (journal self.now).undone }
-    {
-        self.undone as u64
-    }
-
-    /// The records of the live steps, in their order. They are those of a run from the start.
-    pub fn live(&self) -> LiveRecords<'_>
-        ensures records { result ≡ (journal self.now).live }
-        ensures run { IsRunFrom R (state self.now).start result }
-        ensures events { events result ≡ (state self.now).live }
-        ensures few { length result ≤ MOST_STEPS }
-    {
-        self.records.live()
-    }
-
-    /// The record of the live step of this number, from 1.
-    ///
-    /// # Errors
-    ///
-    /// `NoSuchStep`, with the number of live steps, if `k` is not from 1 to it.
-    pub fn entry(&self, k: u64) -> Result<Entry, Refusal>
-        ensures found { result ≡ entry_of (journal self.now) k }
-        ensures step { IfOk result (λ entry. IsStepAfter R (k - 1) (journal self.now) entry) }
-        ensures runs { IsRun R (journal self.now) }
+    /// Goes along the session's track, which is the live steps with those ahead of them: its first `n` steps are live then, and none is
+    /// undone. The track stays as it is. It takes no memory and copies no record, and its time grows with the number of steps that it
+    /// undoes or makes again alone.
+    pub fn go_along(&mut self, n: u64)
+        requires within { n ≤ length (track self.old) }
+        ensures state { state self.new ≡ record { start = (state self.old).start; live = take n (track self.old); undone = [] } }
+        ensures track { track self.new ≡ track self.old }
+        ensures capacity { capacity self.new ≡ capacity self.old }
     {
         let len = self.len();
-        if k == 0 || k > len {
-            return Err(Refusal::NoSuchStep(len));
+        if n > len {
+            self.redo_ahead((n - len) as usize);
+        } else {
+            self.undo_many(len - n);
+            self.undone = 0;
         }
-        Ok(*self.records.live_at(k as usize - 1))
-    }
-
-    /// The number of the last live step that wrote this place, or one of the places that it names; none if no live step did. It asks the
-    /// index of dependants, and scans the steps that this does not reach for want of memory. It takes no memory.
-    pub fn last_writer(&self, place: Place) -> Option<u64>
-        ensures { result ≡ last_position (writes_to place) (journal self.now).live }
-    {
-        self.records.last_writer(place)
-    }
-
-    /// The event of the undone step of this number, from 1, if there is one: the first is the one undone last.
-    pub fn undone_event(&self, i: u64) -> Option<Event>
-        ensures { result ≡ event_at (state self.now).undone i }
-    {
-        if i == 0 || i > self.undone_len() {
-            return None;
-        }
-        Some(self.records.ahead_at(i as usize - 1).event)
-    }
-
-    /// The world that the session was opened in: a copy of the world, in which all live steps are undone.
-    ///
-    /// # Errors
-    ///
-    /// `NoMemory` if memory was refused.
-    pub fn start_world(&self, alloc: Global) -> Result<World<R>, Refusal>
-        ensures ok { IfOk result (λ world. model world ≡ (state self.now).start) }
-        ensures err { IfErr result (λ refusal. refusal ≡ Refusal.NoMemory) }
-    {
-        let mut world = self.world.copy(alloc)?;
-        self.undo_all_in(&mut world);
-        Ok(world)
-    }
-
-    /// The world: that of the run of the live events from the start.
-    pub fn world(&self) -> &World<R>
-        ensures value { model result.now ≡ (journal self.now).world }
-        ensures run { run_of R (state self.now) ≡ Ok (record { world = model result.now; entries = (journal self.now).live }) }
-        ensures runs { IsRun R (journal self.now) }
-        ensures few { length (journal self.now).live + length (journal self.now).undone ≤ MOST_STEPS }
-    {
-        &self.world
     }
 }

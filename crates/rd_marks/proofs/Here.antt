@@ -1,23 +1,26 @@
--- Where the live steps stand in the tree, and what each call leaves of that.
-use Rattle.std.proofs.Common.{◌≡◌, ◌⊎◌, inl, inr, ℕ, zero, suc, ◌-◌, ◌≤◌, min, refl, sym, ap, ◌∙◌, subst, List, [], ◌∷◌, ◌++◌, length, take, drop, Option, Some, None, Result, Ok, Err, OnOk, OnErr, IfOk, arith}
-use Rattle.std.proofs.Math.Seq.{take-append_seam}
+-- Where the session's track lies in the tree, and what each call leaves of that.
+use Rattle.std.proofs.Common.{◌≡◌, ◌⊎◌, inl, inr, ℕ, zero, suc, ◌-◌, ◌≤◌, Bool, true, false, nat_lt, if◌then◌else◌, min, refl, sym, ap, ◌∙◌, subst, List, [], ◌∷◌, ◌++◌, length, take, drop, Option, Some, None, Result, Ok, Err, OnOk, OnErr, arith, ltb-true}
+use Rattle.std.proofs.Math.Seq.{take-append_seam, take-length}
 use Rattle.std.proofs.lemmas.Bool.{cases_eq}
-use Rattle.std.proofs.lemmas.List.{take-map, take-take, length-map, length-take}
+use Rattle.std.proofs.lemmas.List.{take-map, take-take, take-append-le, length-map, length-take}
 use Rattle.rd_step.specs.Prelude.{Refusal, closure, unmarked}
 use Rattle.rd_step.specs.declared.entries.Event.{Event}
 use Rattle.rd_step.specs.declared.entries.Entry.{Entry}
 use Rattle.rd_depend.specs.Beginnings.{Begins}
+use Rattle.rd_journal.specs.declared.sessions.Session.{Session}
 use Rattle.rd_journal.specs.Journal.{Journal, events}
-use Rattle.rd_journal.specs.Moves.{IsLengthened, IsMovedBack, IsMovedForward, IsTakenOutAt, IsRolledBack}
-use Rattle.rd_journal.specs.State.{state_of}
+use Rattle.rd_journal.specs.Moves.{IsLengthened, IsTakenOutAt, IsRolledBack}
+use Rattle.rd_journal.specs.Records.{ahead_records}
+use Rattle.rd_journal.specs.Sessions.{state, track}
+use Rattle.rd_journal.specs.State.{State, undo_at, roll}
 use Rattle.rd_marks.specs.declared.names.MarkName.{MarkName}
 use Rattle.rd_marks.specs.Layout.{IsHere}
-use Rattle.rd_marks.specs.Tree.{MarkTree, IsIn, depth_in, parent_in, path_in, IsTree, ChangesAt}
+use Rattle.rd_marks.specs.Tree.{MarkTree, IsIn, depth_in, parent_in, path_in, IsTree, IsPartOf, ChangesAt}
 use Rattle.rd_marks.specs.Uses.{IsUsed}
 use Rattle.rd_marks.proofs.CommonNode.{begins_itself}
 use Rattle.rd_marks.proofs.Switches.{begins_shorter, begins_with}
 use Rattle.rd_marks.proofs.TreeChanges.{tree_without}
-use Rattle.rd_marks.proofs.TreeLemmas.{there, events_length, path_there, parent_there, path_kept}
+use Rattle.rd_marks.proofs.TreeLemmas.{there, events_length, path_there, parent_there, stays_in, path_kept}
 use Rattle.rd_marks.proofs.Uses.{still_in, part_left, parent_left}
 
 pub begins_trans : {X : Type 0} (xs ys zs : List X) → Begins xs ys → Begins ys zs → Begins xs zs
@@ -31,12 +34,6 @@ begins_events xs ys h =
     ap (λ (n : ℕ). take n (events ys)) (length-map xs (λ (x : Entry). x.event)) ∙ take-map (λ (x : Entry). x.event) (length xs) ys ∙ ap events h
 
 -- What a call leaves of the first live records
-
-pub back_leaves : (m n : ℕ) (old new : Journal) → n ≡ length new.live → IsMovedBack m old new → take n new.live ≡ take n old.live
-back_leaves m n old new len moved =
-    let kept = length old.live - m in
-    let all : length new.live ≡ min kept (length old.live) = ap length moved.live ∙ length-take kept old.live in
-    ap (take n) moved.live ∙ take-take n kept old.live (omega (arith, len, all))
 
 without_leaves : {X : Type 0} (m k : ℕ) (xs : List X) → m ≤ k → take m (take m xs ++ drop k xs) ≡ take m xs
 without_leaves zero k xs h = refl
@@ -61,11 +58,24 @@ roll_leaves (suc k) n old new its rolled =
     ap (take n) rolled.live ∙ ap (λ (m : ℕ). take m (unmarked (closure old.live (suc k)) old.live)) same ∙ closure_leaves k old.live
     ∙ ap (λ (m : ℕ). take m old.live) (sym same)
 
-pub forward_leaves : (n : ℕ) (old new : Journal) → IsMovedForward n old new → Begins old.live new.live
-forward_leaves n old new moved = ap (take (length old.live)) moved.live ∙ take-append_seam old.live (take n old.undone)
+pub added_leaves : (n : ℕ) (x : Entry) (old new : Journal) → n ≡ length old.live → IsLengthened x old new → take n new.live ≡ take n old.live
+added_leaves n x old new all more =
+    ap (λ (m : ℕ). take m new.live) all ∙ ap (take (length old.live)) more.live ∙ take-append_seam old.live (x ∷ [])
+    ∙ sym (ap (λ (m : ℕ). take m old.live) all ∙ take-length old.live)
 
-apply_leaves : (x : Entry) (old new : Journal) → IsLengthened x old new → Begins old.live new.live
-apply_leaves x old new more = ap (take (length old.live)) more.live ∙ take-append_seam old.live (x ∷ [])
+-- What was undone by its number was there
+
+within_by : {X Y : Type 0} (b : Bool) (i l : ℕ) (r : Result X Y) (e : Y) (x : X) → nat_lt i l ≡ b → (if b then r else Err e) ≡ Ok x → suc i ≤ l
+within_by true i l r e x below h = let lt = ltb-true i l below in omega arith
+within_by false i l r e x below h = cc
+
+pub undone_within : (R : ℕ) (s : State) (k : ℕ) (t : State) → undo_at R s k ≡ Ok t → k ≤ length s.live
+undone_within R s zero t h = omega arith
+undone_within R s (suc i) t h = within_by (nat_lt i (length s.live)) i (length s.live) _ _ t refl h
+
+pub rolled_within : (R : ℕ) (s : State) (k : ℕ) (t : State) → roll R s k ≡ Ok t → k ≤ length s.live
+rolled_within R s zero t h = omega arith
+rolled_within R s (suc i) t h = within_by (nat_lt i (length s.live)) i (length s.live) _ _ t refl h
 
 module _ (t : MarkTree) (rule : IsTree t) where
   -- a node on the way there that is no deeper than what stayed
@@ -81,34 +91,50 @@ module _ (t : MarkTree) (rule : IsTree t) where
         begins = sym (take-take (length es) n new short) ∙ ap (take (length es)) same ∙ take-take (length es) n old short ∙ whole;
       }
 
-  pub after_undo : {X P : Type 0} (r : Result X Refusal) (here at : Option ℕ) (n : ℕ) (old new : Journal) → IsHere t here (state_of old).live → IsIn t at
-      → Begins (path_in t at) (path_in t here) → OnOk r (depth_in t at ≡ min n (depth_in t here)) → OnErr r (new ≡ old) → OnOk r P
-      → (P → take n new.live ≡ take n old.live) → IsHere t at (state_of new).live
-  after_undo (Ok x) here at n old new stands is begins depth unchanged left leaves =
-      here_cut here at n (events old.live) (events new.live) stands is begins (omega (arith, depth))
-      (take-map (λ (y : Entry). y.event) n new.live ∙ ap events (leaves left) ∙ sym (take-map (λ (y : Entry). y.event) n old.live))
-  after_undo (Err e) here at n old new stands is begins depth unchanged left leaves = record {
+  -- where the first n live steps stayed, whatever is ahead
+  pub track_cut : (here at : Option ℕ) (n : ℕ) (old new : Journal) (old_ahead new_ahead : List Event) → IsHere t here (events old.live ++ old_ahead)
+      → IsIn t at → Begins (path_in t at) (path_in t here) → depth_in t at ≤ n → n ≤ length old.live → take n new.live ≡ take n old.live
+      → IsHere t at (events new.live ++ new_ahead)
+  track_cut here at n old new old_ahead new_ahead stands is begins shallow within same =
+      let event = λ (x : Entry). x.event in
+      let long : length (take n new.live) ≡ length (take n old.live) = ap length same in
+      let few : n ≤ length new.live = omega (arith, long, within, length-take n old.live, length-take n new.live) in
+      let old_first : take n (events old.live ++ old_ahead) ≡ take n (events old.live) =
+      take-append-le n (events old.live) old_ahead (omega (arith, within, length-map old.live event)) in
+      let new_first : take n (events new.live ++ new_ahead) ≡ take n (events new.live) =
+      take-append-le n (events new.live) new_ahead (omega (arith, few, length-map new.live event)) in
+      here_cut here at n (events old.live ++ old_ahead) (events new.live ++ new_ahead) stands is begins shallow
+      (new_first ∙ take-map event n new.live ∙ ap events same ∙ sym (take-map event n old.live) ∙ sym old_first)
+
+  -- where steps were taken out behind them, if the call was not refused
+  pub after_out : {X P Q : Type 0} (r : Result X Refusal) (here at : Option ℕ) (n : ℕ) (old new : Journal) (old_ahead new_ahead : List Event)
+      → IsHere t here (events old.live ++ old_ahead) → IsIn t at → Begins (path_in t at) (path_in t here) → OnOk r (depth_in t at ≡ min n (depth_in t here))
+      → OnErr r (events new.live ++ new_ahead ≡ events old.live ++ old_ahead) → OnOk r P → (P → n ≤ length old.live) → OnOk r Q
+      → (Q → take n new.live ≡ take n old.live) → IsHere t at (events new.live ++ new_ahead)
+  after_out (Ok x) here at n old new old_ahead new_ahead stands is begins depth unchanged there within left leaves =
+      track_cut here at n old new old_ahead new_ahead stands is begins (omega (arith, depth)) (within there) (leaves left)
+  after_out (Err e) here at n old new old_ahead new_ahead stands is begins depth unchanged there within left leaves = record {
     present = is;
     begins =
-        begins_trans (events (path_in t at)) (events (path_in t here)) (events new.live) (begins_events (path_in t at) (path_in t here) begins)
-        (subst (λ (j : Journal). Begins (events (path_in t here)) (events j.live)) (sym unchanged) stands.begins);
+        begins_trans (events (path_in t at)) (events (path_in t here)) (events new.live ++ new_ahead) (begins_events (path_in t at) (path_in t here) begins)
+        (subst (λ (es : List Event). Begins (events (path_in t here)) es) (sym unchanged) stands.begins);
   }
 
--- steps that are added leave where the others stand
-pub after_redo : {X P : Type 0} (t : MarkTree) (r : Result X Refusal) (here : Option ℕ) (old new : Journal) → IsHere t here (state_of old).live → OnErr r (new ≡ old)
-    → OnOk r P → (P → Begins old.live new.live) → IsHere t here (state_of new).live
-after_redo t (Ok x) here old new stands unchanged left leaves = record {
-  present = stands.present;
-  begins = begins_trans (events (path_in t here)) (events old.live) (events new.live) stands.begins (begins_events old.live new.live (leaves left));
-}
-after_redo t (Err e) here old new stands unchanged left leaves = subst (λ (j : Journal). IsHere t here (state_of j).live) (sym unchanged) stands
+  -- where the live steps stand: at the node on the way there whose path is no longer than they are
+  pub live_here : (here at : Option ℕ) (n : ℕ) (live ahead : List Event) → n ≡ length live → IsHere t here (live ++ ahead) → IsIn t at
+      → Begins (path_in t at) (path_in t here) → depth_in t at ≤ n → IsHere t at live
+  live_here here at n live ahead all stands is begins shallow =
+      here_cut here at n (live ++ ahead) live stands is begins shallow
+      (ap (λ (m : ℕ). take m live) all ∙ take-length live ∙ sym (ap (λ (m : ℕ). take m (live ++ ahead)) all ∙ take-append_seam live ahead))
 
-pub after_apply : (t : MarkTree) (r : Result (ℕ × Entry) Refusal) (here : Option ℕ) (old new : Journal) → IsHere t here (state_of old).live → OnErr r (new ≡ old)
-    → IfOk r (λ done. IsLengthened done.1 old new) → IsHere t here (state_of new).live
-after_apply t (Ok done) here old new stands unchanged more = after_redo t (Ok done) here old new stands tt more (apply_leaves done.1 old new)
-after_apply t (Err e) here old new stands unchanged more = subst (λ (j : Journal). IsHere t here (state_of j).live) (sym unchanged) stands
+-- of a session
+pub stands : {R : ℕ} (session : Session R) (t : MarkTree) → IsTree t → (here at : Option ℕ) (n : ℕ) → n ≡ length (state session).live
+    → IsHere t here (track session) → IsIn t at → Begins (path_in t at) (path_in t here) → depth_in t at ≡ min n (depth_in t here)
+    → IsHere t at (state session).live
+stands session t rule here at n all lies is begins depth =
+    live_here t rule here at n (state session).live (events (ahead_records session.records.records)) all lies is begins (omega (arith, depth))
 
--- Going down begins where they stand
+-- Going down begins where the live steps stand
 
 pub within_at : (t : MarkTree) → IsTree t → (here : Option ℕ) (xs : List Entry) (live : List Event) → events xs ≡ live → IsHere t here live → depth_in t here ≤ length xs
 within_at t rule here xs live its stands =
@@ -122,15 +148,41 @@ pub begins_at : (t : MarkTree) → IsTree t → (here : Option ℕ) (xs : List E
 begins_at t rule here xs live its stands =
     sym (ap (λ (n : ℕ). take n (events xs)) (sym (events_length t rule here stands.present)) ∙ ap (take (length (events (path_in t here)))) its ∙ stands.begins)
 
--- at a node whose events they are they stand
-pub stands_at : (t : MarkTree) (at : Option ℕ) (live : List Event) → IsIn t at → events (path_in t at) ≡ live → IsHere t at live
-stands_at t at live is its = record { present = is; begins = subst (λ (es : List Event). Begins (events (path_in t at)) es) its (begins_itself (events (path_in t at))) }
+-- at a node whose events the live steps have lies the track
+pub track_at : (t : MarkTree) (at : Option ℕ) (live ahead : List Event) → IsIn t at → events (path_in t at) ≡ live → IsHere t at (live ++ ahead)
+track_at t at live ahead is its = record {
+  present = is;
+  begins = subst (λ (es : List Event). Begins (events (path_in t at)) (es ++ ahead)) its (take-append_seam (events (path_in t at)) ahead);
+}
+
+-- a node on the way to where the track lies begins it
+pub track_above : (t : MarkTree) (here at : Option ℕ) (track : List Event) → IsHere t here track → IsIn t at → Begins (path_in t at) (path_in t here) → IsHere t at track
+track_above t here at track stands is begins = record {
+  present = is;
+  begins =
+      begins_trans (events (path_in t at)) (events (path_in t here)) track (begins_events (path_in t at) (path_in t here) begins) stands.begins;
+}
+
+-- so its steps are the first ones of the track
+pub along_to : (t : MarkTree) → IsTree t → (at : Option ℕ) (n : ℕ) (track : List Event) → n ≡ depth_in t at → IsHere t at track
+    → (n ≤ length track) × (take n track ≡ events (path_in t at))
+along_to t rule at n track deep stands =
+    let long : length (events (path_in t at)) ≡ depth_in t at = events_length t rule at stands.present in
+    let short = begins_shorter (events (path_in t at)) track stands.begins in
+    (omega (arith, long, short, deep), ap (λ (m : ℕ). take m track) (deep ∙ sym long) ∙ stands.begins)
 
 -- also in a tree with more room
-pub stands_in : (t u : MarkTree) (here : Option ℕ) (live : List Event) → u ≡ t → IsHere t here live → IsHere u here live
-stands_in t u here live same stands = subst (λ (v : MarkTree). IsHere v here live) (sym same) stands
+pub stands_in : (t u : MarkTree) (here : Option ℕ) (track : List Event) → u ≡ t → IsHere t here track → IsHere u here track
+stands_in t u here track same stands = subst (λ (v : MarkTree). IsHere v here track) (sym same) stands
 
--- What stood in a tree from which a node goes stands at the node above it, if it stood there
+-- and in a tree that has all its nodes
+pub lies_on : (t u : MarkTree) (here : Option ℕ) (track : List Event) → IsTree t → IsPartOf t u → IsHere t here track → IsHere u here track
+lies_on t u here track rule part lies = record {
+  present = stays_in t u rule part here lies.present;
+  begins = subst (λ (xs : List Entry). Begins (events xs) track) (sym (path_kept t u rule part here lies.present)) lies.begins;
+}
+
+-- What lay in a tree from which a node goes lies at the node above it, if it lay there
 module _ (t u : MarkTree) (ms : List (MarkName × Option ℕ)) (key : ℕ) (rule : IsTree t) (is : IsIn t (Some key)) (unused : IsUsed t ms (Some key) → ⊥)
     (change : ChangesAt t u key None) where
   kept_path : (at : Option ℕ) → IsIn u at → path_in t at ≡ path_in u at

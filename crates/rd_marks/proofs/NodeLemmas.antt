@@ -11,7 +11,7 @@ use Rattle.rd_step.specs.declared.entries.Event.{Event}
 use Rattle.rd_step.specs.declared.entries.Entry.{Entry}
 use Rattle.rd_marks.specs.declared.tree.Node.{Node}
 use Rattle.rd_marks.specs.Tree.{TreeNode, MarkTree, depth_in, above, parent_in, entry_of, entry_in, IsChild, IsChildBy, HasChild, HasNoChildBy, ChangesAt}
-use Rattle.rd_marks.specs.TreeLayout.{node_of, node_with, tree_of, AreRecorded, child_known, known_in, IsKept}
+use Rattle.rd_marks.specs.TreeLayout.{node_of, node_with, tree_of, AreRecorded, child_known, known_in, first_in, JoinsRow, IsKept}
 
 pub same_option : (a b : Option ℕ) → option_eq nat_eq a b ≡ true → a ≡ b
 same_option None None h = refl
@@ -198,6 +198,19 @@ pub knows_as_before : (m n : Slab Node) (top : Option ℕ) (key : ℕ) (o : Opti
 knows_as_before m n top key o u None apart = refl
 knows_as_before m n top key o u (Some k) apart = ap child_known (u.others k (λ e. apart (ap (λ (x : ℕ). Some x) e)))
 
+pub rows_as_before : (m n : Slab Node) (key : ℕ) (o : Option Node) → Updates m n key o → (k : ℕ) → (k ≡ key → ⊥) → first_in n k ≡ first_in m k
+rows_as_before m n key o u k apart = ap (λ (x : Option Node). option_map_or (λ y. y.first) x 0) (u.others k apart)
+
+-- where its row begins is what the node at a key knows
+pub first_at : (nodes : Slab Node) (key : ℕ) (n : Node) → get nodes key ≡ Some n → first_in nodes key ≡ n.first
+first_at nodes key n e = ap (λ (x : Option Node). option_map_or (λ y. y.first) x 0) e
+
+-- a node joins the row that it was to join at the key at which it was to be put
+pub joins_there : (m n : Slab Node) (at : Option ℕ) (vacant key : ℕ) (y : Node) → Updates m n key (Some y) → vacant ≡ key → JoinsRow (first_in m) at vacant y.first
+    → JoinsRow (first_in m) at key (first_in n key)
+joins_there m n at vacant key y u same joins =
+    subst (λ (f : ℕ). JoinsRow (first_in m) at key f) (sym (first_at n key y u.changed)) (subst (λ (k : ℕ). JoinsRow (first_in m) at k y.first) same joins)
+
 -- with nodes at the same keys, as many records are enough
 pub recorded_alike : (m n : Slab Node) (records : List Entry) → ((key : ℕ) → is_some (get n key) ≡ is_some (get m key)) → AreRecorded m records → AreRecorded n records
 recorded_alike m n records alike recorded key y e = found (get m key) refl (sym (alike key) ∙ ap is_some e)
@@ -212,7 +225,7 @@ pub kept_in_room : (m n : Slab Node) (xs ys : List Entry) (top : Option ℕ) (fo
 kept_in_room m n xs ys top forks gs same records_same forks_same kept =
     subst (λ (fs : List ℕ). IsKept n ys top fs) (sym forks_same)
     (subst (λ (zs : List Entry). IsKept n zs top forks) (sym records_same)
-    (subst (λ (s : Slab Node). IsKept s xs top forks) (sym same) (record { tree = kept.tree; linked = kept.linked; recorded = kept.recorded })))
+    (subst (λ (s : Slab Node). IsKept s xs top forks) (sym same) (record { tree = kept.tree; linked = kept.linked; recorded = kept.recorded; rows = kept.rows })))
 
 -- a node that was put is there also if what nodes know changes then
 pub puts_then : (t u v : MarkTree) (key : ℕ) (o : Option TreeNode) → ChangesAt t u key o → ((k : ℕ) → v k ≡ u k) → ChangesAt t v key o

@@ -1,14 +1,16 @@
 -- Going up by nodes whose keys fall by one: their records are one behind another.
-use Rattle.std.proofs.Common.{◌≡◌, ℕ, suc, ◌+◌, ◌-◌, ◌<◌, sym, ap, ◌∙◌, subst, List, [], ◌∷◌, ◌++◌, length, take, drop, slice_get, Option, Some, None, arith}
+use Rattle.std.proofs.Common.{◌≡◌, ℕ, suc, ◌+◌, ◌-◌, ◌<◌, ◌≤◌, zero, sym, ap, ◌∙◌, subst, List, [], ◌∷◌, ◌++◌, length, take, drop, slice_get, Option, Some, None, arith}
 use Rattle.std.proofs.Math.Seq.{drop-cons, drop-append_seam}
 use Rattle.std.proofs.lemmas.List.{append_assoc, append-nil}
 use Rattle.std.proofs.lemmas.Option.{slice_get_within, get_or_from_slice_get}
 use Rattle.slab.specs.Slab.{Slab, get}
 use Rattle.rd_step.specs.declared.entries.Entry.{Entry}
 use Rattle.rd_marks.specs.declared.tree.Node.{Node}
-use Rattle.rd_marks.specs.Tree.{TreeNode, IsIn, depth_in, parent_in, path_in, IsTree}
-use Rattle.rd_marks.specs.TreeLayout.{node_with, tree_of, IsRow}
+use Rattle.rd_marks.specs.Tree.{TreeNode, IsIn, depth_in, parent_in, path_in, IsTree, IsHigher}
+use Rattle.rd_marks.specs.TreeLayout.{node_with, tree_of, IsRow, IsRowUpTo}
 use Rattle.rd_marks.proofs.TreeLemmas.{there, depth_there, parent_there, path_there, path_length}
+use Rattle.rd_marks.proofs.CommonNode.{goes_up}
+use Rattle.rd_marks.proofs.Switches.{begins_with}
 
 -- the record in the list is that of the node
 record_of : (o : Option Node) (x : Option Entry) (m : TreeNode) → node_with o x ≡ Some m → x ≡ Some m.entry
@@ -96,4 +98,42 @@ module _ (nodes : Slab Node) (records : List Entry) (rule : IsTree (tree_of node
             ap (λ (n : ℕ). take n (drop key records)) width
             ∙ sym (ap (λ (n : ℕ). drop n (path_in t (Some last))) (sym long) ∙ ap (drop (length (path_in t x.node.parent))) whole
             ∙ drop-append_seam (path_in t x.node.parent) (take (suc i) (drop key records)));
+      }
+
+  -- any key of its row
+  pub along_row : (first : ℕ) → IsRowUpTo (tree_of nodes records) first last → IsIn (tree_of nodes records) (Some last) → (i key : ℕ) → first ≤ key → key + i ≡ last
+      → GoesUp nodes records last i key
+  along_row first row is zero key after rises = subst (λ (k : ℕ). GoesUp nodes records last 0 k) (omega (arith, rises)) (row_begins is)
+  along_row first row is (suc i) key after rises =
+      row_goes_up i key (along_row first row is i (suc key) (omega (arith, after)) (omega (arith, rises))) (row.below key after (omega (arith, rises)))
+
+  -- the node of its row whose path has so many records
+  pub within_row : (first n over : ℕ) → IsRowUpTo (tree_of nodes records) first last → IsIn (tree_of nodes records) (Some last) → 1 ≤ over
+      → n + over ≡ depth_in (tree_of nodes records) (Some last) → over ≤ last - first → IsHigher (tree_of nodes records) n (Some last) (Some (last - over))
+  within_row first n over row is some deep short =
+      let within = row.within in
+      let up = along_row first row is over (last - over) (omega (arith, within, short)) (omega (arith, short)) in
+      let depth = up.depth in
+      record {
+        present = up.present;
+        begins = begins_with (path_in (tree_of nodes records) (Some (last - over))) (path_in (tree_of nodes records) (Some last)) _ up.path;
+        deep = omega (arith, depth, deep);
+        shallower = omega (arith, depth, some);
+      }
+
+  -- the node above the first one of its row
+  pub past_row : (first n : ℕ) → IsRowUpTo (tree_of nodes records) first last → IsIn (tree_of nodes records) (Some last)
+      → n + (last - first) < depth_in (tree_of nodes records) (Some last) → IsHigher (tree_of nodes records) n (Some last) (parent_in (tree_of nodes records) (Some first))
+  past_row first n row is long =
+      let t = tree_of nodes records in
+      let within = row.within in
+      let up = along_row first row is (last - first) first (omega arith) (omega (arith, within)) in
+      let depth = up.depth in
+      let above = goes_up t rule (Some first) (Some first) (Some first) up.present (omega (arith, depth, long)) in
+      let shallower = above.shallower in
+      record {
+        present = above.up_in;
+        begins = above.begins (path_in t (Some last)) (begins_with (path_in t (Some first)) (path_in t (Some last)) _ up.path);
+        deep = omega (arith, depth, long, shallower);
+        shallower = omega (arith, depth, shallower);
       }

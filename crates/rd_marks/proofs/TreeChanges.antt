@@ -1,4 +1,4 @@
--- A node put below another, and one without children taken away: both leave a tree, whose nodes can be found.
+-- A node put below another, and one without children taken away: both leave a tree, whose nodes can be found and know their rows.
 use Rattle.std.proofs.Common.{◌≡◌, ◌==◌, not, ℕ, suc, ◌≤◌, ◌<◌, ◌⊎◌, inl, inr, true, false, true≢false, refl, sym, ap, ◌∙◌, subst, List, [], ◌∷◌, ◌++◌, is_some, Option, Some, None, arith}
 use Rattle.std.specs.Option.{option_map_or}
 use Rattle.std.specs.List.{list_any, filter}
@@ -7,8 +7,8 @@ use Rattle.std.proofs.lemmas.List.Folds.{list_any-append}
 use Rattle.std.proofs.lemmas.Map.Views.{any-filter_same}
 use Rattle.rd_step.specs.Prelude.{MOST_STEPS}
 use Rattle.rd_step.specs.declared.entries.Entry.{Entry}
-use Rattle.rd_marks.specs.Tree.{TreeNode, MarkTree, IsIn, depth_in, HasChild, HasNoChildBy, IsTree, IsPartOf, ChangesAt}
-use Rattle.rd_marks.specs.TreeLayout.{AreLinked}
+use Rattle.rd_marks.specs.Tree.{TreeNode, MarkTree, IsIn, depth_in, above, parent_in, HasChild, HasNoChildBy, IsTree, IsPartOf, ChangesAt}
+use Rattle.rd_marks.specs.TreeLayout.{AreLinked, IsRowUpTo, AreInRows, JoinsRow}
 
 -- an element that is another passes no test for this one
 apart_some : (k key : ℕ) → (k ≡ key → ⊥) → Some k ≡ Some key → ⊥
@@ -27,6 +27,23 @@ module _ (t u : MarkTree) (key : ℕ) (o : Option TreeNode) (change : ChangesAt 
   pub stays_in : (p : Option ℕ) → (p ≡ Some key → ⊥) → IsIn t p → IsIn u p
   stays_in None apart h = refl
   stays_in (Some k) apart h = ap is_some (change.others k (λ e. apart (ap (λ (x : ℕ). Some x) e))) ∙ h
+
+-- what has a parent is there
+has_parent : (t : MarkTree) (key p : ℕ) → parent_in t (Some key) ≡ Some p → (n : TreeNode) × (t key ≡ Some n) × (n.parent ≡ Some p)
+has_parent t key p h = found (t key) refl h
+  where
+    found : (o : Option TreeNode) → t key ≡ o → above o ≡ Some p → (n : TreeNode) × (t key ≡ Some n) × (n.parent ≡ Some p)
+    found None e k = cc
+    found (Some n) e k = (n, e, k)
+
+-- a row is one too in a tree that has all nodes
+row_in : (t u : MarkTree) → IsPartOf t u → (first last : ℕ) → IsRowUpTo t first last → IsRowUpTo u first last
+row_in t u part first last row = record {
+  within = row.within;
+  below = λ k after before.
+      (let n = has_parent t (suc k) k (row.below k after before) in
+      ap above (part (suc k) n.0 n.1) ∙ n.2);
+}
 
 -- Taken away
 
@@ -63,6 +80,21 @@ module _ (t u : MarkTree) (key : ℕ) (rule : IsTree t) (leaf : HasChild t (Some
     where
       gone : (k : ℕ) (n : TreeNode) → u k ≡ Some n → k ≡ key → ⊥
       gone k n e same = let no = sym e ∙ ap u same ∙ change.changed in cc
+
+  -- a row does not go on past what is gone
+  row_apart : (first last : ℕ) → IsRowUpTo t first last → (last ≡ key → ⊥) → (k : ℕ) → first ≤ k → k < last → suc k ≡ key → ⊥
+  row_apart first last row apart k after before gone =
+      let n = has_parent t (suc (suc k)) (suc k) (row.below (suc k) (omega (arith, after)) (omega (arith, before, gone, apart))) in
+      leaf (suc (suc k), record { node = n.0; there = n.1; below = n.2 ∙ ap (λ (j : ℕ). Some j) gone })
+
+  pub rows_without : (first_of first_of' : ℕ → ℕ) → ((k : ℕ) → (k ≡ key → ⊥) → first_of' k ≡ first_of k) → AreInRows t first_of → AreInRows u first_of'
+  rows_without first_of first_of' same rows k is =
+      let apart : k ≡ key → ⊥ = λ e. true≢false (sym is ∙ ap is_some (ap u e ∙ change.changed)) in
+      let row = rows k (sym (ap is_some (change.others k apart)) ∙ is) in
+      subst (λ (f : ℕ). IsRowUpTo u f k) (sym (same k apart)) (record {
+        within = row.within;
+        below = λ j after before. ap above (change.others (suc j) (row_apart (first_of k) k row apart j after before)) ∙ row.below j after before;
+      })
 
 -- Put
 
@@ -146,3 +178,40 @@ module _ (t u : MarkTree) (key : ℕ) (at : Option ℕ) (x : Entry) (rule : IsTr
         | inl is_new ↦ absurd (unknown (ap (λ (y : TreeNode). known' y.parent) is_new.1 ∙ its ∙ ap (λ (i : ℕ). Some i) (sym is_new.0)))
         | inr was ↦ linked k n was (λ h. unknown (same n.parent (λ parents. only (k, record { node = n; there = was; below = parents })) (above_apart k n was) ∙ h))
       ]
+
+  -- in its row, or at the beginning of one
+  pub rows_with : (first_of first_of' : ℕ → ℕ) → ((k : ℕ) → (k ≡ key → ⊥) → first_of' k ≡ first_of k) → JoinsRow first_of at key (first_of' key) → AreInRows t first_of
+      → AreInRows u first_of'
+  rows_with first_of first_of' same joins rows k is_there =
+      elim (cases_eq k key) [
+        | inl here ↦ subst (λ (j : ℕ). IsRowUpTo u (first_of' j) j) (sym here) (its_row at refl)
+        | inr apart ↦
+            subst (λ (f : ℕ). IsRowUpTo u f k) (sym (same k apart))
+            (row_in t u is_part_with (first_of k) k (rows k (sym (ap is_some (change.others k apart)) ∙ is_there)))
+      ]
+    where
+      alone : ((parent : ℕ) → at ≡ Some parent → key ≡ suc parent → ⊥) → IsRowUpTo u (first_of' key) key
+      alone none =
+          subst (λ (f : ℕ). IsRowUpTo u f key) (sym (joins.begins none))
+          (record { within = omega arith; below = λ j after before. absurd (omega (arith, after, before)) })
+
+      behind : (parent : ℕ) → at ≡ Some parent → key ≡ suc parent → IsRowUpTo u (first_of' key) key
+      behind parent e next =
+          let row = row_in t u is_part_with (first_of parent) parent (rows parent (subst (λ (p : Option ℕ). IsIn t p) e is)) in
+          subst (λ (f : ℕ). IsRowUpTo u f key) (sym (joins.goes_on parent e next)) (record {
+            within = omega (arith, row.within, next);
+            below = λ j after before. elim (cases_eq j parent) [
+              | inl last ↦
+                  let its : suc j ≡ key = ap suc last ∙ sym next in
+                  ap (λ (i : ℕ). parent_in u (Some i)) its ∙ ap above change.changed ∙ e ∙ ap (λ (i : ℕ). Some i) (sym last)
+              | inr earlier ↦ row.below j after (omega (arith, before, next, earlier))
+            ];
+          })
+
+      its_row : (p : Option ℕ) → at ≡ p → IsRowUpTo u (first_of' key) key
+      its_row None e = alone (λ parent h next. (let no = sym e ∙ h in cc))
+      its_row (Some parent) e =
+          elim (cases_eq key (suc parent)) [
+            | inl next ↦ behind parent e next
+            | inr apart ↦ alone (λ other h next. (let both = sym e ∙ h in let one : parent ≡ other = cc in apart (next ∙ ap suc (sym one))))
+          ]

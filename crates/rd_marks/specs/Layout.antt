@@ -41,7 +41,7 @@ pub record KeepsMarks (R : ℕ) (start : World) (nodes : Slab Node) (records : L
   pub runs : All (λ m. IsRecordOfRun R start (path_in (tree_of nodes records) m.1)) marks
   pub used : (key : ℕ) (n : TreeNode) → tree_of nodes records key ≡ Some n → (has_child nodes (Some key) || has_mark marks (Some key)) ≡ true
 
--- where the live steps stand in the tree: at a node, the events of whose path begin them
-pub record IsHere (t : MarkTree) (here : Option ℕ) (live : List Event) : Type 0 where
+-- where steps lie in the tree: at a node, the events of whose path begin them
+pub record IsHere (t : MarkTree) (here : Option ℕ) (steps : List Event) : Type 0 where
   pub present : IsIn t here
-  pub begins : Begins (events (path_in t here)) live
+  pub begins : Begins (events (path_in t here)) steps

@@ -1,10 +1,11 @@
 -- The tree of the bookmarks' records: what is at each key, the path of a node, and the rule of the tree. The root is no key: it is
 -- `None`.
-use Rattle.std.specs.Prelude.{◌≡◌, ◌⊎◌, ℕ, zero, suc, ◌≤◌, List, [], ◌∷◌, ◌++◌, Option, Some, None, Bool, true, is_some}
+use Rattle.std.specs.Prelude.{◌≡◌, ◌⊎◌, ℕ, zero, suc, ◌<◌, ◌≤◌, List, [], ◌∷◌, ◌++◌, Option, Some, None, Bool, true, is_some}
 use Rattle.std.specs.Option.{option_map_or}
 use Rattle.rd_step.specs.Prelude.{MOST_STEPS}
 use Rattle.rd_step.specs.declared.entries.Event.{Event}
 use Rattle.rd_step.specs.declared.entries.Entry.{Entry}
+use Rattle.rd_depend.specs.Beginnings.{Begins}
 
 -- a node: the record of its step, the node above it, and how many records its path has
 pub record TreeNode : Type 0 where
@@ -64,6 +65,13 @@ path_up t (suc d) (Some key) = path_by (λ parent. path_up t d parent) (t key)
 -- the records from the root down to this node
 abbrev pub path_in : MarkTree → Option ℕ → List Entry
 path_in t at = path_up t (depth_in t at) at
+
+-- a node above another, whose path has this many records or more
+pub record IsHigher (t : MarkTree) (least : ℕ) (from at : Option ℕ) : Type 0 where
+  pub present : IsIn t at
+  pub begins : Begins (path_in t at) (path_in t from)
+  pub deep : least ≤ depth_in t at
+  pub shallower : depth_in t at < depth_in t from
 
 -- what is at the key is right below the other node
 pub record IsChild (t : MarkTree) (key : ℕ) (at : Option ℕ) : Type 0 where

@@ -14,7 +14,7 @@ mod queries;
 
 ghost use Rattle.std.specs.Prelude.{◌≡◌, ◌⊎◌, [], length, Ok, Err, OnOk, OnErr, IfOk, IfErr, IsOk};
 ghost use Rattle.rd_cell.specs.declared.refusal.Refusal.TheVariants.{NoMemory};
-ghost use Rattle.rd_journal.specs.Sessions.{state, journal};
+ghost use Rattle.rd_journal.specs.Sessions.{state, track, journal};
 ghost use Rattle.rd_marks.specs.Layout.{KeepsMarks, IsHere};
 ghost use Rattle.rd_marks.specs.TreeViews.{mark_tree};
 
@@ -33,12 +33,12 @@ pub struct Book<const R: usize> {
     tree: Tree,
     /// The node of each bookmark, whose path has the records of its steps.
     marks: IndexMap<MarkName, Option<usize>>,
-    /// Where the live steps stand in the tree: a node whose path begins them. Setting a bookmark and going to one begin there, and not
-    /// at the root.
+    /// Where the session's track lies in the tree: a node whose path begins it, which is the live steps with those ahead of them. Setting
+    /// a bookmark and going to one begin there, and not at the root.
     here: Option<usize>,
     alloc: Global,
     ghost kept: { KeepsMarks R (state session).start tree.nodes tree.records.items marks.entries },
-    ghost stands: { IsHere (mark_tree tree) here (state session).live },
+    ghost stands: { IsHere (mark_tree tree) here (track session) },
 }
 
 /// Written out and not derived, so that a proof of a function in which a book ends has one step for that, and not one for
@@ -149,9 +149,13 @@ impl<const R: usize> Book<R> {
             return Err(Refusal::NoMark);
         };
         let node = *node;
-        switch_to(&mut self.session, &self.tree, self.alloc, self.here, node)?;
-        self.here = node;
-        Ok(())
+        switch_to(
+            &mut self.session,
+            &self.tree,
+            self.alloc,
+            &mut self.here,
+            node,
+        )
     }
 
     /// Whether the steps of two bookmarks are causally equivalent: one list is the other up to the order of steps that do not

@@ -1,11 +1,11 @@
-//! The bookmarks by name, each with its node, which nodes they use, and where the live steps stand.
+//! The bookmarks by name, each with its node, which nodes they use, and where the session's track lies.
 
 ghost use Rattle.std.specs.Prelude.{◌≡◌, ◌<◌, ◌↔◌, ◌++◌, [], ◌∷◌, ℕ, None, Some, false, min, length, is_some, IsTrue, IsOk, IfOk, OnOk, IfErr, OnErr};
 ghost use Rattle.std.specs.List.{All};
 ghost use Rattle.rd_depend.specs.Beginnings.{Begins, IsBegunByNeither};
 ghost use Rattle.rd_depend.specs.Equivalence.{DecidesEquivalence};
 ghost use Rattle.rd_journal.specs.Journal.{events};
-ghost use Rattle.rd_journal.specs.Sessions.{state, journal};
+ghost use Rattle.rd_journal.specs.Sessions.{state, track, journal};
 ghost use Rattle.rd_marks.specs.Books.{Mark, marked_events};
 ghost use Rattle.rd_marks.specs.Layout.{IsRecordOfRun, KeepsMarks, IsHere, has_mark};
 ghost use Rattle.rd_marks.specs.Marks.{marks_of};
@@ -29,8 +29,8 @@ pub(crate) fn is_marked(marks: &IndexMap<MarkName, Option<usize>>, name: &MarkNa
     marks.contains_key(name)
 }
 
-/// Sets a bookmark of this name, which none has, at the live steps, which stand there then. It is the last one. Its nodes are those that
-/// are there of its beginning, and new ones for the rest of it; all memory is asked for before the first is put.
+/// Sets a bookmark of this name, which none has, at the live steps. It is the last one. Its nodes are those that are there of its
+/// beginning, and new ones for the rest of it; all memory is asked for before the first is put.
 ///
 /// # Errors
 ///
@@ -45,29 +45,30 @@ pub(crate) fn put_mark<const R: usize>(
     requires new { is_some (marked_events (marks_of (mark_tree tree.old) marks.old.entries) name) ≡ false }
     requires few { length marks.old.entries < MOST_MARKS }
     requires kept { KeepsMarks R (state session.now).start tree.old.nodes tree.old.records.items marks.old.entries }
-    requires here { IsHere (mark_tree tree.old) here.old (state session.now).live }
+    requires here { IsHere (mark_tree tree.old) here.old (track session.now) }
     ensures ok { OnOk result (marks_of (mark_tree tree.new) marks.new.entries
         ≡ marks_of (mark_tree tree.old) marks.old.entries ++ record { name = name; events = (state session.now).live } ∷ []) }
     ensures kept { KeepsMarks R (state session.now).start tree.new.nodes tree.new.records.items marks.new.entries }
-    ensures here { IsHere (mark_tree tree.new) here.new (state session.now).live }
+    ensures here { IsHere (mark_tree tree.new) here.new (track session.now) }
     ensures unchanged { OnErr result (marks_of (mark_tree tree.new) marks.new.entries ≡ marks_of (mark_tree tree.old) marks.old.entries) }
 {
     let live = session.live();
-    let beginning = tree.follow(*here, &live);
+    let beginning = tree.follow(tree.ancestor(*here, live.len()), &live);
     let rest = live.behind(tree.depth(beginning));
     tree.reserve(rest.len())?;
     marks.reserve(1)?;
     let node = tree.grow(beginning, &rest);
-    *here = node;
+    if tree.depth(*here) <= live.len() {
+        *here = node;
+    }
     match marks.insert(name, node) {
         Err(_) => unreachable!(),
         Ok(_) => Ok(()),
     }
 }
 
-/// Makes the steps of this node's path the live ones, with none undone: what they begin with in common with the live ones stays. What
-/// the live ones have in common with the tree is looked for from where they stand in it. The others are copied only if the tree can't
-/// lend them.
+/// Makes the steps of this node's path the live ones, with none undone. If they lie on the session's track, it goes along it; else what they
+/// begin with in common with the live ones stays, and the track is theirs then.
 ///
 /// # Errors
 ///
@@ -76,10 +77,43 @@ pub(crate) fn switch_to<const R: usize>(
     session: &mut Session<R>,
     tree: &Tree,
     alloc: Global,
+    here: &mut Option<usize>,
+    node: Option<usize>,
+) -> Result<(), Refusal>
+    requires here { IsHere (mark_tree tree.now) here.old (track session.old) }
+    requires present { IsIn (mark_tree tree.now) node }
+    requires run { IsRecordOfRun R (state session.old).start (path_in (mark_tree tree.now) node) }
+    ensures ok { OnOk result (state session.new
+        ≡ record { start = (state session.old).start; live = events (path_in (mark_tree tree.now) node); undone = [] }) }
+    ensures here { IsHere (mark_tree tree.now) here.new (track session.new) }
+    ensures err { IfErr result (λ refusal. refusal ≡ Refusal.NoMemory) }
+    ensures succeeds { Begins (events (path_in (mark_tree tree.now) node)) (state session.old).live → IsOk result }
+    ensures unchanged { OnErr result (journal session.new ≡ journal session.old) }
+{
+    let depth = tree.depth(node);
+    if tree.ancestor(*here, depth) == node {
+        session.go_along(depth as u64);
+        return Ok(());
+    }
+    exchange(session, tree, alloc, *here, node)?;
+    *here = node;
+    Ok(())
+}
+
+/// The same, wherever they lie. What the live ones have in common with the tree is looked for from where they stand in it. The others are
+/// copied from the tree if it can't lend them.
+///
+/// # Errors
+///
+/// `NoMemory` if room for the others was refused, so not if there are none. Nothing has changed then.
+fn exchange<const R: usize>(
+    session: &mut Session<R>,
+    tree: &Tree,
+    alloc: Global,
     here: Option<usize>,
     node: Option<usize>,
 ) -> Result<(), Refusal>
-    requires here { IsHere (mark_tree tree.now) here (state session.old).live }
+    requires here { IsHere (mark_tree tree.now) here (track session.old) }
     requires present { IsIn (mark_tree tree.now) node }
     requires run { IsRecordOfRun R (state session.old).start (path_in (mark_tree tree.now) node) }
     ensures ok { OnOk result (state session.new
@@ -87,8 +121,10 @@ pub(crate) fn switch_to<const R: usize>(
     ensures err { IfErr result (λ refusal. refusal ≡ Refusal.NoMemory) }
     ensures succeeds { Begins (events (path_in (mark_tree tree.now) node)) (state session.old).live → IsOk result }
     ensures unchanged { OnErr result (journal session.new ≡ journal session.old) }
+    ensures track { OnErr result (track session.new ≡ track session.old) }
 {
-    let beginning = tree.follow(here, &session.live());
+    let stands = tree.ancestor(here, session.len() as usize);
+    let beginning = tree.follow(stands, &session.live());
     let common = tree.depth(tree.common(beginning, node));
     if let Some(records) = tree.slice(node, common) {
         return session.switch(common as u64, records);
@@ -99,7 +135,7 @@ pub(crate) fn switch_to<const R: usize>(
     }
 }
 
-/// Where the live steps stand once a call that undoes steps has answered: where they stood if it was refused, and else at the deepest
+/// Where the track lies once a call that takes steps out of it has answered: where it lay if it was refused, and else at the deepest
 /// node on the way there whose path is no longer than the first `n` steps, which stayed.
 pub(crate) fn cut_back(
     tree: &Tree,
@@ -145,8 +181,8 @@ pub(crate) fn are_same(
     are_equivalent(alloc, &ones, &others)
 }
 
-/// Takes away this node and those above it that no bookmark uses, if this is the only one that may not be used. What stood at one of
-/// them stands at the deepest above it that is left.
+/// Takes away this node and those above it that no bookmark uses, if this is the only one that may not be used. What lay at one of
+/// them lies at the deepest above it that is left.
 pub(crate) fn prune(
     tree: &mut Tree,
     marks: &IndexMap<MarkName, Option<usize>>,

@@ -4,19 +4,21 @@
 //! at it. Children of one parent are of different events. The root is no node: it is `None`, and its path is empty.
 //!
 //! The records are in a vector of their own, by the keys of their nodes. Nodes that are put one after another mostly get keys that
-//! rise by one, so a part of a path is often a part of the vector, and can be lent with nothing copied.
+//! rise by one: they are a row, and each knows the key at which it begins. So a part of a path is often a part of the vector, and can
+//! be lent with nothing copied, and the way up a path goes from row to row.
 //!
 //! A node knows one of its children, the one it got first; later ones are in `forks`, of which there are few. What is known of a
 //! child is looked at before it is believed, so nothing has to be set right when a node goes.
 
-ghost use Rattle.std.specs.Prelude.{◌≡◌, ◌≢◌, ◌↔◌, ◌⊎◌, ◌<◌, ◌≤◌, ◌+◌, ◌++◌, [], ◌∷◌, Some, None, suc, length, take, drop, IsTrue, MatchOption, IfOk, OnOk, OnErr, IsOk, get_or, is_some, option_copied, ℕ, true, false, List, Option, not, ◌==◌, vec_capacity};
-ghost use Rattle.std.specs.List.{All, filter, slice_get};
+ghost use Rattle.std.specs.Prelude.{◌≡◌, ◌↔◌, ◌<◌, ◌≤◌, ◌+◌, Some, None, suc, length, IsTrue, MatchOption, OnOk, is_some, option_copied, ℕ, List, Option, not, ◌==◌, vec_capacity};
+ghost use Rattle.std.specs.List.{filter, slice_get};
 ghost use Rattle.slab.specs.Slab.{slab_len, ContainsKey, get};
 ghost use Rattle.rd_step.specs.Prelude.{MOST_STEPS};
 ghost use Rattle.rd_step.specs.declared.entries.Entry.{Entry};
 ghost use Rattle.rd_marks.specs.Tree.{IsIn};
-ghost use Rattle.rd_marks.specs.TreeLayout.{tree_of, known_in, IsKept};
+ghost use Rattle.rd_marks.specs.TreeLayout.{tree_of, known_in, first_in, JoinsRow, IsKept};
 
+mod children;
 mod walks;
 
 use rd_step::{Entry, Event};
@@ -32,6 +34,9 @@ struct Node {
     depth: usize,
     /// Where a child of it is, if there is one and it is no fork.
     child: Option<usize>,
+    /// The key of the first node of its row: the nodes from there up to this one are each right below the one before, so their keys
+    /// rise by one.
+    first: usize,
 }
 
 /// The tree.
@@ -48,7 +53,7 @@ pub(crate) struct Tree {
 }
 
 impl Tree {
-    ghost use Rattle.rd_marks.specs.Tree.{depth_in, parent_in, entry_in, IsChild, IsChildBy, HasChild, HasNoChildBy, ChangesAt};
+    ghost use Rattle.rd_marks.specs.Tree.{depth_in, parent_in, entry_in, IsChildBy, HasChild, HasNoChildBy, ChangesAt};
     ghost use Rattle.rd_marks.specs.TreeViews.{mark_tree, next_key, HasRoom, HasForkRoom};
 
     /// A tree of the root alone. It takes no memory.
@@ -161,10 +166,12 @@ impl Tree {
     {
         let is_fork = self.is_parent(at);
         let depth = self.depth(at) + 1;
+        let first = self.row_below(at, self.nodes.vacant_key());
         let key = self.nodes.insert_reserved(Node {
             parent: at,
             depth,
             child: None,
+            first,
         });
         put_record(&mut self.records, key, entry);
         if is_fork {
@@ -188,96 +195,28 @@ impl Tree {
         node.parent
     }
 
-    /// Where a child of a node may be.
-    fn known_child(&self, at: Option<usize>) -> Option<usize>
-        ensures { result ≡ known_in self.now.nodes self.now.top at }
-    {
-        match at {
-            None => self.top,
-            Some(key) => match self.nodes.get(key) {
-                None => None,
-                Some(node) => node.child,
-            },
-        }
-    }
-
-    /// Whether the child is there that a node knows.
-    fn knows_child(&self, at: Option<usize>) -> bool
-        ensures none { result ≡ false → (key : ℕ) → known_in self.now.nodes self.now.top at ≡ Some key → IsChild (mark_tree self.now) key at → ⊥ }
-        ensures some { result ≡ true → HasChild (mark_tree self.now) at }
-    {
-        match self.known_child(at) {
-            None => false,
-            Some(key) => self.is_child(key, at),
-        }
-    }
-
-    /// The child that a node knows, if it is there and is of this event.
-    fn known_by(&self, at: Option<usize>, event: &Event) -> Option<usize>
-        ensures { MatchOption result
-            ((key : ℕ) → known_in self.now.nodes self.now.top at ≡ Some key → IsChildBy (mark_tree self.now) key at event.now → ⊥)
-            (λ key. IsChildBy (mark_tree self.now) key at event.now) }
-    {
-        let key = self.known_child(at)?;
-        if !self.is_child_by(key, at, event) {
-            return None;
-        }
-        Some(key)
-    }
-
-    /// Whether a fork is a child of this node.
-    fn has_fork(&self, at: Option<usize>) -> bool
-        ensures none { result ≡ false → All (λ fork. IsChild (mark_tree self.now) fork at → ⊥) self.now.forks.items }
-        ensures some { result ≡ true → HasChild (mark_tree self.now) at }
-    {
-        for index in 0..self.forks.len() {
-            if self.is_child(self.forks[index], at) {
-                return true;
-            }
-        }
-        false
-    }
-
-    /// The fork that is a child of this node and is of this event.
-    fn fork_by(&self, at: Option<usize>, event: &Event) -> Option<usize>
-        ensures { MatchOption result (All (λ fork. IsChildBy (mark_tree self.now) fork at event.now → ⊥) self.now.forks.items)
-            (λ key. IsChildBy (mark_tree self.now) key at event.now) }
-    {
-        for index in 0..self.forks.len() {
-            let key = self.forks[index];
-            if self.is_child_by(key, at, event) {
-                return Some(key);
-            }
-        }
-        None
-    }
-
-    /// Whether there is a node here whose parent is the other.
-    fn is_child(&self, key: usize, at: Option<usize>) -> bool
-        ensures { IsTrue result ↔ IsChild (mark_tree self.now) key at }
+    /// The key of the first node of a node's row.
+    fn first(&self, key: usize) -> usize
+        ensures { result ≡ first_in self.now.nodes key }
     {
         match self.nodes.get(key) {
-            None => false,
-            Some(node) => node.parent == at,
+            None => 0,
+            Some(node) => node.first,
         }
     }
 
-    /// Whether there is a node here of this event whose parent is the other.
-    fn is_child_by(&self, key: usize, at: Option<usize>, event: &Event) -> bool
-        ensures { IsTrue result ↔ IsChildBy (mark_tree self.now) key at event.now }
+    /// The key of the first node of the row that a node is in if it is put at this key, below another.
+    fn row_below(&self, at: Option<usize>, key: usize) -> usize
+        ensures { JoinsRow (first_in self.now.nodes) at key result }
     {
-        match self.nodes.get(key) {
-            None => false,
-            Some(node) => node.parent == at && is_same(&self.records[key].event, event),
+        let Some(parent) = at else {
+            return key;
+        };
+        if key <= parent || key - parent > 1 {
+            return key;
         }
+        self.first(parent)
     }
-}
-
-/// Whether the two are one event.
-fn is_same(a: &Event, b: &Event) -> bool
-    ensures { IsTrue result ↔ (a.now ≡ b.now) }
-{
-    a == b
 }
 
 /// Takes a node out of the forks, if it is one.
@@ -325,6 +264,7 @@ fn link(nodes: &mut Slab<Node>, top: &mut Option<usize>, at: Option<usize>, key:
     ensures keys { (other : ℕ) → is_some (get nodes.new other) ≡ is_some (get nodes.old other) }
     ensures known { known_in nodes.new top.new at ≡ Some key }
     ensures others { (other : Option ℕ) → (other ≡ at → ⊥) → known_in nodes.new top.new other ≡ known_in nodes.old top.old other }
+    ensures rows { (other : ℕ) → first_in nodes.new other ≡ first_in nodes.old other }
     ensures len { slab_len nodes.new ≡ slab_len nodes.old }
     ensures capacity { nodes.new.capacity ≡ nodes.old.capacity }
 {

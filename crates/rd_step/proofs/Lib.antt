@@ -19,6 +19,7 @@ pub mod Assembled
 pub mod Accepted
 pub mod TakenApart
 pub mod Progress
+pub mod MadeAgain
 pub mod OldWords
 pub mod Symmetry
 pub mod Equivalence

@@ -2,7 +2,7 @@
 
 ghost use Rattle.std.specs.Prelude.{◌≡◌};
 ghost use Rattle.rd_cell.specs.Places.{written};
-ghost use Rattle.rd_step.specs.Touched.{made, made_at, overwritten};
+ghost use Rattle.rd_step.specs.Touched.{made, made_at};
 
 use rd_actor::{Act, Actor, OpReply};
 use rd_cell::{Answer, Content, Place, SegName, Wrote, written};
@@ -36,17 +36,6 @@ pub struct Entry {
 }
 
 impl Entry {
-    /// The place that the step wrote, with its content from before, which a making has none of. None if the step only read.
-    pub fn overwritten(&self) -> (Option<Place>, Option<Content>)
-        ensures { result ≡ overwritten self.now }
-    {
-        if self.wrote.is_nothing() {
-            (None, None)
-        } else {
-            (self.place, self.old_content)
-        }
-    }
-
     /// The place that names what the step wrote, or none if it only read or had no place. What the step touched is what its own
     /// place names.
     pub fn written(&self) -> Option<Place>

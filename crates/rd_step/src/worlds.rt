@@ -1,6 +1,6 @@
 //! The world: the space and the actors, and the step.
 
-ghost use Rattle.std.specs.Prelude.{◌≡◌, ◌+◌, ◌<◌, ◌≤◌, ◌↔◌, ℕ, suc, None, Ok, Err, IsSome, IfOk, IfErr, OnOk, OnErr, length};
+ghost use Rattle.std.specs.Prelude.{◌≡◌, ◌+◌, ◌<◌, ◌≤◌, ◌↔◌, ℕ, suc, None, Ok, Err, IsSome, IsTrue, IfOk, IfErr, OnOk, OnErr, length};
 ghost use Rattle.rd_ring.specs.Prelude.{MOST_CELLS, MOST_ACTORS, content_at};
 ghost use Rattle.rd_segments.specs.Room.{room_used, room_returned};
 ghost use Rattle.rd_segments.specs.Space.{lists};
@@ -9,6 +9,7 @@ ghost use Rattle.rd_step.specs.Fields.{world_of_fields};
 ghost use Rattle.rd_step.specs.Starts.{fresh_world, poised_world};
 ghost use Rattle.rd_step.specs.Room.{makes_segment, IsRefused};
 ghost use Rattle.rd_step.specs.WellFormed.{IsWellFormed};
+ghost use Rattle.rd_step.specs.World.{World as Model};
 ghost use Rattle.rd_step.specs.Parts.{world_of_parts, first_flaw, Refuses};
 
 use super::entries::{Entry, Event};
@@ -215,6 +216,29 @@ impl<const R: usize> World<R> {
             old_actor: actor,
             old_content: done.old,
         })
+    }
+
+    /// Makes the step of an entry again, which is known to leave this entry: its access, if that wrote anything, and the words
+    /// with which its actor goes on by the answer that the entry keeps. No entry is written. A making takes no memory, since its
+    /// maker must have room.
+    pub fn step_again(&mut self, entry: &Entry)
+        requires goes { (after : Model) × (step R (model self.old) entry.now.event ≡ Ok (record { world = after; entry = entry.now })) }
+        requires room { IsTrue (makes_segment R (model self.old) entry.now.event) → 1 ≤ room self.old entry.now.event.actor }
+        ensures done { step R (model self.old) entry.now.event ≡ Ok (record { world = model self.new; entry = entry.now }) }
+        ensures room { (m : ℕ) → room self.old m ≤ room self.new m + room_used (makes_segment R (model self.old) entry.now.event) entry.now.event.actor m }
+    {
+        let actor = entry.event.actor;
+        let (next, _) = after::<R>(&entry.old_actor, entry.event.act, entry.answer);
+        set_actor(&mut self.actors, actor, next);
+        if !entry.wrote.is_nothing() {
+            let Ok(access) = need::<R>(&entry.old_actor, entry.event.act) else {
+                unreachable!()
+            };
+            match perform(&mut self.space, actor, access) {
+                Err(_) => unreachable!(),
+                Ok(_) => {}
+            }
+        }
     }
 
     /// Sets the words of one actor and the content of one place, if one is named, and changes nothing else.

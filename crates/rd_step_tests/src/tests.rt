@@ -1,6 +1,12 @@
 //! The tests of the world, and what they share: an actor and a world of rings of four cells that are put together from
 //! data.
 
+ghost use Rattle.std.specs.Prelude.{◌≡◌, ◌≤◌, IsTrue, IfOk, Ok};
+ghost use Rattle.rd_step.specs.Prelude.{model, room, step};
+ghost use Rattle.rd_step.specs.Room.{makes_segment};
+ghost use Rattle.rd_step.specs.World.{World as Model};
+
+mod again;
 mod assembling;
 mod copies;
 mod limits;
@@ -245,8 +251,11 @@ fn an_actor_that_is_not_there_is_refused_before_one_that_is_idle(
     Ok(())
 }
 
-/// Makes a step, and puts the words of its entry back.
-fn step_and_revert(world: &mut World<4>, event: Event) -> Result<Entry, Refusal> {
+/// Makes a step, and puts the words of its entry back, so that the step may be made again.
+fn step_and_revert(world: &mut World<4>, event: Event) -> Result<Entry, Refusal>
+    ensures goes { IfOk result (λ entry. (after : Model) × (step 4 (model world.new) entry.event ≡ Ok (record { world = after; entry = entry }))) }
+    ensures room { IfOk result (λ entry. IsTrue (makes_segment 4 (model world.new) entry.event) → 1 ≤ room world.new entry.event.actor) }
+{
     let entry = world.step(event)?;
     world.revert(
         entry.event.actor,

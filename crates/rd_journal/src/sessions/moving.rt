@@ -1,19 +1,14 @@
 //! Undoing the last live steps and redoing those that were undone last.
 
-ghost use Rattle.std.specs.Prelude.{◌≡◌, ◌+◌, ◌≤◌, ℕ, IsTrue, length, Ok};
-ghost use Rattle.rd_step.specs.Prelude.{model, room as world_room, step};
-ghost use Rattle.rd_step.specs.Room.{makes_segment, room_used};
-ghost use Rattle.rd_step.specs.World.{World as Model};
+ghost use Rattle.std.specs.Prelude.{◌≡◌, ◌≤◌, ℕ, length};
 ghost use Rattle.rd_journal.specs.Moves.{IsMovedBack, IsMovedForward};
 ghost use Rattle.rd_journal.specs.State.{back_one, forward_one, times};
 
 use super::Session;
-use rd_actor::after;
 use rd_inverse::unstep;
-use rd_step::{Entry, World};
 
 impl<const R: usize> Session<R> {
-    ghost use Rattle.rd_journal.specs.Sessions.{journal, state, room, capacity};
+    ghost use Rattle.rd_journal.specs.Sessions.{journal, state, track, room, capacity};
 
     /// Undoes the last live step: its old words are put back.
     pub(super) fn undo_last(&mut self)
@@ -21,6 +16,7 @@ impl<const R: usize> Session<R> {
         ensures records { IsMovedBack 1 (journal self.old) (journal self.new) }
         ensures state { state self.new ≡ back_one (state self.old) }
         ensures room { (m : ℕ) → room self.old m ≤ room self.new m }
+        ensures track { track self.new ≡ track self.old }
         ensures capacity { capacity self.new ≡ capacity self.old }
     {
         unstep(&mut self.world, self.records.last_live());
@@ -34,6 +30,7 @@ impl<const R: usize> Session<R> {
         ensures records { IsMovedBack n (journal self.old) (journal self.new) }
         ensures state { state self.new ≡ times n back_one (state self.old) }
         ensures room { (m : ℕ) → room self.old m ≤ room self.new m }
+        ensures track { track self.new ≡ track self.old }
         ensures capacity { capacity self.new ≡ capacity self.old }
     {
         for _ in 0..n {
@@ -47,9 +44,10 @@ impl<const R: usize> Session<R> {
         requires some { 1 ≤ length (journal self.old).undone }
         ensures records { IsMovedForward 1 (journal self.old) (journal self.new) }
         ensures state { state self.new ≡ forward_one (state self.old) }
+        ensures track { track self.new ≡ track self.old }
         ensures capacity { capacity self.new ≡ capacity self.old }
     {
-        step_again(&mut self.world, self.records.first_ahead());
+        self.world.step_again(self.records.first_ahead());
         self.records.step_forward();
         self.undone -= 1;
     }
@@ -59,31 +57,11 @@ impl<const R: usize> Session<R> {
         requires enough { n ≤ length (journal self.old).undone }
         ensures records { IsMovedForward n (journal self.old) (journal self.new) }
         ensures state { state self.new ≡ times n forward_one (state self.old) }
+        ensures track { track self.new ≡ track self.old }
         ensures capacity { capacity self.new ≡ capacity self.old }
     {
         for _ in 0..n {
             self.redo_first();
         }
-    }
-}
-
-/// Makes the step of a record again, which is known to leave that record. One that only read changes its actor alone, by the
-/// answer that the record keeps.
-fn step_again<const R: usize>(world: &mut World<R>, entry: &Entry)
-    requires goes { (after : Model) × (step R (model world.old) entry.now.event ≡ Ok (record { world = after; entry = entry.now })) }
-    requires room { IsTrue (makes_segment R (model world.old) entry.now.event) → 1 ≤ world_room world.old entry.now.event.actor }
-    ensures done { step R (model world.old) entry.now.event ≡ Ok (record { world = model world.new; entry = entry.now }) }
-    ensures room { (m : ℕ) → world_room world.old m
-        ≤ world_room world.new m + room_used (makes_segment R (model world.old) entry.now.event) entry.now.event.actor m }
-{
-    if !entry.wrote.is_nothing() {
-        match world.step(entry.event) {
-            Err(_) => unreachable!(),
-            Ok(_) => {}
-        }
-    } else {
-        let (words, _) = after::<R>(&entry.old_actor, entry.event.act, entry.answer);
-        let (place, content) = entry.overwritten();
-        world.revert(entry.event.actor, words, place, content);
     }
 }

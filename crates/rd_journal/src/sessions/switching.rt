@@ -17,7 +17,7 @@ use rd_step::{Entry, World};
 const ACTOR_NUMBERS: usize = 256;
 
 impl<const R: usize> Session<R> {
-    ghost use Rattle.rd_journal.specs.Sessions.{journal, state, room, capacity};
+    ghost use Rattle.rd_journal.specs.Sessions.{journal, state, track, room, capacity};
 
     /// Makes room for the given records behind the first `kept` ones, and for the makings that they are of. Room that is there is
     /// not asked for.
@@ -34,6 +34,7 @@ impl<const R: usize> Session<R> {
         ensures succeeds { given.now ≡ [] → IsOk result }
         ensures capacity { kept + length given.now ≤ capacity self.old → capacity self.new ≡ capacity self.old }
         ensures unchanged { journal self.new ≡ journal self.old }
+        ensures track { track self.new ≡ track self.old }
     {
         self.records.make_room_for(kept as usize + given.len())?;
         make_room_for_makings(&mut self.world, given)
@@ -55,7 +56,7 @@ impl<const R: usize> Session<R> {
         self.redo_many(given.len() as u64);
     }
 
-    /// Has these records be the undone ones. If there are none, those ahead stay where they are.
+    /// Has these records be the ones ahead, and undone.
     fn put_ahead(&mut self, given: &[Entry])
         requires run { IsRunFrom R (start_of (journal self.old)) ((journal self.old).live ++ given.now) }
         requires few { length (journal self.old).live + length given.now ≤ MOST_STEPS }
@@ -64,20 +65,8 @@ impl<const R: usize> Session<R> {
         ensures replaced { IsReplaced given.now (journal self.old) (journal self.new) }
         ensures capacity { capacity self.new ≡ capacity self.old }
     {
-        if given.is_empty() {
-            self.undone = 0;
-            return;
-        }
         self.records.replace_ahead(given);
         self.undone = given.len();
-    }
-
-    /// Whether all live steps stay and these are the records of the next ones ahead.
-    pub(super) fn goes_on_with(&self, kept: u64, given: &[Entry]) -> bool
-        requires run { IsRunFrom R (start_of (journal self.now)) (take kept (journal self.now).live ++ given.now) }
-        ensures { IsTrue result → (kept ≡ length (journal self.now).live) × (given.now ≡ take (length given.now) (ahead_records self.now.records.records)) }
-    {
-        kept == self.len() && self.records.are_ahead(given)
     }
 
     /// Makes the next `n` steps ahead again, and has no step be undone then. It takes no memory.
@@ -85,6 +74,7 @@ impl<const R: usize> Session<R> {
         requires within { n ≤ length (ahead_records self.old.records.records) }
         ensures records { IsSwitched (length (journal self.old).live) (take n (ahead_records self.old.records.records)) (journal self.old) (journal self.new) }
         ensures start { start_of (journal self.new) ≡ start_of (journal self.old) }
+        ensures track { track self.new ≡ track self.old }
         ensures capacity { capacity self.new ≡ capacity self.old }
     {
         self.undone = n;

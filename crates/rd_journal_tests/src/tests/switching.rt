@@ -1,4 +1,4 @@
-//! Going over to the records that a session has, all of them stepped again, and to none.
+//! Going over to the records that a session has, all of them stepped again, and to none; and going back and forth along them.
 
 ghost use Rattle.std.specs.Prelude.{◌≡◌, IfOk};
 ghost use Rattle.rd_journal.specs.Sessions.{journal};
@@ -45,5 +45,18 @@ fn a_session_goes_over_to_its_own_records_and_to_none(rt: HostRuntime) -> Result
     assert_eq!(rt; (session.len(), session.undone_len()), (0, 0));
     assert!(rt; is_stepped_afresh(rt.alloc(), &session)?);
     assert_eq!(rt; session.redo(), Err(Refusal::NothingToRedo));
+    Ok(())
+}
+
+#[test]
+fn a_session_goes_along_its_steps_with_none_undone(rt: HostRuntime) -> Result<(), Fail> {
+    let mut session = mixed_run(rt.alloc(), STEPS, 4)?;
+    let live = session.len();
+    session.go_along(0);
+    assert_eq!(rt; (session.len(), session.undone_len()), (0, 0));
+    assert_eq!(rt; session.redo(), Err(Refusal::NothingToRedo));
+    session.go_along(live);
+    assert_eq!(rt; (session.len(), session.undone_len()), (live, 0));
+    assert!(rt; is_stepped_afresh(rt.alloc(), &session)?);
     Ok(())
 }

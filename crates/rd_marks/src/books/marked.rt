@@ -51,9 +51,6 @@ impl<const R: usize> Book<R> {
     pub fn to_start(&mut self)
         ensures { book_state self.new ≡ to_start (book_state self.old) }
     {
-        match self.session.switch(0, &[]) {
-            Err(_) => unreachable!(),
-            Ok(()) => self.here = None,
-        }
+        self.session.go_along(0);
     }
 }

@@ -18,6 +18,7 @@ impl<const R: usize> Book<R> {
         ensures { Happened R (book_state self.old) event (record { answer = result; state = book_state self.new }) }
     {
         let (step, entry) = self.session.apply(event)?;
+        self.here = self.tree.ancestor(self.here, step as usize - 1);
         Ok(Reply::Applied {
             step,
             reply: entry.reply,
@@ -29,7 +30,6 @@ impl<const R: usize> Book<R> {
         ensures { record { answer = result; state = book_state self.new } ≡ move_answer (book_state self.old) (undo (book_state self.old).session) }
     {
         let done = self.session.undo();
-        self.here = cut_back(&self.tree, self.here, &done, self.session.len());
         self.counts_after(done)
     }
 
@@ -57,7 +57,6 @@ impl<const R: usize> Book<R> {
         ensures { record { answer = result; state = book_state self.new } ≡ move_answer (book_state self.old) (back (book_state self.old).session n) }
     {
         let done = self.session.back(n);
-        self.here = cut_back(&self.tree, self.here, &done, self.session.len());
         self.counts_after(done)
     }
 

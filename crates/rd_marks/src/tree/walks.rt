@@ -12,7 +12,7 @@ use rd_step::{Entry, Event};
 use std::alloc::{AllocError, Global};
 
 impl Tree {
-    ghost use Rattle.rd_marks.specs.Tree.{IsIn, depth_in, path_in, IsNew, IsPartOf, AreLinkedBelow};
+    ghost use Rattle.rd_marks.specs.Tree.{IsIn, depth_in, path_in, IsHigher, IsNew, IsPartOf, AreLinkedBelow};
     ghost use Rattle.rd_marks.specs.TreeLayout.{IsRow};
     ghost use Rattle.rd_marks.specs.TreeViews.{mark_tree, HasRoom, HasForkRoom};
 
@@ -63,10 +63,25 @@ impl Tree {
         ensures depth { depth_in (mark_tree self.now) result ≡ min n (depth_in (mark_tree self.now) from) }
     {
         let mut at = from;
-        for _ in n..self.depth(from) {
-            at = self.parent(at);
+        while self.depth(at) > n {
+            at = self.row_up(at, n);
         }
         at
+    }
+
+    /// The node of this one's row whose path has `n` records, or the one above the first of the row if each has more.
+    fn row_up(&self, at: Option<usize>, n: usize) -> Option<usize>
+        requires present { IsIn (mark_tree self.now) at }
+        requires deeper { n < depth_in (mark_tree self.now) at }
+        ensures { IsHigher (mark_tree self.now) n at result }
+    {
+        let key = at?;
+        let first = self.first(key);
+        let over = self.depth(at) - n;
+        if over <= key - first {
+            return Some(key - over);
+        }
+        self.parent(Some(first))
     }
 
     /// The event of this number, from 1, of a node's path, if there is one.
@@ -103,8 +118,8 @@ impl Tree {
         a
     }
 
-    /// The records of a node's path behind the first `n`, lent from the tree if they are one behind another there, as those of nodes
-    /// that were put one after another mostly are. None if they are not, or if there are no such records.
+    /// The records of a node's path behind the first `n`, lent from the tree if they are of one row, as those of nodes that were put
+    /// one after another mostly are. None if they are not, or if there are no such records.
     pub(crate) fn slice(&self, from: Option<usize>, n: usize) -> Option<&[Entry]>
         requires present { IsIn (mark_tree self.now) from }
         requires within { n ≤ depth_in (mark_tree self.now) from }
@@ -119,17 +134,14 @@ impl Tree {
         Some(&self.records[first..last + 1])
     }
 
-    /// The key of the node so many above this one, if the nodes from it down to this one have keys that rise by one.
+    /// The key of the node so many above this one, if it is in the same row.
     fn first_in_row(&self, last: usize, above: usize) -> Option<usize>
         requires present { IsIn (mark_tree self.now) (Some last) }
         requires within { above < depth_in (mark_tree self.now) (Some last) }
         ensures { IfSome result (λ first. IsRow (mark_tree self.now) self.now.records.items first last above) }
     {
-        for step in 0..above {
-            let key = last - step;
-            if key == 0 || self.parent(Some(key)) != Some(key - 1) {
-                return None;
-            }
+        if above > last - self.first(last) {
+            return None;
         }
         Some(last - above)
     }

@@ -94,3 +94,48 @@ fn another_step_takes_the_place_of_what_lay_behind_a_bookmark(rt: HostRuntime) -
         ],
     )
 }
+
+#[test]
+fn what_changes_no_step_leaves_the_way_on_from_a_bookmark(rt: HostRuntime) -> Result<(), Fail> {
+    over_fresh::<4>(
+        &rt,
+        rt.alloc(),
+        &[
+            TWO_MARKS[0],
+            TWO_MARKS[1],
+            TWO_MARKS[2],
+            (
+                "go 2\nundo 3\nroll 3\ngoto z\ngoto b\n",
+                "refused 3 Idle\nrefused 12 NoSuchStep 2\nrefused 12 NoSuchStep 2\nrefused 14 NoMark\nat 4 0\n",
+            ),
+            (
+                "goto a\nmark c\nundo\nredo\ngoto b\n",
+                "at 2 0\nmarked 2\nat 1 1\nat 2 0\nat 4 0\n",
+            ),
+            (
+                "goto c\ndrop b\ngoto a\ndeq 2\nmark d\n",
+                "at 2 0\ndropped\nat 2 0\nok 3\nmarked 3\n",
+            ),
+            ("goto c\ngoto d\nsame a c\n", "at 2 0\nat 3 0\nsame yes\n"),
+        ],
+    )
+}
+
+#[test]
+fn a_step_undone_in_the_middle_leaves_the_bookmarks_behind_it(rt: HostRuntime) -> Result<(), Fail> {
+    over_fresh::<4>(
+        &rt,
+        rt.alloc(),
+        &[
+            TWO_MARKS[0],
+            ("deq 2\nenq 3 8\nmark b\n", "ok 3\nok 4\nmarked 4\n"),
+            ("undo 3\nlen\n", "at 3 1\nat 3 1\n"),
+            ("goto b\ngoto a\n", "at 4 0\nat 2 0\n"),
+            ("goto b\nroll 3\nmark c\n", "at 4 0\nat 3 1\nmarked 3\n"),
+            (
+                "goto b\ngoto c\nstep 3\n",
+                "at 4 0\nat 3 0\nstep 3; enq 3 8; -; none; -; -\n",
+            ),
+        ],
+    )
+}

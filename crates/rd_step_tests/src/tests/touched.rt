@@ -10,7 +10,6 @@ struct Row {
     place: Option<Place>,
     wrote: Wrote,
     old_content: Option<Content>,
-    overwritten: (Option<Place>, Option<Content>),
     written: Option<Place>,
     made: Option<SegName>,
 }
@@ -34,7 +33,6 @@ const ROWS: [Row; 5] = [
         place: None,
         wrote: Wrote::Nothing,
         old_content: None,
-        overwritten: (None, None),
         written: None,
         made: None,
     },
@@ -42,7 +40,6 @@ const ROWS: [Row; 5] = [
         place: Some(Place::QTail),
         wrote: Wrote::Nothing,
         old_content: Some(ROOT_NAMED),
-        overwritten: (None, None),
         written: None,
         made: None,
     },
@@ -50,7 +47,6 @@ const ROWS: [Row; 5] = [
         place: Some(Place::QTail),
         wrote: Wrote::Place,
         old_content: Some(ROOT_NAMED),
-        overwritten: (Some(Place::QTail), Some(ROOT_NAMED)),
         written: Some(Place::QTail),
         made: None,
     },
@@ -58,7 +54,6 @@ const ROWS: [Row; 5] = [
         place: Some(Place::Whole(MADE)),
         wrote: Wrote::Place,
         old_content: None,
-        overwritten: (Some(Place::Whole(MADE)), None),
         written: Some(Place::Whole(MADE)),
         made: Some(MADE),
     },
@@ -66,14 +61,13 @@ const ROWS: [Row; 5] = [
         place: Some(Place::Cell(MADE, 3)),
         wrote: Wrote::Index,
         old_content: Some(FULL),
-        overwritten: (Some(Place::Cell(MADE, 3)), Some(FULL)),
         written: Some(Place::Idx(MADE, 3)),
         made: None,
     },
 ];
 
 #[test]
-fn a_record_says_what_its_step_overwrote_and_made(rt: HostRuntime) {
+fn a_record_says_what_its_step_wrote_and_made(rt: HostRuntime) {
     for row in ROWS {
         let entry = Entry {
             event: Event {
@@ -87,7 +81,6 @@ fn a_record_says_what_its_step_overwrote_and_made(rt: HostRuntime) {
             old_actor: Actor::idle(),
             old_content: row.old_content,
         };
-        assert_eq!(rt; entry.overwritten(), row.overwritten, "{entry:?}");
         assert_eq!(rt; entry.written(), row.written, "{entry:?}");
         assert_eq!(rt; entry.made(), row.made, "{entry:?}");
     }

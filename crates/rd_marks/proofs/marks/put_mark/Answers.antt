@@ -1,19 +1,22 @@
-use Rattle.std.proofs.Common.{◌≡◌, All, ◌++◌, ◌∷◌, [], ℕ, Option, List, refl, ap, subst, sym, drop, ◌∙◌}
+use Rattle.std.proofs.Common.{◌≡◌, All, ◌++◌, ◌∷◌, [], ℕ, Option, List, length, refl, ap, subst, sym, drop, ◌∙◌}
+use Rattle.std.proofs.lemmas.List.{length-map}
 use Rattle.rd_step.specs.declared.entries.Entry.{Entry}
 use Rattle.rd_journal.specs.Journal.{events}
-use Rattle.rd_journal.specs.Sessions.{state}
+use Rattle.rd_journal.specs.Records.{ahead_records}
+use Rattle.rd_journal.specs.Sessions.{state, track}
 use Rattle.indexmap.specs.IndexMap.{insert_entry}
 use Rattle.rd_marks.specs.declared.names.MarkName.{MarkName}
 use Rattle.rd_marks.specs.Names.{same_name}
-use Rattle.rd_marks.specs.Layout.{IsRecordOfRun}
+use Rattle.rd_marks.specs.Layout.{IsRecordOfRun, IsHere}
 use Rattle.rd_marks.specs.Marks.{marks_of}
 use Rattle.rd_marks.specs.Tree.{MarkTree, IsIn, IsNew, depth_in, path_in}
 use Rattle.rd_marks.specs.TreeViews.{mark_tree}
-use Rattle.rd_marks.proofs.Here.{within_at, begins_at, stands_at, stands_in}
+use Rattle.rd_marks.proofs.Here.{stands, within_at, begins_at, track_at, stands_in, lies_on}
 use Rattle.rd_marks.proofs.TreeLemmas.{path_length}
 use Rattle.rd_marks.proofs.MarkLemmas.{entries_put}
 use Rattle.rd_marks.proofs.Sharing.{kept_in, kept_with, marks_with, keeps, node_runs, whole_path}
 use Rattle.rd_marks.proofs.marks.put_mark.Goals as goal
+use Rattle.rd_marks.proofs.marks.put_mark.Goals.{then-depth-len, else-depth-len}
 
 pub returns-in_err-reserve-clause-kept : goal.returns-in_err-reserve-clause-kept
 returns-in_err-reserve-clause-kept g c =
@@ -27,19 +30,23 @@ returns-in_err-reserve-2-clause-kept g c =
 
 pub follow-beginning-requires-clause-within : goal.follow-beginning-requires-clause-within
 follow-beginning-requires-clause-within g c =
-    within_at (mark_tree c.args.tree.now) c.args.tree.now.kept.tree c.args.here.now c.live-live.result (state c.args.session.now).live c.live-live.ensures.events c.requires.here
+    within_at (mark_tree c.args.tree.now) c.args.tree.now.kept.tree c.ancestor.result c.live-live.result (state c.args.session.now).live c.live-live.ensures.events
+    (stands c.args.session.now (mark_tree c.args.tree.now) c.args.tree.now.kept.tree c.args.here.now c.ancestor.result c.len.result (c.len.ensures ∙ sym (length-map c.live-live.result (λ (x : Entry). x.event)) ∙ ap length c.live-live.ensures.events) c.requires.here c.ancestor.ensures.present
+    c.ancestor.ensures.begins c.ancestor.ensures.depth)
 
 pub follow-beginning-requires-clause-begins : goal.follow-beginning-requires-clause-begins
 follow-beginning-requires-clause-begins g c =
-    begins_at (mark_tree c.args.tree.now) c.args.tree.now.kept.tree c.args.here.now c.live-live.result (state c.args.session.now).live c.live-live.ensures.events c.requires.here
+    begins_at (mark_tree c.args.tree.now) c.args.tree.now.kept.tree c.ancestor.result c.live-live.result (state c.args.session.now).live c.live-live.ensures.events
+    (stands c.args.session.now (mark_tree c.args.tree.now) c.args.tree.now.kept.tree c.args.here.now c.ancestor.result c.len.result (c.len.ensures ∙ sym (length-map c.live-live.result (λ (x : Entry). x.event)) ∙ ap length c.live-live.ensures.events) c.requires.here c.ancestor.ensures.present
+    c.ancestor.ensures.begins c.ancestor.ensures.depth)
 
 pub returns-in_err-reserve-clause-here : goal.returns-in_err-reserve-clause-here
 returns-in_err-reserve-clause-here g c =
-    stands_in (mark_tree c.args.tree.now) (mark_tree c.reserve.new.self) c.args.here.now (state c.args.session.now).live c.reserve.ensures.nodes c.requires.here
+    stands_in (mark_tree c.args.tree.now) (mark_tree c.reserve.new.self) c.args.here.now (track c.args.session.now) c.reserve.ensures.nodes c.requires.here
 
 pub returns-in_err-reserve-2-clause-here : goal.returns-in_err-reserve-2-clause-here
 returns-in_err-reserve-2-clause-here g c =
-    stands_in (mark_tree c.args.tree.now) (mark_tree c.reserve.new.self) c.args.here.now (state c.args.session.now).live c.reserve.ensures.nodes c.requires.here
+    stands_in (mark_tree c.args.tree.now) (mark_tree c.reserve.new.self) c.args.here.now (track c.args.session.now) c.reserve.ensures.nodes c.requires.here
 
 pub grow-node-requires-clause-new : goal.grow-node-requires-clause-new
 grow-node-requires-clause-new g c =
@@ -125,4 +132,13 @@ returns-clause-here g c =
     ∙ whole_path g.row.R w (path_in t b) live c.behind-rest.result (depth_in t b)
     (node_runs t rule ms kept.used g.row.R w kept.runs b c.follow-beginning.ensures.present) run (path_length t rule b c.follow-beginning.ensures.present)
     c.follow-beginning.ensures.begins (c.behind-rest.ensures ∙ ap (λ (n : ℕ). drop n live) c.depth.ensures) in
-    stands_at u node (state c.args.session.now).live c.grow-node.ensures.present (ap events whole ∙ c.live-live.ensures.events)
+    let track_of = track c.args.session.now in
+    elim c.if-depth-len.branch [
+      | then-depth-len w ↦
+          subst (λ (p : Option ℕ). IsHere u p track_of) (sym w.here-is)
+          (track_at u node (state c.args.session.now).live (events (ahead_records c.args.session.now.records.records)) c.grow-node.ensures.present
+          (ap events whole ∙ c.live-live.ensures.events))
+      | else-depth-len w ↦
+          subst (λ (p : Option ℕ). IsHere u p track_of) (sym w.here-is)
+          (lies_on between u c.args.here.now track_of c.reserve.new.self.kept.tree c.grow-node.ensures.kept (stands_in t between c.args.here.now track_of nodes c.requires.here))
+    ]

@@ -1,141 +1,40 @@
-use Rattle.std.proofs.Common.{◌≡◌, List, lit<, ap, subst, sym, length, ◌∙◌, arith}
+use Rattle.std.proofs.Common.{◌≡◌, ◌≤◌, [], ℕ, Option, List, length, take, lit<, subst, sym, ap, ◌∙◌}
+use Rattle.rd_step.proofs.PassedUp.{fact_passed_up}
 use Rattle.rd_step.specs.declared.entries.Event.{Event}
-use Rattle.rd_step.specs.declared.entries.Entry.{Entry}
 use Rattle.rd_depend.specs.Beginnings.{Begins}
-use Rattle.rd_journal.specs.Journal.{events, IsRunFrom}
-use Rattle.rd_journal.specs.Sessions.{journal, state}
-use Rattle.rd_marks.specs.Tree.{depth_in, path_in}
+use Rattle.rd_journal.specs.Journal.{events}
+use Rattle.rd_journal.specs.Sessions.{state, track}
+use Rattle.rd_marks.specs.declared.tree.Tree.{Tree}
+use Rattle.rd_marks.specs.Layout.{IsHere}
+use Rattle.rd_marks.specs.Tree.{IsIn, depth_in, path_in}
 use Rattle.rd_marks.specs.TreeViews.{mark_tree}
-use Rattle.rd_marks.proofs.Here.{within_at, begins_at}
-use Rattle.rd_marks.proofs.TreeLemmas.{path_length}
-use Rattle.rd_marks.proofs.RecordLemmas.{switched, may_switch, few_enough}
-use Rattle.rd_marks.proofs.Switches.{common_depth, common_live, none_behind, reached}
+use Rattle.rd_marks.proofs.Here.{track_above, along_to}
+use Rattle.rd_marks.proofs.NodeLemmas.{same_option}
 use Rattle.rd_marks.proofs.marks.switch_to.Goals as goal
 
-pub follow-beginning-requires-clause-within : goal.follow-beginning-requires-clause-within
-follow-beginning-requires-clause-within g c =
-    within_at (mark_tree c.args.tree.now) c.args.tree.now.kept.tree c.args.here c.live.result (state c.args.session.now).live c.live.ensures.events c.requires.here
+-- the node's path begins the track
+on_track : (tree : Tree) (here at node : Option ℕ) (n : ℕ) (steps : List Event) → IsHere (mark_tree tree) here steps → IsIn (mark_tree tree) at
+    → Begins (path_in (mark_tree tree) at) (path_in (mark_tree tree) here) → at ≡ node → n ≡ depth_in (mark_tree tree) node
+    → (n ≤ length steps) × (take n steps ≡ events (path_in (mark_tree tree) node))
+on_track tree here at node n steps lies is begins same deep =
+    let t = mark_tree tree in
+    along_to t tree.kept.tree node n steps deep (subst (λ (p : Option ℕ). IsHere t p steps) same (track_above t here at steps lies is begins))
 
-pub follow-beginning-requires-clause-begins : goal.follow-beginning-requires-clause-begins
-follow-beginning-requires-clause-begins g c =
-    begins_at (mark_tree c.args.tree.now) c.args.tree.now.kept.tree c.args.here c.live.result (state c.args.session.now).live c.live.ensures.events c.requires.here
-
-pub slice-requires-clause-within : goal.slice-requires-clause-within
-slice-requires-clause-within g c =
-    let t = mark_tree c.args.tree.now in
-    let short = common_depth t c.args.tree.now.kept.tree c.common.result c.args.node c.common.ensures.present c.requires.present c.common.ensures.second in
-    omega (arith, short, c.depth-common.ensures)
-
-pub switch-requires : goal.switch-requires
-switch-requires g c =
-    let t = mark_tree c.args.tree.now in
-    let rule = c.args.tree.now.kept.tree in
-    let node = c.args.node in
-    let n = c.depth-common.result in
-    let ys = path_in t node in
-    let given = c.in-Some.ensures in
-    let first = common_depth t rule c.common.result c.follow-beginning.result c.common.ensures.present c.follow-beginning.ensures.present c.common.ensures.first in
-    let second = common_depth t rule c.common.result node c.common.ensures.present c.requires.present c.common.ensures.second in
-    let long = path_length t rule node c.requires.present in
-    let live_run = subst (λ (xs : List Entry). IsRunFrom g.row.R (state c.args.session.now).start xs) c.live.ensures.records c.live.ensures.run in
-    let same =
-    common_live t rule c.follow-beginning.result c.common.result node n (events c.live.result) (state c.args.session.now).live c.live.ensures.events c.depth-common.ensures
-    c.follow-beginning.ensures.present c.common.ensures.present c.requires.present c.common.ensures.first c.common.ensures.second c.follow-beginning.ensures.begins in (
+pub go_along-requires : goal.go_along-requires
+go_along-requires g c =
+    let same = same_option c.ancestor.result c.args.node (sym c.eq.ensures ∙ c.if-eq.true) in (
       lit< tt,
-      (
-        omega (arith, first, c.depth-common.ensures, c.follow-beginning.ensures.within, ap length c.live.ensures.records),
-        (
-          few_enough n c.in-Some.records.now ys given (omega (arith, second, long, c.depth-common.ensures)) c.requires.run.few,
-          may_switch g.row.R (journal c.args.session.now) n c.in-Some.records.now ys given live_run c.requires.run same,
-        ),
-      ),
+      (on_track c.args.tree.now c.args.here.now c.ancestor.result c.args.node c.depth-depth.result (track c.args.session.now) c.requires.here c.ancestor.ensures.present
+          c.ancestor.ensures.begins same c.depth-depth.ensures).0,
     )
 
-pub returns-in-Some-clause-ok : goal.returns-in-Some-clause-ok
-returns-in-Some-clause-ok g c =
-    let t = mark_tree c.args.tree.now in
-    let rule = c.args.tree.now.kept.tree in
-    let node = c.args.node in
-    let n = c.depth-common.result in
-    let same =
-    common_live t rule c.follow-beginning.result c.common.result node n (events c.live.result) (state c.args.session.now).live c.live.ensures.events c.depth-common.ensures
-    c.follow-beginning.ensures.present c.common.ensures.present c.requires.present c.common.ensures.first c.common.ensures.second c.follow-beginning.ensures.begins in
-    switched c.switch.result (state c.args.session.now) (state c.switch.new.self) n c.in-Some.records.now (path_in t node) (c.in-Some.ensures) same c.switch.ensures.ok
+pub returns-then-eq-clause-ok : goal.returns-then-eq-clause-ok
+returns-then-eq-clause-ok g c =
+    let same = same_option c.ancestor.result c.args.node (sym c.eq.ensures ∙ c.if-eq.true) in
+    let steps =
+    (on_track c.args.tree.now c.args.here.now c.ancestor.result c.args.node c.depth-depth.result (track c.args.session.now) c.requires.here c.ancestor.ensures.present
+    c.ancestor.ensures.begins same c.depth-depth.ensures).1 in
+    c.go_along.ensures.state ∙ ap (λ (es : List Event). record { start = (state c.args.session.now).start; live = es; undone = [] }) steps
 
-pub returns-in-Some-clause-succeeds : goal.returns-in-Some-clause-succeeds
-returns-in-Some-clause-succeeds g c = λ h.
-    let t = mark_tree c.args.tree.now in
-    let rule = c.args.tree.now.kept.tree in
-    let here : Begins (events (path_in t c.args.node)) (events c.live.result) =
-    subst (λ (es : List Event). Begins (events (path_in t c.args.node)) es) (sym c.live.ensures.events) h in
-    let meets =
-    c.common.ensures.second_begins (reached t rule c.follow-beginning.result c.args.node c.live.result c.follow-beginning.ensures.present c.requires.present
-    c.follow-beginning.ensures.begins c.follow-beginning.ensures.deepest here) in
-    let all : depth_in t c.args.node ≡ c.depth-common.result = ap (depth_in t) (sym meets) ∙ sym c.depth-common.ensures in
-    c.switch.ensures.succeeds (none_behind t rule c.args.node c.depth-common.result c.in-Some.records.now c.requires.present all (c.in-Some.ensures))
-
-pub records-requires-clause-within : goal.records-requires-clause-within
-records-requires-clause-within g c =
-    let t = mark_tree c.args.tree.now in
-    let short = common_depth t c.args.tree.now.kept.tree c.common.result c.args.node c.common.ensures.present c.requires.present c.common.ensures.second in
-    omega (arith, short, c.depth-common.ensures)
-
-pub switch-requires-in-Ok : goal.switch-requires-in-Ok
-switch-requires-in-Ok g c =
-    let t = mark_tree c.args.tree.now in
-    let rule = c.args.tree.now.kept.tree in
-    let node = c.args.node in
-    let n = c.depth-common.result in
-    let ys = path_in t node in
-    let given = c.deref.ensures.value ∙ c.in-Ok.ensures.ok in
-    let first = common_depth t rule c.common.result c.follow-beginning.result c.common.ensures.present c.follow-beginning.ensures.present c.common.ensures.first in
-    let second = common_depth t rule c.common.result node c.common.ensures.present c.requires.present c.common.ensures.second in
-    let long = path_length t rule node c.requires.present in
-    let live_run = subst (λ (xs : List Entry). IsRunFrom g.row.R (state c.args.session.now).start xs) c.live.ensures.records c.live.ensures.run in
-    let same =
-    common_live t rule c.follow-beginning.result c.common.result node n (events c.live.result) (state c.args.session.now).live c.live.ensures.events c.depth-common.ensures
-    c.follow-beginning.ensures.present c.common.ensures.present c.requires.present c.common.ensures.first c.common.ensures.second c.follow-beginning.ensures.begins in (
-      lit< tt,
-      (
-        omega (arith, first, c.depth-common.ensures, c.follow-beginning.ensures.within, ap length c.live.ensures.records),
-        (
-          few_enough n c.deref.result.now ys given (omega (arith, second, long, c.depth-common.ensures)) c.requires.run.few,
-          may_switch g.row.R (journal c.args.session.now) n c.deref.result.now ys given live_run c.requires.run same,
-        ),
-      ),
-    )
-
-pub returns-in-Err-clause-succeeds : goal.returns-in-Err-clause-succeeds
-returns-in-Err-clause-succeeds g c = λ h.
-    let t = mark_tree c.args.tree.now in
-    let rule = c.args.tree.now.kept.tree in
-    let here : Begins (events (path_in t c.args.node)) (events c.live.result) =
-    subst (λ (es : List Event). Begins (events (path_in t c.args.node)) es) (sym c.live.ensures.events) h in
-    let meets =
-    c.common.ensures.second_begins (reached t rule c.follow-beginning.result c.args.node c.live.result c.follow-beginning.ensures.present c.requires.present
-    c.follow-beginning.ensures.begins c.follow-beginning.ensures.deepest here) in
-    let all : depth_in t c.args.node ≡ c.depth-common.result = ap (depth_in t) (sym meets) ∙ sym c.depth-common.ensures in
-    c.in-Err.ensures.succeeds all
-
-pub returns-in-Ok-clause-ok : goal.returns-in-Ok-clause-ok
-returns-in-Ok-clause-ok g c =
-    let t = mark_tree c.args.tree.now in
-    let rule = c.args.tree.now.kept.tree in
-    let node = c.args.node in
-    let n = c.depth-common.result in
-    let same =
-    common_live t rule c.follow-beginning.result c.common.result node n (events c.live.result) (state c.args.session.now).live c.live.ensures.events c.depth-common.ensures
-    c.follow-beginning.ensures.present c.common.ensures.present c.requires.present c.common.ensures.first c.common.ensures.second c.follow-beginning.ensures.begins in
-    switched c.switch-in-Ok.result (state c.args.session.now) (state c.switch-in-Ok.new.self) n c.deref.result.now (path_in t node) (c.deref.ensures.value ∙ c.in-Ok.ensures.ok) same c.switch-in-Ok.ensures.ok
-
-pub returns-in-Ok-clause-succeeds : goal.returns-in-Ok-clause-succeeds
-returns-in-Ok-clause-succeeds g c = λ h.
-    let t = mark_tree c.args.tree.now in
-    let rule = c.args.tree.now.kept.tree in
-    let here : Begins (events (path_in t c.args.node)) (events c.live.result) =
-    subst (λ (es : List Event). Begins (events (path_in t c.args.node)) es) (sym c.live.ensures.events) h in
-    let meets =
-    c.common.ensures.second_begins (reached t rule c.follow-beginning.result c.args.node c.live.result c.follow-beginning.ensures.present c.requires.present
-    c.follow-beginning.ensures.begins c.follow-beginning.ensures.deepest here) in
-    let all : depth_in t c.args.node ≡ c.depth-common.result = ap (depth_in t) (sym meets) ∙ sym c.depth-common.ensures in
-    c.switch-in-Ok.ensures.succeeds (none_behind t rule c.args.node c.depth-common.result c.deref.result.now c.requires.present all (c.deref.ensures.value ∙ c.in-Ok.ensures.ok))
+pub returns-in_err-exchange-clause-unchanged : goal.returns-in_err-exchange-clause-unchanged
+returns-in_err-exchange-clause-unchanged g c = fact_passed_up c.from_residual.result c.in_err-exchange.ensures.unchanged

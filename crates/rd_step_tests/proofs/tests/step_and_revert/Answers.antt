@@ -1,7 +1,15 @@
-use Rattle.std.proofs.Common.{refl, [], arith}
+use Rattle.std.proofs.Common.{◌≡◌, ℕ, ◌==◌, ◌&&◌, refl, sym, ◌∙◌, ap, subst₂, [], arith, Ok, eq-eqb}
+use Rattle.std.proofs.lemmas.Bool.{cond-true, and_from}
+use Rattle.rd_segments.specs.Room.{room_used}
+use Rattle.rd_step.specs.Prelude.{World, Stepped, step, unstep, model, IsWellFormed}
+use Rattle.rd_step.specs.declared.entries.Entry.{Entry}
+use Rattle.rd_step.specs.declared.entries.Event.{Event}
 use Rattle.rd_step.specs.Laws.{WasStepped}
-use Rattle.rd_step.specs.Worlds.{model}
+use Rattle.rd_step.specs.Room.{makes_segment}
+use Rattle.rd_step.proofs.Inverse.{undoes}
 use Rattle.rd_step.proofs.Removal.{can_undo}
+use Rattle.rd_step.proofs.Room.{room_used_returned}
+use Rattle.rd_step.proofs.Steps.{took}
 use Rattle.rd_step_tests.proofs.tests.step_and_revert.Goals as goal
 
 pub revert-requires : goal.revert-requires
@@ -21,3 +29,30 @@ revert-requires c =
     } in
     let can = can_undo 4 (model c.step.new.self) c.in_ok-entry.entry was in
     (omega arith, (can.actor_there, (can.place_there, can.formed)))
+
+-- a step goes again where it was undone
+goes_again : (w v u : World) (e : Event) (x : Entry) → IsWellFormed 4 w → step 4 w e ≡ Ok (record { world = v; entry = x })
+    → u ≡ unstep v x → step 4 u x.event ≡ Ok (record { world = v; entry = x })
+goes_again w v u e x formed h back =
+    let s : Stepped = record { world = v; entry = x } in
+    let event : e ≡ x.event = ap (λ (y : Stepped). y.entry.event) (took 4 w e s h).ends in
+    subst₂ (λ (start : World) (f : Event). step 4 start f ≡ Ok s) (sym (back ∙ undoes 4 w e s formed h)) event h
+
+pub returns-clause-goes : goal.returns-clause-goes
+returns-clause-goes c = (
+  model c.step.new.self,
+  goes_again (model c.args.world.now) (model c.step.new.self) (model c.revert.new.self) c.args.event c.in_ok-entry.entry c.args.world.now.well_formed
+      c.in_ok-entry.ensures.ok c.revert.ensures.done,
+)
+
+pub returns-clause-room : goal.returns-clause-room
+returns-clause-room c = λ makes.
+    let x = c.in_ok-entry.entry in
+    let u : World = model c.revert.new.self in
+    let n : ℕ = x.event.actor in
+    let again = goes_again (model c.args.world.now) (model c.step.new.self) u c.args.event x c.args.world.now.well_formed c.in_ok-entry.ensures.ok
+    c.revert.ensures.done in
+    let one : room_used (makes_segment 4 u x.event) n n ≡ 1 =
+    cond-true (makes_segment 4 u x.event && (n == n)) 1 0 (and_from (makes_segment 4 u x.event) (n == n) makes (eq-eqb n n refl)) in
+    let back = room_used_returned 4 u x.event (record { world = model c.step.new.self; entry = x }) n again in
+    omega (arith, one, back, c.revert.ensures.room n)

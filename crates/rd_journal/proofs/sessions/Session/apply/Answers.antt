@@ -124,3 +124,11 @@ pub returns-clause-reply : goal.returns-clause-reply
 returns-clause-reply g c =
     reply_goes g.row.R (journal c.args.self.now) c.args.event (record { world = model c.step.new.self; entry = c.in_ok-entry.entry })
     (is_session c.args.self.now).runs c.in_ok-entry.ensures.ok
+
+pub returns-in_err-make_room-clause-track : goal.returns-in_err-make_room-clause-track
+returns-in_err-make_room-clause-track g c =
+    fact_passed_up c.from_residual.result (λ i. events (c.make_room.ensures.live i) ++ events (c.make_room.ensures.ahead i))
+
+pub returns-in_err-entry-clause-track : goal.returns-in_err-entry-clause-track
+returns-in_err-entry-clause-track g c =
+    fact_passed_up c.from_residual-in_err-entry.result (λ i. events (c.make_room.ensures.live i) ++ events (c.make_room.ensures.ahead i))

@@ -1,5 +1,6 @@
-use Rattle.std.proofs.Common.{ap, arith, length, take}
+use Rattle.std.proofs.Common.{ap, arith, length, take, ◌++◌}
 use Rattle.rd_step.specs.Prelude.{model, room}
+use Rattle.rd_journal.specs.Journal.{events}
 use Rattle.rd_journal.specs.Kept.{whole_journal}
 use Rattle.rd_journal.proofs.Calls.{same_session}
 use Rattle.rd_journal.proofs.sessions.Session.make_room_to_switch.Goals as goal
@@ -37,3 +38,6 @@ returns-clause-unchanged g c = λ i. record {
   live = c.make_room_for.ensures.live i;
   undone = take c.args.self.now.undone (c.make_room_for.ensures.ahead i);
 }
+
+pub returns-clause-track : goal.returns-clause-track
+returns-clause-track g c = λ i. events (c.make_room_for.ensures.live i) ++ events (c.make_room_for.ensures.ahead i)

@@ -1,19 +1,13 @@
-use Rattle.std.proofs.Common.{◌≡◌, ◌∙◌, List, [], length, take, refl, sym, ap, arith, eqb-true}
+use Rattle.std.proofs.Common.{◌∙◌, List, length, take, refl, ap, arith}
 use Rattle.std.proofs.Math.Seq.{take-length}
-use Rattle.std.proofs.lemmas.List.{nil_from_length}
 use Rattle.rd_step.specs.Prelude.{model, room}
 use Rattle.rd_step.specs.declared.entries.Entry.{Entry}
 use Rattle.rd_journal.specs.Kept.{whole_journal}
 use Rattle.rd_journal.proofs.Switching.{replaced_session}
 use Rattle.rd_journal.proofs.sessions.Session.put_ahead.Goals as goal
 
-pub returns-then-is_empty-clause-replaced : goal.returns-then-is_empty-clause-replaced
-returns-then-is_empty-clause-replaced g c =
-    let none : c.args.given.now ≡ [] = nil_from_length c.args.given.now (eqb-true (length c.args.given.now) 0 (sym c.is_empty.ensures ∙ c.if-is_empty.true)) in
-    record { world = refl; live = refl; undone = sym none }
-
-pub invariant_of-self-2 : goal.invariant_of-self-2
-invariant_of-self-2 g c =
+pub invariant_of-self : goal.invariant_of-self
+invariant_of-self g c =
     let self = c.args.self.now in
     let given = c.args.given.now in
     record {

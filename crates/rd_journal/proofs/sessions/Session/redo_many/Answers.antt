@@ -8,6 +8,7 @@ pub loop-init : goal.loop-init
 loop-init g c = record {
   records = not_forward (journal c.args.self.now);
   state = refl;
+  track = refl;
   capacity = refl;
 }
 
@@ -24,6 +25,7 @@ loop-preserved g c = record {
   state =
       once_more c.loop.counter forward_one (state c.args.self.now) (state c.loop.self) (state c.redo_first.new.self)
       c.loop.invariant.state c.redo_first.ensures.state;
+  track = c.redo_first.ensures.track ∙ c.loop.invariant.track;
   capacity = c.redo_first.ensures.capacity ∙ c.loop.invariant.capacity;
 }
 

@@ -3,7 +3,7 @@ use Rattle.rd_step.specs.Prelude.{model, room}
 use Rattle.rd_journal.specs.Kept.{whole_journal, with_undone}
 use Rattle.rd_journal.specs.Moves.{IsMovedBack}
 use Rattle.rd_journal.specs.Sessions.{journal}
-use Rattle.rd_journal.proofs.Ahead.{is_session, back_undone}
+use Rattle.rd_journal.proofs.Ahead.{is_session, back_undone, track_back}
 use Rattle.rd_journal.proofs.RoomLemmas.{given_back}
 use Rattle.rd_journal.proofs.Walks.{may_undo_last, undone_front, moved_back_few}
 use Rattle.rd_journal.proofs.sessions.Session.undo_last.Goals as goal
@@ -48,3 +48,8 @@ invariant_of-self g c =
       };
       within = omega (arith, self.within, ap length front);
     }
+
+pub returns-clause-track : goal.returns-clause-track
+returns-clause-track g c =
+    track_back 1 (whole_journal (model c.args.self.now.world) c.args.self.now.records) (whole_journal (model c.unstep.new.world) c.step_back.new.self)
+    (record { live = c.step_back.ensures.live; undone = c.step_back.ensures.ahead })

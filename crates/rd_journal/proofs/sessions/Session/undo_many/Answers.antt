@@ -9,6 +9,7 @@ loop-init g c = record {
   records = not_back (journal c.args.self.now);
   state = refl;
   room = λ m. omega arith;
+  track = refl;
   capacity = refl;
 }
 
@@ -26,6 +27,7 @@ loop-preserved g c = record {
       once_more c.loop.counter back_one (state c.args.self.now) (state c.loop.self) (state c.undo_last.new.self)
       c.loop.invariant.state c.undo_last.ensures.state;
   room = λ m. let a = c.loop.invariant.room m in let b = c.undo_last.ensures.room m in omega arith;
+  track = c.undo_last.ensures.track ∙ c.loop.invariant.track;
   capacity = c.undo_last.ensures.capacity ∙ c.loop.invariant.capacity;
 }
 

@@ -1,10 +1,11 @@
-use Rattle.std.proofs.Common.{refl}
+use Rattle.std.proofs.Common.{List, refl, sym, subst}
+use Rattle.rd_step.specs.declared.entries.Event.{Event}
 use Rattle.rd_journal.specs.Sessions.{journal, state}
 use Rattle.rd_journal.specs.State.{back}
 use Rattle.rd_marks.specs.BookViews.{book_state}
+use Rattle.rd_marks.specs.Layout.{IsHere}
 use Rattle.rd_marks.specs.TreeViews.{mark_tree}
 use Rattle.rd_marks.proofs.AnswerLemmas.{move_answered}
-use Rattle.rd_marks.proofs.Here.{after_undo, back_leaves}
 use Rattle.rd_marks.proofs.Starts.{back_start, start_stays, marks_stay}
 use Rattle.rd_marks.proofs.books.Book.answer_back.Goals as goal
 
@@ -17,10 +18,7 @@ invariant_of-self g c =
     (back_start old c.args.n) c.back-done.ensures.ok c.back-done.ensures.unchanged in
     record {
       kept = marks_stay g.row.R old.start (state c.back-done.new.self).start c.args.self.now.tree.nodes c.args.self.now.tree.records.items c.args.self.now.marks.entries start c.args.self.now.kept;
-      stands =
-          after_undo (mark_tree book.tree) book.tree.kept.tree c.back-done.result book.here c.cut_back-self.result c.len.result (journal book.session) (journal c.back-done.new.self)
-          book.stands c.cut_back-self.ensures.present c.cut_back-self.ensures.begins c.cut_back-self.ensures.ok c.back-done.ensures.unchanged c.back-done.ensures.records
-          (back_leaves c.args.n c.len.result (journal book.session) (journal c.back-done.new.self) c.len.ensures.records);
+      stands = subst (λ (es : List Event). IsHere (mark_tree book.tree) book.here es) (sym c.back-done.ensures.track) book.stands;
     }
 
 pub returns : goal.returns

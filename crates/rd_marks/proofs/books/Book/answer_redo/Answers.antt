@@ -1,10 +1,11 @@
-use Rattle.std.proofs.Common.{refl}
+use Rattle.std.proofs.Common.{List, refl, sym, subst}
+use Rattle.rd_step.specs.declared.entries.Event.{Event}
 use Rattle.rd_journal.specs.Sessions.{journal, state}
 use Rattle.rd_journal.specs.State.{redo}
 use Rattle.rd_marks.specs.BookViews.{book_state}
+use Rattle.rd_marks.specs.Layout.{IsHere}
 use Rattle.rd_marks.specs.TreeViews.{mark_tree}
 use Rattle.rd_marks.proofs.AnswerLemmas.{move_answered}
-use Rattle.rd_marks.proofs.Here.{after_redo, forward_leaves}
 use Rattle.rd_marks.proofs.Starts.{redo_start, start_stays, marks_stay}
 use Rattle.rd_marks.proofs.books.Book.answer_redo.Goals as goal
 
@@ -17,9 +18,7 @@ invariant_of-self g c =
     (redo_start old) c.redo-done.ensures.ok c.redo-done.ensures.unchanged in
     record {
       kept = marks_stay g.row.R old.start (state c.redo-done.new.self).start c.args.self.now.tree.nodes c.args.self.now.tree.records.items c.args.self.now.marks.entries start c.args.self.now.kept;
-      stands =
-          after_redo (mark_tree book.tree) c.redo-done.result book.here (journal book.session) (journal c.redo-done.new.self) book.stands c.redo-done.ensures.unchanged
-          c.redo-done.ensures.records (forward_leaves 1 (journal book.session) (journal c.redo-done.new.self));
+      stands = subst (λ (es : List Event). IsHere (mark_tree book.tree) book.here es) (sym c.redo-done.ensures.track) book.stands;
     }
 
 pub returns : goal.returns

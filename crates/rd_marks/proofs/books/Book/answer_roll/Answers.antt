@@ -1,10 +1,14 @@
 use Rattle.std.proofs.Common.{refl, arith}
+use Rattle.std.proofs.lemmas.List.{length-map}
+use Rattle.rd_step.specs.Run.{events}
+use Rattle.rd_step.specs.declared.entries.Entry.{Entry}
+use Rattle.rd_journal.specs.Records.{ahead_records}
 use Rattle.rd_journal.specs.Sessions.{journal, state}
 use Rattle.rd_journal.specs.State.{roll}
 use Rattle.rd_marks.specs.BookViews.{book_state}
 use Rattle.rd_marks.specs.TreeViews.{mark_tree}
 use Rattle.rd_marks.proofs.AnswerLemmas.{move_answered}
-use Rattle.rd_marks.proofs.Here.{after_undo, roll_leaves}
+use Rattle.rd_marks.proofs.Here.{after_out, roll_leaves, rolled_within}
 use Rattle.rd_marks.proofs.Starts.{roll_start, start_stays, marks_stay}
 use Rattle.rd_marks.proofs.books.Book.answer_roll.Goals as goal
 
@@ -15,12 +19,16 @@ invariant_of-self g c =
     let start =
     start_stays c.roll-done.result (journal c.args.self.now.session) (journal c.roll-done.new.self) (roll g.row.R old c.args.k)
     (roll_start g.row.R old c.args.k) c.roll-done.ensures.ok c.roll-done.ensures.unchanged in
+    let n = c.saturating_sub.result in
+    let len = length-map (journal book.session).live (λ (x : Entry). x.event) in
     record {
       kept = marks_stay g.row.R old.start (state c.roll-done.new.self).start c.args.self.now.tree.nodes c.args.self.now.tree.records.items c.args.self.now.marks.entries start c.args.self.now.kept;
       stands =
-          after_undo (mark_tree book.tree) book.tree.kept.tree c.roll-done.result book.here c.cut_back-self.result c.saturating_sub.result (journal book.session) (journal c.roll-done.new.self)
-          book.stands c.cut_back-self.ensures.present c.cut_back-self.ensures.begins c.cut_back-self.ensures.ok c.roll-done.ensures.unchanged c.roll-done.ensures.records
-          (roll_leaves c.args.k c.saturating_sub.result (journal book.session) (journal c.roll-done.new.self) (omega arith));
+          after_out (mark_tree book.tree) book.tree.kept.tree c.roll-done.result book.here c.cut_back-self.result n (journal book.session) (journal c.roll-done.new.self)
+          (events (ahead_records book.session.records.records)) (events (ahead_records c.roll-done.new.self.records.records)) book.stands
+          c.cut_back-self.ensures.present c.cut_back-self.ensures.begins c.cut_back-self.ensures.ok c.roll-done.ensures.track c.roll-done.ensures.ok
+          (λ done. let there = rolled_within g.row.R old c.args.k _ done in omega (arith, there, len)) c.roll-done.ensures.records
+          (roll_leaves c.args.k n (journal book.session) (journal c.roll-done.new.self) (omega arith));
     }
 
 pub returns : goal.returns

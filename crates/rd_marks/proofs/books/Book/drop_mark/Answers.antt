@@ -1,6 +1,6 @@
 use Rattle.std.proofs.Common.{◌≡◌, ◌∙◌, refl, sym, ap, subst, List, ℕ, Option, Some, None, All, is_some, true, Ok}
 use Rattle.rd_journal.specs.Journal.{events}
-use Rattle.rd_journal.specs.Sessions.{state}
+use Rattle.rd_journal.specs.Sessions.{state, track}
 use Rattle.rd_marks.specs.declared.names.MarkName.{MarkName}
 use Rattle.rd_marks.specs.BookViews.{book_state}
 use Rattle.rd_marks.specs.Books.{marked_events, with_marks, Mark}
@@ -43,7 +43,7 @@ invariant_of-self g c = record {
   stands = record {
     present = c.prune.ensures.here;
     begins =
-        begins_trans (events (path_in (mark_tree c.prune.new.tree) c.prune.new.here)) (events (path_in (mark_tree c.args.self.now.tree) c.args.self.now.here)) (state c.args.self.now.session).live
+        begins_trans (events (path_in (mark_tree c.prune.new.tree) c.prune.new.here)) (events (path_in (mark_tree c.args.self.now.tree) c.args.self.now.here)) (track c.args.self.now.session)
         (begins_events (path_in (mark_tree c.prune.new.tree) c.prune.new.here) (path_in (mark_tree c.args.self.now.tree) c.args.self.now.here) c.prune.ensures.begins) c.args.self.now.stands.begins;
   };
 }

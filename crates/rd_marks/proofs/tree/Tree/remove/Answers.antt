@@ -1,7 +1,7 @@
 use Rattle.std.proofs.Common.{List, ℕ, sym, subst}
-use Rattle.rd_marks.specs.TreeLayout.{tree_of, known_in, AreLinked}
-use Rattle.rd_marks.proofs.NodeLemmas.{takes_node, recorded_without, knows_as_before}
-use Rattle.rd_marks.proofs.TreeChanges.{tree_without, linked_without}
+use Rattle.rd_marks.specs.TreeLayout.{tree_of, known_in, first_in, AreLinked}
+use Rattle.rd_marks.proofs.NodeLemmas.{takes_node, recorded_without, knows_as_before, rows_as_before}
+use Rattle.rd_marks.proofs.TreeChanges.{tree_without, rows_without, linked_without}
 use Rattle.rd_marks.proofs.tree.Tree.remove.Goals as goal
 
 pub invariant_of-self : goal.invariant_of-self
@@ -19,6 +19,9 @@ invariant_of-self c =
             subst (λ (fs : List ℕ). AreLinked (tree_of nodes records) (known_in nodes old.top) fs) (sym c.forget.ensures)
             (linked_without (tree_of old.nodes records) (tree_of nodes records) key old.kept.tree c.requires.leaf change (known_in old.nodes old.top) (known_in nodes old.top)
             old.forks.items (knows_as_before old.nodes nodes old.top key _ updates) old.kept.linked);
+        rows =
+            rows_without (tree_of old.nodes records) (tree_of nodes records) key old.kept.tree c.requires.leaf change (first_in old.nodes) (first_in nodes)
+            (rows_as_before old.nodes nodes key _ updates) old.kept.rows;
         recorded = recorded_without old.nodes nodes records key updates old.kept.recorded;
       };
     }

@@ -1,0 +1,103 @@
+//! What a session tells without changing: its steps and their records, its start and its world.
+
+ghost use Rattle.std.specs.Prelude.{◌≡◌, ◌+◌, ◌≤◌, ◌-◌, length, Ok, IfOk, IfErr};
+ghost use Rattle.rd_step.specs.Prelude.{model, MOST_STEPS};
+ghost use Rattle.rd_depend.specs.Writers.{last_position, writes_to};
+ghost use Rattle.rd_journal.specs.Journal.{entry_of, events, IsRunFrom, IsRun};
+ghost use Rattle.rd_journal.specs.State.{run_of, event_at};
+ghost use Rattle.rd_journal.specs.Laws.{IsStepAfter};
+
+use super::super::live_records::LiveRecords;
+use super::Session;
+use rd_cell::{Place, Refusal};
+use rd_step::{Entry, Event, World};
+use std::alloc::Global;
+
+impl<const R: usize> Session<R> {
+    ghost use Rattle.rd_journal.specs.Sessions.{journal, state};
+
+    /// The number of live steps.
+    pub fn len(&self) -> u64
+        ensures count { result ≡ length (state self.now).live }
+        ensures records { result ≡ length (journal self.now).live }
+    {
+        self.records.live_len() as u64
+    }
+
+    /// The number of undone steps.
+    pub fn undone_len(&self) -> u64
+        ensures count { result ≡ length (state self.now).undone }
+        ensures records { result ≡ length (journal self.now).undone }
+    {
+        self.undone as u64
+    }
+
+    /// The records of the live steps, in their order. They are those of a run from the start.
+    pub fn live(&self) -> LiveRecords<'_>
+        ensures records { result ≡ (journal self.now).live }
+        ensures run { IsRunFrom R (state self.now).start result }
+        ensures events { events result ≡ (state self.now).live }
+        ensures few { length result ≤ MOST_STEPS }
+    {
+        self.records.live()
+    }
+
+    /// The record of the live step of this number, from 1.
+    ///
+    /// # Errors
+    ///
+    /// `NoSuchStep`, with the number of live steps, if `k` is not from 1 to it.
+    pub fn entry(&self, k: u64) -> Result<Entry, Refusal>
+        ensures found { result ≡ entry_of (journal self.now) k }
+        ensures step { IfOk result (λ entry. IsStepAfter R (k - 1) (journal self.now) entry) }
+        ensures runs { IsRun R (journal self.now) }
+    {
+        let len = self.len();
+        if k == 0 || k > len {
+            return Err(Refusal::NoSuchStep(len));
+        }
+        Ok(*self.records.live_at(k as usize - 1))
+    }
+
+    /// The number of the last live step that wrote this place, or one of the places that it names; none if no live step did. It asks the
+    /// index of dependants, and scans the steps that this does not reach for want of memory. It takes no memory.
+    pub fn last_writer(&self, place: Place) -> Option<u64>
+        ensures { result ≡ last_position (writes_to place) (journal self.now).live }
+    {
+        self.records.last_writer(place)
+    }
+
+    /// The event of the undone step of this number, from 1, if there is one: the first is the one undone last.
+    pub fn undone_event(&self, i: u64) -> Option<Event>
+        ensures { result ≡ event_at (state self.now).undone i }
+    {
+        if i == 0 || i > self.undone_len() {
+            return None;
+        }
+        Some(self.records.ahead_at(i as usize - 1).event)
+    }
+
+    /// The world that the session was opened in: a copy of the world, in which all live steps are undone.
+    ///
+    /// # Errors
+    ///
+    /// `NoMemory` if memory was refused.
+    pub fn start_world(&self, alloc: Global) -> Result<World<R>, Refusal>
+        ensures ok { IfOk result (λ world. model world ≡ (state self.now).start) }
+        ensures err { IfErr result (λ refusal. refusal ≡ Refusal.NoMemory) }
+    {
+        let mut world = self.world.copy(alloc)?;
+        self.undo_all_in(&mut world);
+        Ok(world)
+    }
+
+    /// The world: that of the run of the live events from the start.
+    pub fn world(&self) -> &World<R>
+        ensures value { model result.now ≡ (journal self.now).world }
+        ensures run { run_of R (state self.now) ≡ Ok (record { world = model result.now; entries = (journal self.now).live }) }
+        ensures runs { IsRun R (journal self.now) }
+        ensures few { length (journal self.now).live + length (journal self.now).undone ≤ MOST_STEPS }
+    {
+        &self.world
+    }
+}

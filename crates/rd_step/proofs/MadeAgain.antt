@@ -1,0 +1,105 @@
+-- The step of an entry, made again by what the entry keeps.
+use Rattle.std.proofs.Common.{◌≡◌, ℕ, ◌≤◌, true, inl, inr, refl, sym, ◌∙◌, ap, subst, arith, List, Option, Some, IsTrue, Result, Ok, Err, IfOk, IfErr}
+use mathlib.Core.Path.{fun_ext}
+use Rattle.rd_ring.specs.Prelude.{Access, Done, Refusal, is_nothing, Performed, contents_after, perform, everywhere, HasEffect}
+use Rattle.rd_segments.specs.declared.space.Space.{Space}
+use Rattle.rd_segments.specs.Space.{contents, room}
+use Rattle.rd_actor.specs.declared.actors.Actor.{Actor}
+use Rattle.rd_actor.specs.declared.actors.OpReply.{OpReply}
+use Rattle.rd_actor.specs.Table.{need, after}
+use Rattle.rd_step.specs.World.{World}
+use Rattle.rd_step.specs.declared.entries.Entry.{Entry}
+use Rattle.rd_step.specs.Step.{Stepped, with_actor, step}
+use Rattle.rd_step.specs.Fields.{actor_at, world_of_fields}
+use Rattle.rd_step.specs.Room.{makes, makes_segment, IsRefused}
+use Rattle.rd_step.specs.WellFormed.{IsWellFormed}
+use Rattle.rd_step.proofs.Keeps.{keeps}
+use Rattle.rd_step.proofs.Progress.{changes_only}
+use Rattle.rd_step.proofs.Steps.{took}
+use Rattle.rd_step.proofs.WorldLemmas.{makes_by}
+
+-- the step from w that leaves v and this entry, by the words that the entry keeps
+pub record Leaves (R : ℕ) (w v : World) (x : Entry) : Type 0 where
+  pub has : w.actor x.event.actor ≡ Some x.old_actor
+  pub access : Access
+  pub needs : need R x.old_actor x.event.act ≡ Ok access
+  pub did : Performed
+  pub does : perform R x.event.actor w.at access ≡ Ok did
+  pub places : v.at ≡ contents_after did w.at
+  pub actors : v.actor ≡ with_actor x.event.actor (after R x.old_actor x.event.act x.answer).0 w.actor
+
+pub leaves : (R : ℕ) (w v : World) (x : Entry) → step R w x.event ≡ Ok (record { world = v; entry = x }) → Leaves R w v x
+leaves R w v x h =
+    let t = took R w x.event (record { world = v; entry = x }) h in
+    let words : t.a ≡ x.old_actor = ap (λ (s : Stepped). s.entry.old_actor) t.ends in
+    record {
+      has = t.has ∙ ap Some words;
+      access = t.access;
+      needs = sym (ap (λ (a : Actor). need R a x.event.act) words) ∙ t.needs;
+      did = t.did;
+      does = t.does;
+      places = sym (ap (λ (s : Stepped). s.world.at) t.ends);
+      actors = subst (λ (s : Stepped). s.world.actor ≡ with_actor x.event.actor (after R s.entry.old_actor x.event.act s.entry.answer).0 w.actor) t.ends refl;
+    }
+
+-- the entry's access, made again, is refused neither by the model nor for want of room
+pub not_refused : (R : ℕ) (space : Space R) (xs : List Actor) (v : World) (x : Entry) (access : Access) (refusal : Refusal)
+    → step R (world_of_fields space xs) x.event ≡ Ok (record { world = v; entry = x }) → need R x.old_actor x.event.act ≡ Ok access
+    → (IsTrue (makes_segment R (world_of_fields space xs) x.event) → 1 ≤ room space x.event.actor)
+    → IsRefused (perform R x.event.actor (contents space) access) (makes access) (room space x.event.actor) refusal → ⊥
+not_refused R space xs v x access refusal h needs has_room (inl refused) =
+    let l = leaves R (world_of_fields space xs) v x h in
+    let same : l.access ≡ access = cc (l.needs, needs) in
+    cc (sym (ap (λ (y : Access). perform R x.event.actor (contents space) y) same) ∙ l.does, refused)
+not_refused R space xs v x access refusal h needs has_room (inr lacks) =
+    let l = leaves R (world_of_fields space xs) v x h in
+    let some = has_room (makes_by R (world_of_fields space xs) x.event x.old_actor access l.has needs ∙ lacks.1.1) in
+    absurd (omega (arith, some, lacks.1.2))
+
+-- the step of the entry leaves these fields, and they are a well-formed world
+pub record IsMadeAgain (R : ℕ) (old new : Space R) (xs ys : List Actor) (x : Entry) : Type 0 where
+  pub goes : step R (world_of_fields old xs) x.event ≡ Ok (record { world = world_of_fields new ys; entry = x })
+  pub formed : IsWellFormed R (world_of_fields new ys)
+
+made_again : (R : ℕ) (old new : Space R) (xs ys : List Actor) (v : World) (x : Entry) (next : Actor × Option OpReply)
+    → IsWellFormed R (world_of_fields old xs) → step R (world_of_fields old xs) x.event ≡ Ok (record { world = v; entry = x })
+    → next ≡ after R x.old_actor x.event.act x.answer → actor_at ys ≡ with_actor x.event.actor next.0 (actor_at xs)
+    → v.at ≡ contents new → IsMadeAgain R old new xs ys x
+made_again R old new xs ys v x next formed h goes_on actors places =
+    let l = leaves R (world_of_fields old xs) v x h in
+    let words : v.actor ≡ actor_at ys =
+    l.actors ∙ sym (ap (λ (n : Actor × Option OpReply). with_actor x.event.actor n.0 (actor_at xs)) goes_on) ∙ sym actors in
+    let same : v ≡ world_of_fields new ys = λ i. record { at = places i; actor = words i } in
+    record {
+      goes = h ∙ ap (λ (w : World). Ok (record { world = w; entry = x })) same;
+      formed = subst (λ (w : World). IsWellFormed R w) same (keeps R (world_of_fields old xs) x.event _ formed h);
+    }
+
+-- a step that only read is made again by its actor's words alone
+pub read_again : (R : ℕ) (space : Space R) (xs ys : List Actor) (v : World) (x : Entry) (next : Actor × Option OpReply)
+    → IsWellFormed R (world_of_fields space xs) → step R (world_of_fields space xs) x.event ≡ Ok (record { world = v; entry = x })
+    → next ≡ after R x.old_actor x.event.act x.answer → actor_at ys ≡ with_actor x.event.actor next.0 (actor_at xs)
+    → is_nothing x.wrote ≡ true → IsMadeAgain R space space xs ys x
+read_again R space xs ys v x next formed h goes_on actors reads =
+    made_again R space space xs ys v x next formed h goes_on actors
+    ((changes_only R (world_of_fields space xs) x.event (record { world = v; entry = x }) h).reading reads)
+
+-- any step is made again by its access, which is not refused, and its actor's words
+pub access_again : (R : ℕ) (old new : Space R) (xs ys : List Actor) (v : World) (x : Entry) (next : Actor × Option OpReply) (access : Access) (r : Result Done Refusal)
+    → IsWellFormed R (world_of_fields old xs) → step R (world_of_fields old xs) x.event ≡ Ok (record { world = v; entry = x })
+    → (IsTrue (makes_segment R (world_of_fields old xs) x.event) → 1 ≤ room old x.event.actor)
+    → next ≡ after R x.old_actor x.event.act x.answer → actor_at ys ≡ with_actor x.event.actor next.0 (actor_at xs)
+    → need R x.old_actor x.event.act ≡ Ok access
+    → IfOk r (λ done. HasEffect everywhere (perform R x.event.actor (contents old) access) done (contents old) (contents new))
+    → IfErr r (λ e. IsRefused (perform R x.event.actor (contents old) access) (makes access) (room old x.event.actor) e) → IsMadeAgain R old new xs ys x
+access_again R old new xs ys v x next access (Ok done) formed h has_room goes_on actors needs accesses refused =
+    let l = leaves R (world_of_fields old xs) v x h in
+    let same : l.access ≡ access = cc (l.needs, needs) in
+    let does : perform R x.event.actor (contents old) access ≡ Ok l.did =
+    sym (ap (λ (y : Access). perform R x.event.actor (contents old) y) same) ∙ l.does in
+    let did : l.did ≡ accesses.performed = cc (does, accesses.performs) in
+    let left : contents new ≡ contents_after accesses.performed (contents old) = fun_ext (λ q. accesses.leaves q refl) in
+    made_again R old new xs ys v x next formed h goes_on actors
+    (l.places ∙ ap (λ (d : Performed). contents_after d (contents old)) did ∙ sym left)
+access_again R old new xs ys v x next access (Err refusal) formed h has_room goes_on actors needs accesses refused =
+    absurd (not_refused R old xs v x access refusal h needs has_room refused)

@@ -1,0 +1,98 @@
+use Rattle.std.proofs.Common.{Bool, suc, ◌∙◌, ◌≤◌, ◌+◌, sym, ap, subst, arith}
+use Rattle.rd_segments.specs.Room.{room_used}
+use Rattle.rd_segments.specs.Space.{room}
+use Rattle.rd_step.specs.Fields.{world_of_fields}
+use Rattle.rd_step.specs.Worlds.{model}
+use Rattle.rd_step.proofs.MadeAgain.{leaves, not_refused, read_again, access_again}
+use Rattle.rd_step.proofs.WorldLemmas.{representable_here, actor_maker, few_made, need_suits, makes_by}
+use Rattle.rd_step.proofs.worlds.World.step_again.Goals as goal
+
+pub unreachable-requires : goal.unreachable-requires
+unreachable-requires g c =
+    let self = c.args.self.now in
+    let x = c.args.entry.now in
+    let l = leaves _ (model self) c.requires.goes.0 x c.requires.goes.1 in
+    let can = representable_here _ self.space self.actors.items x.event x.old_actor self.well_formed self.small l.has in
+    cc (l.needs, c.need.ensures can)
+
+pub perform-requires : goal.perform-requires
+perform-requires g c =
+    let self = c.args.self.now in
+    let x = c.args.entry.now in
+    let l = leaves _ (model self) c.requires.goes.0 x c.requires.goes.1 in
+    let can = representable_here _ self.space self.actors.items x.event x.old_actor self.well_formed self.small l.has in (
+      omega arith,
+      (
+        self.small,
+        (
+          actor_maker self.space self.actors.items x.event.actor x.old_actor self.makers l.has,
+          (
+            few_made self.space self.actors.items x.event.actor self.well_formed,
+            need_suits _ self.space self.actors.items x.event x.old_actor c.in-Ok.access self.well_formed l.has (sym (c.in-Ok.ensures can)),
+          ),
+        ),
+      ),
+    )
+
+pub invariant_of-self : goal.invariant_of-self
+invariant_of-self g c =
+    let self = c.args.self.now in
+    let x = c.args.entry.now in
+    let l = leaves _ (model self) c.requires.goes.0 x c.requires.goes.1 in
+    let can = representable_here _ self.space self.actors.items x.event x.old_actor self.well_formed self.small l.has in
+    let again =
+    access_again _ self.space c.perform.new.space self.actors.items c.set_actor.new.actors.items c.requires.goes.0 x c.after.result c.in-Ok.access
+    c.perform.result self.well_formed c.requires.goes.1 c.requires.room c.after.ensures c.set_actor.ensures.done (sym (c.in-Ok.ensures can))
+    c.perform.ensures.ok c.perform.ensures.err in
+    record {
+      positive = self.positive;
+      small = self.small;
+      makers = c.perform.ensures.number ∙ self.makers ∙ ap suc (sym c.set_actor.ensures.number);
+      well_formed = again.formed;
+    }
+
+pub unreachable-requires-in-Err : goal.unreachable-requires-in-Err
+unreachable-requires-in-Err g c =
+    let self = c.args.self.now in
+    let x = c.args.entry.now in
+    let l = leaves _ (model self) c.requires.goes.0 x c.requires.goes.1 in
+    let can = representable_here _ self.space self.actors.items x.event x.old_actor self.well_formed self.small l.has in
+    not_refused _ self.space self.actors.items c.requires.goes.0 x c.in-Ok.access c.in-Err.field-0 c.requires.goes.1
+    (sym (c.in-Ok.ensures can)) c.requires.room c.in-Err.ensures.err
+
+pub invariant_of-self-else-not-is_nothing : goal.invariant_of-self-else-not-is_nothing
+invariant_of-self-else-not-is_nothing g c =
+    let self = c.args.self.now in
+    record {
+      positive = self.positive;
+      small = self.small;
+      makers = self.makers ∙ ap suc (sym c.set_actor.ensures.number);
+      well_formed =
+          (read_again _ self.space self.actors.items c.set_actor.new.actors.items c.requires.goes.0 c.args.entry.now c.after.result self.well_formed
+          c.requires.goes.1 c.after.ensures c.set_actor.ensures.done (sym c.if-not-is_nothing.ensures)).formed;
+    }
+
+pub returns-in-Ok-perform-clause-done : goal.returns-in-Ok-perform-clause-done
+returns-in-Ok-perform-clause-done g c =
+    let self = c.args.self.now in
+    let x = c.args.entry.now in
+    let l = leaves _ (model self) c.requires.goes.0 x c.requires.goes.1 in
+    let can = representable_here _ self.space self.actors.items x.event x.old_actor self.well_formed self.small l.has in
+    (access_again _ self.space c.perform.new.space self.actors.items c.set_actor.new.actors.items c.requires.goes.0 x c.after.result c.in-Ok.access
+    c.perform.result self.well_formed c.requires.goes.1 c.requires.room c.after.ensures c.set_actor.ensures.done (sym (c.in-Ok.ensures can))
+    c.perform.ensures.ok c.perform.ensures.err).goes
+
+pub returns-in-Ok-perform-clause-room : goal.returns-in-Ok-perform-clause-room
+returns-in-Ok-perform-clause-room g c = λ m.
+    let self = c.args.self.now in
+    let x = c.args.entry.now in
+    let l = leaves _ (model self) c.requires.goes.0 x c.requires.goes.1 in
+    let can = representable_here _ self.space self.actors.items x.event x.old_actor self.well_formed self.small l.has in
+    let e = makes_by _ (world_of_fields self.space self.actors.items) x.event x.old_actor c.in-Ok.access l.has (sym (c.in-Ok.ensures can)) in
+    subst (λ (b : Bool). room self.space m ≤ room c.perform.new.space m + room_used b x.event.actor m) (sym e) (c.in-Ok-perform.ensures.room m)
+
+pub returns-else-not-is_nothing-clause-done : goal.returns-else-not-is_nothing-clause-done
+returns-else-not-is_nothing-clause-done g c =
+    let self = c.args.self.now in
+    (read_again _ self.space self.actors.items c.set_actor.new.actors.items c.requires.goes.0 c.args.entry.now c.after.result self.well_formed
+    c.requires.goes.1 c.after.ensures c.set_actor.ensures.done (sym c.if-not-is_nothing.ensures)).goes
