@@ -1,6 +1,6 @@
 -- A journal in which some of the steps ahead are undone, beside the one in which all are.
 use Rattle.std.proofs.Common.{◌≡◌, ℕ, zero, suc, ◌+◌, ◌-◌, ◌≤◌, refl, sym, ◌∙◌, ap, arith, List, [], ◌∷◌, ◌++◌, length, take, drop, Result, length-drop}
-use Rattle.std.proofs.Math.Seq.{take-length, drop-length, take-append-add}
+use Rattle.std.proofs.Math.Seq.{take-length, drop-length}
 use Rattle.std.proofs.lemmas.List.{length-take, length-take-le, length-map, map-append, append_assoc, take-append-drop, take-append-le, take-map, take-take, drop-take}
 use Rattle.rd_step.specs.Prelude.{Refusal, World, Stepped, run, room}
 use Rattle.rd_step.specs.Run.{run_entries, run_from_step}
@@ -143,13 +143,3 @@ along_back n k old live within is left =
     let few : n ≤ length (events old.live) = omega (arith, length-map old.live event) in
     ap events left ∙ ap (λ (m : ℕ). events (take m old.live)) low ∙ sym (take-map event n old.live)
     ∙ sym (take-append-le n (events old.live) (events old.undone) few)
-
--- and where some of them are ahead
-pub along_forward : (n k : ℕ) (old new : Journal) → n ≡ length old.live + k → IsSwitched (length old.live) (take k old.undone) old new
-    → events new.live ≡ take n (track_of old)
-along_forward n k old new all is =
-    let event = λ (x : Entry). x.event in
-    let long : n ≡ length (events old.live) + k = omega (arith, all, length-map old.live event) in
-    ap events (is.live ∙ ap (λ (xs : List Entry). xs ++ take k old.undone) (take-length old.live)) ∙ map-append event old.live (take k old.undone)
-    ∙ ap (λ (es : List Event). events old.live ++ es) (sym (take-map event k old.undone))
-    ∙ sym (ap (λ (m : ℕ). take m (track_of old)) long ∙ take-append-add (events old.live) (events old.undone) k)
