@@ -4,9 +4,9 @@
 //! function of the table sees a world: `need` names the one access of a step, and `after` takes what it answered.
 #![tactic(auto)]
 
-pub mod actors;
-pub mod table;
-pub mod words;
+mod actors;
+mod table;
+mod words;
 
 pub use actors::{Act, Actor, Op, OpReply, Pc};
 pub use table::{after, need};

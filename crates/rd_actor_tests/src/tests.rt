@@ -1,8 +1,7 @@
 //! The tests of the table of control points: what each row asks for, which acts are refused, and how rows go on, as the
 //! table of docs/MODEL.md says it.
 
-use rd_actor::actors::{Act, Actor, Op, OpReply, Pc};
-use rd_actor::table::{after, need};
+use rd_actor::{Act, Actor, Op, OpReply, Pc, after, need};
 use rd_cell::{Access, Answer, ArrSlot, Cell, Content, Operation, Place, Refusal, SegName};
 
 /// The segments that the actor of these tests names: its own, the one that it made, and the next one.

@@ -128,10 +128,6 @@ covers-refl (ArrCell i) = is_place-refl (ArrCell i)
 pub covers_at : (p q : Place) → p ≡ q → covers p q ≡ true
 covers_at p q e = subst (λ (x : Place). covers p x ≡ true) e (covers-refl p)
 
--- what a place doesn't cover is another place
-pub covers-other : (p q : Place) → covers p q ≡ false → is_place p q ≡ false
-covers-other p q h = false_from_ne_true (is_place p q) (λ e. both_ways (covers p q) h (covers_at p q (is_place-true p q e)))
-
 -- overlap is symmetric
 pub overlaps-sym : (p q : Place) → overlaps p q ≡ true → overlaps q p ≡ true
 overlaps-sym p q h =

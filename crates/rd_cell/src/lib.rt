@@ -4,17 +4,17 @@
 //! does to one content, and what an access leaves at each place; the crates above execute just that.
 #![tactic(auto)]
 
-pub mod access;
-pub mod cells;
-pub mod contents;
+mod access;
+mod cells;
+mod contents;
 pub mod limits;
-pub mod operations;
-pub mod places;
-pub mod refusal;
+mod operations;
+mod places;
+mod refusal;
 
 pub use access::{Access, Done};
 pub use cells::Cell;
 pub use contents::{ArrSlot, Content};
 pub use operations::{Answer, Operation};
-pub use places::{Place, SegName, Wrote, is_of, overlaps, written};
+pub use places::{Place, SegName, Wrote, overlaps, written};
 pub use refusal::Refusal;

@@ -151,7 +151,7 @@ fn is_of_cell(name: SegName, i: u8, place: Place) -> bool
 }
 
 /// Whether the place is one of the segment's, or the whole of it.
-pub fn is_of(name: SegName, place: Place) -> bool
+fn is_of(name: SegName, place: Place) -> bool
     ensures { result ≡ is_of name place }
 {
     match place {

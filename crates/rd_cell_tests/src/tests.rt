@@ -1,10 +1,8 @@
 //! The tests of the words: expected values are those of the tables in docs/MODEL.md.
 
-use rd_cell::access::Done;
-use rd_cell::cells::Cell;
-use rd_cell::contents::{ArrSlot, Content};
-use rd_cell::operations::{Answer, Operation};
-use rd_cell::places::{Place, SegName, Wrote, is_of, overlaps, written};
+use rd_cell::{
+    Answer, ArrSlot, Cell, Content, Done, Operation, Place, SegName, Wrote, overlaps, written,
+};
 
 /// The first segment that actor 1 makes.
 const FIRST: SegName = SegName { maker: 1, n: 0 };
@@ -31,9 +29,7 @@ fn places_overlap_if_they_are_equal_or_one_names_the_other(rt: HostRuntime) {
     for &(place, segment, array) in PLACES {
         assert_eq!(rt; place.segment(), segment, "{place:?}");
         assert_eq!(rt; place.is_array(), array, "{place:?}");
-        let of_first = segment.is_some() || place == Place::Whole(FIRST);
-        assert_eq!(rt; is_of(FIRST, place), of_first, "{place:?}");
-        assert!(rt; !is_of(SegName::ROOT, place), "{place:?}");
+        assert!(rt; !overlaps(Place::Whole(SegName::ROOT), place), "{place:?}");
         for &(other, of, _) in PLACES {
             let whole_of_other = place == Place::Whole(FIRST) && of.is_some();
             let whole_of_this = other == Place::Whole(FIRST) && segment.is_some();
@@ -45,7 +41,6 @@ fn places_overlap_if_they_are_equal_or_one_names_the_other(rt: HostRuntime) {
     assert!(rt; !overlaps(Place::Cell(FIRST, 3), Place::Cell(FIRST, 2)));
     assert!(rt; !overlaps(Place::Cell(FIRST, 3), Place::Val(FIRST, 2)));
     assert!(rt; !overlaps(Place::Cell(FIRST, 3), Place::Idx(SegName::ROOT, 3)));
-    assert!(rt; !overlaps(Place::Whole(SegName::ROOT), Place::Head(FIRST)));
 }
 
 /// Whether the second place is a half of the first, which is the third cell.

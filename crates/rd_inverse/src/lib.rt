@@ -3,6 +3,6 @@
 //! A step is undone from the words that its entry keeps: nothing is replayed, and no step but it is looked at.
 #![tactic(auto)]
 
-pub mod inverse;
+mod inverse;
 
 pub use inverse::unstep;

@@ -2,7 +2,7 @@
 
 use rd_actor::{Act, Actor, Pc};
 use rd_cell::{Content, Place, Refusal, SegName};
-use rd_inverse::inverse::unstep;
+use rd_inverse::unstep;
 use rd_step::{Entry, Event, World};
 use std::test::Fail;
 

@@ -1,8 +1,8 @@
 -- An operation at any place of a segment.
-use Rattle.std.proofs.Common.{◌≡◌, ℕ, true, refl, sym, ◌∙◌, ap, subst, arith, ◌<◌, Option, Some, None, is_some, option_map, slice_get, length, Ok, Err, inl, inr}
+use Rattle.std.proofs.Common.{◌≡◌, ℕ, refl, sym, ◌∙◌, ap, subst, arith, ◌<◌, Option, Some, None, option_map, slice_get, length, Ok, Err, inl, inr}
 use Rattle.std.proofs.lemmas.Bool.{cases_lt}
 use Rattle.std.proofs.lemmas.Option.{slice_get_past}
-use Rattle.rd_ring.specs.Prelude.{Cell, SegName, Place, CellAt, ValAt, IdxAt, Wrote, WroteNothing, Content, Name, Number, TailIs, NextIs, ValIs, IdxIs, Operation, Read, ReadValue, ReadSafeAndIndex, Answer, Done, Refusal, is_of, is_beside, effect, cell_of_halves, operand, operate, Operates}
+use Rattle.rd_ring.specs.Prelude.{Cell, SegName, Place, CellAt, Wrote, WroteNothing, Content, Name, Number, TailIs, NextIs, ValIs, IdxIs, Operation, Read, ReadValue, ReadSafeAndIndex, Answer, Done, Refusal, is_of, is_beside, effect, cell_of_halves, operand, operate, Operates}
 use Rattle.rd_cell.specs.Operations.{read_answer}
 use Rattle.rd_cell.specs.Access.{effect_at, perform_effect}
 use Rattle.rd_cell.proofs.AccessLemmas.{operate-old}
@@ -67,25 +67,4 @@ cell_is_within seg s i p c at found =
     let read : operand (part seg) (CellAt s i) ≡ Some c = sym (ap (operand (part seg)) at) ∙ found in
     let e : operand (part seg) (CellAt s i) ≡ None =
     ap (λ (o : Option Cell). cell_of_halves (option_map (λ x. ValIs x.val) o) (option_map (λ x. IdxIs x.safe x.idx) o)) none in
-    cc)
-
-pub value_is_within : {R : ℕ} (seg : Segment R) (s : SegName) (i : ℕ) (p : Place) → p ≡ ValAt s i → is_some (operand (part seg) p) ≡ true → i < R
-value_is_within seg s i p at found =
-    within_cells seg i (λ none.
-    let read = sym (ap (λ (x : Place). is_some (operand (part seg) x)) at) ∙ found in
-    let e = ap (λ (o : Option Cell). is_some (option_map (λ x. ValIs x.val) o)) none in
-    cc)
-
-pub index_is_within : {R : ℕ} (seg : Segment R) (s : SegName) (i : ℕ) (p : Place) → p ≡ IdxAt s i → is_some (operand (part seg) p) ≡ true → i < R
-index_is_within seg s i p at found =
-    within_cells seg i (λ none.
-    let read = sym (ap (λ (x : Place). is_some (operand (part seg) x)) at) ∙ found in
-    let e = ap (λ (o : Option Cell). is_some (option_map (λ x. IdxIs x.safe x.idx) o)) none in
-    cc)
-
-pub cell_put_within : {R : ℕ} (seg : Segment R) (s : SegName) (i : ℕ) (p : Place) → p ≡ CellAt s i → is_some (operand (part seg) p) ≡ true → i < R
-cell_put_within seg s i p at found =
-    within_cells seg i (λ none.
-    let read = sym (ap (λ (x : Place). is_some (operand (part seg) x)) at) ∙ found in
-    let e = ap (λ (o : Option Cell). is_some (cell_of_halves (option_map (λ x. ValIs x.val) o) (option_map (λ x. IdxIs x.safe x.idx) o))) none in
     cc)

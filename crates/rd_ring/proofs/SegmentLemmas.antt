@@ -2,7 +2,7 @@
 use Rattle.std.proofs.Common.{◌≡◌, ◌≢◌, ℕ, ◌+◌, ◌<◌, ◌≤◌, Bool, true, false, refl, sym, ap, ap₂, subst₂, arith, eqb-true, Option, Some, None, List, [], ◌∷◌, zero, suc, ◌↔◌, nat_lt, lt-ltb, le-ltb, ◌∙◌, ◌==◌, ◌&&◌, inl, inr, length, set, eq-eqb, ne_eqb, option_map, slice_get, if◌then◌else◌, Ok}
 use Rattle.std.proofs.lemmas.Bool.{true≢false, false_from_ne_true, cases_eq, cond-true, cond-false, cond_both, and_parts, and_from, and_right}
 use Rattle.std.specs.Bool.{OnTrue, OnFalse}
-use Rattle.rd_ring.specs.Prelude.{COUNTER_END, Cell, SegName, Place, Head, Tail, Next, CellAt, ValAt, IdxAt, WholeOf, Wrote, WroteNothing, WrotePlace, WroteIndex, Content, Number, TailIs, NextIs, CellIs, ValIs, IdxIs, Operation, Add, Close, Cas2, Answer, Found, WasClosed, Won, CounterEnd, root, is_name, is_of, is_of_cell, is_place, is_cell, written, half, cell_of_halves, share, effect, wrote_cell, wrote_content, operate, operand}
+use Rattle.rd_ring.specs.Prelude.{COUNTER_END, Cell, SegName, Place, Head, Tail, Next, CellAt, ValAt, IdxAt, WholeOf, Wrote, WroteNothing, WrotePlace, WroteIndex, Content, Number, TailIs, NextIs, CellIs, ValIs, IdxIs, Operation, Add, Cas2, Answer, Found, Won, CounterEnd, root, is_name, is_of, is_of_cell, is_place, is_cell, written, half, cell_of_halves, share, effect, wrote_cell, wrote_content, operate, operand}
 use Rattle.rd_cell.specs.Cells.{is_value}
 use Rattle.rd_cell.specs.Contents.{after_write_at}
 use Rattle.rd_cell.specs.Operations.{swaps}
@@ -51,22 +51,6 @@ head_put old new count head next cells bit tail = record { named = at }
     at s (WholeOf t) h = refl
     at s _ h = cc
 
--- two segments that differ in the next alone
-pub next_put : {R : ℕ} (old new : Segment R) (follows : Option SegName) → new.head ≡ old.head → new.next ≡ follows
-    → new.cells ≡ old.cells → new.closed ≡ old.closed → new.tail ≡ old.tail → RestoresAt Next (NextIs follows) old new
-next_put old new follows head next cells bit tail = record { named = at }
-  where
-    at : (s : SegName) (q : Place) → is_of s q ≡ true
-        → part new q ≡ (if is_place (Next s) q then Some (NextIs follows) else part old q)
-    at s (Head t) h = ap (λ (n : ℕ). Some (Number n)) head
-    at s (Tail t) h = ap₂ (λ (b : Bool) (n : ℕ). Some (TailIs b n)) bit tail
-    at s (Next t) h = ap (λ m. Some (NextIs m)) next ∙ sym (cond-true (is_name s t) _ _ h)
-    at s (ValAt t i) h = ap (λ (cs : List Cell). option_map value_of (slice_get cs i)) cells
-    at s (IdxAt t i) h = ap (λ (cs : List Cell). option_map index_of (slice_get cs i)) cells
-    at s (CellAt t i) h = refl
-    at s (WholeOf t) h = refl
-    at s _ h = cc
-
 -- what is read of a list after one cell was written
 part_written : (f : Cell → Content) (cells : List Cell) (i : ℕ) (cell : Cell) (b : Bool) → i < length cells → (j : ℕ) → b ≡ true
     → option_map f (slice_get (set cells i cell) j) ≡ (if b && (i == j) then Some (f cell) else option_map f (slice_get cells j))
@@ -95,57 +79,6 @@ cell_put old new i cell within head next cells bit tail = record { named = at }
     at s (IdxAt t j) h =
         ap (λ (cs : List Cell). option_map index_of (slice_get cs j)) cells ∙ part_written index_of old.cells i cell (is_name s t) within j h
     at s (CellAt t j) h = cond_both (is_name s t && (i == j)) None None (λ (o : Option Content). None ≡ o) (λ e. refl) (λ e. refl)
-    at s (WholeOf t) h = refl
-    at s _ h = cc
-
--- a half that a cell keeps is read as it was
-half_kept : (f : Cell → Content) (cells : List Cell) (i : ℕ) (x y : Cell) → slice_get cells i ≡ Some x → i < length cells → f y ≡ f x → (j : ℕ)
-    → option_map f (slice_get (set cells i y) j) ≡ option_map f (slice_get cells j)
-half_kept f cells i x y read within same j =
-    elim (cases_eq i j) [
-      | inl e ↦
-          ap (option_map f) (ap (slice_get (set cells i y)) (sym e) ∙ slice_get-set_same cells i y within) ∙ ap Some same
-          ∙ sym (ap (option_map f) (ap (slice_get cells) (sym e) ∙ read))
-      | inr ne ↦ ap (option_map f) (slice_get-set_other cells i j y (λ e. ne (sym e)))
-    ]
-
--- two segments that differ in one value half alone
-pub value_put : {R : ℕ} (old new : Segment R) (i : ℕ) (x : Cell) (val : Option ℕ) → i < length old.cells → slice_get old.cells i ≡ Some x
-    → new.head ≡ old.head → new.next ≡ old.next → new.cells ≡ set old.cells i (record x { val = val }) → new.closed ≡ old.closed → new.tail ≡ old.tail
-    → RestoresAt (λ s. ValAt s i) (ValIs val) old new
-value_put old new i x val within read head next cells bit tail = record { named = at }
-  where
-    at : (s : SegName) (q : Place) → is_of s q ≡ true → part new q ≡ (if is_place (ValAt s i) q then Some (ValIs val) else part old q)
-    at s (Head t) h = ap (λ (n : ℕ). Some (Number n)) head
-    at s (Tail t) h = ap₂ (λ (b : Bool) (n : ℕ). Some (TailIs b n)) bit tail
-    at s (Next t) h = ap (λ m. Some (NextIs m)) next
-    at s (ValAt t j) h =
-        ap (λ (cs : List Cell). option_map value_of (slice_get cs j)) cells
-        ∙ part_written value_of old.cells i (record x { val = val }) (is_name s t) within j h
-    at s (IdxAt t j) h =
-        ap (λ (cs : List Cell). option_map index_of (slice_get cs j)) cells
-        ∙ half_kept index_of old.cells i x (record x { val = val }) read within refl j
-    at s (CellAt t j) h = refl
-    at s (WholeOf t) h = refl
-    at s _ h = cc
-
--- two segments that differ in one index half alone
-pub index_put : {R : ℕ} (old new : Segment R) (i : ℕ) (x : Cell) (safe : Bool) (idx : ℕ) → i < length old.cells → slice_get old.cells i ≡ Some x
-    → new.head ≡ old.head → new.next ≡ old.next → new.cells ≡ set old.cells i (record x { safe = safe; idx = idx }) → new.closed ≡ old.closed
-    → new.tail ≡ old.tail → RestoresAt (λ s. IdxAt s i) (IdxIs safe idx) old new
-index_put old new i x safe idx within read head next cells bit tail = record { named = at }
-  where
-    at : (s : SegName) (q : Place) → is_of s q ≡ true → part new q ≡ (if is_place (IdxAt s i) q then Some (IdxIs safe idx) else part old q)
-    at s (Head t) h = ap (λ (n : ℕ). Some (Number n)) head
-    at s (Tail t) h = ap₂ (λ (b : Bool) (n : ℕ). Some (TailIs b n)) bit tail
-    at s (Next t) h = ap (λ m. Some (NextIs m)) next
-    at s (ValAt t j) h =
-        ap (λ (cs : List Cell). option_map value_of (slice_get cs j)) cells
-        ∙ half_kept value_of old.cells i x (record x { safe = safe; idx = idx }) read within refl j
-    at s (IdxAt t j) h =
-        ap (λ (cs : List Cell). option_map index_of (slice_get cs j)) cells
-        ∙ part_written index_of old.cells i (record x { safe = safe; idx = idx }) (is_name s t) within j h
-    at s (CellAt t j) h = refl
     at s (WholeOf t) h = refl
     at s _ h = cc
 
@@ -202,12 +135,6 @@ tail_added old new within below puts =
 pub tail_ended : {R : ℕ} (old : Segment R) → old.tail ≡ COUNTER_END → RefusesAt Tail Add old CounterEnd
 tail_ended old ended = λ s.
     ap (perform_effect (Tail s) (TailIs old.closed old.tail)) (cond-false (nat_lt old.tail COUNTER_END) _ _ (le-ltb old.tail COUNTER_END (omega arith)))
-
--- The test-and-set
-
-pub tail_closed : {R : ℕ} (old new : Segment R) → RestoresAt Tail (TailIs true old.tail) old new
-    → OperatesAt Tail Close (TailIs old.closed old.tail) (WasClosed old.closed) WrotePlace old new
-tail_closed old new puts = wrote_at old new Tail Close (TailIs old.closed old.tail) (TailIs true old.tail) (WasClosed old.closed) refl (λ s. refl) refl puts
 
 -- Compare-and-swaps
 

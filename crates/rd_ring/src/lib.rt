@@ -4,9 +4,9 @@
 //! takes the content from before it.
 #![tactic(auto)]
 
-pub mod operations;
-pub mod parts;
-pub mod segments;
+mod operations;
+mod parts;
+mod segments;
 
 pub use parts::SegmentParts;
 pub use segments::Segment;

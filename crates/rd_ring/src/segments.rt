@@ -114,22 +114,6 @@ impl<const R: usize> Segment<R> {
         }
     }
 
-    /// The head counter, at most 2^62.
-    pub fn head(&self) -> u64
-        ensures value { (s : SegName) → part self.now (Head s) ≡ Some (Number result) }
-        ensures within { result ≤ COUNTER_END }
-    {
-        self.head
-    }
-
-    /// The closed bit and the tail counter, at most 2^62.
-    pub fn tail(&self) -> (bool, u64)
-        ensures value { (s : SegName) → part self.now (Tail s) ≡ Some (TailIs result.0 result.1) }
-        ensures within { result.1 ≤ COUNTER_END }
-    {
-        (self.closed, self.tail)
-    }
-
     /// The name of the segment that follows, or none.
     pub fn next(&self) -> Option<SegName>
         ensures { (s : SegName) → part self.now (Next s) ≡ Some (NextIs result) }

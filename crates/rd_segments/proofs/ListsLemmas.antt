@@ -172,6 +172,17 @@ spare_kept makers maker m list left is within read room k =
     elim (spare_replaced makers m list left at read k)
     [ inl h ↦ let a = h.1 in let b = h.2 in omega arith | inr h ↦ let b = h.1 in omega arith ]
 
+pub spare_same : {R : ℕ} (makers : List (ListOf R)) (maker m : ℕ) (list left : ListOf R) → m ≡ maker → maker < length makers
+    → list ≡ get_or makers m list → spare_in (Some left) ≡ spare_in (Some list) → (k : ℕ) → spare (set makers m left) k ≡ spare makers k
+spare_same makers maker m list left is within read room k =
+    let at : m < length makers = omega arith in
+    elim (spare_replaced makers m list left at read k) [ inl h ↦ h.1 ∙ room ∙ sym h.2 | inr h ↦ h.1 ]
+
+-- the room of another maker
+pub spare_others : {R : ℕ} (makers : List (ListOf R)) (maker m : ℕ) (left : ListOf R) → m ≡ maker
+    → (k : ℕ) → k ≢ maker → spare (set makers m left) k ≡ spare makers k
+spare_others makers maker m left is k ne = ap spare_in (slice_get-set_other makers m k left (λ e. ne (e ∙ is)))
+
 pub spare_given : {R : ℕ} (makers : List (ListOf R)) (maker m : ℕ) (list left : ListOf R) → m ≡ maker → maker < length makers
     → list ≡ get_or makers m list → spare_in (Some left) ≡ spare_in (Some list) + 1
     → (k : ℕ) → spare (set makers m left) k ≡ spare makers k + room_used true maker k

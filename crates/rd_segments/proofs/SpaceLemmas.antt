@@ -1,8 +1,8 @@
 -- The space's map after a change of its segments, of one of the queue's ends, or of the array.
-use Rattle.std.proofs.Common.{◌≡◌, ℕ, true, false, Bool, if◌then◌else◌, inl, inr, refl, sym, ◌∙◌, ap, subst, List, Option, Some, None, is_some, Result, Ok, Err, IfOk, IfErr, OnErr}
+use Rattle.std.proofs.Common.{◌≡◌, ℕ, true, false, Bool, if◌then◌else◌, inl, inr, refl, sym, ◌∙◌, ap, subst, List, Option, Some, None, Result, Ok, Err, IfOk, IfErr, OnErr}
 use Rattle.std.proofs.lemmas.Bool.{cases_Bool, cond-true, cond-false, cond_both, false_from_ne_true, both_ways}
 use mathlib.Core.Path.{fun_ext}
-use Rattle.rd_ring.specs.Prelude.{SegName, Place, QHead, QTail, Head, Tail, Next, CellAt, ValAt, IdxAt, WholeOf, ArrHead, ArrTail, ArrCell, Content, Name, Operation, Done, Refusal, NoSuchPlace, root, is_name, is_of, is_place, is_array, segment_of, covers, Contents, cell_of_halves, share, restore, fresh, operand, operate, make, everywhere, Operates, OperatesOn, Makes, Restores}
+use Rattle.rd_ring.specs.Prelude.{SegName, Place, QHead, QTail, Head, Tail, Next, CellAt, ValAt, IdxAt, WholeOf, ArrHead, ArrTail, ArrCell, Content, Name, Operation, Done, Refusal, root, is_name, is_of, is_place, is_array, segment_of, covers, Contents, cell_of_halves, restore, fresh, operand, operate, make, everywhere, Operates, OperatesOn, Makes, Restores}
 use Rattle.rd_cell.proofs.PlaceLemmas.{Covering, itself, as_cell, as_whole, covers_cases, is_of_cell-of, is_place-true}
 use Rattle.rd_cell.proofs.AccessLemmas.{place-make}
 use Rattle.rd_cell.proofs.EffectLemmas.{Agrees, lift, lift_operates, lift_restore, operand_agrees, narrow, place_operates}
@@ -106,25 +106,6 @@ space_refuses makers qhead qtail array name p op own (Ok done) h = tt
 space_refuses makers qhead qtail array name p op own (Err e) h =
     ap (operate p op) (operand_of_segments makers qhead qtail array name p own) ∙ h
 
--- a place whose segment is not there takes no operation
-operand_none : {R : ℕ} (makers : List (ListOf R)) (name : SegName) (p : Place) → segment_of p ≡ Some name → by_name makers name ≡ None
-    → operand (segments_of makers) p ≡ None
-operand_none {R} makers name (Head s) own none = let e : s ≡ name = cc in ap (λ n. part_of (by_name makers n) (Head s)) e ∙ ap (λ (o : Option (Segment R)). part_of o (Head s)) none
-operand_none {R} makers name (Tail s) own none = let e : s ≡ name = cc in ap (λ n. part_of (by_name makers n) (Tail s)) e ∙ ap (λ (o : Option (Segment R)). part_of o (Tail s)) none
-operand_none {R} makers name (Next s) own none = let e : s ≡ name = cc in ap (λ n. part_of (by_name makers n) (Next s)) e ∙ ap (λ (o : Option (Segment R)). part_of o (Next s)) none
-operand_none {R} makers name (CellAt s i) own none =
-    let e : s ≡ name = cc in
-    ap (λ n. cell_of_halves (part_of (by_name makers n) (ValAt s i)) (part_of (by_name makers n) (IdxAt s i))) e
-    ∙ ap (λ (o : Option (Segment R)). cell_of_halves (part_of o (ValAt s i)) (part_of o (IdxAt s i))) none
-operand_none {R} makers name (ValAt s i) own none = let e : s ≡ name = cc in ap (λ n. part_of (by_name makers n) (ValAt s i)) e ∙ ap (λ (o : Option (Segment R)). part_of o (ValAt s i)) none
-operand_none {R} makers name (IdxAt s i) own none = let e : s ≡ name = cc in ap (λ n. part_of (by_name makers n) (IdxAt s i)) e ∙ ap (λ (o : Option (Segment R)). part_of o (IdxAt s i)) none
-operand_none makers name _ own none = cc
-
-pub space_absent : {R : ℕ} (makers : List (ListOf R)) (qhead qtail : SegName) (array : ArrayParts) (name : SegName) (p : Place) (op : Operation) → segment_of p ≡ Some name
-    → by_name makers name ≡ None → operate p op (operand (contents_of makers qhead qtail array) p) ≡ Err NoSuchPlace
-space_absent makers qhead qtail array name p op own none =
-    ap (operate p op) (operand_of_segments makers qhead qtail array name p own ∙ operand_none makers name p own none)
-
 -- what an operation at a place of a segment works on is what the segment has there
 pub at_segment : {R : ℕ} (makers : List (ListOf R)) (qhead qtail : SegName) (array : ArrayParts) (p : Place) (name : SegName) → segment_of p ≡ Some name
     → operand (contents_of makers qhead qtail array) p ≡ operand (part_of (by_name makers name)) p
@@ -158,11 +139,6 @@ pub space_restored : {R : ℕ} (old new : List (ListOf R)) (qhead qtail : SegNam
     → Restores everywhere p (Some c) (segments_of old) (segments_of new)
     → contents_of new qhead qtail array ≡ restore (Some p) (Some c) (contents_of old qhead qtail array)
 space_restored old new qhead qtail array name p c own h = restored_segments old new qhead qtail array p (Some c) (own_of p name own) h
-
-pub space_unmakes : {R : ℕ} (old new : List (ListOf R)) (qhead qtail : SegName) (array : ArrayParts) (name : SegName)
-    → Restores everywhere (WholeOf name) None (segments_of old) (segments_of new)
-    → contents_of new qhead qtail array ≡ restore (Some (WholeOf name)) None (contents_of old qhead qtail array)
-space_unmakes old new qhead qtail array name h = restored_segments old new qhead qtail array (WholeOf name) None refl h
 
 pub space_makes : {R : ℕ} (old new : List (ListOf R)) (qhead qtail : SegName) (array : ArrayParts) (x : ℕ) (r : Result SegName Refusal)
     → IfOk r (λ name. Makes R name x (segments_of old) (segments_of new))
@@ -202,30 +178,6 @@ tail_operates makers qhead old new array p op at r =
     → IfOk r (λ done. Operates everywhere x op done (contents_of makers qhead old array) (contents_of makers qhead new array))) (sym at)
     (place_operates QTail op (Name old) (Name new) (contents_of makers qhead old array) (contents_of makers qhead new array) (λ q. refl) refl refl refl
     (λ q h. tail_others makers qhead old new array q h) r)
-
--- what is put back at one of them
-end_restored : (p : Place) (c : Content) (old new : Contents) → ((q : Place) → covers p q ≡ is_place p q) → ((q : Place) → share p (Some c) q ≡ Some c) → new p ≡ Some c
-    → ((q : Place) → is_place p q ≡ false → new q ≡ old q) → new ≡ restore (Some p) (Some c) old
-end_restored p c old new plain shared left others =
-    fun_ext (λ q.
-    elim (cases_Bool (is_place p q)) [
-      | inl h ↦ ap new (sym (is_place-true p q h)) ∙ left ∙ sym (cond-true (covers p q) (share p (Some c) q) (old q) (plain q ∙ h) ∙ shared q)
-      | inr h ↦ others q h ∙ sym (cond-false (covers p q) (share p (Some c) q) (old q) (plain q ∙ h))
-    ])
-
-pub head_restored : {R : ℕ} (makers : List (ListOf R)) (old new qtail : SegName) (array : ArrayParts) (p : Place) (c : Content) → p ≡ QHead → c ≡ Name new
-    → contents_of makers new qtail array ≡ restore (Some p) (Some c) (contents_of makers old qtail array)
-head_restored makers old new qtail array p c at is =
-    end_restored QHead (Name new) (contents_of makers old qtail array) (contents_of makers new qtail array) (λ q. refl) (λ q. refl) refl
-    (λ q h. head_others makers old new qtail array q h)
-    ∙ (λ i. restore (Some (sym at i)) (Some (sym is i)) (contents_of makers old qtail array))
-
-pub tail_restored : {R : ℕ} (makers : List (ListOf R)) (qhead old new : SegName) (array : ArrayParts) (p : Place) (c : Content) → p ≡ QTail → c ≡ Name new
-    → contents_of makers qhead new array ≡ restore (Some p) (Some c) (contents_of makers qhead old array)
-tail_restored makers qhead old new array p c at is =
-    end_restored QTail (Name new) (contents_of makers qhead old array) (contents_of makers qhead new array) (λ q. refl) (λ q. refl) refl
-    (λ q h. tail_others makers qhead old new array q h)
-    ∙ (λ i. restore (Some (sym at i)) (Some (sym is i)) (contents_of makers qhead old array))
 
 -- An operation on the array, and what is put back there
 
@@ -325,7 +277,3 @@ space_fresh {R} makers array h k = fun_ext each
     each ArrHead = ap (λ (at : Contents). at ArrHead) k
     each ArrTail = ap (λ (at : Contents). at ArrTail) k
     each (ArrCell i) = ap (λ (at : Contents). at (ArrCell i)) k
-
-pub segment_absent : {R : ℕ} (o : Option (Segment R)) → is_some o ≡ false → o ≡ None
-segment_absent None h = refl
-segment_absent (Some s) h = cc

@@ -35,7 +35,7 @@ impl ArrayParts {
     }
 
     /// What is at a place of the array; none if it has no such place.
-    pub fn content(&self, place: Place) -> Option<Content>
+    pub(crate) fn content(&self, place: Place) -> Option<Content>
         ensures { result ≡ array_part self.now place }
     {
         match place {
@@ -55,7 +55,7 @@ impl ArrayParts {
     ///
     /// `ArrayEnd` for a fetch-and-add on a counter that is 64; `NoSuchPlace` if there is no such place, or a content
     /// of another kind, which no actor asks for. The array is then as before.
-    pub fn operate(&mut self, place: Place, operation: Operation) -> Result<Done, Refusal>
+    pub(crate) fn operate(&mut self, place: Place, operation: Operation) -> Result<Done, Refusal>
         requires { IsTrue (suits_array operation) }
         ensures ok { IfOk result (λ done. Operates everywhere place operation done (array_part self.old) (array_part self.new)) }
         ensures err { IfErr result (λ e. operate place operation (operand (array_part self.old) place) ≡ Err e) }
@@ -75,7 +75,7 @@ impl ArrayParts {
     }
 
     /// Puts the content from before back at a place of the array: the inverse of a fetch-and-add and of a swap.
-    pub fn restore(&mut self, place: Place, content: Content)
+    pub(crate) fn restore(&mut self, place: Place, content: Content)
         requires there { IsTrue (is_some (array_part self.old place)) }
         requires kind { IsTrue (may_have place content) }
         ensures { array_part self.new ≡ restore (Some place) (Some content) (array_part self.old) }

@@ -3,12 +3,12 @@
 //! The crates above see it as one map from places to contents.
 #![tactic(auto)]
 
-pub mod array;
+mod array;
 mod ends;
 mod lists;
 mod makers;
 mod parts;
-pub mod space;
+mod space;
 
 pub use array::ArrayParts;
 pub use space::Space;

@@ -1,6 +1,6 @@
 //! The makers' lists of segments: what is done to one segment of one list.
 
-ghost use Rattle.std.specs.Prelude.{◌≡◌, ◌+◌, ◌-◌, ◌<◌, ◌≤◌, ℕ, Some, None, Err, is_some, IsTrue, IfOk, IfErr, OnOk, OnErr, MatchOption, take, true, length, is_ok, vec_len, vec_capacity, if◌then◌else◌};
+ghost use Rattle.std.specs.Prelude.{◌≡◌, ◌≢◌, ◌+◌, ◌-◌, ◌<◌, ◌≤◌, ℕ, Some, None, Err, is_some, IsTrue, IfOk, IfErr, OnOk, OnErr, MatchOption, take, true, length, is_ok, vec_len, vec_capacity, if◌then◌else◌};
 ghost use Rattle.rd_ring.specs.Prelude.{MOST_CELLS, SegName, Place, WholeOf, segment_of, may_have, operand, operate, everywhere, Operates, Makes, Restores, RefusesMaking};
 ghost use Rattle.rd_cell.specs.Operations.{suits_segments};
 ghost use Rattle.rd_segments.specs.Lists.{by_name, part_of, segments_of, count, IsLengthened};
@@ -80,6 +80,8 @@ pub fn make_in<const R: usize>(
     ensures err { IfErr result (λ e. RefusesMaking (count makers.old.items maker) (spare makers.old.items maker) e) }
     ensures unchanged { OnErr result (segments_of makers.new.items ≡ segments_of makers.old.items) }
     ensures room { (m : ℕ) → spare makers.old.items m ≤ spare makers.new.items m + room_used (is_ok result) maker m }
+    ensures others { (m : ℕ) → m ≢ maker → spare makers.new.items m ≡ spare makers.old.items m }
+    ensures ended { result ≡ Err Refusal.SegmentsEnd → (m : ℕ) → spare makers.new.items m ≡ spare makers.old.items m }
     ensures number { length makers.new.items ≡ length makers.old.items }
     ensures capacity { vec_capacity makers.new ≡ vec_capacity makers.old }
 {
@@ -98,6 +100,7 @@ fn make_next<const R: usize>(
     ensures err { IfErr result (λ e. RefusesMaking (length list.old.items) (vec_capacity list.old - vec_len list.old) e) }
     ensures unchanged { OnErr result (list.new.items ≡ list.old.items) }
     ensures room { vec_capacity list.old - vec_len list.old ≤ (vec_capacity list.new - vec_len list.new) + (if is_ok result then 1 else 0) }
+    ensures ended { result ≡ Err Refusal.SegmentsEnd → vec_capacity list.new - vec_len list.new ≡ vec_capacity list.old - vec_len list.old }
 {
     let n = list.len();
     if n >= MOST_SEGMENTS {
@@ -147,6 +150,7 @@ pub fn make_room_in<const R: usize>(
     ensures err { OnErr result (spare makers.old.items maker < more) }
     ensures unchanged { segments_of makers.new.items ≡ segments_of makers.old.items }
     ensures room { (m : ℕ) → spare makers.old.items m ≤ spare makers.new.items m }
+    ensures others { (m : ℕ) → m ≢ maker → spare makers.new.items m ≡ spare makers.old.items m }
     ensures number { length makers.new.items ≡ length makers.old.items }
     ensures capacity { vec_capacity makers.new ≡ vec_capacity makers.old }
 {

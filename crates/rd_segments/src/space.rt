@@ -1,6 +1,6 @@
 //! The space and what is done to it.
 
-ghost use Rattle.std.specs.Prelude.{◌≡◌, ◌+◌, ◌-◌, ◌<◌, ◌≤◌, ℕ, suc, true, Some, None, is_ok, is_some, Err, IsTrue, IfOk, IfErr, OnOk, OnErr, length};
+ghost use Rattle.std.specs.Prelude.{◌≡◌, ◌≢◌, ◌+◌, ◌-◌, ◌<◌, ◌≤◌, ℕ, suc, true, Some, None, is_ok, is_some, Err, IsTrue, IfOk, IfErr, OnOk, OnErr, length};
 ghost use Rattle.rd_ring.specs.Prelude.{MOST_CELLS, WholeOf, content_at, may_have, operand, operate, restore, everywhere, Operates, Makes, RefusesMaking};
 ghost use Rattle.rd_cell.specs.Operations.{suits};
 ghost use Rattle.rd_segments.specs.Room.{room_used};
@@ -184,6 +184,8 @@ impl<const R: usize> Space<R> {
         ensures err { IfErr result (λ e. RefusesMaking (making_count self.old maker) (room self.old maker) e) }
         ensures unchanged { OnErr result (contents self.new ≡ contents self.old) }
         ensures used { (m : ℕ) → room self.old m ≤ room self.new m + room_used (is_ok result) maker m }
+        ensures ended { result ≡ Err Refusal.SegmentsEnd → (m : ℕ) → room self.new m ≡ room self.old m }
+        ensures others { (m : ℕ) → m ≢ maker → room self.new m ≡ room self.old m }
         ensures number { lists self.new ≡ lists self.old }
         ensures capacity { capacity self.new ≡ capacity self.old }
     {
@@ -230,6 +232,7 @@ impl<const R: usize> Space<R> {
         ensures err { OnErr result (room self.old maker < more) }
         ensures unchanged { contents self.new ≡ contents self.old }
         ensures kept { (m : ℕ) → room self.old m ≤ room self.new m }
+        ensures others { (m : ℕ) → m ≢ maker → room self.new m ≡ room self.old m }
         ensures number { lists self.new ≡ lists self.old }
         ensures capacity { capacity self.new ≡ capacity self.old }
     {

@@ -7,8 +7,7 @@ ghost use Rattle.rd_segments.specs.Space.{lists};
 use rd_cell::limits::SLOTS;
 use rd_cell::{Answer, ArrSlot, Cell, Content, Done, Operation, Place, Refusal, SegName, Wrote};
 use rd_ring::SegmentParts;
-use rd_segments::array::ArrayParts;
-use rd_segments::space::Space;
+use rd_segments::{ArrayParts, Space};
 use std::alloc::AllocError;
 use std::test::Fail;
 
@@ -200,9 +199,9 @@ fn each_segment_of_parts_has_its_name(rt: HostRuntime) -> Result<(), Fail> {
 }
 
 #[test]
-fn an_operation_on_the_array_is_done_and_put_back(rt: HostRuntime) {
+fn an_operation_on_the_array_is_done(rt: HostRuntime) -> Result<(), Fail> {
     assert_eq!(rt; SLOTS, 64);
-    let mut array = ArrayParts::fresh();
+    let mut space = Space::<4>::fresh(rt.alloc(), 2)?;
     let place = Place::ArrCell(63);
     let found = Content::Slot(ArrSlot::Empty);
     let done = Done {
@@ -212,29 +211,30 @@ fn an_operation_on_the_array_is_done_and_put_back(rt: HostRuntime) {
         wrote: Wrote::Place,
     };
     assert_eq!(rt;
-        array.operate(place, Operation::Swap(ArrSlot::Value(7))),
+        space.operate(place, Operation::Swap(ArrSlot::Value(7))),
         Ok(done)
     );
     assert_eq!(rt;
-        array.content(place),
+        space.content(place),
         Some(Content::Slot(ArrSlot::Value(7)))
     );
-    assert_eq!(rt; array.content(Place::ArrCell(64)), None);
-    let past = array.operate(Place::ArrCell(64), Operation::Swap(ArrSlot::Top));
+    let past = space.operate(Place::ArrCell(64), Operation::Swap(ArrSlot::Top));
     assert_eq!(rt; past, Err(Refusal::NoSuchPlace));
+    Ok(())
 }
 
 #[test]
-fn what_was_at_a_place_of_the_array_is_put_back(rt: HostRuntime) {
-    let mut array = ArrayParts::fresh();
-    array.restore(Place::ArrTail, Content::Number(3));
-    array.restore(Place::ArrCell(5), Content::Slot(ArrSlot::Top));
-    assert_eq!(rt; array.content(Place::ArrTail), Some(Content::Number(3)));
-    assert_eq!(rt; array.content(Place::ArrHead), Some(Content::Number(0)));
+fn what_was_at_a_place_of_the_array_is_put_back(rt: HostRuntime) -> Result<(), Fail> {
+    let mut space = Space::<4>::fresh(rt.alloc(), 2)?;
+    space.restore(Place::ArrCell(5), Content::Slot(ArrSlot::Top));
+    space.restore(Place::ArrTail, Content::Number(3));
+    assert_eq!(rt; space.content(Place::ArrTail), Some(Content::Number(3)));
+    assert_eq!(rt; space.content(Place::ArrHead), Some(Content::Number(0)));
     assert_eq!(rt;
-        array.content(Place::ArrCell(5)),
+        space.content(Place::ArrCell(5)),
         Some(Content::Slot(ArrSlot::Top))
     );
+    Ok(())
 }
 
 #[test]

@@ -292,10 +292,6 @@ assembled R p h =
       actors = λ n. subst (λ (there : Presence). actor_fits R there (actor_at p.actors.items n) ≡ true) same (actors_fit R p f n);
     }
 
--- what the code needs of parts without a flaw
-pub counters_small : {R : ℕ} (p : Parts R) → first_flaw p ≡ None → each_segment counters_fit p.segments.items ≡ true
-counters_small p h = (no_flaw p h).counters
-
 pub lists_right : {R : ℕ} (p : Parts R) → first_flaw p ≡ None → length p.segments.items ≡ suc (length p.actors.items)
 lists_right p h = eqb-true (length p.segments.items) (suc (length p.actors.items)) (no_flaw p h).lists
 

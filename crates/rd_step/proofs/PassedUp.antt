@@ -1,5 +1,5 @@
 -- What a `?` passes up.
-use Rattle.std.proofs.Common.{◌≡◌, Result, Ok, Err, sym, subst}
+use Rattle.std.proofs.Common.{◌≡◌, Result, Ok, Err, sym, ◌∙◌, ap, subst}
 use Rattle.std.specs.Result.{OnErr, IfErr, IsErrAnd}
 
 -- what holds of the error that is passed up holds of the answer
@@ -11,3 +11,8 @@ error_passed_up P x (Err e) is p = subst P (sym is) p
 pub fact_passed_up : {T E F : Type 0} (r : Result T E) → F → OnErr r F
 fact_passed_up (Ok y) p = tt
 fact_passed_up (Err e) p = p
+
+-- what is passed up is the answer's error
+pub same_passed_up : {S T E : Type 0} (x y : E) (from : Result S E) (r : Result T E) → from ≡ Err x → IsErrAnd r (λ e. e ≡ x) → r ≡ Err y → from ≡ Err y
+same_passed_up x y from (Ok t) at is h = cc
+same_passed_up x y from (Err e) at is h = let same : e ≡ y = cc in at ∙ ap Err (sym is ∙ same)

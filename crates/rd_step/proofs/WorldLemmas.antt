@@ -249,11 +249,6 @@ still_well_formed R old new xs ys e (Ok entry) formed ok same = keeps R (world_o
 still_well_formed R old new xs ys e (Err refusal) formed ok same =
     subst (λ (w : World). IsWellFormed R w) (λ i. record { at = sym same.0 i; actor = actor_at (sym same.1 i) }) formed
 
-pub still_same : {R : ℕ} (old new : Space R) (xs ys : List Actor) (r : Result Entry Refusal) → OnErr r ((contents new ≡ contents old) × (ys ≡ xs))
-    → OnErr r (world_of_fields new ys ≡ world_of_fields old xs)
-still_same old new xs ys (Ok entry) same = tt
-still_same old new xs ys (Err refusal) same = λ i. record { at = same.0 i; actor = actor_at (same.1 i) }
-
 -- a world whose space has the same contents is the same
 pub same_world : {R : ℕ} (old new : Space R) (xs : List Actor) → contents new ≡ contents old → world_of_fields new xs ≡ world_of_fields old xs
 same_world old new xs same = λ i. record { at = same i; actor = actor_at xs }

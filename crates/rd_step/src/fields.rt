@@ -1,6 +1,6 @@
 //! What a step and its undoing do to the fields of a world: an access, an actor's words, and what is put back.
 
-ghost use Rattle.std.specs.Prelude.{◌≡◌, ◌+◌, ◌<◌, ◌≤◌, ℕ, true, false, Some, None, Ok, Err, IsSome, IsTrue, IfOk, IfErr, OnErr, length, vec_capacity};
+ghost use Rattle.std.specs.Prelude.{◌≡◌, ◌≢◌, ◌+◌, ◌<◌, ◌≤◌, ℕ, true, false, Some, None, Ok, Err, IsSome, IsTrue, IfOk, IfErr, OnErr, length, vec_capacity};
 ghost use Rattle.rd_ring.specs.Prelude.{MOST_CELLS, MOST_SEGMENTS, Make, Nothing, WroteNothing, perform, restore, everywhere, HasEffect};
 ghost use Rattle.rd_segments.specs.Room.{room_used, room_returned};
 ghost use Rattle.rd_segments.specs.Space.{contents, lists, making_count, room, capacity};
@@ -101,7 +101,10 @@ pub fn perform<const R: usize>(
     ensures unchanged { OnErr result (contents space.new ≡ contents space.old) }
     ensures number { lists space.new ≡ lists space.old }
     ensures room { (m : ℕ) → room space.old m ≤ room space.new m + room_used (makes access) actor m }
+    ensures others { (m : ℕ) → (IsTrue (makes access) → m ≢ actor) → room space.new m ≡ room space.old m }
+    ensures ended { result ≡ Err Refusal.SegmentsEnd → (m : ℕ) → room space.new m ≡ room space.old m }
     ensures kept { OnErr result ((m : ℕ) → room space.old m ≤ room space.new m) }
+    ensures capacity { capacity space.new ≡ capacity space.old }
 {
     match access {
         Access::NoPlace => Ok(nothing_done()),
@@ -132,7 +135,10 @@ fn make<const R: usize>(space: &mut Space<R>, actor: u8, value: u64) -> Result<D
     ensures unchanged { OnErr result (contents space.new ≡ contents space.old) }
     ensures number { lists space.new ≡ lists space.old }
     ensures room { (m : ℕ) → room space.old m ≤ room space.new m + room_used true actor m }
+    ensures others { (m : ℕ) → m ≢ actor → room space.new m ≡ room space.old m }
+    ensures ended { result ≡ Err Refusal.SegmentsEnd → (m : ℕ) → room space.new m ≡ room space.old m }
     ensures kept { OnErr result ((m : ℕ) → room space.old m ≤ room space.new m) }
+    ensures capacity { capacity space.new ≡ capacity space.old }
 {
     let name = space.make(actor, value)?;
     Ok(Done {

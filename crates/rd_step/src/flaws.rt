@@ -68,7 +68,7 @@ pub enum Unassembled {
 }
 
 /// The first flaw of these parts; none if they make a well-formed world.
-pub fn first_flaw<const R: usize>(parts: &Parts<R>) -> Option<Flaw>
+pub(crate) fn first_flaw<const R: usize>(parts: &Parts<R>) -> Option<Flaw>
     requires { R ≤ MOST_CELLS }
     ensures { result ≡ first_flaw parts.now }
 {

@@ -5,12 +5,12 @@
 //! The laws of the model stand as contracts of the functions in `laws`.
 #![tactic(auto)]
 
-pub mod entries;
+mod entries;
 mod fields;
-pub mod flaws;
+mod flaws;
 pub mod laws;
-pub mod parts;
-pub mod worlds;
+mod parts;
+mod worlds;
 
 pub use entries::{Entry, Event};
 pub use flaws::{Flaw, Unassembled};

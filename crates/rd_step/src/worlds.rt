@@ -1,6 +1,6 @@
 //! The world: the space and the actors, and the step.
 
-ghost use Rattle.std.specs.Prelude.{◌≡◌, ◌+◌, ◌<◌, ◌≤◌, ◌↔◌, ℕ, suc, None, Ok, Err, IsSome, IsTrue, IfOk, IfErr, OnOk, OnErr, length};
+ghost use Rattle.std.specs.Prelude.{◌≡◌, ◌≢◌, ◌+◌, ◌<◌, ◌≤◌, ◌↔◌, ℕ, suc, None, Ok, Err, IsSome, IsTrue, IfOk, IfErr, OnOk, OnErr, length};
 ghost use Rattle.rd_ring.specs.Prelude.{MOST_CELLS, MOST_ACTORS, content_at};
 ghost use Rattle.rd_segments.specs.Room.{room_used, room_returned};
 ghost use Rattle.rd_segments.specs.Space.{lists};
@@ -43,7 +43,7 @@ impl<const R: usize> Drop for World<R> {
 }
 
 impl<const R: usize> World<R> {
-    ghost use Rattle.rd_step.specs.Worlds.{model, room};
+    ghost use Rattle.rd_step.specs.Worlds.{model, room, list_capacity, actor_capacity};
 
     /// The fresh world: the root alone is there, fresh, and so many actors are idle.
     ///
@@ -156,7 +156,8 @@ impl<const R: usize> World<R> {
     {
         let parts = self.parts(alloc)?;
         match World::assemble(alloc, parts) {
-            Err(_) => Err(Refusal::NoMemory),
+            Err(Unassembled::NoMemory) => Err(Refusal::NoMemory),
+            Err(Unassembled::Flaw(_)) => unreachable!(),
             Ok(world) => Ok(world),
         }
     }
@@ -183,8 +184,8 @@ impl<const R: usize> World<R> {
         self.actors.len() as u8
     }
 
-    /// Makes one event happen: the plain step of its actor. Only a step that makes a segment takes memory, and none
-    /// if its maker has room.
+    /// Makes one event happen: the plain step of its actor. Only a step that makes a segment takes memory, for its maker alone,
+    /// and none if the maker has room.
     ///
     /// # Errors
     ///
@@ -197,7 +198,11 @@ impl<const R: usize> World<R> {
         ensures err { IfErr result (λ refusal. IsRefused (step R (model self.old) event) (makes_segment R (model self.old) event) (room self.old event.actor) refusal) }
         ensures unchanged { OnErr result (model self.new ≡ model self.old) }
         ensures room { (m : ℕ) → room self.old m ≤ room self.new m + room_used (makes_segment R (model self.old) event) event.actor m }
+        ensures others { (m : ℕ) → (IsTrue (makes_segment R (model self.old) event) → m ≢ event.actor) → room self.new m ≡ room self.old m }
+        ensures ended { result ≡ Err Refusal.SegmentsEnd → (m : ℕ) → room self.new m ≡ room self.old m }
         ensures kept { OnErr result ((m : ℕ) → room self.old m ≤ room self.new m) }
+        ensures lists { list_capacity self.new ≡ list_capacity self.old }
+        ensures actors { actor_capacity self.new ≡ actor_capacity self.old }
     {
         let actor = match actor_in(&self.actors, event.actor) {
             None => return Err(Refusal::NoActor),
@@ -219,13 +224,16 @@ impl<const R: usize> World<R> {
     }
 
     /// Makes the step of an entry again, which is known to leave this entry: its access, if that wrote anything, and the words
-    /// with which its actor goes on by the answer that the entry keeps. No entry is written. A making takes no memory, since its
-    /// maker must have room.
+    /// with which its actor goes on by the answer that the entry keeps. No entry is written. A making isn't refused, since its maker
+    /// must have room.
     pub fn step_again(&mut self, entry: &Entry)
         requires goes { (after : Model) × (step R (model self.old) entry.now.event ≡ Ok (record { world = after; entry = entry.now })) }
         requires room { IsTrue (makes_segment R (model self.old) entry.now.event) → 1 ≤ room self.old entry.now.event.actor }
         ensures done { step R (model self.old) entry.now.event ≡ Ok (record { world = model self.new; entry = entry.now }) }
         ensures room { (m : ℕ) → room self.old m ≤ room self.new m + room_used (makes_segment R (model self.old) entry.now.event) entry.now.event.actor m }
+        ensures others { (m : ℕ) → (IsTrue (makes_segment R (model self.old) entry.now.event) → m ≢ entry.now.event.actor) → room self.new m ≡ room self.old m }
+        ensures lists { list_capacity self.new ≡ list_capacity self.old }
+        ensures actors { actor_capacity self.new ≡ actor_capacity self.old }
     {
         let actor = entry.event.actor;
         let (next, _) = after::<R>(&entry.old_actor, entry.event.act, entry.answer);
@@ -254,6 +262,8 @@ impl<const R: usize> World<R> {
         requires well_formed { IsWellFormed R (revert (model self.old) actor words place content) }
         ensures done { model self.new ≡ revert (model self.old) actor words place content }
         ensures room { (m : ℕ) → room self.new m ≡ room self.old m + room_returned place content m }
+        ensures lists { list_capacity self.new ≡ list_capacity self.old }
+        ensures actors { actor_capacity self.new ≡ actor_capacity self.old }
     {
         revert_fields(
             &mut self.space,
@@ -277,6 +287,9 @@ impl<const R: usize> World<R> {
         ensures err { IfErr result (λ e. (e ≡ Refusal.NoMemory) × (room self.old actor < more)) }
         ensures unchanged { model self.new ≡ model self.old }
         ensures room { (m : ℕ) → room self.old m ≤ room self.new m }
+        ensures others { (m : ℕ) → m ≢ actor → room self.new m ≡ room self.old m }
+        ensures lists { list_capacity self.new ≡ list_capacity self.old }
+        ensures actors { actor_capacity self.new ≡ actor_capacity self.old }
     {
         self.space.make_room(actor, more)?;
         Ok(())

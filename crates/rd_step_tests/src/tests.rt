@@ -18,10 +18,7 @@ use rd_actor::{Act, Actor, Op, Pc};
 use rd_cell::{Answer, ArrSlot, Cell, Content, Place, Refusal, SegName, Wrote};
 use rd_ring::SegmentParts;
 use rd_segments::ArrayParts;
-use rd_step::entries::{Entry, Event};
-use rd_step::flaws::{Flaw, Unassembled};
-use rd_step::parts::Parts;
-use rd_step::worlds::World;
+use rd_step::{Entry, Event, Flaw, Parts, Unassembled, World};
 use std::alloc::{AllocError, Global};
 use std::test::Fail;
 

@@ -2,7 +2,7 @@
 
 use rd_actor::{Act, Actor};
 use rd_cell::{Answer, Cell, Content, Place, SegName, Wrote};
-use rd_step::entries::{Entry, Event};
+use rd_step::{Entry, Event};
 
 /// A record, by what matters of it, and what it says.
 #[derive(Clone, Copy)]

@@ -1,4 +1,4 @@
-use Rattle.rd_segments.proofs.ListsLemmas.{spare_lessened}
+use Rattle.rd_segments.proofs.ListsLemmas.{spare_lessened, spare_same, spare_others}
 use Rattle.rd_segments.proofs.SegmentsLemmas.{makes_in, named_in, refuses_making, making_same}
 use Rattle.rd_segments.proofs.lists.make_in.Goals as goal
 
@@ -26,3 +26,11 @@ pub returns-clause-room : goal.returns-clause-room
 returns-clause-room g c =
     spare_lessened c.args.makers.now.items c.args.maker c.from.result c.index_mut.result.now c.make_next.new.list _
     c.from.ensures c.requires.maker_there c.index_mut.ensures.value c.make_next.ensures.room
+
+pub returns-clause-others : goal.returns-clause-others
+returns-clause-others g c = spare_others c.args.makers.now.items c.args.maker c.from.result c.make_next.new.list c.from.ensures
+
+pub returns-clause-ended : goal.returns-clause-ended
+returns-clause-ended g c = λ ended.
+    spare_same c.args.makers.now.items c.args.maker c.from.result c.index_mut.result.now c.make_next.new.list
+    c.from.ensures c.requires.maker_there c.index_mut.ensures.value (c.make_next.ensures.ended ended)

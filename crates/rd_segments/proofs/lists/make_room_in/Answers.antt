@@ -1,4 +1,4 @@
-use Rattle.rd_segments.proofs.ListsLemmas.{room_made, room_refused, list_same, spare_kept}
+use Rattle.rd_segments.proofs.ListsLemmas.{room_made, room_refused, list_same, spare_kept, spare_others}
 use Rattle.rd_segments.proofs.SegmentsLemmas.{segments_same}
 use Rattle.rd_segments.proofs.lists.make_room_in.Goals as goal
 
@@ -21,3 +21,6 @@ pub returns-clause-room : goal.returns-clause-room
 returns-clause-room g c =
     spare_kept c.args.makers.now.items c.args.maker c.from.result c.index_mut.result.now c.reserve.new.list c.from.ensures c.requires.maker_there
     c.index_mut.ensures.value c.reserve.ensures.room
+
+pub returns-clause-others : goal.returns-clause-others
+returns-clause-others g c = spare_others c.args.makers.now.items c.args.maker c.from.result c.reserve.new.list c.from.ensures

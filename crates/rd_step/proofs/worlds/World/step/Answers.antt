@@ -2,7 +2,7 @@ use Rattle.std.proofs.Common.{Bool, suc, ◌∙◌, ◌≤◌, ◌+◌, refl, sy
 use Rattle.rd_segments.specs.Room.{room_used}
 use Rattle.rd_segments.specs.Space.{room}
 use Rattle.rd_step.specs.Fields.{world_of_fields}
-use Rattle.rd_step.proofs.PassedUp.{error_passed_up, fact_passed_up}
+use Rattle.rd_step.proofs.PassedUp.{error_passed_up, same_passed_up, fact_passed_up}
 use Rattle.rd_step.proofs.Steps.{step_not_needed}
 use Rattle.rd_step.proofs.WorldLemmas.{representable_here, actor_maker, few_made, need_suits, step_refuses, step_goes, makes_by, still_well_formed, same_world}
 use Rattle.rd_step.proofs.worlds.World.step.Goals as goal
@@ -94,3 +94,22 @@ returns-clause-room g c = λ m.
     let can = representable_here _ self.space self.actors.items c.args.event c.in-Some.actor self.well_formed self.small (sym c.in-Some.ensures) in
     let e = makes_by _ (world_of_fields self.space self.actors.items) c.args.event c.in-Some.actor c.in_ok-access.access (sym c.in-Some.ensures) (sym (c.in_ok-access.ensures can)) in
     subst (λ (b : Bool). room self.space m ≤ room c.perform.new.space m + room_used b c.args.event.actor m) (sym e) (c.in_ok-done.ensures.room m)
+
+pub returns-in_err-done-clause-others : goal.returns-in_err-done-clause-others
+returns-in_err-done-clause-others g c = λ m other.
+    let self = c.args.self.now in
+    let can = representable_here _ self.space self.actors.items c.args.event c.in-Some.actor self.well_formed self.small (sym c.in-Some.ensures) in
+    let e = makes_by _ (world_of_fields self.space self.actors.items) c.args.event c.in-Some.actor c.in_ok-access.access (sym c.in-Some.ensures) (sym (c.in_ok-access.ensures can)) in
+    c.in_err-done.ensures.others m (λ makes. other (e ∙ makes))
+
+pub returns-clause-others : goal.returns-clause-others
+returns-clause-others g c = λ m other.
+    let self = c.args.self.now in
+    let can = representable_here _ self.space self.actors.items c.args.event c.in-Some.actor self.well_formed self.small (sym c.in-Some.ensures) in
+    let e = makes_by _ (world_of_fields self.space self.actors.items) c.args.event c.in-Some.actor c.in_ok-access.access (sym c.in-Some.ensures) (sym (c.in_ok-access.ensures can)) in
+    c.in_ok-done.ensures.others m (λ makes. other (e ∙ makes))
+
+pub returns-in_err-done-clause-ended : goal.returns-in_err-done-clause-ended
+returns-in_err-done-clause-ended g c = λ ended.
+    c.in_err-done.ensures.ended
+    (same_passed_up c.in_err-done.field-0.0 _ (Err c.in_err-done.field-0.0) c.from_residual-in_err-done.result refl c.from_residual-in_err-done.ensures.1 ended)

@@ -96,3 +96,12 @@ returns-else-not-is_nothing-clause-done g c =
     let self = c.args.self.now in
     (read_again _ self.space self.actors.items c.set_actor.new.actors.items c.requires.goes.0 c.args.entry.now c.after.result self.well_formed
     c.requires.goes.1 c.after.ensures c.set_actor.ensures.done (sym c.if-not-is_nothing.ensures)).goes
+
+pub returns-in-Ok-perform-clause-others : goal.returns-in-Ok-perform-clause-others
+returns-in-Ok-perform-clause-others g c = λ m other.
+    let self = c.args.self.now in
+    let x = c.args.entry.now in
+    let l = leaves _ (model self) c.requires.goes.0 x c.requires.goes.1 in
+    let can = representable_here _ self.space self.actors.items x.event x.old_actor self.well_formed self.small l.has in
+    let e = makes_by _ (world_of_fields self.space self.actors.items) x.event x.old_actor c.in-Ok.access l.has (sym (c.in-Ok.ensures can)) in
+    c.in-Ok-perform.ensures.others m (λ makes. other (e ∙ makes))
