@@ -83,10 +83,6 @@ module _ {G P T A : Type 0} (takes : P → Type 0) (gate : G) where
     begun = subst (Pairs (IsStarted gate) (viewer ∷ i.gone)) (sym (ap reverse more ∙ last_first started handle)) (begun, i.begun);
   }
 
-  pub all_started : (all work : List (P × Vec Command Global)) (answers : List (Vec A Global)) (started : List (Option (PromisedHandle T (Asked G P))))
-      → IsStarting all work answers started → work ≡ [] → Pairs (IsStarted gate) all (reverse started)
-  all_started all work answers started i none = subst (λ ws. Pairs (IsStarted gate) ws (reverse started)) (ap (λ ws. ws ++ i.gone) (sym none) ∙ i.parts) i.begun
-
 module _ {G P T : Type 0} (takes : G → P → Type 0) (told : G → P → Command → Result (Result Reply Refusal) DeskRefusal → P → Type 0) where
   -- whichever viewers were started, what became of the first of them is known, and the others are still waited for
   pub record IsJoining (all started : List (Option (PromisedHandle T (Asked G P)))) (rans : List (Ran P)) : Type 0 where

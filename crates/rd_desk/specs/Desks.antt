@@ -4,7 +4,7 @@ use mathlib.Core.List.{IsPrefix}
 use Rattle.rd_lock.specs.declared.views.Recorded.{Ghosts}
 use Rattle.rd_lock.specs.declared.passes.Pass.{Pass}
 use Rattle.rd_lock.specs.Histories.{Every, named, numbers, NamesUpTo, AreAll}
-use Rattle.rd_lock.specs.Locks.{number, seen, own, seats, root, IsOut, IsPassOf}
+use Rattle.rd_lock.specs.Locks.{number, seen, own, next_seen, served_seen, seats, root, IsOut, IsPassOf}
 use Rattle.rd_marks.specs.Books.{BookState}
 use Rattle.rd_marks.specs.BookViews.{book_state}
 use Rattle.rd_marks.specs.declared.books.Book.{Book}
@@ -28,11 +28,13 @@ module _ {R : ℕ} where
     abbrev pub IsViewerOf : Desk R → Pass (BookWithHistory R) Call (Book R) K → Type 0
     IsViewerOf desk pass = IsPassOf desk.lock pass × IsOut pass
 
-    -- a pass of a desk that has just been opened
+    -- a pass of a desk that has just been opened, with both words of its lock at 0
     pub record IsNewViewer (desk : Desk R) (pass : Pass (BookWithHistory R) Call (Book R) K) : Type 0 where
       pub is_viewer : IsViewerOf desk pass
       pub has_seen : seen pass ≡ []
       pub has_own : own pass ≡ []
+      pub next : next_seen pass ≡ 0
+      pub served : served_seen pass ≡ 0
 
     -- the desk has this book and so many viewers, and its passes are new and have the numbers from 1 on
     pub record IsOpened (book : Book R) (count : ℕ) (desk : Desk R) (passes : List (Pass (BookWithHistory R) Call (Book R) K)) : Type 0 where

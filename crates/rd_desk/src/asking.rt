@@ -3,8 +3,8 @@
 //! A call takes the lock, has the book obey the command and record the call, and puts the book back. The call happens as it is put
 //! back, at the one add to the word `served`.
 
-ghost use Rattle.std.specs.Prelude.{◌≡◌, IfOk, IfErr};
-ghost use Rattle.rd_lock.specs.Locks.{IsPassOf, IsTaken};
+ghost use Rattle.std.specs.Prelude.{◌≡◌, ◌^◌, Err, IfOk, IfErr};
+ghost use Rattle.rd_lock.specs.Locks.{next_seen, IsPassOf, IsTaken};
 ghost use Rattle.rd_desk.specs.Desks.{opened_state, viewers, IsViewerOf};
 ghost use Rattle.rd_desk.specs.Asking.{HasAsked, IsRefused, IsWaitedOut};
 
@@ -17,6 +17,8 @@ use rd_marks::{Command, Reply};
 use std::sync::Wait;
 
 impl<const R: usize> Desk<R> {
+    ghost use Rattle.rd_desk.specs.declared.gates.DeskRefusal.TheVariants.{TicketsEnded};
+
     /// Asks one command. It waits for the viewers before it.
     ///
     /// # Errors
@@ -33,6 +35,7 @@ impl<const R: usize> Desk<R> {
         ensures own { IsViewerOf self.now pass.new }
         ensures ok { IfOk result (λ answer. HasAsked R (opened_state self.now) pass.old pass.new command answer) }
         ensures err { IfErr result (λ refusal. IsRefused R (opened_state self.now) pass.old pass.new refusal) }
+        ensures ended { next_seen pass.old ≡ 2 ^ 63 → result ≡ Err TicketsEnded }
         ensures waits { IfErr result IsWaitedOut }
     {
         match self.lock.take(rt, pass) {
@@ -55,6 +58,7 @@ impl<const R: usize> Desk<R> {
         ensures own { IsViewerOf self.now pass.new }
         ensures ok { IfOk result (λ answer. HasAsked R (opened_state self.now) pass.old pass.new command answer) }
         ensures err { IfErr result (λ refusal. IsRefused R (opened_state self.now) pass.old pass.new refusal) }
+        ensures ended { next_seen pass.old ≡ 2 ^ 63 → result ≡ Err TicketsEnded }
         ensures succeeds { viewers self.now ≡ 1 → IfErr result IsWaitedOut }
     {
         match self.lock.try_take(pass) {

@@ -43,7 +43,8 @@ impl<const R: usize> Desk<R> {
             Ok(kept) => kept,
             Err(book) => return Err((NoMemory, book)),
         };
-        match TicketLock::open(alloc, kept, viewers) {
+        let opened = TicketLock::open(alloc, kept, viewers);
+        match opened {
             Ok((lock, passes)) => Ok((Desk { lock }, passes)),
             Err((refused, kept)) => {
                 let BookWithHistory { book, .. } = kept;
@@ -53,7 +54,7 @@ impl<const R: usize> Desk<R> {
     }
 
     /// Two passes learn that of what they have seen one begins the other. The number is that of the ticket that is served
-    /// then, which is how many calls were made and are done with.
+    /// then, at least each that either of the two had seen served.
     pub fn meet(&self, one: DeskPass<R>, other: DeskPass<R>) -> (u64, DeskPass<R>, DeskPass<R>)
         requires own { IsViewerOf self.now one × IsViewerOf self.now other }
         ensures own { IsViewerOf self.now result.1 × IsViewerOf self.now result.2 }
@@ -69,8 +70,8 @@ impl<const R: usize> Desk<R> {
     ///
     /// # Errors
     ///
-    /// `Busy` with the lock's words, if they differ, as they do where a pass that wasn't handed in waits or was lost inside a call. Book
-    /// and history are lost then.
+    /// `Busy` with two words of the lock that differ, neither below what a pass that was handed in has seen: a pass that wasn't handed in
+    /// waits, or was lost inside a call. It never comes with all passes. Book and history are lost then.
     pub fn close(self, passes: Vec<DeskPass<R>>) -> Result<(Book<R>, History), Busy>
         requires own { Every (IsViewerOf self) passes.items }
         ensures ok { IfOk result (λ closed. IsClosedOver self.entry passes.entry.items closed.0 closed.1) }

@@ -35,13 +35,6 @@ impl History {
         self.entries.len() as u64
     }
 
-    /// Whether there is no call.
-    pub fn is_empty(&self) -> bool
-        ensures { result ≡ (length (entries self.now) == 0) }
-    {
-        self.entries.is_empty()
-    }
-
     /// The call of this number, from 1, with its viewer. None if the number is 0 or above the number of calls.
     pub fn entry(&self, number: u64) -> Option<(u64, Call)>
         ensures { result ≡ entry_at (entries self.now) number }

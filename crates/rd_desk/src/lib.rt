@@ -6,13 +6,13 @@
 #![tactic(auto)]
 
 mod asking;
-pub mod desks;
-pub mod gates;
-pub mod histories;
+mod desks;
+mod gates;
+mod histories;
 mod recording;
 mod rooms;
 mod threads;
-pub mod viewers;
+mod viewers;
 
 pub use desks::{Desk, DeskPass, MOST_VIEWERS};
 pub use gates::{Answer, DeskRefusal, Gate};

@@ -1,5 +1,5 @@
 //! The tickets: draw, wait, hold, release.
-ghost use Rattle.std.specs.Prelude.{◌≡◌, ◌≢◌, ℕ, ◌^◌, ◌<◌, ◌≤◌, IfOk, IfErr, OnErr, MatchResult};
+ghost use Rattle.std.specs.Prelude.{◌≡◌, ◌≢◌, ℕ, ◌^◌, ◌<◌, ◌≤◌, IfOk, IfErr, OnOk, OnErr, MatchResult};
 ghost use Rattle.rd_lock.specs.Histories.{Adds};
 ghost use Rattle.rd_lock.specs.Locks.{number, seen, own, next_seen, served_seen, seats, root, IsOut, IsWaiting, IsPassOf, IsSamePass, IsTaken, IsMissed, IsDue, HasPut};
 
@@ -19,7 +19,8 @@ pub const TICKETS: u64 = 1 << 63;
 #[derive(Debug, Clone, Copy, PartialEq, Eq)]
 pub struct TicketsEnded;
 
-/// The words as a pass saw them last, or as they are when the lock is closed: some ticket is drawn and not done with.
+/// Two words of the lock that differ, so that some ticket is drawn and not done with. From `try_take` they are the greatest that the pass
+/// has seen; from `close` neither is below what a pass that was handed in has seen.
 #[derive(Debug, Clone, Copy, PartialEq, Eq)]
 pub struct Busy {
     /// The ticket that is drawn next.
@@ -51,6 +52,7 @@ impl<T: Recorded> TicketLock<T> {
         ensures pass { IsPassOf self.now pass.new }
         ensures unchanged { IsSamePass pass.old pass.new }
         ensures ok { IfOk result (IsTaken self.now pass.old pass.new) }
+        ensures left { OnOk result (next_seen pass.old < 2 ^ 63) }
         ensures err { IfErr result (IsMissed pass.new) }
         ensures out { OnErr result (IsOut pass.new) }
         ensures succeeds { seats self.now ≡ 1 → IfErr result (λ missed. missed ≡ Missed.TicketsEnded) }
@@ -81,6 +83,7 @@ impl<T: Recorded> TicketLock<T> {
         ensures pass { IsPassOf self.now pass.new }
         ensures unchanged { IsSamePass pass.old pass.new }
         ensures ok { IfOk result (IsTaken self.now pass.old pass.new) }
+        ensures left { OnOk result (next_seen pass.old < 2 ^ 63) }
         ensures err { OnErr result ((next_seen pass.new ≡ 2 ^ 63) × IsOut pass.new) }
     {
         let ticket = self.draw(rt, pass)?;
@@ -94,6 +97,7 @@ impl<T: Recorded> TicketLock<T> {
         ensures pass { IsPassOf self.now pass.new }
         ensures unchanged { IsSamePass pass.old pass.new }
         ensures ok { IfOk result (λ ticket. (ticket < 2 ^ 63) × IsWaiting pass.new ticket) }
+        ensures left { OnOk result (next_seen pass.old < 2 ^ 63) }
         ensures err { OnErr result ((next_seen pass.new ≡ 2 ^ 63) × IsOut pass.new) }
     {
         let shared = &self.table.shared;

@@ -9,7 +9,7 @@ use Rattle.rd_marks.specs.declared.replies.Reply.{Reply}
 use mathlib.Core.List.{IsPrefix}
 use Rattle.rd_lock.specs.declared.views.Recorded.{Ghosts}
 use Rattle.rd_lock.specs.declared.passes.Pass.{Pass}
-use Rattle.rd_lock.specs.Histories.{named}
+use Rattle.rd_lock.specs.Histories.{named, NamesUpTo}
 use Rattle.rd_lock.specs.Locks.{number, seen, own}
 use Rattle.rd_marks.specs.declared.books.Book.{Book}
 use Rattle.rd_desk.specs.declared.gates.DeskRefusal.{DeskRefusal}
@@ -87,9 +87,10 @@ module _ (R : ℕ) (K : Ghosts (BookWithHistory R) Call (Book R)) (opened : Book
   AreAnswered viewer (said ∷ others) [] = ⊥
 
 module _ (R : ℕ) (K : Ghosts (BookWithHistory R) Call (Book R)) (opened : BookState) where
-  -- the history is legal from the book that was opened, and the viewers of these lines were told so
+  -- The history is legal from the book that was opened, each of its entries names one of the viewers of these lines, and these were
+  -- told so.
   abbrev pub IsViewed : List (Vec (Result Command LineFault) Global) → List (Option (Vec (Result (Result Reply Refusal) DeskRefusal) Global)) → List (ℕ × Call) → Type 0
-  IsViewed said told history = IsLegal R opened history × AreAnswered R K opened history 1 said told
+  IsViewed said told history = IsLegal R opened history × NamesUpTo (length said) history × AreAnswered R K opened history 1 said told
 
   -- what the lines of the scripts say, what the viewers were told, and the history
   pub record Views (scripts : List (Vec ℕ Global)) (history : List (ℕ × Call)) : Type 0 where

@@ -1,10 +1,10 @@
 //! Viewers: scripts that several threads run over one desk, and the text of what each was answered.
 #![tactic(auto)]
 
-pub mod faults;
-pub mod reports;
+mod faults;
+mod reports;
 mod texts;
-pub mod viewing;
+mod viewing;
 
 pub use faults::ViewFault;
 pub use reports::{Said, write_view};

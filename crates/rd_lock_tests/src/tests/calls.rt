@@ -5,7 +5,7 @@ ghost use Rattle.rd_lock.specs.Locks.{number, IsHolding, IsOut, IsPassOf};
 ghost use Rattle.rd_lock.specs.Opening.{IsNewPass};
 
 use super::Numbers;
-use rd_lock::{Pass, TicketLock};
+use rd_lock::{Busy, Missed, Pass, TicketLock};
 use std::process::Abort;
 use std::sync::Wait;
 
@@ -92,6 +92,24 @@ pub(super) fn adds(
 {
     let numbers = finds(rt, lock, pass, wanted);
     puts(rt, lock, pass, numbers, who, added);
+}
+
+/// Tries three times, and gets nothing but these words.
+pub(super) fn stays_busy(
+    rt: &impl Abort,
+    lock: &TicketLock<Numbers>,
+    pass: &mut Pass<Numbers>,
+    words: Busy,
+)
+    requires own { IsPassOf lock.now pass.old × IsOut pass.old }
+    ensures own { IsPassOf lock.now pass.new × IsOut pass.new }
+{
+    for _try in 0..3 {
+        let Err(missed) = lock.try_take(pass) else {
+            panic!(rt; "free")
+        };
+        assert!(rt; missed == Missed::Busy(words));
+    }
 }
 
 /// Takes again and again, and puts the number of the take each time.

@@ -3,8 +3,8 @@ ghost use Rattle.std.specs.Prelude.{◌≡◌};
 ghost use Rattle.rd_lock.specs.Locks.{IsOut, IsPassOf};
 
 use super::Numbers;
-use super::calls::{adds, finds, has_all_in_order, last_pass, puts, returns};
-use rd_lock::{Missed, TICKETS, TicketLock, TicketsEnded};
+use super::calls::{adds, finds, has_all_in_order, last_pass, puts, returns, stays_busy};
+use rd_lock::{Busy, Missed, TICKETS, TicketLock, TicketsEnded};
 use std::alloc::Global;
 use std::process::Abort;
 use std::sync::Wait;
@@ -24,6 +24,48 @@ fn each_take_finds_what_was_put_and_each_meeting_the_ticket_served(rt: HostRunti
     assert!(&rt; served == 2);
     let numbers = finds(&rt, &lock, &mut first, &[(1, 5), (2, 6)]);
     returns(&lock, &mut first, numbers);
+}
+
+#[test]
+fn two_passes_put_in_turn_a_try_meanwhile_is_busy_and_the_close_gives_all(rt: HostRuntime) {
+    let Ok((lock, mut passes)) = TicketLock::open(rt.alloc(), Numbers::new(rt.alloc()), 2) else {
+        panic!(&rt; "out of memory")
+    };
+    let mut second = last_pass(&rt, &lock, &mut passes, 0, 2);
+    let mut first = last_pass(&rt, &lock, &mut passes, 0, 1);
+    adds(&rt, &lock, &mut first, 1, &[], 5);
+    adds(&rt, &lock, &mut second, 2, &[(1, 5)], 6);
+    let numbers = finds(&rt, &lock, &mut first, &[(1, 5), (2, 6)]);
+    stays_busy(&rt, &lock, &mut second, Busy { next: 3, served: 2 });
+    returns(&lock, &mut first, numbers);
+    let Ok(passes) = vec![in rt.alloc(); first, second] else {
+        panic!(&rt; "out of memory")
+    };
+    let Ok(numbers) = lock.close(passes) else {
+        panic!(&rt; "busy")
+    };
+    let wanted: [(u64, u64); 2] = [(1, 5), (2, 6)];
+    assert!(&rt; numbers.entries.as_slice() == wanted.as_slice());
+}
+
+#[test]
+fn a_pass_dropped_while_it_holds_keeps_the_lock_busy_for_good(rt: HostRuntime) {
+    let Ok((lock, mut passes)) = TicketLock::open(rt.alloc(), Numbers::new(rt.alloc()), 2) else {
+        panic!(&rt; "out of memory")
+    };
+    let mut second = last_pass(&rt, &lock, &mut passes, 0, 2);
+    let mut first = last_pass(&rt, &lock, &mut passes, 0, 1);
+    let numbers = finds(&rt, &lock, &mut first, &[]);
+    drop(numbers);
+    drop(first);
+    stays_busy(&rt, &lock, &mut second, Busy { next: 1, served: 0 });
+    let Ok(passes) = vec![in rt.alloc(); second] else {
+        panic!(&rt; "out of memory")
+    };
+    let Err(words) = lock.close(passes) else {
+        panic!(&rt; "free")
+    };
+    assert!(&rt; words == Busy { next: 1, served: 0 });
 }
 
 /// So many tickets are left in a lock that begins with this one, and no more.

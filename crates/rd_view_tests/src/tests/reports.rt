@@ -4,7 +4,7 @@ use rd_cell::Refusal;
 use rd_desk::Answer;
 use rd_marks::{Command, Reply};
 use rd_script::{LineFault, WriteSink};
-use rd_view::reports::{Said, write_view};
+use rd_view::{Said, write_view};
 use std::alloc::{AllocError, Global};
 use std::process::Abort;
 use std::test::Fail;

@@ -5,7 +5,7 @@ use rd_journal::Session;
 use rd_marks::Book;
 use rd_script::WriteSink;
 use rd_step::World;
-use rd_view::viewing::view_scripts;
+use rd_view::view_scripts;
 use std::alloc::{AllocError, Global};
 use std::process::Abort;
 use std::sync::Wait;

@@ -22,7 +22,7 @@ returns-in_err-told g c = record {
 
 pub text_of_view-requires : goal.text_of_view-requires
 text_of_view-requires g c =
-    ap length c.as_slice-2.ensures.value ∙ ap length (sym c.as_slice.ensures.value) ∙ told_length _ _ _ _ 1 c.as_slice.result.now c.in_ok-told.told.items c.in_ok-told.ensures.ok.1
+    ap length c.as_slice-2.ensures.value ∙ ap length (sym c.as_slice.ensures.value) ∙ told_length _ _ _ _ 1 c.as_slice.result.now c.in_ok-told.told.items c.in_ok-told.ensures.ok.2
     ∙ ap length (sym c.as_slice-3.ensures.value)
 
 pub returns-in_err-hand_over : goal.returns-in_err-hand_over

@@ -3,7 +3,7 @@ use mathlib.Core.Logic.{∥∥₁_map}
 use Rattle.std.proofs.Crossing.{crosses}
 use Rattle.std.proofs.Common.{◌≡◌, ◌∙◌, length, map, ap, sym, subst, arith}
 use Rattle.std.proofs.lemmas.List.{length-map}
-use Rattle.rd_lock.specs.Histories.{Every, numbers}
+use Rattle.rd_lock.specs.Histories.{Every, numbers, NamesUpTo}
 use Rattle.rd_lock.specs.Locks.{number}
 use Rattle.rd_desk.specs.Desks.{IsNewViewer, IsViewerOf, Tells}
 use Rattle.rd_desk.specs.Histories.{IsLegal, entries}
@@ -59,6 +59,7 @@ returns-in-Ok-close-clause-ok g c =
     let numbered : map number (map (λ viewer. viewer.0) work) ≡ numbers 1 (length work) =
     ap (map number) passes ∙ c.in-Ok.ensures.ok.numbered ∙ ap (numbers 1) (sym many ∙ sym (ap length passes) ∙ counted) in (
       subst (λ first. IsLegal g.row.N first (entries history)) state (∥∥₁_map closed.leaves (λ l. (_, l))),
+      subst (λ n. NamesUpTo n (entries history)) c.in-Ok.ensures.ok.counted closed.names,
       rw c.in_ok-passes.ensures.told (subst (λ first. AreAnswered g.row.N (Recorded.ghosts (number_of g.row.N)) first (entries history) 1 c.args.said.now (map told_of c.in-Ok-run_viewers.rans.items)) state
           (all_answered g.row.N (Recorded.ghosts (number_of g.row.N)) desk history 1 work c.in-Ok-run_viewers.rans.items c.args.said.now c.in-Ok-run_viewers.ensures.ok
           (subst (λ ps. Every (IsNewViewer desk) ps) (sym passes) c.in-Ok.ensures.ok.are_new) numbered c.in_ok-work.ensures.commands
