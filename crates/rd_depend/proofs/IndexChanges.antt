@@ -1,5 +1,5 @@
 -- The calls of an index, from what they do to its lists.
-use Rattle.std.proofs.Common.{◌≡◌, ℕ, zero, suc, ◌+◌, ◌-◌, ◌<◌, ◌≤◌, Bool, true, false, not, ◌&&◌, ◌||◌, ◌==◌, if◌then◌else◌, List, [], ◌∷◌, ◌++◌, length, take, drop, Option, Some, None, slice_get, get_or, refl, sym, ap, subst, ◌∙◌, append_assoc, arith, eq-eqb, Result, Ok, Err, OnOk, is_err}
+use Rattle.std.proofs.Common.{◌≡◌, ℕ, zero, suc, ◌+◌, ◌-◌, ◌<◌, ◌≤◌, Bool, true, false, not, ◌&&◌, ◌||◌, ◌==◌, if◌then◌else◌, List, [], ◌∷◌, ◌++◌, length, take, drop, Option, Some, None, slice_get, get_or, refl, sym, ap, subst, ◌∙◌, append_assoc, arith, eq-eqb, Result, Ok, Err, IsOk, OnOk, is_err}
 use Rattle.rd_step.specs.declared.entries.Entry.{Entry}
 use Rattle.rd_depend.specs.declared.index.DependIndex.{DependIndex}
 use Rattle.rd_depend.specs.declared.index.keys.Key.{Key}
@@ -211,12 +211,6 @@ added old new x es more is = record {
     longer [] = refl
     longer (y ∷ ys) = let rest = longer ys in omega arith
 
-pub kept_index : (old new : DependIndex) (es : List Entry) → Keeps old new → IsIndexOf old es → IsIndexOf new es
-kept_index old new es keeps is = record {
-  lists = λ t. keeps.lists t ∙ is.lists t;
-  len = keeps.len ∙ is.len;
-}
-
 pub dropped : (old new : DependIndex) (x : Entry) (es : List Entry) → Drops x old new → IsIndexOf old (es ++ x ∷ []) → IsIndexOf new es
 dropped old new x es drop_x is = record {
   lists = λ t. drop_x.lists t ∙ positions-pop (touches t) es x (kept old t) (is.lists t);
@@ -226,22 +220,6 @@ dropped old new x es drop_x is = record {
     longer : (ys : List Entry) → length (ys ++ x ∷ []) ≡ 1 + length ys
     longer [] = refl
     longer (y ∷ ys) = let rest = longer ys in omega arith
-
--- room
-
-pub room_used : (old new : DependIndex) (x : Entry) (rest : List Entry) → Adds x old new → HasRoomFor old (x ∷ rest) → HasRoomFor new rest
-room_used old new x rest more has = record {
-  lists = λ t. omega (arith, more.room t, has.lists t);
-}
-
-pub room_kept : (old new : DependIndex) (rest : List Entry) → Keeps old new → HasRoomFor old rest → HasRoomFor new rest
-room_kept old new rest keeps has = record { lists = λ t. omega (arith, keeps.room t, has.lists t) }
-
-pub room_given : (old new : DependIndex) (x : Entry) (rest : List Entry) → Drops x old new → HasRoomFor old rest → HasRoomFor new (x ∷ rest)
-room_given old new x rest drop_x has = record { lists = λ t. omega (arith, drop_x.room t, has.lists t) }
-
-pub room_there : (old : DependIndex) (x : Entry) (rest : List Entry) → HasRoomFor old (x ∷ rest) → (t : Touch) → touches t x ≡ true → 0 < spare old t
-room_there old x rest has t h = let e : one_if (touches t x) ≡ 1 = ap one_if h in omega (arith, e, has.lists t)
 
 -- what the calls ask for
 
@@ -287,17 +265,6 @@ pub record HasAdded (start now : DependIndex) (entries : List Entry) (n : ℕ) :
   pub room : (t : Touch) → spare start t ≤ spare now t + number_of (touches t) (take n entries)
   pub len : now.len ≡ start.len + n
 
-pub none_added : (start : DependIndex) (entries : List Entry) → HasAdded start start entries 0
-none_added start entries = record {
-  index = λ es is. subst (λ (l : List Entry). IsIndexOf start l) (sym (none es)) is;
-  room = λ t. omega arith;
-  len = omega arith;
-}
-  where
-    none : (es : List Entry) → es ++ [] ≡ es
-    none [] = refl
-    none (y ∷ ys) = ap (λ (l : List Entry). y ∷ l) (none ys)
-
 pub one_added : (start old new : DependIndex) (entries : List Entry) (n : ℕ) (x : Entry) → slice_get entries n ≡ Some x → HasAdded start old entries n
     → Adds x old new → HasAdded start new entries (n + 1)
 one_added start old new entries n x there was more =
@@ -314,31 +281,21 @@ one_added start old new entries n x there was more =
       len = omega (arith, was.len, more.len);
     }
 
-pub refused_next : (start old new : DependIndex) (entries : List Entry) (n : ℕ) → HasAdded start old entries n → Keeps old new → HasAdded start new entries n
-refused_next start old new entries n was keeps = record {
-  index = λ es is. kept_index old new (es ++ take n entries) keeps (was.index es is);
-  room = λ t. omega (arith, was.room t, keeps.room t);
-  len = keeps.len ∙ was.len;
-}
+number-among : (test : Entry → Bool) (es : List Entry) (n : ℕ) (x : Entry) → slice_get es n ≡ Some x → number_of test (take n es) + one_if (test x) ≤ number_of test es
+number-among test [] n x h = absurd cc
+number-among test (y ∷ ys) zero x h = let same : y ≡ x = cc in let e = ap (λ (z : Entry). one_if (test z)) same in omega (arith, e)
+number-among test (y ∷ ys) (suc n) x h = omega (arith, number-among test ys n x h)
+
+-- where there was room for all of them, there is room for the next one
+pub room_next : (start now : DependIndex) (entries : List Entry) (n : ℕ) (x : Entry) → slice_get entries n ≡ Some x → HasRoomFor start entries
+    → HasAdded start now entries n → (t : Touch) → touches t x ≡ true → 0 < spare now t
+room_next start now entries n x there has was t h =
+    let e : one_if (touches t x) ≡ 1 = ap one_if h in omega (arith, e, number-among (touches t) entries n x there, has.lists t, was.room t)
 
 -- what some pops have done so far
 pub record HasDropped (start now : DependIndex) (entries : List Entry) (left : ℕ) : Type 0 where
   pub index : (es : List Entry) → IsIndexOf start (es ++ entries) → IsIndexOf now (es ++ take left entries)
   pub room : (t : Touch) → spare now t ≡ spare start t + number_of (touches t) (drop left entries)
-
-pub none_dropped : (start : DependIndex) (entries : List Entry) (left : ℕ) → left ≡ length entries → HasDropped start start entries left
-none_dropped start entries left h = record {
-  index = λ es is. subst (λ (l : List Entry). IsIndexOf start (es ++ l)) (sym (ap (λ (n : ℕ). take n entries) h ∙ all entries)) is;
-  room = λ t. let e : number_of (touches t) (drop left entries) ≡ 0 = ap (λ (n : ℕ). number_of (touches t) (drop n entries)) h ∙ ap (number_of (touches t)) (gone entries) in omega (arith, e);
-}
-  where
-    all : (es : List Entry) → take (length es) es ≡ es
-    all [] = refl
-    all (y ∷ ys) = ap (λ (l : List Entry). y ∷ l) (all ys)
-
-    gone : (es : List Entry) → drop (length es) es ≡ []
-    gone [] = refl
-    gone (y ∷ ys) = gone ys
 
 pub last_left : (start now : DependIndex) (entries : List Entry) (left n : ℕ) (x : Entry) → left ≡ suc n → slice_get entries n ≡ Some x → EndsWith start entries
     → HasDropped start now entries left → IsLast now x
@@ -363,15 +320,6 @@ one_dropped start old new entries left n x next there was drop_x = record {
       omega (arith, e, was.room t, drop_x.room t);
 }
 
-pub all_dropped : (start now : DependIndex) (entries : List Entry) (left : ℕ) → left ≡ 0 → HasDropped start now entries left
-    → (es : List Entry) → IsIndexOf start (es ++ entries) → IsIndexOf now es
-all_dropped start now entries left h was es is =
-    subst (λ (l : List Entry). IsIndexOf now l) (ap (λ (n : ℕ). es ++ take n entries) h ∙ none es) (was.index es is)
-  where
-    none : (ys : List Entry) → ys ++ [] ≡ ys
-    none [] = refl
-    none (y ∷ ys) = ap (λ (l : List Entry). y ∷ l) (none ys)
-
 pub there_at : (es : List Entry) (n : ℕ) (d : Entry) → n < length es → slice_get es n ≡ Some (get_or es n d)
 there_at [] n d h = absurd (omega arith)
 there_at (y ∷ ys) zero d h = refl
@@ -387,3 +335,7 @@ last_len old x last = omega (arith, last.is.len, longer last.before)
 pub ok_then : {X E : Type 0} (r : Result X E) (P : Type 0) → is_err r ≡ false → OnOk r P → P
 ok_then (Ok x) P h p = p
 ok_then (Err e) P h p = absurd cc
+
+pub not_refused : {X E : Type 0} (r : Result X E) → is_err r ≡ true → IsOk r → ⊥
+not_refused (Ok x) h k = cc
+not_refused (Err e) h k = cc

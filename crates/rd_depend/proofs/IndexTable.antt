@@ -109,7 +109,7 @@ position-slot (q ∷ qs) k = by (is_key k q) (position-slot qs k)
 
 -- a change at one index, as a change under a key
 
-pub changed_at : (old new : Lists) (f : List ℕ → List ℕ) (b : Bool) (i : ℕ)
+changed_at : (old new : Lists) (f : List ℕ → List ℕ) (b : Bool) (i : ℕ)
     → ((j : ℕ) → list_at new j ≡ (if b && (j == i) then f (list_at old j) else list_at old j))
     → (o : Option ℕ) → list_of new o ≡ (if b && is_slot i o then f (list_of old o) else list_of old o)
 changed_at old new f b i h None = elim b as (λ c. [] ≡ (if c && false then f [] else [])) [ true ↦ refl | false ↦ refl ]
@@ -161,9 +161,6 @@ last_there t k wrote i slot h w c = subst (λ (o : Option ℕ). 1 ≤ length (li
 
 pub spare_there : (t : Table) (k : Key) (w : Bool) (i : ℕ) → slot_in t.keys.keys k ≡ Some i → 0 < spare_in t w k → 0 < spare_at (lists_of t w) i
 spare_there t k w i slot h = subst (λ (o : Option ℕ). 0 < room_left (lists_of t w) o) slot h
-
-pub spare_back : (t : Table) (k : Key) (w : Bool) (i : ℕ) → slot_in t.keys.keys k ≡ Some i → 0 < spare_at (lists_of t w) i → 0 < spare_in t w k
-spare_back t k w i slot h = subst (λ (o : Option ℕ). 0 < room_left (lists_of t w) o) (sym slot) h
 
 -- a new key, with empty lists
 

@@ -39,10 +39,6 @@ first_there n xs k d h within its = record {
   none = h;
 }
 
--- the last one
-pub first_last : (n : ℕ) (xs : List Entry) (x : Entry) → HasNoneBy n xs → n ≡ x.event.actor → IsFirstBy n (xs ++ x ∷ []) (length xs)
-first_last n xs x h its = record { earlier = xs; entry = x; later = []; stands = refl; there = refl; its = its; none = h }
-
 -- the first of those ahead moved behind those that were passed over
 pub moved_over : (passed more ahead : List Entry) (d : Entry) → 1 ≤ length ahead → more ≡ passed ++ get_or ahead 0 d ∷ []
     → more ++ take (length ahead - 1) (drop 1 ahead) ≡ passed ++ ahead
@@ -170,12 +166,12 @@ cannot_place e xs ahead k x at never left m =
     (subst (λ (l : List Entry). IsFree m.entry l) (sym (at.front ∙ one.before)) m.free))
 
 -- the first record of the actor is of another event, or depends on an earlier one
-pub cannot_first : (e : Event) (xs ahead : List Entry) (k : ℕ) (x : Entry) → IsFirstBy e.actor xs k → x ≡ get_or xs k x
+cannot_first : (e : Event) (xs ahead : List Entry) (k : ℕ) (x : Entry) → IsFirstBy e.actor xs k → x ≡ get_or xs k x
     → ((x.event ≡ e) → IsFree x (take k xs) → ⊥) → CannotComeFirst e (xs ++ ahead)
 cannot_first e xs ahead k x first is never = cannot_place e xs ahead k x (at_index e.actor xs k x first is) never
 
 -- it may be taken out
-pub may_first : (e : Event) (xs ahead : List Entry) (k : ℕ) (x : Entry) → k < length xs → x ≡ get_or xs k x → x.event ≡ e
+may_first : (e : Event) (xs ahead : List Entry) (k : ℕ) (x : Entry) → k < length xs → x ≡ get_or xs k x → x.event ≡ e
     → IsFree x (take k xs) → MayComeFirst e (xs ++ ahead) (remove xs k ++ ahead)
 may_first e xs ahead k x within is its free = record {
   earlier = take k xs;
@@ -199,12 +195,6 @@ tested_there xs k d e b within its is x here =
       λ h. (ap (λ (y : Entry). y.event) same ∙ its, subst (λ (y : Entry). IsFree y (take k xs)) (sym same) (is_free-true (get_or xs k d) (take k xs) (sym is ∙ h))),
       λ both. is ∙ is_free-from (get_or xs k d) (take k xs) (subst (λ (y : Entry). IsFree y (take k xs)) same both.1),
     )
-
-pub other_there : (xs : List Entry) (k : ℕ) (d : Entry) (e : Event) → k < length xs → ((get_or xs k d).event ≡ e → ⊥)
-    → (x : Entry) → x ≡ get_or xs k x → IsTrue false ↔ ((x.event ≡ e) × IsFree x (take k xs))
-other_there xs k d e within other x here =
-    let same : x ≡ get_or xs k d = here ∙ get_or_default xs k x d within in
-    (λ h. cc, λ both. absurd (other (ap (λ (y : Entry). y.event) (sym same) ∙ both.0)))
 
 -- what such a test says of the first record by the event's actor
 abbrev pub IsTestOf : Event → List Entry → ℕ → Bool → Type 0

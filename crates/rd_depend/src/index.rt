@@ -112,12 +112,13 @@ impl DependIndex {
     ///
     /// # Errors
     ///
-    /// If memory was refused. No position has changed then.
+    /// If memory was refused, which is not asked for where the room is there. No position has changed then.
     pub fn make_room(&mut self, entries: &[Entry]) -> Result<(), AllocError>
         requires index { IsIndex self.old }
         requires few { self.old.len + length entries.now ≤ MOST_STEPS }
         ensures same { (es : List Record) → IsIndexOf self.old es → IsIndexOf self.new es }
         ensures room { OnOk result (HasRoomFor self.new entries.now) }
+        ensures succeeds { HasRoomFor self.old entries.now → IsOk result }
         ensures room_stays { (rest : List Record) → HasRoomFor self.old rest → HasRoomFor self.new rest }
     {
         let added = self.add_some(entries);
@@ -128,26 +129,28 @@ impl DependIndex {
         Ok(())
     }
 
-    /// The first position after k whose entry depends on that at k, which is the entry given, or none. It makes at most 96
-    /// probes, and takes no memory.
+    /// The first position after k whose entry depends on that at k, which is the entry given, or none. It makes at least
+    /// one probe and at most 96, and takes no memory.
     pub fn first(&self, k: u64, entry: &Entry, probes: &mut Probes) -> Option<u64>
         requires held { IsHeld self.now k entry.now }
         requires few { self.now.len ≤ MOST_STEPS }
         requires counted { probes.old.count < 2 ^ 32 }
         ensures answer { (es : List Record) → IsIndexOf self.now es → numbered es k ≡ Some entry.now → result ≡ first_dependant es k }
         ensures cost { probes.new.count ≤ probes.old.count + 96 }
+        ensures counts { probes.old.count < probes.new.count }
     {
         self.first_above(k as u32, entry, probes)
     }
 
     /// The last position up to `n` whose entry wrote this place, or one of the places that it names; none if there is none. It
-    /// makes at most 57 probes, and takes no memory.
+    /// makes at least one probe and at most 57, and takes no memory.
     pub fn last_writer(&self, n: u64, place: Place, probes: &mut Probes) -> Option<u64>
         requires within { n ≤ self.now.len }
         requires few { self.now.len ≤ MOST_STEPS }
         requires counted { probes.old.count < 2 ^ 32 }
         ensures answer { (es : List Record) → IsIndexOf self.now es → result ≡ last_position (writes_to place) (take n es) }
         ensures cost { probes.new.count ≤ probes.old.count + 57 }
+        ensures counts { probes.old.count < probes.new.count }
     {
         self.last_write(n as u32, place, probes)
     }

@@ -116,7 +116,7 @@ gone_on n m old mid new ahead live undone enough all forward =
 abbrev pub track_of : Journal → List Event
 track_of j = events j.live ++ events j.undone
 
-pub same_track : (old new : Journal) → new.live ++ new.undone ≡ old.live ++ old.undone → track_of new ≡ track_of old
+same_track : (old new : Journal) → new.live ++ new.undone ≡ old.live ++ old.undone → track_of new ≡ track_of old
 same_track old new h =
     let event = λ (x : Entry). x.event in
     sym (map-append event new.live new.undone) ∙ ap events h ∙ map-append event old.live old.undone

@@ -32,10 +32,6 @@ pub same_beginning : (index : DependIndex) (xs ys : List Entry) → take index.l
     → IsIndexOf index (take index.len ys)
 same_beginning index xs ys same is = subst (λ (zs : List Entry). IsIndexOf index zs) (sym same) is
 
--- two lists that have the first n elements in common
-pub begins_alike : {X : Type 0} (xs ys : List X) (m n : ℕ) → m ≤ n → take n xs ≡ take n ys → take m xs ≡ take m ys
-begins_alike {X} xs ys m n h same = sym (take-take m n xs h) ∙ ap (take m) same ∙ take-take m n ys h
-
 pub alike : {X : Type 0} (live undone new others : List X) (m : ℕ) → m ≤ length live → m ≤ length new → take m new ≡ take m live
     → take m (new ++ others) ≡ take m (live ++ undone)
 alike {X} live undone new others m h k same = take-append-le m new others k ∙ same ∙ sym (take-append-le m live undone h)

@@ -38,13 +38,6 @@ drop_before {X} l k m n h e =
     sym (ap (drop k) (take-append-drop m l)) ∙ drop-append-le k (take m l) (drop m l) within
     ∙ ap (λ (j : ℕ). drop j (take m l) ++ drop m l) len
 
--- a cut moved on
-pub take_behind : {X : Type 0} (l : List X) (k m n : ℕ) → m ≡ k + n → take m l ≡ take k l ++ take n (drop k l)
-take_behind {X} l k m n e = ap (λ (j : ℕ). take j l) e ∙ take-add k n l
-
-pub drop_behind : {X : Type 0} (l : List X) (k m n : ℕ) → m ≡ k + n → drop m l ≡ drop n (drop k l)
-drop_behind {X} l k m n e = ap (λ (j : ℕ). drop j l) e ∙ sym (drop-drop n k l)
-
 -- The k-th of the first l elements moved behind the others of them
 
 others_length : {X : Type 0} (es : List X) (k l : ℕ) → 1 ≤ k → k ≤ l → l ≤ length es

@@ -47,7 +47,7 @@ returned_made : (p : Option Place) (c : Option Content) (m : ℕ) (s : SegName) 
 returned_made p c m s h = grind (arith, h)
 
 -- the makings among one more record
-pub returned_next : (xs : List Entry) (i m count more next : ℕ) (d : Entry) → i < length xs → count ≡ room_returned_by (take i xs) m
+returned_next : (xs : List Entry) (i m count more next : ℕ) (d : Entry) → i < length xs → count ≡ room_returned_by (take i xs) m
     → more ≡ room_returned (get_or xs i d).place (get_or xs i d).old_content m → next ≡ count + more → next ≡ room_returned_by (take (i + 1) xs) m
 returned_next xs i m count more next d h counted one is =
     let x = get_or xs i d in

@@ -2,8 +2,8 @@
 //! those ahead.
 //!
 //! Steps that are undone or redone last change nothing of that list, so the index stays as it is then. What takes a record out of
-//! it, or puts another in, first takes the positions away that are no longer so. They are put there again when a call that may
-//! take memory makes a step live; if memory is refused then, the index reaches less far, and a plain scan looks at the rest.
+//! it, or puts another in, first takes the positions away that are no longer so. They are put there again when a step is made live,
+//! by an event or by a redo, which may take memory; if that is refused, the index reaches less far, and a plain scan looks at the rest.
 
 ghost use Rattle.std.specs.Prelude.{◌≡◌, ◌++◌, ◌+◌, ◌-◌, ◌<◌, ◌≤◌, ◌∷◌, [], List, None, Some, nat_lt, if◌then◌else◌, length, get_or, take, drop, IsTrue, OnOk, OnErr};
 ghost use Rattle.rd_step.specs.declared.entries.Entry.{Entry as Record};

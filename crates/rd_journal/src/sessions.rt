@@ -203,7 +203,8 @@ impl<const R: usize> Session<R> {
         Ok(())
     }
 
-    /// Steps the event again that was undone last. It leaves the record that it left before.
+    /// Steps the event again that was undone last. It leaves the record that it left before. Memory is asked for by the index of
+    /// dependants alone, if it does not reach the step; where that is refused it reaches less far, and the redo goes on.
     ///
     /// # Errors
     ///
@@ -223,7 +224,8 @@ impl<const R: usize> Session<R> {
         Ok(())
     }
 
-    /// Redoes the `n` steps that were undone last, all or none. It takes time that grows with `n` alone.
+    /// Redoes the `n` steps that were undone last, all or none. As for `redo`, memory is asked for by the index of dependants alone.
+    /// If this reaches all live steps, it takes time that grows with `n` alone.
     ///
     /// # Errors
     ///
@@ -244,8 +246,9 @@ impl<const R: usize> Session<R> {
     }
 
     /// Keeps the first `n` live steps, undoes the others, discards what was undone, and makes the steps of the given records
-    /// again, which become the last live ones. All memory that this takes is asked for first: room for the records, and for
-    /// each maker room for the makings among them.
+    /// again, which become the last live ones. Room for the records, and for each maker room for the makings among them, is asked
+    /// for before the first undo. The index of dependants grows behind that, as the steps are made again; where it is refused
+    /// memory it reaches less far, and the switch goes on.
     ///
     /// # Errors
     ///
@@ -269,8 +272,8 @@ impl<const R: usize> Session<R> {
     }
 
     /// Goes along the session's track, which is the live steps with those ahead of them: its first `n` steps are live then, and none is
-    /// undone. The track stays as it is. It takes no memory and copies no record, and its time grows with the number of steps that it
-    /// undoes or makes again alone.
+    /// undone. The track stays as it is. It copies no record, and as for `redo` memory is asked for by the index of dependants alone. If
+    /// this reaches all live steps, its time grows with the number of steps that it undoes or makes again alone.
     pub fn go_along(&mut self, n: u64)
         requires within { n ≤ length (track self.old) }
         ensures state { state self.new ≡ record { start = (state self.old).start; live = take n (track self.old); undone = [] } }

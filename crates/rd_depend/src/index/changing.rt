@@ -4,7 +4,7 @@ ghost use Rattle.std.specs.Prelude.{◌≡◌, ◌+◌, ◌<◌, ◌≤◌, ◌+
 ghost use Rattle.rd_step.specs.declared.entries.Entry.{Entry as Record};
 ghost use Rattle.rd_cell.specs.Places.{is_nothing};
 ghost use Rattle.rd_depend.specs.Keys.{place_key, value_key, segment_key};
-ghost use Rattle.rd_depend.specs.Index.{Touch, Adds, Keeps, Drops, ClosesAll, CutsAll, IsIndexOf, IsIndex, IsLast, IsReadyFor, EndsWith, number_of, touches, spare, is_value_written};
+ghost use Rattle.rd_depend.specs.Index.{Touch, Adds, Keeps, Drops, ClosesAll, CutsAll, IsIndexOf, IsIndex, IsLast, IsReadyFor, HasRoomFor, EndsWith, number_of, touches, spare, is_value_written};
 
 use super::DependIndex;
 use super::keys::Key;
@@ -116,6 +116,7 @@ impl DependIndex {
     pub(super) fn add_some(&mut self, entries: &[Entry]) -> usize
         requires { self.old.len + length entries.now ≤ MOST_STEPS }
         ensures within { result ≤ length entries.now }
+        ensures succeeds { HasRoomFor self.old entries.now → result ≡ length entries.now }
         ensures index { (es : List Record) → IsIndexOf self.old es → IsIndexOf self.new (es ++ take result entries.now) }
         ensures room { (t : Touch) → spare self.old t ≤ spare self.new t + number_of (touches t) (take result entries.now) }
     {

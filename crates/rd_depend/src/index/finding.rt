@@ -28,6 +28,7 @@ impl DependIndex {
         requires counted { probes.old.count < 2 ^ 32 }
         ensures answer { (es : List Record) → IsIndexOf self.now es → result ≡ first_above k (positions (depends entry.now) es) }
         ensures cost { probes.new.count ≤ probes.old.count + 96 }
+        ensures counts { probes.old.count < probes.new.count }
     {
         let by_actor = self.first_by(k, entry.event.actor, probes);
         match entry.place {
@@ -43,6 +44,7 @@ impl DependIndex {
         ensures answer { (es : List Record) → IsIndexOf self.now es
             → result ≡ first_above k (positions (λ y. interfere (Some place) wrote y.place y.wrote) es) }
         ensures cost { probes.new.count ≤ probes.old.count + 57 }
+        ensures counts { probes.old.count < probes.new.count }
     {
         let reads = wrote.is_nothing();
         match place {
@@ -75,6 +77,7 @@ impl DependIndex {
         ensures answer { (es : List Record) → IsIndexOf self.now es
             → result ≡ first_above k (positions (λ y. is_under (At place) (reached writes y) || is_under (At (Whole name)) (reached writes y)) es) }
         ensures cost { probes.new.count ≤ probes.old.count + 38 }
+        ensures counts { probes.old.count < probes.new.count }
     {
         let own = self.first_under(k, Key::At(place), writes, probes);
         let whole = Key::At(Place::Whole(name));
@@ -87,6 +90,7 @@ impl DependIndex {
         ensures answer { IsAscending (kept_in self.now.by_key writes key) → length (kept_in self.now.by_key writes key) < 2 ^ 17
             → result ≡ first_above k (kept_in self.now.by_key writes key) }
         ensures cost { probes.new.count ≤ probes.old.count + 19 }
+        ensures counts { probes.old.count < probes.new.count }
     {
         Positions::found(self.by_key.list(key, writes), probes).first_above(k, probes)
     }
@@ -97,6 +101,7 @@ impl DependIndex {
         ensures answer { IsAscending (list_at self.now.by_actor.items actor) → length (list_at self.now.by_actor.items actor) < 2 ^ 17
             → result ≡ first_above k (list_at self.now.by_actor.items actor) }
         ensures cost { probes.new.count ≤ probes.old.count + 19 }
+        ensures counts { probes.old.count < probes.new.count }
     {
         let list = positions_of(&self.by_actor, actor);
         Positions::found(list, probes).first_above(k, probes)

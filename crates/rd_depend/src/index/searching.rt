@@ -12,6 +12,7 @@ impl<'a> Positions<'a> {
         requires { probes.old.count < 2 ^ 62 }
         ensures within { result ≤ length self.now.items.now }
         ensures cost { probes.new.count ≤ probes.old.count + 17 }
+        ensures counts { probes.old.count ≤ probes.new.count }
         ensures count { IsAscending self.now.items.now → length self.now.items.now < 2 ^ 17 → result ≡ number_up_to k self.now.items.now }
     {
         let mut low = 0;
@@ -35,6 +36,7 @@ impl<'a> Positions<'a> {
         requires { probes.old.count < 2 ^ 61 }
         ensures first { IsAscending self.now.items.now → length self.now.items.now < 2 ^ 17 → result ≡ first_above k self.now.items.now }
         ensures cost { probes.new.count ≤ probes.old.count + 18 }
+        ensures counts { probes.old.count ≤ probes.new.count }
     {
         let index = self.count_up_to(k, probes);
         if index < self.len() {
@@ -49,6 +51,7 @@ impl<'a> Positions<'a> {
         requires { probes.old.count < 2 ^ 61 }
         ensures last { IsAscending self.now.items.now → length self.now.items.now < 2 ^ 17 → result ≡ last_of (up_to k self.now.items.now) }
         ensures cost { probes.new.count ≤ probes.old.count + 18 }
+        ensures counts { probes.old.count ≤ probes.new.count }
     {
         let number = self.count_up_to(k, probes);
         if number > 0 {

@@ -25,6 +25,7 @@ impl DependIndex {
         requires counted { probes.old.count < 2 ^ 33 }
         ensures answer { (es : List Record) → IsIndexOf self.now es → result ≡ last_position (writes_to place) (take n es) }
         ensures cost { probes.new.count ≤ probes.old.count + 57 }
+        ensures counts { probes.old.count < probes.new.count }
     {
         match place {
             Place::Whole(name) => self.last_under(n, Key::In(name), probes),
@@ -48,6 +49,7 @@ impl DependIndex {
         ensures answer { (es : List Record) → IsIndexOf self.now es
             → result ≡ last_position (λ y. is_under (At place) (reached true y) || is_under (At (Whole name)) (reached true y)) (take n es) }
         ensures cost { probes.new.count ≤ probes.old.count + 38 }
+        ensures counts { probes.old.count < probes.new.count }
     {
         let own = self.last_under(n, Key::At(place), probes);
         let whole = Key::At(Place::Whole(name));
@@ -60,6 +62,7 @@ impl DependIndex {
         ensures answer { IsAscending (kept_in self.now.by_key true key) → length (kept_in self.now.by_key true key) < 2 ^ 17
             → result ≡ last_of (up_to n (kept_in self.now.by_key true key)) }
         ensures cost { probes.new.count ≤ probes.old.count + 19 }
+        ensures counts { probes.old.count < probes.new.count }
     {
         Positions::found(self.by_key.list(key, true), probes).last_up_to(n, probes)
     }

@@ -1,4 +1,4 @@
-//! Exchanging the records behind the first live ones: all room first, then the undoing, then the steps of the given ones.
+//! Exchanging the records behind the first live ones: room for records and makings first, then the undoing, then the steps of the given ones.
 
 ghost use Rattle.std.specs.Prelude.{◌≡◌, ◌++◌, ◌+◌, ◌<◌, ◌≤◌, [], ℕ, length, take, get_or, IsTrue, IsOk, OnOk, IfErr};
 ghost use Rattle.rd_step.specs.Prelude.{model, room as world_room};
@@ -69,7 +69,7 @@ impl<const R: usize> Session<R> {
         self.undone = given.len();
     }
 
-    /// Makes the next `n` steps ahead again, and has no step be undone then. It takes no memory.
+    /// Makes the next `n` steps ahead again, and has no step be undone then.
     pub(super) fn redo_ahead(&mut self, n: usize)
         requires within { n ≤ length (ahead_records self.old.records.records) }
         ensures records { IsSwitched (length (journal self.old).live) (take n (ahead_records self.old.records.records)) (journal self.old) (journal self.new) }

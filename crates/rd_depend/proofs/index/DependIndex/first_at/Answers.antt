@@ -24,6 +24,7 @@ returns-in-Cell c = record {
       (first_above c.args.k (positions (beside (Idx c.in-Cell.name c.in-Cell.index) c.in-Cell.name (c.is_nothing-reads.ensures i)) es)))
       ∙ found_cell c.args.wrote c.args.place c.in-Cell.name c.in-Cell.index c.in-Cell.is c.args.k es;
   cost = omega (arith, c.first_under-by_value.ensures.cost, c.first_beside.ensures.cost);
+  counts = omega (arith, c.first_under-by_value.ensures.counts, c.first_beside.ensures.counts);
 }
 
 pub returns-in-None : goal.returns-in-None
@@ -33,6 +34,7 @@ returns-in-None c = record {
       ∙ ap (λ (b : Bool). first_above c.args.k (positions (touches (Under b (At c.args.place))) es)) c.is_nothing-reads.ensures
       ∙ found_alone c.args.wrote c.args.place (sym c.segment.ensures ∙ c.in-None.is) c.in_default.not-Whole c.args.k es;
   cost = omega (arith, c.first_under-in-None.ensures.cost);
+  counts = omega (arith, c.first_under-in-None.ensures.counts);
 }
 
 pub returns-in-Some : goal.returns-in-Some
@@ -42,4 +44,5 @@ returns-in-Some c = record {
       ∙ ap (λ (b : Bool). first_above c.args.k (positions (beside c.args.place c.in-Some.name b) es)) c.is_nothing-reads.ensures
       ∙ found_own c.args.wrote c.args.place c.in-Some.name (sym c.segment.ensures ∙ c.in-Some.is) c.in_default.not-Cell c.args.k es;
   cost = omega (arith, c.first_beside-in-Some.ensures.cost);
+  counts = omega (arith, c.first_beside-in-Some.ensures.counts);
 }

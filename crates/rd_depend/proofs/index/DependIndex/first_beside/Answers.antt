@@ -15,4 +15,5 @@ returns c = record {
       (found_in c.args.self.now es is c.requires.few (Under c.args.writes (At (Whole c.args.name))) c.args.k c.first_under.result c.first_under.ensures.answer i))
       ∙ found_beside c.args.writes c.args.place c.args.name c.args.k es;
   cost = omega (arith, c.first_under-own.ensures.cost, c.first_under.ensures.cost);
+  counts = omega (arith, c.first_under-own.ensures.counts, c.first_under.ensures.counts);
 }

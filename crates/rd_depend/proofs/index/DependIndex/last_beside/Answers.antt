@@ -15,4 +15,5 @@ returns c = record {
       (last_in c.args.self.now es is c.requires.few (Under true (At (Whole c.args.name))) c.args.n c.last_under.result c.last_under.ensures.answer i))
       ∙ last_beside c.args.place c.args.name (take c.args.n es);
   cost = omega (arith, c.last_under-own.ensures.cost, c.last_under.ensures.cost);
+  counts = omega (arith, c.last_under-own.ensures.counts, c.last_under.ensures.counts);
 }

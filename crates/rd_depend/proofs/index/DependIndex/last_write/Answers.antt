@@ -20,6 +20,7 @@ returns-in-Cell c = record {
       (c.last_beside.ensures.answer es is i))
       ∙ last_cell c.args.place c.in-Cell.name c.in-Cell.index c.in-Cell.is (take c.args.n es);
   cost = omega (arith, c.last_under-by_value.ensures.cost, c.last_beside.ensures.cost);
+  counts = omega (arith, c.last_under-by_value.ensures.counts, c.last_beside.ensures.counts);
 }
 
 pub returns-in-None : goal.returns-in-None
@@ -28,6 +29,7 @@ returns-in-None c = record {
       last_in c.args.self.now es is c.requires.few (Under true (At c.args.place)) c.args.n c.last_under-in-None.result c.last_under-in-None.ensures.answer
       ∙ last_alone c.args.place (sym c.segment.ensures ∙ c.in-None.is) c.in_default.not-Whole (take c.args.n es);
   cost = omega (arith, c.last_under-in-None.ensures.cost);
+  counts = omega (arith, c.last_under-in-None.ensures.counts);
 }
 
 pub returns-in-Some : goal.returns-in-Some
@@ -36,4 +38,5 @@ returns-in-Some c = record {
       c.last_beside-in-Some.ensures.answer es is
       ∙ last_own c.args.place c.in-Some.name (sym c.segment.ensures ∙ c.in-Some.is) c.in_default.not-Cell (take c.args.n es);
   cost = omega (arith, c.last_beside-in-Some.ensures.cost);
+  counts = omega (arith, c.last_beside-in-Some.ensures.counts);
 }

@@ -8,6 +8,7 @@ loop-round-init c = record {
   order = omega arith;
   within = omega arith;
   cost = omega arith;
+  counts = omega arith;
   small = λ few. omega arith;
   below = λ h. omega arith;
   above = λ h. omega (arith, number-within c.args.k c.args.self.now.items.now);
@@ -25,12 +26,14 @@ loop-round-preserved c =
     let middle = c.loop-round.low + (c.loop-round.high - c.loop-round.low) / 2 in
     let within : middle < length items = omega arith in
     let cost : c.look.new.probes.count ≤ c.args.probes.now.count + (c.loop-round.round + 1) = omega arith in
+    let counts : c.args.probes.now.count ≤ c.look.new.probes.count = omega arith in
     elim c.if-look-k.branch [
       | then-look-k w ↦
           record {
             order = omega (arith, w.low-is, w.high-is);
             within = omega (arith, w.high-is);
             cost = cost;
+            counts = counts;
             small = λ few. omega (arith, w.low-is, w.high-is, halved c.loop-round.round (c.loop-round.high - c.loop-round.low) c.loop-round-test.true (c.loop-round.invariant.small few));
             below = λ h.
                 let le : get_or items middle c.look.result ≤ c.args.k = omega (arith, c.look.ensures.position, w.if-look-k.true) in
@@ -42,6 +45,7 @@ loop-round-preserved c =
             order = omega (arith, w.low-is, w.high-is);
             within = omega (arith, w.high-is);
             cost = cost;
+            counts = counts;
             small = λ few. omega (arith, w.low-is, w.high-is, halved c.loop-round.round (c.loop-round.high - c.loop-round.low) c.loop-round-test.true (c.loop-round.invariant.small few));
             below = λ h. omega (arith, w.low-is, c.loop-round.invariant.below h);
             above = λ h.

@@ -7,6 +7,7 @@ invariant-loop-round l = record {
   order : l.low ≤ l.high;
   within : l.high ≤ length l.self.items.now;
   cost : l.probes.count ≤ l.fn.probes.count + l.round;
+  counts : l.fn.probes.count ≤ l.probes.count;
   small : length l.self.items.now < 2 ^ 17 → l.high - l.low < 2 ^ (17 - l.round);
   below : IsAscending l.self.items.now → l.low ≤ number_up_to l.k l.self.items.now;
   above : IsAscending l.self.items.now → number_up_to l.k l.self.items.now ≤ l.high;
