@@ -1,7 +1,5 @@
 -- Taking a record that may come first out of one list, and the first one out of the other, keeps whether the lists are equivalent.
-use Rattle.std.proofs.Common.{◌≡◌, ◌↔◌, ℕ, zero, suc, ◌+◌, ◌-◌, ◌<◌, ◌≤◌, Bool, false, IsTrue, refl, sym, ◌∙◌, ap, subst, arith, List, [], ◌∷◌, ◌++◌, length, get_or, take, drop, length-drop, Ok}
-use Rattle.std.proofs.Math.ListN.{drop_of_length-le}
-use Rattle.std.proofs.Math.Seq.{drop-cons}
+use Rattle.std.proofs.Common.{◌≡◌, ◌↔◌, ℕ, zero, suc, ◌-◌, ◌≤◌, Bool, refl, sym, ◌∙◌, ap, subst, arith, List, [], ◌∷◌, ◌++◌, length, take, drop, length-drop, Ok}
 use Rattle.std.proofs.lemmas.List.{map-append, take_all}
 use Rattle.rd_step.specs.Prelude.{World, Stepped, step, Ran, run, IsFree}
 use Rattle.rd_step.specs.declared.entries.Event.{Event}
@@ -10,8 +8,8 @@ use Rattle.rd_step.specs.Equivalence.{IsEquivalent}
 use Rattle.rd_step.specs.Run.{events, run_entries, IsRunFrom}
 use Rattle.rd_step.proofs.RunParts.{runs_to, FirstStep, first_step, middle}
 use Rattle.rd_step.proofs.Equivalence.{as_stepped-same, goes_first, stands_in}
-use Rattle.rd_depend.specs.Equivalence.{DecidesEquivalence, MayComeFirst, CannotComeFirst}
-use Rattle.rd_depend.proofs.Search.{one_place}
+use Rattle.rd_depend.specs.Equivalence.{DecidesEquivalence}
+use Rattle.rd_depend.proofs.FirstOfActor.{MayComeFirst, one_place}
 
 -- a record that depends on no earlier one goes first, and the others run on with their records
 pub front : (R : ℕ) (w : World) (xs : List Entry) (x : Entry) (ys : List Entry) → IsRunFrom R w (xs ++ x ∷ ys) → IsFree x xs → FirstStep R w x (xs ++ ys)
@@ -94,9 +92,9 @@ one_left e rest l k a b =
     let one = one_place e a.earlier a.later b.earlier b.later a.entry b.entry (sym a.stands ∙ b.stands) a.its_event b.its_event a.free b.free in
     a.leaves ∙ (λ i. one.before i ++ one.behind i) ∙ sym b.leaves
 
--- The search
+-- Taking out one record after another
 
--- where the search has come to: a world from which what is left of both lists runs, and the lists are equivalent exactly where
+-- where this has come to: a world from which what is left of both lists runs, and the lists are equivalent exactly where
 -- what is left of them is
 pub record Remains (R : ℕ) (w : World) (a b xs rest : List Entry) : Type 0 where
   pub here : World
@@ -141,15 +139,7 @@ compares_more a b xs rest left x before m R w runs_a runs_b =
     let r = before R w runs_a runs_b in
     one_more R w r.here a b xs rest left x r.first_runs r.second_runs r.exactly m
 
--- a record that is not found
-pub compares_never : (a b xs rest : List Entry) (x : Entry) → Compares a b (x ∷ xs) rest → CannotComeFirst x.event rest
-    → (R : ℕ) (w : World) → IsRunFrom R w a → IsRunFrom R w b → IsEquivalent R w (events a) (events b) → ⊥
-compares_never a b xs rest x before cannot R w runs_a runs_b same =
-    let r = before R w runs_a runs_b in
-    let c = comes_first R r.here x.event (events xs) rest r.second_runs (r.exactly.0 same) in
-    cannot c.left c.may
-
-no_events : (rest : List Entry) → events rest ≡ [] → rest ≡ []
+pub no_events : (rest : List Entry) → events rest ≡ [] → rest ≡ []
 no_events [] h = refl
 no_events (x ∷ xs) h = cc
 
@@ -159,30 +149,6 @@ pub compares_end : (a b rest : List Entry) → Compares a b [] rest
 compares_end a b rest before R w runs_a runs_b =
     let r = before R w runs_a runs_b in
     (λ same. no_events rest (r.exactly.0 same), λ none. r.exactly.1 (ap events none))
-
--- The same at the index of the search
-
-taken_apart : (a : List Entry) (k : ℕ) (d : Entry) → k < length a → drop k a ≡ get_or a k d ∷ drop (k + 1) a
-taken_apart a k d within =
-    let n : suc k ≡ k + 1 = omega arith in
-    drop-cons a k d within ∙ ap (λ (j : ℕ). get_or a k d ∷ drop j a) n
-
-pub found_at : (a b rest left : List Entry) (k : ℕ) (d : Entry) → Compares a b (drop k a) rest → k < length a
-    → MayComeFirst (get_or a k d).event rest left → Compares a b (drop (k + 1) a) left
-found_at a b rest left k d before within m =
-    compares_more a b (drop (k + 1) a) rest left (get_or a k d)
-    (subst (λ (l : List Entry). Compares a b l rest) (taken_apart a k d within) before) m
-
-pub missing_at : (a b rest : List Entry) (k : ℕ) (d : Entry) → Compares a b (drop k a) rest → k < length a
-    → CannotComeFirst (get_or a k d).event rest → DecidesEquivalence a b false
-missing_at a b rest k d before within cannot R w runs_a runs_b =
-    let before' : Compares a b (get_or a k d ∷ drop (k + 1) a) rest = subst (λ (l : List Entry). Compares a b l rest) (taken_apart a k d within) before in
-    (λ h. cc, λ same. absurd (compares_never a b (drop (k + 1) a) rest (get_or a k d) before' cannot R w runs_a runs_b same))
-
-pub all_found : (a b rest : List Entry) (k : ℕ) (same : Bool) → Compares a b (drop k a) rest → length a ≤ k → IsTrue same ↔ (rest ≡ []) → DecidesEquivalence a b same
-all_found a b rest k same before all exactly R w runs_a runs_b =
-    let end = compares_end a b rest (subst (λ (l : List Entry). Compares a b l rest) (drop_of_length-le a all) before) R w runs_a runs_b in
-    (λ h. end.1 (exactly.0 h), λ h. exactly.1 (end.0 h))
 
 -- A common beginning
 

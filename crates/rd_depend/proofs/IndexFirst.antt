@@ -152,7 +152,7 @@ not_cell : (p : Place) → is_cell_at p ≡ false → (t : SegName) (i : ℕ) �
 not_cell p h t i e = false≢true (sym h ∙ ap is_cell_at e)
 
 -- a place is kept under its own key
-kept_itself : (p : Place) → is_cell_at p ≡ false → is_kept_at p p ≡ true
+pub kept_itself : (p : Place) → is_cell_at p ≡ false → is_kept_at p p ≡ true
 kept_itself (Cell s i) h = cc
 kept_itself QHead h = refl
 kept_itself QTail h = refl
@@ -177,14 +177,14 @@ at_own : (p q : Place) → is_place p q ≡ true → covers q p ≡ true
 at_own p q h = covers_at q p (sym (is_place-true p q h))
 
 -- a cell is kept under its halves
-kept_half : (t : SegName) (j : ℕ) (p : Place) → is_of_cell t j p ≡ true → is_cell_at p ≡ false → is_kept_at p (Cell t j) ≡ true
+pub kept_half : (t : SegName) (j : ℕ) (p : Place) → is_of_cell t j p ≡ true → is_cell_at p ≡ false → is_kept_at p (Cell t j) ≡ true
 kept_half t j (Val u k) h n = cell-sym t u j k ∙ h
 kept_half t j (Idx u k) h n = or_left (is_name u t && (k == j)) false (cell-sym t u j k ∙ h)
 kept_half t j (Cell u k) h n = cc
 kept_half t j _ h n = cc
 
 -- what is kept under a key covers its place
-kept_covers : (p q : Place) → is_kept_at p q ≡ true → covers q p ≡ true
+pub kept_covers : (p q : Place) → is_kept_at p q ≡ true → covers q p ≡ true
 kept_covers p (Cell t j) h =
     elim (or_cases (is_place p (Idx t j)) (is_place p (Val t j)) h) [
       | inl a ↦ subst (λ (r : Place). is_of_cell t j r ≡ true) (sym (is_place-true p (Idx t j) a)) (is_place-refl (Cell t j))
@@ -326,7 +326,7 @@ half_kept q ArrHead h = h
 half_kept q ArrTail h = h
 half_kept q (ArrCell i) h = h
 
-written_kept : (q : Key) (o : Option Place) (v : Wrote) → is_under q (written o v) ≡ true → is_under q o ≡ true
+pub written_kept : (q : Key) (o : Option Place) (v : Wrote) → is_under q (written o v) ≡ true → is_under q o ≡ true
 written_kept q None v h = h
 written_kept (At r) (Some p) WroteNothing h = cc
 written_kept (In s) (Some p) WroteNothing h = cc

@@ -61,7 +61,7 @@ or_false true = refl
 or_false false = refl
 
 -- a place is kept under its own key, and a cell also under that of its value half
-kept_at : (p r : Place) → is_kept_at p r ≡ (is_place p (index_half r) || is_that (At p) (value_of_place r))
+pub kept_at : (p r : Place) → is_kept_at p r ≡ (is_place p (index_half r) || is_that (At p) (value_of_place r))
 kept_at p (Cell s i) = refl
 kept_at p (Head s) = or_false (is_place p (Head s))
 kept_at p (Tail s) = or_false (is_place p (Tail s))
@@ -76,7 +76,7 @@ kept_at p ArrTail = or_false (is_place p ArrTail)
 kept_at p (ArrCell i) = or_false (is_place p (ArrCell i))
 
 -- the index half of a cell, like any other place, is kept under its own key alone
-kept_half : (p r : Place) → is_kept_at p (index_half r) ≡ is_place p (index_half r)
+pub kept_half : (p r : Place) → is_kept_at p (index_half r) ≡ is_place p (index_half r)
 kept_half p (Cell s i) = refl
 kept_half p (Head s) = refl
 kept_half p (Tail s) = refl
@@ -90,7 +90,7 @@ kept_half p ArrHead = refl
 kept_half p ArrTail = refl
 kept_half p (ArrCell i) = refl
 
-no_value : (s : SegName) (r : Place) → is_that (In s) (value_of_place r) ≡ false
+pub no_value : (s : SegName) (r : Place) → is_that (In s) (value_of_place r) ≡ false
 no_value s (Cell t i) = refl
 no_value s _ = refl
 
@@ -108,7 +108,7 @@ abbrev pub at_one : Bool → Wrote → Option Place → Key → Bool
 at_one w v o q = (at_place w v o q || at_value w v o q) || at_segment w v o q
 
 -- all three of a place that is reached
-all_three : (p : Place) (q : Key) → is_under q (Some p) ≡ ((is_that q (place_key (Some p)) || is_that q (value_key (Some p))) || is_that q (segment_key (Some p)))
+pub all_three : (p : Place) (q : Key) → is_under q (Some p) ≡ ((is_that q (place_key (Some p)) || is_that q (value_key (Some p))) || is_that q (segment_key (Some p)))
 all_three p (At r) =
     kept_at r p ∙ or_false (is_place r (index_half p) || is_that (At r) (value_of_place p))
     ∙ ap (λ (b : Bool). (is_place r (index_half p) || is_that (At r) (value_of_place p)) || b) (sym (no_segment r p))
@@ -121,7 +121,7 @@ two_of_them p (At r) =
     ∙ ap (λ (b : Bool). (is_place r (index_half p) || false) || b) (sym (no_segment r p))
 two_of_them p (In s) = half_of_segment s p ∙ of_segment s p
 
-none_under : (q : Key) → is_under q None ≡ false
+pub none_under : (q : Key) → is_under q None ≡ false
 none_under (At p) = refl
 none_under (In s) = refl
 

@@ -9,9 +9,15 @@ pub mod IndexRemove
 pub mod IndexCuts
 pub mod LastPositions
 pub mod IndexWriters
+pub mod FirstOfActor
+pub mod TouchedKeys
+pub mod TakingOut
+pub mod Agreeing
+pub mod KeysMeet
 pub mod Moving
 pub mod Sharing
-pub mod Search
-pub mod Reaching
 pub mod Exactness
+pub mod RunsAgree
 pub mod Converse
+pub mod ComparingLemmas
+pub mod LastWritersLemmas

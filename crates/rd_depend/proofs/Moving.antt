@@ -1,9 +1,7 @@
 -- An element moved before others, by turning a part of the list.
-use Rattle.std.proofs.Common.{◌≡◌, ℕ, suc, ◌+◌, ◌-◌, ◌≤◌, List, ◌++◌, length, take, drop, sym, ◌∙◌, ap, arith, length-append, length-drop}
+use Rattle.std.proofs.Common.{◌≡◌, ℕ, ◌+◌, ◌-◌, ◌≤◌, List, ◌++◌, length, take, drop, sym, ◌∙◌, ap, arith, length-append, length-drop}
 use borrow.Rule.Slice.PartMut.{put_mid, mid_of}
 use Rattle.std.proofs.Math.ListN.{drop_of_length-le}
-use Rattle.std.proofs.Math.Seq.{drop-append_seam}
-use Rattle.std.specs.List.{remove}
 use Rattle.std.proofs.lemmas.List.{append-nil, append_assoc, length-take-le, take_all, take-take, drop-take, drop-drop}
 use Rattle.rd_depend.specs.Moved.{moved_to}
 
@@ -50,26 +48,3 @@ turned_right {X} es f n order within =
     let post : drop m (drop f es) ≡ drop (n + 1) es = drop-drop m f es ∙ ap (λ (k : ℕ). drop k es) all in
     (λ j. take f es ++ ((last j ++ others j) ++ post j))
     ∙ ap (λ (ys : List X). take f es ++ ys) (append_assoc (take 1 (drop n es)) (drop f (take n es)) (drop (n + 1) es))
-
--- behind the place that it moved to, the others are as if it had been taken out
-pub moved_out : {X : Type 0} (es : List X) (f k : ℕ) → f + k + 1 ≤ length es → drop (f + 1) (moved_to es f (f + k)) ≡ remove (drop f es) k
-moved_out {X} es f k within =
-    let n = f + k in
-    let order : f ≤ n = omega arith in
-    let ahead = take f es ++ take 1 (drop n es) in
-    let others = drop f (take n es) ++ drop (n + 1) es in
-    let len : length ahead ≡ f + 1 =
-    omega (
-      arith,
-      length-append (take f es) (take 1 (drop n es)),
-      length-take-le f es (omega arith),
-      length-take-le 1 (drop n es) (omega (arith, length-drop n es)),
-    ) in
-    let count : n - f ≡ k = omega arith in
-    let behind : f + suc k ≡ n + 1 = omega arith in
-    let front : drop f (take n es) ≡ take k (drop f es) = sym (part_of es f n order) ∙ ap (λ (m : ℕ). take m (drop f es)) count in
-    let rest : drop (n + 1) es ≡ drop (suc k) (drop f es) = ap (λ (m : ℕ). drop m es) (sym behind) ∙ sym (drop-drop (suc k) f es) in
-    ap (drop (f + 1)) (sym (append_assoc (take f es) (take 1 (drop n es)) others))
-    ∙ ap (λ (m : ℕ). drop m (ahead ++ others)) (sym len)
-    ∙ drop-append_seam ahead others
-    ∙ (λ i. front i ++ rest i)

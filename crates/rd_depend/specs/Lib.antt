@@ -1,7 +1,6 @@
 pub mod Beginnings
 pub mod Moved
 pub mod Equivalence
-pub mod Remaining
 pub mod Keys
 pub mod Lists
 pub mod Tables
@@ -9,3 +8,5 @@ pub mod Index
 pub mod Writers
 pub mod Sharing
 pub mod KeyLaws
+pub mod LastWriters
+pub mod ComparedSteps

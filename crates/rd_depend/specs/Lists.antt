@@ -6,8 +6,8 @@ use Rattle.std.specs.declared.alloc.Global.{Global}
 abbrev pub Lists : Type 0
 Lists = List (Vec ℕ Global)
 
--- the positions of a list, if it is there
-abbrev pub items_of : Option (Vec ℕ Global) → List ℕ
+-- the items of a list, if it is there
+abbrev pub items_of : {X : Type 0} → Option (Vec X Global) → List X
 items_of None = []
 items_of (Some list) = list.items
 
@@ -16,8 +16,8 @@ abbrev pub room_of : Option (Vec ℕ Global) → ℕ
 room_of None = 0
 room_of (Some list) = vec_capacity list
 
--- the positions of the list of this number
-abbrev pub list_at : Lists → ℕ → List ℕ
+-- the items of the list of this number
+abbrev pub list_at : {X : Type 0} → List (Vec X Global) → ℕ → List X
 list_at lists i = items_of (slice_get lists i)
 
 -- how many it can have before it has to grow

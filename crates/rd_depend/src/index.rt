@@ -10,9 +10,9 @@ ghost use Rattle.rd_step.specs.Prelude.{first_dependant};
 ghost use Rattle.rd_depend.specs.Index.{IsIndexOf, IsIndex, IsHeld, IsLast, HasRoomFor, without_entry};
 ghost use Rattle.rd_depend.specs.Writers.{last_position, writes_to};
 
-mod changing;
+pub(crate) mod changing;
 mod finding;
-mod keys;
+pub(crate) mod keys;
 mod lists;
 mod positions;
 mod probes;

@@ -10,6 +10,7 @@ mod beginnings;
 pub mod dependence;
 pub mod equivalence;
 pub mod index;
+mod last_writers;
 pub mod laws;
 pub mod moves;
 

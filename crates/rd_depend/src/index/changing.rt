@@ -143,7 +143,7 @@ impl DependIndex {
 }
 
 /// The key of the place, if there is one: of a cell that of its index half.
-fn place_key(place: Option<Place>) -> Option<Key>
+pub(crate) fn place_key(place: Option<Place>) -> Option<Key>
     ensures { result ≡ place_key place }
 {
     match place {
@@ -153,7 +153,7 @@ fn place_key(place: Option<Place>) -> Option<Key>
 }
 
 /// The key of the cell's value half, if the place is a cell.
-fn value_key(place: Option<Place>) -> Option<Key>
+pub(crate) fn value_key(place: Option<Place>) -> Option<Key>
     ensures { result ≡ value_key place }
 {
     match place {
@@ -163,21 +163,21 @@ fn value_key(place: Option<Place>) -> Option<Key>
 }
 
 /// Whether a step that wrote this wrote anything.
-fn is_written(wrote: Wrote) -> bool
+pub(crate) fn is_written(wrote: Wrote) -> bool
     ensures { result ≡ not (is_nothing wrote) }
 {
     !wrote.is_nothing()
 }
 
 /// Whether a step that wrote this wrote the value half of its cell.
-pub(super) fn is_value_written(wrote: Wrote) -> bool
+pub(crate) fn is_value_written(wrote: Wrote) -> bool
     ensures { result ≡ is_value_written wrote }
 {
     matches!(wrote, Wrote::Place)
 }
 
 /// The key of the segment that the place is one of, if there is one.
-fn segment_key(place: Option<Place>) -> Option<Key>
+pub(crate) fn segment_key(place: Option<Place>) -> Option<Key>
     ensures { result ≡ segment_key place }
 {
     match place {

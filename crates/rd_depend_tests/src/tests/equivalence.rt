@@ -1,7 +1,9 @@
-//! Tests of equivalence by examples: two lists of events, both from the fresh world, and whether they are equivalent.
+//! Tests of equivalence: two lists of events, both from the fresh world, and whether they are equivalent, by examples and as the definition has it.
 
+use super::index::Draws;
 use rd_actor::{Act, Pc};
 use rd_cell::Refusal;
+use rd_depend::dependence::depends;
 use rd_depend::equivalence::are_equivalent;
 use rd_step::{Entry, Event, World};
 use std::alloc::Global;
@@ -260,5 +262,105 @@ fn long_lists_are_compared_where_memory_is_there(rt: HostRuntime) -> Result<(), 
             "{second}, {first}"
         );
     }
+    Ok(())
+}
+
+/// How many pairs of runs are drawn, and how many steps each has.
+const DRAWN: (u32, u32) = (60, 60);
+
+/// What the actor may do next, drawn where there is a choice.
+fn next_act(world: &World<2>, actor: u8, draws: &mut Draws) -> Act {
+    match world.actor(actor).map_or(Pc::Idle, |words| words.pc) {
+        Pc::Idle => match draws.below(4) {
+            0 => Act::Enq(7),
+            1 => Act::Deq,
+            2 => Act::AEnq(5),
+            _ => Act::ADeq,
+        },
+        Pc::E10 => Act::Starve(draws.below(2) == 0),
+        _ => Act::Go,
+    }
+}
+
+/// The events of a run in which each step is made by an actor that is drawn.
+fn drawn_events(alloc: Global, draws: &mut Draws, steps: u32) -> Result<Vec<Event>, Refusal> {
+    let mut world = World::<2>::fresh(alloc, 4)?;
+    let mut events = Vec::new(alloc);
+    for _step in 0..steps {
+        let actor = draws.below(4) as u8 + 1;
+        let act = next_act(&world, actor, draws);
+        let entry = world.step(Event { actor, act })?;
+        if events.push(entry.event).is_err() {
+            return Err(Refusal::NoMemory);
+        }
+    }
+    Ok(events)
+}
+
+/// The records of the events, up to the first that is refused.
+fn records_of(alloc: Global, events: &[Event]) -> Result<Vec<Entry>, Fail> {
+    let mut world = World::<2>::fresh(alloc, 4)?;
+    let mut entries = Vec::new(alloc);
+    for event in events {
+        let Ok(entry) = world.step(*event) else {
+            return Ok(entries);
+        };
+        entries.push(entry)?;
+    }
+    Ok(entries)
+}
+
+/// Some neighbours by different actors change places.
+fn shuffle(events: &mut [Event], draws: &mut Draws, times: u32) {
+    for _time in 0..times {
+        let at = draws.below(DRAWN.1) as usize;
+        if at + 1 < events.len() && events[at].actor != events[at + 1].actor {
+            events.swap(at, at + 1);
+        }
+    }
+}
+
+/// Where a record of the entry's event depends on no earlier one.
+fn free_place(left: &[Entry], entry: &Entry) -> Option<usize> {
+    let at = left
+        .iter()
+        .position(|other| other.event.actor == entry.event.actor)?;
+    let found = left[at];
+    if found.event == entry.event && left[..at].iter().all(|other| !depends(&found, other)) {
+        Some(at)
+    } else {
+        None
+    }
+}
+
+/// Whether the lists are equivalent, by the definition: one event after another is taken out.
+fn is_equivalent(alloc: Global, a: &[Entry], b: &[Entry]) -> Result<bool, Fail> {
+    let mut left = Vec::new(alloc);
+    left.extend_from_slice(b)?;
+    for entry in a {
+        let Some(at) = free_place(&left, entry) else {
+            return Ok(false);
+        };
+        if at < left.len() {
+            left.remove(at);
+        }
+    }
+    Ok(left.is_empty())
+}
+
+#[test]
+fn drawn_runs_are_equivalent_where_the_definition_says_so(rt: HostRuntime) -> Result<(), Fail> {
+    let mut draws = Draws { state: 1 };
+    let mut both_ways = (false, false);
+    for times in 0..DRAWN.0 {
+        let mut events = drawn_events(rt.alloc(), &mut draws, DRAWN.1)?;
+        let a = records_of(rt.alloc(), &events)?;
+        shuffle(&mut events, &mut draws, times / 2);
+        let b = records_of(rt.alloc(), &events)?;
+        let wanted = is_equivalent(rt.alloc(), &a, &b)?;
+        assert_eq!(rt; are_equivalent(rt.alloc(), &a, &b)?, wanted, "pair {times}");
+        both_ways = (both_ways.0 || wanted, both_ways.1 || !wanted);
+    }
+    assert_eq!(rt; both_ways, (true, true));
     Ok(())
 }

@@ -154,15 +154,15 @@ const PLACES: [Option<Place>; 20] = [
 
 /// Numbers that follow no pattern.
 #[derive(Drop)]
-struct Draws {
-    state: u32,
+pub(super) struct Draws {
+    pub(super) state: u32,
 }
 
 impl Draws {
     ghost use Rattle.std.specs.Prelude.{◌<◌};
 
     /// A number below this one.
-    fn below(&mut self, end: u32) -> u32
+    pub(super) fn below(&mut self, end: u32) -> u32
         requires { 0 < end }
         ensures { result < end }
     {

@@ -1,10 +1,11 @@
-use Rattle.std.proofs.Common.{◌≤◌, length, drop}
-use Rattle.rd_depend.specs.Remaining.{records}
-use Rattle.rd_depend.proofs.Exactness.{Compares}
+use Rattle.std.proofs.Common.{◌≡◌, take}
+use Rattle.rd_depend.specs.LastWriters.{no_progress, progress_after}
+use Rattle.rd_depend.specs.ComparedSteps.{progress_of}
+use Rattle.rd_depend.proofs.ComparingLemmas.{AgreesSoFar}
 use Rattle.rd_depend.proofs.equivalence.compare.Given as goal
 
 abbrev pub invariant-loop-entry : goal.invariant-loop-entry
 invariant-loop-entry l = record {
-  compares : Compares l.a l.b (drop l.entry-index l.a) (records l.remaining);
-  ahead : length l.remaining.ahead.now ≤ length l.b;
+  agrees : AgreesSoFar l.a (take l.entry-index l.b);
+  progress : progress_of l.writers ≡ progress_after no_progress (take l.entry-index l.b);
 }

@@ -1,0 +1,61 @@
+-- A record of an event that depends on no earlier one is the first of its actor, so there is one such place at most.
+use Rattle.std.proofs.Common.{◌≡◌, ℕ, ◌==◌, refl, sym, ◌∙◌, ap, subst, List, [], ◌∷◌, ◌++◌}
+use Rattle.std.proofs.lemmas.Bool.{eqb-false, or_parts}
+use Rattle.rd_step.specs.Prelude.{interfere, IsFree}
+use Rattle.rd_step.specs.declared.entries.Event.{Event}
+use Rattle.rd_step.specs.declared.entries.Entry.{Entry}
+
+-- none of these records is by this actor
+abbrev pub HasNoneBy : ℕ → List Entry → Type 0
+HasNoneBy n [] = Unit {0}
+HasNoneBy n (x ∷ xs) = (n ≡ x.event.actor → ⊥) × HasNoneBy n xs
+
+-- a record of this event is at a place where it depends on no earlier one, and without it there these are left
+pub record MayComeFirst (e : Event) (entries left : List Entry) : Type 0 where
+  pub earlier : List Entry
+  pub entry : Entry
+  pub later : List Entry
+  pub stands : entries ≡ earlier ++ entry ∷ later
+  pub its_event : entry.event ≡ e
+  pub free : IsFree entry earlier
+  pub leaves : left ≡ earlier ++ later
+
+-- records on which one does not depend are none of its actor
+free_none_by : (x : Entry) (xs : List Entry) → IsFree x xs → HasNoneBy x.event.actor xs
+free_none_by x [] h = tt
+free_none_by x (y ∷ ys) h =
+    let parts = or_parts (x.event.actor == y.event.actor) (interfere x.place x.wrote y.place y.wrote) h.0 in
+    (eqb-false x.event.actor y.event.actor parts.0, free_none_by x ys h.1)
+
+-- the first record by an actor is at one place alone
+pub record AreOne (xs ys zs us : List Entry) (y z : Entry) : Type 0 where
+  pub before : xs ≡ zs
+  pub itself : y ≡ z
+  pub behind : ys ≡ us
+
+one_first : (n : ℕ) (xs ys zs us : List Entry) (y z : Entry) → xs ++ y ∷ ys ≡ zs ++ z ∷ us → n ≡ y.event.actor
+    → n ≡ z.event.actor → HasNoneBy n xs → HasNoneBy n zs → AreOne xs ys zs us y z
+one_first n [] ys [] us y z h by_y by_z none_x none_z = record { before = refl; itself = cc; behind = cc }
+one_first n [] ys (z' ∷ zs) us y z h by_y by_z none_x none_z =
+    let e : y ≡ z' = cc in
+    absurd (none_z.0 (by_y ∙ ap (λ (x : Entry). x.event.actor) e))
+one_first n (x' ∷ xs) ys [] us y z h by_y by_z none_x none_z =
+    let e : x' ≡ z = cc in
+    absurd (none_x.0 (by_z ∙ ap (λ (x : Entry). x.event.actor) (sym e)))
+one_first n (x' ∷ xs) ys (z' ∷ zs) us y z h by_y by_z none_x none_z =
+    let e : x' ≡ z' = cc in
+    let l : xs ++ y ∷ ys ≡ zs ++ z ∷ us = cc in
+    let one = one_first n xs ys zs us y z l by_y by_z none_x.1 none_z.1 in
+    record { before = (λ i. e i ∷ one.before i); itself = one.itself; behind = one.behind }
+
+by_actor : (e : Event) (x : Entry) → x.event ≡ e → e.actor ≡ x.event.actor
+by_actor e x h = ap (λ (f : Event). f.actor) (sym h)
+
+none_before : (e : Event) (x : Entry) (xs : List Entry) → x.event ≡ e → IsFree x xs → HasNoneBy e.actor xs
+none_before e x xs h free = subst (λ (f : Event). HasNoneBy f.actor xs) h (free_none_by x xs free)
+
+-- the places where a record of one event depends on no earlier one are one place
+pub one_place : (e : Event) (xs ys zs us : List Entry) (y z : Entry) → xs ++ y ∷ ys ≡ zs ++ z ∷ us → y.event ≡ e → z.event ≡ e
+    → IsFree y xs → IsFree z zs → AreOne xs ys zs us y z
+one_place e xs ys zs us y z h of_y of_z free_y free_z =
+    one_first e.actor xs ys zs us y z h (by_actor e y of_y) (by_actor e z of_z) (none_before e y xs of_y free_y) (none_before e z zs of_z free_z)

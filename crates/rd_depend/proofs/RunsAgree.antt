@@ -1,0 +1,147 @@
+-- Of two runs from one world the events are equivalent exactly where the records agree in what is compared of them.
+use Rattle.std.proofs.Common.{◌≡◌, ℕ, Bool, true, false, if◌then◌else◌, nat_lt, refl, sym, ◌∙◌, ap, subst, List, [], ◌∷◌, ◌++◌, Option, Some, None, Result, Ok, Err}
+use Rattle.rd_step.specs.Prelude.{SegName, Place, WholeOf, Content, Contents, operand, Operation, Access, Refusal, SegmentsEnd, Performed, Effect, effect, perform, is_nothing, WrotePlace, MOST_SEGMENTS}
+use Rattle.rd_cell.specs.declared.operations.Answer.TheVariants.{Made}
+use Rattle.rd_cell.specs.Contents.{holding}
+use Rattle.rd_cell.specs.declared.access.Access.TheVariants.{NoPlace, At, Make}
+use Rattle.rd_cell.specs.Access.{number_made, operate, perform_effect}
+use Rattle.rd_step.specs.Prelude.{World, Stepped, step, IsFree}
+use Rattle.rd_step.specs.declared.entries.Entry.{Entry}
+use Rattle.rd_step.specs.Equivalence.{IsEquivalent}
+use Rattle.rd_step.specs.Run.{events, IsRunFrom}
+use Rattle.rd_step.proofs.RunParts.{first_step}
+use Rattle.rd_step.proofs.Equivalence.{as_stepped-same}
+use Rattle.rd_step.proofs.Steps.{took}
+use Rattle.rd_depend.specs.Equivalence.{DecidesEquivalence}
+use Rattle.rd_depend.proofs.FirstOfActor.{MayComeFirst}
+use Rattle.rd_depend.specs.LastWriters.{no_progress, AgreesFrom}
+use Rattle.rd_depend.proofs.Exactness.{front, comes_first, Compares, compares_all, compares_more, compares_end, no_events}
+use Rattle.rd_depend.proofs.TakingOut.{alike-same, IsApartFrom, Takes, TakesAll, agrees}
+use Rattle.rd_depend.proofs.KeysMeet.{MakingWrote, apart_of_free, free_of_apart}
+use Rattle.rd_depend.proofs.Agreeing.{no_progress-is, takes_all}
+
+-- A step of a run at the whole of a segment is its making, which wrote
+
+never_whole : (at : Contents) (p : Place) (c : Content) (t : SegName) → operand at p ≡ Some c → Some p ≡ Some (WholeOf t) → ⊥
+never_whole at (WholeOf s) c t h e = cc
+never_whole at _ c t h e = cc
+
+operated : (at : Contents) (p : Place) (op : Operation) (o : Option Content) (did : Performed) (t : SegName) → operand at p ≡ o
+    → operate p op o ≡ Ok did → did.place ≡ Some (WholeOf t) → is_nothing did.wrote ≡ false
+operated at p op None did t h k e = cc
+operated at p op (Some c) did t h k e = by (effect op c) k
+  where
+    by : (r : Result Effect Refusal) → perform_effect p c r ≡ Ok did → is_nothing did.wrote ≡ false
+    by (Err refusal) l = cc
+    by (Ok f) l =
+        let place : Some p ≡ did.place = cc in
+        absurd (never_whole at p c t h (place ∙ e))
+
+made_by : (b : Bool) (p did : Performed) (refusal : Refusal) → is_nothing p.wrote ≡ false → (if b then Ok p else Err refusal) ≡ Ok did
+    → is_nothing did.wrote ≡ false
+made_by true p did refusal h k = let e : p ≡ did = cc in subst (λ (q : Performed). is_nothing q.wrote ≡ false) e h
+made_by false p did refusal h k = cc
+
+performed : (R actor : ℕ) (at : Contents) (access : Access) (did : Performed) (t : SegName) → perform R actor at access ≡ Ok did
+    → did.place ≡ Some (WholeOf t) → is_nothing did.wrote ≡ false
+performed R actor at NoPlace did t h e = cc
+performed R actor at (At p op) did t h e = operated at p op (operand at p) did t refl h e
+performed R actor at (Make x) did t h e =
+    let s : SegName = record { maker = actor; n = number_made at actor } in
+    made_by (nat_lt (number_made at actor) MOST_SEGMENTS)
+    (record { place = Some (WholeOf s); old = None; answer = Made s; wrote = WrotePlace; given = holding R x }) did SegmentsEnd refl h
+
+making_wrote : (R : ℕ) (w v : World) (x : Entry) → step R w x.event ≡ Ok (record { world = v; entry = x }) → MakingWrote x
+making_wrote R w v x h t e =
+    let by = took R w x.event (record { world = v; entry = x }) h in
+    let place : by.did.place ≡ x.place = ap (λ (s : Stepped). s.entry.place) by.ends in
+    let wrote = ap (λ (s : Stepped). is_nothing s.entry.wrote) by.ends in
+    sym wrote ∙ performed R x.event.actor w.at by.access by.did t by.does (place ∙ e)
+
+abbrev AllMakingsWrote : List Entry → Type 0
+AllMakingsWrote [] = Unit {0}
+AllMakingsWrote (x ∷ xs) = MakingWrote x × AllMakingsWrote xs
+
+makings_wrote : (R : ℕ) (w : World) (xs : List Entry) → IsRunFrom R w xs → AllMakingsWrote xs
+makings_wrote R w [] h = tt
+makings_wrote R w (x ∷ xs) h =
+    let first = first_step R w x xs h in
+    (making_wrote R w first.after x first.goes, makings_wrote R first.after xs first.rest)
+
+makings_before : (xs ys : List Entry) → AllMakingsWrote (xs ++ ys) → AllMakingsWrote xs
+makings_before [] ys h = tt
+makings_before (x ∷ xs) ys h = (h.0, makings_before xs ys h.1)
+
+making_at : (xs : List Entry) (y : Entry) (ys : List Entry) → AllMakingsWrote (xs ++ y ∷ ys) → MakingWrote y
+making_at [] y ys h = h.0
+making_at (x ∷ xs) y ys h = making_at xs y ys h.1
+
+-- Free and apart
+
+all_apart : (x : Entry) (ys : List Entry) → MakingWrote x → AllMakingsWrote ys → IsFree x ys → IsApartFrom x ys
+all_apart x [] made_x made_y h = tt
+all_apart x (y ∷ ys) made_x made_y h = (apart_of_free x y made_x made_y.0 h.0, all_apart x ys made_x made_y.1 h.1)
+
+all_free : (x : Entry) (ys : List Entry) → IsApartFrom x ys → IsFree x ys
+all_free x [] h = tt
+all_free x (y ∷ ys) h = (free_of_apart x y h.0, all_free x ys h.1)
+
+-- What is equivalent may be taken out, one step after another
+
+pub equivalent_taken : (R : ℕ) (w : World) (xs ys : List Entry) → IsRunFrom R w xs → IsRunFrom R w ys → IsEquivalent R w (events xs) (events ys) → TakesAll xs ys
+equivalent_taken R w [] ys runs_x runs_y h = no_events ys h
+equivalent_taken R w (x ∷ xs) ys runs_x runs_y h =
+    let c = comes_first R w x.event (events xs) ys runs_y h in
+    let first = first_step R w x xs runs_x in
+    let runs : IsRunFrom R w (c.may.earlier ++ c.may.entry ∷ c.may.later) = subst (λ (l : List Entry). IsRunFrom R w l) c.may.stands runs_y in
+    let to_front = front R w c.may.earlier c.may.entry c.may.later runs c.may.free in
+    let same : record { world = to_front.after; entry = c.may.entry } ≡ record { world = first.after; entry = x } =
+    as_stepped-same _ _ (sym to_front.goes ∙ ap (step R w) c.may.its_event ∙ first.goes) in
+    let there : c.stepped ≡ record { world = first.after; entry = x } = as_stepped-same _ _ (sym c.goes ∙ first.goes) in
+    let makings = makings_wrote R w (c.may.earlier ++ c.may.entry ∷ c.may.later) runs in
+    let left_runs : IsRunFrom R first.after c.left =
+    subst (λ (l : List Entry). IsRunFrom R first.after l) (sym c.may.leaves)
+    (subst (λ (s : Stepped). IsRunFrom R s.world (c.may.earlier ++ c.may.later)) same to_front.rest) in
+    (c.left,
+     record {
+       earlier = c.may.earlier;
+       entry = c.may.entry;
+       later = c.may.later;
+       stands = c.may.stands;
+       alike = alike-same x c.may.entry (sym (ap (λ (s : Stepped). s.entry) same));
+       apart =
+           all_apart c.may.entry c.may.earlier (making_at c.may.earlier c.may.entry c.may.later makings)
+           (makings_before c.may.earlier (c.may.entry ∷ c.may.later) makings) c.may.free;
+       leaves = c.may.leaves;
+     },
+     equivalent_taken R first.after xs c.left first.rest left_runs
+     (subst (λ (s : Stepped). IsEquivalent R s.world (events xs) (events c.left)) there c.on))
+
+-- and the way back
+
+taken_first : (x : Entry) (ys left : List Entry) → Takes x ys left → MayComeFirst x.event ys left
+taken_first x ys left t = record {
+  earlier = t.earlier;
+  entry = t.entry;
+  later = t.later;
+  stands = t.stands;
+  its_event = sym t.alike.event;
+  free = all_free t.entry t.earlier t.apart;
+  leaves = t.leaves;
+}
+
+compares_taken : (a b xs ys : List Entry) → Compares a b xs ys → TakesAll xs ys → Compares a b [] []
+compares_taken a b [] ys before h = subst (λ (l : List Entry). Compares a b [] l) h before
+compares_taken a b (x ∷ xs) ys before h = compares_taken a b xs h.0 (compares_more a b xs ys h.0 x before (taken_first x ys h.0 h.1)) h.2
+
+-- the answers
+
+pub agreeing_equivalent : (a b : List Entry) → AgreesFrom no_progress a b → DecidesEquivalence a b true
+agreeing_equivalent a b h R w runs_a runs_b =
+    let before = compares_taken a b a b (compares_all a b) (takes_all no_progress a b no_progress-is h) in
+    let same = compares_end a b [] before R w runs_a runs_b in
+    (λ yes. same.1 refl, λ equivalent. refl)
+
+pub differing_apart : (a b : List Entry) → (AgreesFrom no_progress a b → ⊥) → DecidesEquivalence a b false
+differing_apart a b h R w runs_a runs_b =
+    (λ yes. cc, λ equivalent. absurd (h (agrees no_progress a b (equivalent_taken R w a b runs_a runs_b equivalent))))

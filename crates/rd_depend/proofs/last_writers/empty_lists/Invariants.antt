@@ -1,0 +1,9 @@
+use Rattle.std.proofs.Common.{◌≡◌, ℕ, [], length}
+use Rattle.rd_depend.specs.Lists.{list_at}
+use Rattle.rd_depend.proofs.last_writers.empty_lists.Given as goal
+
+abbrev pub invariant-loop-actor : goal.invariant-loop-actor
+invariant-loop-actor l = record {
+  number : length l.lists.items ≡ l._actor;
+  empty : (n : ℕ) → list_at l.lists.items n ≡ [];
+}
