@@ -86,9 +86,10 @@ NoneWrote k (x ∷ xs) = (wrote_under k x.place x.wrote ≡ true → ⊥) × Non
 
 none_wrote : (s t : Progress) (xs : List Entry) (k : Key) → Grown s t → (IsNew s ((progress_after t xs).last k) → ⊥) → NoneWrote k xs
 none_wrote s t [] k grown never = tt
-none_wrote s t (x ∷ xs) k grown never =
-    (λ wrote. never (stays_new s (next t x) xs k (grown-next s t x grown) (new_there s t x k grown wrote)),
-     none_wrote s (next t x) xs k (grown-next s t x grown) never)
+none_wrote s t (x ∷ xs) k grown never = (
+  λ wrote. never (stays_new s (next t x) xs k (grown-next s t x grown) (new_there s t x k grown wrote)),
+  none_wrote s (next t x) xs k (grown-next s t x grown) never,
+)
 
 -- whatever a step at this place that touched under the key was found to find, it is new
 abbrev FindsNew : Progress → Key → Compared → Type 0
@@ -100,9 +101,10 @@ AllFindNew s k (c ∷ cs) = FindsNew s k c × AllFindNew s k cs
 
 all_find_new : (s t : Progress) (xs : List Entry) (k : Key) → Grown s t → IsNew s (t.last k) → AllFindNew s k (all_compared t xs)
 all_find_new s t [] k grown new = tt
-all_find_new s t (x ∷ xs) k grown new =
-    (λ f h touched. subst (λ (o : Option StepName). IsNew s o) (same-writers_found t.last f x.place k h touched) new,
-     all_find_new s (next t x) xs k (grown-next s t x grown) (new_stays s t x k grown new))
+all_find_new s t (x ∷ xs) k grown new = (
+  λ f h touched. subst (λ (o : Option StepName). IsNew s o) (same-writers_found t.last f x.place k h touched) new,
+  all_find_new s (next t x) xs k (grown-next s t x grown) (new_stays s t x k grown new),
+)
 
 some_find_new : (s : Progress) (k : Key) (n : ℕ) (c : Compared) (cs : List Compared) (b : Bool) → FindsNew s k c
     → AllFindNew s k (of_actor n cs) → AllFindNew s k (if b then c ∷ of_actor n cs else of_actor n cs)
@@ -130,27 +132,29 @@ rest_new s k c rest false h = h
 
 others_find_new : (s : Progress) (k : Key) (a : ℕ) (cs : List Compared) → ((n : ℕ) → n ≢ a → AllFindNew s k (of_actor n cs)) → OthersFindNew s k a cs
 others_find_new s k a [] h = tt
-others_find_new s k a (c ∷ cs) h =
-    (λ other. first_new s k c (of_actor c.event.actor cs) (c.event.actor == c.event.actor) (eq-eqb c.event.actor c.event.actor refl) (h c.event.actor other),
-     others_find_new s k a cs (λ n other. rest_new s k c (of_actor n cs) (n == c.event.actor) (h n other)))
+others_find_new s k a (c ∷ cs) h = (
+  λ other. first_new s k c (of_actor c.event.actor cs) (c.event.actor == c.event.actor) (eq-eqb c.event.actor c.event.actor refl) (h c.event.actor other),
+  others_find_new s k a cs (λ n other. rest_new s k c (of_actor n cs) (n == c.event.actor) (h n other)),
+)
 
 -- a step is apart from those before it that the other list has behind it
 apart_from : (s t : Progress) (y : Entry) (xs rest : List Entry) → IsProgress s → ((k : Key) → is_under k y.place ≡ true → t.last k ≡ s.last k)
     → ((k : Key) → is_under k y.place ≡ true → NoneWrote k xs) → HasNoneBy y.event.actor xs
     → ((k : Key) → wrote_under k y.place y.wrote ≡ true → OthersFindNew s k y.event.actor (all_compared t (xs ++ rest))) → IsApartFrom y xs
 apart_from s t y [] rest is same none others new = tt
-apart_from s t y (x ∷ xs) rest is same none others new =
-    (record {
-      actors = others.0;
-      first = λ k wrote touched.
-          never_new s k is
-          (subst (λ (o : Option StepName). IsNew s o) (same k (wrote_touched k y.place y.wrote wrote))
-          ((new k wrote).0 (λ e. others.0 (sym e)) t.last refl touched));
-      second = λ k touched wrote. (none k touched).0 wrote;
-    },
-    apart_from s (next t x) y xs rest is
-    (λ k touched. unwritten t x k (none k touched).0 ∙ same k touched)
-    (λ k touched. (none k touched).1) others.1 (λ k wrote. (new k wrote).1))
+apart_from s t y (x ∷ xs) rest is same none others new = (
+  record {
+    actors = others.0;
+    first = λ k wrote touched.
+        never_new s k is
+        (subst (λ (o : Option StepName). IsNew s o) (same k (wrote_touched k y.place y.wrote wrote))
+        ((new k wrote).0 (λ e. others.0 (sym e)) t.last refl touched));
+    second = λ k touched wrote. (none k touched).0 wrote;
+  },
+  apart_from s (next t x) y xs rest is
+      (λ k touched. unwritten t x k (none k touched).0 ∙ same k touched)
+      (λ k touched. (none k touched).1) others.1 (λ k wrote. (new k wrote).1),
+)
 
 -- The first step of an actor
 
@@ -232,15 +236,15 @@ first_taken s x xs ys is agrees f =
           (λ new. never_new s k is (subst (λ (o : Option StepName). IsNew s o) (same-writers_found (progress_after s f.earlier).last s.last f.entry.place k finds touched) new)))
           (subst (λ (n : ℕ). HasNoneBy n f.earlier) its f.none)
           (λ k wrote.
-              let wrote_x : wrote_under k x.place x.wrote ≡ true = (λ i. wrote_under k (alike.place i) (alike.wrote i)) ∙ wrote in
-              others_find_new s k f.entry.event.actor (all_compared s (f.earlier ++ f.entry ∷ f.later))
-              (λ n other.
-                  let there : of_actor n (all_compared (next s x) xs) ≡ of_actor n (all_compared s (f.earlier ++ f.entry ∷ f.later)) =
-                  sym (other_behind n (compared s x) (all_compared (next s x) xs) (λ e. other (e ∙ its))) ∙ agrees n
-                  ∙ ap (λ (l : List Entry). of_actor n (all_compared s l)) f.stands in
-                  subst (λ (l : List Compared). AllFindNew s k l) there
-                  (actor_finds_new s k n (all_compared (next s x) xs)
-                  (all_find_new s (next s x) xs k (grown-next s s x (λ m. omega arith)) (new_there s s x k (λ m. omega arith) wrote_x)))));
+          let wrote_x : wrote_under k x.place x.wrote ≡ true = (λ i. wrote_under k (alike.place i) (alike.wrote i)) ∙ wrote in
+          others_find_new s k f.entry.event.actor (all_compared s (f.earlier ++ f.entry ∷ f.later))
+          (λ n other.
+          let there : of_actor n (all_compared (next s x) xs) ≡ of_actor n (all_compared s (f.earlier ++ f.entry ∷ f.later)) =
+          sym (other_behind n (compared s x) (all_compared (next s x) xs) (λ e. other (e ∙ its))) ∙ agrees n
+          ∙ ap (λ (l : List Entry). of_actor n (all_compared s l)) f.stands in
+          subst (λ (l : List Compared). AllFindNew s k l) there
+          (actor_finds_new s k n (all_compared (next s x) xs)
+          (all_find_new s (next s x) xs k (grown-next s s x (λ m. omega arith)) (new_there s s x k (λ m. omega arith) wrote_x)))));
       leaves = refl;
     }
 
@@ -249,11 +253,13 @@ takes_all s [] ys is h = nothing_left s ys h
 takes_all s (x ∷ xs) ys is h =
     let f = first_of_actor s x.event.actor ys (compared s x) (of_actor x.event.actor (all_compared (next s x) xs))
     (sym (h x.event.actor) ∙ own_first (compared s x) (all_compared (next s x) xs)) in
-    let t = first_taken s x xs ys is h f in
-    (f.earlier ++ f.later, t,
-     takes_all (next s x) xs (f.earlier ++ f.later) (progress-next s x is)
-     (λ n.
-         of_actor-less n (compared s x) (all_compared (next s x) xs) (all_compared (next s x) (f.earlier ++ f.later))
-         (h n ∙ ap (λ (l : List Entry). of_actor n (all_compared s l)) t.stands
-         ∙ goes_first s n t.earlier t.entry t.later t.apart
-         ∙ sym (λ i. of_actor n (compared-alike s x t.entry t.alike i ∷ all_compared (next-alike s x t.entry t.alike i) (t.leaves i))))))
+    let t = first_taken s x xs ys is h f in (
+      f.earlier ++ f.later,
+      t,
+      takes_all (next s x) xs (f.earlier ++ f.later) (progress-next s x is)
+          (λ n.
+          of_actor-less n (compared s x) (all_compared (next s x) xs) (all_compared (next s x) (f.earlier ++ f.later))
+          (h n ∙ ap (λ (l : List Entry). of_actor n (all_compared s l)) t.stands
+          ∙ goes_first s n t.earlier t.entry t.later t.apart
+          ∙ sym (λ i. of_actor n (compared-alike s x t.entry t.alike i ∷ all_compared (next-alike s x t.entry t.alike i) (t.leaves i))))),
+    )

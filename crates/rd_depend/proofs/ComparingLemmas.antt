@@ -200,7 +200,7 @@ taken_apart b k d within = sym (take-append-drop k b) ∙ ap (λ (l : List Entry
 
 differs_at : (a b : List Entry) (k : ℕ) (d : Entry) → k < length b
     → (slice_get (of_actor (get_or b k d).event.actor (all_compared no_progress a)) ((progress_after no_progress (take k b)).made (get_or b k d).event.actor)
-      ≡ Some (compared (progress_after no_progress (take k b)) (get_or b k d)) → ⊥)
+    ≡ Some (compared (progress_after no_progress (take k b)) (get_or b k d)) → ⊥)
     → DecidesEquivalence a b false
 differs_at a b k d within never =
     differing_apart a b
@@ -209,7 +209,7 @@ differs_at a b k d within never =
 
 agrees_at : (a b : List Entry) (k : ℕ) (d : Entry) → k < length b → AgreesSoFar a (take k b)
     → slice_get (of_actor (get_or b k d).event.actor (all_compared no_progress a)) ((progress_after no_progress (take k b)).made (get_or b k d).event.actor)
-      ≡ Some (compared (progress_after no_progress (take k b)) (get_or b k d))
+    ≡ Some (compared (progress_after no_progress (take k b)) (get_or b k d))
     → AgreesSoFar a (take (k + 1) b)
 agrees_at a b k d within h at = subst (λ (l : List Entry). AgreesSoFar a l) (sym (take_more b k d within)) (agrees_more a (take k b) (get_or b k d) h at)
 
@@ -284,6 +284,7 @@ pub decided_at : (a b : List Entry) (k : ℕ) (p q : Progress) (same : Bool) →
 decided_at a b k p q same agrees h g all is =
     let whole : take k b ≡ b = take_all k b all in
     let one : p ≡ progress_after no_progress b = h ∙ ap (progress_after no_progress) whole in
-    decided a b same (subst (λ (l : List Entry). AgreesSoFar a l) whole agrees)
-    (λ t n. sym (ap (λ (r : Progress). r.made n) one) ∙ is.0 t n ∙ ap (λ (r : Progress). r.made n) g,
-     λ t. is.1 (λ n. ap (λ (r : Progress). r.made n) one ∙ t n ∙ sym (ap (λ (r : Progress). r.made n) g)))
+    decided a b same (subst (λ (l : List Entry). AgreesSoFar a l) whole agrees) (
+      λ t n. sym (ap (λ (r : Progress). r.made n) one) ∙ is.0 t n ∙ ap (λ (r : Progress). r.made n) g,
+      λ t. is.1 (λ n. ap (λ (r : Progress). r.made n) one ∙ t n ∙ sym (ap (λ (r : Progress). r.made n) g)),
+    )

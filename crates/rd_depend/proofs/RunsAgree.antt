@@ -101,21 +101,22 @@ equivalent_taken R w (x ∷ xs) ys runs_x runs_y h =
     let makings = makings_wrote R w (c.may.earlier ++ c.may.entry ∷ c.may.later) runs in
     let left_runs : IsRunFrom R first.after c.left =
     subst (λ (l : List Entry). IsRunFrom R first.after l) (sym c.may.leaves)
-    (subst (λ (s : Stepped). IsRunFrom R s.world (c.may.earlier ++ c.may.later)) same to_front.rest) in
-    (c.left,
-     record {
-       earlier = c.may.earlier;
-       entry = c.may.entry;
-       later = c.may.later;
-       stands = c.may.stands;
-       alike = alike-same x c.may.entry (sym (ap (λ (s : Stepped). s.entry) same));
-       apart =
-           all_apart c.may.entry c.may.earlier (making_at c.may.earlier c.may.entry c.may.later makings)
-           (makings_before c.may.earlier (c.may.entry ∷ c.may.later) makings) c.may.free;
-       leaves = c.may.leaves;
-     },
-     equivalent_taken R first.after xs c.left first.rest left_runs
-     (subst (λ (s : Stepped). IsEquivalent R s.world (events xs) (events c.left)) there c.on))
+    (subst (λ (s : Stepped). IsRunFrom R s.world (c.may.earlier ++ c.may.later)) same to_front.rest) in (
+      c.left,
+      record {
+        earlier = c.may.earlier;
+        entry = c.may.entry;
+        later = c.may.later;
+        stands = c.may.stands;
+        alike = alike-same x c.may.entry (sym (ap (λ (s : Stepped). s.entry) same));
+        apart =
+            all_apart c.may.entry c.may.earlier (making_at c.may.earlier c.may.entry c.may.later makings)
+            (makings_before c.may.earlier (c.may.entry ∷ c.may.later) makings) c.may.free;
+        leaves = c.may.leaves;
+      },
+      equivalent_taken R first.after xs c.left first.rest left_runs
+          (subst (λ (s : Stepped). IsEquivalent R s.world (events xs) (events c.left)) there c.on),
+    )
 
 -- and the way back
 

@@ -26,9 +26,9 @@ under_one k None h = absurd (false≢true (sym (none_under k) ∙ h))
 under_one k (Some p) h =
     elim (or_cases (is_that k (place_key (Some p)) || is_that k (value_key (Some p))) (is_that k (segment_key (Some p))) (sym (all_three p k) ∙ h)) [
       | inl a ↦ elim (or_cases (is_that k (place_key (Some p))) (is_that k (value_key (Some p))) a) [
-          | inl b ↦ inl (that-true k (place_key (Some p)) b)
-          | inr b ↦ inr (inl (that-true k (value_key (Some p)) b))
-        ]
+        | inl b ↦ inl (that-true k (place_key (Some p)) b)
+        | inr b ↦ inr (inl (that-true k (value_key (Some p)) b))
+      ]
       | inr a ↦ inr (inr (that-true k (segment_key (Some p)) a))
     ]
 

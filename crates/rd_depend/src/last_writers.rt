@@ -244,7 +244,9 @@ fn is_same_access(a: &Compared, b: &Compared) -> bool
 fn is_same_found(a: Found, b: Found) -> bool
     ensures { IsTrue result ↔ (a ≡ b) }
 {
-    is_same_name(a.place, b.place) && is_same_name(a.value, b.value) && is_same_name(a.segment, b.segment)
+    is_same_name(a.place, b.place)
+        && is_same_name(a.value, b.value)
+        && is_same_name(a.segment, b.segment)
 }
 
 /// Whether the two are one step, or none.

@@ -7,12 +7,12 @@
 #![tactic(auto)]
 
 mod beginnings;
-pub mod dependence;
-pub mod equivalence;
-pub mod index;
+mod dependence;
+mod equivalence;
+mod index;
 mod last_writers;
 pub mod laws;
-pub mod moves;
+mod moves;
 
 pub use dependence::{depends, first_dependant};
 pub use equivalence::are_equivalent;

@@ -5,8 +5,7 @@ mod index;
 
 use rd_actor::{Act, Actor};
 use rd_cell::{Answer, Place, SegName, Wrote};
-use rd_depend::dependence::{depends, first_dependant};
-use rd_depend::moves::move_before;
+use rd_depend::{depends, first_dependant, move_before};
 use rd_step::{Entry, Event};
 use std::process::Abort;
 use std::test::Fail;

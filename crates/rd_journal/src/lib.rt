@@ -8,10 +8,10 @@
 
 mod indexed_records;
 pub mod laws;
-pub mod live_records;
+mod live_records;
 mod records;
 mod scans;
-pub mod sessions;
+mod sessions;
 
 pub use live_records::LiveRecords;
 pub use sessions::Session;

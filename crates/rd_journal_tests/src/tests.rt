@@ -14,7 +14,7 @@ mod whole_runs;
 
 use rd_actor::{Act, Actor, OpReply, Pc};
 use rd_cell::{Answer, Content, Place, Refusal, Wrote};
-use rd_journal::sessions::Session;
+use rd_journal::Session;
 use rd_step::Event;
 use std::process::Abort;
 

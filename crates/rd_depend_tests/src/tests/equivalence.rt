@@ -3,8 +3,7 @@
 use super::index::Draws;
 use rd_actor::{Act, Pc};
 use rd_cell::Refusal;
-use rd_depend::dependence::depends;
-use rd_depend::equivalence::are_equivalent;
+use rd_depend::{are_equivalent, depends};
 use rd_step::{Entry, Event, World};
 use std::alloc::Global;
 use std::test::Fail;

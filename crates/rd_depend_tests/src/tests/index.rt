@@ -1,13 +1,14 @@
 //! Tests of the index: whatever is pushed, taken from the end or taken out, the first dependants and the last writers that it
 //! finds are those of a scan.
 
-ghost use Rattle.rd_depend.specs.Index.{IsIndexOf};
+ghost use Rattle.std.specs.Prelude.{List};
+ghost use Rattle.rd_step.specs.declared.entries.Entry.{Entry as Record};
+ghost use Rattle.rd_depend.specs.Index.{IsIndexOf, HasRoomFor};
 
 use super::{Access, MADE, OTHER, record};
 use rd_cell::limits::MOST_STEPS;
 use rd_cell::{Place, Wrote, overlaps};
-use rd_depend::dependence::first_dependant;
-use rd_depend::index::{DependIndex, Probes};
+use rd_depend::{DependIndex, Probes, first_dependant};
 use rd_step::Entry;
 use std::alloc::Global;
 use std::process::Abort;
@@ -22,7 +23,7 @@ struct Both {
 }
 
 impl Both {
-    ghost use Rattle.std.specs.Prelude.{◌≡◌, ◌<◌, ◌≤◌, length};
+    ghost use Rattle.std.specs.Prelude.{◌≡◌, ◌<◌, ◌≤◌, length, OnOk};
 
     /// No entry.
     fn new(alloc: Global) -> Both {
@@ -43,7 +44,9 @@ impl Both {
     }
 
     /// Takes the last entry away, if there is one.
-    fn pop(&mut self) {
+    fn pop(&mut self)
+        ensures { (rest : List Record) → HasRoomFor self.old.index rest → HasRoomFor self.new.index rest }
+    {
         if let Some(entry) = self.entries.pop() {
             self.index.pop(&entry);
         }
@@ -57,13 +60,31 @@ impl Both {
         }
     }
 
-    /// Makes room for these, if they are not too many.
-    fn make_room(&mut self, entries: &[Entry]) -> Result<(), Fail> {
+    /// Makes room for these; if they are too many, the test ends.
+    fn make_room(&mut self, entries: &[Entry]) -> Result<(), Fail>
+        ensures { OnOk result (HasRoomFor self.new.index entries.now) }
+    {
         let len = self.entries.len();
-        if len <= MOST_STEPS && entries.len() <= MOST_STEPS - len {
-            self.index.make_room(entries)?;
+        if len > MOST_STEPS || entries.len() > MOST_STEPS - len {
+            return Err(Fail::new("too many entries"));
         }
+        self.index.make_room(entries)?;
         Ok(())
+    }
+
+    /// Makes room for these entries, takes so many others from the end, and pushes these. Gives how many positions there are then.
+    fn push_after_pops(self, entries: &[Entry], pops: usize) -> Result<u64, Fail> {
+        let mut both = self;
+        both.make_room(entries)?;
+        for _ in 0..pops {
+            both.pop();
+        }
+        let Both {
+            mut index,
+            entries: _entries,
+        } = both;
+        push_in_room(&mut index, entries);
+        Ok(index.len())
     }
 
     /// Compares the first dependant of the entry of this index with what the scan finds; gives the probes.
@@ -110,6 +131,22 @@ impl Both {
         self.compare_writers(rt, self.entries.len() / 2);
         for at in 0..self.entries.len() {
             assert!(rt; self.compare(rt, at) <= 96);
+        }
+    }
+}
+
+/// Pushes these entries, for which there is room. None is refused, whatever memory there is: it is proved that the arm of a refusal
+/// can't be reached. It stops where the index has as many positions as there may be.
+fn push_in_room(index: &mut DependIndex, entries: &[Entry])
+    requires { HasRoomFor index.old entries.now }
+{
+    for at in 0..entries.len() {
+        if index.len() >= MOST_STEPS as u64 {
+            return;
+        }
+        match index.push(&entries[at]) {
+            Ok(()) => {}
+            Err(_) => unreachable!(),
         }
     }
 }
@@ -269,5 +306,20 @@ fn room_that_was_made_is_there_for_the_entries(rt: HostRuntime) -> Result<(), Fa
         both.push(entry)?;
     }
     both.compare_all(&rt);
+    Ok(())
+}
+
+#[test]
+fn entries_with_room_are_not_refused_after_pops(rt: HostRuntime) -> Result<(), Fail> {
+    let entries = WHOLE.map(record);
+    for pops in 0..WHOLE.len() + 1 {
+        let mut both = Both::new(rt.alloc());
+        for entry in entries {
+            both.push(entry)?;
+        }
+        let kept = WHOLE.len() - pops;
+        let len = both.push_after_pops(&entries, pops)?;
+        assert_eq!(rt; len, (kept + WHOLE.len()) as u64, "after {pops} pops");
+    }
     Ok(())
 }

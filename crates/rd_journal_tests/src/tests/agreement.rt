@@ -5,7 +5,7 @@ use super::long_runs::call;
 use super::switching::{live_records, step_all_again};
 use rd_cell::Refusal;
 use rd_depend::first_dependant;
-use rd_journal::sessions::Session;
+use rd_journal::Session;
 use rd_step::Entry;
 use std::alloc::Global;
 use std::test::Fail;

@@ -3,7 +3,7 @@
 
 use rd_actor::{Act, Actor, Op, OpReply, Pc};
 use rd_cell::{Answer, Cell, Content, Place, Refusal, SegName, Wrote};
-use rd_journal::sessions::Session;
+use rd_journal::Session;
 use rd_step::{Entry, Event, World};
 use std::alloc::Global;
 use std::process::Abort;

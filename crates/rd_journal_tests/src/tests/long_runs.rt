@@ -6,7 +6,7 @@ ghost use Rattle.rd_step.specs.Prelude.{MOST_CELLS};
 use super::lone_undo::{choice, next};
 use rd_actor::Pc;
 use rd_cell::Refusal;
-use rd_journal::sessions::Session;
+use rd_journal::Session;
 use rd_step::{Event, World};
 use std::alloc::Global;
 use std::test::Fail;

@@ -7,7 +7,7 @@ use super::lone_undo::{
 };
 use rd_actor::Act;
 use rd_cell::{Answer, Content, Place, Refusal, SegName, Wrote};
-use rd_journal::sessions::Session;
+use rd_journal::Session;
 use rd_step::{Event, World};
 use std::alloc::Global;
 use std::process::Abort;

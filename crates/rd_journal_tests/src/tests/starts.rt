@@ -3,7 +3,7 @@
 use super::lone_undo::{Line, Reply, STEPS, is_stepped_afresh, mixed_run, same_world, walk};
 use rd_actor::Act;
 use rd_cell::Refusal;
-use rd_journal::sessions::Session;
+use rd_journal::Session;
 use rd_step::{Event, World};
 use std::alloc::Global;
 use std::process::Abort;

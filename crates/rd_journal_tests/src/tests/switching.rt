@@ -5,7 +5,7 @@ ghost use Rattle.rd_journal.specs.Sessions.{journal};
 
 use super::lone_undo::{STEPS, is_stepped_afresh, mixed_run};
 use rd_cell::Refusal;
-use rd_journal::sessions::Session;
+use rd_journal::Session;
 use rd_step::Entry;
 use std::alloc::{AllocError, Global};
 use std::test::Fail;

@@ -3,7 +3,7 @@
 use super::{Line, Move, applied, play};
 use rd_actor::{Act, Pc};
 use rd_cell::{Content, Place, Refusal, SegName};
-use rd_journal::sessions::Session;
+use rd_journal::Session;
 use rd_step::World;
 use std::test::Fail;
 

@@ -5,7 +5,7 @@ ghost use Rattle.std.specs.Prelude.{◌≤◌};
 use super::{Line, Move, applied, play, stands};
 use rd_actor::{Act, Actor, OpReply, Pc};
 use rd_cell::{Answer, ArrSlot, Cell, Content, Place, Refusal, SegName, Wrote};
-use rd_journal::sessions::Session;
+use rd_journal::Session;
 use rd_step::World;
 use std::alloc::Global;
 use std::process::Abort;

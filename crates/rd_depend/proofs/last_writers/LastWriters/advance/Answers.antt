@@ -16,8 +16,8 @@ returns c =
     ∙ advanced s x last.made (progress_of c.put.new.self).last (progress_of c.put-2.new.self).last (progress_of last).last
     (λ n. ap (λ (l : List ℕ). get_or l n 0) same) within
     (λ k. c.in_ok-put.ensures.ok k
-        ∙ (λ i. overwritten (c.written_key.ensures i) (record { actor = x.event.actor; number = c.made.ensures i }) s.last k))
+    ∙ (λ i. overwritten (c.written_key.ensures i) (record { actor = x.event.actor; number = c.made.ensures i }) s.last k))
     (λ k. c.in_ok-put-2.ensures.ok k
-        ∙ (λ i. overwritten (c.written_value_key.ensures i) (record { actor = x.event.actor; number = c.made.ensures i }) (progress_of c.put.new.self).last k))
+    ∙ (λ i. overwritten (c.written_value_key.ensures i) (record { actor = x.event.actor; number = c.made.ensures i }) (progress_of c.put.new.self).last k))
     (λ k. c.in_ok-put-3.ensures.ok k
-        ∙ (λ i. overwritten (c.made_key.ensures i) (record { actor = x.event.actor; number = c.made.ensures i }) (progress_of c.put-2.new.self).last k))
+    ∙ (λ i. overwritten (c.made_key.ensures i) (record { actor = x.event.actor; number = c.made.ensures i }) (progress_of c.put-2.new.self).last k))

@@ -21,11 +21,11 @@ returns-clause-ok c =
     ap items_of (slice_get-get_or lists x.event.actor old within) ∙ ap (λ (l : Vec Compared Global). l.items) there in
     on_ok_weaker c.advance.result
     (λ on. λ es are.
-        let step : c.compared-step.result ≡ compared (progress_after no_progress es) x = c.compared-step.ensures ∙ ap (λ (s : Progress). compared s x) are.progress in
-        record {
-          lists = λ n.
-              ap (λ (k : ℕ). list_at (set lists k new) n) c.from.ensures
-              ∙ pushed lists new es x n are.lists within (c.in_ok-push.ensures.items ∙ (λ i. sym before i ++ step i ∷ []));
-          progress = on ∙ ap (λ (s : Progress). next s x) are.progress ∙ sym (progress_after-more no_progress es x);
-        })
+    let step : c.compared-step.result ≡ compared (progress_after no_progress es) x = c.compared-step.ensures ∙ ap (λ (s : Progress). compared s x) are.progress in
+    record {
+      lists = λ n.
+          ap (λ (k : ℕ). list_at (set lists k new) n) c.from.ensures
+          ∙ pushed lists new es x n are.lists within (c.in_ok-push.ensures.items ∙ (λ i. sym before i ++ step i ∷ []));
+      progress = on ∙ ap (λ (s : Progress). next s x) are.progress ∙ sym (progress_after-more no_progress es x);
+    })
     c.advance.ensures
