@@ -1,14 +1,13 @@
 -- What moves, events and marks are answered, from what the calls say of their results.
-use Rattle.std.proofs.Common.{◌≡◌, ℕ, ◌⊎◌, inl, inr, sym, ap, ◌∙◌, length, Option, Result, Ok, Err, OnOk, OnErr, IfErr}
-use Rattle.rd_step.specs.Prelude.{Refusal, NoMemory, OpReply}
+use Rattle.std.proofs.Common.{◌≡◌, ℕ, sym, ap, ◌∙◌, length, Option, Result, Ok, Err, OnOk, OnErr, IfErr}
+use Rattle.rd_step.specs.Prelude.{Refusal, OpReply}
 use Rattle.rd_step.specs.declared.entries.Event.{Event}
 use Rattle.rd_journal.specs.Journal.{Journal}
-use Rattle.rd_journal.specs.Room.{MayBeOutOfMemory}
 use Rattle.rd_journal.specs.State.{State, state_of, apply, reply_to}
 use Rattle.rd_marks.specs.declared.replies.Reply.{Reply}
 use Rattle.rd_marks.specs.declared.replies.Reply.TheVariants.{Applied}
 use Rattle.rd_marks.specs.Books.{BookState, with_session}
-use Rattle.rd_marks.specs.Commands.{step_counts, move_answer, event_answer, happens, Happened}
+use Rattle.rd_marks.specs.Commands.{step_counts, move_answer, event_answer, happens}
 
 -- a move through the run, as its call and the answer made of it say
 pub move_answered : (done : Result (Unit {0}) Refusal) (b : BookState) (i j : Journal) (moved : Result State Refusal) (answer : Result Reply Refusal)
@@ -28,12 +27,3 @@ pub event_happened : (R : ℕ) (b : BookState) (s : State) (e : Event) (n : ℕ)
 event_happened R b s e n reply ok len said =
     (λ k. record { answer = Ok (Applied (len k) (sym said k)); state = with_session b s })
     ∙ ap (event_answer b (reply_to R b.session e)) (sym ok)
-
--- an event that was refused
-pub event_refused : (R : ℕ) (b : BookState) (s : State) (e : Event) (refusal : Refusal) → s ≡ b.session
-    → (apply R b.session e ≡ Err refusal) ⊎ ((refusal ≡ NoMemory) × MayBeOutOfMemory R b.session e)
-    → Happened R b e (record { answer = Err refusal; state = with_session b s })
-event_refused R b s e refusal same (inl h) =
-    inl (ap (λ (t : State). record { answer = Err refusal; state = with_session b t }) same ∙ ap (event_answer b (reply_to R b.session e)) (sym h))
-event_refused R b s e refusal same (inr h) =
-    inr (h.1, (λ k. record { answer = Err (h.0 k); state = with_session b (same k) }))

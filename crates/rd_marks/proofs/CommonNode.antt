@@ -48,16 +48,6 @@ pub begins_all : {X : Type 0} (xs ys : List X) → Begins xs ys → length ys �
 begins_all xs ys h k = sym h ∙ take_all (length xs) ys k
 
 module _ (t : MarkTree) (rule : IsTree t) (one other : Option ℕ) where
-  pub at_first : IsIn t one → IsIn t other → IsAboveBoth t one other one other
-  at_first one_in other_in = record {
-    a_in = one_in;
-    b_in = other_in;
-    first = begins_itself (path_in t one);
-    second = begins_itself (path_in t other);
-    first_begins = λ h. (refl, h);
-    second_begins = λ h. (refl, h);
-  }
-
   -- what a node's parent has of what the node has
   pub record GoesUp (at : Option ℕ) : Type 0 where
     pub up_in : IsIn t (parent_in t at)

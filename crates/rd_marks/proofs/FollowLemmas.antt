@@ -105,10 +105,15 @@ one_up t rule (Some key) x is h =
     }
 
 -- one more record read, from the last one up
-pub read_on : (ps qs rs xs : List Entry) (x : Entry) → ps ≡ qs ++ x ∷ [] → xs ≡ ps ++ reverse rs → xs ≡ qs ++ reverse (rs ++ x ∷ [])
-read_on ps qs rs xs x h k =
-    k ∙ ap (λ (ys : List Entry). ys ++ reverse rs) h ∙ append_assoc qs (x ∷ []) (reverse rs)
-    ∙ ap (λ (ys : List Entry). qs ++ ys) (sym (reverse-append rs (x ∷ [])))
+pub read_on : {X : Type 0} (ps qs rs xs : List X) (x : X) → ps ≡ qs ++ x ∷ [] → xs ≡ ps ++ reverse rs → xs ≡ qs ++ reverse (rs ++ x ∷ [])
+read_on {X} ps qs rs xs x h k =
+    k ∙ ap (λ (ys : List X). ys ++ reverse rs) h ∙ append_assoc qs (x ∷ []) (reverse rs)
+    ∙ ap (λ (ys : List X). qs ++ ys) (sym (reverse-append rs (x ∷ [])))
+
+-- and its event
+pub event_read_on : (ps qs : List Entry) (rs es : List Event) (x : Entry) → ps ≡ qs ++ x ∷ [] → es ≡ events ps ++ reverse rs
+    → es ≡ events qs ++ reverse (rs ++ x.event ∷ [])
+event_read_on ps qs rs es x h k = read_on (events ps) (events qs) rs es x.event (ap events h ∙ map-append (λ (y : Entry). y.event) qs (x ∷ [])) k
 
 -- all of those behind the first
 pub all_read : (ps rs xs : List Entry) (n : ℕ) → length ps ≡ n → xs ≡ ps ++ reverse rs → reverse rs ≡ drop n xs

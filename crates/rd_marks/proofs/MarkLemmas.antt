@@ -9,7 +9,7 @@ use Rattle.rd_journal.specs.Journal.{events}
 use Rattle.rd_marks.specs.declared.names.MarkName.{MarkName}
 use Rattle.rd_marks.specs.Names.{same_name}
 use Rattle.std.proofs.lemmas.Bool.{cond-false, cond-true, or_cases, or_left, or_right, eq-eqb}
-use Rattle.std.proofs.lemmas.List.{length-map, map-append}
+use Rattle.std.proofs.lemmas.List.{length-map}
 use Rattle.std.proofs.lemmas.Option.{slice_get-map}
 use Rattle.rd_step.specs.Prelude.{Refusal, World, NoMark, NoMemory, MarkTaken, TooManyMarks}
 use Rattle.rd_journal.specs.State.{State}
@@ -62,25 +62,10 @@ module _ (t : MarkTree) (name : MarkName) where
         | false ↦ All-cons P m (remove_entry (same_name name) ms) (All-head P m ms h) (all_without P ms (All-tail P m ms h))
       ]
 
-  -- what is found has what holds of each entry
-  pub found_holds : (P : List Entry → Type 0) (ms : List (MarkName × Option ℕ)) (v : Option ℕ) → All (λ m. P (path_in t m.1)) ms
-      → lookup (same_name name) ms ≡ Some v → P (path_in t v)
-  found_holds P [] v all h = cc
-  found_holds P (m ∷ ms) v all h =
-      (elim (same_name name m.0) as (λ b. cond b (Some m.1) (lookup (same_name name) ms) ≡ Some v → P (path_in t v)) [
-        | true ↦ λ k. (let same : m.1 ≡ v = cc in subst (λ (x : Option ℕ). P (path_in t x)) same (All-head (λ n. P (path_in t n.1)) m ms all))
-        | false ↦ λ k. found_holds P ms v (All-tail (λ n. P (path_in t n.1)) m ms all) k
-      ]) h
-
   -- and its events are those of the mark
   pub found_events : (ms : List (MarkName × Option ℕ)) (o : Option (Option ℕ)) → lookup (same_name name) ms ≡ o
       → marked_events (marks_of t ms) name ≡ option_map (λ v. events (path_in t v)) o
   found_events ms o h = sym (lookup_events ms) ∙ ap (option_map (λ v. events (path_in t v))) h
-
-  -- also as a slice
-  pub as_found : (ms : List (MarkName × Option ℕ)) (v : Option ℕ) (xs : List Entry) → lookup (same_name name) ms ≡ Some v → xs ≡ path_in t v
-      → marked_events (marks_of t ms) name ≡ Some (events xs)
-  as_found ms v xs h e = found_events ms (Some v) h ∙ ap (λ (ys : List Entry). Some (events ys)) (sym e)
 
   -- a new name goes last
   insert_last : (v : Option ℕ) (ms : List (MarkName × Option ℕ)) → is_some (marked_events (marks_of t ms) name) ≡ false
@@ -92,13 +77,6 @@ module _ (t : MarkTree) (name : MarkName) where
         | true ↦ λ k. absurd (true≢false k)
         | false ↦ λ k. ap (λ (rest : List (MarkName × Option ℕ)). m ∷ rest) (insert_last v ms k)
       ]) h
-
-  -- its mark is the last one
-  pub marks_put : (v : Option ℕ) (ms es : List (MarkName × Option ℕ)) (live : List Event) → is_some (marked_events (marks_of t ms) name) ≡ false
-      → es ≡ insert_entry same_name ms name v → events (path_in t v) ≡ live → marks_of t es ≡ marks_of t ms ++ record { name = name; events = live } ∷ []
-  marks_put v ms es live new e k =
-      ap (marks_of t) (e ∙ insert_last v ms new) ∙ map-append (λ m. mark_of t m) ms ((name, v) ∷ [])
-      ∙ ap (λ (evs : List Event). marks_of t ms ++ record { name = name; events = evs } ∷ []) k
 
   -- the entries then
   pub entries_put : (v : Option ℕ) (ms es : List (MarkName × Option ℕ)) → is_some (marked_events (marks_of t ms) name) ≡ false
@@ -142,12 +120,6 @@ mark_goes b name new few =
     let done : Result BookState Refusal = Ok (with_marks b (b.marks ++ record { name = name; events = b.session.live } ∷ [])) in
     cond-false (is_some (marked_events b.marks name)) (Err MarkTaken) (if length b.marks == MOST_MARKS then Err TooManyMarks else done) new
     ∙ cond-false (length b.marks == MOST_MARKS) (Err TooManyMarks) done no
-
--- then only memory can be refused
-pub only_memory : {X : Type 0} (r : Result X Refusal) (b c : BookState) (made : Result BookState Refusal) → made ≡ Ok c → IfErr r (λ refusal. refusal ≡ NoMemory)
-    → IfErr r (λ refusal. (made ≡ Err refusal) ⊎ ((refusal ≡ NoMemory) × IsOk made))
-only_memory (Ok x) b c made goes h = tt
-only_memory (Err e) b c made goes h = inr (h, subst (λ (m : Result BookState Refusal). IsOk m) (sym goes) refl)
 
 -- a mark is dropped if it is there
 pub drop_goes : (t : MarkTree) (b : BookState) (name : MarkName) (ms es : List (MarkName × Option ℕ)) → b.marks ≡ marks_of t ms → is_some (marked_events b.marks name) ≡ true

@@ -11,7 +11,7 @@ use Rattle.rd_marks.specs.declared.names.MarkName.{MarkName}
 use Rattle.rd_marks.specs.Books.{Mark, BookState, mark_events}
 use Rattle.rd_marks.specs.Marks.{mark_of, marks_of}
 use Rattle.rd_marks.specs.Tree.{MarkTree, IsTree, IsIn, depth_in, parent_in, entry_in, entry_of, path_in}
-use Rattle.rd_marks.proofs.TreeLemmas.{path_length, deep}
+use Rattle.rd_marks.proofs.TreeLemmas.{path_length, events_length, deep}
 use Rattle.rd_marks.proofs.FollowLemmas.{one_up}
 
 -- An event by its number in the path of a node
@@ -57,6 +57,10 @@ has_record t rule at is some none =
     let e : entry_in t at ≡ entry_of (t d.0) = ap (entry_in t) d.2 in
     let f : entry_of (t d.0) ≡ Some d.1.entry = ap entry_of d.3 in
     cc (none, e, f)
+
+-- a node whose path has no event is the root or as high
+pub no_depth : (t : MarkTree) (rule : IsTree t) (at : Option ℕ) → IsIn t at → events (path_in t at) ≡ [] → depth_in t at ≡ 0
+no_depth t rule at is none = sym (events_length t rule at is) ∙ ap length none
 
 -- The events of a bookmark
 

@@ -10,7 +10,7 @@ use Rattle.slab.specs.Slab.{Slab, get, Updates}
 use Rattle.rd_step.specs.declared.entries.Event.{Event}
 use Rattle.rd_step.specs.declared.entries.Entry.{Entry}
 use Rattle.rd_marks.specs.declared.tree.Node.{Node}
-use Rattle.rd_marks.specs.Tree.{TreeNode, MarkTree, depth_in, above, parent_in, entry_of, entry_in, IsChild, IsChildBy, HasChild, HasNoChildBy, ChangesAt}
+use Rattle.rd_marks.specs.Tree.{TreeNode, MarkTree, entry_of, entry_in, IsChild, IsChildBy, HasChild, HasNoChildBy, ChangesAt}
 use Rattle.rd_marks.specs.TreeLayout.{node_of, node_with, tree_of, AreRecorded, child_known, known_in, first_in, JoinsRow, IsKept}
 
 pub same_option : (a b : Option ℕ) → option_eq nat_eq a b ≡ true → a ≡ b
@@ -58,15 +58,6 @@ recorded_at nodes records recorded key n e =
     let x = element records key (recorded key n e) in
     record { its = x.0; kept = x.1; there = node_at nodes records key n x.0 e x.1 }
 
-pub depth_at : (nodes : Slab Node) (records : List Entry) → AreRecorded nodes records → (key : ℕ) (n : Node) → get nodes key ≡ Some n
-    → n.depth ≡ depth_in (tree_of nodes records) (Some key)
-depth_at nodes records recorded key n e =
-    sym (ap (λ (o : Option TreeNode). option_map_or (λ m. m.depth) o 0) (recorded_at nodes records recorded key n e).there)
-
-pub parent_at : (nodes : Slab Node) (records : List Entry) → AreRecorded nodes records → (key : ℕ) (n : Node) → get nodes key ≡ Some n
-    → n.parent ≡ parent_in (tree_of nodes records) (Some key)
-parent_at nodes records recorded key n e = sym (ap above (recorded_at nodes records recorded key n e).there)
-
 pub entry_at : (nodes : Slab Node) (records : List Entry) (key : ℕ) (n : Node) (x : Entry) → get nodes key ≡ Some n → slice_get records key ≡ Some x
     → Some x ≡ entry_in (tree_of nodes records) (Some key)
 entry_at nodes records key n x e k = sym (ap entry_of (node_at nodes records key n x e k))
@@ -92,14 +83,6 @@ child_by_tested nodes records key at f n x b e kept h q =
       λ k. record { node = node_of n x; there = there; below = same_option n.parent at h; its_event = q.0 k },
       λ k. q.1 (ap (λ (m : TreeNode). m.entry.event) (one_node (tree_of nodes records) key (node_of n x) k.node there k.there) ∙ k.its_event),
     )
-
--- a node with another parent is none
-pub other_parent : (nodes : Slab Node) (records : List Entry) → AreRecorded nodes records → (key : ℕ) (at : Option ℕ) (f : Event) (n : Node) → get nodes key ≡ Some n
-    → option_eq nat_eq n.parent at ≡ false → IsChildBy (tree_of nodes records) key at f → ⊥
-other_parent nodes records recorded key at f n e h k =
-    let x = recorded_at nodes records recorded key n e in
-    let same = one_option n.parent at (ap (λ (m : TreeNode). m.parent) (one_node (tree_of nodes records) key (node_of n x.its) k.node x.there k.there) ∙ k.below) in
-    true≢false (sym same ∙ h)
 
 -- A walk over a list of keys
 

@@ -1,7 +1,7 @@
 -- The records of a session's live steps, and that they are those of a run.
-use Rattle.std.proofs.Common.{◌≡◌, ℕ, zero, suc, drop, ◌+◌, ◌≤◌, refl, sym, ap, subst, ◌∙◌, List, [], ◌∷◌, ◌++◌, length, take, ◌-◌, Result, Ok, Err, OnOk, IfErr, length-drop, length-append, arith}
+use Rattle.std.proofs.Common.{◌≡◌, ℕ, zero, suc, drop, ◌+◌, ◌≤◌, refl, sym, ap, subst, ◌∙◌, List, [], ◌∷◌, ◌++◌, length, take, ◌-◌, Result, Ok, Err, OnOk, length-drop, length-append, arith}
 use Rattle.std.proofs.Math.Seq.{take-length, take-append_seam}
-use Rattle.rd_step.specs.Prelude.{Refusal, NoMemory, MOST_STEPS, World, Stepped, step, Ran, run}
+use Rattle.rd_step.specs.Prelude.{Refusal, MOST_STEPS, World, Stepped, step, Ran, run}
 use Rattle.rd_step.specs.Run.{run_preceded_by, run_from_step}
 use Rattle.rd_step.specs.declared.entries.Event.{Event}
 use Rattle.std.proofs.lemmas.List.{take-append-drop, drop-map}
@@ -20,11 +20,6 @@ take_events (suc n) (x ∷ xs) = ap (λ (es : List Event). x.event ∷ es) (take
 -- what records have in common at their beginning, their events have
 pub common_events : (n : ℕ) (es : List Event) (xs ys : List Entry) → events xs ≡ es → events (take n xs) ≡ events (take n ys) → take n es ≡ take n (events ys)
 common_events n es xs ys same h = ap (take n) (sym same) ∙ take_events n xs ∙ h ∙ sym (take_events n ys)
-
--- a refusal that says more says this
-pub only_refusal : {X : Type 0} (P : Type 0) (r : Result X Refusal) → IfErr r (λ refusal. (refusal ≡ NoMemory) × P) → IfErr r (λ refusal. refusal ≡ NoMemory)
-only_refusal P (Ok x) h = tt
-only_refusal P (Err e) h = h.0
 
 -- A start and its events determine the records of a run
 

@@ -10,10 +10,6 @@ use Rattle.rd_step.specs.declared.entries.Entry.{Entry}
 use Rattle.rd_marks.specs.Tree.{TreeNode, MarkTree, IsIn, depth_in, above, parent_in, HasChild, HasNoChildBy, IsTree, IsPartOf, ChangesAt}
 use Rattle.rd_marks.specs.TreeLayout.{AreLinked, IsRowUpTo, AreInRows, JoinsRow}
 
--- an element that is another passes no test for this one
-apart_some : (k key : ℕ) → (k ≡ key → ⊥) → Some k ≡ Some key → ⊥
-apart_some k key apart h = let same : k ≡ key = cc in apart same
-
 -- what is not there is not above anything that is
 not_there : (t : MarkTree) (key : ℕ) → t key ≡ None → (p : Option ℕ) → IsIn t p → p ≡ Some key → ⊥
 not_there t key none p is h = true≢false (sym (subst (λ (q : Option ℕ). IsIn t q) h is) ∙ ap is_some none)
@@ -67,9 +63,6 @@ module _ (t u : MarkTree) (key : ℕ) (rule : IsTree t) (leaf : HasChild t (Some
     few = λ k n e. rule.few k n (was_there k n e).0;
     different = λ k other n m e f parents events. rule.different k other n m (was_there k n e).0 (was_there other m f).0 parents events;
   }
-
-  pub is_part_without : IsPartOf u t
-  is_part_without k n e = (was_there k n e).0
 
   pub linked_without : (known known' : Option ℕ → Option ℕ) (forks : List ℕ) → ((p : Option ℕ) → (p ≡ Some key → ⊥) → known' p ≡ known p) → AreLinked t known forks
       → AreLinked u known' (filter (λ fork. not (fork == key)) forks)

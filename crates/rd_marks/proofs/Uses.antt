@@ -1,5 +1,5 @@
 -- Which nodes are used: by the slots, and by children and marks.
-use Rattle.std.proofs.Common.{◌≡◌, ◌||◌, ◌↔◌, ℕ, zero, suc, ◌<◌, inl, inr, Bool, true, false, true≢false, nat_eq, refl, sym, ap, ◌∙◌, subst, List, [], ◌∷◌, get_or, Option, Some, None, All, IsTrue, is_some, slice_get, take, arith}
+use Rattle.std.proofs.Common.{◌≡◌, ◌||◌, ℕ, zero, suc, ◌<◌, inl, inr, true, false, true≢false, nat_eq, refl, sym, ap, ◌∙◌, subst, List, [], ◌∷◌, get_or, Option, Some, None, All, is_some, slice_get, take, arith}
 use Rattle.std.specs.Option.{option_eq, option_map_or}
 use Rattle.std.specs.List.{list_any}
 use Rattle.std.proofs.lemmas.Bool.{cases_eq, or_cases, or_left, or_right, or_from, or_parts}
@@ -66,17 +66,6 @@ slots_from_used nodes records ms used key n e =
 
 -- A search for the marks
 
--- whether it is used, as its two tests say
-pub used_tested : (t : MarkTree) (ms : List (MarkName × Option ℕ)) (at : Option ℕ) (child mark : Bool) → (IsTrue child ↔ HasChild t at) → mark ≡ has_mark ms at
-    → child ≡ false → IsTrue mark ↔ IsUsed t ms at
-used_tested t ms at child mark h k none = (
-  λ m. inr (sym k ∙ m),
-  λ u. elim u [
-    | inl is ↦ absurd (true≢false (sym (h.1 is) ∙ none))
-    | inr marked ↦ k ∙ marked
-  ],
-)
-
 pub marked_at : (ms : List (MarkName × Option ℕ)) (at : Option ℕ) (i : ℕ) (m : MarkName × Option ℕ) → slice_get ms i ≡ Some m → option_eq nat_eq m.1 at ≡ true → has_mark ms at ≡ true
 marked_at [] at i m h k = cc
 marked_at (n ∷ ms) at zero m h k =
@@ -106,9 +95,6 @@ unmarked_apart (m ∷ ms) at h =
 -- what is left of a tree without a node that nothing uses
 module _ (t u : MarkTree) (ms : List (MarkName × Option ℕ)) (key : ℕ) (rule : IsTree t) (is : IsIn t (Some key)) (unused : IsUsed t ms (Some key) → ⊥)
     (change : ChangesAt t u key None) where
-  pub no_child_there : HasChild t (Some key) → ⊥
-  no_child_there h = unused (inl h)
-
   pub still_in : (at : Option ℕ) → (at ≡ Some key → ⊥) → IsIn t at → IsIn u at
   still_in None apart h = refl
   still_in (Some k) apart h = ap is_some (change.others k (λ e. apart (ap (λ (x : ℕ). Some x) e))) ∙ h

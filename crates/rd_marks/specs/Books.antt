@@ -1,5 +1,6 @@
 -- What a book is to its callers: its session's state, and a list of marks.
-use Rattle.std.specs.Prelude.{◌≡◌, ◌↔◌, IsTrue, Bool, ℕ, zero, suc, ◌==◌, if◌then◌else◌, is_some, List, [], ◌∷◌, ◌++◌, length, slice_get, option_map, Option, Some, None, Result, Ok, Err}
+use Rattle.std.specs.Prelude.{◌≡◌, ◌↔◌, IsTrue, Bool, ℕ, zero, suc, ◌==◌, if◌then◌else◌, is_some, List, [], ◌∷◌, ◌++◌, length, slice_get, option_map, Option, Some, None, Result, Ok, Err, Vec}
+use Rattle.std.specs.Global.{Global}
 use Rattle.rd_step.specs.Prelude.{World, Refusal, NoMark, MarkTaken, TooManyMarks, NoMemory}
 use Rattle.rd_step.specs.Equivalence.{IsEquivalent}
 use Rattle.rd_step.specs.declared.entries.Event.{Event}
@@ -84,10 +85,11 @@ event_in (Some es) n = event_at es n
 abbrev pub mark_event : BookState → ℕ → ℕ → Option Event
 mark_event b i n = event_in (mark_events b i) n
 
--- why the events of a mark are not had: there is no such mark, or, if there is, memory was refused
-abbrev pub LacksMark : Option (List Event) → Refusal → Type 0
-LacksMark None refusal = refusal ≡ NoMark
-LacksMark (Some es) refusal = refusal ≡ NoMemory
+-- what may be answered of the events of a mark: these; that there is no such mark; or, if it has any, that memory was refused
+abbrev pub AnswersEvents : Option (List Event) → Result (Vec Event Global) Refusal → Type 0
+AnswersEvents None said = said ≡ Err NoMark
+AnswersEvents (Some es) (Ok list) = list.items ≡ es
+AnswersEvents (Some es) (Err refusal) = (refusal ≡ NoMemory) × (es ≡ [] → ⊥)
 
 -- the book at its start: nothing is live and nothing is undone
 abbrev pub to_start : BookState → BookState

@@ -136,9 +136,8 @@ impl<const R: usize> Book<R> {
     ///
     /// # Errors
     ///
-    /// In this order: `NoMark` if there is none of that name; `NoMemory` if room for the steps that are made again was refused,
-    /// which is asked for before the first step is undone, so not if the live steps begin with the bookmark's. Nothing has changed
-    /// then.
+    /// In this order: `NoMark` if there is none of that name; `NoMemory` if room for the steps that are made again was refused, so not if
+    /// the live steps begin with the bookmark's. Nothing has changed then.
     pub fn goto_mark(&mut self, name: MarkName) -> Result<(), Refusal>
         ensures ok { OnOk result (goto_mark (book_state self.old) name ≡ Ok (book_state self.new)) }
         ensures err { IfErr result (λ refusal. (goto_mark (book_state self.old) name ≡ Err refusal)
@@ -189,7 +188,7 @@ impl<const R: usize> Book<R> {
         self.marks.len() as u64
     }
 
-    /// How many different lists there are that begin the steps of some bookmark, the empty one apart: so many records are
+    /// How many different lists there are that begin the steps of some bookmark, the empty one apart: so many nodes has the tree that is
     /// kept for the bookmarks. It takes no memory.
     pub fn nodes(&self) -> u64
         ensures { CountsBeginnings (book_state self.now).marks result }

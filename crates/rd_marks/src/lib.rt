@@ -4,11 +4,11 @@
 //! How a mark is kept is known here alone.
 #![tactic(auto)]
 
-pub mod books;
-pub mod commands;
+mod books;
+mod commands;
 mod marks;
-pub mod names;
-pub mod replies;
+mod names;
+mod replies;
 mod tree;
 
 pub use books::Book;

@@ -1,14 +1,14 @@
 -- The value in a cell: no step but a put gives the cell another one.
 use Rattle.std.proofs.Common.{◌≡◌, ◌⊎◌, ℕ, ◌+◌, Bool, true, false, ◌==◌, ◌&&◌, nat_lt, inl, inr, refl, sym, ◌∙◌, ap, subst, Option, Some, None, IfSome, Result, Ok, Err, IfOk}
 use Rattle.std.proofs.lemmas.Bool.{cases_Bool, cond_both, cond-false}
-use Rattle.rd_step.specs.Prelude.{COUNTER_END, SLOTS, MOST_SEGMENTS, Cell, SegName, Place, CellAt, ValAt, ArrCell, WholeOf, Empty as NobodyYet, Top, Held, Content, Name, Number, TailIs, NextIs, CellIs, ValIs, IdxIs, Slot, Operation, Access, Refusal, CounterEnd, ArrayEnd, Contents, covers, is_name, is_of, operand, Effect, effect, Performed, perform}
+use Rattle.rd_step.specs.Prelude.{COUNTER_END, SLOTS, Cell, SegName, Place, CellAt, ValAt, ArrCell, WholeOf, Empty as NobodyYet, Top, Held, Content, Name, Number, TailIs, NextIs, CellIs, ValIs, IdxIs, Slot, Operation, Access, Refusal, CounterEnd, ArrayEnd, Contents, covers, is_name, is_of, operand, Effect, effect, Performed, perform}
 use Rattle.rd_cell.specs.declared.operations.Operation.TheVariants.{Read, ReadValue, ReadSafeAndIndex, Add, AddArray, Close, CasName, CasNext, CasTail, Cas2, Swap}
 use Rattle.rd_cell.specs.declared.access.Access.TheVariants.{NoPlace, At, Make}
 use Rattle.rd_cell.specs.Cells.{is_cell, value_in_cell}
 use Rattle.rd_cell.specs.Places.{some_covers, written}
 use Rattle.rd_cell.specs.Contents.{share, after_write, after_write_at, holding}
 use Rattle.rd_cell.specs.Operations.{swaps, adds, wrote_content, wrote_by}
-use Rattle.rd_cell.specs.Access.{contents_after, effect_at, perform_effect, operate, make}
+use Rattle.rd_cell.specs.Access.{contents_after, effect_at, perform_effect, operate}
 use Rattle.rd_cell.proofs.CellLemmas.{is_cell-true}
 use Rattle.rd_cell.proofs.AccessLemmas.{is_cell_at, after_write-outside, after_write-inside, operand-covered}
 use Rattle.rd_cell.proofs.EffectLemmas.{not_written}
@@ -179,12 +179,6 @@ made_leaves v R x s at (CellAt t i) inside h = cond_both (is_name s t) (holding 
 made_leaves v R x s at (ArrCell i) inside h = h
 made_leaves v R x s at _ inside h = inr refl
 
-pub kept_make : (v R x : ℕ) (s : SegName) (at : Contents) (q : Place) → is_first_cell (Some (WholeOf s)) q ≡ false → HoldsOnly v at q
-    → IfOk (make R s x) (LeavesOnly v at q)
-kept_make v R x s at q f h =
-    cond_both (nat_lt s.n MOST_SEGMENTS) _ _ (λ (r : Result Performed Refusal). IfOk r (LeavesOnly v at q))
-    (λ below. made_leaves v R x s at q (λ e. inr (made_none R x s q e f)) h) (λ e. tt)
-
 -- an access that writes no value but the one that it found
 abbrev pub AccessKeeps : Access → Type 0
 AccessKeeps NoPlace = Unit {0}
@@ -195,9 +189,3 @@ pub kept_access : (v R n : ℕ) (at : Contents) (q : Place) (x : Access) → Acc
 kept_access v R n at q NoPlace k h = h
 kept_access v R n at q (At p op) k h = kept_operate v p op (operand at p) at q refl k h
 kept_access v R n at q (Make x) k h = absurd k
-
--- an operation at another place leaves the value
-pub kept_elsewhere : (v : ℕ) (p : Place) (op : Operation) (o : Option Content) (at : Contents) (r : Place) → covers p r ≡ false
-    → HasOnly v (at r) → IfOk (operate p op o) (λ did. HasOnly v (contents_after did at r))
-kept_elsewhere v p op None at r e h = tt
-kept_elsewhere v p op (Some c) at r e h = outside_effect v p c at r (effect op c) e h

@@ -5,8 +5,8 @@
 #![tactic(auto)]
 
 pub mod laws;
-pub mod origins;
-pub mod queries;
+mod origins;
+mod queries;
 mod searches;
 
 pub use origins::Origin;

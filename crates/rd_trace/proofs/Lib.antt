@@ -13,3 +13,4 @@ pub mod LexLemmas
 pub mod WholeLemmas
 pub mod WriteLemmas
 pub mod OneTrace
+pub mod OneAnswer

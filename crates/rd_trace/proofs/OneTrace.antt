@@ -378,20 +378,21 @@ same_trace text R Q t u h k =
     let ring = some_same _ R Q (ring_of R d t read_as) (ring_of Q d u k.3.1) in
     (ring, subst (λ P. (v : Trace P) → IsFirstTrace d v ⊎ IsSecondTrace d v → IsSameTrace t v) ring (λ v is. same_either R d t v read_as is) u k.3.1)
 
-same_book : (R Q : ℕ) (t : Trace R) (u : Trace Q) → IsSameTrace t u → IsSameBook (loaded_state t) (loaded_state u)
+pub same_book : (R Q : ℕ) (t : Trace R) (u : Trace Q) → IsSameTrace t u → IsSameBook (loaded_state t) (loaded_state u)
 same_book R Q t u s = record { session = λ i. record { start = s.world i; live = s.live i; undone = s.undone i }; marks = s.marks }
 
-pub one_trace : (text : List ℕ) (R Q : ℕ) (t : Trace R) (u : Trace Q) → IsTraceText text t → IsTraceText text u → (R ≡ Q) × IsSameBook (loaded_state t) (loaded_state u)
-one_trace text R Q t u h k = let p = same_trace text R Q t u h k in (p.0, same_book R Q t u p.1)
+pub one_trace : (text : List ℕ) (R Q : ℕ) (t : Trace R) (u : Trace Q) → IsTraceText text t → IsTraceText text u
+    → (R ≡ Q) × (start_flaw t.start ≡ start_flaw u.start) × IsSameBook (loaded_state t) (loaded_state u)
+one_trace text R Q t u h k = let p = same_trace text R Q t u h k in (p.0, p.1.flaw, same_book R Q t u p.1)
 
 -- ---- a text that is loaded again
 
 -- what is seen of bookmarks goes through just if they do
-abbrev SeenGoThrough : ℕ → World → List (List ℕ × List Event) → Type 0
+abbrev pub SeenGoThrough : ℕ → World → List (List ℕ × List Event) → Type 0
 SeenGoThrough R start [] = Unit {0}
 SeenGoThrough R start (m ∷ ms) = GoThrough R start m.1 × SeenGoThrough R start ms
 
-seen_go : (R : ℕ) (start : World) (ms : List Mark) → MarksGoThrough R start ms → SeenGoThrough R start (map seen_mark ms)
+pub seen_go : (R : ℕ) (start : World) (ms : List Mark) → MarksGoThrough R start ms → SeenGoThrough R start (map seen_mark ms)
 seen_go R start [] h = tt
 seen_go R start (m ∷ ms) h = (h.0, seen_go R start ms h.1)
 

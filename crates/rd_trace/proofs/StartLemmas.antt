@@ -461,7 +461,7 @@ module _ {R : ℕ} (p : Parts R) (flawless : first_flaw p ≡ None) where
 
   -- and others as they are
   pub starts_parts : (world_of_parts p ≡ fresh_world R (length p.actors.items) → ⊥) → (d : Data) → d ≡ parts_data p → IsStartData R (world_of_parts p) d
-  starts_parts other d is = inr ((λ count e. other (e ∙ ap (fresh_world R) (one_count p count e))), p, refl, is)
+  starts_parts other d is = inr ((λ count e. other (e ∙ ap (fresh_world R) (one_count p count e))), p, flawless, refl, is)
 
   pub spells_parts : IsParts (parts_data p) p → (d : Data) → d ≡ parts_data p → SpellsWorld R (world_of_parts p) d
   spells_parts h d is = (OfParts p, subst (λ x. IsParts x p) (sym is) h, flawless, refl)

@@ -180,7 +180,7 @@ fresh_plain count = object_plain 5 (with_member 5 (number_plain 5 count) (no_mem
 
 start_plain : (R : ℕ) (w : World) (d : Data) → IsStartData R w d → IsPlain 6 d
 start_plain R w d (inl (count, is_fresh, some, few, same)) = subst (IsPlain 6) (sym same) (fresh_plain count)
-start_plain R w d (inr (no_fresh, p, is_world, same)) = subst (IsPlain 6) (sym same) (parts_plain p)
+start_plain R w d (inr (no_fresh, p, flawless, is_world, same)) = subst (IsPlain 6) (sym same) (parts_plain p)
 
 -- ---- bookmarks, and the book
 

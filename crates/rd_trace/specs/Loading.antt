@@ -73,6 +73,13 @@ LoadsTrace text (Err NoMemory) = Unit {0}
 LoadsTrace text (Err BadTrace) = (R : ℕ) (t : Trace R) → IsTraceText text t → ⊥
 LoadsTrace text result = (R : ℕ) × (t : Trace R) × IsTraceText text t × Replays (IsBookIn R (loaded_state t)) t result
 
+-- two answers are one: the same book over the same rings, or the same fault
+abbrev pub IsSameAnswer : Result AnyBook LoadTraceFault → Result AnyBook LoadTraceFault → Type 0
+IsSameAnswer (Ok one) (Ok other) = (any_ring one ≡ any_ring other) × IsSameBook (any_state one) (any_state other)
+IsSameAnswer (Ok book) (Err fault) = ⊥
+IsSameAnswer (Err fault) (Ok book) = ⊥
+IsSameAnswer (Err one) (Err other) = one ≡ other
+
 -- the events of each bookmark, and the live events with the undone ones behind them, go through from the start of this state
 pub record IsReachable (R : ℕ) (b : BookState) : Type 0 where
   pub marks : MarksGoThrough R b.session.start b.marks

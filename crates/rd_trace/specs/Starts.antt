@@ -103,11 +103,11 @@ parts_object actors slots qhead qtail segments = object (
 abbrev pub parts_data : {R : ℕ} → Parts R → Data
 parts_data p = parts_object (actors_data p.actors.items) (array_data p.array) (name_data p.qhead) (name_data p.qtail) (makers_data p.segments.items)
 
--- the value that a world is written as: as a fresh one just if it is the fresh world, and else as its parts
+-- the value that a world is written as: as a fresh one just if it is the fresh world, and else as parts of it that have no flaw
 abbrev pub IsStartData : ℕ → World → Data → Type 0
 IsStartData R w d =
     ((count : ℕ) × (w ≡ fresh_world R count) × (1 ≤ count) × (count ≤ MOST_ACTORS) × (d ≡ fresh_data count))
-    ⊎ (((count : ℕ) → w ≡ fresh_world R count → ⊥) × (p : Parts R) × (world_of_parts p ≡ w) × (d ≡ parts_data p))
+    ⊎ (((count : ℕ) → w ≡ fresh_world R count → ⊥) × (p : Parts R) × (first_flaw p ≡ None) × (world_of_parts p ≡ w) × (d ≡ parts_data p))
 
 -- ---- when parts are those of a fresh world. No public clause cites these
 

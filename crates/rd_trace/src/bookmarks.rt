@@ -7,7 +7,6 @@ ghost use Rattle.rd_marks.specs.BookViews.{book_state};
 ghost use Rattle.rd_marks.specs.Books.{mark_events};
 ghost use Rattle.rd_marks.specs.Names.{same_name};
 ghost use Rattle.rd_marks.specs.Rules.{KeepsRules};
-ghost use Rattle.rd_step.specs.Run.{events};
 ghost use Rattle.rd_marks.specs.declared.names.MarkName.{MarkName};
 ghost use Rattle.rd_trace.specs.Numbers.{text_at};
 ghost use Rattle.rd_trace.specs.Events.{ReadsEventsAt};
@@ -18,7 +17,7 @@ use super::faults::FormFault;
 use super::numbers::member_count;
 use rd_cell::limits::MOST_MARKS;
 use rd_marks::{Book, MarkName};
-use rd_step::{Entry, Event};
+use rd_step::Event;
 use serde_json::{Value, json};
 use std::alloc::{AllocError, Global};
 
@@ -137,10 +136,10 @@ fn mark_value<const R: usize>(
     ensures value { IfOk result (λ value. IfSome (mark_events (book_state book.now) i) (λ es. view value ≡ mark_data (record { name = name; events = es }))) }
     ensures spelled { OnOk result (IfSome (mark_events (book_state book.now) i) (λ es. IsMark (mark_data (record { name = name; events = es })) (record { name = name; events = es }))) }
 {
-    let Ok(records) = book.mark_records(alloc, i) else {
+    let Ok(events) = book.mark_events(alloc, i) else {
         return Err(AllocError);
     };
-    let events = events_value(alloc, &events_of(alloc, &records)?)?;
+    let events = events_value(alloc, &events)?;
     mark_object(alloc, events, name.as_str())
 }
 
@@ -149,15 +148,4 @@ fn mark_object(alloc: Global, events: Vec<Value>, name: &str) -> Result<Value, A
     ensures { IfOk result (λ value. view value ≡ mark_object (items_view events.items) name.now) }
 {
     json!(in alloc; {EVENTS: events, NAME: name})
-}
-
-/// The events of records.
-fn events_of(alloc: Global, records: &[Entry]) -> Result<Vec<Event>, AllocError>
-    ensures { IfOk result (λ list. list.items ≡ events records.now) }
-{
-    let mut events = Vec::with_capacity(alloc, records.len())?;
-    for record in records {
-        events.push(record.event)?;
-    }
-    Ok(events)
 }

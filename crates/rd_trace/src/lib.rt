@@ -7,21 +7,21 @@
 #![tactic(auto)]
 
 mod actors;
-pub mod any_book;
+mod any_book;
 mod arrays;
 mod bookmarks;
 mod events;
-pub mod faults;
+mod faults;
 pub mod laws;
-pub mod load;
+mod load;
 mod names;
 mod numbers;
 mod replay;
-pub mod rings;
+mod rings;
 mod saved;
 mod segments;
 mod starts;
-pub mod write;
+mod write;
 
 pub use any_book::AnyBook;
 pub use faults::{LoadTraceFault, WriteTraceFault};

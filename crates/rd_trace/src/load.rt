@@ -35,7 +35,7 @@ pub fn load_trace(alloc: Global, text: &[u8]) -> Result<AnyBook, LoadTraceFault>
     loaded(alloc, text)
 }
 
-/// The book of the trace that a text is, over the ring that it names.
+/// The book of the trace that a text is, over the ring that it names, if it is one.
 ///
 /// # Errors
 ///

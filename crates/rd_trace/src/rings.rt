@@ -16,7 +16,7 @@ pub enum Ring {
 
 impl Ring {
     /// The ring of so many cells, if a trace may have it.
-    pub fn of_length(cells: u64) -> Option<Ring>
+    pub(crate) fn of_length(cells: u64) -> Option<Ring>
         ensures some { IfSome result (λ ring. ring_length ring ≡ cells) }
         ensures none { IfNone result (IsTraceRing cells → ⊥) }
     {

@@ -11,7 +11,8 @@ use rd_script::{Sink, hand_over};
 use std::alloc::{AllocError, Global};
 
 /// Writes a book as a trace of version 2, with a line feed behind it: its start, live events, undone events and bookmarks, and the
-/// number of cells of its rings, also where `load_trace` takes no such ring. Where it does, the text loaded gives the book again.
+/// number of cells of its rings, also where `load_trace` takes no such ring. Where it does, the text loaded gives the book again, unless
+/// memory is refused.
 ///
 /// # Errors
 ///

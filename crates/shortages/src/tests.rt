@@ -4,6 +4,7 @@ mod books;
 mod command_lines;
 mod desks;
 mod devices;
+mod indexes;
 mod lists;
 mod none_left;
 mod traces;

@@ -1,19 +1,18 @@
 //! The events of a book's bookmarks, and going to the start: what saves a book and loads it again needs them.
 
-ghost use Rattle.std.specs.Prelude.{◌≡◌, Some, IfOk, IfErr};
-ghost use Rattle.rd_journal.specs.Journal.{events};
+ghost use Rattle.std.specs.Prelude.{◌≡◌};
 
 use super::Book;
 use rd_cell::Refusal;
-use rd_step::{Entry, Event};
+use rd_step::Event;
 use std::alloc::Global;
 
 impl<const R: usize> Book<R> {
     ghost use Rattle.rd_marks.specs.BookViews.{book_state};
-    ghost use Rattle.rd_marks.specs.Books.{mark_events, mark_event, to_start, LacksMark};
+    ghost use Rattle.rd_marks.specs.Books.{mark_events, mark_event, to_start, AnswersEvents};
 
     /// The event of this number, from 1, of the bookmark of this number, from 1, if there is one. It takes no memory, and time that grows with
-    /// the number of steps behind it; `mark_records` gives all of them at once.
+    /// the number of steps behind it; `mark_events` gives all of them at once.
     pub fn mark_event(&self, i: u64, n: u64) -> Option<Event>
         ensures { result ≡ mark_event (book_state self.now) i n }
     {
@@ -26,14 +25,14 @@ impl<const R: usize> Book<R> {
         }
     }
 
-    /// The records of the bookmark of this number, from 1: those that were live when it was set.
+    /// The events of the bookmark of this number, from 1: those that were live when it was set. It takes time that grows with their number.
     ///
     /// # Errors
     ///
-    /// `NoMark` if `i` is not from 1 to the number of bookmarks; else `NoMemory` if memory was refused.
-    pub fn mark_records(&self, alloc: Global, i: u64) -> Result<Vec<Entry>, Refusal>
-        ensures ok { IfOk result (λ records. mark_events (book_state self.now) i ≡ Some (events records.items)) }
-        ensures err { IfErr result (λ refusal. LacksMark (mark_events (book_state self.now) i) refusal) }
+    /// `NoMark` if `i` is not from 1 to the number of bookmarks; else `NoMemory` if memory was refused for the events, so not if there
+    /// are none.
+    pub fn mark_events(&self, alloc: Global, i: u64) -> Result<Vec<Event>, Refusal>
+        ensures { AnswersEvents (mark_events (book_state self.now) i) result }
     {
         if i == 0 {
             return Err(Refusal::NoMark);
@@ -41,9 +40,9 @@ impl<const R: usize> Book<R> {
         let Some((_, node)) = self.marks.get_index(i as usize - 1) else {
             return Err(Refusal::NoMark);
         };
-        match self.tree.records(alloc, *node, 0) {
+        match self.tree.events(alloc, *node) {
             Err(_) => Err(Refusal::NoMemory),
-            Ok(records) => Ok(records),
+            Ok(events) => Ok(events),
         }
     }
 

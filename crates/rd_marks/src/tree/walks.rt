@@ -175,4 +175,32 @@ impl Tree {
         records.reverse();
         Ok(records)
     }
+
+    /// The events of a node's path.
+    ///
+    /// # Errors
+    ///
+    /// If memory was refused for them, so not if there are none.
+    pub(crate) fn events(
+        &self,
+        alloc: Global,
+        from: Option<usize>,
+    ) -> Result<Vec<Event>, AllocError>
+        requires present { IsIn (mark_tree self.now) from }
+        ensures ok { IfOk result (λ list. list.items ≡ events (path_in (mark_tree self.now) from)) }
+        ensures succeeds { depth_in (mark_tree self.now) from ≡ 0 → IsOk result }
+    {
+        let depth = self.depth(from);
+        let mut list = Vec::with_capacity(alloc, depth)?;
+        let mut at = from;
+        for _ in 0..depth {
+            let Some(entry) = self.entry(at) else {
+                unreachable!();
+            };
+            list.push_reserved(entry.event);
+            at = self.parent(at);
+        }
+        list.reverse();
+        Ok(list)
+    }
 }

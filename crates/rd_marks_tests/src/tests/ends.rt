@@ -4,8 +4,7 @@
 use rd_actor::{Act, Actor, Op, Pc};
 use rd_cell::{Cell, Refusal, SegName};
 use rd_journal::Session;
-use rd_marks::books::Book;
-use rd_marks::commands::Command;
+use rd_marks::{Book, Command};
 use rd_step::{ArrayParts, Event, Parts, SegmentParts, World};
 use std::alloc::{AllocError, Global};
 use std::test::Fail;

@@ -4,10 +4,7 @@ use rd_actor::Act;
 use rd_cell::Refusal;
 use rd_cell::limits::MOST_MARKS;
 use rd_journal::Session;
-use rd_marks::books::Book;
-use rd_marks::commands::Command;
-use rd_marks::names::MarkName;
-use rd_marks::replies::Reply;
+use rd_marks::{Book, Command, MarkName, Reply};
 use rd_step::World;
 use std::test::Fail;
 

@@ -3,10 +3,7 @@
 use rd_actor::Act;
 use rd_cell::Refusal;
 use rd_journal::Session;
-use rd_marks::books::Book;
-use rd_marks::commands::Command;
-use rd_marks::names::MarkName;
-use rd_marks::replies::Reply;
+use rd_marks::{Book, Command, MarkName, Reply};
 use rd_step::{Event, World};
 use std::alloc::Global;
 use std::process::Abort;
@@ -103,7 +100,7 @@ fn events_of_bookmarks_are_numbered_from_their_first(rt: HostRuntime) -> Result<
     Ok(())
 }
 
-/// How many records the bookmark of each number has.
+/// How many events the bookmark of each number has.
 const LENGTHS: &[(u64, Result<usize, Refusal>)] = &[
     (0, Err(Refusal::NoMark)),
     (1, Ok(0)),
@@ -112,26 +109,70 @@ const LENGTHS: &[(u64, Result<usize, Refusal>)] = &[
     (4, Err(Refusal::NoMark)),
 ];
 
-/// How many records a bookmark has, each of them that of its event.
-fn records_of(rt: &impl Abort, alloc: Global, book: &Book<4>, i: u64) -> Result<usize, Refusal> {
-    let records = book.mark_records(alloc, i)?;
-    for k in 0..records.len() {
+/// How many events a bookmark has, each of them the one of its number.
+fn count_events(rt: &impl Abort, alloc: Global, book: &Book<4>, i: u64) -> Result<usize, Refusal> {
+    let events = book.mark_events(alloc, i)?;
+    for k in 0..events.len() {
         let event = book.mark_event(i, k as u64 + 1);
-        assert_eq!(rt; event, Some(records[k].event), "record {k} of bookmark {i}");
+        assert_eq!(rt; event, Some(events[k]), "event {k} of bookmark {i}");
     }
-    Ok(records.len())
+    Ok(events.len())
 }
 
 #[test]
-fn records_of_a_bookmark_are_of_its_events(rt: HostRuntime) -> Result<(), Fail> {
+fn all_events_of_a_bookmark_are_those_by_their_numbers(rt: HostRuntime) -> Result<(), Fail> {
     let book = marked_book(rt.alloc())?;
     for (i, wanted) in LENGTHS {
         assert_eq!(rt;
-            records_of(&rt, rt.alloc(), &book, *i),
+            count_events(&rt, rt.alloc(), &book, *i),
             *wanted,
             "bookmark {i}"
         );
     }
+    Ok(())
+}
+
+/// Has a book obey each command, and compares its answer and then the number of nodes.
+fn follow(rt: &impl Abort, book: &mut Book<4>, rows: &[(Command, Result<Reply, Refusal>, u64)]) {
+    for (command, wanted, nodes) in rows {
+        assert_eq!(rt; book.obey(*command), *wanted, "{command:?}");
+        assert_eq!(rt; book.nodes(), *nodes, "{command:?}");
+    }
+}
+
+/// A step by the second actor, the first live one.
+const FIRST_STEP: Reply = Reply::Applied {
+    step: 1,
+    reply: None,
+};
+
+#[test]
+fn a_bookmark_at_no_step_is_one_as_any_other(rt: HostRuntime) -> Result<(), Fail> {
+    let alloc = rt.alloc();
+    let mut book = Book::open(alloc, Session::open(alloc, World::<4>::fresh(alloc, 4)?));
+    let (none, one) = (MarkName::new(b"none")?, MarkName::new(b"one")?);
+    let start = Reply::At { live: 0, undone: 0 };
+    let rows = [
+        (Command::Mark(none), Ok(Reply::Marked(0)), 0),
+        (
+            Command::MarkAt(1),
+            Ok(Reply::Mark { name: none, len: 0 }),
+            0,
+        ),
+        (Command::GotoMark(none), Ok(start), 0),
+        (Command::Deq(2), Ok(FIRST_STEP), 0),
+        (Command::Mark(one), Ok(Reply::Marked(1)), 1),
+        (Command::Same(none, none), Ok(Reply::Same(true)), 1),
+        (Command::Same(none, one), Ok(Reply::Same(false)), 1),
+        (Command::Same(one, none), Ok(Reply::Same(false)), 1),
+        (Command::GotoMark(none), Ok(start), 1),
+        (Command::Redo, Err(Refusal::NothingToRedo), 1),
+        (Command::DropMark(one), Ok(Reply::Dropped), 0),
+        (Command::Marks, Ok(Reply::Marks(1)), 0),
+        (Command::DropMark(none), Ok(Reply::Dropped), 0),
+        (Command::GotoMark(none), Err(Refusal::NoMark), 0),
+    ];
+    follow(&rt, &mut book, &rows);
     Ok(())
 }
 

@@ -4,7 +4,7 @@ use super::{Line, play, play_all};
 use rd_actor::{Act, Actor, OpReply};
 use rd_cell::{Cell, Place, Refusal, SegName};
 use rd_journal::Session;
-use rd_origin::origins::Origin;
+use rd_origin::Origin;
 use rd_step::{ArrayParts, Parts, SegmentParts, World};
 use std::alloc::{AllocError, Global};
 use std::test::Fail;

@@ -4,7 +4,7 @@
 use rd_actor::{Act, Pc};
 use rd_cell::{Place, Refusal, SegName, overlaps};
 use rd_journal::Session;
-use rd_origin::queries::last_writer;
+use rd_origin::last_writer;
 use rd_step::{Event, World};
 use std::process::Abort;
 use std::test::Fail;

@@ -2,7 +2,7 @@
 
 use super::{AnyBook, played, written};
 use rd_marks::Book;
-use rd_trace::load::load_trace;
+use rd_trace::load_trace;
 use std::alloc::Global;
 use std::process::Abort;
 use std::test::Fail;

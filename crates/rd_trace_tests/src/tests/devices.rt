@@ -2,8 +2,7 @@
 
 use super::played;
 use rd_script::WriteSink;
-use rd_trace::faults::WriteTraceFault;
-use rd_trace::write::write_trace;
+use rd_trace::{WriteTraceFault, write_trace};
 use std::alloc::Global;
 use std::io;
 use std::io::Write;

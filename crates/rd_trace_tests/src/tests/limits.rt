@@ -2,7 +2,7 @@
 
 use super::{AnyBook, LoadTraceFault, fault_is, written};
 use rd_cell::Refusal;
-use rd_trace::load::load_trace;
+use rd_trace::load_trace;
 use std::alloc::{AllocError, Global};
 use std::process::Abort;
 use std::test::Fail;
@@ -72,6 +72,16 @@ fn one_event_more_is_too_long(rt: HostRuntime) -> Result<(), Fail> {
     let last = format!(in alloc; "{FILLING},[\"go\",1]")?;
     let text = trace_of(alloc, &dequeues(alloc, &last)?, "", "")?;
     fault_is(&rt, alloc, text.as_bytes(), TOO_LONG, "of live events");
+    Ok(())
+}
+
+#[test]
+fn one_event_more_in_version_1_is_too_long(rt: HostRuntime) -> Result<(), Fail> {
+    let alloc = rt.alloc();
+    let last = format!(in alloc; "{FILLING},[\"go\",1]")?;
+    let live = dequeues(alloc, &last)?;
+    let text = format!(in alloc; "{{\"actors\":4,\"events\":[{live}],\"ring\":4,\"version\":1}}")?;
+    fault_is(&rt, alloc, text.as_bytes(), TOO_LONG, "of version 1");
     Ok(())
 }
 

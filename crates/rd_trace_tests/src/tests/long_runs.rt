@@ -4,8 +4,7 @@ ghost use Rattle.std.specs.Prelude.{◌≤◌};
 
 use super::AnyBook;
 use rd_script::{ReadSource, WriteSink};
-use rd_trace::load::load_trace;
-use rd_trace::rings::Ring;
+use rd_trace::{Ring, load_trace};
 use std::alloc::Global;
 use std::process::Abort;
 use std::test::Fail;

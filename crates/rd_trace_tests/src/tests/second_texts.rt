@@ -1,7 +1,7 @@
 //! Texts of version 2 that are no trace.
 
 use super::{are_bad, fault_is};
-use rd_trace::faults::LoadTraceFault;
+use rd_trace::LoadTraceFault;
 use std::alloc::Global;
 use std::process::Abort;
 use std::test::Fail;
@@ -140,25 +140,4 @@ fn bytes_that_are_no_text_are_no_trace(rt: HostRuntime) {
     let key =
         b"{\"events\":[],\"marks\":[],\"ring\":4,\"start\":{\"fresh\xc0\x80\":4},\"undone\":[],\"version\":2}";
     fault_is(&rt, rt.alloc(), key, bad, "with a key that is no UTF-8");
-}
-
-/// A trace of so many bookmarks of no event.
-fn with_bookmarks(alloc: Global, number: u64) -> Result<String, Fail> {
-    let mut marks = String::new(alloc);
-    for i in 0..number {
-        let comma = if i == 0 { "" } else { "," };
-        write!(marks, "{comma}{{\"events\":[],\"name\":\"n{i}\"}}")?;
-    }
-    Ok(format!(in alloc;
-        "{{\"events\":[],\"marks\":[{marks}],\"ring\":8,\"start\":{{\"fresh\":16}},\"undone\":[],\"version\":2}}"
-    )?)
-}
-
-#[test]
-fn a_trace_has_64_bookmarks_at_most(rt: HostRuntime) -> Result<(), Fail> {
-    let alloc = rt.alloc();
-    let most = rd_trace::load::load_trace(alloc, with_bookmarks(alloc, 64)?.as_bytes())?;
-    assert!(rt; matches!(&most, rd_trace::any_book::AnyBook::Eight(book) if book.marks() == 64));
-    are_bad(&rt, alloc, &[&with_bookmarks(alloc, 65)?]);
-    Ok(())
 }

@@ -1,11 +1,10 @@
 //! Texts of version 2 with undone events and bookmarks.
 
-use super::{AnyBook, fault_is, faults_are, played, text_is};
+use super::{AnyBook, are_bad, fault_is, faults_are, played, text_is};
 use rd_cell::Refusal;
 use rd_script::{ReadSource, WriteSink};
 use rd_step::Flaw;
-use rd_trace::faults::LoadTraceFault;
-use rd_trace::load::load_trace;
+use rd_trace::{LoadTraceFault, load_trace};
 use std::alloc::Global;
 use std::process::Abort;
 use std::test::Fail;
@@ -234,5 +233,33 @@ fn bad_forms_flaws_bookmarks_live_and_undone_events_are_refused_in_this_order(
         let text = trace_of(rt.alloc(), *start, *marked, *live, *undone)?;
         fault_is(&rt, rt.alloc(), text.as_bytes(), *fault, &text);
     }
+    Ok(())
+}
+
+/// A trace of so many bookmarks at one step, and of one behind them at none.
+fn with_bookmarks(alloc: Global, number: u64) -> Result<String, Fail> {
+    let mut marks = String::new(alloc);
+    for i in 0..number {
+        write!(marks, "{{\"events\":[[\"deq\",1]],\"name\":\"n{i}\"}},")?;
+    }
+    Ok(format!(in alloc;
+        "{{\"events\":[],\"marks\":[{marks}{{\"events\":[],\"name\":\"none\"}}],\"ring\":8,\"start\":{{\"fresh\":16}},\"undone\":[],\"version\":2}}\n"
+    )?)
+}
+
+#[test]
+fn sixty_four_bookmarks_one_of_them_empty_come_back(rt: HostRuntime) -> Result<(), Fail> {
+    let alloc = rt.alloc();
+    let text = with_bookmarks(alloc, 63)?;
+    let AnyBook::Eight(book) = load_trace(alloc, text.as_bytes())? else {
+        panic!(rt; "the ring has changed");
+    };
+    text_is(&rt, alloc, &book, &text)
+}
+
+#[test]
+fn a_text_of_65_bookmarks_is_no_trace(rt: HostRuntime) -> Result<(), Fail> {
+    let text = with_bookmarks(rt.alloc(), 64)?;
+    are_bad(&rt, rt.alloc(), &[&text]);
     Ok(())
 }

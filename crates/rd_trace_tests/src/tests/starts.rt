@@ -5,8 +5,7 @@ use rd_journal::Session;
 use rd_marks::Book;
 use rd_script::{ReadSource, WriteSink, run};
 use rd_step::{Flaw, World};
-use rd_trace::faults::LoadTraceFault;
-use rd_trace::load::load_trace;
+use rd_trace::{LoadTraceFault, load_trace};
 use std::alloc::Global;
 use std::process::Abort;
 use std::test::Fail;
@@ -68,6 +67,25 @@ fn a_poised_world_is_written_as_its_parts(rt: HostRuntime) -> Result<(), Fail> {
     let world = World::<2>::poised(alloc, 1)?;
     let book = Book::open(alloc, Session::open(alloc, world));
     text_is(&rt, alloc, &book, &trace_with(alloc, "", "")?)
+}
+
+/// The actor of the start above, what stands there behind it, and a list of no segment.
+const ACTOR: &str =
+    "{\"closed\":false,\"crq\":[0,0],\"h\":0,\"idx\":0,\"new\":[0,0],\"next\":[0,0],\"op\":[\"enq\",1],\"pass\":0,\"pc\":\"E4\",\"safe\":false,\"t\":0,\"val\":null}";
+
+const BEHIND: &str =
+    "],\"array\":{\"cells\":[],\"head\":0,\"tail\":0},\"qhead\":[0,0],\"qtail\":[0,0],\"segments\":[[{\"cells\":[[true,0,null],[true,1,null]],\"closed\":false,\"head\":0,\"next\":null,\"tail\":0}]";
+
+const NO_SEGMENT: &str = ",[]";
+
+#[test]
+fn a_start_of_16_actors_and_17_lists_of_segments_comes_back(rt: HostRuntime) -> Result<(), Fail> {
+    let alloc = rt.alloc();
+    let others = format!(in alloc; ",{ACTOR}")?.repeat(alloc, 15)?;
+    let lists = NO_SEGMENT.repeat(alloc, 16)?;
+    let start = format!(in alloc; "{{\"actors\":[{ACTOR}{others}{BEHIND}{lists}]}}")?;
+    let text = trace_of(alloc, &start)?;
+    is_written_as(&rt, alloc, &text, &text)
 }
 
 #[test]

@@ -2,8 +2,7 @@
 
 use super::{AnyBook, are_bad, fault_is, faults_are, text_is};
 use rd_cell::Refusal;
-use rd_trace::faults::LoadTraceFault;
-use rd_trace::load::load_trace;
+use rd_trace::{LoadTraceFault, load_trace};
 use std::test::Fail;
 
 #[test]

@@ -132,7 +132,7 @@ pub(super) fn has_text(page: &Vec<u8>, text: &[u8]) -> bool {
 }
 
 /// Writes on the page what a book is: what the queries answer, and what they answer when its undone steps are made again. Answers how
-/// many records it keeps for its bookmarks.
+/// many nodes it keeps for its bookmarks.
 pub(super) fn look(book: &mut Book<2>, page: &mut Vec<u8>) -> Option<u64> {
     page.clear();
     let asked = plays(book, QUERIES, page) && look_ahead(book, page);

@@ -1,0 +1,233 @@
+-- Loading a text has one answer, memory aside.
+use Rattle.std.proofs.Common.{◌≡◌, ◌⊎◌, inl, inr, ℕ, ◌+◌, List, [], ◌∷◌, ◌++◌, map, length, Option, Some, None, Result, Ok, Err, refl, sym, ap, ap₂, ◌∙◌, subst, subst₂}
+use Rattle.std.proofs.lemmas.List.{length-map, map-append}
+use Rattle.rd_step.specs.Prelude.{World, Refusal}
+use Rattle.rd_step.specs.declared.entries.Event.{Event}
+use Rattle.rd_step.specs.declared.flaws.Flaw.{Flaw}
+use Rattle.rd_journal.specs.State.{apply}
+use Rattle.rd_marks.specs.Books.{Mark}
+use Rattle.rd_marks.specs.Rules.{GoThrough, MarksGoThrough}
+use Rattle.rd_trace.specs.Starts.{start_world, start_flaw}
+use Rattle.rd_trace.specs.Saved.{Trace, IsTraceText, loaded_state, seen_mark, IsSameBook}
+use Rattle.rd_trace.specs.Traces.{session_at, IsRefusedAt, IsMarkRefusedAt}
+use Rattle.rd_trace.specs.Loading.{IsBookIn, IsPlayable, Replays, LoadsTrace, IsSameAnswer}
+use Rattle.rd_trace.specs.declared.any_book.AnyBook.{AnyBook}
+use Rattle.rd_trace.specs.declared.faults.LoadTraceFault.{LoadTraceFault}
+use Rattle.rd_trace.specs.declared.faults.LoadTraceFault.TheVariants.{NoMemory, BadTrace, Flawed, TraceMark, TraceStep}
+use Rattle.rd_trace.proofs.OneTrace.{IsSameTrace, SeenGoThrough, seen_go, same_trace, same_book}
+use Rattle.rd_trace.proofs.ReplayLemmas.{none_refused}
+
+-- ---- two places of one list
+
+module _ {X : Type 0} where
+  abbrev front_or : X → List X → X
+  front_or x [] = x
+  front_or x (y ∷ ys) = y
+
+  abbrev behind : List X → List X
+  behind [] = []
+  behind (y ∷ ys) = ys
+
+  -- two elements stand at one place, or one of them stands before the other
+  abbrev Places : List X → X → List X → X → Type 0
+  Places before x front y =
+      ((before ≡ front) × (x ≡ y)) ⊎ (((rest : List X) × (front ≡ before ++ x ∷ rest)) ⊎ ((rest : List X) × (before ≡ front ++ y ∷ rest)))
+
+  behind_one : (z w : X) (before : List X) (x : X) (front : List X) (y : X) → z ≡ w → Places before x front y → Places (z ∷ before) x (w ∷ front) y
+  behind_one z w before x front y e (inl (same, one)) = inl (ap₂ (λ v vs. v ∷ vs) e same, one)
+  behind_one z w before x front y e (inr (inl (rest, is))) = inr (inl (rest, ap₂ (λ v vs. v ∷ vs) (sym e) is))
+  behind_one z w before x front y e (inr (inr (rest, is))) = inr (inr (rest, ap₂ (λ v vs. v ∷ vs) e is))
+
+  places : (before : List X) (x : X) (later : List X) (front : List X) (y : X) (back : List X) → before ++ x ∷ later ≡ front ++ y ∷ back → Places before x front y
+  places [] x later [] y back h = inl (refl, ap (front_or x) h)
+  places [] x later (w ∷ front) y back h = inr (inl (front, ap (λ v. v ∷ front) (sym (ap (front_or x) h))))
+  places (z ∷ before) x later [] y back h = inr (inr (before, ap (λ v. v ∷ before) (ap (front_or x) h)))
+  places (z ∷ before) x later (w ∷ front) y back h = behind_one z w before x front y (ap (front_or x) h) (places before x later front y back (ap behind h))
+
+-- ---- the first refused event of a list
+
+abbrev cause_or : {A : Type 0} → Refusal → Result A Refusal → Refusal
+cause_or other (Ok x) = other
+cause_or other (Err cause) = cause
+
+earlier : (R : ℕ) (w : World) (es : List Event) (n : ℕ) (cause : Refusal) (front : List Event) → (at : IsRefusedAt R w es n cause) → (rest : List Event) → front ≡ at.before ++ at.event ∷ rest
+    → IsRefusedAt R w front n cause
+earlier R w es n cause front at rest is = record {
+  before = at.before;
+  event = at.event;
+  later = rest;
+  all = is;
+  number = at.number;
+  through = at.through;
+  refused = at.refused;
+}
+
+module _ (R : ℕ) (w : World) (es : List Event) (n m : ℕ) (cause why : Refusal) (h : IsRefusedAt R w es n cause) (k : IsRefusedAt R w es m why) where
+  refused_there : Places h.before h.event k.before k.event → (n ≡ m) × (cause ≡ why)
+  refused_there (inl (same, one)) = (
+    h.number ∙ ap (λ es. length es + 1) same ∙ sym k.number,
+    ap (cause_or cause) (sym h.refused ∙ ap₂ (λ fs f. apply R (session_at w fs) f) same one ∙ k.refused),
+  )
+  refused_there (inr (inl (rest, is))) = absurd (none_refused R w k.before n cause k.through (earlier R w es n cause k.before h rest is))
+  refused_there (inr (inr (rest, is))) = absurd (none_refused R w h.before m why h.through (earlier R w es m why h.before k rest is))
+
+  one_refused : (n ≡ m) × (cause ≡ why)
+  one_refused = refused_there (places h.before h.event h.later k.before k.event k.later (sym h.all ∙ k.all))
+
+-- ---- the first bookmark with a refused event, as bookmarks are seen
+
+record SeenRefusedAt (R : ℕ) (w : World) (ms : List (List ℕ × List Event)) (m n : ℕ) (cause : Refusal) : Type 0 where
+  pub before : List (List ℕ × List Event)
+  pub mark : List ℕ × List Event
+  pub later : List (List ℕ × List Event)
+  pub all : ms ≡ before ++ mark ∷ later
+  pub number : m ≡ length before + 1
+  pub through : SeenGoThrough R w before
+  pub refused : IsRefusedAt R w mark.1 n cause
+
+seen_refused : (R : ℕ) (w : World) (ms : List Mark) (m n : ℕ) (cause : Refusal) → IsMarkRefusedAt R w ms m n cause → SeenRefusedAt R w (map seen_mark ms) m n cause
+seen_refused R w ms m n cause at = record {
+  before = map seen_mark at.before;
+  mark = seen_mark at.mark;
+  later = map seen_mark at.later;
+  all = ap (map seen_mark) at.all ∙ map-append seen_mark at.before (at.mark ∷ at.later);
+  number = at.number ∙ ap (λ k. k + 1) (sym (length-map at.before seen_mark));
+  through = seen_go R w at.before at.through;
+  refused = at.refused;
+}
+
+seen_goes : (R : ℕ) (w : World) (before : List (List ℕ × List Event)) (m : List ℕ × List Event) (later : List (List ℕ × List Event)) → SeenGoThrough R w (before ++ m ∷ later)
+    → GoThrough R w m.1
+seen_goes R w [] m later h = h.0
+seen_goes R w (x ∷ before) m later h = seen_goes R w before m later h.1
+
+no_seen_refused : (R : ℕ) (w : World) (ms front : List (List ℕ × List Event)) (m n : ℕ) (cause : Refusal) → (at : SeenRefusedAt R w ms m n cause)
+    → (rest : List (List ℕ × List Event)) → front ≡ at.before ++ at.mark ∷ rest → SeenGoThrough R w front → ⊥
+no_seen_refused R w ms front m n cause at rest is go =
+    none_refused R w at.mark.1 n cause (seen_goes R w at.before at.mark rest (subst (SeenGoThrough R w) is go)) at.refused
+
+module _ (R : ℕ) (w : World) (ms : List (List ℕ × List Event)) (m p n q : ℕ) (cause why : Refusal) (h : SeenRefusedAt R w ms m n cause) (k : SeenRefusedAt R w ms p q why) where
+  mark_there : Places h.before h.mark k.before k.mark → (m ≡ p) × (n ≡ q) × (cause ≡ why)
+  mark_there (inl (same, one)) =
+      let event = one_refused R w k.mark.1 n q cause why (subst (λ (f : List ℕ × List Event). IsRefusedAt R w f.1 n cause) one h.refused) k.refused in
+      (h.number ∙ ap (λ fs. length fs + 1) same ∙ sym k.number, event.0, event.1)
+  mark_there (inr (inl (rest, is))) = absurd (no_seen_refused R w ms k.before m n cause h rest is k.through)
+  mark_there (inr (inr (rest, is))) = absurd (no_seen_refused R w ms h.before p q why k rest is h.through)
+
+  one_mark_refused : (m ≡ p) × (n ≡ q) × (cause ≡ why)
+  one_mark_refused = mark_there (places h.before h.mark h.later k.before k.mark k.later (sym h.all ∙ k.all))
+
+-- ---- what is seen of a trace has one answer
+
+record Seen : Type 0 where
+  pub flaw : Option Flaw
+  pub world : World
+  pub marks : List (List ℕ × List Event)
+  pub events : List Event
+
+abbrev seen : (R : ℕ) → Trace R → Seen
+seen R t = record { flaw = start_flaw t.start; world = start_world t.start; marks = map seen_mark t.marks; events = t.live ++ t.undone }
+
+record Plays (R : ℕ) (s : Seen) : Type 0 where
+  pub flawless : s.flaw ≡ None
+  pub marks : SeenGoThrough R s.world s.marks
+  pub through : GoThrough R s.world s.events
+
+abbrev Fails : (R : ℕ) → Seen → LoadTraceFault → Type 0
+Fails R s NoMemory = ⊥
+Fails R s BadTrace = ⊥
+Fails R s (Flawed flaw) = s.flaw ≡ Some flaw
+Fails R s (TraceMark m n cause) = (s.flaw ≡ None) × SeenRefusedAt R s.world s.marks m n cause
+Fails R s (TraceStep n cause) = (s.flaw ≡ None) × SeenGoThrough R s.world s.marks × IsRefusedAt R s.world s.events n cause
+
+no_flaw : (o : Option Flaw) (flaw : Flaw) → o ≡ None → o ≡ Some flaw → ⊥
+no_flaw o flaw h k = let e : None ≡ Some flaw = sym h ∙ k in cc
+
+plays_alone : (R : ℕ) (s : Seen) (fault : LoadTraceFault) → Plays R s → Fails R s fault → ⊥
+plays_alone R s NoMemory h k = k
+plays_alone R s BadTrace h k = k
+plays_alone R s (Flawed flaw) h k = no_flaw s.flaw flaw h.flawless k
+plays_alone R s (TraceMark m n cause) h k = no_seen_refused R s.world s.marks s.marks m n cause k.1 k.1.later k.1.all h.marks
+plays_alone R s (TraceStep n cause) h k = none_refused R s.world s.events n cause h.through k.2
+
+one_fault : (R : ℕ) (s : Seen) (e f : LoadTraceFault) → Fails R s e → Fails R s f → e ≡ f
+one_fault R s NoMemory f h k = absurd h
+one_fault R s BadTrace f h k = absurd h
+one_fault R s (Flawed flaw) NoMemory h k = absurd k
+one_fault R s (Flawed flaw) BadTrace h k = absurd k
+one_fault R s (Flawed flaw) (Flawed other) h k = let same : Some flaw ≡ Some other = sym h ∙ k in cc
+one_fault R s (Flawed flaw) (TraceMark p q why) h k = absurd (no_flaw s.flaw flaw k.0 h)
+one_fault R s (Flawed flaw) (TraceStep q why) h k = absurd (no_flaw s.flaw flaw k.0 h)
+one_fault R s (TraceMark m n cause) NoMemory h k = absurd k
+one_fault R s (TraceMark m n cause) BadTrace h k = absurd k
+one_fault R s (TraceMark m n cause) (Flawed other) h k = absurd (no_flaw s.flaw other h.0 k)
+one_fault R s (TraceMark m n cause) (TraceMark p q why) h k =
+    let same = one_mark_refused R s.world s.marks m p n q cause why h.1 k.1 in
+    λ i. TraceMark (same.0 i) (same.1 i) (same.2 i)
+one_fault R s (TraceMark m n cause) (TraceStep q why) h k = absurd (no_seen_refused R s.world s.marks s.marks m n cause h.1 h.1.later h.1.all k.1)
+one_fault R s (TraceStep n cause) NoMemory h k = absurd k
+one_fault R s (TraceStep n cause) BadTrace h k = absurd k
+one_fault R s (TraceStep n cause) (Flawed other) h k = absurd (no_flaw s.flaw other h.0 k)
+one_fault R s (TraceStep n cause) (TraceMark p q why) h k = absurd (no_seen_refused R s.world s.marks s.marks p q why k.1 k.1.later k.1.all h.1)
+one_fault R s (TraceStep n cause) (TraceStep q why) h k =
+    let same = one_refused R s.world s.events n q cause why h.2 k.2 in
+    λ i. TraceStep (same.0 i) (same.1 i)
+
+-- ---- traces
+
+plays_as_seen : (R : ℕ) (t : Trace R) → IsPlayable t → Plays R (seen R t)
+plays_as_seen R t h = record { flawless = h.marks.flawless; marks = seen_go R (start_world t.start) t.marks h.marks.marks; through = h.through }
+
+fails_as_seen : (R : ℕ) (t : Trace R) (IsBook : AnyBook → Type 0) (fault : LoadTraceFault) → (fault ≡ NoMemory → ⊥) → Replays IsBook t (Err fault) → Fails R (seen R t) fault
+fails_as_seen R t IsBook NoMemory some h = some refl
+fails_as_seen R t IsBook BadTrace some h = h
+fails_as_seen R t IsBook (Flawed flaw) some h = h
+fails_as_seen R t IsBook (TraceMark m n cause) some h = (h.0, seen_refused R (start_world t.start) t.marks m n cause h.1)
+fails_as_seen R t IsBook (TraceStep n cause) some h = (h.0.flawless, seen_go R (start_world t.start) t.marks h.0.marks, h.1)
+
+module _ (R : ℕ) (t u : Trace R) (same : IsSameTrace t u) where
+  as_seen : seen R u ≡ seen R t
+  as_seen = λ i. record { flaw = sym same.flaw i; world = sym same.world i; marks = sym same.marks i; events = sym same.live i ++ sym same.undone i }
+
+  same_answer : (r q : Result AnyBook LoadTraceFault) → (r ≡ Err NoMemory → ⊥) → (q ≡ Err NoMemory → ⊥) → Replays (IsBookIn R (loaded_state t)) t r
+      → Replays (IsBookIn R (loaded_state u)) u q → IsSameAnswer r q
+  same_answer (Ok a) (Ok b) some also h k = (h.1.0 ∙ sym k.1.0, subst₂ IsSameBook (sym h.1.1) (sym k.1.1) (same_book R R t u same))
+  same_answer (Ok a) (Err f) some also h k =
+      plays_alone R (seen R t) f (plays_as_seen R t h.0) (subst (λ s. Fails R s f) as_seen (fails_as_seen R u (IsBookIn R (loaded_state u)) f (λ is. also (ap Err is)) k))
+  same_answer (Err e) (Ok b) some also h k =
+      plays_alone R (seen R t) e (subst (Plays R) as_seen (plays_as_seen R u k.0)) (fails_as_seen R t (IsBookIn R (loaded_state t)) e (λ is. some (ap Err is)) h)
+  same_answer (Err e) (Err f) some also h k =
+      one_fault R (seen R t) e f (fails_as_seen R t (IsBookIn R (loaded_state t)) e (λ is. some (ap Err is)) h)
+      (subst (λ s. Fails R s f) as_seen (fails_as_seen R u (IsBookIn R (loaded_state u)) f (λ is. also (ap Err is)) k))
+
+-- ---- texts
+
+-- the text is no trace, and so the answer says; or it is one, and the answer is what its trace gives
+abbrev Answers : List ℕ → Result AnyBook LoadTraceFault → Type 0
+Answers text r =
+    ((r ≡ Err BadTrace) × ((R : ℕ) (t : Trace R) → IsTraceText text t → ⊥))
+    ⊎ ((R : ℕ) × (t : Trace R) × IsTraceText text t × Replays (IsBookIn R (loaded_state t)) t r)
+
+answers : (text : List ℕ) (r : Result AnyBook LoadTraceFault) → (r ≡ Err NoMemory → ⊥) → LoadsTrace text r → Answers text r
+answers text (Ok book) some h = inr h
+answers text (Err NoMemory) some h = absurd (some refl)
+answers text (Err BadTrace) some h = inl (refl, h)
+answers text (Err (Flawed flaw)) some h = inr h
+answers text (Err (TraceMark m n cause)) some h = inr h
+answers text (Err (TraceStep n cause)) some h = inr h
+
+module _ (text : List ℕ) (r q : Result AnyBook LoadTraceFault) (some : r ≡ Err NoMemory → ⊥) (also : q ≡ Err NoMemory → ⊥) where
+  over_one_ring : (R Q : ℕ) (t : Trace R) (u : Trace Q) → IsTraceText text t → IsTraceText text u → Replays (IsBookIn R (loaded_state t)) t r
+      → Replays (IsBookIn Q (loaded_state u)) u q → IsSameAnswer r q
+  over_one_ring R Q t u is_t is_u h k =
+      subst (λ P. (v : Trace P) → IsTraceText text v → Replays (IsBookIn P (loaded_state v)) v q → IsSameAnswer r q) (same_trace text R Q t u is_t is_u).0
+      (λ v is_v g. same_answer R t v (same_trace text R R t v is_t is_v).1 r q some also h g) u is_u k
+
+  same_answers : Answers text r → Answers text q → IsSameAnswer r q
+  same_answers (inl h) (inl k) = subst₂ IsSameAnswer (sym h.0) (sym k.0) refl
+  same_answers (inl h) (inr (Q, u, is_u, k)) = absurd (h.1 Q u is_u)
+  same_answers (inr (R, t, is_t, h)) (inl k) = absurd (k.1 R t is_t)
+  same_answers (inr (R, t, is_t, h)) (inr (Q, u, is_u, k)) = over_one_ring R Q t u is_t is_u h k
+
+pub one_answer : (text : List ℕ) (r q : Result AnyBook LoadTraceFault) → LoadsTrace text r → LoadsTrace text q → (r ≡ Err NoMemory → ⊥) → (q ≡ Err NoMemory → ⊥) → IsSameAnswer r q
+one_answer text r q h k some also = same_answers text r q some also (answers text r some h) (answers text q also k)
