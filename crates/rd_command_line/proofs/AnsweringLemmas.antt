@@ -16,17 +16,6 @@ use Rattle.rd_command_line.specs.Answering.{Answers, HasOutcome, PlaysFile, View
 pub plays_file : (R actors : ℕ) (traced : Bool) (d : Devices) (r : Result ℕ ProgramFault) → PlaysScript R actors traced d r → PlaysFile R actors traced d.out_before d.out_after d.out_failed r
 plays_file R actors traced d r plays = inr (d, refl, refl, refl, plays)
 
--- a file was not read, and the output is as it was
-pub views_nothing : (tellings : Tellings) (count : ℕ) (ring : Ring) (actors : ℕ) (output : Option (List ℕ)) (failed : Bool) (fault : ProgramFault) (r : Result ℕ ProgramFault)
-    → IsErrAnd r (λ e. e ≡ fault) → IsUnread fault → failed ≡ false → ViewsFiles tellings count ring actors output output failed r
-views_nothing tellings count ring actors output failed fault r is unread works =
-    fault_passed_up (λ outcome. ViewsFiles tellings count ring actors output output failed outcome) fault r is (inl ((fault, refl, unread), Keeps-refl output, works))
-
--- the scripts in files were viewed
-pub views_files : (tellings : Tellings) (count : ℕ) (ring : Ring) (actors : ℕ) (output output' : Option (List ℕ)) (failed : Bool) (r : Result ℕ ProgramFault) (scripts : List (Vec ℕ Global))
-    → length scripts ≡ count → ViewsFresh tellings ring actors scripts output output' failed r → ViewsFiles tellings count ring actors output output' failed r
-views_files tellings count ring actors output output' failed r scripts same views = inr (scripts, same, views)
-
 -- what was done for words that could be taken
 pub has_outcome : (tellings : Tellings) {S : Type 0} (text : S → Text) (words : Result (Vec S Global) ProgramFault) (taken : Vec S Global) (slice : List S) (d : Devices) (r : Result ℕ ProgramFault)
     → words ≡ Ok taken → slice ≡ taken.items → Answers tellings (map text slice) d r → HasOutcome tellings text words d r

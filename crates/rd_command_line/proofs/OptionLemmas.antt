@@ -77,14 +77,3 @@ TellsNothing-matches words app names m rings is faultless matches nothing = reco
 -- a command that got a subcommand, of commands that are known
 pub added : (all old sub old' sub' : App) → all ≡ with_subcommand old sub.top → old ≡ old' → sub ≡ sub' → all ≡ with_subcommand old' sub'.top
 added all old sub old' sub' is same known = is ∙ ap (λ a. with_subcommand a sub.top) same ∙ ap (λ a. with_subcommand old' a.top) known
-
--- options that are told are in their ranges, if they don't name too many files
-pub told_in_range : (met : Option (Text × List Row)) (o : Options) → Tells met o → HasFewFiles o → AreInRange o
-told_in_range None o tells few = absurd tells
-told_in_range (Some met) (Run file actors ring trace) (inl run) few = (run.1.1.some, run.1.1.few)
-told_in_range (Some met) (Run file actors ring trace) (inr (inl view)) few = absurd view.1
-told_in_range (Some met) (Run file actors ring trace) (inr (inr load)) few = absurd load.1
-told_in_range (Some met) (View files actors ring) (inl run) few = absurd run.1
-told_in_range (Some met) (View files actors ring) (inr (inl view)) few = ((view.1.2.some, view.1.2.few), (view.1.1, few))
-told_in_range (Some met) (View files actors ring) (inr (inr load)) few = absurd load.1
-told_in_range (Some met) (Load file) tells few = tt

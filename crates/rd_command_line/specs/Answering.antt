@@ -32,8 +32,8 @@ PlaysFile R actors traced output output' failed result =
     ((result ≡ Err program.Read) × Keeps output output' × (failed ≡ false))
     ⊎ ((d : Devices) × (d.out_before ≡ output) × (d.out_after ≡ output') × (d.out_failed ≡ failed) × PlaysScript R actors traced d result)
 
--- a file could not be opened or read, and neither stream was touched; or the script on the input was run over the trace that the
--- file's text is, whatever it is
+-- a file could not be opened or read, and neither stream was touched; or some text was loaded, whatever the file gave, and the script
+-- on the input was run over its trace
 abbrev pub LoadsFile : Devices → Result ℕ ProgramFault → Type 0
 LoadsFile d result =
     (((fault : ProgramFault) × (result ≡ Err fault) × IsUnread fault) × TouchesNothing d)

@@ -68,12 +68,13 @@ fn outcome_of<R: Files + Threads + Wait + Sync, S: AsStr + Drop, I: Source, O: S
     answer(rt, alloc, words.as_slice(), input, output)
 }
 
-/// Does what the words of a command line ask for, of which the first is the program's name. Answers the number of the lines
-/// of the script.
+/// Does what the words of a command line ask for, of which the first is the program's name. Answers the number of the script's
+/// lines, or for `view` that of the recorded calls. It may wait, in `view`.
 ///
 /// # Errors
 ///
-/// `Shown` and `Refused` if the words give no options; `Read` if a file can't be opened; and as `play`, `resume` and `whole_text`.
+/// `Shown`, `Refused`, `TooManyFiles` and `NoMemory` if the words give no options; `Read` if a file can't be opened; and as `play`,
+/// `resume`, `view` and `whole_text`.
 pub fn answer<R: Files + Threads + Wait + Sync, S: AsStr, I: Source, O: Sink>(
     rt: &R,
     alloc: Global,

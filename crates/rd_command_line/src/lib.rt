@@ -4,10 +4,10 @@
 //! of its own sees all that the program does.
 #![tactic(auto)]
 
-pub mod answering;
-pub mod command_line;
-pub mod requests;
+mod answering;
+mod command_line;
+mod requests;
 
-pub use answering::{answer, perform, words_of};
+pub use answering::{answer, fault_of, perform, words_of};
 pub use command_line::{not_text, options};
 pub use requests::{Options, OptionsFault};

@@ -4,12 +4,12 @@
 //! that is loaded; or several scripts run over one fresh world, each by a viewer of its own. How it went, as a `Result`, determines the end: an exit status, and what goes to standard output and to standard error.
 #![tactic(auto)]
 
-pub mod endings;
-pub mod faults;
-pub mod program;
-pub mod viewers;
+mod endings;
+mod faults;
+mod program;
+mod viewers;
 
-pub use endings::{Ending, Message, end};
+pub use endings::end;
 pub use faults::ProgramFault;
 pub use program::{play, resume, whole_text};
 pub use viewers::view;

@@ -38,19 +38,3 @@ Appends-join (Some xs) (Some ys) (Some zs) x y h k = k ∙ ap (λ t. t ++ y) h �
 pub Appends-nil : (a : Option (List ℕ)) → Appends a a []
 Appends-nil None = tt
 Appends-nil (Some xs) = sym (append-nil xs)
-
--- what is kept twice is kept
-pub Keeps-join : (a b c : Option (List ℕ)) → Keeps a b → Keeps b c → Keeps a c
-Keeps-join None b c h k = tt
-Keeps-join (Some xs) None c h k = absurd h
-Keeps-join (Some xs) (Some ys) None h k = absurd k
-Keeps-join (Some xs) (Some ys) (Some zs) h k = k ∙ h
-
--- what is known is kept where nothing happens
-pub Keeps-same : (a : Option (List ℕ)) → Keeps a a
-Keeps-same None = tt
-Keeps-same (Some xs) = refl
-
--- bytes are given of what was kept
-pub Consumes-kept : (a b c : Option (List ℕ)) (x : List ℕ) → Keeps a b → Consumes b c x → Consumes a c x
-Consumes-kept a b c x h k = Consumes-join a b c [] x (Consumes-from_keeps a b h) k

@@ -1,10 +1,9 @@
 -- A line that is being read.
-use Rattle.std.proofs.Common.{◌≡◌, ◌≢◌, ℕ, ◌+◌, ◌-◌, ◌^◌, Bool, true, false, List, [], ◌∷◌, ◌++◌, length, Option, Some, None, refl, sym, ◌∙◌, ap, subst, arith, inl, inr, length-append}
-use Rattle.std.proofs.lemmas.List.{append-nil}
-use Rattle.std.specs.Io.KnownBytes.{Consumes, IsAtEnd}
+use Rattle.std.proofs.Common.{◌≡◌, ◌≢◌, ℕ, ◌+◌, Bool, false, List, [], ◌∷◌, ◌++◌, length, Option, Some, None, refl, sym, ◌∙◌, ap, length-append}
+use Rattle.std.specs.Io.KnownBytes.{Consumes}
 use Rattle.rd_script.specs.declared.reading.lines.Line.{Line}
 use Rattle.rd_script.specs.Device.{Gives}
-use Rattle.rd_script.specs.Lines.{IsOneLine, Holds, ReadsLine, ReadsLast, ReadsPart}
+use Rattle.rd_script.specs.Lines.{IsOneLine, Holds, ReadsLine, ReadsLast}
 use Rattle.rd_script.proofs.KnownLemmas.{Consumes-nil, Consumes-join}
 
 -- these many bytes were given, all of them before the line feed, and are held by the line
@@ -67,31 +66,4 @@ is_last {old} {now} new b gives n = record {
   };
   some = some_text b.text (λ z. n (sym b.counted ∙ z));
   ended = gives.1;
-}
-
--- nothing was read before the end
-pub is_end : {old now : Option (List ℕ)} (new : Option (List ℕ)) {failed : Bool} {line : Line} → HasBegun old now failed line 0 → Gives now new None → Consumes old new [] × IsAtEnd new
-is_end {old} {now} new b gives =
-    (subst (λ t. Consumes old new t) (no_text b.text b.counted) (subst (λ t. Consumes old new t) (append-nil b.text) (Consumes-join old now new b.text [] b.took gives.0)), gives.1)
-  where
-    no_text : (text : List ℕ) → length text ≡ 0 → text ≡ []
-    no_text [] e = refl
-    no_text (x ∷ xs) e = absurd (omega arith)
-
--- a fault ends the reading in mid-line
-pub is_broken : {old now : Option (List ℕ)} (new : Option (List ℕ)) {failed failed' : Bool} {line : Line} {count : ℕ} → HasBegun old now failed line count → Consumes now new [] → failed' ≡ true → ReadsPart old new failed'
-is_broken {old} {now} new b keeps fails = record {
-  text = b.text;
-  is_one = b.is_one;
-  took = subst (λ t. Consumes old new t) (append-nil b.text) (Consumes-join old now new b.text [] b.took keeps);
-  cause = inl fails;
-}
-
--- 2^64 - 1 bytes without an end
-pub is_endless : {old now : Option (List ℕ)} {failed : Bool} {line : Line} → HasBegun old now failed line (2 ^ 64 - 1) → ReadsPart old now failed
-is_endless b = record {
-  text = b.text;
-  is_one = b.is_one;
-  took = b.took;
-  cause = inr (omega (arith, b.counted));
 }

@@ -8,8 +8,7 @@ use Rattle.rd_script.specs.declared.faults.LineFault.{LineFault}
 use Rattle.rd_script.specs.declared.faults.LineFault.TheVariants.{BadLine, LineTooLong, BadName}
 use Rattle.rd_script.specs.declared.reading.keywords.Keyword.{Keyword}
 use Rattle.rd_script.specs.declared.reading.keywords.Keyword.TheVariants.{Enq, Deq, ArrayEnq, ArrayDeq, Go, Starve, Undo, Roll, Back, Redo, Forward, Mark, Drop, Goto, Marks, MarkAt, Same, Origin, Writer, Show, Actor, Step, Len}
-use Rattle.rd_script.specs.declared.reading.commands.TheConstants.{MOST_LINE_BYTES}
-use Rattle.rd_script.specs.Spelling.{spelling, IsInRange, AreOne, is_word, IsMisnamed, Says}
+use Rattle.rd_script.specs.Spelling.{most_line_bytes, spelling, IsInRange, AreOne, is_word, IsMisnamed, Says}
 use Rattle.rd_script.specs.Words.{keyword_text, keyword_of, arguments_of, IsBadName, AreBadNames, NamesBadly, ReadsCommand}
 use Rattle.rd_script.proofs.NameReadLemmas.{not_badly_named}
 use Rattle.rd_script.proofs.OneLemmas.{one_keyword, one_command}
@@ -103,20 +102,20 @@ misnamed_line line Step words e bad = absurd bad
 misnamed_line line Len words e bad = absurd bad
 
 -- a line is bad if its words are those of no command and of no misnamed line
-bad_line : (line : List ℕ) → length line ≤ MOST_LINE_BYTES → ((c : Command) → IsInRange c → cut line ≢ words_of c) → (MisnamedWords (cut line) → ⊥) → Says line (Err BadLine)
+bad_line : (line : List ℕ) → length line ≤ most_line_bytes → ((c : Command) → IsInRange c → cut line ≢ words_of c) → (MisnamedWords (cut line) → ⊥) → Says line (Err BadLine)
 bad_line line few none good = (few, (λ c small e. none c small (words_of_line line c small e)), (λ bad. good (misnamed_words line bad)))
 
 -- a line of more than four words is bad
-pub too_many_words : (line : List ℕ) → length line ≤ MOST_LINE_BYTES → 4 < length (slice_split (λ byte. byte == 32) line) → Says line (Err BadLine)
+pub too_many_words : (line : List ℕ) → length line ≤ most_line_bytes → 4 < length (slice_split (λ byte. byte == 32) line) → Says line (Err BadLine)
 too_many_words line few many = bad_line line few (λ c small e. absurd (omega (arith, many, ap length e, few_arguments c))) (λ bad. absurd (omega (arith, many, ap length bad.whole, bad.few)))
 
 -- a line whose first word is no keyword is bad
-pub no_keyword : (line word : List ℕ) (words : List (List ℕ)) → length line ≤ MOST_LINE_BYTES → word ∷ words ≡ slice_split (λ byte. byte == 32) line → ((k : Keyword) → word ≢ keyword_text k) → Says line (Err BadLine)
+pub no_keyword : (line word : List ℕ) (words : List (List ℕ)) → length line ≤ most_line_bytes → word ∷ words ≡ slice_split (λ byte. byte == 32) line → ((k : Keyword) → word ≢ keyword_text k) → Says line (Err BadLine)
 no_keyword line word words few is none =
     bad_line line few (λ c small e. none (keyword_of c) (ap first_word (is ∙ e))) (λ bad. none bad.keyword (ap first_word (is ∙ bad.whole)))
 
 -- what the words behind the keyword say, the line says
-pub says_words : (line : List ℕ) (k : Keyword) (words : List (List ℕ)) (r : Result Command LineFault) → length line ≤ MOST_LINE_BYTES → keyword_text k ∷ words ≡ slice_split (λ byte. byte == 32) line → ReadsCommand k words r → Says line r
+pub says_words : (line : List ℕ) (k : Keyword) (words : List (List ℕ)) (r : Result Command LineFault) → length line ≤ most_line_bytes → keyword_text k ∷ words ≡ slice_split (λ byte. byte == 32) line → ReadsCommand k words r → Says line r
 says_words line k words (Ok c) few is reads =
     (few, reads.0, line_of_words line c (ap (λ word. keyword_text word ∷ arguments_of c) reads.1 ∙ ap (λ w. keyword_text k ∷ w) (sym reads.2) ∙ is))
 says_words line k words (Err BadLine) few is reads =
@@ -134,7 +133,7 @@ not_misnamed line bad c small e =
     not_badly_named w.keyword w.behind w.bad c small (sym (one_keyword w.keyword (keyword_of c) (ap first_word same))) (ap (drop 1) same)
 
 -- a line that spells a command says that command
-pub one_said : (line : List ℕ) (r : Result Command LineFault) → Says line r → (c : Command) → length line ≤ MOST_LINE_BYTES → IsInRange c → line ≡ spelling c → IsOkAnd r (λ d. AreOne c d)
+pub one_said : (line : List ℕ) (r : Result Command LineFault) → Says line r → (c : Command) → length line ≤ most_line_bytes → IsInRange c → line ≡ spelling c → IsOkAnd r (λ d. AreOne c d)
 one_said line (Ok d) said c few small e =
     let same = sym (words_of_line line c small e) ∙ words_of_line line d said.1 said.2 in
     one_command c d small said.1 (one_keyword (keyword_of c) (keyword_of d) (ap first_word same)) (ap (drop 1) same)

@@ -7,8 +7,7 @@ use Rattle.rd_script.specs.declared.reading.lines.Reading.TheVariants.{Ended, La
 use Rattle.rd_script.specs.declared.devices.sources.ReadFault.{ReadFault}
 use Rattle.rd_marks.specs.declared.commands.Command.{Command}
 use Rattle.rd_script.specs.declared.faults.LineFault.{LineFault}
-use Rattle.rd_script.specs.declared.reading.commands.TheConstants.{MOST_LINE_BYTES}
-use Rattle.rd_script.specs.Spelling.{Says}
+use Rattle.rd_script.specs.Spelling.{Says, most_line_bytes}
 
 -- the lines with this byte put before the first; a byte before no line makes one
 abbrev pub with_first_byte : ℕ → List (List ℕ) → List (List ℕ)
@@ -44,7 +43,7 @@ IsOneLine (byte ∷ bytes) = (byte ≢ 10) × IsOneLine bytes
 
 -- the line was made of this text: it keeps all of it, or knows that there are more bytes than a line may have
 abbrev pub Holds : Line → List ℕ → Type 0
-Holds line text = MatchBool line.is_too_long (MOST_LINE_BYTES < length text) (line.kept.items ≡ text)
+Holds line text = MatchBool line.is_too_long (most_line_bytes < length text) (line.kept.items ≡ text)
 
 -- a source that had the old bytes left gave this line and what ended it, and has the new bytes left
 pub record ReadsLine (old new : Option (List ℕ)) (line : Line) (ending : List ℕ) : Type 0 where

@@ -11,7 +11,6 @@ use Rattle.rd_marks.specs.declared.commands.Command.{Command}
 use Rattle.rd_marks.specs.declared.commands.Command.TheVariants.{Enq, Deq, ArrayEnq, ArrayDeq, Go, Starve, Undo, UndoAt, Roll, Back, Redo, Forward, Mark, DropMark, GotoMark, Marks, MarkAt, Same, Origin, Writer, Show, Actor, Step, Len}
 use Rattle.rd_script.specs.declared.faults.LineFault.{LineFault}
 use Rattle.rd_script.specs.declared.faults.LineFault.TheVariants.{BadLine, LineTooLong, BadName}
-use Rattle.rd_script.specs.declared.reading.commands.TheConstants.{MOST_LINE_BYTES}
 use Rattle.rd_script.specs.Texts.{spaced_number}
 use Rattle.rd_script.specs.Contents.{place_words}
 use Rattle.rd_script.specs.Events.{event_words}
@@ -103,10 +102,14 @@ IsMisnamed line =
     ⊎ ((one : List ℕ) × (other : List ℕ) × (is_word one ≡ true) × (is_word other ≡ true)
     × (is_mark_name one && is_mark_name other ≡ false) × (line ≡ codes "same " ++ one ++ codes " " ++ other))
 
+-- how many bytes a line may have, without its line feed
+abbrev pub most_line_bytes : ℕ
+most_line_bytes = 256
+
 -- what a line says: a command that it spells, or its fault
 abbrev pub Says : List ℕ → Result Command LineFault → Type 0
-Says line (Ok command) = (length line ≤ MOST_LINE_BYTES) × IsInRange command × (line ≡ spelling command)
-Says line (Err LineTooLong) = MOST_LINE_BYTES < length line
-Says line (Err BadName) = (length line ≤ MOST_LINE_BYTES) × IsMisnamed line
+Says line (Ok command) = (length line ≤ most_line_bytes) × IsInRange command × (line ≡ spelling command)
+Says line (Err LineTooLong) = most_line_bytes < length line
+Says line (Err BadName) = (length line ≤ most_line_bytes) × IsMisnamed line
 Says line (Err BadLine) =
-    (length line ≤ MOST_LINE_BYTES) × ((command : Command) → IsInRange command → line ≢ spelling command) × (IsMisnamed line → ⊥)
+    (length line ≤ most_line_bytes) × ((command : Command) → IsInRange command → line ≢ spelling command) × (IsMisnamed line → ⊥)

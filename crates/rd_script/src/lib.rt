@@ -6,12 +6,12 @@
 //! themselves. What the lines of a whole text say is given as a list, which takes memory.
 #![tactic(auto)]
 
-pub mod answers;
-pub mod devices;
-pub mod faults;
-pub mod reading;
-pub mod script;
-pub mod writing;
+mod answers;
+mod devices;
+mod faults;
+mod reading;
+mod script;
+mod writing;
 
 pub use answers::LineAnswer;
 pub use devices::sinks::{Sink, WriteFault, WriteSink, hand_over};
@@ -23,4 +23,4 @@ pub use script::{run, write_answer};
 pub use writing::headings::{Heading, write_heading};
 pub use writing::labels::label_of;
 pub use writing::lines::set_text;
-pub use writing::texts::{MOST_BYTES, Text};
+pub use writing::texts::Text;

@@ -5,6 +5,7 @@
 mod devices;
 mod going;
 mod halves;
+mod hostile;
 mod lone_faults;
 mod long_runs;
 mod origins;
@@ -19,9 +20,7 @@ mod undoing;
 use rd_actor::{Actor, Op, OpReply, Pc};
 use rd_cell::{ArrSlot, Cell, Content, SegName};
 use rd_marks::{MarkName, Reply};
-use rd_script::answers::LineAnswer;
-use rd_script::writing::lines::set_text;
-use rd_script::writing::texts::Text;
+use rd_script::{LineAnswer, Text, set_text};
 use std::process::Abort;
 use std::test::Fail;
 

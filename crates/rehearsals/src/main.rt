@@ -27,7 +27,7 @@ struct Rehearsal {
 const AMPLE: usize = 1_000_000;
 
 /// The command lines, in order. The script on the input of those that open a file differs from that file's.
-const REHEARSALS: [Rehearsal; 25] = [
+const REHEARSALS: [Rehearsal; 26] = [
     Rehearsal {
         words: &[
             "run",
@@ -54,6 +54,11 @@ const REHEARSALS: [Rehearsal; 25] = [
     Rehearsal {
         words: &["run", "-", "--trace"],
         input: "enq 1 7\ngo 1\n",
+        room: AMPLE,
+    },
+    Rehearsal {
+        words: &["run", "closed-ring.script", "--ring", "2"],
+        input: "len\n",
         room: AMPLE,
     },
     Rehearsal {

@@ -1,7 +1,6 @@
 //! Command lines, each with the options that it gives or with how it is refused.
 
-use rd_command_line::command_line::options;
-use rd_command_line::requests::{Options, OptionsFault};
+use rd_command_line::{Options, OptionsFault, options};
 use rd_trace::Ring;
 use std::alloc::Global;
 use std::fmt::Write;

@@ -1,8 +1,6 @@
 //! How the program ends where its words give no options.
 
-use rd_command_line::answering::{fault_of, perform};
-use rd_command_line::command_line::not_text;
-use rd_command_line::requests::OptionsFault;
+use rd_command_line::{OptionsFault, fault_of, not_text, perform};
 use rd_program::ProgramFault;
 use rd_script::{ReadSource, WriteSink};
 use std::alloc::Global;

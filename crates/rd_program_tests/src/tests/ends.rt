@@ -1,8 +1,7 @@
 //! How the program ends after each outcome.
 
 use rd_cell::Refusal;
-use rd_program::endings::end;
-use rd_program::faults::ProgramFault;
+use rd_program::{ProgramFault, end};
 use rd_script::WriteSink;
 use std::alloc::Global;
 use std::io;

@@ -1,8 +1,7 @@
 //! Traces that the program loads, each with a script over it and its report, or with the fault that it comes to.
 
 use rd_cell::Refusal;
-use rd_program::faults::ProgramFault;
-use rd_program::program::{resume, whole_text};
+use rd_program::{ProgramFault, resume, whole_text};
 use rd_script::{ReadSource, WriteSink};
 use rd_step::Flaw;
 use std::alloc::Global;

@@ -1,6 +1,6 @@
 //! Scripts as the program runs them: over the fresh world of the options' actors and ring.
 
-use rd_program::program::play;
+use rd_program::play;
 use rd_script::{ReadSource, WriteSink};
 use rd_trace::Ring;
 use std::alloc::Global;

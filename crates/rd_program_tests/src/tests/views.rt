@@ -2,8 +2,7 @@
 
 ghost use Rattle.std.specs.Prelude.{◌≤◌, length};
 
-use rd_program::faults::ProgramFault;
-use rd_program::viewers::view;
+use rd_program::{ProgramFault, view};
 use rd_script::WriteSink;
 use rd_trace::Ring;
 use std::alloc::{AllocError, Global};

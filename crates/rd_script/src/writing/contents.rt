@@ -47,7 +47,7 @@ pub fn put_value(text: &mut Text, value: Option<u64>)
     }
 }
 
-/// Whether a ring is closed for enqueues.
+/// The word for whether a ring is closed for enqueues.
 pub fn tail_word(closed: bool) -> &'static [u8]
     ensures name { result.now ≡ tail_word closed }
     ensures len { length result.now ≤ 6 }

@@ -1,10 +1,7 @@
 //! Devices that fail, take little or are interrupted.
 
 use super::runs::poised;
-use rd_script::devices::sinks::WriteSink;
-use rd_script::devices::sources::ReadSource;
-use rd_script::faults::ScriptFault;
-use rd_script::script::run;
+use rd_script::{ReadSource, ScriptFault, WriteSink, run};
 use std::alloc::Global;
 use std::io;
 use std::io::{Read, Write};

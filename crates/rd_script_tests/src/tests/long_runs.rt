@@ -4,10 +4,7 @@ ghost use Rattle.std.specs.Prelude.{◌≤◌};
 
 use super::runs::fresh;
 use rd_marks::Command;
-use rd_script::devices::sinks::WriteSink;
-use rd_script::devices::sources::ReadSource;
-use rd_script::reading::whole_texts::lines;
-use rd_script::script::run;
+use rd_script::{ReadSource, WriteSink, lines, run};
 use std::alloc::Global;
 use std::process::Abort;
 use std::test::Fail;

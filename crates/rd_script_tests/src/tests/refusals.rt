@@ -2,10 +2,7 @@
 
 use super::line_is;
 use rd_cell::Refusal;
-use rd_script::answers::LineAnswer;
-use rd_script::devices::sinks::WriteSink;
-use rd_script::faults::{LineFault, ScriptFault};
-use rd_script::script::write_answer;
+use rd_script::{LineAnswer, LineFault, ScriptFault, WriteSink, write_answer};
 use rd_step::Flaw;
 use std::alloc::Global;
 use std::process::Abort;

@@ -2,10 +2,7 @@
 
 use super::runs::{poised, report_is};
 use rd_marks::Command;
-use rd_script::devices::sinks::WriteSink;
-use rd_script::faults::LineFault;
-use rd_script::reading::whole_texts::lines;
-use rd_script::writing::headings::{Heading, write_heading};
+use rd_script::{Heading, LineFault, WriteSink, lines, write_heading};
 use std::alloc::{AllocError, Global};
 use std::process::Abort;
 use std::test::Fail;
