@@ -1,153 +1,259 @@
--- What is kept of a run goes on over one more step as it should.
-use Rattle.std.proofs.Common.{◌≡◌, ◌≢◌, ℕ, zero, suc, ◌+◌, ◌<◌, Bool, true, false, ◌||◌, ◌==◌, if◌then◌else◌, List, [], ◌∷◌, ◌++◌, length, get_or, replicate, Vec, Option, Some, None, refl, sym, ap, subst, ◌∙◌, arith, eqb-true, eq-eqb}
+-- What is kept of two runs while they are compared goes on over one more step as it should.
+use Rattle.std.proofs.Common.{◌≡◌, ◌↔◌, ℕ, ◌+◌, ◌<◌, ◌≤◌, Bool, true, false, not, ◌&&◌, ◌==◌, if◌then◌else◌, cond, IsTrue, inl, inr, List, [], ◌∷◌, ◌++◌, length, map, get_or, reverse, Vec, Global, Option, Some, None, IsSome, MatchOption, refl, sym, ap, subst, ◌∙◌, arith, eqb-true}
+use Rattle.std.proofs.lemmas.Option.{slice_get-get_or, slice_get_past}
+use Rattle.std.proofs.lemmas.Bool.{cases_eq, and_from, and_parts, or_left, false≢true, eqb-false}
+use Rattle.std.proofs.lemmas.List.{map-append, reverse-append, nil_from_length}
+use Rattle.std.specs.Option.{option_to_list}
 use Rattle.std.proofs.Math.ListN.{set}
-use Rattle.std.proofs.lemmas.List.{get_or-set_same, get_or-set_other}
-use Rattle.std.specs.declared.alloc.Global.{Global}
-use Rattle.rd_cell.specs.declared.places.SegName.{SegName}
 use Rattle.rd_cell.specs.declared.places.Place.{Place}
-use Rattle.rd_cell.specs.declared.places.Place.TheVariants.{Whole}
-use Rattle.rd_cell.specs.Places.{index_half, is_place}
+use Rattle.rd_cell.specs.declared.places.Place.TheVariants.{Cell, Val, Whole}
+use Rattle.rd_cell.specs.Places.{index_half, is_nothing, is_place}
 use Rattle.rd_cell.proofs.ListLemmas.{slice_get-set_same, slice_get-set_other}
+use Rattle.rd_cell.proofs.PlaceLemmas.{is_name-refl, is_place-refl}
 use Rattle.rd_step.specs.Prelude.{Wrote, WroteNothing, WrotePlace, WroteIndex}
 use Rattle.rd_step.specs.declared.entries.Entry.{Entry}
 use Rattle.rd_depend.specs.declared.index.keys.Key.{Key}
 use Rattle.rd_depend.specs.declared.index.keys.Key.TheVariants.{At, In}
-use Rattle.rd_depend.specs.declared.last_writers.StepName.{StepName}
-use Rattle.rd_depend.specs.declared.last_writers.Compared.{Compared}
-use Rattle.rd_depend.specs.Keys.{is_that, value_of_place}
-use Rattle.rd_depend.specs.LastWriters.{Progress, no_progress, next, next_name, wrote_under, is_whole_of, written_key, written_value_key, made_key, overwritten, compared, all_compared, progress_after, of_actor}
+use Rattle.rd_depend.specs.declared.last_writers.PlacedStep.{PlacedStep}
+use Rattle.rd_depend.specs.declared.last_writers.Reached.{Reached}
+use Rattle.rd_depend.specs.Index.{is_value_written}
+use Rattle.rd_depend.specs.Keys.{is_key, is_that, is_under, place_key, value_key, segment_key, segment_of_place, value_of_place}
+use Rattle.rd_depend.specs.KeyLaws.{is_key-true, is_key-refl}
+use Rattle.rd_depend.specs.LastWriters.{wrote_under, is_making, bound, passed, moved, moved_under, IsInOrder, IsBehind, Placed, with_first}
+use Rattle.rd_depend.specs.ComparedSteps.{reached_or_nothing}
 use Rattle.rd_depend.specs.Lists.{list_at, items_of}
-use Rattle.rd_depend.proofs.IndexKeys.{kept_at, kept_half, no_value}
-use Rattle.rd_depend.proofs.ComparingLemmas.{actor_steps, own_one, other_one, append-nil}
+use Rattle.rd_depend.proofs.IndexKeys.{kept_at, kept_half}
+use Rattle.rd_depend.proofs.TouchedKeys.{under_one, one_under}
 
--- The keys under which a step writes
+-- The three keys of a place are different
 
-or_false : (b : Bool) → b ≡ (b || false)
-or_false true = refl
-or_false false = refl
+value_apart : (p : Place) (k : Key) → place_key (Some p) ≡ Some k → value_of_place p ≡ Some k → ⊥
+value_apart (Cell s i) k h g = cc
+value_apart _ k h g = cc
 
-not_made : (p r : Place) → is_that (At p) (made_key (Some r)) ≡ false
-not_made p (Whole t) = refl
-not_made p _ = refl
+segment_at : (p q : Place) → segment_of_place p ≡ Some (At q) → ⊥
+segment_at (Whole s) q h = cc
+segment_at _ q h = cc
 
--- under a place
-at_keys : (p r : Place) (w : Wrote)
-    → wrote_under (At p) (Some r) w ≡ ((is_that (At p) (written_key (Some r) w) || is_that (At p) (written_value_key (Some r) w)) || is_that (At p) (made_key (Some r)))
-at_keys p r WroteNothing = sym (not_made p r)
-at_keys p r WrotePlace =
-    kept_at p r ∙ or_false (is_place p (index_half r) || is_that (At p) (value_of_place r))
-    ∙ ap (λ (b : Bool). (is_place p (index_half r) || is_that (At p) (value_of_place r)) || b) (sym (not_made p r))
-at_keys p r WroteIndex =
-    kept_half p r ∙ or_false (is_place p (index_half r)) ∙ or_false (is_place p (index_half r) || false)
-    ∙ ap (λ (b : Bool). (is_place p (index_half r) || false) || b) (sym (not_made p r))
-
-made_whole : (s : SegName) (r : Place) → is_whole_of s (Some r) ≡ is_that (In s) (made_key (Some r))
-made_whole s (Whole t) = refl
-made_whole s _ = refl
-
--- under a segment
-in_keys : (s : SegName) (r : Place) (w : Wrote)
-    → wrote_under (In s) (Some r) w ≡ ((is_that (In s) (written_key (Some r) w) || is_that (In s) (written_value_key (Some r) w)) || is_that (In s) (made_key (Some r)))
-in_keys s r WroteNothing = made_whole s r
-in_keys s r WrotePlace = made_whole s r ∙ ap (λ (b : Bool). (false || b) || is_that (In s) (made_key (Some r))) (sym (no_value s r))
-in_keys s r WroteIndex = made_whole s r
-
-wrote_keys : (k : Key) (o : Option Place) (w : Wrote)
-    → wrote_under k o w ≡ ((is_that k (written_key o w) || is_that k (written_value_key o w)) || is_that k (made_key o))
-wrote_keys (At p) (Some r) w = at_keys p r w
-wrote_keys (In s) (Some r) w = in_keys s r w
-wrote_keys (At p) None WroteNothing = refl
-wrote_keys (At p) None WrotePlace = refl
-wrote_keys (At p) None WroteIndex = refl
-wrote_keys (In s) None WroteNothing = refl
-wrote_keys (In s) None WrotePlace = refl
-wrote_keys (In s) None WroteIndex = refl
-
-three_times : (a b c : Bool) (x : StepName) (o : Option StepName)
-    → (if c then Some x else if b then Some x else if a then Some x else o) ≡ (if (a || b) || c then Some x else o)
-three_times true true true x o = refl
-three_times true true false x o = refl
-three_times true false true x o = refl
-three_times true false false x o = refl
-three_times false true true x o = refl
-three_times false true false x o = refl
-three_times false false true x o = refl
-three_times false false false x o = refl
-
-more_by : (b : Bool) (xs : List ℕ) (n a m : ℕ) → (n == a) ≡ b → a < length xs → get_or xs n 0 ≡ m
-    → get_or (set xs a (get_or xs a 0 + 1)) n 0 ≡ (if b then suc m else m)
-more_by true xs n a m e within h =
-    let same : n ≡ a = eqb-true n a e in
-    let own : get_or (set xs a (get_or xs a 0 + 1)) a 0 ≡ get_or xs a 0 + 1 = get_or-set_same xs a (get_or xs a 0 + 1) 0 within in
-    let its : get_or xs a 0 ≡ m = subst (λ (k : ℕ). get_or xs k 0 ≡ m) same h in
-    subst (λ (k : ℕ). get_or (set xs a (get_or xs a 0 + 1)) k 0 ≡ suc m) (sym same) (own ∙ (let f : get_or xs a 0 + 1 ≡ suc m = omega arith in f))
-more_by false xs n a m e within h =
-    get_or-set_other xs a n (get_or xs a 0 + 1) 0 (λ g. no e g) ∙ h
+segment_apart : (o : Option Place) (k : Key) → segment_key o ≡ Some k → (place_key o ≡ Some k → ⊥) × (value_key o ≡ Some k → ⊥)
+segment_apart None k h = cc
+segment_apart (Some p) (At q) h = absurd (segment_at p q h)
+segment_apart (Some p) (In s) h = (λ g. cc, λ g. by p g)
   where
-    no : (n == a) ≡ false → n ≡ a → ⊥
-    no f g = let t : (n == a) ≡ true = eq-eqb n a g in cc
+    by : (r : Place) → value_of_place r ≡ Some (In s) → ⊥
+    by (Cell t i) g = cc
+    by _ g = cc
 
--- one more step
-pub advanced : (s : Progress) (x : Entry) (made : List ℕ) (one two last : Key → Option StepName) → ((n : ℕ) → get_or made n 0 ≡ s.made n)
-    → x.event.actor < length made
-    → ((k : Key) → one k ≡ overwritten (written_key x.place x.wrote) (next_name s x.event.actor) s.last k)
-    → ((k : Key) → two k ≡ overwritten (written_value_key x.place x.wrote) (next_name s x.event.actor) one k)
-    → ((k : Key) → last k ≡ overwritten (made_key x.place) (next_name s x.event.actor) two k)
-    → record { made = λ n. get_or (set made x.event.actor (get_or made x.event.actor 0 + 1)) n 0; last = last } ≡ next s x
-advanced s x made one two last counts within h g f =
-    let name = next_name s x.event.actor in
-    let by_key : (k : Key) → last k ≡ (next s x).last k = λ k.
-    f k ∙ ap (λ (o : Option StepName). if is_that k (made_key x.place) then Some name else o)
-    (g k ∙ ap (λ (o : Option StepName). if is_that k (written_value_key x.place x.wrote) then Some name else o) (h k))
-    ∙ three_times (is_that k (written_key x.place x.wrote)) (is_that k (written_value_key x.place x.wrote)) (is_that k (made_key x.place)) name (s.last k)
-    ∙ ap (λ (b : Bool). if b then Some name else s.last k) (sym (wrote_keys k x.place x.wrote)) in
-    let by_number : (n : ℕ) → get_or (set made x.event.actor (get_or made x.event.actor 0 + 1)) n 0 ≡ (next s x).made n = λ n.
-    more_by (n == x.event.actor) made n x.event.actor (s.made n) refl within (counts n) in
-    λ i. record { made = λ n. by_number n i; last = λ k. by_key k i }
+place_apart : (o : Option Place) (k : Key) → place_key o ≡ Some k → value_key o ≡ Some k → ⊥
+place_apart None k h g = cc
+place_apart (Some p) k h g = value_apart p k h g
 
--- The lists by actor
+-- What a step wrote under each of them
 
-pub list_at-more : (lists : List (Vec Compared Global)) (list : Vec Compared Global) (n : ℕ) → ((m : ℕ) → list_at lists m ≡ []) → list.items ≡ []
-    → list_at (lists ++ list ∷ []) n ≡ []
-list_at-more [] list zero all h = h
-list_at-more [] list (suc n) all h = refl
-list_at-more (l ∷ lists) list zero all h = all zero
-list_at-more (l ∷ lists) list (suc n) all h = list_at-more lists list n (λ m. all (suc m)) h
-
--- one more step in the list of its actor
-pub pushed : (lists : List (Vec Compared Global)) (list : Vec Compared Global) (es : List Entry) (x : Entry) (n : ℕ)
-    → ((m : ℕ) → list_at lists m ≡ of_actor m (all_compared no_progress es)) → x.event.actor < length lists
-    → list.items ≡ list_at lists x.event.actor ++ compared (progress_after no_progress es) x ∷ []
-    → list_at (set lists x.event.actor list) n ≡ of_actor n (all_compared no_progress (es ++ x ∷ []))
-pushed lists list es x n before within h = by (n == x.event.actor) refl ∙ sym (actor_steps n es (x ∷ []))
+wrote_place : (o : Option Place) (w : Wrote) (k : Key) → place_key o ≡ Some k → wrote_under k o w ≡ not (is_nothing w)
+wrote_place None w k h = cc
+wrote_place (Some p) w k h = subst (λ (q : Key). wrote_under q (Some p) w ≡ not (is_nothing w)) (let e : At (index_half p) ≡ k = cc in e) (by w)
   where
-    step : Compared
-    step = compared (progress_after no_progress es) x
+    by : (v : Wrote) → wrote_under (At (index_half p)) (Some p) v ≡ not (is_nothing v)
+    by WroteNothing = refl
+    by WrotePlace =
+        kept_at (index_half p) p ∙ or_left (is_place (index_half p) (index_half p)) (is_that (At (index_half p)) (value_of_place p)) (is_place-refl (index_half p))
+    by WroteIndex = kept_half (index_half p) p ∙ is_place-refl (index_half p)
 
-    by : (b : Bool) → (n == x.event.actor) ≡ b
-        → list_at (set lists x.event.actor list) n ≡ of_actor n (all_compared no_progress es) ++ of_actor n (step ∷ [])
+wrote_value : (p : Place) (w : Wrote) (k : Key) → value_of_place p ≡ Some k → wrote_under k (Some p) w ≡ is_value_written w
+wrote_value (Cell s i) w k h = subst (λ (q : Key). wrote_under q (Some (Cell s i)) w ≡ is_value_written w) (let e : At (Val s i) ≡ k = cc in e) (by w)
+  where
+    by : (v : Wrote) → wrote_under (At (Val s i)) (Some (Cell s i)) v ≡ is_value_written v
+    by WroteNothing = refl
+    by WrotePlace = is_place-refl (Val s i)
+    by WroteIndex = refl
+wrote_value _ w k h = cc
+
+wrote_segment : (p : Place) (w : Wrote) (k : Key) → segment_of_place p ≡ Some k → wrote_under k (Some p) w ≡ is_making (Some p)
+wrote_segment p w (At q) h = absurd (segment_at p q h)
+wrote_segment (Whole t) w (In s) h = subst (λ (q : Key). wrote_under q (Some (Whole t)) w ≡ true) (let e : In t ≡ In s = cc in e) (is_name-refl t)
+wrote_segment _ w (In s) h = refl
+
+-- How far steps reached, under one key and under all
+
+moved_at : (o : Option Key) (k : Key) (w : Bool) (i : ℕ) (s : Key → Reached) → o ≡ Some k → moved_under o w i s k ≡ passed (s k) w i
+moved_at o k w i s h = by (is_that k o) (ap (is_that k) h ∙ is_key-refl k)
+  where
+    by : (b : Bool) → b ≡ true → (if b then passed (s k) w i else s k) ≡ passed (s k) w i
+    by true e = refl
+    by false e = cc
+
+that_is : (o : Option Key) (k : Key) → is_that k o ≡ true → o ≡ Some k
+that_is None k h = cc
+that_is (Some q) k h = ap (λ (p : Key). Some p) (sym (is_key-true k q h))
+
+moved_elsewhere : (o : Option Key) (k : Key) (w : Bool) (i : ℕ) (s : Key → Reached) → (o ≡ Some k → ⊥) → moved_under o w i s k ≡ s k
+moved_elsewhere o k w i s h = by (is_that k o) (λ e. h (that_is o k e))
+  where
+    by : (b : Bool) → (b ≡ true → ⊥) → (if b then passed (s k) w i else s k) ≡ s k
+    by true never = absurd (never refl)
+    by false never = refl
+
+-- what was written down under a key, and stays under the others
+pub written_down : (old new : Key → Option Reached) (key : Key) (r : Reached) (w : Bool) (i : ℕ) → ((k : Key) → new k ≡ cond (is_key key k) (Some r) (old k))
+    → r ≡ passed (reached_or_nothing key (old key)) w i
+    → (k : Key) → reached_or_nothing k (new k) ≡ moved_under (Some key) w i (λ q. reached_or_nothing q (old q)) k
+written_down old new key r w i news its k = ap (reached_or_nothing k) (news k) ∙ by (is_key key k) refl
+  where
+    s : Key → Reached
+    s q = reached_or_nothing q (old q)
+
+    by : (b : Bool) → is_key key k ≡ b → reached_or_nothing k (cond b (Some r) (old k)) ≡ moved_under (Some key) w i s k
     by true e =
-        let same : n ≡ x.event.actor = eqb-true n x.event.actor e in
-        let there : list_at (set lists x.event.actor list) x.event.actor ≡ list.items = ap items_of (slice_get-set_same lists x.event.actor list within) in
-        subst (λ (m : ℕ). list_at (set lists x.event.actor list) m ≡ of_actor m (all_compared no_progress es) ++ of_actor m (step ∷ [])) (sym same)
-        (there ∙ h ∙ (λ i. before x.event.actor i ++ sym (own_one x.event.actor step refl) i))
-    by false e =
-        let other : n ≢ x.event.actor = (λ g. no e g) in
-        ap items_of (slice_get-set_other lists x.event.actor n list other) ∙ before n
-        ∙ sym (append-nil (of_actor n (all_compared no_progress es)))
-        ∙ ap (λ (l : List Compared). of_actor n (all_compared no_progress es) ++ l) (sym (other_one n step other))
-      where
-        no : (n == x.event.actor) ≡ false → n ≡ x.event.actor → ⊥
-        no f g = let t : (n == x.event.actor) ≡ true = eq-eqb n x.event.actor g in cc
+        let same : key ≡ k = is_key-true key k e in
+        its ∙ ap (λ (q : Key). passed (s q) w i) same ∙ sym (moved_at (Some key) k w i s (ap (λ (q : Key). Some q) same))
+    by false e = sym (moved_elsewhere (Some key) k w i s (λ h. false≢true (sym e ∙ ap (is_key key) (sym (let f : key ≡ k = cc in f)) ∙ is_key-refl key)))
 
-zeros : (k n : ℕ) → get_or (replicate k zero) n zero ≡ zero
-zeros zero n = refl
-zeros (suc k) zero = refl
-zeros (suc k) (suc n) = zeros k n
+behind_at : (o : Option Key) (k : Key) (s : Key → Reached) (w : Bool) (i : ℕ) → o ≡ Some k → IsBehind s o w i → bound (s k) w < i
+behind_at o k s w i e h = let there : IsBehind s (Some k) w i = subst (λ (q : Option Key). IsBehind s q w i) e h in there
 
--- nothing was kept yet
-pub none_kept : (made : List ℕ) (last : Key → Option StepName) → made ≡ replicate 256 0 → ((k : Key) → last k ≡ None)
-    → record { made = λ n. get_or made n 0; last = last } ≡ no_progress
-none_kept made last h none =
-    let counts : (n : ℕ) → get_or made n 0 ≡ 0 = λ n. ap (λ (l : List ℕ). get_or l n 0) h ∙ zeros 256 n in
-    λ i. record { made = λ n. counts n i; last = λ k. none k i }
+behind_if : (o : Option Key) (s : Key → Reached) (w : Bool) (i : ℕ) → ((k : Key) → o ≡ Some k → bound (s k) w < i) → IsBehind s o w i
+behind_if None s w i h = tt
+behind_if (Some k) s w i h = h k refl
+
+-- the keys of one step, gone over one after another
+module _ (s one two : Key → Reached) (x : Entry) (i : ℕ) (first : (k : Key) → one k ≡ moved_under (place_key x.place) (not (is_nothing x.wrote)) i s k)
+    (second : (k : Key) → two k ≡ moved_under (value_key x.place) (is_value_written x.wrote) i one k) where
+  own_value : (o : Option Place) (k : Key) → value_key o ≡ Some k → wrote_under k o x.wrote ≡ is_value_written x.wrote
+  own_value None k h = cc
+  own_value (Some p) k h = wrote_value p x.wrote k h
+
+  own_segment : (o : Option Place) (k : Key) → segment_key o ≡ Some k → wrote_under k o x.wrote ≡ is_making o
+  own_segment None k h = cc
+  own_segment (Some p) k h = wrote_segment p x.wrote k h
+
+  at_value : (k : Key) → value_key x.place ≡ Some k → one k ≡ s k
+  at_value k e = first k ∙ moved_elsewhere (place_key x.place) k _ i s (λ h. place_apart x.place k h e)
+
+  at_segment : (k : Key) → segment_key x.place ≡ Some k → two k ≡ s k
+  at_segment k e =
+      let apart = segment_apart x.place k e in
+      second k ∙ moved_elsewhere (value_key x.place) k _ i one apart.1 ∙ first k ∙ moved_elsewhere (place_key x.place) k _ i s apart.0
+
+  pub all_moved : (three : Key → Reached) → ((k : Key) → three k ≡ moved_under (segment_key x.place) (is_making x.place) i two k) → three ≡ moved s x i
+  all_moved three third = λ j k. at k (is_under k x.place) refl j
+    where
+      at : (k : Key) (b : Bool) → is_under k x.place ≡ b → three k ≡ (if b then passed (s k) (wrote_under k x.place x.wrote) i else s k)
+      at k true e =
+          elim (under_one k x.place e) [
+            | inl a ↦
+                third k ∙ moved_elsewhere (segment_key x.place) k _ i two (λ h. (segment_apart x.place k h).0 a)
+                ∙ second k ∙ moved_elsewhere (value_key x.place) k _ i one (place_apart x.place k a)
+                ∙ first k ∙ moved_at (place_key x.place) k _ i s a ∙ ap (λ (w : Bool). passed (s k) w i) (sym (wrote_place x.place x.wrote k a))
+            | inr (inl a) ↦
+                third k ∙ moved_elsewhere (segment_key x.place) k _ i two (λ h. (segment_apart x.place k h).1 a)
+                ∙ second k ∙ moved_at (value_key x.place) k _ i one a ∙ (λ j. passed (at_value k a j) (sym (own_value x.place k a) j) i)
+            | inr (inr a) ↦ third k ∙ moved_at (segment_key x.place) k _ i two a ∙ (λ j. passed (at_segment k a j) (sym (own_segment x.place k a) j) i)
+          ]
+      at k false e =
+          third k ∙ moved_elsewhere (segment_key x.place) k _ i two (λ h. false≢true (sym e ∙ one_under k x.place (inr (inr h))))
+          ∙ second k ∙ moved_elsewhere (value_key x.place) k _ i one (λ h. false≢true (sym e ∙ one_under k x.place (inr (inl h))))
+          ∙ first k ∙ moved_elsewhere (place_key x.place) k _ i s (λ h. false≢true (sym e ∙ one_under k x.place (inl h)))
+
+  pub all_behind : (p v g : Bool) → IsTrue p ↔ IsBehind s (place_key x.place) (not (is_nothing x.wrote)) i
+      → IsTrue v ↔ IsBehind one (value_key x.place) (is_value_written x.wrote) i → IsTrue g ↔ IsBehind two (segment_key x.place) (is_making x.place) i
+      → IsTrue (p && v && g) ↔ IsInOrder s x i
+  all_behind p v g by_place by_value by_segment = (
+    λ all k touched.
+        let parts = and_parts (p && v) g all in
+        let two_parts = and_parts p v parts.0 in
+        elim (under_one k x.place touched) [
+          | inl a ↦ subst (λ (w : Bool). bound (s k) w < i) (sym (wrote_place x.place x.wrote k a)) (behind_at (place_key x.place) k s _ i a (by_place.0 two_parts.0))
+          | inr (inl a) ↦
+              subst (λ (w : Bool). bound (s k) w < i) (sym (own_value x.place k a))
+              (subst (λ (r : Reached). bound r (is_value_written x.wrote) < i) (at_value k a) (behind_at (value_key x.place) k one _ i a (by_value.0 two_parts.1)))
+          | inr (inr a) ↦
+              subst (λ (w : Bool). bound (s k) w < i) (sym (own_segment x.place k a))
+              (subst (λ (r : Reached). bound r (is_making x.place) < i) (at_segment k a) (behind_at (segment_key x.place) k two _ i a (by_segment.0 parts.1)))
+        ],
+    λ order.
+        and_from (p && v) g
+        (and_from p v
+        (by_place.1 (behind_if (place_key x.place) s _ i
+        (λ k a. subst (λ (w : Bool). bound (s k) w < i) (wrote_place x.place x.wrote k a) (order k (one_under k x.place (inl a))))))
+        (by_value.1 (behind_if (value_key x.place) one _ i
+        (λ k a.
+        subst (λ (r : Reached). bound r (is_value_written x.wrote) < i) (sym (at_value k a))
+        (subst (λ (w : Bool). bound (s k) w < i) (own_value x.place k a) (order k (one_under k x.place (inr (inl a)))))))))
+        (by_segment.1 (behind_if (segment_key x.place) two _ i
+        (λ k a.
+        subst (λ (r : Reached). bound r (is_making x.place) < i) (sym (at_segment k a))
+        (subst (λ (w : Bool). bound (s k) w < i) (own_segment x.place k a) (order k (one_under k x.place (inr (inr a)))))))),
+  )
+
+-- The lists by actor, each with its first step last
+
+abbrev pub Lists : Type 0
+Lists = List (Vec PlacedStep Global)
+
+abbrev pub as_placed : PlacedStep → Placed
+as_placed p = (p.at, p.entry.now)
+
+abbrev pub left_in : Lists → ℕ → List Placed
+left_in lists n = reverse (map as_placed (list_at lists n))
+
+last_first : (ps qs : List PlacedStep) (p : PlacedStep) → ps ≡ qs ++ p ∷ [] → reverse (map as_placed ps) ≡ as_placed p ∷ reverse (map as_placed qs)
+last_first ps qs p h =
+    ap (λ (l : List PlacedStep). reverse (map as_placed l)) h ∙ ap reverse (map-append as_placed qs (p ∷ []))
+    ∙ reverse-append (map as_placed qs) (as_placed p ∷ [])
+
+left_there : (lists : Lists) (a : ℕ) (list : Vec PlacedStep Global) → a < length lists → left_in (set lists a list) a ≡ reverse (map as_placed list.items)
+left_there lists a list within =
+    ap (λ (o : Option (Vec PlacedStep Global)). reverse (map as_placed (items_of o))) (slice_get-set_same lists a list within)
+
+left_elsewhere : (lists : Lists) (a n : ℕ) (list : Vec PlacedStep Global) → (n == a) ≡ false → left_in (set lists a list) n ≡ left_in lists n
+left_elsewhere lists a n list e =
+    ap (λ (o : Option (Vec PlacedStep Global)). reverse (map as_placed (items_of o))) (slice_get-set_other lists a n list (eqb-false n a e))
+
+-- one more in front of those of its actor
+pub pushed : (lists : Lists) (a : ℕ) (list : Vec PlacedStep Global) (p : PlacedStep) (n : ℕ) → a < length lists → list.items ≡ list_at lists a ++ p ∷ []
+    → left_in (set lists a list) n ≡ with_first (left_in lists) a (as_placed p) n
+pushed lists a list p n within h = by (n == a) refl
+  where
+    by : (b : Bool) → (n == a) ≡ b → left_in (set lists a list) n ≡ (if b then as_placed p ∷ left_in lists n else left_in lists n)
+    by true e =
+        subst (λ (m : ℕ). left_in (set lists a list) m ≡ as_placed p ∷ left_in lists m) (sym (eqb-true n a e))
+        (left_there lists a list within ∙ last_first list.items (list_at lists a) p h)
+    by false e = left_elsewhere lists a n list e
+
+-- the first of those of its actor taken away
+popped : (lists : Lists) (a : ℕ) (list : Vec PlacedStep Global) (p : PlacedStep) (n : ℕ) → a < length lists → list_at lists a ≡ list.items ++ p ∷ []
+    → left_in lists n ≡ with_first (left_in (set lists a list)) a (as_placed p) n
+popped lists a list p n within h = by (n == a) refl
+  where
+    by : (b : Bool) → (n == a) ≡ b → left_in lists n ≡ (if b then as_placed p ∷ left_in (set lists a list) n else left_in (set lists a list) n)
+    by true e =
+        subst (λ (m : ℕ). left_in lists m ≡ as_placed p ∷ left_in (set lists a list) m) (sym (eqb-true n a e))
+        (last_first (list_at lists a) list.items p h ∙ ap (λ (l : List Placed). as_placed p ∷ l) (sym (left_there lists a list within)))
+    by false e = sym (left_elsewhere lists a n list e)
+
+-- or there is none
+pub popped_or_none : (lists : Lists) (a : ℕ) (list : Vec PlacedStep Global) (o : Option PlacedStep) → a < length lists → list_at lists a ≡ list.items ++ option_to_list o
+    → (0 < length (list_at lists a) → IsSome o)
+    → MatchOption o (left_in lists a ≡ []) (λ p. (n : ℕ) → left_in lists n ≡ with_first (left_in (set lists a list)) a (as_placed p) n)
+popped_or_none lists a list None within items some = ap (λ (l : List PlacedStep). reverse (map as_placed l)) (none (list_at lists a) some)
+  where
+    none : (ps : List PlacedStep) → (0 < length ps → IsSome {T = PlacedStep} None) → ps ≡ []
+    none [] h = refl
+    none (p ∷ ps) h = absurd (false≢true (h (omega arith)))
+popped_or_none lists a list (Some p) within items some = λ n. popped lists a list p n within items
+
+-- none is left of an actor whose list is empty, or who has none
+pub none_of_empty : (lists : Lists) (k n : ℕ) (list : Vec PlacedStep Global) → k < length lists → list ≡ get_or lists k list → list.len ≡ 0
+    → ((m : ℕ) → m < k → left_in lists m ≡ []) → n < k + 1 → left_in lists n ≡ []
+none_of_empty lists k n list within there empty before below =
+    elim (cases_eq n k) [
+      | inl e ↦
+          ap (left_in lists) e ∙ ap (λ (o : Option (Vec PlacedStep Global)). reverse (map as_placed (items_of o))) (slice_get-get_or lists k list within)
+          ∙ ap (λ (l : Vec PlacedStep Global). reverse (map as_placed l.items)) (sym there)
+          ∙ ap (λ (l : List PlacedStep). reverse (map as_placed l)) (nil_from_length list.items (omega (arith, empty, list.ok.0)))
+      | inr e ↦ before n (omega arith)
+    ]
+
+pub none_behind : (lists : Lists) (n : ℕ) → length lists ≤ n → left_in lists n ≡ []
+none_behind lists n h = ap (λ (o : Option (Vec PlacedStep Global)). reverse (map as_placed (items_of o))) (slice_get_past lists n h)

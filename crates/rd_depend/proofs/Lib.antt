@@ -12,7 +12,7 @@ pub mod IndexWriters
 pub mod FirstOfActor
 pub mod TouchedKeys
 pub mod TakingOut
-pub mod Agreeing
+pub mod KeepingOrder
 pub mod KeysMeet
 pub mod Moving
 pub mod Sharing

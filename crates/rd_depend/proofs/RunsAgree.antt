@@ -1,4 +1,4 @@
--- Of two runs from one world the events are equivalent exactly where the records agree in what is compared of them.
+-- Of two runs from one world the events are equivalent exactly where the records of the one may be taken out of the other.
 use Rattle.std.proofs.Common.{◌≡◌, ℕ, Bool, true, false, if◌then◌else◌, nat_lt, refl, sym, ◌∙◌, ap, subst, List, [], ◌∷◌, ◌++◌, Option, Some, None, Result, Ok, Err}
 use Rattle.rd_step.specs.Prelude.{SegName, Place, WholeOf, Content, Contents, operand, Operation, Access, Refusal, SegmentsEnd, Performed, Effect, effect, perform, is_nothing, WrotePlace, MOST_SEGMENTS}
 use Rattle.rd_cell.specs.declared.operations.Answer.TheVariants.{Made}
@@ -14,11 +14,9 @@ use Rattle.rd_step.proofs.Equivalence.{as_stepped-same}
 use Rattle.rd_step.proofs.Steps.{took}
 use Rattle.rd_depend.specs.Equivalence.{DecidesEquivalence}
 use Rattle.rd_depend.proofs.FirstOfActor.{MayComeFirst}
-use Rattle.rd_depend.specs.LastWriters.{no_progress, AgreesFrom}
 use Rattle.rd_depend.proofs.Exactness.{front, comes_first, Compares, compares_all, compares_more, compares_end, no_events}
-use Rattle.rd_depend.proofs.TakingOut.{alike-same, IsApartFrom, Takes, TakesAll, agrees}
+use Rattle.rd_depend.proofs.TakingOut.{alike-same, IsApartFrom, Takes, TakesAll}
 use Rattle.rd_depend.proofs.KeysMeet.{MakingWrote, apart_of_free, free_of_apart}
-use Rattle.rd_depend.proofs.Agreeing.{no_progress-is, takes_all}
 
 -- A step of a run at the whole of a segment is its making, which wrote
 
@@ -137,12 +135,10 @@ compares_taken a b (x ∷ xs) ys before h = compares_taken a b xs h.0 (compares_
 
 -- the answers
 
-pub agreeing_equivalent : (a b : List Entry) → AgreesFrom no_progress a b → DecidesEquivalence a b true
-agreeing_equivalent a b h R w runs_a runs_b =
-    let before = compares_taken a b a b (compares_all a b) (takes_all no_progress a b no_progress-is h) in
-    let same = compares_end a b [] before R w runs_a runs_b in
+pub taken_equivalent : (a b : List Entry) → TakesAll a b → DecidesEquivalence a b true
+taken_equivalent a b h R w runs_a runs_b =
+    let same = compares_end a b [] (compares_taken a b a b (compares_all a b) h) R w runs_a runs_b in
     (λ yes. same.1 refl, λ equivalent. refl)
 
-pub differing_apart : (a b : List Entry) → (AgreesFrom no_progress a b → ⊥) → DecidesEquivalence a b false
-differing_apart a b h R w runs_a runs_b =
-    (λ yes. cc, λ equivalent. absurd (h (agrees no_progress a b (equivalent_taken R w a b runs_a runs_b equivalent))))
+pub untaken_different : (a b : List Entry) → (TakesAll a b → ⊥) → DecidesEquivalence a b false
+untaken_different a b h R w runs_a runs_b = (λ yes. cc, λ equivalent. absurd (h (equivalent_taken R w a b runs_a runs_b equivalent)))

@@ -1,18 +1,15 @@
--- What a comparison of two runs keeps of each: how many steps each actor has made, and which step wrote last under each key.
-use Rattle.std.specs.Prelude.{◌≡◌, ℕ, suc, Bool, false, ◌==◌, if◌then◌else◌, List, [], ◌∷◌, Option, Some, None}
+-- Whether the steps of one run keep the order of dependent steps at the places where they stand in another run.
+use Rattle.std.specs.Prelude.{◌≡◌, ◌<◌, ℕ, suc, max, Bool, true, false, ◌==◌, if◌then◌else◌, List, [], ◌∷◌, Option, Some, None}
 use Rattle.rd_cell.specs.declared.places.SegName.{SegName}
 use Rattle.rd_cell.specs.declared.places.Place.{Place}
 use Rattle.rd_cell.specs.declared.places.Place.TheVariants.{Whole}
 use Rattle.rd_cell.specs.declared.places.Wrote.{Wrote}
-use Rattle.rd_cell.specs.Places.{is_name, is_nothing, written}
+use Rattle.rd_cell.specs.Places.{is_name, written}
 use Rattle.rd_step.specs.declared.entries.Entry.{Entry}
 use Rattle.rd_depend.specs.declared.index.keys.Key.{Key}
 use Rattle.rd_depend.specs.declared.index.keys.Key.TheVariants.{At, In}
-use Rattle.rd_depend.specs.declared.last_writers.StepName.{StepName}
-use Rattle.rd_depend.specs.declared.last_writers.Found.{Found}
-use Rattle.rd_depend.specs.declared.last_writers.Compared.{Compared}
-use Rattle.rd_depend.specs.Keys.{is_under, is_that, place_key, value_key, segment_key}
-use Rattle.rd_depend.specs.Index.{is_value_written}
+use Rattle.rd_depend.specs.declared.last_writers.Reached.{Reached}
+use Rattle.rd_depend.specs.Keys.{is_under, is_that}
 
 -- whether a place, if there is one, is the whole of this segment
 abbrev pub is_whole_of : SegName → Option Place → Bool
@@ -25,73 +22,76 @@ abbrev pub wrote_under : Key → Option Place → Wrote → Bool
 wrote_under (At p) place wrote = is_under (At p) (written place wrote)
 wrote_under (In s) place wrote = is_whole_of s place
 
--- how many steps each actor has made, and which step wrote last under each key
-pub record Progress : Type 0 where
-  pub made : ℕ → ℕ
-  pub last : Key → Option StepName
+-- whether a place, if there is one, is the whole of a segment
+abbrev pub is_making : Option Place → Bool
+is_making (Some (Whole t)) = true
+is_making _ = false
 
--- before the first step
-abbrev pub no_progress : Progress
-no_progress = record { made = λ n. 0; last = λ k. None }
+-- the last place that a step under a key has to stand behind: of those that touched it if the step writes, else of those that wrote it
+abbrev pub bound : Reached → Bool → ℕ
+bound r wrote = if wrote then r.touched else r.wrote
 
--- the name of the next step of an actor
-abbrev pub next_name : Progress → ℕ → StepName
-next_name s n = record { actor = n; number = s.made n }
+-- after a step at this place
+abbrev pub passed : Reached → Bool → ℕ → Reached
+passed r wrote i = record { touched = max r.touched i; wrote = if wrote then max r.wrote i else r.wrote }
 
--- after one more step
-abbrev pub next : Progress → Entry → Progress
-next s x = record {
-  made = λ n. if n == x.event.actor then suc (s.made n) else s.made n;
-  last = λ k. if wrote_under k x.place x.wrote then Some (next_name s x.event.actor) else s.last k;
-}
+-- no step yet, under any key
+abbrev pub nothing_reached : Key → Reached
+nothing_reached k = record { touched = 0; wrote = 0 }
 
--- the last writer under a key, if there is a key
-abbrev pub writer_under : (Key → Option StepName) → Option Key → Option StepName
-writer_under last None = None
-writer_under last (Some k) = last k
+-- after a step at this place, under all keys
+abbrev pub moved : (Key → Reached) → Entry → ℕ → Key → Reached
+moved s x i k = if is_under k x.place then passed (s k) (wrote_under k x.place x.wrote) i else s k
 
--- the last writers that a step at this place finds
-abbrev pub writers_found : (Key → Option StepName) → Option Place → Found
-writers_found last place = record {
-  place = writer_under last (place_key place);
-  value = writer_under last (value_key place);
-  segment = writer_under last (segment_key place);
-}
+-- a step at this place stands behind those before it on which it depends
+abbrev pub IsInOrder : (Key → Reached) → Entry → ℕ → Type 0
+IsInOrder s x i = (k : Key) → is_under k x.place ≡ true → bound (s k) (wrote_under k x.place x.wrote) < i
 
--- what is compared of a step that is the next one
-abbrev pub compared : Progress → Entry → Compared
-compared s x = record { event = x.event; place = x.place; wrote = x.wrote; finds = writers_found s.last x.place }
+-- the same of one key, if there is one
+abbrev pub IsBehind : (Key → Reached) → Option Key → Bool → ℕ → Type 0
+IsBehind s None wrote i = Unit {0}
+IsBehind s (Some k) wrote i = bound (s k) wrote < i
 
--- what is compared of these steps, one after another
-abbrev pub all_compared : Progress → List Entry → List Compared
-all_compared s [] = []
-all_compared s (x ∷ xs) = compared s x ∷ all_compared (next s x) xs
+-- after a step at this place, under all keys, if it is under this one alone
+abbrev pub moved_under : Option Key → Bool → ℕ → (Key → Reached) → Key → Reached
+moved_under key wrote i s k = if is_that k key then passed (s k) wrote i else s k
 
--- after these steps
-abbrev pub progress_after : Progress → List Entry → Progress
-progress_after s [] = s
-progress_after s (x ∷ xs) = progress_after (next s x) xs
+-- two steps have the same event and the same place, and wrote the same of it
+pub record AreAlike (x y : Entry) : Type 0 where
+  pub event : x.event ≡ y.event
+  pub place : x.place ≡ y.place
+  pub wrote : x.wrote ≡ y.wrote
 
--- those of one actor, in their order
-abbrev pub of_actor : ℕ → List Compared → List Compared
-of_actor n [] = []
-of_actor n (c ∷ cs) = if n == c.event.actor then c ∷ of_actor n cs else of_actor n cs
+-- a step with its place in its run
+abbrev pub Placed : Type 0
+Placed = ℕ × Entry
 
--- two lists of steps are the same for each actor: it makes the same steps in the same order, and each finds the same last writers
-abbrev pub AgreesFrom : Progress → List Entry → List Entry → Type 0
-AgreesFrom s a b = (n : ℕ) → of_actor n (all_compared s a) ≡ of_actor n (all_compared s b)
+-- these steps with their places, the first one's being i
+abbrev pub placed : ℕ → List Entry → List Placed
+placed i [] = []
+placed i (x ∷ xs) = (i, x) ∷ placed (suc i) xs
 
--- the keys under which a step at this place that wrote this wrote: of its place, of the value half of a cell, of the segment it made
-abbrev pub written_key : Option Place → Wrote → Option Key
-written_key place wrote = if is_nothing wrote then None else place_key place
+-- those of one actor
+abbrev pub by_actor : ℕ → List Placed → List Placed
+by_actor n [] = []
+by_actor n (p ∷ ps) = if n == p.1.event.actor then p ∷ by_actor n ps else by_actor n ps
 
-abbrev pub written_value_key : Option Place → Wrote → Option Key
-written_value_key place wrote = if is_value_written wrote then value_key place else None
+-- the steps of each actor, with these as those of this one
+abbrev pub with_steps : (ℕ → List Placed) → ℕ → List Placed → ℕ → List Placed
+with_steps left n rest m = if m == n then rest else left m
 
-abbrev pub made_key : Option Place → Option Key
-made_key (Some (Whole s)) = Some (In s)
-made_key _ = None
+-- the steps of each actor, with this one before those of its actor
+abbrev pub with_first : (ℕ → List Placed) → ℕ → Placed → ℕ → List Placed
+with_first left n p m = if m == n then p ∷ left m else left m
 
--- the last writers under all keys but one, if there is one, under which it is this step
-abbrev pub overwritten : Option Key → StepName → (Key → Option StepName) → Key → Option StepName
-overwritten key name last k = if is_that k key then Some name else last k
+-- of the steps that are left of each actor, the first one of the actor of x is p; it is like x, and stands in order
+pub record IsNext (s : Key → Reached) (x : Entry) (left : ℕ → List Placed) (p : Placed) (rest : List Placed) : Type 0 where
+  pub first : left x.event.actor ≡ p ∷ rest
+  pub alike : AreAlike x p.1
+  pub order : IsInOrder s x p.0
+
+-- these steps are the ones that are left, each actor's in the same order, and each stands in order
+abbrev pub KeepsOrder : (Key → Reached) → List Entry → (ℕ → List Placed) → Type 0
+KeepsOrder s [] left = (n : ℕ) → left n ≡ []
+KeepsOrder s (x ∷ xs) left =
+    (p : Placed) × (rest : List Placed) × IsNext s x left p rest × KeepsOrder (moved s x p.0) xs (with_steps left x.event.actor rest)

@@ -1,15 +1,16 @@
 //! Whether two lists of records are of causally equivalent events.
 //!
 //! Behind the events that they have in common at their beginning, one pass over each list compares them: they are equivalent exactly
-//! where each actor makes the same steps in the same order, and each step finds the same last writers (`last_writers`).
+//! where each actor makes the same steps in the same order, and steps that depend on each other stand in the same order (`last_writers`).
 
-ghost use Rattle.std.specs.Prelude.{◌≤◌, length, IfOk, OnErr};
+ghost use Rattle.std.specs.Prelude.{◌≡◌, ◌≤◌, length, true, false, IfOk, OnErr};
 ghost use Rattle.rd_step.specs.Run.{events};
 ghost use Rattle.rd_depend.specs.Beginnings.{IsBegunByNeither};
 ghost use Rattle.rd_depend.specs.Equivalence.{DecidesEquivalence};
+ghost use Rattle.rd_depend.specs.ComparedSteps.{GoesOn, StandsElsewhere, left_of, reached_of};
 
 use super::beginnings::common_beginning;
-use super::last_writers::{LastWriters, StepsByActor};
+use super::last_writers::{ReachedByKey, StepsByActor, is_alike};
 use rd_step::Entry;
 use std::alloc::{AllocError, Global};
 
@@ -39,14 +40,30 @@ fn compare(alloc: Global, a: &[Entry], b: &[Entry]) -> Result<bool, AllocError>
     if b.is_empty() {
         return Ok(false);
     }
-    let steps = StepsByActor::of(alloc, a)?;
-    let mut writers = LastWriters::new(alloc);
-    for entry in b {
-        let step = writers.compared(entry);
-        if !steps.has(&step, writers.made(entry.event.actor)) {
+    let mut left = StepsByActor::of(alloc, b)?;
+    let mut reached = ReachedByKey::new(alloc);
+    for entry in a {
+        if !goes_on(&mut left, &mut reached, entry)? {
             return Ok(false);
         }
-        writers.advance(entry)?;
     }
-    Ok(writers.made_as_many(&steps.writers))
+    Ok(left.is_empty())
+}
+
+/// Whether the next step of the other run by the actor of this one is like it, and stands there in order; both go on over it then.
+fn goes_on(
+    left: &mut StepsByActor,
+    reached: &mut ReachedByKey,
+    entry: &Entry,
+) -> Result<bool, AllocError>
+    ensures same { IfOk result (λ ok. ok ≡ true → GoesOn entry.now (reached_of reached.old) (reached_of reached.new) (left_of left.old) (left_of left.new)) }
+    ensures differs { IfOk result (λ ok. ok ≡ false → StandsElsewhere entry.now (reached_of reached.old) (left_of left.old)) }
+{
+    let Some(other) = left.pop(entry.event.actor) else {
+        return Ok(false);
+    };
+    if !is_alike(entry, other.entry) {
+        return Ok(false);
+    }
+    reached.pass(entry, other.at)
 }

@@ -1,263 +1,190 @@
-//! The steps of a run by actor, each with the steps that wrote last what it touches.
+//! The last steps that touched and that wrote what each step touches, by their places in another run of the same steps.
 //!
-//! Two runs are causally equivalent exactly where each actor makes the same steps in the same order, and each step finds the same
-//! last writers in both: of two steps that depend on each other, one is of the same actor as the other, or a last writer that the other finds,
-//! or is followed by one. A making counts as a write of its segment, and each step at a place of the segment as a read of it.
+//! Two runs are causally equivalent exactly where each actor makes the same steps in the same order, and any two steps that depend on each
+//! other stand in the same order in both. So the steps of the one run are gone over, and for each key it is kept how far in the other run
+//! those reached that touched it and those that wrote it: a step that writes has to stand behind both there, and one that only reads behind
+//! those that wrote. A making counts as a write of its segment, and each step at a place of the segment as a read of it.
 
-ghost use Rattle.std.specs.Prelude.{◌≡◌, ◌↔◌, ◌<◌, ◌++◌, ◌∷◌, [], ℕ, length, List, Some, IsTrue, IfOk, OnOk, slice_get, slice_index};
-ghost use Rattle.rd_step.specs.declared.entries.Entry.{Entry as Record};
+ghost use Rattle.std.specs.Prelude.{◌≡◌, ◌↔◌, ◌<◌, ◌∷◌, [], ℕ, length, List, Some, None, IsTrue, IfOk, OnOk, MatchOption};
 ghost use Rattle.rd_depend.specs.declared.index.keys.Key.{Key as KeyOf};
-ghost use Rattle.rd_depend.specs.LastWriters.{no_progress, next, compared, writers_found, written_key, written_value_key, made_key, overwritten, writer_under};
-ghost use Rattle.rd_depend.specs.ComparedSteps.{progress_of, AreStepsOf};
+ghost use Rattle.rd_depend.specs.LastWriters.{AreAlike, IsBehind, IsInOrder, bound, by_actor, is_making, moved, moved_under, nothing_reached, passed, placed, with_first};
+ghost use Rattle.rd_depend.specs.ComparedSteps.{left_of, reached_of};
 ghost use Rattle.rd_depend.specs.Lists.{list_at};
 
 use super::index::changing::{is_value_written, is_written, place_key, segment_key, value_key};
 use super::index::keys::Key;
 use indexmap::IndexMap;
-use rd_cell::{Place, Wrote};
-use rd_step::{Entry, Event};
+use rd_cell::Place;
+use rd_step::Entry;
 use std::alloc::{AllocError, Global};
 
 /// How many numbers an actor may have.
 const ACTORS: usize = 256;
 
-/// A step by its actor, and by how many steps of that actor come before it.
-#[derive(Clone, Copy, Debug, PartialEq, Eq)]
-pub(crate) struct StepName {
-    /// The actor's number.
-    pub(crate) actor: u8,
-    /// How many steps of this actor come before it.
-    pub(crate) number: usize,
+/// How far steps reached in the other run under one key: the last place of one there, counted from 1, or 0 for none.
+#[derive(Clone, Copy, Debug)]
+pub(crate) struct Reached {
+    /// Of those that touched it.
+    pub(crate) touched: usize,
+    /// Of those that wrote it.
+    pub(crate) wrote: usize,
 }
 
-/// The last writers that a step finds under the keys of its place.
-#[derive(Clone, Copy, Debug, PartialEq, Eq)]
-pub(crate) struct Found {
-    /// Of the place, or of the index half of a cell.
-    pub(crate) place: Option<StepName>,
-    /// Of the value half of a cell.
-    pub(crate) value: Option<StepName>,
-    /// Of the whole of the segment: its making.
-    pub(crate) segment: Option<StepName>,
+impl Reached {
+    /// Goes on over a step at this place of the other run, and gives whether it stands behind those before it on which it depends.
+    fn pass(&mut self, wrote: bool, at: usize) -> bool
+        ensures order { IsTrue result ↔ (bound self.old wrote < at) }
+        ensures reached { self.new ≡ passed self.old wrote at }
+    {
+        let last = if wrote { self.touched } else { self.wrote };
+        self.touched = self.touched.max(at);
+        if wrote {
+            self.wrote = self.wrote.max(at);
+        }
+        last < at
+    }
 }
 
-/// What is compared of a step.
-#[derive(Clone, Copy, Debug, PartialEq, Eq)]
-pub(crate) struct Compared {
-    /// Its event.
-    pub(crate) event: Event,
-    /// Its place.
-    pub(crate) place: Option<Place>,
-    /// What it wrote of its place.
-    pub(crate) wrote: Wrote,
-    /// The last writers that it finds.
-    pub(crate) finds: Found,
-}
-
-/// How many steps each actor has made in a run, and which step wrote last under each key.
+/// How far the steps that were gone over reached in the other run, under each key.
 #[derive(Drop)]
-pub(crate) struct LastWriters {
-    made: [usize; ACTORS],
-    last: IndexMap<Key, StepName>,
+pub(crate) struct ReachedByKey {
+    reached: IndexMap<Key, Reached>,
 }
 
-impl LastWriters {
+impl ReachedByKey {
     /// Before the first step. It takes no memory.
-    pub(crate) fn new(alloc: Global) -> LastWriters
-        ensures { progress_of result ≡ no_progress }
+    pub(crate) fn new(alloc: Global) -> ReachedByKey
+        ensures { (k : KeyOf) → reached_of result k ≡ nothing_reached k }
     {
-        LastWriters {
-            made: [0; ACTORS],
-            last: IndexMap::new(alloc),
+        ReachedByKey {
+            reached: IndexMap::new(alloc),
         }
     }
 
-    /// What is compared of the next step.
-    pub(crate) fn compared(&self, entry: &Entry) -> Compared
-        ensures { result ≡ compared (progress_of self.now) entry.now }
-    {
-        Compared {
-            event: entry.event,
-            place: entry.place,
-            wrote: entry.wrote,
-            finds: self.found(entry.place),
-        }
-    }
-
-    /// The last writers that a step at this place finds.
-    fn found(&self, place: Option<Place>) -> Found
-        ensures { result ≡ writers_found (progress_of self.now).last place }
-    {
-        Found {
-            place: self.under(place_key(place)),
-            value: self.under(value_key(place)),
-            segment: self.under(segment_key(place)),
-        }
-    }
-
-    /// The last writer under a key, if there is a key and one wrote there.
-    fn under(&self, key: Option<Key>) -> Option<StepName>
-        ensures { result ≡ writer_under (progress_of self.now).last key }
-    {
-        match key {
-            None => None,
-            Some(key) => self.last.get(&key).copied(),
-        }
-    }
-
-    /// How many steps the actor has made.
-    pub(crate) fn made(&self, actor: u8) -> usize
-        ensures { result ≡ (progress_of self.now).made actor }
-    {
-        self.made[usize::from(actor)]
-    }
-
-    /// Whether each actor has made as many steps as in the other run.
-    pub(crate) fn made_as_many(&self, other: &LastWriters) -> bool
-        ensures { IsTrue result ↔ ((n : ℕ) → (progress_of self.now).made n ≡ (progress_of other.now).made n) }
-    {
-        for actor in 0..ACTORS {
-            if self.made[actor] != other.made[actor] {
-                return false;
-            }
-        }
-        true
-    }
-
-    /// Goes on over one more step.
+    /// Goes on over a step at this place of the other run, and gives whether it stands behind those before it on which it depends.
     ///
     /// # Errors
     ///
     /// If memory was refused.
-    pub(crate) fn advance(&mut self, entry: &Entry) -> Result<(), AllocError>
-        requires { (progress_of self.old).made entry.now.event.actor < usize.MAX }
-        ensures { OnOk result (progress_of self.new ≡ next (progress_of self.old) entry.now) }
+    pub(crate) fn pass(&mut self, entry: &Entry, at: usize) -> Result<bool, AllocError>
+        ensures order { IfOk result (λ ok. IsTrue ok ↔ IsInOrder (reached_of self.old) entry.now at) }
+        ensures reached { OnOk result (reached_of self.new ≡ moved (reached_of self.old) entry.now at) }
     {
-        let actor = entry.event.actor;
-        let name = StepName {
-            actor,
-            number: self.made(actor),
+        let wrote = is_written(entry.wrote);
+        let value_written = is_value_written(entry.wrote);
+        let place = self.pass_under(place_key(entry.place), wrote, at)?;
+        let value = self.pass_under(value_key(entry.place), value_written, at)?;
+        let segment = self.pass_under(segment_key(entry.place), is_making(entry.place), at)?;
+        Ok(place & value & segment)
+    }
+
+    /// The same under one key, if there is one.
+    fn pass_under(&mut self, key: Option<Key>, wrote: bool, at: usize) -> Result<bool, AllocError>
+        ensures order { IfOk result (λ ok. IsTrue ok ↔ IsBehind (reached_of self.old) key wrote at) }
+        ensures reached { OnOk result ((k : KeyOf) → reached_of self.new k ≡ moved_under key wrote at (reached_of self.old) k) }
+    {
+        let Some(key) = key else {
+            return Ok(true);
         };
-        self.put(written_key(entry.place, entry.wrote), name)?;
-        self.put(written_value_key(entry.place, entry.wrote), name)?;
-        self.put(made_key(entry.place), name)?;
-        self.made[usize::from(actor)] += 1;
-        Ok(())
-    }
-
-    /// Has the step be the last writer under the key, if there is one.
-    fn put(&mut self, key: Option<Key>, name: StepName) -> Result<(), AllocError>
-        ensures made { self.new.made ≡ self.old.made }
-        ensures ok { OnOk result ((k : KeyOf) → (progress_of self.new).last k ≡ overwritten key name (progress_of self.old).last k) }
-    {
-        if let Some(key) = key {
-            if self.last.insert(key, name).is_err() {
-                return Err(AllocError);
-            }
+        if let Some(reached) = self.reached.get_mut(&key) {
+            return Ok(reached.pass(wrote, at));
         }
-        Ok(())
+        let mut reached = Reached {
+            touched: 0,
+            wrote: 0,
+        };
+        let order = reached.pass(wrote, at);
+        match self.reached.insert(key, reached) {
+            Err(_) => Err(AllocError),
+            Ok(_) => Ok(order),
+        }
     }
 }
 
-/// The steps of a run by the numbers of their actors, and what is kept of the run behind them.
-#[derive(Drop)]
-pub(crate) struct StepsByActor {
-    steps: Vec<Vec<Compared>>,
-    /// How many steps each actor made, and who wrote last.
-    pub(crate) writers: LastWriters,
+/// Whether a step at this place is the making of a segment.
+fn is_making(place: Option<Place>) -> bool
+    ensures { result ≡ is_making place }
+{
+    matches!(place, Some(Place::Whole(_)))
 }
 
-impl StepsByActor {
+/// A step with its place in its run, counted from 1.
+#[derive(Clone, Copy, Debug)]
+pub(crate) struct PlacedStep<'a> {
+    /// Its place.
+    pub(crate) at: usize,
+    /// Its record.
+    pub(crate) entry: &'a Entry,
+}
+
+/// The steps of a run by the numbers of their actors, each actor's first one last.
+#[derive(Drop)]
+pub(crate) struct StepsByActor<'a> {
+    steps: Vec<Vec<PlacedStep<'a>>>,
+}
+
+impl<'a> StepsByActor<'a> {
     /// The steps of the entries.
     ///
     /// # Errors
     ///
     /// If memory was refused.
-    pub(crate) fn of(alloc: Global, entries: &[Entry]) -> Result<StepsByActor, AllocError>
-        ensures { IfOk result (λ steps. AreStepsOf steps entries.now) }
+    pub(crate) fn of(alloc: Global, entries: &'a [Entry]) -> Result<StepsByActor<'a>, AllocError>
+        ensures { IfOk result (λ steps. (n : ℕ) → left_of steps n ≡ by_actor n (placed 1 entries.entry.now)) }
     {
         let mut steps = StepsByActor {
             steps: empty_lists(alloc)?,
-            writers: LastWriters::new(alloc),
         };
-        for entry in entries {
-            steps.push(entry)?;
+        let mut index = entries.len();
+        while index > 0 {
+            index -= 1;
+            steps.push(index + 1, &entries[index])?;
         }
         Ok(steps)
     }
 
-    /// One more step.
-    fn push(&mut self, entry: &Entry) -> Result<(), AllocError>
-        requires number { length self.old.steps.items ≡ ACTORS }
-        requires few { (progress_of self.old.writers).made entry.now.event.actor < usize.MAX }
+    /// One more step, before all others.
+    fn push(&mut self, at: usize, entry: &'a Entry) -> Result<(), AllocError>
+        requires { length self.old.steps.items ≡ ACTORS }
         ensures number { length self.new.steps.items ≡ ACTORS }
-        ensures ok { OnOk result ((es : List Record) → AreStepsOf self.old es → AreStepsOf self.new (es ++ entry.now ∷ [])) }
+        ensures ok { OnOk result ((n : ℕ) → left_of self.new n ≡ with_first (left_of self.old) entry.entry.now.event.actor (at, entry.entry.now) n) }
     {
-        let step = self.writers.compared(entry);
-        self.steps[usize::from(entry.event.actor)].push(step)?;
-        self.writers.advance(entry)
+        self.steps[usize::from(entry.event.actor)].push(PlacedStep { at, entry })?;
+        Ok(())
     }
 
-    /// Whether this is the step of its actor that has so many of it before it.
-    pub(crate) fn has(&self, step: &Compared, number: usize) -> bool
-        ensures { IsTrue result ↔ (slice_get (list_at self.now.steps.items step.now.event.actor) number ≡ Some step.now) }
+    /// Takes the actor's first step, if there is one.
+    pub(crate) fn pop(&mut self, actor: u8) -> Option<PlacedStep<'a>>
+        ensures { MatchOption result (left_of self.old actor ≡ []) (λ p. (n : ℕ) → left_of self.old n ≡ with_first (left_of self.new) actor (p.at, p.entry.now) n) }
     {
-        match self.steps.get(usize::from(step.event.actor)) {
-            None => false,
-            Some(steps) => is_at(steps, step, number),
+        match self.steps.get_mut(usize::from(actor)) {
+            None => None,
+            Some(steps) => steps.pop(),
         }
     }
-}
 
-/// Whether the step is the one at this index.
-fn is_at(steps: &[Compared], step: &Compared, index: usize) -> bool
-    ensures { IsTrue result ↔ (slice_get steps.now index ≡ Some step.now) }
-{
-    match steps.get(index) {
-        None => false,
-        Some(other) => is_same(other, step),
+    /// Whether none is left.
+    pub(crate) fn is_empty(&self) -> bool
+        ensures { IsTrue result ↔ ((n : ℕ) → left_of self.now n ≡ []) }
+    {
+        for steps in &self.steps {
+            if !steps.is_empty() {
+                return false;
+            }
+        }
+        true
     }
 }
 
-/// Whether the two are one: compared part by part, in the order in which they differ most.
-fn is_same(a: &Compared, b: &Compared) -> bool
-    ensures { IsTrue result ↔ (a.now ≡ b.now) }
+/// Whether the two steps have one event and one place, and wrote the same of it.
+pub(crate) fn is_alike(a: &Entry, b: &Entry) -> bool
+    ensures { IsTrue result ↔ AreAlike a.now b.now }
 {
-    is_same_event(a.event, b.event) && is_same_access(a, b) && is_same_found(a.finds, b.finds)
-}
-
-/// Whether the two are one event.
-fn is_same_event(a: Event, b: Event) -> bool
-    ensures { IsTrue result ↔ (a ≡ b) }
-{
-    a == b
-}
-
-/// Whether the two steps have one place, and wrote the same of it.
-fn is_same_access(a: &Compared, b: &Compared) -> bool
-    ensures { IsTrue result ↔ ((a.now.place ≡ b.now.place) × (a.now.wrote ≡ b.now.wrote)) }
-{
-    a.place == b.place && a.wrote == b.wrote
-}
-
-/// Whether the two steps find the same last writers.
-fn is_same_found(a: Found, b: Found) -> bool
-    ensures { IsTrue result ↔ (a ≡ b) }
-{
-    is_same_name(a.place, b.place)
-        && is_same_name(a.value, b.value)
-        && is_same_name(a.segment, b.segment)
-}
-
-/// Whether the two are one step, or none.
-fn is_same_name(a: Option<StepName>, b: Option<StepName>) -> bool
-    ensures { IsTrue result ↔ (a ≡ b) }
-{
-    a == b
+    a.event == b.event && a.place == b.place && a.wrote == b.wrote
 }
 
 /// An empty list for each number that an actor may have.
-fn empty_lists(alloc: Global) -> Result<Vec<Vec<Compared>>, AllocError>
+fn empty_lists<'a>(alloc: Global) -> Result<Vec<Vec<PlacedStep<'a>>>, AllocError>
     ensures { IfOk result (λ lists. (length lists.items ≡ ACTORS) × ((n : ℕ) → list_at lists.items n ≡ [])) }
 {
     let mut lists = Vec::new(alloc);
@@ -265,36 +192,4 @@ fn empty_lists(alloc: Global) -> Result<Vec<Vec<Compared>>, AllocError>
         lists.push(Vec::new(alloc))?;
     }
     Ok(lists)
-}
-
-/// The key of the place that a step wrote: of a cell that of its index half.
-fn written_key(place: Option<Place>, wrote: Wrote) -> Option<Key>
-    ensures { result ≡ written_key place wrote }
-{
-    if is_written(wrote) {
-        place_key(place)
-    } else {
-        None
-    }
-}
-
-/// The key of the value half of a cell, if a step wrote that.
-fn written_value_key(place: Option<Place>, wrote: Wrote) -> Option<Key>
-    ensures { result ≡ written_value_key place wrote }
-{
-    if is_value_written(wrote) {
-        value_key(place)
-    } else {
-        None
-    }
-}
-
-/// The key of the segment that a step made.
-fn made_key(place: Option<Place>) -> Option<Key>
-    ensures { result ≡ made_key place }
-{
-    match place {
-        Some(Place::Whole(name)) => Some(Key::In(name)),
-        _ => None,
-    }
 }

@@ -1,39 +1,27 @@
-use Rattle.std.proofs.Common.{length, sym, ◌∙◌, arith, eqb-true, eq-eqb}
+use Rattle.std.proofs.Common.{length, sym, ◌∙◌, eqb-true, eq-eqb}
 use Rattle.std.proofs.lemmas.Bool.{false≢true}
-use Rattle.rd_depend.specs.Lists.{list_at}
-use Rattle.rd_depend.specs.ComparedSteps.{progress_of}
-use Rattle.rd_depend.proofs.ComparingLemmas.{agrees_at_first, made_few, agrees_on, differs_on, goes_on, decided_at, some_and_none}
+use Rattle.rd_depend.specs.ComparedSteps.{reached_of, left_of}
+use Rattle.rd_depend.proofs.ComparingLemmas.{left_at_first, left_over_one, differs_here, decided_at_end, some_and_none}
 use Rattle.rd_depend.proofs.equivalence.compare.Goals as goal
 
 pub loop-entry-init : goal.loop-entry-init
-loop-entry-init c = record { agrees = agrees_at_first c.args.a.now; progress = c.new-writers.ensures }
-
-pub advance-requires : goal.advance-requires
-advance-requires c =
-    made_few (progress_of c.loop-entry.writers) c.args.b.now c.loop-entry.entry-index _ _ c.loop-entry.invariant.progress c.loop-entry-test.true (omega arith)
+loop-entry-init c =
+    left_at_first c.args.a.now c.args.b.now (reached_of c.new-reached.result) (left_of c.in_ok-left.left) c.new-reached.ensures c.in_ok-left.ensures
 
 pub loop-entry-preserved : goal.loop-entry-preserved
-loop-entry-preserved c = record {
-  agrees =
-      agrees_on (list_at c.in_ok-steps.steps.steps.items) c.args.a.now c.args.b.now c.loop-entry.entry-index _ (progress_of c.loop-entry.writers)
-      c.compared-step.result c.made.result c.loop-entry-test.true c.loop-entry.invariant.agrees c.in_ok-steps.ensures.lists c.loop-entry.invariant.progress
-      c.compared-step.ensures c.made.ensures (c.has.ensures.0 c.if-not-has.false);
-  progress =
-      goes_on c.args.b.now c.loop-entry.entry-index _ (progress_of c.loop-entry.writers) (progress_of c.advance.new.self) c.loop-entry-test.true
-      c.loop-entry.invariant.progress c.in_ok-advance.ensures;
-}
+loop-entry-preserved c =
+    left_over_one c.args.a.now c.args.b.now c.loop-entry.entry-index _ (reached_of c.loop-entry.reached) (reached_of c.goes_on.new.reached)
+    (left_of c.loop-entry.left) (left_of c.goes_on.new.left) c.loop-entry-test.true c.loop-entry.invariant (c.in_ok-goes_on.ensures.same c.if-not-branch.false)
 
-pub returns-then-not-has-clause-answer : goal.returns-then-not-has-clause-answer
-returns-then-not-has-clause-answer c =
-    differs_on (list_at c.in_ok-steps.steps.steps.items) c.args.a.now c.args.b.now c.loop-entry.entry-index _ (progress_of c.loop-entry.writers)
-    c.compared-step.result c.made.result c.loop-entry-test.true c.in_ok-steps.ensures.lists c.loop-entry.invariant.progress
-    c.compared-step.ensures c.made.ensures (λ h. false≢true (sym c.if-not-has.true ∙ c.has.ensures.1 h))
+pub returns-then-not-branch-clause-answer : goal.returns-then-not-branch-clause-answer
+returns-then-not-branch-clause-answer c =
+    differs_here c.args.a.now c.args.b.now c.loop-entry.entry-index _ (reached_of c.loop-entry.reached) (left_of c.loop-entry.left)
+    c.loop-entry-test.true c.loop-entry.invariant (c.in_ok-goes_on.ensures.differs c.if-not-branch.true)
 
 pub returns-clause-answer : goal.returns-clause-answer
 returns-clause-answer c =
-    decided_at c.args.a.now c.args.b.now c.loop-entry.entry-index (progress_of c.loop-entry.writers) (progress_of c.in_ok-steps.steps.writers)
-    c.made_as_many.result c.loop-entry.invariant.agrees c.loop-entry.invariant.progress c.in_ok-steps.ensures.progress c.loop-entry-test.false
-    c.made_as_many.ensures
+    decided_at_end c.args.a.now c.args.b.now c.loop-entry.entry-index (reached_of c.loop-entry.reached) (left_of c.loop-entry.left) c.is_empty-3.result
+    c.loop-entry-test.false c.loop-entry.invariant c.is_empty-3.ensures
 
 pub returns-then-is_empty-2-clause-answer : goal.returns-then-is_empty-2-clause-answer
 returns-then-is_empty-2-clause-answer c =

@@ -1,9 +1,14 @@
-use Rattle.std.proofs.Common.{◌≡◌, length, take}
-use Rattle.rd_depend.specs.ComparedSteps.{AreStepsOf}
+use Rattle.std.proofs.Common.{◌≡◌, ℕ, ◌+◌, ◌≤◌, length, drop}
+use Rattle.rd_depend.specs.LastWriters.{by_actor, placed}
+use Rattle.rd_depend.specs.ComparedSteps.{left_of}
 use Rattle.rd_depend.proofs.last_writers.StepsByActor.of.Given as goal
 
-abbrev pub invariant-loop-entry : goal.invariant-loop-entry
-invariant-loop-entry l = record {
+abbrev pub invariant-loop-index : goal.invariant-loop-index
+invariant-loop-index l = record {
   number : length l.steps.steps.items ≡ 256;
-  are : AreStepsOf l.steps (take l.entry-index l.entries);
+  within : l.index ≤ length l.entries;
+  left : (n : ℕ) → left_of l.steps n ≡ by_actor n (placed (l.index + 1) (drop l.index l.entries));
 }
+
+abbrev pub decreases-loop-index : goal.decreases-loop-index
+decreases-loop-index l = l.index

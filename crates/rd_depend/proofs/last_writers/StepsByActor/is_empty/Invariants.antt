@@ -1,0 +1,6 @@
+use Rattle.std.proofs.Common.{◌≡◌, ℕ, ◌<◌, []}
+use Rattle.rd_depend.specs.ComparedSteps.{left_of}
+use Rattle.rd_depend.proofs.last_writers.StepsByActor.is_empty.Given as goal
+
+abbrev pub invariant-loop-steps : goal.invariant-loop-steps
+invariant-loop-steps l = (n : ℕ) → n < l.steps-index → left_of l.self n ≡ []
