@@ -1,0 +1,100 @@
+"""Which steps of a run depend on which, worked out from the steps' records by the words of docs/MODEL.md alone.
+
+A record is the reply to `step K`. An actor counts as a place that each of its steps writes: so two steps depend on each other exactly
+where they share a place that one of the two wrote. Numbers of steps count from 1.
+"""
+
+import heapq
+from dataclasses import dataclass
+
+
+@dataclass
+class Step:
+    """What is known of a step from its record."""
+
+    line: str  # that makes it
+    place: str  # - where it has none
+    touched: tuple
+    wrote: tuple
+    ended: str  # what the reply to its line has behind `ok K`
+
+
+def names(place, ring):
+    """The places that this one names, over rings of so many cells."""
+    kind, *rest = place.split(" ")
+    if kind == "cell":
+        return tuple(f"{half} {' '.join(rest)}" for half in ("value", "index"))
+    if kind == "whole":
+        halves = [half for index in range(ring) for half in names(f"cell {rest[0]} {index}", ring)]
+        return (f"head {rest[0]}", f"tail {rest[0]}", f"next {rest[0]}", *halves)
+    return () if place == "-" else (place,)
+
+
+def step_of(record, ring):
+    """The step of a record."""
+    _, line, place, access, _, reply = record.split("; ")
+    touched = names(place, ring)
+    wrote = {"wrote": touched, "wrote index": touched[1:]}.get(access, ())
+    itself = (f"actor {line.split(' ')[1]}",)
+    return Step(line, place, touched + itself, wrote + itself, "" if reply == "-" else f" {reply}")
+
+
+def depend(one, other):
+    """Whether two steps depend on each other."""
+    return not (set(one.touched).isdisjoint(other.wrote) and set(one.wrote).isdisjoint(other.touched))
+
+
+def first_dependant(steps, number):
+    """The number of the first later step that depends on this one, or none."""
+    return next((at for at in range(number + 1, len(steps) + 1) if depend(steps[number - 1], steps[at - 1])), None)
+
+
+def last_writer(steps, place, ring):
+    """The number of the last step that wrote this place or one that it names, or none."""
+    named = set(names(place, ring))
+    return next((at for at in range(len(steps), 0, -1) if not named.isdisjoint(steps[at - 1].wrote)), None)
+
+
+def closure(steps, number):
+    """The numbers of this step and of all later ones that depend on it, directly or through others."""
+    taken, touched, wrote = [], set(), set()
+    for at, step in enumerate(steps[number - 1:], number):
+        if at == number or not (touched.isdisjoint(step.wrote) and wrote.isdisjoint(step.touched)):
+            taken.append(at)
+            touched.update(step.touched)
+            wrote.update(step.wrote)
+    return taken
+
+
+def leads(steps):
+    """For each step later ones that depend on it, enough of them: all others do so through these."""
+    behind, writer, readers = [[] for _ in steps], {}, {}
+    for at, step in enumerate(steps):
+        before = {writer[place] for place in step.touched if place in writer}
+        before.update(reader for place in step.wrote for reader in readers.pop(place, ()))
+        for place in step.touched:
+            if place in step.wrote:
+                writer[place] = at
+            else:
+                readers.setdefault(place, []).append(at)
+        for earlier in before:
+            behind[earlier].append(at)
+    return behind
+
+
+def latest_first(steps):
+    """The steps in another order, in which each still stands behind those on which it depends: always the latest that may come next."""
+    behind, waits, order = leads(steps), [0] * len(steps), []
+    for later in behind:
+        for at in later:
+            waits[at] += 1
+    free = [-at for at, count in enumerate(waits) if not count]
+    heapq.heapify(free)
+    while free:
+        at = -heapq.heappop(free)
+        order.append(steps[at])
+        for later in behind[at]:
+            waits[later] -= 1
+            if not waits[later]:
+                heapq.heappush(free, -later)
+    return order
