@@ -2,8 +2,7 @@
 //!
 //! What a thread gives back is known by the promise that its handle carries: which pass it was given, and which commands.
 
-ghost use Rattle.std.specs.Prelude.{◌≡◌, ◌≤◌, List, [], ◌∷◌, length, take, reverse, vec_capacity};
-ghost use Rattle.std.specs.Thread.{IsSync};
+ghost use Rattle.std.specs.Prelude.{◌≡◌, ◌≤◌, List, [], length, reverse, vec_capacity};
 ghost use Rattle.rd_lock.specs.Histories.{Every};
 ghost use Rattle.rd_desk.specs.Viewers.{Pairs, IsChain, IsRan};
 ghost use Rattle.rd_desk.specs.Rooms.{IsRoomFor};

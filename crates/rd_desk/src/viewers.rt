@@ -6,10 +6,9 @@
 ghost use Rattle.std.specs.Prelude.{◌≡◌, IfOk, IfErr};
 ghost use Rattle.rd_lock.specs.Histories.{Every};
 ghost use Rattle.rd_desk.specs.Viewers.{Pairs, IsRan};
-ghost use Rattle.std.specs.Thread.{IsSync};
 
 use super::gates::{DeskRefusal, Gate};
-use super::rooms::{Room, make_rooms};
+use super::rooms::make_rooms;
 use super::threads::run_all;
 use rd_cell::Refusal;
 use rd_lock::NoMemory;

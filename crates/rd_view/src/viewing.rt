@@ -3,7 +3,7 @@
 //! All scripts are read before the first command is asked, and nothing is written before the desk is closed. Then the whole text is put
 //! together, and handed over in as few calls as the writer takes.
 
-ghost use Rattle.std.specs.Prelude.{◌≡◌, ◌≤◌, false, length, map, IfOk, IfErr, MatchResult};
+ghost use Rattle.std.specs.Prelude.{◌≡◌, ◌≤◌, false, length, map, IfOk, IfErr};
 ghost use Rattle.rd_marks.specs.BookViews.{book_state};
 ghost use Rattle.rd_desk.specs.Histories.{entries};
 ghost use Rattle.rd_view.specs.Viewing.{AreRead, IsUnviewed, IsViewed, ViewsScripts, commands_of, passes_of, told_of};

@@ -1,11 +1,7 @@
 //! The first word of a place, and the place that the words behind it make.
 
-ghost use Rattle.std.specs.Prelude.{◌≡◌, ◌≢◌, ℕ, ◌<◌, [], ◌∷◌, map, IfSome, IfNone};
-ghost use Rattle.std.specs.Fmt.{decimal};
-ghost use Rattle.rd_step.specs.Prelude.{SegName as Segment};
+ghost use Rattle.std.specs.Prelude.{◌≡◌, ◌≢◌, ◌<◌, [], map, IfSome, IfNone};
 ghost use Rattle.rd_script.specs.declared.reading.places.PlaceKind.{PlaceKind as Kind};
-ghost use Rattle.rd_script.specs.Contents.{name_words};
-ghost use Rattle.rd_script.specs.Spelling.{IsSegmentInRange};
 ghost use Rattle.rd_script.specs.Words.{kind_text, ReadsPlace, ReadsKind};
 
 use super::numbers::{byte_in, segment_in};

@@ -1,8 +1,8 @@
 //! The words of an actor, as a reply says them.
 
-ghost use Rattle.std.specs.Prelude.{◌≡◌, ◌≤◌, ◌++◌, length};
+ghost use Rattle.std.specs.Prelude.{◌≤◌, length};
 ghost use Rattle.rd_script.specs.Puts.{Puts};
-ghost use Rattle.rd_script.specs.Actors.{label, op_words, call_words, segment_words, position_words, read_words, actor_words};
+ghost use Rattle.rd_script.specs.Actors.{op_words, call_words, segment_words, position_words, read_words, actor_words};
 
 use super::contents::{put_name, put_value};
 use super::labels::label_of;

@@ -1,6 +1,6 @@
 //! The words that spell a segment's name, and what a place has in it.
 
-ghost use Rattle.std.specs.Prelude.{◌≡◌, ◌≤◌, ◌++◌, length};
+ghost use Rattle.std.specs.Prelude.{◌≡◌, ◌≤◌, length};
 ghost use Rattle.rd_script.specs.Puts.{Puts};
 ghost use Rattle.rd_script.specs.Contents.{name_words, value_words, next_words, tail_word, cell_words, index_words, slot_words, content_words};
 

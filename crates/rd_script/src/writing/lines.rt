@@ -3,7 +3,7 @@
 //! A run puts all of its answers together in one buffer, so that none is made anew for each. It makes the line of a reply, a
 //! refusal or a fault from just that, since a whole `LineAnswer`, which has room for a step's record, takes time to copy.
 
-ghost use Rattle.std.specs.Prelude.{◌≡◌, ◌≤◌, [], ◌∷◌, ◌++◌, length};
+ghost use Rattle.std.specs.Prelude.{◌≡◌, ◌≤◌, [], ◌∷◌, length};
 ghost use Rattle.rd_script.specs.declared.answers.LineAnswer.TheVariants.{Reply as Replied, Refused, Unread};
 ghost use Rattle.rd_script.specs.Puts.{Puts};
 ghost use Rattle.rd_script.specs.Replies.{trace_step_words, trace_mark_words, busy_words, fault_words, words_of, text_of};

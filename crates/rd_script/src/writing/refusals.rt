@@ -1,6 +1,6 @@
 //! The number, the name and the data of each refusal.
 
-ghost use Rattle.std.specs.Prelude.{◌≡◌, ◌≤◌, ◌++◌, length};
+ghost use Rattle.std.specs.Prelude.{◌≡◌, ◌≤◌, length};
 ghost use Rattle.rd_script.specs.Puts.{Puts};
 ghost use Rattle.rd_script.specs.Refusals.{refusal_name, refusal_words, fault_name, stop_name};
 

@@ -1,6 +1,6 @@
 //! The words of what a book replies.
 
-ghost use Rattle.std.specs.Prelude.{◌≡◌, ◌≤◌, ◌++◌, length};
+ghost use Rattle.std.specs.Prelude.{◌≤◌, length};
 ghost use Rattle.rd_marks.specs.Names.{bytes_of};
 ghost use Rattle.rd_script.specs.Puts.{Puts};
 ghost use Rattle.rd_script.specs.Replies.{event_reply, step_number, origin_words, writer_words, reply_words};

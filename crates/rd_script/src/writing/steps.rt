@@ -1,6 +1,6 @@
 //! The words of a step, as a reply says them: parts between semicolons.
 
-ghost use Rattle.std.specs.Prelude.{◌≡◌, ◌≤◌, ◌++◌, length};
+ghost use Rattle.std.specs.Prelude.{◌≡◌, ◌≤◌, length};
 ghost use Rattle.rd_script.specs.Puts.{Puts};
 ghost use Rattle.rd_script.specs.Steps.{step_place, access_word, access_answer, reply_word, step_reply, done_words, step_words};
 
