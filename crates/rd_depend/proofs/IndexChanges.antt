@@ -1,5 +1,5 @@
 -- The calls of an index, from what they do to its lists.
-use Rattle.std.proofs.Common.{◌≡◌, ℕ, zero, suc, ◌+◌, ◌-◌, ◌<◌, ◌≤◌, Bool, true, false, not, ◌&&◌, ◌||◌, ◌==◌, if◌then◌else◌, List, [], ◌∷◌, ◌++◌, length, take, drop, Option, Some, None, slice_get, get_or, refl, sym, ap, subst, ◌∙◌, append_assoc, arith, eq-eqb, Result, Ok, Err, IsOk, OnOk, is_err}
+use Rattle.std.proofs.Common.{◌≡◌, ℕ, zero, suc, ◌+◌, ◌-◌, ◌<◌, ◌≤◌, Bool, true, false, not, ◌&&◌, ◌||◌, ◌==◌, if◌then◌else◌, List, [], ◌∷◌, ◌++◌, length, take, drop, Option, Some, None, slice_get, get_or, refl, sym, ap, subst, ◌∙◌, append_assoc, arith, length-append, eq-eqb, Result, Ok, Err, IsOk, OnOk, is_err}
 use Rattle.rd_step.specs.declared.entries.Entry.{Entry}
 use Rattle.rd_depend.specs.declared.index.DependIndex.{DependIndex}
 use Rattle.rd_depend.specs.declared.index.keys.Key.{Key}
@@ -10,7 +10,7 @@ use Rattle.rd_depend.specs.Lists.{Lists, list_at, spare_at, one_if}
 use Rattle.rd_depend.specs.Tables.{kept_in, spare_in, counts, AreReady, KeepsLists, Puts, TakesLast, HasLast}
 use Rattle.rd_depend.specs.Index.{Touch, By, Under, touches, reached, is_value_written, positions, kept, spare, number_of, IsIndexOf, HasRoomFor, IsLast, Adds, Keeps, Drops, EndsWith}
 use Rattle.rd_depend.proofs.IndexKeys.{at_place, at_value, at_segment, at_one, under, place_not_value, not_segment}
-use Rattle.rd_depend.proofs.IndexPositions.{positions-push, positions-pop}
+use Rattle.rd_depend.proofs.IndexPositions.{positions-push, positions-pop, number-append}
 
 -- one change after another, where no list is changed by both
 
@@ -201,25 +201,17 @@ added old new x es more is = record {
       more.lists t
       ∙ (λ i. if touches t x then is.lists t i ++ at i ∷ [] else is.lists t i)
       ∙ sym (positions-push (touches t) 1 es x);
-  len = more.len ∙ at ∙ sym (longer es);
+  len = omega (arith, more.len, is.len, length-append es (x ∷ []));
 }
   where
     at : old.len + 1 ≡ 1 + length es
     at = omega (arith, is.len)
 
-    longer : (ys : List Entry) → length (ys ++ x ∷ []) ≡ 1 + length ys
-    longer [] = refl
-    longer (y ∷ ys) = let rest = longer ys in omega arith
-
 pub dropped : (old new : DependIndex) (x : Entry) (es : List Entry) → Drops x old new → IsIndexOf old (es ++ x ∷ []) → IsIndexOf new es
 dropped old new x es drop_x is = record {
   lists = λ t. drop_x.lists t ∙ positions-pop (touches t) es x (kept old t) (is.lists t);
-  len = omega (arith, drop_x.len, is.len, longer es);
+  len = omega (arith, drop_x.len, is.len, length-append es (x ∷ []));
 }
-  where
-    longer : (ys : List Entry) → length (ys ++ x ∷ []) ≡ 1 + length ys
-    longer [] = refl
-    longer (y ∷ ys) = let rest = longer ys in omega arith
 
 -- what the calls ask for
 
@@ -228,11 +220,7 @@ last_touched old x last t h =
     let e : kept old t ≡ positions (touches t) last.before ++ (1 + length last.before) ∷ [] =
     last.is.lists t ∙ positions-push (touches t) 1 last.before x
     ∙ ap (λ (b : Bool). if b then positions (touches t) last.before ++ (1 + length last.before) ∷ [] else positions (touches t) last.before) h in
-    subst (λ (l : List ℕ). 1 ≤ length l) (sym e) (some (positions (touches t) last.before) (1 + length last.before))
-  where
-    some : (ps : List ℕ) (p : ℕ) → 1 ≤ length (ps ++ p ∷ [])
-    some [] p = omega arith
-    some (q ∷ ps) p = omega arith
+    omega (arith, ap length e, length-append (positions (touches t) last.before) ((1 + length last.before) ∷ []))
 
 pub last_under : (old : DependIndex) (x : Entry) (wrote : Bool) → IsLast old x → (o : Option Key)
     → ((w : Bool) (k : Key) → o ≡ Some k → counts w wrote ≡ true → is_under k (reached w x) ≡ true) → HasLast old.by_key o wrote
@@ -245,16 +233,12 @@ spare_under old x wrote has o held w k h c = has (Under w k) (held w k h c)
 
 -- several entries
 
-number-push : (test : Entry → Bool) (es : List Entry) (x : Entry) → number_of test (es ++ x ∷ []) ≡ number_of test es + one_if (test x)
-number-push test [] x = omega arith
-number-push test (y ∷ ys) x = let rest = number-push test ys x in omega (arith, rest)
-
 take_more : (es : List Entry) (n : ℕ) (x : Entry) → slice_get es n ≡ Some x → take (suc n) es ≡ take n es ++ x ∷ []
 take_more [] n x h = absurd cc
 take_more (y ∷ ys) zero x h = let same : y ≡ x = cc in ap (λ (z : Entry). z ∷ []) same
 take_more (y ∷ ys) (suc n) x h = ap (λ (l : List Entry). y ∷ l) (take_more ys n x h)
 
-drop_one : (es : List Entry) (n : ℕ) (x : Entry) → slice_get es n ≡ Some x → drop n es ≡ x ∷ drop (suc n) es
+pub drop_one : (es : List Entry) (n : ℕ) (x : Entry) → slice_get es n ≡ Some x → drop n es ≡ x ∷ drop (suc n) es
 drop_one [] n x h = absurd cc
 drop_one (y ∷ ys) zero x h = let same : y ≡ x = cc in ap (λ (z : Entry). z ∷ ys) same
 drop_one (y ∷ ys) (suc n) x h = drop_one ys n x h
@@ -275,9 +259,7 @@ one_added start old new entries n x there was more =
           let e : (es ++ take n entries) ++ x ∷ [] ≡ es ++ take (n + 1) entries = append_assoc es (take n entries) (x ∷ []) ∙ ap (λ (l : List Entry). es ++ l) (sym longer) in
           subst (λ (l : List Entry). IsIndexOf new l) e (added old new x (es ++ take n entries) more (was.index es is));
       room = λ t.
-          let e : number_of (touches t) (take (n + 1) entries) ≡ number_of (touches t) (take n entries) + one_if (touches t x) =
-          ap (number_of (touches t)) longer ∙ number-push (touches t) (take n entries) x in
-          omega (arith, e, was.room t, more.room t);
+          omega (arith, ap (number_of (touches t)) longer, number-append (touches t) (take n entries) (x ∷ []), was.room t, more.room t);
       len = omega (arith, was.len, more.len);
     }
 
@@ -326,11 +308,7 @@ there_at (y ∷ ys) zero d h = refl
 there_at (y ∷ ys) (suc n) d h = there_at ys n d (omega arith)
 
 pub last_len : (old : DependIndex) (x : Entry) → IsLast old x → 1 ≤ old.len
-last_len old x last = omega (arith, last.is.len, longer last.before)
-  where
-    longer : (ys : List Entry) → 1 ≤ length (ys ++ x ∷ [])
-    longer [] = omega arith
-    longer (y ∷ ys) = omega arith
+last_len old x last = omega (arith, last.is.len, length-append last.before (x ∷ []))
 
 pub ok_then : {X E : Type 0} (r : Result X E) (P : Type 0) → is_err r ≡ false → OnOk r P → P
 ok_then (Ok x) P h p = p

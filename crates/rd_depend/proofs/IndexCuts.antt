@@ -1,14 +1,15 @@
 -- The positions above a number taken out of all lists: the index is then that of the first entries.
-use Rattle.std.proofs.Common.{◌≡◌, ℕ, zero, suc, ◌+◌, ◌<◌, ◌≤◌, Bool, true, false, nat_lt, if◌then◌else◌, List, [], ◌∷◌, length, get_or, take, refl, sym, ap, ◌∙◌, arith}
+use Rattle.std.proofs.Common.{◌≡◌, ℕ, zero, suc, ◌+◌, ◌<◌, ◌≤◌, Bool, true, false, nat_lt, if◌then◌else◌, List, [], ◌∷◌, length, get_or, ◌++◌, take, drop, refl, sym, ap, subst, ◌∙◌, arith}
 use Rattle.std.proofs.lemmas.Bool.Decides.{nat_tests}
-use Rattle.std.proofs.lemmas.List.{take_all, length-take-le}
+use Rattle.std.proofs.lemmas.List.{take_all, length-take-le, take-append-drop}
 use Rattle.rd_step.specs.declared.entries.Entry.{Entry}
 use Rattle.rd_depend.specs.declared.index.DependIndex.{DependIndex}
 use Rattle.rd_depend.specs.Lists.{AscendsFrom, up_to}
-use Rattle.rd_depend.specs.Index.{positions_from, positions, touches, IsIndexOf, CutsAll}
-use Rattle.rd_depend.proofs.IndexPositions.{positions-ascend}
+use Rattle.rd_depend.specs.Index.{Touch, positions_from, number_of, touches, capacity, IsIndexOf, HasRoomFor, CutsAll}
+use Rattle.rd_depend.proofs.IndexPositions.{positions-ascend, number-append}
 use Rattle.rd_depend.proofs.IndexLists.{ascends-at}
 use Rattle.rd_depend.proofs.IndexFirst.{kept-ascends}
+use Rattle.rd_depend.proofs.IndexRoom.{room_stays}
 
 up_to_more : (n p : ℕ) (ps : List ℕ) → p ≤ n → up_to n (p ∷ ps) ≡ p ∷ up_to n ps
 up_to_more n p ps h = grind (arith, nat_tests)
@@ -52,13 +53,26 @@ positions-up_to test n m (suc k) (x ∷ xs) h = by (test x) (positions-up_to tes
     by true g = up_to_more n m (positions_from test (m + 1) xs) (omega arith) ∙ ap (λ (l : List ℕ). m ∷ l) g
     by false g = g
 
-pub cut_index : (old new : DependIndex) (n : ℕ) (es : List Entry) → CutsAll n old new → n < old.len → IsIndexOf old es → IsIndexOf new (take n es)
-cut_index old new n es cuts less is = record {
+pub cut_index : (old new : DependIndex) (n : ℕ) → CutsAll n old new → n < old.len → (es : List Entry) → IsIndexOf old es → IsIndexOf new (take n es)
+cut_index old new n cuts less es is = record {
   lists = λ t. cuts.lists t (kept-ascends old es is t) ∙ ap (up_to n) (is.lists t) ∙ positions-up_to (touches t) n 1 n es refl;
   len = cuts.len ∙ sym (length-take-le n es (omega (arith, is.len, less)));
 }
 
-pub uncut_index : (index : DependIndex) (n : ℕ) (es : List Entry) → index.len ≤ n → IsIndexOf index es → IsIndexOf index (take n es)
-uncut_index index n es more is =
-    let whole : es ≡ take n es = sym (take_all n es (omega (arith, is.len, more))) in
-    record { lists = λ t. is.lists t ∙ ap (positions (touches t)) whole; len = is.len ∙ ap length whole }
+-- where the first entries are left, in lists that can have as many as before, there is room for the others
+pub cut_room : (old new : DependIndex) (n : ℕ) (es rest : List Entry) → IsIndexOf old es → IsIndexOf new (take n es) → ((t : Touch) → capacity new t ≡ capacity old t)
+    → HasRoomFor old rest → HasRoomFor new (drop n es ++ rest)
+cut_room old new n es rest was is stays has = record {
+  lists = λ t.
+      omega (
+        arith,
+        has.lists t,
+        room_stays old new es (take n es) was is stays t,
+        ap (number_of (touches t)) (take-append-drop n es),
+        number-append (touches t) (take n es) (drop n es),
+        number-append (touches t) (drop n es) rest,
+      );
+}
+
+pub uncut_index : (index : DependIndex) (n : ℕ) → index.len ≤ n → (es : List Entry) → IsIndexOf index es → IsIndexOf index (take n es)
+uncut_index index n more es is = subst (IsIndexOf index) (sym (take_all n es (omega (arith, is.len, more)))) is

@@ -3,6 +3,7 @@ use Rattle.std.proofs.Common.{◌≡◌, ℕ, zero, suc, ◌+◌, ◌<◌, ◌�
 use Rattle.std.proofs.lemmas.Bool.{or_cases, or_left, or_right, false≢true}
 use Rattle.std.proofs.lemmas.Bool.Decides.{nat_tests}
 use Rattle.std.specs.Cmp.{both_ways}
+use Rattle.std.specs.Option.{is_some}
 use Rattle.rd_cell.specs.declared.places.SegName.{SegName}
 use Rattle.rd_cell.specs.declared.places.Place.{Place}
 use Rattle.rd_cell.specs.declared.places.Place.TheVariants.{QHead, QTail, Head, Tail, Next, Cell, Val, Idx, Whole, ArrHead, ArrTail, ArrCell}
@@ -10,7 +11,8 @@ use Rattle.rd_cell.specs.Places.{is_name, is_of, is_of_cell, is_place, segment_o
 use Rattle.rd_cell.proofs.PlaceLemmas.{is_name-true, is_name-refl, is_place-true, is_place-refl, is_of-name, is_of_cell-of, Covering, itself, as_cell, as_whole, covers_cases, covers_at}
 use Rattle.rd_step.specs.declared.entries.Entry.{Entry}
 use Rattle.rd_step.specs.Prelude.{Wrote, WroteNothing, WrotePlace, WroteIndex}
-use Rattle.rd_step.specs.Dependence.{first_from, first_after, first_dependant, numbered, depends}
+use Rattle.rd_step.specs.Dependence.{first_from, first_after, first_dependant, numbered, depends, depends_on_one}
+use Rattle.rd_step.proofs.Symmetry.{symmetric}
 use Rattle.rd_depend.specs.declared.index.DependIndex.{DependIndex}
 use Rattle.rd_depend.specs.declared.index.keys.Key.{Key}
 use Rattle.rd_depend.specs.declared.index.keys.Key.TheVariants.{At, In}
@@ -108,6 +110,20 @@ first-is es (suc i) x h =
     ∙ (let e : 1 + suc i ≡ suc (suc i) = omega arith in ap (λ (m : ℕ). first_above (suc i) (positions_from (depends x) m (drop (suc i) es))) e)
     ∙ scanned x (suc i) (suc (suc i)) (drop (suc i) es) (omega arith)
     ∙ sym (ap (λ (o : Option Entry). first_after o (suc (suc i)) (drop (suc i) es)) h)
+
+-- what is found behind the first k tells whether the step depends on one of those
+pub found-behind : (x : Entry) (k : ℕ) (es : List Entry) → is_some (first_above k (positions (depends x) es)) ≡ depends_on_one (drop k es) x
+found-behind x k es =
+    ap is_some (skipped (depends x) k 1 k es (omega arith) ∙ scanned x k (1 + k) (drop k es) (omega arith)) ∙ some (1 + k) (drop k es)
+  where
+    some : (n : ℕ) (ys : List Entry) → is_some (first_from x n ys) ≡ depends_on_one ys x
+    some n [] = refl
+    some n (y ∷ ys) = by (depends x y) (some (n + 1) ys) ∙ ap (λ (b : Bool). b || depends_on_one ys x) (symmetric x y)
+      where
+        by : (b : Bool) → is_some (first_from x (n + 1) ys) ≡ depends_on_one ys x
+            → is_some (if b then Some n else first_from x (n + 1) ys) ≡ (b || depends_on_one ys x)
+        by true h = refl
+        by false h = h
 
 -- which places overlap
 
@@ -467,3 +483,19 @@ found_either x p h k es = earlier-first (touches (By x.event.actor)) (meets p x.
 pub found_by : (x : Entry) → x.place ≡ None → (k : ℕ) (es : List Entry)
     → first_above k (positions (touches (By x.event.actor)) es) ≡ first_above k (positions (depends x) es)
 found_by x h k es = ap (first_above k) (positions-same (touches (By x.event.actor)) (depends x) (λ y. depends-none x y h) 1 es)
+
+-- a later step of the actor is one that depends on it
+pub found_of_actor : (x : Entry) (k : ℕ) (es : List Entry) → is_some (first_above k (positions (touches (By x.event.actor)) es)) ≡ true
+    → is_some (first_above k (positions (depends x) es)) ≡ true
+found_of_actor x k es h =
+    sym (ap is_some (earlier-first (touches (By x.event.actor)) (depends x) (depends x) (λ y. again (x.event.actor == y.event.actor) _) k 1 es))
+    ∙ there (first_above k (positions (touches (By x.event.actor)) es)) (first_above k (positions (depends x) es)) h
+  where
+    again : (a b : Bool) → (a || b) ≡ (a || (a || b))
+    again true b = refl
+    again false b = refl
+
+    there : (o p : Option ℕ) → is_some o ≡ true → is_some (earlier o p) ≡ true
+    there None p e = absurd cc
+    there (Some m) None e = refl
+    there (Some m) (Some n) e = refl

@@ -5,7 +5,8 @@ pub mod IndexKeys
 pub mod IndexPositions
 pub mod IndexChanges
 pub mod IndexFirst
-pub mod IndexRemove
+pub mod IndexRoom
+pub mod IndexMoves
 pub mod IndexCuts
 pub mod LastPositions
 pub mod IndexWriters
@@ -14,7 +15,6 @@ pub mod TouchedKeys
 pub mod TakingOut
 pub mod KeepingOrder
 pub mod KeysMeet
-pub mod Moving
 pub mod Sharing
 pub mod Exactness
 pub mod RunsAgree

@@ -8,7 +8,7 @@ use Rattle.rd_depend.specs.declared.index.DependIndex.{DependIndex}
 use Rattle.rd_depend.specs.declared.index.changing.Slots.{Slots}
 use Rattle.rd_depend.specs.declared.index.keys.Key.{Key}
 use Rattle.rd_depend.specs.Keys.{is_under, place_key, value_key, segment_key}
-use Rattle.rd_depend.specs.Lists.{list_at, capacity_at, one_if, spare_at, closed, up_to, IsAscending}
+use Rattle.rd_depend.specs.Lists.{list_at, capacity_at, one_if, spare_at, up_to, IsAscending, IsMoved}
 use Rattle.rd_depend.specs.Tables.{kept_in, capacity_in, spare_in, AreReady}
 
 -- what a list of positions is kept for: an actor, or a place or a segment, of all steps that touched it or of those that wrote it
@@ -114,11 +114,11 @@ abbrev pub capacity : DependIndex → Touch → ℕ
 capacity index (By a) = capacity_at index.by_actor.items a
 capacity index (Under w k) = capacity_in index.by_key w k
 
--- the position is gone from each list, and the later ones are one less
-pub record ClosesAll (k : ℕ) (old new : DependIndex) : Type 0 where
-  pub lists : (t : Touch) → IsAscending (kept old t) → kept new t ≡ closed k (kept old t)
+-- in each list position k, if it was there, stands behind those up to n, and these are one less
+pub record MovesAll (k n : ℕ) (old new : DependIndex) : Type 0 where
+  pub lists : (t : Touch) → IsMoved k n (kept old t) (kept new t)
   pub capacity_stays : (t : Touch) → capacity new t ≡ capacity old t
-  pub len : new.len + 1 ≡ old.len
+  pub len : new.len ≡ old.len
 
 -- the index is that of some entries, which end with these
 pub record EndsWith (index : DependIndex) (last : List Entry) : Type 0 where
@@ -128,4 +128,5 @@ pub record EndsWith (index : DependIndex) (last : List Entry) : Type 0 where
 -- the positions above n are gone from each list
 pub record CutsAll (n : ℕ) (old new : DependIndex) : Type 0 where
   pub lists : (t : Touch) → IsAscending (kept old t) → kept new t ≡ up_to n (kept old t)
+  pub capacity_stays : (t : Touch) → capacity new t ≡ capacity old t
   pub len : new.len ≡ n

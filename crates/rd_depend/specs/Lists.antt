@@ -1,5 +1,5 @@
 -- Lists of positions: what one holds, and what is found in it.
-use Rattle.std.specs.Prelude.{ℕ, zero, suc, ◌-◌, ◌≤◌, Bool, nat_lt, ◌==◌, if◌then◌else◌, List, [], ◌∷◌, length, min, max, Option, Some, None, Vec, slice_get, vec_capacity}
+use Rattle.std.specs.Prelude.{◌≡◌, ℕ, suc, ◌-◌, ◌≤◌, Bool, nat_lt, if◌then◌else◌, List, [], ◌∷◌, ◌++◌, length, map, min, max, Option, Some, None, Vec, slice_get, vec_capacity}
 use Rattle.std.specs.declared.alloc.Global.{Global}
 
 -- lists by number
@@ -55,18 +55,20 @@ AscendsFrom n (p ∷ ps) = (n ≤ p) × AscendsFrom (suc p) ps
 abbrev pub IsAscending : List ℕ → Type 0
 IsAscending ps = AscendsFrom 0 ps
 
--- k taken out, and the greater ones one less
-abbrev pub closed : ℕ → List ℕ → List ℕ
-closed k [] = []
-closed k (p ∷ ps) = if nat_lt p k then p ∷ closed k ps else if p == k then closed k ps else (p - 1) ∷ closed k ps
+-- each is at most n
+abbrev pub AreUpTo : ℕ → List ℕ → Type 0
+AreUpTo n [] = Unit {0}
+AreUpTo n (p ∷ ps) = (p ≤ n) × AreUpTo n ps
 
--- so many of them one less, from this index on
-abbrev pub lowered_from : ℕ → ℕ → List ℕ → List ℕ
-lowered_from zero zero ps = ps
-lowered_from zero (suc n) [] = []
-lowered_from zero (suc n) (p ∷ ps) = (p - 1) ∷ lowered_from zero n ps
-lowered_from (suc start) n [] = []
-lowered_from (suc start) n (p ∷ ps) = p ∷ lowered_from start n ps
+-- these, with one more in front where it is there
+abbrev pub with_first : Bool → ℕ → List ℕ → List ℕ
+with_first there p ps = if there then p ∷ ps else ps
+
+-- of ascending positions k, if it was there, stands behind those up to n, and is n; these are one less, and all others as they were
+abbrev pub IsMoved : ℕ → ℕ → List ℕ → List ℕ → Type 0
+IsMoved k n old new =
+    (low mid high : List ℕ) (held : Bool) → IsAscending old → AreUpTo (k - 1) low → AscendsFrom (suc k) mid → AreUpTo n mid → AscendsFrom (suc n) high
+    → old ≡ low ++ (with_first held k mid ++ high) → new ≡ low ++ (map (λ p. p - 1) mid ++ with_first held n high)
 
 -- those before the first that is greater than n
 abbrev pub up_to : ℕ → List ℕ → List ℕ

@@ -3,7 +3,7 @@ use Rattle.std.specs.Prelude.{◌≡◌, ℕ, ◌+◌, ◌-◌, ◌<◌, ◌≤�
 use Rattle.rd_depend.specs.declared.index.keys.Key.{Key}
 use Rattle.rd_depend.specs.declared.index.table.Table.{Table}
 use Rattle.rd_depend.specs.Keys.{is_that, slot_in}
-use Rattle.rd_depend.specs.Lists.{Lists, one_if, list_of, capacity_of, closed, up_to, IsAscending}
+use Rattle.rd_depend.specs.Lists.{Lists, one_if, list_of, capacity_of, up_to, IsAscending, IsMoved}
 
 -- the lists of all positions, or of those that wrote
 abbrev pub lists_of : Table → Bool → Lists
@@ -68,11 +68,12 @@ pub record TakesLast (k : Option Key) (wrote : Bool) (old new : Table) : Type 0 
   pub lists : (w : Bool) (q : Key) → kept_in new w q ≡ (if counts w wrote && is_that q k then take (length (kept_in old w q) - 1) (kept_in old w q) else kept_in old w q)
   pub room : (w : Bool) (q : Key) → spare_in new w q ≡ spare_in old w q + one_if (counts w wrote && is_that q k)
 
--- the position is gone from each list, and the later ones are one less
-pub record Closes (k : ℕ) (old new : Table) : Type 0 where
-  pub lists : (w : Bool) (q : Key) → IsAscending (kept_in old w q) → kept_in new w q ≡ closed k (kept_in old w q)
+-- in each list k, if it was there, stands behind those up to n, and these are one less
+pub record Moves (k n : ℕ) (old new : Table) : Type 0 where
+  pub lists : (w : Bool) (q : Key) → IsMoved k n (kept_in old w q) (kept_in new w q)
   pub capacity : (w : Bool) (q : Key) → capacity_in new w q ≡ capacity_in old w q
 
 -- the positions above n are gone from each list
 pub record Cuts (n : ℕ) (old new : Table) : Type 0 where
   pub lists : (w : Bool) (q : Key) → IsAscending (kept_in old w q) → kept_in new w q ≡ up_to n (kept_in old w q)
+  pub capacity : (w : Bool) (q : Key) → capacity_in new w q ≡ capacity_in old w q

@@ -3,11 +3,12 @@
 //! For each actor, each place and each segment it keeps the positions of the entries that touch it, from 1 and ascending, and
 //! apart from these the positions that wrote. It holds no entries, so who calls it gives those that it speaks of.
 
-ghost use Rattle.std.specs.Prelude.{◌≡◌, ◌+◌, ◌-◌, ◌<◌, ◌≤◌, ◌^◌, ◌++◌, ◌∷◌, [], length, take, true, List, Some, IsOk, OnOk, OnErr};
+ghost use Rattle.std.specs.Prelude.{◌≡◌, ◌+◌, ◌-◌, ◌<◌, ◌≤◌, ◌^◌, ◌++◌, ◌∷◌, [], length, take, drop, List, Some, IsOk, OnOk, OnErr};
 ghost use Rattle.rd_step.specs.declared.entries.Entry.{Entry as Record};
 ghost use Rattle.rd_step.specs.Dependence.{numbered};
-ghost use Rattle.rd_step.specs.Prelude.{first_dependant};
+ghost use Rattle.rd_step.specs.Prelude.{first_dependant, depends_on_one};
 ghost use Rattle.rd_depend.specs.Index.{IsIndexOf, IsIndex, IsHeld, IsLast, HasRoomFor, without_entry};
+ghost use Rattle.rd_depend.specs.Moved.{moved_behind};
 ghost use Rattle.rd_depend.specs.Writers.{last_position, writes_to};
 
 pub(crate) mod changing;
@@ -93,14 +94,28 @@ impl DependIndex {
         ensures left { (es : List Record) → IsIndexOf self.old es → numbered es k ≡ Some entry.now → IsIndexOf self.new (without_entry es k) }
         ensures room { (rest : List Record) → HasRoomFor self.old rest → HasRoomFor self.new (entry.now ∷ rest) }
     {
-        let _of = entry;
-        self.close(k as u32);
+        self.move_behind(k, self.len());
+        self.drop_last(entry);
     }
 
-    /// Takes all positions above the `n`-th away. It goes over all lists, and takes no memory. Of the room nothing is promised.
+    /// Moves position k behind the later ones up to `n`, which are one less then. It goes over all lists, and takes no memory.
+    pub fn move_behind(&mut self, k: u64, n: u64)
+        requires index { IsIndex self.old }
+        requires some { 1 ≤ k }
+        requires order { k ≤ n }
+        requires within { n ≤ self.old.len }
+        requires few { self.old.len ≤ MOST_STEPS }
+        ensures moved { (es : List Record) → IsIndexOf self.old es → IsIndexOf self.new (moved_behind es k n) }
+        ensures room { (rest : List Record) → HasRoomFor self.old rest → HasRoomFor self.new rest }
+    {
+        self.move_position(k as u32, n as u32);
+    }
+
+    /// Takes all positions above the `n`-th away. It goes over all lists, makes room for the entries that were there, and takes no memory.
     pub fn truncate(&mut self, n: u64)
         requires few { self.old.len ≤ MOST_STEPS }
         ensures left { (es : List Record) → IsIndexOf self.old es → IsIndexOf self.new (take n es) }
+        ensures room { (es rest : List Record) → IsIndexOf self.old es → HasRoomFor self.old rest → HasRoomFor self.new (drop n es ++ rest) }
     {
         if n < self.len() {
             self.cut(n as u32);
@@ -121,12 +136,36 @@ impl DependIndex {
         ensures succeeds { HasRoomFor self.old entries.now → IsOk result }
         ensures room_stays { (rest : List Record) → HasRoomFor self.old rest → HasRoomFor self.new rest }
     {
-        let added = self.add_some(entries);
-        self.drop_all(&entries[..added]);
-        if added < entries.len() {
-            return Err(AllocError);
-        }
+        self.add_all(entries)?;
+        self.drop_all(entries);
         Ok(())
+    }
+
+    /// Puts these entries at the next positions, all or none.
+    ///
+    /// # Errors
+    ///
+    /// If memory was refused, which is not asked for where the room is there. No position has changed then, and room that there was stays.
+    pub fn push_all(&mut self, entries: &[Entry]) -> Result<(), AllocError>
+        requires index { IsIndex self.old }
+        requires few { self.old.len + length entries.now ≤ MOST_STEPS }
+        ensures ok { OnOk result ((es : List Record) → IsIndexOf self.old es → IsIndexOf self.new (es ++ entries.now)) }
+        ensures err { OnErr result ((es : List Record) → IsIndexOf self.old es → IsIndexOf self.new es) }
+        ensures succeeds { HasRoomFor self.old entries.now → IsOk result }
+        ensures room { OnOk result ((rest : List Record) → HasRoomFor self.old (entries.now ++ rest) → HasRoomFor self.new rest) }
+        ensures room_stays { OnErr result ((rest : List Record) → HasRoomFor self.old rest → HasRoomFor self.new rest) }
+    {
+        self.add_all(entries)
+    }
+
+    /// Whether an entry depends on one of those behind the first `n`. It takes no memory.
+    pub fn depends_behind(&self, n: u64, entry: &Entry) -> bool
+        requires few { self.now.len ≤ MOST_STEPS }
+        requires within { n ≤ self.now.len }
+        ensures { (es : List Record) → IsIndexOf self.now es → result ≡ depends_on_one (drop n es) entry.now }
+    {
+        let mut probes = Probes::new();
+        self.is_one_above(n as u32, entry, &mut probes)
     }
 
     /// The first position after k whose entry depends on that at k, which is the entry given, or none. It makes at least

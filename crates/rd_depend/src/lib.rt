@@ -12,9 +12,7 @@ mod equivalence;
 mod index;
 mod last_writers;
 pub mod laws;
-mod moves;
 
 pub use dependence::{depends, first_dependant};
 pub use equivalence::are_equivalent;
 pub use index::{DependIndex, Probes};
-pub use moves::move_before;

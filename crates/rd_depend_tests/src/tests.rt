@@ -5,7 +5,7 @@ mod index;
 
 use rd_actor::{Act, Actor};
 use rd_cell::{Answer, Place, SegName, Wrote};
-use rd_depend::{depends, first_dependant, move_before};
+use rd_depend::{depends, first_dependant};
 use rd_step::{Entry, Event};
 use std::process::Abort;
 use std::test::Fail;
@@ -160,19 +160,5 @@ fn the_first_dependant_is_the_least_later_step(rt: HostRuntime) -> Result<(), Fa
     for (k, wanted) in FIRST {
         compare(&rt, &entries, k, wanted);
     }
-    Ok(())
-}
-
-#[test]
-fn a_record_moves_before_others_which_keep_their_order(rt: HostRuntime) -> Result<(), Fail> {
-    let mut entries = Vec::new(rt.alloc());
-    for access in RUN {
-        entries.push(record(access))?;
-    }
-    if entries.len() == RUN.len() {
-        move_before(&mut entries, 1, 3);
-    }
-    let moved = [RUN[0], RUN[3], RUN[1], RUN[2], RUN[4]].map(record);
-    assert_eq!(rt; entries.as_slice(), moved.as_slice());
     Ok(())
 }

@@ -25,7 +25,6 @@ use Rattle.rd_step.specs.contracts.entries.Event as Event
 use Rattle.rd_step.specs.contracts.entries.Entry as Entry
 use Rattle.rd_step.specs.contracts.worlds.World as World
 use Rattle.rd_journal.specs.contracts.records.Records as Records
-use Rattle.rd_journal.specs.contracts.indexed_records.IndexedRecords as IndexedRecords
 use Rattle.rd_journal.specs.contracts.sessions.Session as Session
 use Rattle.rd_marks.specs.contracts.books.Book as Book
 use Rattle.rd_marks.specs.contracts.tree.Node as Node
@@ -90,11 +89,8 @@ world_fields R = search (sendable, crosses) depth 60 fits 100000
 pub records_fields : IsSend (Records.the_field).row
 records_fields = search (entry_send, sendable, crosses) depth 60 fits 100000
 
-pub indexed_fields : IsSend (IndexedRecords.the_field).row
-indexed_fields = struct_send (shape IndexedRecords.the_type) (records_fields, (search (sendable, crosses) depth 60 fits 100000, tt))
-
 pub session_fields : (R : RattleType) → IsSend (Session.the_field R).row
-session_fields R = struct_send (shape (Session.the_type R)) (world_fields R, (indexed_fields, (search (sendable, crosses) depth 60 fits 100000, tt)))
+session_fields R = struct_send (shape (Session.the_type R)) (world_fields R, (records_fields, (search (sendable, crosses) depth 60 fits 100000, (search (sendable, crosses) depth 60 fits 100000, tt))))
 
 pub node_fields : IsSend (Node.the_field).row
 node_fields = struct_send (shape Node.the_type) (search (sendable, crosses) depth 60 fits 100000, (search (sendable, crosses) depth 60 fits 100000, (search (sendable, crosses) depth 60 fits 100000, (search (sendable, crosses) depth 60 fits 100000, tt))))

@@ -9,7 +9,7 @@ use Rattle.rd_step.specs.declared.entries.Entry.{Entry}
 use Rattle.rd_journal.specs.Journal.{Journal, events, start_of, IsRun, entry_of}
 use Rattle.rd_journal.specs.Kept.{IsSession}
 use Rattle.rd_journal.specs.Room.{HasRoom}
-use Rattle.rd_journal.specs.State.{State, state_of, run_of, step_after, reply_in, reply_to, with_event, apply, back_one, forward_one, times, undo, redo, back, forward}
+use Rattle.rd_journal.specs.State.{State, state_of, run_of, step_after, with_event, apply, back_one, forward_one, times, undo, redo, back, forward}
 use Rattle.rd_journal.specs.Moves.{IsLengthened, IsMovedBack, IsBeforeLast}
 use Rattle.rd_journal.proofs.Runs.{step_event, start_stays, now_formed, grown}
 
@@ -141,9 +141,3 @@ apply_goes R old new e x runs less h longer =
     applied R old e (Ok (record { world = new.world; entry = x })) runs less h
     ∙ (λ i. Ok (record { start = sym start i; live = sym all i; undone = [] }))
     ∙ ap (λ (j : Journal). Ok (state_of j)) (sym whole)
-
--- what an event replies in a session is what its step in the session's world replies
-pub reply_goes : (R : ℕ) (j : Journal) (e : Event) (s : Stepped) → IsRun R j → step R j.world e ≡ Ok s
-    → reply_to R (state_of j) e ≡ s.entry.reply
-reply_goes R j e s runs goes =
-    ap (λ (r : Result Ran Refusal). reply_in (step_after R r e)) runs.live_ran ∙ ap reply_in goes

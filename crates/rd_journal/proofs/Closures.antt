@@ -9,7 +9,7 @@ use Rattle.rd_step.specs.declared.entries.Entry.{Entry}
 use Rattle.rd_journal.specs.Journal.{Journal}
 use Rattle.rd_journal.specs.Moves.{IsTakenOutAt, IsRolledBack}
 use Rattle.rd_journal.proofs.Gathering.{cut_at}
-use Rattle.rd_journal.proofs.IndexedLemmas.{scan_is}
+use Rattle.rd_journal.proofs.Finding.{numbered_in, scan_is}
 use Rattle.rd_journal.proofs.ListLemmas.{nth, drop_one_less}
 use Rattle.rd_journal.proofs.LoneUndo.{none_is_free}
 
@@ -353,7 +353,7 @@ alone l (suc i) some within free =
     let rest = drop (suc i) l in
     let same : i ≡ suc i - 1 = omega arith in
     let here : x.0 ≡ get_or l (suc i - 1) x.0 = x.1 ∙ ap (λ (m : ℕ). get_or l m x.0) same in
-    let none : first_from x.0 (suc i + 1) rest ≡ None = sym (scan_is x.0 l (suc i) some within here) ∙ free in
+    let none : first_from x.0 (suc i + 1) rest ≡ None = sym (scan_is x.0 l (suc i) (numbered_in l (suc i) x.0 some within here)) ∙ free in
     record {
       outside = c.outside ∙ (λ j. take (same j) l ++ unmarked_all x.0 (suc i + 1) rest none j);
       inside =

@@ -1,3 +1,4 @@
+pub mod Outcomes
 pub mod ListLemmas
 pub mod Numbers
 pub mod RecordLemmas
@@ -12,9 +13,10 @@ pub mod LoneUndo
 pub mod RedoneLast
 pub mod Switching
 pub mod Gathering
-pub mod IndexedLemmas
+pub mod Finding
+pub mod IndexRoom
+pub mod GatheringLoop
 pub mod RolledBack
 pub mod Closures
 pub mod RolledForward
-pub mod Backwards
 pub mod Ahead

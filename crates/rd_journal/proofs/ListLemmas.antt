@@ -1,9 +1,10 @@
 -- Lists cut in two, the last element of a list, and one moved behind others.
 use Rattle.std.proofs.Common.{◌≡◌, ℕ, zero, suc, ◌+◌, ◌-◌, ◌<◌, ◌≤◌, List, [], ◌∷◌, ◌++◌, length, get_or, take, drop, refl, sym, ◌∙◌, ap, arith, length-append, length-drop}
 use borrow.Rule.Slice.PartMut.{put_mid, mid_of}
-use Rattle.std.proofs.Math.Seq.{drop-cons, take-append_seam, drop-append_seam, take-add}
-use Rattle.std.proofs.lemmas.List.{append_assoc, take-append-drop, length-take-le, take-take, drop-take, drop-append-le, drop-drop}
-use Rattle.rd_journal.specs.Numbers.{moved_behind}
+use Rattle.std.proofs.Math.Seq.{drop-cons, take-append_seam, drop-append_seam}
+use Rattle.std.proofs.Math.ListN.{drop_of_length-le}
+use Rattle.std.proofs.lemmas.List.{append-nil, take_all, append_assoc, take-append-drop, length-take-le, take-take, drop-take, drop-append-le, drop-drop}
+use Rattle.rd_depend.specs.Moved.{moved_behind}
 
 -- all but the last
 pub front_of : {X : Type 0} (l : List X) (x : X) → take (length (l ++ x ∷ []) - 1) (l ++ x ∷ []) ≡ l
@@ -37,6 +38,11 @@ drop_before {X} l k m n h e =
     let within : k ≤ length (take m l) = omega (arith, length-take-le m l h) in
     sym (ap (drop k) (take-append-drop m l)) ∙ drop-append-le k (take m l) (drop m l) within
     ∙ ap (λ (j : ℕ). drop j (take m l) ++ drop m l) len
+
+-- what a list has where its first elements were overwritten by as many as it has
+pub overwritten : {X : Type 0} (n : ℕ) (es ys : List X) → n ≡ length es → length ys ≡ length es → take n (ys ++ drop (length ys) es) ≡ ys
+overwritten {X} n es ys e h =
+    ap (λ (zs : List X). take n (ys ++ zs)) (drop_of_length-le es (omega arith)) ∙ ap (take n) (append-nil ys) ∙ take_all n ys (omega arith)
 
 -- The k-th of the first l elements moved behind the others of them
 

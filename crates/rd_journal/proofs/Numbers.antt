@@ -3,11 +3,11 @@ use Rattle.std.proofs.Common.{◌≡◌, ℕ, zero, suc, ◌+◌, ◌-◌, ◌<�
 use Rattle.std.specs.List.{All, count_by}
 use Rattle.std.proofs.lemmas.Bool.Decides.{nat_tests}
 use Rattle.std.proofs.lemmas.Grind.{flat_map-append}
-use Rattle.std.proofs.lemmas.List.{drop_more, length-take-le, take-append-drop, drop-append-le, length-set, get_or-set_same, drop_at, take_all, drop_all, drop-drop, take-take, get_or_default}
+use Rattle.std.proofs.lemmas.List.{drop_more, length-take-le, take-append-drop, drop-append-le, length-set, get_or-set_same, drop_at, take_all, drop_all, drop-drop, get_or_default}
 use Rattle.std.proofs.lemmas.List.Elements.{All-take, All-drop}
 use Rattle.std.proofs.lemmas.List.Sums.{sum_by-append, sum_by-cons, sum_by_push, sum_by-take-drop, get_or-le-sum_by}
-use Rattle.rd_depend.specs.Moved.{moved_to}
-use Rattle.rd_journal.specs.Numbers.{at_numbers, moved_behind, IsOrder}
+use Rattle.rd_depend.specs.Moved.{moved_behind}
+use Rattle.rd_journal.specs.Numbers.{at_numbers, IsOrder}
 use Rattle.rd_journal.proofs.ListLemmas.{nth}
 
 -- the numbers are of slots
@@ -172,23 +172,6 @@ count-moved_behind test ns k l some =
       ap (count_by test) later,
     )
 
-pub count-moved_to : (test : ℕ → Bool) (ns : List ℕ) (f n : ℕ) → f ≤ n → count_by test (moved_to ns f n) ≡ count_by test ns
-count-moved_to test ns f n order =
-    let g : ℕ → ℕ = λ m. cond (test m) 1 0 in
-    let rest = drop n ns in
-    let later : drop 1 rest ≡ drop (n + 1) ns = drop-drop 1 n ns in
-    omega (
-      arith,
-      sum_by-append g (take f ns) (take 1 rest ++ (drop f (take n ns) ++ drop (n + 1) ns)),
-      sum_by-append g (take 1 rest) (drop f (take n ns) ++ drop (n + 1) ns),
-      sum_by-append g (drop f (take n ns)) (drop (n + 1) ns),
-      sum_by-take-drop g ns n,
-      sum_by-take-drop g (take n ns) f,
-      ap (count_by test) (take-take f n ns order),
-      sum_by-take-drop g rest 1,
-      ap (count_by test) later,
-    )
-
 pub at-moved_behind : {X : Type 0} (es : List X) (ns : List ℕ) (k l : ℕ) → AreBelow (length es) ns
     → at_numbers es (moved_behind ns k l) ≡ moved_behind (at_numbers es ns) k l
 at-moved_behind {X} es ns k l below =
@@ -203,18 +186,6 @@ at-moved_behind {X} es ns k l below =
     ++ (take 1 (sym (at-drop es (k - 1) L first) i) ++ drop l (at_numbers es ns)))
     ∙ (λ i. (take (k - 1) (take l (at_numbers es ns)) ++ drop k (take l (at_numbers es ns)))
     ++ (take 1 (drop (k - 1) (sym (at-take es l ns below) i)) ++ drop l (at_numbers es ns)))
-
-pub at-moved_to : {X : Type 0} (es : List X) (ns : List ℕ) (f n : ℕ) → AreBelow (length es) ns
-    → at_numbers es (moved_to ns f n) ≡ moved_to (at_numbers es ns) f n
-at-moved_to {X} es ns f n below =
-    let P = λ (m : ℕ). m < length es in
-    let first : AreBelow (length es) (take n ns) = All-take P n ns below in
-    let rest : AreBelow (length es) (drop n ns) = All-drop P n ns below in
-    at-append es (take f ns) (take 1 (drop n ns) ++ (drop f (take n ns) ++ drop (n + 1) ns))
-    ∙ ap (λ (ys : List X). at_numbers es (take f ns) ++ ys) (at-append es (take 1 (drop n ns)) (drop f (take n ns) ++ drop (n + 1) ns))
-    ∙ ap (λ (ys : List X). at_numbers es (take f ns) ++ (at_numbers es (take 1 (drop n ns)) ++ ys)) (at-append es (drop f (take n ns)) (drop (n + 1) ns))
-    ∙ (λ i. sym (at-take es f ns below) i ++ (sym (at-take es 1 (drop n ns) rest) i ++ (sym (at-drop es f (take n ns) first) i ++ sym (at-drop es (n + 1) ns below) i)))
-    ∙ (λ i. take f (at_numbers es ns) ++ (take 1 (sym (at-drop es n ns below) i) ++ (drop f (sym (at-take es n ns below) i) ++ drop (n + 1) (at_numbers es ns))))
 
 -- what is read there
 pub at_entry : {X : Type 0} (es : List X) (ns : List ℕ) (k : ℕ) (d : X) → AreBelow (length es) ns → k < length ns

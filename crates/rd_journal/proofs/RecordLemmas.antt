@@ -1,10 +1,11 @@
 -- The records of a session as one list that is cut twice: how long its parts are, and how they change.
-use Rattle.std.proofs.Common.{◌≡◌, ℕ, ◌+◌, ◌-◌, ◌≤◌, List, [], ◌∷◌, ◌++◌, length, get_or, take, drop, sym, ◌∙◌, ap, arith, length-drop}
+use Rattle.std.proofs.Common.{◌≡◌, ℕ, ◌+◌, ◌-◌, ◌<◌, ◌≤◌, List, [], ◌∷◌, ◌++◌, length, get_or, take, drop, refl, sym, ◌∙◌, ap, arith, length-append, length-drop}
 use Rattle.std.proofs.Math.Seq.{take-add}
 use Rattle.std.proofs.lemmas.List.{length-take-le, take-take, drop-take, drop-drop, take_more, take_at, drop_at, take-append-le, drop-append-le}
 use Rattle.rd_journal.specs.declared.records.Records.{Records}
-use Rattle.rd_journal.specs.Numbers.{moved_behind}
-use Rattle.rd_journal.specs.Records.{all_records, live_records, ahead_records}
+use Rattle.rd_depend.specs.Moved.{moved_behind}
+use Rattle.rd_step.specs.declared.entries.Entry.{Entry}
+use Rattle.rd_journal.specs.Records.{all_records, live_records, ahead_records, kept_records, records_capacity}
 use Rattle.rd_journal.proofs.ListLemmas.{behind_from, drop_before}
 use Rattle.rd_journal.proofs.Numbers.{at-length, order_below}
 
@@ -20,6 +21,32 @@ live-length r = length-take-le r.live (all_records r) (omega (arith, all-length 
 pub ahead-length : (r : Records) → length (ahead_records r) ≡ r.ahead
 ahead-length r =
     length-take-le r.ahead (drop r.live (all_records r)) (omega (arith, all-length r, r.within, length-drop r.live (all_records r)))
+
+pub kept-length : (r : Records) → length (kept_records r) ≡ r.live + r.ahead
+kept-length r = omega (arith, length-append (live_records r) (ahead_records r), live-length r, ahead-length r)
+
+-- those ahead of none
+pub none_ahead : (r : Records) → ahead_records r ≡ [] → r.ahead ≡ 0
+none_ahead r none = omega (arith, ahead-length r, ap length none)
+
+-- what is kept has room
+pub kept_fits : (r : Records) → r.live + r.ahead ≤ records_capacity r
+kept_fits r = omega (arith, r.within, r.order_of_all.all, r.room_to_gather, r.slots.ok.0, r.slots.ok.1, r.order.ok.0, r.order.ok.1)
+
+-- where there is no room for one more live record the live ones fill it, and none is ahead
+pub record IsFull (r : Records) : Type 0 where
+  pub none : ahead_records r ≡ []
+  pub filled : records_capacity r ≡ length (live_records r)
+
+pub full_records : (r : Records) → records_capacity r < length (live_records r) + 1 → IsFull r
+full_records r h = record {
+  none = empty (ahead_records r) (omega (arith, ahead-length r, live-length r, kept_fits r));
+  filled = omega (arith, live-length r, kept_fits r);
+}
+  where
+    empty : (xs : List Entry) → length xs ≡ 0 → xs ≡ []
+    empty [] e = refl
+    empty (x ∷ xs) e = absurd (omega arith)
 
 -- a list cut behind its first m elements, and again u elements behind them
 
@@ -66,12 +93,6 @@ taken_out {X} l k m u some position within =
     ∙ take_over (take 1 (drop (k - 1) (take m l))) (drop m l) 1 u one
 
 -- one more is put behind both parts
-pub put_stays : {X : Type 0} (l new : List X) (m u : ℕ) (x : X) → m + u ≤ length l → new ≡ take (m + u) l ++ x ∷ drop (m + u + 1) l
-    → take m new ≡ take m l
-put_stays {X} l new m u x within is =
-    ap (take m) is ∙ take-append-le m (take (m + u) l) (x ∷ drop (m + u + 1) l) (omega (arith, length-take-le (m + u) l within))
-    ∙ take-take m (m + u) l (omega arith)
-
 pub put_last : {X : Type 0} (l new : List X) (m u : ℕ) (x : X) → m + u ≤ length l → new ≡ take (m + u) l ++ x ∷ drop (m + u + 1) l
     → take (u + 1) (drop m new) ≡ take u (drop m l) ++ x ∷ []
 put_last {X} l new m u x within is =
@@ -88,3 +109,14 @@ pub cut_short : {X : Type 0} (l : List X) (m : ℕ) → m ≤ length l → take 
 cut_short {X} l m within =
     let len : m - 1 ≡ length (take m l) - 1 = omega (arith, length-take-le m l within) in
     sym (take-take (m - 1) m l (omega arith)) ∙ ap (λ (n : ℕ). take n (take m l)) len
+
+-- the border moved, where the end stays
+pub border_moved : {X : Type 0} (l : List X) (m u n v : ℕ) → n + v ≡ m + u → take n l ++ take v (drop n l) ≡ take m l ++ take u (drop m l)
+border_moved {X} l m u n v same = sym (take-add n v l) ∙ ap (λ (k : ℕ). take k l) same ∙ take-add m u l
+
+-- the k-th of the first elements moved behind them, whatever else is there
+pub moved_among : {X : Type 0} (xs ys : List X) (k : ℕ)
+    → (take (k - 1) xs ++ drop k xs) ++ (take 1 (drop (k - 1) xs) ++ ys) ≡ moved_behind (xs ++ ys) k (length xs)
+moved_among {X} xs ys k =
+    (λ i. (take (k - 1) (sym (take_at xs ys (length xs) refl) i) ++ drop k (sym (take_at xs ys (length xs) refl) i))
+    ++ (take 1 (drop (k - 1) (sym (take_at xs ys (length xs) refl) i)) ++ sym (drop_at xs ys (length xs) refl) i))

@@ -172,3 +172,26 @@ may_redo R w xs ys y runs =
       goes = first.goes;
       runs = grown R w first.after xs (y ∷ ys) ys y y.event runs first.goes first.rest;
     }
+
+-- a step that was just made may be undone, which gives the world before it
+pub record WasJustStepped (R : ℕ) (w v : World) (x : Entry) : Type 0 where
+  pub was : WasStepped R v x
+  pub back : unstep v x ≡ w
+
+pub just_stepped : (R : ℕ) (w v : World) (e : Event) (x : Entry) → IsWellFormed R w → step R w e ≡ Ok (record { world = v; entry = x }) → WasJustStepped R w v x
+just_stepped R w v e x formed goes = record {
+  was = record {
+    start = w;
+    well_formed = formed;
+    event = e;
+    stepped = record { world = v; entry = x };
+    goes = goes;
+    its_entry = refl;
+    later = [];
+    ran = record { world = v; entries = [] };
+    went_on = refl;
+    here = refl;
+    free = tt;
+  };
+  back = undoes R w e (record { world = v; entry = x }) formed goes;
+}

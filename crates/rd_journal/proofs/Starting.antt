@@ -1,61 +1,56 @@
--- Undoing live steps in a copy of the world, the last one first; and the event of an undone step.
-use Rattle.std.proofs.Common.{◌≡◌, ℕ, zero, suc, ◌+◌, ◌-◌, ◌<◌, ◌≤◌, ◌⊎◌, inl, inr, refl, sym, ◌∙◌, ap, subst, List, [], ◌∷◌, ◌++◌, length, take, get_or, slice_get, option_map, Option, Some, None, arith}
-use Rattle.std.proofs.Math.Seq.{take-suc}
-use Rattle.std.proofs.lemmas.List.{take_all}
+-- Undoing the last steps that lead to a world; and the event of an undone step.
+use Rattle.std.proofs.Common.{◌≡◌, ℕ, zero, suc, ◌+◌, ◌-◌, ◌<◌, ◌≤◌, ◌⊎◌, inl, inr, refl, sym, ◌∙◌, ap, subst, List, [], ◌∷◌, ◌++◌, length, take, drop, get_or, slice_get, option_map, Option, Some, None, Ok, arith}
+use Rattle.std.proofs.lemmas.List.{take_more}
 use Rattle.std.proofs.lemmas.Option.{slice_get-map, slice_get_past, slice_get-get_or}
-use Rattle.rd_step.specs.Prelude.{World, unstep}
+use Rattle.rd_step.specs.Prelude.{World, Ran, run, unstep, IsWellFormed}
 use Rattle.rd_step.specs.Laws.{WasStepped}
 use Rattle.rd_step.specs.declared.entries.Entry.{Entry}
-use Rattle.rd_journal.specs.Journal.{Journal, events, world_before, start_of, IsRun}
+use Rattle.rd_journal.specs.Journal.{Journal, events, world_before, start_of, IsRun, LeadsTo}
 use Rattle.rd_journal.specs.State.{event_at}
-use Rattle.rd_journal.proofs.Runs.{world_before-last, MayUndo, shrunk}
+use Rattle.rd_journal.proofs.ListLemmas.{drop_one_less}
+use Rattle.rd_journal.proofs.Runs.{as_ok, as_ok-same, goes_back, world_before-last, shrunk}
 
--- in this world the first k of these live steps are left, and undoing them leads to the start
-pub record IsPartWay (R : ℕ) (w : World) (live : List Entry) (k : ℕ) (start : World) : Type 0 where
-  pub undone : List Entry
-  pub runs : IsRun R (record { world = w; live = take k live; undone = undone })
-  pub leads : world_before w (take k live) ≡ start
-
--- all of them are left
-pub all_left : (R : ℕ) (w : World) (j : Journal) (k : ℕ) → w ≡ j.world → k ≡ length j.live → IsRun R j → IsPartWay R w j.live k (start_of j)
-all_left R w j k same all runs =
-    let every : take k j.live ≡ j.live = take_all k j.live (omega arith) in
-    let here : record { world = w; live = take k j.live; undone = j.undone } ≡ j = λ i. record { world = same i; live = every i; undone = j.undone } in
-    record {
-      undone = j.undone;
-      runs = subst (λ (x : Journal). IsRun R x) (sym here) runs;
-      leads = ap start_of here;
-    }
-
--- none of them is left
-pub none_left : (R : ℕ) (w : World) (live : List Entry) (start : World) → IsPartWay R w live 0 start → w ≡ start
-none_left R w live start h = h.leads
-
--- the last one that is left may be undone, and then one fewer is left
-pub record MayGoOn (R : ℕ) (w : World) (live : List Entry) (k : ℕ) (start : World) (x : Entry) : Type 0 where
+-- the last of the steps that lead to a world may be undone, and then the others lead to what is left
+pub record MayStepBack (R : ℕ) (start w : World) (xs : List Entry) (x : Entry) : Type 0 where
   pub was : WasStepped R w x
-  pub left : IsPartWay R (unstep w x) live k start
+  pub left : LeadsTo R start (unstep w x) xs
 
-pub may_go_on : (R : ℕ) (w : World) (live : List Entry) (all undone : ℕ) (start : World) (x : Entry) → IsPartWay R w live (all - undone) start
-    → undone < all → all ≡ length live → x ≡ get_or live (all - 1 - undone) x → MayGoOn R w live (all - (undone + 1)) start x
-may_go_on R w live all undone start x part below len at =
-    let k = all - (undone + 1) in
-    let one : all - undone ≡ suc k = omega arith in
-    let h : IsPartWay R w live (suc k) start = subst (λ (n : ℕ). IsPartWay R w live n start) one part in
-    let place : all - 1 - undone ≡ k = omega arith in
-    let here : x ≡ get_or live k x = at ∙ ap (λ (n : ℕ). get_or live n x) place in
-    let cut : take (suc k) live ≡ take k live ++ x ∷ [] = take-suc live k x (omega arith) ∙ ap (λ (y : Entry). take k live ++ y ∷ []) (sym here) in
-    let may : MayUndo R w (take k live) h.undone x =
-    shrunk R w (take k live) h.undone x (subst (λ (l : List Entry). IsRun R (record { world = w; live = l; undone = h.undone })) cut h.runs)
-    in
+pub may_step_back : (R : ℕ) (start w : World) (xs : List Entry) (x : Entry) → LeadsTo R start w (xs ++ x ∷ []) → MayStepBack R start w xs x
+may_step_back R start w xs x leads =
+    let l = xs ++ x ∷ [] in
+    let back : world_before w l ≡ start = goes_back R start w l leads.well_formed leads.ran in
+    let runs : IsRun R (record { world = w; live = l; undone = [] }) = record {
+      well_formed = subst (λ (u : World). IsWellFormed R u) (sym back) leads.well_formed;
+      live_ran = ap (λ (u : World). run R u (events l)) back ∙ leads.ran;
+      undone_run_on = refl;
+    } in
+    let may = shrunk R w xs [] x runs in
+    let same : world_before (unstep w x) xs ≡ start = sym (world_before-last w xs x) ∙ back in
     record {
       was = may.was;
-      left = record {
-        undone = x ∷ h.undone;
-        runs = may.runs;
-        leads = sym (world_before-last w (take k live) x) ∙ sym (ap (world_before w) cut) ∙ h.leads;
-      };
+      left = record { well_formed = leads.well_formed; ran = ap (λ (u : World). run R u (events xs)) (sym same) ∙ may.runs.live_ran };
     }
+
+-- the live steps lead from the start to the world
+pub live_lead : (R : ℕ) (j : Journal) → IsRun R j → LeadsTo R (start_of j) j.world j.live
+live_lead R j runs = record { well_formed = runs.well_formed; ran = runs.live_ran }
+
+-- no step leads from a world to that world alone
+pub led_nowhere : (R : ℕ) (start w : World) → LeadsTo R start w [] → w ≡ start
+led_nowhere R start w leads =
+    let both : as_ok (record { world = start; entries = [] }) ≡ Ok (record { world = w; entries = [] }) = leads.ran in
+    sym (ap (λ (r : Ran). r.world) (as_ok-same (record { world = start; entries = [] }) (record { world = w; entries = [] }) both))
+
+-- the first n and one more
+pub one_more : {X : Type 0} (xs : List X) (n : ℕ) (x : X) → 1 ≤ n → n ≤ length xs → x ≡ get_or xs (n - 1) x → take n xs ≡ take (n - 1) xs ++ x ∷ []
+one_more {X} xs n x some within here =
+    let before : n ≡ (n - 1) + 1 = omega arith in
+    ap (λ (m : ℕ). take m xs) before ∙ take_more xs (n - 1) x (omega arith) ∙ ap (λ (y : X). take (n - 1) xs ++ y ∷ []) (sym here)
+
+pub one_before : {X : Type 0} (xs : List X) (n : ℕ) (x : X) → 1 ≤ n → n ≤ length xs → x ≡ get_or xs (n - 1) x → drop (n - 1) xs ≡ x ∷ drop n xs
+one_before {X} xs n x some within here =
+    let next : (n - 1) + 1 ≡ n = omega arith in
+    drop_one_less xs (n - 1) x (omega arith) here ∙ ap (λ (m : ℕ). x ∷ drop m xs) next
 
 -- The event of an undone step
 

@@ -1,24 +1,23 @@
 -- Records of a run put behind the first live ones, and the room that their makings ask for.
-use Rattle.std.proofs.Common.{◌≡◌, ◌≢◌, ℕ, zero, suc, ◌+◌, ◌-◌, ◌<◌, ◌≤◌, ◌==◌, Bool, true, false, refl, sym, ◌∙◌, ap, subst, arith, inl, inr, List, [], ◌∷◌, ◌++◌, length, take, drop, set, get_or, if◌then◌else◌, Option, Some, None, is_some, IsSome, Ok, eq-eqb, ne_eqb}
-use Rattle.std.proofs.Math.Seq.{take-length, drop-length, take-suc}
+use Rattle.std.proofs.Common.{◌≡◌, ◌≢◌, ℕ, zero, suc, ◌+◌, ◌-◌, ◌<◌, ◌≤◌, ◌==◌, Bool, true, false, refl, sym, ◌∙◌, ap, subst, arith, inl, inr, List, [], ◌∷◌, ◌++◌, length, take, set, get_or, if◌then◌else◌, Option, Some, None, is_some, IsSome, Ok, eq-eqb, ne_eqb, length-append}
+use Rattle.std.proofs.Math.Seq.{take-suc}
 use Rattle.std.proofs.lemmas.Bool.{cases_Bool, cases_eq, cond-true, cond-false}
-use Rattle.std.proofs.lemmas.List.{map-append, take-map, length-take, get_or-set_same, get_or-set_other}
-use Rattle.rd_step.specs.Prelude.{SegName, Place, WholeOf, Content, after, World, Stepped, step, Ran, run, MOST_STEPS}
+use Rattle.std.proofs.lemmas.List.{map-append, take-map, length-take, length-take-le, get_or-set_same, get_or-set_other}
+use Rattle.rd_step.specs.Prelude.{SegName, Place, WholeOf, Content, after, World, Stepped, step, Ran, run, IsWellFormed, MOST_STEPS}
 use Rattle.rd_step.specs.declared.entries.Event.{Event}
 use Rattle.rd_step.specs.declared.entries.Entry.{Entry}
 use Rattle.rd_step.specs.Room.{makes_segment, room_used, room_returned}
 use Rattle.rd_step.specs.Touched.{made, made_at}
 use Rattle.rd_step.proofs.Steps.{took, with_actor-other}
 use Rattle.rd_step.proofs.Room.{room_used_returned}
-use Rattle.rd_journal.specs.Journal.{Journal, events, world_before, start_of, IsRunFrom}
-use Rattle.rd_journal.specs.Moves.{IsMovedBack, IsMovedForward, IsReplaced, IsSwitched}
+use Rattle.rd_journal.specs.Journal.{Journal, events, world_before, start_of, IsRunFrom, LeadsTo}
+use Rattle.rd_journal.specs.Moves.{IsSwitched}
 use Rattle.rd_journal.specs.Kept.{IsSession}
-use Rattle.rd_journal.specs.Room.{room_returned_by, HasRoom, HasRoomForAll}
-use Rattle.rd_journal.specs.State.{State, state_of, back_one, forward_one, times, switch}
-use Rattle.rd_journal.proofs.Calls.{back_start}
+use Rattle.rd_journal.specs.Room.{room_returned_by, room_without, HasRoom, HasRoomForAll}
+use Rattle.rd_journal.specs.State.{State, state_of, forward_one, times, switch}
 use Rattle.rd_step.proofs.Removal.{run_stays_actor}
 use Rattle.rd_step.proofs.RunParts.{beginning, first_step}
-use Rattle.rd_journal.proofs.Runs.{as_ok-same}
+use Rattle.rd_journal.proofs.Runs.{as_ok-same, run_joined, goes_back}
 
 -- Counting makings
 
@@ -121,33 +120,44 @@ room_for_all R w xs ys room ran n h has = record { at = each }
           | inr e ↦ omega (arith, none_made R (world_before w xs) (take n xs ++ ys) m h e, returned_joined (take n xs) ys m)
         ]
 
-pub replaced_session : (R : ℕ) (given : List Entry) (old new : Journal) (before after : ℕ → ℕ) → IsSession R old before
-    → IsRunFrom R (start_of old) (old.live ++ given) → length old.live + length given ≤ MOST_STEPS → HasRoom given after → IsReplaced given old new
-    → IsSession R new after
-replaced_session R given old new before after session h few has is =
-    let whole : new ≡ record { world = old.world; live = old.live; undone = given } =
-    λ i. record { world = is.world i; live = is.live i; undone = is.undone i } in
-    subst (λ (j : Journal). IsSession R j after) (sym whole) (record {
-      few = few;
-      runs = record {
-        well_formed = session.runs.well_formed;
-        live_ran = session.runs.live_ran;
-        undone_run_on = runs_on R (start_of old) old.world old.live given session.runs.live_ran h;
-      };
-      has_room = has;
-    })
+-- after the first n live steps these were made, and lead on from the start
+pub record IsExchanged (R : ℕ) (old new : Journal) (room : ℕ → ℕ) : Type 0 where
+  pub session : IsSession R new room
+  pub start : start_of new ≡ start_of old
+
+pub exchanged : (R n : ℕ) (old new : Journal) (given : List Entry) (w : World) (room : ℕ → ℕ) → n ≤ length old.live → n + length given ≤ MOST_STEPS
+    → LeadsTo R (start_of old) w (take n old.live) → run R w (events given) ≡ Ok (record { world = new.world; entries = given }) → IsSwitched n given old new
+    → IsExchanged R old new room
+exchanged R n old new given w room within few leads goes is =
+    let s = start_of old in
+    let l = take n old.live ++ given in
+    let all : run R s (events l) ≡ Ok (record { world = new.world; entries = l }) =
+    ap (run R s) (map-append (λ (x : Entry). x.event) (take n old.live) given)
+    ∙ run_joined R s (events (take n old.live)) (events given) (record { world = w; entries = take n old.live }) (record { world = new.world; entries = given }) leads.ran goes in
+    let whole : new ≡ record { world = new.world; live = l; undone = [] } = λ i. record { world = new.world; live = is.live i; undone = is.undone i } in
+    let back : world_before new.world l ≡ s = goes_back R s new.world l leads.well_formed all in
+    record {
+      session = subst (λ (j : Journal). IsSession R j room) (sym whole) (record {
+        few = omega (arith, length-append (take n old.live) given, length-take-le n old.live within, few);
+        runs = record {
+          well_formed = subst (λ (u : World). IsWellFormed R u) (sym back) leads.well_formed;
+          live_ran = ap (λ (u : World). run R u (events l)) back ∙ all;
+          undone_run_on = refl;
+        };
+        has_room = record { at = λ m. omega arith };
+      });
+      start = ap (λ (xs : List Entry). world_before new.world xs) is.live ∙ back;
+    }
+
+-- there is room for what is given once the others are undone
+pub room_given : (given dropped : List Entry) (before after : ℕ → ℕ) → HasRoom given (room_without dropped before)
+    → ((m : ℕ) → before m + room_returned_by dropped m ≤ after m) → HasRoom given after
+room_given given dropped before after has more = record { at = λ m. omega (arith, has.at m, more m) }
 
 -- redoing leaves the start
 pub forward_start : (n : ℕ) (s : State) → (times n forward_one s).start ≡ s.start
 forward_start zero s = refl
 forward_start (suc n) s = forward_start n s
-
--- undoing, putting other records in place of the undone ones and redoing them leave the start
-pub switched_start : (a b : ℕ) (old mid put new : Journal) (given : List Entry) → state_of mid ≡ times a back_one (state_of old) → IsReplaced given mid put
-    → state_of new ≡ times b forward_one (state_of put) → start_of new ≡ start_of old
-switched_start a b old mid put new given undone is redone =
-    ap (λ (s : State). s.start) redone ∙ forward_start b (state_of put) ∙ (λ i. world_before (is.world i) (is.live i))
-    ∙ ap (λ (s : State). s.start) undone ∙ back_start a (state_of old)
 
 pub switched_state : (given : List Entry) (kept : ℕ) (old new : Journal) → start_of new ≡ start_of old → IsSwitched kept given old new
     → state_of new ≡ switch (state_of old) kept (events given)
@@ -179,18 +189,6 @@ room_for_actors w v xs number room same made none count =
     each zero there = absurd (none there)
     each (suc n) there = made n (count n there)
 
-pub switched_records : (n kept : ℕ) (old mid put new : Journal) (given : List Entry) → kept + n ≡ length old.live → IsMovedBack n old mid → IsReplaced given mid put
-    → IsMovedForward (length given) put new → IsSwitched kept given old new
-switched_records n kept old mid put new given all back is forward =
-    let low : length old.live - n ≡ kept = omega arith in
-    record {
-      live =
-          forward.live
-          ∙ (λ i. (is.live ∙ back.live ∙ ap (λ (m : ℕ). take m old.live) low) i ++ take (length given) (is.undone i))
-          ∙ ap (λ (xs : List Entry). take kept old.live ++ xs) (take-length given);
-      undone = forward.undone ∙ ap (drop (length given)) is.undone ∙ drop-length given;
-    }
-
 -- Counting the makings of each actor
 
 -- there are no more makings among the first records than these are
@@ -221,7 +219,37 @@ making_counted counts xs i k m d s h makes its within counted =
           (get_or-set_other counts k m more 0 ne ∙ omega arith)
     ]
 
+-- where the makings among other records are taken off, one that is takes one off
+pub making_missed : (counts : List ℕ) (xs : List Entry) (i k m base : ℕ) (x : Entry) (s : SegName) → i < length xs → x ≡ get_or xs i x → made x ≡ Some s → k ≡ s.maker
+    → k < length counts → get_or counts m 0 ≡ base - room_returned_by (take i xs) m
+    → get_or (set counts k (get_or counts k 0 - 1)) m 0 ≡ base - room_returned_by (take (i + 1) xs) m
+making_missed counts xs i k m base x s h here makes its within counted =
+    let less = get_or counts k 0 - 1 in
+    let y = get_or xs i x in
+    let of_y : made y ≡ Some s = ap made (sym here) ∙ makes in
+    let one : room_returned y.place y.old_content m ≡ (if m == k then 1 else 0) = returned_made y.place y.old_content m s of_y ∙ ap (λ (n : ℕ). if m == n then 1 else 0) (sym its) in
+    let so_far = room_returned_by (take i xs) m in
+    elim (cases_eq m k) [
+      | inl e ↦
+          let at : get_or (set counts k less) m 0 ≡ get_or counts m 0 - 1 =
+          ap (λ (n : ℕ). get_or (set counts k less) n 0) e ∙ get_or-set_same counts k less 0 within ∙ ap (λ (n : ℕ). get_or counts n 0 - 1) (sym e) in
+          let more : so_far + 1 ≡ room_returned_by (take (i + 1) xs) m = returned_next xs i m so_far 1 (so_far + 1) x h refl (sym (one ∙ cond-true (m == k) 1 0 (eq-eqb m k e))) refl in
+          omega (arith, at, counted, more)
+      | inr ne ↦
+          let more : so_far ≡ room_returned_by (take (i + 1) xs) m = returned_next xs i m so_far 0 so_far x h refl (sym (one ∙ cond-false (m == k) 1 0 (ne_eqb m k ne))) (omega arith) in
+          omega (arith, get_or-set_other counts k m less 0 ne, counted, more)
+    ]
+
+-- and one that is no making none
+pub no_making_missed : (xs : List Entry) (i m base count : ℕ) (x : Entry) → i < length xs → x ≡ get_or xs i x → made x ≡ None
+    → count ≡ base - room_returned_by (take i xs) m → count ≡ base - room_returned_by (take (i + 1) xs) m
+no_making_missed xs i m base count x h here none counted =
+    let y = get_or xs i x in
+    let so_far = room_returned_by (take i xs) m in
+    let more : so_far ≡ room_returned_by (take (i + 1) xs) m = returned_next xs i m so_far 0 so_far x h refl (sym (none_returned y.place y.old_content m (ap made (sym here) ∙ none))) (omega arith) in
+    omega (arith, counted, more)
+
 -- what was counted for an actor
-pub makings_known : (xs : List Entry) (counts : List ℕ) (number actor : ℕ) → actor ≡ number + 1 → ((m : ℕ) → m < 256 → get_or counts m 0 ≡ room_returned_by xs m) → number + 1 < 256
-    → get_or counts actor 0 ≡ room_returned_by xs (number + 1)
-makings_known xs counts number actor its counted small = ap (λ (n : ℕ). get_or counts n 0) its ∙ counted (number + 1) small
+pub makings_known : (f : ℕ → ℕ) (counts : List ℕ) (number actor : ℕ) → actor ≡ number + 1 → ((m : ℕ) → m < 256 → get_or counts m 0 ≡ f m) → number + 1 < 256
+    → get_or counts actor 0 ≡ f (number + 1)
+makings_known f counts number actor its counted small = ap (λ (n : ℕ). get_or counts n 0) its ∙ counted (number + 1) small

@@ -19,6 +19,11 @@ world_before w (x ∷ xs) = unstep (world_before w xs) x
 abbrev pub start_of : Journal → World
 start_of j = world_before j.world j.live
 
+-- these are the records of a run from a well-formed world to another
+pub record LeadsTo (R : ℕ) (start w : World) (xs : List Entry) : Type 0 where
+  pub well_formed : IsWellFormed R start
+  pub ran : run R start (events xs) ≡ Ok (record { world = w; entries = xs })
+
 -- the journal is a run: the live events run from a well-formed start to its world and leave its live records, and the
 -- undone events run on from there and leave its undone records
 pub record IsRun (R : ℕ) (j : Journal) : Type 0 where

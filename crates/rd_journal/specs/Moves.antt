@@ -44,12 +44,6 @@ abbrev pub answer_at : Journal → ℕ → Result Unit Refusal
 answer_at j zero = Err (NoSuchStep (length j.live))
 answer_at j (suc i) = if nat_lt i (length j.live) then answer_unless (first_dependant j.live (suc i)) else Err (NoSuchStep (length j.live))
 
--- these are the undone records, and all else is as it was
-pub record IsReplaced (given : List Entry) (old new : Journal) : Type 0 where
-  pub world : new.world ≡ old.world
-  pub live : new.live ≡ old.live
-  pub undone : new.undone ≡ given
-
 -- the first n live records stay, these stand behind them, and none is undone
 pub record IsSwitched (n : ℕ) (given : List Entry) (old new : Journal) : Type 0 where
   pub live : new.live ≡ take n old.live ++ given

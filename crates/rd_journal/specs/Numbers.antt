@@ -1,5 +1,5 @@
 -- Entries by the numbers of the slots that they are kept in, and orders of such numbers.
-use Rattle.std.specs.Prelude.{◌≡◌, ℕ, ◌-◌, ◌==◌, nat_lt, if◌then◌else◌, List, ◌++◌, length, take, drop}
+use Rattle.std.specs.Prelude.{◌≡◌, ℕ, ◌==◌, nat_lt, if◌then◌else◌, List, length, take, drop}
 use Rattle.std.specs.List.{flat_map, count_by}
 
 -- the entries at these numbers, in the order of the numbers
@@ -10,7 +10,3 @@ at_numbers entries numbers = flat_map (λ n. take 1 (drop n entries)) numbers
 pub record IsOrder (slots : ℕ) (order : List ℕ) : Type 0 where
   pub once : (n : ℕ) → count_by (λ m. m == n) order ≡ (if nat_lt n slots then 1 else 0)
   pub all : length order ≡ slots
-
--- the k-th of the first l elements moved behind the others of them
-abbrev pub moved_behind : {X : Type 0} → List X → ℕ → ℕ → List X
-moved_behind es k l = (take (k - 1) (take l es) ++ drop k (take l es)) ++ (take 1 (drop (k - 1) (take l es)) ++ drop l es)

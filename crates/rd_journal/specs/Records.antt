@@ -22,4 +22,4 @@ kept_records r = live_records r ++ ahead_records r
 
 -- for how many records, live ones and those ahead, there is room
 abbrev pub records_capacity : Records → ℕ
-records_capacity r = min (vec_capacity r.slots) (vec_capacity r.order)
+records_capacity r = min (vec_capacity r.slots) (min (vec_capacity r.order) (vec_capacity r.gathered))

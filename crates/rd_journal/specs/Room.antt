@@ -1,11 +1,12 @@
 -- The room that redoing asks for, which is what undoing gave back, and when an event may be out of memory.
-use Rattle.std.specs.Prelude.{◌≡◌, ℕ, ◌+◌, ◌≤◌, ◌<◌, ◌⊎◌, Bool, false, IsOk, IsSome, IsTrue, List, [], ◌∷◌, length, Result, Ok, Err}
-use Rattle.rd_step.specs.Prelude.{Refusal, TooLong, NoMemory, World, Stepped, step, Ran, MOST_STEPS}
+use Rattle.std.specs.Prelude.{◌≡◌, ℕ, ◌+◌, ◌≤◌, ◌<◌, ◌⊎◌, IsSome, List, [], ◌∷◌, length, drop, Result, Ok}
+use Rattle.rd_step.specs.Prelude.{Refusal, TooLong, NoMemory, World, Stepped, step, MOST_STEPS}
 use Rattle.rd_step.specs.declared.entries.Event.{Event}
 use Rattle.rd_step.specs.declared.entries.Entry.{Entry}
-use Rattle.rd_step.specs.Room.{makes_segment, room_used, room_returned, FindsNoRoom}
+use Rattle.rd_step.specs.Room.{makes_segment, room_returned, FindsNoRoom}
+use Rattle.rd_depend.specs.declared.index.DependIndex.{DependIndex}
+use Rattle.rd_depend.specs.Index.{HasRoomFor}
 use Rattle.rd_journal.specs.Journal.{Journal}
-use Rattle.rd_journal.specs.State.{State, run_of, step_after}
 
 -- how much of m's room undoing these records gave back
 abbrev pub room_returned_by : List Entry → ℕ → ℕ
@@ -20,53 +21,37 @@ pub record HasRoom (undone : List Entry) (room : ℕ → ℕ) : Type 0 where
 pub record HasRoomForAll (w : World) (given : List Entry) (room : ℕ → ℕ) : Type 0 where
   pub at : (m : ℕ) → IsSome (w.actor m) → room_returned_by given m ≤ room m
 
--- what is counted from the world after a step, if it is not refused
-abbrev pub count_after : (World → ℕ) → Result Stepped Refusal → ℕ
-count_after count (Err refusal) = 0
-count_after count (Ok s) = count s.world
+-- the index has no room for all of these, put behind those that it is of
+abbrev pub LacksIndexRoom : DependIndex → List Entry → Type 0
+LacksIndexRoom index given = HasRoomFor index given → ⊥
 
--- how many segments m makes where these events happen one after another in the world
-abbrev pub makings : ℕ → ℕ → List Event → World → ℕ
-makings R m [] w = 0
-makings R m (e ∷ es) w = room_used (makes_segment R w e) e.actor m + count_after (makings R m es) (step R w e)
+-- the index has no room for the entry of a step
+pub record IsNotIndexed (stepped : Result Stepped Refusal) (index : DependIndex) : Type 0 where
+  pub after : Stepped
+  pub goes : stepped ≡ Ok after
+  pub lacks : LacksIndexRoom index (after.entry ∷ [])
 
--- how many segments m makes where these events happen after a run
-abbrev pub makings_after : ℕ → ℕ → List Event → Result Ran Refusal → ℕ
-makings_after R m es (Err refusal) = 0
-makings_after R m es (Ok r) = makings R m es r.world
-
--- whether the event makes a segment in the last world of a run
-abbrev pub makes_after : ℕ → Event → Result Ran Refusal → Bool
-makes_after R e (Err refusal) = false
-makes_after R e (Ok r) = makes_segment R r.world e
-
--- the event makes a segment, which nothing else refuses, and none of the undone makings, whose room is kept, is one by
--- its actor
-pub record NeedsRoom (R : ℕ) (s : State) (e : Event) : Type 0 where
-  pub goes : IsOk (step_after R (run_of R s) e)
-  pub makes : IsTrue (makes_after R e (run_of R s))
-  pub none_kept : makings_after R e.actor s.undone (run_of R s) ≡ 0
-
--- memory may be refused to the event: fewer steps are live than may be, and it asks for room, either for one more
--- record, which it does only where none is undone, or for a segment
-pub record MayBeOutOfMemory (R : ℕ) (s : State) (e : Event) : Type 0 where
-  pub not_full : length s.live < MOST_STEPS
-  pub asks : (s.undone ≡ []) ⊎ NeedsRoom R s e
-
--- memory was refused to the event: for one more record, where none is undone and the live ones fill the room that there is, or
--- for a segment that nothing else refuses, where the maker has no room
-pub record IsOutOfMemory (R : ℕ) (j : Journal) (capacity : ℕ) (room : ℕ → ℕ) (e : Event) : Type 0 where
+-- memory was refused to the event, while fewer steps are live than may be: for one more record, where none is undone and the live ones
+-- fill the room that there is; for a segment that nothing else refuses, where the maker has no room; or for the index of dependants
+pub record IsOutOfMemory (R : ℕ) (j : Journal) (capacity : ℕ) (room : ℕ → ℕ) (index : DependIndex) (e : Event) : Type 0 where
   pub not_full : length j.live < MOST_STEPS
   pub asked : ((j.undone ≡ []) × (capacity ≡ length j.live)) ⊎ FindsNoRoom (step R j.world e) (makes_segment R j.world e) (room e.actor)
+      ⊎ IsNotIndexed (step R j.world e) index
 
 -- what the step itself is refused for is answered only where there is room for its record
 abbrev pub ComesAfterRoom : ℕ → ℕ → Refusal → Type 0
 ComesAfterRoom live capacity refusal = (refusal ≡ TooLong) ⊎ (refusal ≡ NoMemory) ⊎ (live < capacity)
 
+-- the room of each maker once these records are undone
+abbrev pub room_without : List Entry → (ℕ → ℕ) → ℕ → ℕ
+room_without dropped room m = room m + room_returned_by dropped m
+
 -- some maker has no room for the makings among these records
 abbrev pub LacksRoomForMakings : List Entry → (ℕ → ℕ) → Type 0
 LacksRoomForMakings given room = (m : ℕ) × (room m < room_returned_by given m)
 
--- behind so many records there is no room for these, or some maker has none for the makings among them
-abbrev pub LacksRoom : ℕ → List Entry → ℕ → (ℕ → ℕ) → Type 0
-LacksRoom n given capacity room = (capacity < n + length given) ⊎ LacksRoomForMakings given room
+-- behind the first n records there is no room for these, or some maker has none for the makings among them, once the others are undone,
+-- or the index has none
+abbrev pub LacksRoom : ℕ → List Entry → List Entry → ℕ → (ℕ → ℕ) → DependIndex → Type 0
+LacksRoom n live given capacity room index =
+    (capacity < n + length given) ⊎ LacksRoomForMakings given (room_without (drop n live) room) ⊎ LacksIndexRoom index given

@@ -1,6 +1,7 @@
--- The code's session, as its journal, as its state, and with its track and its room: what public clauses cite.
+-- The code's session, as its journal, as its state, and with its track, its room and its index: what public clauses cite.
 use Rattle.std.specs.Prelude.{ℕ, List, ◌++◌}
 use Rattle.rd_step.specs.Prelude.{model, room as world_room}
+use Rattle.rd_depend.specs.declared.index.DependIndex.{DependIndex}
 use Rattle.rd_journal.specs.declared.sessions.Session.{Session}
 use Rattle.rd_step.specs.declared.entries.Event.{Event}
 use Rattle.rd_journal.specs.Journal.{Journal, events}
@@ -19,7 +20,7 @@ state s = state_of (journal s)
 -- the events of the session's track, along which it goes back and forth: those of the live steps, and of the ones ahead of them, which
 -- are kept to be made again as they are: the undone ones, and behind these those that it went back over
 abbrev pub track : {R : ℕ} → Session R → List Event
-track s = (state s).live ++ events (ahead_records s.records.records)
+track s = (state s).live ++ events (ahead_records s.records)
 
 -- how many makings of an actor can't be refused for memory
 abbrev pub room : {R : ℕ} → Session R → ℕ → ℕ
@@ -27,4 +28,8 @@ room s m = world_room s.world m
 
 -- for how many records, live and undone ones, there is room
 abbrev pub capacity : {R : ℕ} → Session R → ℕ
-capacity s = records_capacity s.records.records
+capacity s = records_capacity s.records
+
+-- the index of dependants: that of the live steps and, behind them, of those ahead
+abbrev pub index : {R : ℕ} → Session R → DependIndex
+index s = s.index

@@ -6,11 +6,10 @@
 //! never replayed from.
 #![tactic(auto)]
 
-mod indexed_records;
+mod indexing;
 pub mod laws;
 mod live_records;
 mod records;
-mod scans;
 mod sessions;
 
 pub use live_records::LiveRecords;

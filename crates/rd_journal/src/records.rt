@@ -9,13 +9,18 @@
 
 ghost use Rattle.std.specs.Prelude.{◌≡◌, ◌++◌, ◌+◌, ◌-◌, ◌<◌, ◌≤◌, ◌∷◌, [], length, get_or, take, drop, vec_capacity, OnOk, OnErr};
 ghost use Rattle.rd_step.specs.Prelude.{closure_of, without_closure, MOST_STEPS};
+ghost use Rattle.rd_depend.specs.Index.{IsIndexOf, HasRoomFor};
+ghost use Rattle.rd_depend.specs.Moved.{moved_behind};
 ghost use Rattle.rd_journal.specs.Numbers.{IsOrder};
 
+mod gathering;
 mod slots;
 
 use super::live_records::{LiveRecords, entry_at};
+use gathering::gather;
+use rd_depend::DependIndex;
 use rd_step::Entry;
-use slots::{make_room_in, move_behind, move_closure_last, put_at};
+use slots::{make_room_in, move_behind, put_at};
 use std::alloc::{AllocError, Global};
 
 /// The records of the live steps, in their order, and those of the steps ahead of them, the next one in front.
@@ -25,12 +30,17 @@ pub(crate) struct Records {
     slots: Vec<Entry>,
     /// The numbers of the slots: of the live records, of those ahead, and of the discarded ones.
     order: Vec<u32>,
+    /// The numbers that a rollback gathers; none but then. There is room for one of each slot.
+    gathered: Vec<u32>,
     /// How many are live.
     live: usize,
     /// How many are ahead of the live ones.
     ahead: usize,
     ghost order_of_all: { IsOrder (length slots.items) order.items },
     ghost within: { live + ahead ≤ length order.items },
+    ghost none_gathered: { gathered.items ≡ [] },
+    ghost room_to_gather: { length order.items ≤ vec_capacity gathered },
+    ghost few: { live + ahead ≤ MOST_STEPS },
 }
 
 impl Records {
@@ -45,6 +55,7 @@ impl Records {
         Records {
             slots: Vec::new(alloc),
             order: Vec::new(alloc),
+            gathered: Vec::new(alloc),
             live: 0,
             ahead: 0,
         }
@@ -62,6 +73,13 @@ impl Records {
         ensures { result ≡ length (live_records self.now) }
     {
         self.live
+    }
+
+    /// How many steps are live or ahead.
+    pub(crate) fn kept_len(&self) -> usize
+        ensures { result ≡ length (kept_records self.now) }
+    {
+        self.live + self.ahead
     }
 
     /// The record of the live step at this position, from 0.
@@ -118,6 +136,7 @@ impl Records {
         ensures live { live_records self.new ≡ take (length (live_records self.old) - 1) (live_records self.old) }
         ensures ahead { ahead_records self.new
             ≡ drop (length (live_records self.old) - 1) (live_records self.old) ++ ahead_records self.old }
+        ensures kept { kept_records self.new ≡ kept_records self.old }
         ensures capacity { records_capacity self.new ≡ records_capacity self.old }
     {
         self.live -= 1;
@@ -129,6 +148,7 @@ impl Records {
         requires some { 1 ≤ length (ahead_records self.old) }
         ensures live { live_records self.new ≡ live_records self.old ++ take 1 (ahead_records self.old) }
         ensures ahead { ahead_records self.new ≡ drop 1 (ahead_records self.old) }
+        ensures kept { kept_records self.new ≡ kept_records self.old }
         ensures capacity { records_capacity self.new ≡ records_capacity self.old }
     {
         self.live += 1;
@@ -141,6 +161,7 @@ impl Records {
         requires position { k ≤ length (live_records self.old) }
         ensures live { live_records self.new ≡ take (k - 1) (live_records self.old) ++ drop k (live_records self.old) }
         ensures ahead { ahead_records self.new ≡ take 1 (drop (k - 1) (live_records self.old)) ++ ahead_records self.old }
+        ensures kept { kept_records self.new ≡ moved_behind (kept_records self.old) k (length (live_records self.old)) }
         ensures capacity { records_capacity self.new ≡ records_capacity self.old }
     {
         move_behind(&mut self.order, k, self.live);
@@ -150,31 +171,30 @@ impl Records {
 
     /// Puts the `k`-th live record and those that depend on it, directly or through others, behind the other live ones, all in
     /// their order. Answers how many these are.
-    pub(crate) fn put_closure_last(&mut self, k: usize) -> usize
+    ///
+    /// The index is that of the records before the `k`-th, with room for those behind them; then it is that of these records and the
+    /// ones that were moved, with room for the others.
+    pub(crate) fn gather_closure(&mut self, k: usize, index: &mut DependIndex) -> usize
         requires some { 1 ≤ k }
         requires position { k ≤ length (live_records self.old) }
+        requires before { IsIndexOf index.old (take (k - 1) (live_records self.old)) }
+        requires room { HasRoomFor index.old (drop (k - 1) (live_records self.old) ++ ahead_records self.old) }
         ensures count { result ≡ length (closure_of (live_records self.old) k) }
         ensures live { live_records self.new ≡ without_closure (live_records self.old) k ++ closure_of (live_records self.old) k }
         ensures ahead { ahead_records self.new ≡ ahead_records self.old }
         ensures len { length (live_records self.new) ≡ length (live_records self.old) }
         ensures capacity { records_capacity self.new ≡ records_capacity self.old }
+        ensures index { IsIndexOf index.new (take (k - 1) (live_records self.old) ++ closure_of (live_records self.old) k) }
+        ensures room { HasRoomFor index.new (drop (k - 1) (without_closure (live_records self.old) k) ++ ahead_records self.old) }
     {
-        move_closure_last(&self.slots, &mut self.order, k, self.live)
-    }
-
-    /// Makes room for one more live record: if a record is ahead, or the room is there, it asks for none.
-    pub(crate) fn make_room(&mut self) -> Result<(), AllocError>
-        ensures live { live_records self.new ≡ live_records self.old }
-        ensures ahead { ahead_records self.new ≡ ahead_records self.old }
-        ensures ok { OnOk result (length (live_records self.new) < records_capacity self.new) }
-        ensures none { OnErr result (ahead_records self.old ≡ []) }
-        ensures full { OnErr result (records_capacity self.old ≡ length (live_records self.old)) }
-    {
-        if self.live < self.order.len() {
-            return Ok(());
-        }
-        self.slots.reserve(1)?;
-        self.order.reserve(1)
+        gather(
+            &self.slots,
+            &mut self.order,
+            &mut self.gathered,
+            index,
+            k,
+            self.live,
+        )
     }
 
     /// Makes room for so many records. Room that is there is not asked for.
@@ -186,46 +206,37 @@ impl Records {
         ensures same { needed ≤ records_capacity self.old → records_capacity self.new ≡ records_capacity self.old }
     {
         make_room_in(&mut self.slots, needed)?;
-        make_room_in(&mut self.order, needed)
+        make_room_in(&mut self.order, needed)?;
+        make_room_in(&mut self.gathered, needed)
     }
 
-    /// Puts a record last among the live ones, and discards those ahead.
-    pub(crate) fn push(&mut self, entry: Entry)
-        requires room { length (live_records self.old) < records_capacity self.old }
-        requires few { length (live_records self.old) < MOST_STEPS }
-        ensures live { live_records self.new ≡ live_records self.old ++ entry ∷ [] }
+    /// Keeps the first `n` live records, and puts these behind them, inside the room that there is; all of them are live then, and none
+    /// is ahead.
+    pub(crate) fn exchange(&mut self, n: usize, given: &[Entry])
+        requires within { n ≤ length (live_records self.old) }
+        requires room { n + length given.now ≤ records_capacity self.old }
+        requires few { n + length given.now ≤ MOST_STEPS }
+        ensures live { live_records self.new ≡ take n (live_records self.old) ++ given.now }
         ensures ahead { ahead_records self.new ≡ [] }
         ensures capacity { records_capacity self.new ≡ records_capacity self.old }
     {
-        self.ahead = 0;
-        self.put_behind(&entry);
-        self.step_forward();
-    }
-
-    /// Exchanges the records ahead for these, the first of which is the next one, inside the room that there is.
-    pub(crate) fn replace_ahead(&mut self, given: &[Entry])
-        requires room { length (live_records self.old) + length given.now ≤ records_capacity self.old }
-        requires few { length (live_records self.old) + length given.now ≤ MOST_STEPS }
-        ensures live { live_records self.new ≡ live_records self.old }
-        ensures ahead { ahead_records self.new ≡ given.now }
-        ensures capacity { records_capacity self.new ≡ records_capacity self.old }
-    {
+        self.live = n;
         self.ahead = 0;
         for entry in given {
-            self.put_behind(entry);
+            self.push(entry);
         }
     }
 
-    /// Puts a record last among those ahead: over the first discarded one, or where none is, into a new slot.
-    fn put_behind(&mut self, entry: &Entry)
-        requires room { length (live_records self.old) + length (ahead_records self.old) < records_capacity self.old }
-        requires few { length (live_records self.old) + length (ahead_records self.old) < MOST_STEPS }
-        ensures live { live_records self.new ≡ live_records self.old }
-        ensures ahead { ahead_records self.new ≡ ahead_records self.old ++ entry.now ∷ [] }
+    /// Puts a record last among the live ones, where none is ahead: over the first discarded one, or where none is, into a new slot.
+    fn push(&mut self, entry: &Entry)
+        requires none_ahead { ahead_records self.old ≡ [] }
+        requires room { length (live_records self.old) < records_capacity self.old }
+        requires few { length (live_records self.old) < MOST_STEPS }
+        ensures live { live_records self.new ≡ live_records self.old ++ entry.now ∷ [] }
+        ensures ahead { ahead_records self.new ≡ [] }
         ensures capacity { records_capacity self.new ≡ records_capacity self.old }
     {
-        let place = self.live + self.ahead;
-        put_at(&mut self.slots, &mut self.order, place, entry);
-        self.ahead += 1;
+        put_at(&mut self.slots, &mut self.order, self.live, entry);
+        self.live += 1;
     }
 }

@@ -2,7 +2,10 @@
 //!
 //! Undoing puts the old words of a live record back, and the record goes to the front of the undone ones: the last one, or any
 //! other on which no later one depends, or a record with all that depend on it. Redoing steps again. So the room that an undo
-//! needs was made by the step that it undoes. A switch exchanges the records ahead for others and redoes them.
+//! needs was made by the step that it undoes. A switch undoes the steps behind the first ones and makes others again.
+//!
+//! Beside the records stands their index of dependants, at every moment that of the live ones and, behind them, of those ahead: a dependant
+//! that it finds behind the live ones is none.
 //!
 //! The live steps with those ahead of them are the session's track. Who knows what lies on it goes along it: what that leaves ahead stays
 //! there, though it is not undone for any caller, and can be made again with no record copied and the index as it is.
@@ -15,30 +18,38 @@ mod removal;
 mod starting;
 mod switching;
 
-ghost use Rattle.std.specs.Prelude.{◌≡◌, ◌⊎◌, ◌++◌, ◌+◌, ◌≤◌, [], length, take, drop, Ok, Err, IsOk, OnOk, OnErr, IfOk, IfErr};
+ghost use Rattle.std.specs.Prelude.{◌≡◌, ◌⊎◌, ◌++◌, ◌+◌, ◌<◌, ◌≤◌, [], length, take, drop, Ok, Err, IsOk, OnOk, OnErr, IfOk, IfErr};
 ghost use Rattle.rd_step.specs.Prelude.{model, room as world_room, step};
 ghost use Rattle.rd_journal.specs.Journal.{events, start_of, IsRunFrom};
 ghost use Rattle.rd_journal.specs.Kept.{whole_journal, IsSession};
-ghost use Rattle.rd_journal.specs.Room.{MayBeOutOfMemory, IsOutOfMemory, ComesAfterRoom, LacksRoom};
-ghost use Rattle.rd_journal.specs.Records.{ahead_records};
+ghost use Rattle.rd_journal.specs.Room.{IsOutOfMemory, ComesAfterRoom, LacksRoom};
+ghost use Rattle.rd_depend.specs.Index.{IsIndexOf};
+ghost use Rattle.rd_journal.specs.Records.{ahead_records, kept_records};
 ghost use Rattle.rd_journal.specs.State.{apply, reply_to, undo, undo_at, back, redo, forward, roll, switch};
 ghost use Rattle.rd_journal.specs.Moves.{IsLengthened, IsMovedBack, IsMovedForward, IsBeforeLast, IsTakenOutAt, IsWithout, IsSwitched, IsRolledBack, IsWithoutClosure, answer_at, roll_answer};
 
-use super::indexed_records::IndexedRecords;
+use super::indexing::index_instead;
+use super::records::Records;
 use rd_cell::Refusal;
 use rd_cell::limits::MOST_STEPS;
+use rd_depend::DependIndex;
+use rd_inverse::unstep;
 use rd_step::{Entry, Event, World};
 use std::alloc::Global;
+use std::slice::from_ref;
 
 /// A world of rings of `R` cells, with the steps that led to it and those that were undone.
 pub struct Session<const R: usize> {
     world: World<R>,
     /// Of the live steps and of those ahead of them: these are the undone ones, and behind them those that the live ones went back over.
-    records: IndexedRecords,
+    records: Records,
+    /// Of the live records and, behind them, of those ahead.
+    index: DependIndex,
     /// How many of the steps ahead are undone.
     undone: usize,
     ghost kept: { IsSession R (whole_journal (model world) records) (world_room world) },
-    ghost within: { undone ≤ length (ahead_records records.records) },
+    ghost within: { undone ≤ length (ahead_records records) },
+    ghost indexed: { IsIndexOf index (kept_records records) },
 }
 
 /// Written out and not derived, so that a proof of a function in which a session ends has one step for that, and not one for
@@ -48,13 +59,14 @@ impl<const R: usize> Drop for Session<R> {
         let Session {
             world: _world,
             records: _records,
+            index: _index,
             undone: _,
         } = self;
     }
 }
 
 impl<const R: usize> Session<R> {
-    ghost use Rattle.rd_journal.specs.Sessions.{journal, state, track, room, capacity};
+    ghost use Rattle.rd_journal.specs.Sessions.{journal, state, track, room, capacity, index};
 
     /// Opens a session in a world, which is its start. It takes no memory.
     pub fn open(alloc: Global, world: World<R>) -> Session<R>
@@ -64,7 +76,8 @@ impl<const R: usize> Session<R> {
     {
         Session {
             world,
-            records: IndexedRecords::new(alloc),
+            records: Records::new(alloc),
+            index: DependIndex::new(alloc),
             undone: 0,
         }
     }
@@ -75,8 +88,8 @@ impl<const R: usize> Session<R> {
     /// # Errors
     ///
     /// In this order: `TooLong` if `MOST_STEPS` steps are live; `NoMemory` if the room for one more record was refused,
-    /// which is asked for only if no step is undone and the records fill their room; what the step is refused for, `NoMemory` for a making whose maker
-    /// has no room, so not if an undone step is a making by the same actor. Nothing has changed then.
+    /// which is asked for only if no step is undone and the records fill their room; what the step is refused for, `NoMemory` for a making whose
+    /// maker has no room; `NoMemory` if the index of dependants has no room for the step and was refused it. Nothing has changed then.
     pub fn apply(&mut self, event: Event) -> Result<(u64, Entry), Refusal>
         ensures ok { OnOk result (apply R (state self.old) event ≡ Ok (state self.new)) }
         ensures step { IfOk result (λ done. step R (journal self.old).world event
@@ -85,9 +98,9 @@ impl<const R: usize> Session<R> {
         ensures number { IfOk result (λ done. done.0 ≡ length (journal self.new).live) }
         ensures reply { IfOk result (λ done. reply_to R (state self.old) event ≡ done.1.reply) }
         ensures err { IfErr result (λ refusal. (apply R (state self.old) event ≡ Err refusal)
-            ⊎ ((refusal ≡ Refusal.NoMemory) × MayBeOutOfMemory R (state self.old) event)) }
+            ⊎ ((refusal ≡ Refusal.NoMemory) × (length (state self.old).live < MOST_STEPS))) }
         ensures memory { IfErr result (λ refusal. (apply R (state self.old) event ≡ Err refusal)
-            ⊎ ((refusal ≡ Refusal.NoMemory) × IsOutOfMemory R (journal self.old) (capacity self.old) (room self.old) event)) }
+            ⊎ ((refusal ≡ Refusal.NoMemory) × IsOutOfMemory R (journal self.old) (capacity self.old) (room self.old) (index self.old) event)) }
         ensures order { IfErr result (λ refusal. ComesAfterRoom (length (journal self.new).live) (capacity self.new) refusal) }
         ensures unchanged { OnErr result (journal self.new ≡ journal self.old) }
         ensures track { OnErr result (track self.new ≡ track self.old) }
@@ -95,11 +108,16 @@ impl<const R: usize> Session<R> {
         if self.records.live_len() == MOST_STEPS {
             return Err(Refusal::TooLong);
         }
-        self.records.make_room()?;
+        let live = self.records.live_len();
+        self.records.make_room_for(live + 1)?;
         let entry = self.world.step(event)?;
-        self.records.push(entry);
+        if index_instead(&mut self.index, &self.records, live, from_ref(&entry)).is_err() {
+            unstep(&mut self.world, &entry);
+            return Err(Refusal::NoMemory);
+        }
+        self.records.exchange(live, from_ref(&entry));
         self.undone = 0;
-        Ok((self.len(), entry))
+        Ok((live as u64 + 1, entry))
     }
 
     /// Undoes the last live step. It takes no memory.
@@ -115,6 +133,7 @@ impl<const R: usize> Session<R> {
         ensures unchanged { OnErr result (journal self.new ≡ journal self.old) }
         ensures capacity { capacity self.new ≡ capacity self.old }
         ensures track { track self.new ≡ track self.old }
+        ensures index { index self.new ≡ index self.old }
     {
         if self.records.live_len() == 0 {
             return Err(Refusal::NothingToUndo(0));
@@ -145,7 +164,7 @@ impl<const R: usize> Session<R> {
         if len < k || k == 0 {
             return Err(Refusal::NoSuchStep(len));
         }
-        if let Some(dependant) = self.records.first_dependant(k) {
+        if let Some(dependant) = self.first_dependant(k) {
             return Err(Refusal::Depended(dependant));
         }
         self.undo_alone(k);
@@ -156,8 +175,8 @@ impl<const R: usize> Session<R> {
     /// In their order they become the front of the undone steps, and all other steps stay as they are. It takes no memory
     /// and makes no step again.
     ///
-    /// Its time is one pass over the later live steps for each step that is undone, at most: each later one is compared with
-    /// the steps before it that are undone, and if it stays, moved before them.
+    /// Its time is one pass over the later live steps: whether one depends on a step that is undone is told by a few look-ups, and the
+    /// index of dependants is put together again behind the step.
     ///
     /// # Errors
     ///
@@ -194,6 +213,7 @@ impl<const R: usize> Session<R> {
         ensures unchanged { OnErr result (journal self.new ≡ journal self.old) }
         ensures capacity { capacity self.new ≡ capacity self.old }
         ensures track { track self.new ≡ track self.old }
+        ensures index { index self.new ≡ index self.old }
     {
         let len = self.len();
         if n > len {
@@ -203,8 +223,7 @@ impl<const R: usize> Session<R> {
         Ok(())
     }
 
-    /// Steps the event again that was undone last. It leaves the record that it left before. Memory is asked for by the index of
-    /// dependants alone, if it does not reach the step; where that is refused it reaches less far, and the redo goes on.
+    /// Steps the event again that was undone last. It leaves the record that it left before. It takes no memory.
     ///
     /// # Errors
     ///
@@ -216,6 +235,7 @@ impl<const R: usize> Session<R> {
         ensures unchanged { OnErr result (journal self.new ≡ journal self.old) }
         ensures capacity { capacity self.new ≡ capacity self.old }
         ensures track { track self.new ≡ track self.old }
+        ensures index { index self.new ≡ index self.old }
     {
         if self.undone_len() == 0 {
             return Err(Refusal::NothingToRedo);
@@ -224,8 +244,7 @@ impl<const R: usize> Session<R> {
         Ok(())
     }
 
-    /// Redoes the `n` steps that were undone last, all or none. As for `redo`, memory is asked for by the index of dependants alone.
-    /// If this reaches all live steps, it takes time that grows with `n` alone.
+    /// Redoes the `n` steps that were undone last, all or none. It takes no memory, and time that grows with `n` alone.
     ///
     /// # Errors
     ///
@@ -237,6 +256,7 @@ impl<const R: usize> Session<R> {
         ensures unchanged { OnErr result (journal self.new ≡ journal self.old) }
         ensures capacity { capacity self.new ≡ capacity self.old }
         ensures track { track self.new ≡ track self.old }
+        ensures index { index self.new ≡ index self.old }
     {
         if n > self.undone_len() {
             return Err(Refusal::NothingToRedo);
@@ -246,38 +266,38 @@ impl<const R: usize> Session<R> {
     }
 
     /// Keeps the first `n` live steps, undoes the others, discards what was undone, and makes the steps of the given records
-    /// again, which become the last live ones. Room for the records, and for each maker room for the makings among them, is asked
-    /// for before the first undo. The index of dependants grows behind that, as the steps are made again; where it is refused
-    /// memory it reaches less far, and the switch goes on.
+    /// again, which become the last live ones. Room for the records, in the index of dependants, and for each maker for the makings among
+    /// them is asked for before the first undo.
     ///
     /// # Errors
     ///
-    /// `NoMemory` if room was refused, which is asked for only where it is missing; so not if no record is given. Nothing has
-    /// changed then.
+    /// `NoMemory` if room was refused, which is asked for only where it is missing once the others are undone; so not if no record is
+    /// given. Nothing has changed then.
     pub fn switch(&mut self, n: u64, entries: &[Entry]) -> Result<(), Refusal>
         requires within { n ≤ length (journal self.old).live }
         requires few { n + length entries.now ≤ MOST_STEPS }
         requires run { IsRunFrom R (start_of (journal self.old)) (take n (journal self.old).live ++ entries.now) }
         ensures ok { OnOk result (state self.new ≡ switch (state self.old) n (events entries.now)) }
         ensures records { OnOk result (IsSwitched n entries.now (journal self.old) (journal self.new)) }
-        ensures err { IfErr result (λ refusal. (refusal ≡ Refusal.NoMemory) × LacksRoom n entries.now (capacity self.old) (room self.old)) }
+        ensures err { IfErr result (λ refusal. (refusal ≡ Refusal.NoMemory)
+            × LacksRoom n (journal self.old).live entries.now (capacity self.old) (room self.old) (index self.old)) }
         ensures unchanged { OnErr result (journal self.new ≡ journal self.old) }
         ensures succeeds { entries.now ≡ [] → IsOk result }
         ensures capacity { n + length entries.now ≤ capacity self.old → capacity self.new ≡ capacity self.old }
         ensures track { OnErr result (track self.new ≡ track self.old) }
     {
         self.make_room_to_switch(n, entries)?;
-        self.exchange(n, entries);
-        Ok(())
+        self.exchange(n as usize, entries)
     }
 
     /// Goes along the session's track, which is the live steps with those ahead of them: its first `n` steps are live then, and none is
-    /// undone. The track stays as it is. It copies no record, and as for `redo` memory is asked for by the index of dependants alone. If
-    /// this reaches all live steps, its time grows with the number of steps that it undoes or makes again alone.
+    /// undone. The track stays as it is. It copies no record and takes no memory, and its time grows with the number of steps that it
+    /// undoes or makes again alone.
     pub fn go_along(&mut self, n: u64)
         requires within { n ≤ length (track self.old) }
         ensures state { state self.new ≡ record { start = (state self.old).start; live = take n (track self.old); undone = [] } }
         ensures track { track self.new ≡ track self.old }
+        ensures index { index self.new ≡ index self.old }
         ensures capacity { capacity self.new ≡ capacity self.old }
     {
         let len = self.len();

@@ -4,6 +4,7 @@
 //! others say what must be so then.
 
 mod agreement;
+mod closures;
 mod lone_undo;
 mod long_runs;
 mod rollback;

@@ -132,7 +132,7 @@ pub stands : {R : ℕ} (session : Session R) (t : MarkTree) → IsTree t → (he
     → IsHere t here (track session) → IsIn t at → Begins (path_in t at) (path_in t here) → depth_in t at ≡ min n (depth_in t here)
     → IsHere t at (state session).live
 stands session t rule here at n all lies is begins depth =
-    live_here t rule here at n (state session).live (events (ahead_records session.records.records)) all lies is begins (omega (arith, depth))
+    live_here t rule here at n (state session).live (events (ahead_records session.records)) all lies is begins (omega (arith, depth))
 
 -- Going down begins where the live steps stand
 

@@ -1,11 +1,10 @@
 -- What each command answers and leaves, by the state of the book alone. The queries look at the run of the live events; there
 -- is no inverse and no old content here.
-use Rattle.std.specs.Prelude.{◌≡◌, ℕ, zero, suc, ◌⊎◌, Bool, List, [], ◌∷◌, length, slice_get, ok_or, Option, Result, Ok, Err, IsOk}
-use Rattle.rd_step.specs.Prelude.{Refusal, NoActor, NoSuchPlace, NoSuchStep, NoMemory, Place, Content, content_at, Actor as Words, OpReply, Act, Ran}
+use Rattle.std.specs.Prelude.{◌≡◌, ℕ, zero, suc, ◌<◌, ◌⊎◌, Bool, List, [], ◌∷◌, length, slice_get, ok_or, Option, Result, Ok, Err, IsOk}
+use Rattle.rd_step.specs.Prelude.{Refusal, NoActor, NoSuchPlace, NoSuchStep, NoMemory, Place, Content, content_at, Actor as Words, OpReply, Act, Ran, MOST_STEPS}
 use Rattle.rd_actor.specs.declared.actors.Act.TheVariants.{Enq as CallsEnq, Deq as CallsDeq, AEnq as CallsArrayEnq, ADeq as CallsArrayDeq, Go as GoesOn, Starve as Starves}
 use Rattle.rd_step.specs.declared.entries.Event.{Event}
 use Rattle.rd_step.specs.declared.entries.Entry.{Entry}
-use Rattle.rd_journal.specs.Room.{MayBeOutOfMemory}
 use Rattle.rd_journal.specs.State.{State, run_of, apply, reply_to, undo, undo_at, roll, back, redo, forward}
 use Rattle.rd_origin.specs.Origins.{origin_in}
 use Rattle.rd_origin.specs.Writers.{last_writer_in}
@@ -81,9 +80,10 @@ record_in k (Ok ran) = record_at ran.entries k
 abbrev pub happens : ℕ → BookState → Event → Answered
 happens R b e = event_answer b (reply_to R b.session e) (apply R b.session e)
 
--- what an event may be answered, and what it may leave: what happens, or NoMemory with nothing changed, as the journal says
+-- what an event may be answered, and what it may leave: what happens, or, where fewer steps are live than may be, NoMemory with nothing
+-- changed
 abbrev pub Happened : ℕ → BookState → Event → Answered → Type 0
-Happened R b e answered = (answered ≡ happens R b e) ⊎ (MayBeOutOfMemory R b.session e × (answered ≡ refused b NoMemory))
+Happened R b e answered = (answered ≡ happens R b e) ⊎ ((length b.session.live < MOST_STEPS) × (answered ≡ refused b NoMemory))
 
 -- what setting or going to a mark may be answered, and what it may leave: what it makes, or, only if it asks for room, NoMemory with
 -- nothing changed

@@ -4,11 +4,11 @@ ghost use Rattle.std.specs.Prelude.{◌≡◌, ◌+◌, ◌<◌, ◌≤◌, ◌+
 ghost use Rattle.rd_step.specs.declared.entries.Entry.{Entry as Record};
 ghost use Rattle.rd_cell.specs.Places.{is_nothing};
 ghost use Rattle.rd_depend.specs.Keys.{place_key, value_key, segment_key};
-ghost use Rattle.rd_depend.specs.Index.{Touch, Adds, Keeps, Drops, ClosesAll, CutsAll, IsIndexOf, IsIndex, IsLast, IsReadyFor, HasRoomFor, EndsWith, number_of, touches, spare, is_value_written};
+ghost use Rattle.rd_depend.specs.Index.{Touch, Adds, Keeps, Drops, MovesAll, CutsAll, IsIndexOf, IsIndex, IsLast, IsReadyFor, HasRoomFor, EndsWith, number_of, touches, spare, is_value_written};
 
 use super::DependIndex;
 use super::keys::Key;
-use super::lists::{close_all, cut_all, grow, put_in, reserve_in, take_last_in};
+use super::lists::{cut_all, grow, move_all, put_in, reserve_in, take_last_in};
 use rd_cell::limits::MOST_STEPS;
 use rd_cell::{Place, Wrote};
 use rd_step::Entry;
@@ -93,14 +93,14 @@ impl DependIndex {
         self.by_key.take_last(segment_key(entry.place), wrote);
     }
 
-    /// Takes a position away; later ones are one less.
-    pub(super) fn close(&mut self, k: u32)
-        requires { 1 ≤ self.old.len }
-        ensures { ClosesAll k self.old self.new }
+    /// Moves a position behind those above it up to `n`, which are one less then.
+    pub(super) fn move_position(&mut self, k: u32, n: u32)
+        requires some { 1 ≤ k }
+        requires order { k ≤ n }
+        ensures { MovesAll k n self.old self.new }
     {
-        self.len -= 1;
-        close_all(&mut self.by_actor, k);
-        self.by_key.close(k);
+        move_all(&mut self.by_actor, k, n);
+        self.by_key.move_behind(k, n);
     }
 
     /// Takes the positions above `n` away.
@@ -110,6 +110,28 @@ impl DependIndex {
         self.len = n as usize;
         cut_all(&mut self.by_actor, n);
         self.by_key.cut(n);
+    }
+
+    /// Puts these entries at the next positions, all or none.
+    ///
+    /// # Errors
+    ///
+    /// If memory was refused.
+    pub(super) fn add_all(&mut self, entries: &[Entry]) -> Result<(), AllocError>
+        requires index { IsIndex self.old }
+        requires few { self.old.len + length entries.now ≤ MOST_STEPS }
+        ensures ok { OnOk result ((es : List Record) → IsIndexOf self.old es → IsIndexOf self.new (es ++ entries.now)) }
+        ensures err { OnErr result ((es : List Record) → IsIndexOf self.old es → IsIndexOf self.new es) }
+        ensures succeeds { HasRoomFor self.old entries.now → IsOk result }
+        ensures room { OnOk result ((t : Touch) → spare self.old t ≤ spare self.new t + number_of (touches t) entries.now) }
+        ensures room_stays { OnErr result ((t : Touch) → spare self.old t ≤ spare self.new t) }
+    {
+        let added = self.add_some(entries);
+        if added < entries.len() {
+            self.drop_all(&entries[..added]);
+            return Err(AllocError);
+        }
+        Ok(())
     }
 
     /// Pushes these entries until one is refused, and gives how many were not.

@@ -2,6 +2,7 @@
 //! that touched it, or if the step only read it that wrote it.
 
 ghost use Rattle.std.specs.Prelude.{◌≡◌, ◌+◌, ◌<◌, ◌≤◌, ◌^◌, ◌||◌, List, Some, length};
+ghost use Rattle.std.specs.Option.{is_some};
 ghost use Rattle.rd_cell.specs.declared.places.Place.TheVariants.{Whole};
 ghost use Rattle.rd_cell.specs.Places.{interfere};
 ghost use Rattle.rd_step.specs.declared.entries.Entry.{Entry as Record};
@@ -35,6 +36,18 @@ impl DependIndex {
             None => by_actor,
             Some(place) => earlier(by_actor, self.first_at(k, place, entry.wrote, probes)),
         }
+    }
+
+    /// Whether there is a position greater than `k` that depends on the entry. The actor is asked first, which mostly tells.
+    pub(super) fn is_one_above(&self, k: u32, entry: &Entry, probes: &mut Probes) -> bool
+        requires few { self.now.len ≤ MOST_STEPS }
+        requires counted { probes.old.count < 2 ^ 31 }
+        ensures { (es : List Record) → IsIndexOf self.now es → result ≡ is_some (first_above k (positions (depends entry.now) es)) }
+    {
+        if self.first_by(k, entry.event.actor, probes).is_some() {
+            return true;
+        }
+        self.first_above(k, entry, probes).is_some()
     }
 
     /// The first position greater than `k` of a step that interferes with an access that wrote this of its place.

@@ -1,7 +1,7 @@
 //! Lists of positions by number, and what is done to one or to all of them.
 
-ghost use Rattle.std.specs.Prelude.{◌≡◌, ◌+◌, ◌-◌, ◌==◌, ◌&&◌, true, ◌<◌, ◌≤◌, ◌++◌, ◌∷◌, [], ℕ, IsOk, OnOk, length, take, vec_capacity, if◌then◌else◌};
-ghost use Rattle.rd_depend.specs.Lists.{one_if, list_at, capacity_at, spare_at, spare_of, closed, up_to, number_up_to, lowered_from, IsAscending};
+ghost use Rattle.std.specs.Prelude.{◌≡◌, ◌+◌, ◌-◌, ◌==◌, ◌&&◌, true, ◌<◌, ◌≤◌, ◌++◌, ◌∷◌, [], ℕ, suc, Bool, List, IsOk, OnOk, length, map, take, vec_capacity, if◌then◌else◌};
+ghost use Rattle.rd_depend.specs.Lists.{one_if, list_at, capacity_at, spare_at, spare_of, with_first, up_to, number_up_to, AscendsFrom, AreUpTo, IsAscending, IsMoved};
 
 use std::alloc::{AllocError, Global};
 
@@ -120,35 +120,46 @@ pub(crate) fn take_last_if(lists: &mut Vec<Vec<u32>>, wanted: bool, index: usize
     }
 }
 
-/// Takes a position out of each list that has it, and 1 off the positions above it.
-pub(crate) fn close_all(lists: &mut Vec<Vec<u32>>, k: u32)
-    ensures lists { (i : ℕ) → IsAscending (list_at lists.old.items i) → list_at lists.new.items i ≡ closed k (list_at lists.old.items i) }
+/// Moves a position behind those above it up to `n` in each list that has it, and takes 1 off these in each list.
+pub(crate) fn move_all(lists: &mut Vec<Vec<u32>>, k: u32, n: u32)
+    requires some { 1 ≤ k }
+    requires order { k ≤ n }
+    ensures lists { (i : ℕ) → IsMoved k n (list_at lists.old.items i) (list_at lists.new.items i) }
     ensures capacity { (i : ℕ) → capacity_at lists.new.items i ≡ capacity_at lists.old.items i }
     ensures number { length lists.new.items ≡ length lists.old.items }
 {
     for index in 0..lists.len() {
-        close(&mut lists[index], k);
+        move_in(&mut lists[index], k, n);
     }
 }
 
-/// Takes a position out of a list, if it is there, and 1 off the positions above it.
-fn close(list: &mut Vec<u32>, k: u32)
-    ensures items { IsAscending list.old.items → list.new.items ≡ closed k list.old.items }
+/// The same in one list.
+fn move_in(list: &mut Vec<u32>, k: u32, n: u32)
+    requires some { 1 ≤ k }
+    requires order { k ≤ n }
+    ensures items { IsMoved k n list.old.items list.new.items }
     ensures capacity { vec_capacity list.new ≡ vec_capacity list.old }
 {
-    if ends_before(list, k) {
+    move_among(list, k, n);
+}
+
+/// Moves a position, if it is there, behind those above it up to `n`, and takes 1 off these.
+fn move_among(positions: &mut [u32], k: u32, n: u32)
+    requires some { 1 ≤ k }
+    requires order { k ≤ n }
+    ensures { IsMoved k n positions.old positions.new }
+{
+    if ends_before(positions, k) {
         return;
     }
-    let border = number_up_to(k, list);
-    lower_from(list, border);
-    if border > 0 && list[border - 1] == k {
-        let _gone = list.remove(border - 1);
-    }
+    let start = number_up_to(k - 1, positions);
+    let end = start + number_up_to(n, &positions[start..]);
+    move_first(&mut positions[start..end], k, n);
 }
 
 /// Whether the last position is less than `k`, or there is none.
 fn ends_before(list: &[u32], k: u32) -> bool
-    ensures { result ≡ true → IsAscending list.now → closed k list.now ≡ list.now }
+    ensures { result ≡ true → IsAscending list.now → AreUpTo (k - 1) list.now }
 {
     let len = list.len();
     if len == 0 {
@@ -158,13 +169,26 @@ fn ends_before(list: &[u32], k: u32) -> bool
     last < k
 }
 
-/// Takes 1 off each position from this index on.
-fn lower_from(list: &mut [u32], start: usize)
-    requires { start ≤ length list.old }
-    ensures { list.new ≡ lowered_from start (length list.old - start) list.old }
+/// Takes 1 off each position above `k`; if the first one is `k`, it becomes the last one, and `n`.
+fn move_first(positions: &mut [u32], k: u32, n: u32)
+    requires { 1 ≤ k }
+    ensures { (later : List ℕ) (held : Bool) → AscendsFrom (suc k) later → positions.old ≡ with_first held k later
+        → positions.new ≡ map (λ p. p - 1) later ++ with_first held n [] }
 {
-    for index in start..list.len() {
-        list[index] = list[index].saturating_sub(1);
+    lower(positions);
+    let len = positions.len();
+    if len > 0 && positions[0] == k - 1 {
+        positions.rotate_left(1);
+        positions[len - 1] = n;
+    }
+}
+
+/// Takes 1 off each position.
+fn lower(positions: &mut [u32])
+    ensures { positions.new ≡ map (λ p. p - 1) positions.old }
+{
+    for index in 0..positions.len() {
+        positions[index] = positions[index].saturating_sub(1);
     }
 }
 
@@ -190,6 +214,7 @@ fn number_up_to(k: u32, list: &[u32]) -> usize
 /// Takes the positions above `n` out of each list.
 pub(crate) fn cut_all(lists: &mut Vec<Vec<u32>>, n: u32)
     ensures lists { (i : ℕ) → IsAscending (list_at lists.old.items i) → list_at lists.new.items i ≡ up_to n (list_at lists.old.items i) }
+    ensures capacity { (i : ℕ) → capacity_at lists.new.items i ≡ capacity_at lists.old.items i }
     ensures number { length lists.new.items ≡ length lists.old.items }
 {
     for index in 0..lists.len() {
@@ -199,7 +224,8 @@ pub(crate) fn cut_all(lists: &mut Vec<Vec<u32>>, n: u32)
 
 /// Takes the positions above `n` out of a list.
 fn cut(list: &mut Vec<u32>, n: u32)
-    ensures { IsAscending list.old.items → list.new.items ≡ up_to n list.old.items }
+    ensures items { IsAscending list.old.items → list.new.items ≡ up_to n list.old.items }
+    ensures capacity { vec_capacity list.new ≡ vec_capacity list.old }
 {
     let mut end = list.len();
     'falling: while end > 0 && list[end - 1] > n {

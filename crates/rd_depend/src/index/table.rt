@@ -4,7 +4,7 @@ ghost use Rattle.std.specs.Prelude.{◌≡◌, ◌<◌, length};
 
 use super::keys::Key;
 use super::lists::{
-    close_all, cut_all, put_if, put_in, reserve_if, reserve_in, take_last_if, take_last_in,
+    cut_all, move_all, put_if, put_in, reserve_if, reserve_in, take_last_if, take_last_in,
 };
 use indexmap::IndexSet;
 use rd_cell::SegName;
@@ -28,7 +28,7 @@ pub(crate) struct Table {
 impl Table {
     ghost use Rattle.std.specs.Prelude.{◌≤◌, Option, Some, Bool, true, IsOk, IfOk, IfSome, false, []};
     ghost use Rattle.rd_depend.specs.Keys.{slot_in};
-    ghost use Rattle.rd_depend.specs.Tables.{kept_in, spare_in, counts, IsReady, IsReadyAt, AreReady, AreReadyAt, KeepsLists, Puts, HasLast, TakesLast, Closes, Cuts};
+    ghost use Rattle.rd_depend.specs.Tables.{kept_in, spare_in, counts, IsReady, IsReadyAt, AreReady, AreReadyAt, KeepsLists, Puts, HasLast, TakesLast, Moves, Cuts};
     ghost use Rattle.rd_depend.specs.declared.index.keys.Key.{Key as Kept};
     ghost use Rattle.rd_depend.specs.declared.index.keys.Key.TheVariants.{In};
 
@@ -219,12 +219,14 @@ impl Table {
         }
     }
 
-    /// Takes a position out of each list that has it, and 1 off the positions above it.
-    pub(crate) fn close(&mut self, k: u32)
-        ensures { Closes k self.old self.new }
+    /// Moves a position behind those above it up to `n` in each list that has it, and takes 1 off these in each list.
+    pub(crate) fn move_behind(&mut self, k: u32, n: u32)
+        requires some { 1 ≤ k }
+        requires order { k ≤ n }
+        ensures { Moves k n self.old self.new }
     {
-        close_all(&mut self.all, k);
-        close_all(&mut self.writes, k);
+        move_all(&mut self.all, k, n);
+        move_all(&mut self.writes, k, n);
     }
 
     /// Takes the positions above `n` out of each list.

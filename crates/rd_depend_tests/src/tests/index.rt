@@ -1,14 +1,15 @@
-//! Tests of the index: whatever is pushed, taken from the end or taken out, the first dependants and the last writers that it
-//! finds are those of a scan.
+//! Tests of the index: whatever is pushed, taken from the end, taken out or moved, the first dependants and the last writers that
+//! it finds are those of a scan.
 
-ghost use Rattle.std.specs.Prelude.{List};
+ghost use Rattle.std.specs.Prelude.{◌≡◌, ◌≤◌, length, List};
 ghost use Rattle.rd_step.specs.declared.entries.Entry.{Entry as Record};
 ghost use Rattle.rd_depend.specs.Index.{IsIndexOf, HasRoomFor};
+ghost use Rattle.rd_depend.specs.Moved.{moved_behind};
 
 use super::{Access, MADE, OTHER, record};
 use rd_cell::limits::MOST_STEPS;
 use rd_cell::{Place, Wrote, overlaps};
-use rd_depend::{DependIndex, Probes, first_dependant};
+use rd_depend::{DependIndex, Probes, depends, first_dependant};
 use rd_step::Entry;
 use std::alloc::Global;
 use std::process::Abort;
@@ -23,7 +24,7 @@ struct Both {
 }
 
 impl Both {
-    ghost use Rattle.std.specs.Prelude.{◌≡◌, ◌<◌, ◌≤◌, length, OnOk};
+    ghost use Rattle.std.specs.Prelude.{◌<◌, OnOk};
 
     /// No entry.
     fn new(alloc: Global) -> Both {
@@ -57,6 +58,45 @@ impl Both {
         if at < self.entries.len() && self.entries.len() <= MOST_STEPS {
             let entry = self.entries.remove(at);
             self.index.remove(at as u64 + 1, &entry);
+        }
+    }
+
+    /// Moves the `k`-th entry, from 1, behind the later ones up to the `n`-th, if they are there.
+    fn move_behind(&mut self, k: usize, n: usize) {
+        let len = self.entries.len();
+        if 1 <= k && k <= n && n <= len && len <= MOST_STEPS {
+            move_entry(&mut self.entries, k, n);
+            self.index.move_behind(k as u64, n as u64);
+        }
+    }
+
+    /// Puts these entries at the end by one call; if they are too many, the test ends.
+    fn push_all(self, new: &[Entry]) -> Result<Both, Fail> {
+        let len = self.entries.len();
+        if len > MOST_STEPS || new.len() > MOST_STEPS - len {
+            return Err(Fail::new("too many entries"));
+        }
+        let Both {
+            mut index,
+            mut entries,
+        } = self;
+        index.push_all(new)?;
+        entries.extend_from_slice(new)?;
+        Ok(Both { index, entries })
+    }
+
+    /// Compares whether this entry depends on one of those behind the first `n` with what a scan finds.
+    fn compare_behind(&self, rt: &impl Abort, n: usize, entry: &Entry) {
+        if n <= self.entries.len()
+            && self.entries.len() <= MOST_STEPS
+            && n as u64 <= self.index.len()
+        {
+            let found = self.index.depends_behind(n as u64, entry);
+            assert_eq!(rt;
+                found,
+                depends_on_one(&self.entries[n..], entry),
+                "behind {n}"
+            );
         }
     }
 
@@ -133,6 +173,26 @@ impl Both {
             assert!(rt; self.compare(rt, at) <= 96);
         }
     }
+}
+
+/// Moves the `k`-th entry, from 1, behind the later ones up to the `n`-th.
+fn move_entry(entries: &mut [Entry], k: usize, n: usize)
+    requires some { 1 ≤ k }
+    requires order { k ≤ n }
+    requires within { n ≤ length entries.old }
+    ensures { entries.new ≡ moved_behind entries.old k n }
+{
+    entries[k - 1..n].rotate_left(1);
+}
+
+/// Whether an entry depends on one of these, by a scan.
+fn depends_on_one(entries: &[Entry], entry: &Entry) -> bool {
+    for other in entries {
+        if depends(other, entry) {
+            return true;
+        }
+    }
+    false
 }
 
 /// Pushes these entries, for which there is room. None is refused, whatever memory there is: it is proved that the arm of a refusal
@@ -223,7 +283,7 @@ impl Draws {
     }
 }
 
-/// Makes a change: pushes, pops or takes out, as it is drawn.
+/// Makes a change: pushes, pops, takes out or moves, as it is drawn.
 fn change(both: &mut Both, draws: &mut Draws, actors: u8) -> Result<(), Fail> {
     let len = both.entries.len();
     match draws.below(8) {
@@ -231,6 +291,11 @@ fn change(both: &mut Both, draws: &mut Draws, actors: u8) -> Result<(), Fail> {
         1 => {
             let at = draws.below(64) as usize;
             both.remove(at.min(len));
+        }
+        2 => {
+            let k = draws.below(64) as usize;
+            let n = draws.below(64) as usize;
+            both.move_behind(k.min(len), n.min(len));
         }
         _ => both.push(record(draws.access(actors)))?,
     }
@@ -292,6 +357,45 @@ fn the_whole_of_a_segment_is_found_between_its_cells(rt: HostRuntime) -> Result<
     for _ in 0..WHOLE.len() {
         both.remove(1);
         both.compare_all(&rt);
+    }
+    Ok(())
+}
+
+#[test]
+fn a_position_that_moved_is_found_where_the_scan_finds_it(rt: HostRuntime) -> Result<(), Fail> {
+    for k in 1..WHOLE.len() + 1 {
+        for n in k..WHOLE.len() + 1 {
+            let mut both = Both::new(rt.alloc());
+            for access in WHOLE {
+                both.push(record(access))?;
+            }
+            both.move_behind(k, n);
+            both.compare_all(&rt);
+        }
+    }
+    Ok(())
+}
+
+#[test]
+fn entries_pushed_by_one_call_are_found(rt: HostRuntime) -> Result<(), Fail> {
+    let entries = WHOLE.map(record);
+    let mut both = Both::new(rt.alloc());
+    for _ in 0..3 {
+        both = both.push_all(&entries)?;
+        both.compare_all(&rt);
+    }
+    assert_eq!(rt; both.index.len(), 3 * WHOLE.len() as u64);
+    Ok(())
+}
+
+#[test]
+fn an_entry_depends_on_one_behind_as_the_scan_finds(rt: HostRuntime) -> Result<(), Fail> {
+    let entries = WHOLE.map(record);
+    let both = Both::new(rt.alloc()).push_all(&entries)?;
+    for n in 0..WHOLE.len() + 1 {
+        for entry in entries {
+            both.compare_behind(&rt, n, &entry);
+        }
     }
     Ok(())
 }

@@ -1,14 +1,10 @@
 //! Changes of the slots, and of the order of their numbers.
 
-ghost use Rattle.std.specs.Prelude.{◌≡◌, ◌++◌, ◌∷◌, ◌+◌, ◌<◌, ◌≤◌, length, take, drop, slice_index_or, vec_capacity, OnOk, OnErr};
-ghost use Rattle.std.specs.List.{All};
-ghost use Rattle.rd_step.specs.declared.entries.Entry.{Entry as Record};
-ghost use Rattle.rd_step.specs.Prelude.{closure_of, without_closure, depends_on_one, MOST_STEPS};
-ghost use Rattle.rd_journal.specs.Numbers.{at_numbers, moved_behind, IsOrder};
+ghost use Rattle.std.specs.Prelude.{◌≡◌, ◌++◌, ◌∷◌, ◌+◌, ◌<◌, ◌≤◌, ℕ, length, take, drop, vec_capacity, OnOk, OnErr};
+ghost use Rattle.rd_step.specs.Prelude.{MOST_STEPS};
+ghost use Rattle.rd_depend.specs.Moved.{moved_behind};
+ghost use Rattle.rd_journal.specs.Numbers.{at_numbers, IsOrder};
 
-use crate::live_records::{LiveRecords, entry_at};
-use crate::scans::depends_on_one;
-use rd_depend::move_before;
 use rd_step::Entry;
 use std::alloc::AllocError;
 
@@ -23,6 +19,7 @@ pub(crate) fn put_at(slots: &mut Vec<Entry>, order: &mut Vec<u32>, place: usize,
     ensures put { at_numbers slots.new.items order.new.items
         ≡ take place (at_numbers slots.old.items order.old.items) ++ entry.now ∷ drop (place + 1) (at_numbers slots.old.items order.old.items) }
     ensures within { place < length order.new.items }
+    ensures longer { (n : ℕ) → place < n → length order.old.items ≤ n → length order.new.items ≤ n }
     ensures slots { vec_capacity slots.new ≡ vec_capacity slots.old }
     ensures numbers { vec_capacity order.new ≡ vec_capacity order.old }
 {
@@ -58,48 +55,4 @@ pub(crate) fn move_behind(order: &mut Vec<u32>, k: usize, live: usize)
 {
     let later = &mut order[k - 1..live];
     later.rotate_left(1);
-}
-
-/// Moves the number of the `k`-th of the first `live` records and those of the records among them that depend on it, directly or
-/// through others, behind those of the others, all in their order. Answers how many these are.
-///
-/// They stand in one block that grows at its end: a later record that depends on one of them joins it, and the number of any
-/// other moves before it.
-pub(crate) fn move_closure_last(
-    slots: &[Entry],
-    order: &mut Vec<u32>,
-    k: usize,
-    live: usize,
-) -> usize
-    requires ordered { IsOrder (length slots.now) order.old.items }
-    requires some { 1 ≤ k }
-    requires position { k ≤ live }
-    requires within { live ≤ length order.old.items }
-    ensures ordered { IsOrder (length slots.now) order.new.items }
-    ensures count { result ≡ length (closure_of (take live (at_numbers slots.now order.old.items)) k) }
-    ensures moved { take live (at_numbers slots.now order.new.items)
-        ≡ without_closure (take live (at_numbers slots.now order.old.items)) k ++ closure_of (take live (at_numbers slots.now order.old.items)) k }
-    ensures behind { drop live (at_numbers slots.now order.new.items) ≡ drop live (at_numbers slots.now order.old.items) }
-    ensures capacity { vec_capacity order.new ≡ vec_capacity order.old }
-{
-    let mut front = k - 1;
-    for next in k..live {
-        if !depends_on_block(slots, order, front, next) {
-            move_before(order, front, next);
-            front += 1;
-        }
-    }
-    live - front
-}
-
-/// Whether the record at this place of the order depends on one of those before it, from the front of the block on.
-fn depends_on_block(slots: &[Entry], order: &[u32], front: usize, next: usize) -> bool
-    requires below { All (λ n. n < length slots.now) order.now }
-    requires block { front ≤ next }
-    requires within { next < length order.now }
-    ensures { (x : Record) → x ≡ slice_index_or (at_numbers slots.now order.now) next x
-        → result ≡ depends_on_one (drop front (take next (at_numbers slots.now order.now))) x }
-{
-    let block = LiveRecords::new(slots, &order[front..next]);
-    depends_on_one(&block, entry_at(slots, order, next))
 }

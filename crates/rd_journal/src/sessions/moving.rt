@@ -8,7 +8,7 @@ use super::Session;
 use rd_inverse::unstep;
 
 impl<const R: usize> Session<R> {
-    ghost use Rattle.rd_journal.specs.Sessions.{journal, state, track, room, capacity};
+    ghost use Rattle.rd_journal.specs.Sessions.{journal, state, track, room, capacity, index};
 
     /// Undoes the last live step: its old words are put back.
     pub(super) fn undo_last(&mut self)
@@ -18,6 +18,7 @@ impl<const R: usize> Session<R> {
         ensures room { (m : ℕ) → room self.old m ≤ room self.new m }
         ensures track { track self.new ≡ track self.old }
         ensures capacity { capacity self.new ≡ capacity self.old }
+        ensures index { index self.new ≡ index self.old }
     {
         unstep(&mut self.world, self.records.last_live());
         self.records.step_back();
@@ -32,6 +33,7 @@ impl<const R: usize> Session<R> {
         ensures room { (m : ℕ) → room self.old m ≤ room self.new m }
         ensures track { track self.new ≡ track self.old }
         ensures capacity { capacity self.new ≡ capacity self.old }
+        ensures index { index self.new ≡ index self.old }
     {
         for _ in 0..n {
             self.undo_last();
@@ -46,6 +48,7 @@ impl<const R: usize> Session<R> {
         ensures state { state self.new ≡ forward_one (state self.old) }
         ensures track { track self.new ≡ track self.old }
         ensures capacity { capacity self.new ≡ capacity self.old }
+        ensures index { index self.new ≡ index self.old }
     {
         self.world.step_again(self.records.first_ahead());
         self.records.step_forward();
@@ -59,6 +62,7 @@ impl<const R: usize> Session<R> {
         ensures state { state self.new ≡ times n forward_one (state self.old) }
         ensures track { track self.new ≡ track self.old }
         ensures capacity { capacity self.new ≡ capacity self.old }
+        ensures index { index self.new ≡ index self.old }
     {
         for _ in 0..n {
             self.redo_first();

@@ -1,7 +1,7 @@
 //! What a session tells without changing: its steps and their records, its start and its world.
 
 ghost use Rattle.std.specs.Prelude.{◌≡◌, ◌+◌, ◌≤◌, ◌-◌, length, Ok, IfOk, IfErr};
-ghost use Rattle.rd_step.specs.Prelude.{model, MOST_STEPS};
+ghost use Rattle.rd_step.specs.Prelude.{model, first_dependant, MOST_STEPS};
 ghost use Rattle.rd_depend.specs.Writers.{last_position, writes_to};
 ghost use Rattle.rd_journal.specs.Journal.{entry_of, events, IsRunFrom, IsRun};
 ghost use Rattle.rd_journal.specs.State.{run_of, event_at};
@@ -9,7 +9,9 @@ ghost use Rattle.rd_journal.specs.Laws.{IsStepAfter};
 
 use super::super::live_records::LiveRecords;
 use super::Session;
+use super::starting::undo_behind;
 use rd_cell::{Place, Refusal};
+use rd_depend::Probes;
 use rd_step::{Entry, Event, World};
 use std::alloc::Global;
 
@@ -60,11 +62,32 @@ impl<const R: usize> Session<R> {
     }
 
     /// The number of the last live step that wrote this place, or one of the places that it names; none if no live step did. It asks the
-    /// index of dependants, and scans the steps that this does not reach for want of memory. It takes no memory.
+    /// index of dependants, and takes no memory.
     pub fn last_writer(&self, place: Place) -> Option<u64>
         ensures { result ≡ last_position (writes_to place) (journal self.now).live }
     {
-        self.records.last_writer(place)
+        let mut probes = Probes::new();
+        self.index.last_writer(self.len(), place, &mut probes)
+    }
+
+    /// The number of the first live step behind the `k`-th that depends on it, or none.
+    pub(super) fn first_dependant(&self, k: u64) -> Option<u64>
+        requires some { 1 ≤ k }
+        requires within { k ≤ length (journal self.now).live }
+        ensures { result ≡ first_dependant (journal self.now).live k }
+    {
+        let mut probes = Probes::new();
+        let entry = self.records.live_at(k as usize - 1);
+        match self.index.first(k, entry, &mut probes) {
+            None => None,
+            Some(number) => {
+                if number > self.len() {
+                    None
+                } else {
+                    Some(number)
+                }
+            }
+        }
     }
 
     /// The event of the undone step of this number, from 1, if there is one: the first is the one undone last.
@@ -87,7 +110,7 @@ impl<const R: usize> Session<R> {
         ensures err { IfErr result (λ refusal. refusal ≡ Refusal.NoMemory) }
     {
         let mut world = self.world.copy(alloc)?;
-        self.undo_all_in(&mut world);
+        undo_behind(&mut world, &self.live(), 0);
         Ok(world)
     }
 

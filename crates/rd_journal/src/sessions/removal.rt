@@ -6,6 +6,7 @@ ghost use Rattle.rd_journal.specs.Journal.{start_of};
 ghost use Rattle.rd_journal.specs.Moves.{IsTakenOutAt, IsRolledBack};
 ghost use Rattle.rd_journal.specs.State.{one_out};
 
+use super::super::indexing::{cut_index, fill_index};
 use super::Session;
 use rd_inverse::unstep;
 
@@ -22,6 +23,7 @@ impl<const R: usize> Session<R> {
         ensures capacity { capacity self.new ≡ capacity self.old }
     {
         unstep(&mut self.world, self.records.live_at(k as usize - 1));
+        self.index.move_behind(k, self.records.live_len() as u64);
         self.records.take_out(k as usize);
         self.undone += 1;
     }
@@ -35,14 +37,15 @@ impl<const R: usize> Session<R> {
         ensures start { start_of (journal self.new) ≡ start_of (journal self.old) }
         ensures capacity { capacity self.new ≡ capacity self.old }
     {
-        match self.records.first_dependant(k) {
+        match self.first_dependant(k) {
             None => self.undo_alone(k),
             Some(_) => self.undo_block(k),
         }
     }
 
     /// The same, whether or not one does: the records of these steps are first put behind the other live ones, none of which
-    /// depends on them.
+    /// depends on them. Meanwhile the index is that of the records before the `k`-th and of those that go, so it tells which later one depends
+    /// on one of these; then the positions of all that stands behind the `k`-th are put in again, in their new order.
     fn undo_block(&mut self, k: u64)
         requires some { 1 ≤ k }
         requires position { k ≤ length (journal self.old).live }
@@ -50,7 +53,11 @@ impl<const R: usize> Session<R> {
         ensures start { start_of (journal self.new) ≡ start_of (journal self.old) }
         ensures capacity { capacity self.new ≡ capacity self.old }
     {
-        let count = self.records.put_closure_last(k as usize);
+        let before = k as usize - 1;
+        cut_index(&mut self.index, &self.records, before);
+        let count = self.records.gather_closure(k as usize, &mut self.index);
+        self.index.truncate(before as u64);
+        fill_index(&mut self.index, &self.records);
         self.undo_many(count as u64);
     }
 }

@@ -1,24 +1,34 @@
-//! The start of a session: its live steps undone in a copy of its world.
+//! Undoing the last steps of a run in a world that it leads to, and making the steps of a run in the world that it starts from.
 
-ghost use Rattle.std.specs.Prelude.{◌≡◌};
-ghost use Rattle.rd_step.specs.Prelude.{model};
-ghost use Rattle.rd_journal.specs.Journal.{start_of};
+ghost use Rattle.std.specs.Prelude.{◌≡◌, ◌+◌, ◌≤◌, ℕ, Ok, length, take, drop};
+ghost use Rattle.rd_step.specs.Prelude.{model, room, run, World as Model};
+ghost use Rattle.rd_journal.specs.Journal.{events, IsRunFrom, LeadsTo};
+ghost use Rattle.rd_journal.specs.Room.{HasRoom, room_returned_by};
 
-use super::Session;
+use super::super::live_records::LiveRecords;
 use rd_inverse::unstep;
 use rd_step::World;
 
-impl<const R: usize> Session<R> {
-    ghost use Rattle.rd_journal.specs.Sessions.{journal};
+/// Undoes all but the first `n` of the steps that lead to the world, the last one first. It gives the room of their makings back, and
+/// takes no memory.
+pub(super) fn undo_behind<const R: usize>(world: &mut World<R>, steps: &LiveRecords, n: usize)
+    requires within { n ≤ length steps.now }
+    requires leads { (start : Model) × LeadsTo R start (model world.old) steps.now }
+    ensures leads { (start : Model) → LeadsTo R start (model world.old) steps.now → LeadsTo R start (model world.new) (take n steps.now) }
+    ensures room { (m : ℕ) → room world.old m + room_returned_by (drop n steps.now) m ≤ room world.new m }
+{
+    for last in (n..steps.len()).rev() {
+        unstep(world, steps.at(last));
+    }
+}
 
-    /// Undoes the live steps in a copy of the session's world, the last one first.
-    pub(super) fn undo_all_in(&self, world: &mut World<R>)
-        requires { model world.old ≡ (journal self.now).world }
-        ensures { model world.new ≡ start_of (journal self.now) }
-    {
-        let live = self.records.live_len();
-        for undone in 0..live {
-            unstep(world, self.records.live_at(live - 1 - undone));
-        }
+/// Makes the steps of a run from the world again, one after another. There is room for their makings.
+pub(super) fn step_all<const R: usize>(world: &mut World<R>, steps: &LiveRecords)
+    requires runs { IsRunFrom R (model world.old) steps.now }
+    requires room { HasRoom steps.now (room world.old) }
+    ensures { run R (model world.old) (events steps.now) ≡ Ok (record { world = model world.new; entries = steps.now }) }
+{
+    for next in 0..steps.len() {
+        world.step_again(steps.at(next));
     }
 }

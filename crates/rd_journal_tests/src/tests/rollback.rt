@@ -2,7 +2,7 @@
 //! remains, stepped afresh.
 
 use super::lone_undo::{
-    FIRST_MAKING_UNDONE, Line, MADE_AGAIN_AND_LINKED, Reply, STEPS, TWO_MAKINGS, is_stepped_afresh,
+    FIRST_MAKING_UNDONE, Line, MADE_AGAIN_AND_LINKED, Reply, TWO_MAKINGS, is_stepped_afresh,
     mixed_run, same_world, shown, walk,
 };
 use rd_actor::Act;
@@ -73,8 +73,11 @@ fn roll_and_redo(
     Ok(gone)
 }
 
-/// Long runs, each by the number that it begins with, and how far on the next step to be rolled back stands.
-const ORDERS: [(u64, u64); 3] = [(1, 1), (2, 299), (3, 77)];
+/// How many steps a run has.
+const STEPS: u64 = 100;
+
+/// Runs, each by the number that it begins with, and how far on the next step to be rolled back stands.
+const ORDERS: [(u64, u64); 3] = [(1, 1), (2, 99), (3, 77)];
 
 #[test]
 fn each_step_is_rolled_back_and_redone(rt: HostRuntime) -> Result<(), Fail> {

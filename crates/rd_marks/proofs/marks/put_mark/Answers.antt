@@ -136,7 +136,7 @@ returns-clause-here g c =
     elim c.if-depth-len.branch [
       | then-depth-len w ↦
           subst (λ (p : Option ℕ). IsHere u p track_of) (sym w.here-is)
-          (track_at u node (state c.args.session.now).live (events (ahead_records c.args.session.now.records.records)) c.grow-node.ensures.present
+          (track_at u node (state c.args.session.now).live (events (ahead_records c.args.session.now.records)) c.grow-node.ensures.present
           (ap events whole ∙ c.live-live.ensures.events))
       | else-depth-len w ↦
           subst (λ (p : Option ℕ). IsHere u p track_of) (sym w.here-is)

@@ -1,8 +1,20 @@
-use Rattle.rd_depend.proofs.IndexRemove.{closed_index, closed_room}
+use Rattle.std.proofs.Common.{subst, arith}
+use Rattle.rd_depend.specs.Index.{IsIndexOf, without_entry}
+use Rattle.rd_depend.proofs.IndexChanges.{dropped}
+use Rattle.rd_depend.proofs.IndexMoves.{moved_last}
 use Rattle.rd_depend.proofs.index.DependIndex.remove.Goals as goal
 
-pub returns-clause-left : goal.returns-clause-left
-returns-clause-left c = λ es is at. closed_index c.args.self.now c.close.new.self c.args.k c.args.entry.now es c.close.ensures is at
+pub drop_last-requires : goal.drop_last-requires
+drop_last-requires c =
+    let h = c.requires.held in
+    record {
+      before = without_entry h.entries c.args.k;
+      is = subst (IsIndexOf c.move_behind.new.self) (moved_last h.entries c.args.k c.len.result c.args.entry.now (omega (arith, h.is.len)) h.at)
+          (c.move_behind.ensures.moved h.entries h.is);
+    }
 
-pub returns-clause-room : goal.returns-clause-room
-returns-clause-room c = λ rest has. closed_room c.args.self.now c.close.new.self c.args.k c.args.entry.now rest c.requires.held c.close.ensures has
+pub returns-clause-left : goal.returns-clause-left
+returns-clause-left c = λ es is at.
+    dropped c.move_behind.new.self c.drop_last.new.self c.args.entry.now (without_entry es c.args.k) c.drop_last.ensures
+    (subst (IsIndexOf c.move_behind.new.self) (moved_last es c.args.k c.len.result c.args.entry.now (omega (arith, is.len)) at)
+    (c.move_behind.ensures.moved es is))

@@ -19,8 +19,8 @@ falling-preserved c =
           ∙ up_to-fewer n xs e c.index.result.now within more;
     }
 
-pub returns : goal.returns
-returns c = λ h.
+pub returns-clause-items : goal.returns-clause-items
+returns-clause-items c = λ h.
     let xs = c.args.list.now.items in
     let n = c.args.n in
     elim c.falling-test.branch [

@@ -1,9 +1,6 @@
-use Rattle.std.proofs.Common.{◌≡◌, ◌-◌, ◌<◌, suc, length, get_or, arith}
-use Rattle.rd_depend.proofs.IndexLists.{none_closed, all_less}
+use Rattle.std.proofs.Common.{◌≡◌, ◌-◌, ◌<◌, ◌≤◌, suc, length, get_or, arith}
+use Rattle.rd_depend.proofs.IndexLists.{all_up_to}
 use Rattle.rd_depend.proofs.index.lists.ends_before.Goals as goal
-
-pub returns-then-len-eq0 : goal.returns-then-len-eq0
-returns-then-len-eq0 c = λ is h. none_closed c.args.k c.args.list.now (omega arith)
 
 pub returns : goal.returns
 returns c = λ is h.
@@ -11,4 +8,5 @@ returns c = λ is h.
     let e = length items - 1 in
     let len : length items ≡ suc e = omega arith in
     let less : get_or items e 0 < c.args.k = search (is, arith) in
-    all_less c.args.k items e 0 len h less
+    let le : get_or items e 0 ≤ c.args.k - 1 = omega (arith, less) in
+    all_up_to 0 (c.args.k - 1) items e 0 h len le

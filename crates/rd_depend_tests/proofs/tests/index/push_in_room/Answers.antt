@@ -1,21 +1,15 @@
-use Rattle.std.proofs.Common.{◌≡◌, ℕ, zero, suc, ◌+◌, List, [], ◌∷◌, drop, Some, slice_get, sym, ap, subst, arith}
+use Rattle.std.proofs.Common.{◌≡◌, ℕ, suc, ◌+◌, List, ◌∷◌, drop, Some, slice_get, sym, subst, arith}
 use Rattle.std.proofs.lemmas.Bool.{false≢true}
 use Rattle.rd_step.specs.declared.entries.Entry.{Entry}
 use Rattle.rd_depend.specs.declared.index.DependIndex.{DependIndex}
 use Rattle.rd_depend.specs.Index.{HasRoomFor}
-use Rattle.rd_depend.proofs.IndexChanges.{there_at}
+use Rattle.rd_depend.proofs.IndexChanges.{drop_one, there_at}
 use Rattle.rd_depend_tests.proofs.tests.index.push_in_room.Goals as goal
-
--- the entries from one on have that one in front
-from_one : (es : List Entry) (n : ℕ) (x : Entry) → slice_get es n ≡ Some x → drop n es ≡ x ∷ drop (suc n) es
-from_one [] n x h = absurd cc
-from_one (y ∷ ys) zero x h = let same : y ≡ x = cc in ap (λ (z : Entry). z ∷ ys) same
-from_one (y ∷ ys) (suc n) x h = from_one ys n x h
 
 -- room for the entries from one on, as room for that one and the rest
 room_from : (index : DependIndex) (es : List Entry) (n : ℕ) (x : Entry) → slice_get es n ≡ Some x → HasRoomFor index (drop n es)
     → HasRoomFor index (x ∷ drop (suc n) es)
-room_from index es n x there has = subst (λ (l : List Entry). HasRoomFor index l) (from_one es n x there) has
+room_from index es n x there has = subst (λ (l : List Entry). HasRoomFor index l) (drop_one es n x there) has
 
 pub unreachable-requires : goal.unreachable-requires
 unreachable-requires c =

@@ -1,6 +1,6 @@
-use Rattle.std.proofs.Common.{arith}
+use Rattle.std.proofs.Common.{◌+◌, ◌-◌, arith}
 use Rattle.rd_journal.specs.Records.{all_records}
-use Rattle.rd_journal.proofs.RecordLemmas.{all-length, live-length, cut_back, cut_short}
+use Rattle.rd_journal.proofs.RecordLemmas.{all-length, live-length, cut_back, cut_short, border_moved}
 use Rattle.rd_journal.proofs.records.Records.step_back.Goals as goal
 
 pub returns-clause-live : goal.returns-clause-live
@@ -14,3 +14,9 @@ unfolding all_records
 returns-clause-ahead c =
     let self = c.args.self.now in
     cut_back (all_records self) self.live self.ahead (omega (arith, live-length self, c.requires)) (omega (arith, all-length self, self.within))
+
+pub returns-clause-kept : goal.returns-clause-kept
+unfolding all_records
+returns-clause-kept c =
+    let self = c.args.self.now in
+    border_moved (all_records self) self.live self.ahead (self.live - 1) (self.ahead + 1) (omega (arith, live-length self, c.requires))

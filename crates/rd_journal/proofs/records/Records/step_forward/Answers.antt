@@ -1,6 +1,6 @@
-use Rattle.std.proofs.Common.{arith}
+use Rattle.std.proofs.Common.{◌+◌, ◌-◌, arith}
 use Rattle.rd_journal.specs.Records.{all_records}
-use Rattle.rd_journal.proofs.RecordLemmas.{ahead-length, cut_on, cut_on_rest}
+use Rattle.rd_journal.proofs.RecordLemmas.{ahead-length, cut_on, cut_on_rest, border_moved}
 use Rattle.rd_journal.proofs.records.Records.step_forward.Goals as goal
 
 pub returns-clause-live : goal.returns-clause-live
@@ -14,3 +14,9 @@ unfolding all_records
 returns-clause-ahead c =
     let self = c.args.self.now in
     cut_on_rest (all_records self) self.live self.ahead (omega (arith, ahead-length self))
+
+pub returns-clause-kept : goal.returns-clause-kept
+unfolding all_records
+returns-clause-kept c =
+    let self = c.args.self.now in
+    border_moved (all_records self) self.live self.ahead (self.live + 1) (self.ahead - 1) (omega (arith, ahead-length self, c.requires))

@@ -1,8 +1,7 @@
 use Rattle.std.proofs.Common.{◌≡◌, ◌∙◌, ℕ, ◌-◌, ◌≤◌, List, ◌++◌, length, take, drop, ap, rules}
 use borrow.Rule.Slice.PartMut.{put_mid, mid_of}
-use Rattle.rd_depend.proofs.Moving.{overwritten}
-use Rattle.rd_journal.specs.Numbers.{moved_behind}
-use Rattle.rd_journal.proofs.ListLemmas.{moved_behind-length, turned}
+use Rattle.rd_depend.specs.Moved.{moved_behind}
+use Rattle.rd_journal.proofs.ListLemmas.{moved_behind-length, turned, overwritten}
 use Rattle.rd_journal.proofs.records.slots.move_behind.Goals as goal
 
 -- what the vector holds after its part was turned by one

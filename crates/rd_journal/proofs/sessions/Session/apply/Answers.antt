@@ -1,47 +1,59 @@
-use Rattle.std.proofs.Common.{◌∙◌, ◌<◌, List, [], ◌∷◌, ◌++◌, length, take, inl, inr, refl, ap, arith}
+use Rattle.std.proofs.Common.{◌≡◌, ◌∙◌, ◌<◌, List, ◌++◌, length, take, inl, inr, refl, sym, ap, subst, arith}
+use Rattle.std.proofs.lemmas.List.{append-nil, take_all, take-append-le}
 use Rattle.rd_step.specs.declared.entries.Entry.{Entry}
 use Rattle.rd_step.specs.Prelude.{NoMemory, model, room, MOST_STEPS}
 use Rattle.rd_step.proofs.PassedUp.{error_passed_up, fact_passed_up}
-use Rattle.rd_journal.specs.Journal.{events}
+use Rattle.rd_depend.specs.Index.{IsIndexOf}
+use Rattle.rd_depend.proofs.IndexChanges.{ok_then}
 use Rattle.rd_journal.specs.Moves.{IsLengthened}
 use Rattle.rd_journal.specs.Kept.{whole_journal, journal_of}
-use Rattle.rd_journal.specs.Records.{records_capacity}
+use Rattle.rd_journal.specs.Records.{live_records, ahead_records}
 use Rattle.rd_journal.specs.Sessions.{journal}
 use Rattle.rd_journal.proofs.Ahead.{is_session, none_taken}
-use Rattle.rd_journal.proofs.Calls.{live_len, apply_refused, apply_goes, reply_goes, longer_session, same_session}
-use Rattle.rd_journal.proofs.RoomLemmas.{may_be_out}
+use Rattle.rd_journal.proofs.Calls.{live_len, apply_refused, apply_goes, longer_session, same_session}
+use Rattle.rd_journal.proofs.Outcomes.{err_then}
+use Rattle.rd_journal.proofs.RecordLemmas.{full_records}
+use Rattle.rd_journal.proofs.RoomLemmas.{stepped_back}
+use Rattle.rd_journal.proofs.Runs.{now_formed, just_stepped}
 use Rattle.rd_journal.proofs.sessions.Session.apply.Goals as goal
 
-pub returns-in_err-make_room-clause-err : goal.returns-in_err-make_room-clause-err
-returns-in_err-make_room-clause-err g c =
+pub invariant_of-self : goal.invariant_of-self
+invariant_of-self g c =
+    let self = c.args.self.now in
+    record {
+      kept =
+          same_session g.row.R (whole_journal (model self.world) self.records) (whole_journal (model self.world) c.make_room_for.new.self) (room self.world) (room self.world) self.kept
+          (λ i. record { world = model self.world; live = c.make_room_for.ensures.live i; undone = c.make_room_for.ensures.ahead i })
+          (λ m. omega arith);
+      within = omega (arith, self.within, ap length c.make_room_for.ensures.ahead);
+      indexed = subst (λ (es : List Entry). IsIndexOf self.index es) (λ i. sym c.make_room_for.ensures.live i ++ sym c.make_room_for.ensures.ahead i) self.indexed;
+    }
+
+pub returns-in_err-make_room_for-clause-err : goal.returns-in_err-make_room_for-clause-err
+returns-in_err-make_room_for-clause-err g c =
     let old = journal c.args.self.now in
+    error_passed_up _ NoMemory c.from_residual.result c.from_residual.ensures.1
+    (inr (refl, omega (arith, live_len old, c.live_len.ensures, (is_session c.args.self.now).few)))
+
+pub returns-in_err-make_room_for-clause-memory : goal.returns-in_err-make_room_for-clause-memory
+returns-in_err-make_room_for-clause-memory g c =
+    let self = c.args.self.now in
+    let full = full_records self.records (omega (arith, c.in_err-make_room_for.ensures.err, c.live_len-live.ensures)) in
     error_passed_up _ NoMemory c.from_residual.result c.from_residual.ensures.1
     (inr (
       refl,
       record {
-        not_full = omega (arith, live_len old, c.live_len.ensures, (is_session c.args.self.now).few);
-        asks = inl (ap events (none_taken c.args.self.now.undone _ c.in_err-make_room.ensures.none));
+        not_full = omega (arith, c.live_len.ensures, (is_session self).few);
+        asked = inl (none_taken self.undone (ahead_records self.records) full.none, full.filled);
       },
     ))
 
-pub returns-in_err-make_room-clause-memory : goal.returns-in_err-make_room-clause-memory
-returns-in_err-make_room-clause-memory g c =
-    let old = journal c.args.self.now in
-    error_passed_up _ NoMemory c.from_residual.result c.from_residual.ensures.1
-    (inr (
-      refl,
-      record {
-        not_full = omega (arith, live_len old, c.live_len.ensures, (is_session c.args.self.now).few);
-        asked = inl (none_taken c.args.self.now.undone _ c.in_err-make_room.ensures.none, c.in_err-make_room.ensures.full);
-      },
-    ))
-
-pub returns-in_err-make_room-clause-unchanged : goal.returns-in_err-make_room-clause-unchanged
-returns-in_err-make_room-clause-unchanged g c =
+pub returns-in_err-make_room_for-clause-unchanged : goal.returns-in_err-make_room_for-clause-unchanged
+returns-in_err-make_room_for-clause-unchanged g c =
     fact_passed_up c.from_residual.result (λ i. record {
       world = model c.args.self.now.world;
-      live = c.make_room.ensures.live i;
-      undone = take c.args.self.now.undone (c.make_room.ensures.ahead i);
+      live = c.make_room_for.ensures.live i;
+      undone = take c.args.self.now.undone (c.make_room_for.ensures.ahead i);
     })
 
 pub invariant_of-self-in-Break-branch-2 : goal.invariant_of-self-in-Break-branch-2
@@ -49,11 +61,12 @@ invariant_of-self-in-Break-branch-2 g c =
     let self = c.args.self.now in
     record {
       kept =
-          same_session g.row.R (whole_journal (model self.world) self.records) (whole_journal (model c.step.new.self) c.make_room.new.self) (room self.world)
+          same_session g.row.R (whole_journal (model self.world) self.records) (whole_journal (model c.step.new.self) c.make_room_for.new.self) (room self.world)
           (room c.step.new.self) self.kept
-          (λ i. record { world = c.in_err-entry.ensures.unchanged i; live = c.make_room.ensures.live i; undone = c.make_room.ensures.ahead i })
+          (λ i. record { world = c.in_err-entry.ensures.unchanged i; live = c.make_room_for.ensures.live i; undone = c.make_room_for.ensures.ahead i })
           c.in_err-entry.ensures.kept;
-      within = omega (arith, self.within, ap length c.make_room.ensures.ahead);
+      within = omega (arith, self.within, ap length c.make_room_for.ensures.ahead);
+      indexed = subst (λ (es : List Entry). IsIndexOf self.index es) (λ i. sym c.make_room_for.ensures.live i ++ sym c.make_room_for.ensures.ahead i) self.indexed;
     }
 
 pub returns-in_err-entry-clause-err : goal.returns-in_err-entry-clause-err
@@ -64,11 +77,7 @@ returns-in_err-entry-clause-err g c =
     error_passed_up _ c.in_err-entry.field-0.0 c.from_residual-in_err-entry.result c.from_residual-in_err-entry.ensures.1 (
     elim c.in_err-entry.ensures.err [
       | inl h ↦ inl (apply_refused g.row.R old c.args.event c.in_err-entry.field-0.0 (is_session self).runs less h)
-      | inr h ↦ inr (
-        h.0,
-        may_be_out g.row.R old (records_capacity self.records.records) (room self.world) c.args.event (is_session self)
-            (record { not_full = less; asked = inr h.1 }),
-      )
+      | inr h ↦ inr (h.0, omega (arith, less, live_len old))
     ])
 
 pub returns-in_err-entry-clause-memory : goal.returns-in_err-entry-clause-memory
@@ -79,7 +88,7 @@ returns-in_err-entry-clause-memory g c =
     error_passed_up _ c.in_err-entry.field-0.0 c.from_residual-in_err-entry.result c.from_residual-in_err-entry.ensures.1 (
     elim c.in_err-entry.ensures.err [
       | inl h ↦ inl (apply_refused g.row.R old c.args.event c.in_err-entry.field-0.0 (is_session self).runs less h)
-      | inr h ↦ inr (h.0, record { not_full = less; asked = inr h.1 })
+      | inr h ↦ inr (h.0, record { not_full = less; asked = inr (inl h.1) })
     ])
 
 pub returns-in_err-entry-clause-unchanged : goal.returns-in_err-entry-clause-unchanged
@@ -87,48 +96,83 @@ returns-in_err-entry-clause-unchanged g c =
     fact_passed_up c.from_residual-in_err-entry.result
     (λ i. record {
       world = c.in_err-entry.ensures.unchanged i;
-      live = c.make_room.ensures.live i;
-      undone = take c.args.self.now.undone (c.make_room.ensures.ahead i);
+      live = c.make_room_for.ensures.live i;
+      undone = take c.args.self.now.undone (c.make_room_for.ensures.ahead i);
     })
+
+pub unstep-requires : goal.unstep-requires
+unstep-requires g c =
+    let self = c.args.self.now in (
+      omega (arith, c.step.new.self.small),
+      (just_stepped g.row.R (model self.world) (model c.step.new.self) c.args.event c.in_ok-entry.entry (now_formed g.row.R (journal self) (is_session self).runs)
+          c.in_ok-entry.ensures.ok).was,
+    )
+
+pub invariant_of-self-then-is_err : goal.invariant_of-self-then-is_err
+invariant_of-self-then-is_err g c =
+    let self = c.args.self.now in
+    let back = (just_stepped g.row.R (model self.world) (model c.step.new.self) c.args.event c.in_ok-entry.entry (now_formed g.row.R (journal self) (is_session self).runs)
+    c.in_ok-entry.ensures.ok).back in
+    record {
+      kept =
+          same_session g.row.R (whole_journal (model self.world) self.records) (whole_journal (model c.unstep.new.world) c.make_room_for.new.self) (room self.world)
+          (room c.unstep.new.world) self.kept
+          (λ i. record { world = (c.unstep.ensures.back ∙ back) i; live = c.make_room_for.ensures.live i; undone = c.make_room_for.ensures.ahead i })
+          (stepped_back g.row.R (model self.world) (model c.step.new.self) c.args.event c.in_ok-entry.entry (room self.world) (room c.step.new.self) (room c.unstep.new.world)
+          c.in_ok-entry.ensures.ok c.in_ok-entry.ensures.room c.unstep.ensures.room);
+      within = omega (arith, self.within, ap length c.make_room_for.ensures.ahead);
+      indexed = err_then c.index_instead.result (sym c.is_err.ensures.value ∙ c.if-is_err.true) c.index_instead.ensures.err;
+    }
+
+pub returns-then-is_err-clause-unchanged : goal.returns-then-is_err-clause-unchanged
+returns-then-is_err-clause-unchanged g c =
+    let self = c.args.self.now in
+    let back = (just_stepped g.row.R (model self.world) (model c.step.new.self) c.args.event c.in_ok-entry.entry (now_formed g.row.R (journal self) (is_session self).runs)
+    c.in_ok-entry.ensures.ok).back in
+    λ i. record {
+      world = (c.unstep.ensures.back ∙ back) i;
+      live = c.make_room_for.ensures.live i;
+      undone = take self.undone (c.make_room_for.ensures.ahead i);
+    }
 
 pub invariant_of-self-2 : goal.invariant_of-self-2
 invariant_of-self-2 g c =
     let self = c.args.self.now in
     let old = whole_journal (model self.world) self.records in
-    let new = whole_journal (model c.step.new.self) c.push.new.self in
+    let new = whole_journal (model c.step.new.self) c.exchange.new.self in
     let less : length old.live < MOST_STEPS = omega (arith, c.live_len.ensures, self.kept.few) in
+    let whole : take c.live_len-live.result (live_records c.make_room_for.new.self) ≡ old.live =
+    ap (take c.live_len-live.result) c.make_room_for.ensures.live ∙ take_all c.live_len-live.result old.live (omega (arith, c.live_len-live.ensures)) in
     let longer : IsLengthened c.in_ok-entry.entry old new = record {
-      live = c.push.ensures.live ∙ ap (λ (xs : List Entry). xs ++ c.in_ok-entry.entry ∷ []) c.make_room.ensures.live;
-      undone = c.push.ensures.ahead;
+      live = c.exchange.ensures.live ∙ (λ i. whole i ++ c.from_ref-2.ensures.value i);
+      undone = c.exchange.ensures.ahead;
     } in
+    let first : take c.live_len-live.result (live_records c.make_room_for.new.self ++ ahead_records c.make_room_for.new.self) ≡ take c.live_len-live.result (live_records c.make_room_for.new.self) =
+    take-append-le c.live_len-live.result (live_records c.make_room_for.new.self) (ahead_records c.make_room_for.new.self)
+    (omega (arith, c.live_len-live.ensures, ap length c.make_room_for.ensures.live)) in
     record {
       kept =
           longer_session g.row.R old new c.args.event c.in_ok-entry.entry (room self.world) (room c.step.new.self) self.kept less
           c.in_ok-entry.ensures.ok longer;
       within = omega arith;
+      indexed =
+          subst (λ (es : List Entry). IsIndexOf c.index_instead.new.index es)
+          ((λ i. first i ++ (c.from_ref.ensures.value ∙ sym c.from_ref-2.ensures.value) i)
+          ∙ sym c.exchange.ensures.live ∙ sym (append-nil (live_records c.exchange.new.self))
+          ∙ ap (λ (es : List Entry). live_records c.exchange.new.self ++ es) (sym c.exchange.ensures.ahead))
+          (ok_then c.index_instead.result _ (sym c.is_err.ensures.value ∙ c.if-is_err.false) c.index_instead.ensures.ok);
     }
 
 pub returns-clause-ok : goal.returns-clause-ok
 returns-clause-ok g c =
     let self = c.args.self.now in
     let old = journal self in
-    let new = journal_of (model c.step.new.self) c.push.new.self 0 in
+    let new = journal_of (model c.step.new.self) c.exchange.new.self 0 in
     let less : length old.live < MOST_STEPS = omega (arith, c.live_len.ensures, self.kept.few) in
+    let whole : take c.live_len-live.result (live_records c.make_room_for.new.self) ≡ old.live =
+    ap (take c.live_len-live.result) c.make_room_for.ensures.live ∙ take_all c.live_len-live.result old.live (omega (arith, c.live_len-live.ensures)) in
     let longer : IsLengthened c.in_ok-entry.entry old new = record {
-      live = c.push.ensures.live ∙ ap (λ (xs : List Entry). xs ++ c.in_ok-entry.entry ∷ []) c.make_room.ensures.live;
+      live = c.exchange.ensures.live ∙ (λ i. whole i ++ c.from_ref-2.ensures.value i);
       undone = refl;
     } in
     apply_goes g.row.R old new c.args.event c.in_ok-entry.entry (is_session self).runs less c.in_ok-entry.ensures.ok longer
-
-pub returns-clause-reply : goal.returns-clause-reply
-returns-clause-reply g c =
-    reply_goes g.row.R (journal c.args.self.now) c.args.event (record { world = model c.step.new.self; entry = c.in_ok-entry.entry })
-    (is_session c.args.self.now).runs c.in_ok-entry.ensures.ok
-
-pub returns-in_err-make_room-clause-track : goal.returns-in_err-make_room-clause-track
-returns-in_err-make_room-clause-track g c =
-    fact_passed_up c.from_residual.result (λ i. events (c.make_room.ensures.live i) ++ events (c.make_room.ensures.ahead i))
-
-pub returns-in_err-entry-clause-track : goal.returns-in_err-entry-clause-track
-returns-in_err-entry-clause-track g c =
-    fact_passed_up c.from_residual-in_err-entry.result (λ i. events (c.make_room.ensures.live i) ++ events (c.make_room.ensures.ahead i))

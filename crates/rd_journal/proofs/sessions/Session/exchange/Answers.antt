@@ -1,50 +1,100 @@
-use Rattle.std.proofs.Common.{◌≡◌, ◌∙◌, ◌-◌, ◌++◌, List, length, take, sym, ap, subst, arith, length-take-le}
+use Rattle.std.proofs.Common.{◌≡◌, ◌∙◌, ◌≤◌, Ok, List, ◌++◌, length, take, drop, refl, sym, ap, subst, arith}
+use Rattle.std.proofs.lemmas.List.{append-nil, length-take-le, take-append-le, drop_at}
+use Rattle.rd_step.specs.Prelude.{model, room, run}
 use Rattle.rd_step.specs.declared.entries.Entry.{Entry}
-use Rattle.rd_step.specs.Prelude.{World, room}
-use Rattle.rd_journal.specs.Journal.{start_of, IsRunFrom}
-use Rattle.rd_journal.specs.Room.{HasRoom}
-use Rattle.rd_journal.specs.Sessions.{journal, state}
-use Rattle.rd_journal.specs.State.{State}
+use Rattle.rd_depend.specs.Index.{IsIndexOf}
+use Rattle.rd_journal.specs.Journal.{events, start_of, IsRunFrom, LeadsTo}
+use Rattle.rd_journal.specs.Kept.{whole_journal, journal_of}
+use Rattle.rd_journal.specs.Moves.{IsSwitched}
+use Rattle.rd_journal.specs.Records.{live_records, ahead_records}
+use Rattle.rd_journal.specs.Room.{HasRoom, room_without}
+use Rattle.rd_journal.specs.Sessions.{journal}
 use Rattle.rd_journal.proofs.Ahead.{is_session}
-use Rattle.rd_journal.proofs.Calls.{back_start}
-use Rattle.rd_journal.proofs.Switching.{room_for_all, switched_start, switched_state, switched_records}
+use Rattle.rd_journal.proofs.Starting.{live_lead}
+use Rattle.rd_journal.proofs.Switching.{room_for_all, room_given, runs_on, exchanged, switched_state}
 use Rattle.rd_journal.proofs.sessions.Session.exchange.Goals as goal
 
-pub put_ahead-requires : goal.put_ahead-requires
-put_ahead-requires g c =
-    let old = journal c.args.self.now in
-    let mid = journal c.undo_many.new.self in
-    let n = c.len.result - c.args.kept in
-    let start : start_of mid ≡ start_of old = ap (λ (s : State). s.start) c.undo_many.ensures.state ∙ back_start n (state c.args.self.now) in
-    let low : length old.live - n ≡ c.args.kept = omega (arith, c.len.ensures.records, c.requires.within) in
-    let live : mid.live ≡ take c.args.kept old.live = c.undo_many.ensures.records.live ∙ ap (λ (m : _). take m old.live) low in
-    let len : length mid.live ≡ c.args.kept = ap length live ∙ length-take-le c.args.kept old.live c.requires.within in
-    let run : IsRunFrom g.row.R (start_of mid) (mid.live ++ c.args.given.now) =
-    subst (λ (s : World). IsRunFrom g.row.R s (mid.live ++ c.args.given.now)) (sym start)
-    (subst (λ (xs : List Entry). IsRunFrom g.row.R (start_of old) (xs ++ c.args.given.now)) (sym live) c.requires.run) in
-    let has : HasRoom c.args.given.now (room c.args.self.now.world) =
-    room_for_all g.row.R old.world old.live c.args.given.now (room c.args.self.now.world) (is_session c.args.self.now).runs.live_ran c.args.kept c.requires.run
-    c.requires.makings in
-    let more : HasRoom c.args.given.now (room c.undo_many.new.self.world) =
-    record { at = λ m. let a = has.at m in let b = c.undo_many.ensures.room m in omega arith } in
-    (omega arith, (run, (omega (arith, len, c.requires.few), (omega (arith, len, c.requires.capacity, c.undo_many.ensures.capacity), more))))
+pub undo_behind-requires : goal.undo_behind-requires
+undo_behind-requires g c =
+    let self = c.args.self.now in
+    let j = journal self in (
+      omega (arith, self.world.small),
+      (
+        omega (arith, c.requires.within, ap length c.live.ensures),
+        (
+          start_of j,
+          subst (λ (xs : List Entry). LeadsTo g.row.R (start_of j) j.world xs) (sym c.live.ensures) (live_lead g.row.R j (is_session self).runs),
+        ),
+      ),
+    )
+
+pub step_all-requires : goal.step_all-requires
+step_all-requires g c =
+    let self = c.args.self.now in
+    let j = journal self in
+    let n = c.args.n in
+    let given = c.args.given.now in
+    let w = model c.undo_behind.new.world in
+    let kept = take n j.live in
+    let leads : LeadsTo g.row.R (start_of j) w kept =
+    subst (λ (xs : List Entry). LeadsTo g.row.R (start_of j) w (take n xs)) c.live.ensures
+    (c.undo_behind.ensures.leads (start_of j) (subst (λ (xs : List Entry). LeadsTo g.row.R (start_of j) j.world xs) (sym c.live.ensures) (live_lead g.row.R j (is_session self).runs))) in
+    let given_is : c.behind.result ≡ given =
+    c.behind.ensures ∙ ap (drop n) (c.live-2.ensures ∙ c.exchange.ensures.live) ∙ drop_at kept given n (length-take-le n j.live c.requires.within) in
+    let has : HasRoom given (room_without (drop n j.live) (room self.world)) =
+    room_for_all g.row.R j.world j.live given (room_without (drop n j.live) (room self.world)) (is_session self).runs.live_ran n c.requires.run c.requires.makings in
+    let enough : HasRoom given (room c.undo_behind.new.world) =
+    room_given given (drop n j.live) (room self.world) (room c.undo_behind.new.world) has
+    (λ m. subst (λ (xs : List Entry). room_without (drop n xs) (room self.world) m ≤ room c.undo_behind.new.world m) c.live.ensures (c.undo_behind.ensures.room m)) in (
+      omega (arith, c.undo_behind.new.world.small),
+      (
+        subst (λ (xs : List Entry). IsRunFrom g.row.R w xs) (sym given_is) (runs_on g.row.R (start_of j) w kept given leads.ran c.requires.run),
+        subst (λ (xs : List Entry). HasRoom xs (room c.undo_behind.new.world)) (sym given_is) enough,
+      ),
+    )
+
+pub invariant_of-self-2 : goal.invariant_of-self-2
+invariant_of-self-2 g c =
+    let self = c.args.self.now in
+    let j = journal self in
+    let new = whole_journal (model c.step_all.new.world) c.exchange.new.self in
+    let n = c.args.n in
+    let given = c.args.given.now in
+    let w = model c.undo_behind.new.world in
+    let kept = take n j.live in
+    let leads : LeadsTo g.row.R (start_of j) w kept =
+    subst (λ (xs : List Entry). LeadsTo g.row.R (start_of j) w (take n xs)) c.live.ensures
+    (c.undo_behind.ensures.leads (start_of j) (subst (λ (xs : List Entry). LeadsTo g.row.R (start_of j) j.world xs) (sym c.live.ensures) (live_lead g.row.R j (is_session self).runs))) in
+    let given_is : c.behind.result ≡ given =
+    c.behind.ensures ∙ ap (drop n) (c.live-2.ensures ∙ c.exchange.ensures.live) ∙ drop_at kept given n (length-take-le n j.live c.requires.within) in
+    let goes : run g.row.R w (events given) ≡ Ok (record { world = new.world; entries = given }) =
+    subst (λ (xs : List Entry). run g.row.R w (events xs) ≡ Ok (record { world = new.world; entries = xs })) given_is c.step_all.ensures in
+    let all : take n (live_records self.records ++ ahead_records self.records) ++ given ≡ live_records c.exchange.new.self ++ ahead_records c.exchange.new.self =
+    ap (λ (xs : List Entry). xs ++ given) (take-append-le n (live_records self.records) (ahead_records self.records) c.requires.within)
+    ∙ sym c.exchange.ensures.live ∙ sym (append-nil (live_records c.exchange.new.self)) ∙ ap (λ (xs : List Entry). live_records c.exchange.new.self ++ xs) (sym c.exchange.ensures.ahead) in
+    record {
+      kept =
+          (exchanged g.row.R n j new given w (room c.step_all.new.world) c.requires.within c.requires.few leads goes
+          (record { live = c.exchange.ensures.live; undone = c.exchange.ensures.ahead })).session;
+      within = omega arith;
+      indexed = subst (λ (xs : List Entry). IsIndexOf c.index_instead.new.index xs) all c.in_ok-index_instead.ensures.ok;
+    }
 
 pub returns-clause-state : goal.returns-clause-state
 returns-clause-state g c =
-    let old = journal c.args.self.now in
-    let mid = journal c.undo_many.new.self in
-    let put = journal c.put_ahead.new.self in
-    let new = journal c.redo_many.new.self in
-    let n = c.len.result - c.args.kept in
-    switched_state c.args.given.now c.args.kept old new
-    (switched_start n (length c.args.given.now) old mid put new c.args.given.now c.undo_many.ensures.state c.put_ahead.ensures.replaced c.redo_many.ensures.state)
-    (switched_records n c.args.kept old mid put new c.args.given.now (omega (arith, c.len.ensures.records, c.requires.within)) c.undo_many.ensures.records c.put_ahead.ensures.replaced
-    c.redo_many.ensures.records)
-
-pub returns-clause-records : goal.returns-clause-records
-returns-clause-records g c =
-    let old = journal c.args.self.now in
-    let mid = journal c.undo_many.new.self in
-    let put = journal c.put_ahead.new.self in
-    switched_records (c.len.result - c.args.kept) c.args.kept old mid put (journal c.redo_many.new.self) c.args.given.now
-    (omega (arith, c.len.ensures.records, c.requires.within)) c.undo_many.ensures.records c.put_ahead.ensures.replaced c.redo_many.ensures.records
+    let self = c.args.self.now in
+    let j = journal self in
+    let new = journal_of (model c.step_all.new.world) c.exchange.new.self 0 in
+    let n = c.args.n in
+    let given = c.args.given.now in
+    let w = model c.undo_behind.new.world in
+    let kept = take n j.live in
+    let leads : LeadsTo g.row.R (start_of j) w kept =
+    subst (λ (xs : List Entry). LeadsTo g.row.R (start_of j) w (take n xs)) c.live.ensures
+    (c.undo_behind.ensures.leads (start_of j) (subst (λ (xs : List Entry). LeadsTo g.row.R (start_of j) j.world xs) (sym c.live.ensures) (live_lead g.row.R j (is_session self).runs))) in
+    let given_is : c.behind.result ≡ given =
+    c.behind.ensures ∙ ap (drop n) (c.live-2.ensures ∙ c.exchange.ensures.live) ∙ drop_at kept given n (length-take-le n j.live c.requires.within) in
+    let goes : run g.row.R w (events given) ≡ Ok (record { world = new.world; entries = given }) =
+    subst (λ (xs : List Entry). run g.row.R w (events xs) ≡ Ok (record { world = new.world; entries = xs })) given_is c.step_all.ensures in
+    let is : IsSwitched n given j new = record { live = c.exchange.ensures.live; undone = refl } in
+    switched_state given n j new (exchanged g.row.R n j new given w (room c.step_all.new.world) c.requires.within c.requires.few leads goes is).start is

@@ -1,7 +1,10 @@
-use Rattle.std.proofs.Common.{ap, arith, length, take, ◌++◌}
+use Rattle.std.proofs.Common.{List, ◌∙◌, ap, sym, subst, arith, length, take, drop, OnOk, ◌++◌}
 use Rattle.rd_step.specs.Prelude.{model, room}
+use Rattle.rd_step.specs.declared.entries.Entry.{Entry}
+use Rattle.rd_depend.specs.Index.{IsIndexOf}
 use Rattle.rd_journal.specs.Journal.{events}
 use Rattle.rd_journal.specs.Kept.{whole_journal}
+use Rattle.rd_journal.specs.Room.{HasRoomForAll, room_without}
 use Rattle.rd_journal.proofs.Calls.{same_session}
 use Rattle.rd_journal.proofs.sessions.Session.make_room_to_switch.Goals as goal
 
@@ -14,6 +17,7 @@ invariant_of-self g c =
           (λ i. record { world = model self.world; live = c.make_room_for.ensures.live i; undone = c.make_room_for.ensures.ahead i })
           (λ m. omega arith);
       within = omega (arith, self.within, ap length c.make_room_for.ensures.ahead);
+      indexed = subst (λ (es : List Entry). IsIndexOf self.index es) (λ i. sym c.make_room_for.ensures.live i ++ sym c.make_room_for.ensures.ahead i) self.indexed;
     }
 
 pub invariant_of-self-2 : goal.invariant_of-self-2
@@ -30,6 +34,7 @@ invariant_of-self-2 g c =
           })
           c.make_room_for_makings.ensures.room;
       within = omega (arith, self.within, ap length c.make_room_for.ensures.ahead);
+      indexed = subst (λ (es : List Entry). IsIndexOf self.index es) (λ i. sym c.make_room_for.ensures.live i ++ sym c.make_room_for.ensures.ahead i) self.indexed;
     }
 
 pub returns-clause-unchanged : goal.returns-clause-unchanged
@@ -41,3 +46,9 @@ returns-clause-unchanged g c = λ i. record {
 
 pub returns-clause-track : goal.returns-clause-track
 returns-clause-track g c = λ i. events (c.make_room_for.ensures.live i) ++ events (c.make_room_for.ensures.ahead i)
+
+pub returns-clause-makings : goal.returns-clause-makings
+returns-clause-makings g c =
+    let world = c.make_room_for_makings.new.world in
+    subst (λ (xs : List Entry). OnOk c.make_room_for_makings.result (HasRoomForAll (model world) c.args.given.now (room_without xs (room world))))
+    (c.behind.ensures ∙ ap (drop c.args.kept) c.live.ensures) c.make_room_for_makings.ensures.ok

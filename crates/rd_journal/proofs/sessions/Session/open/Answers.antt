@@ -1,5 +1,7 @@
-use Rattle.std.proofs.Common.{arith}
+use Rattle.std.proofs.Common.{List, ◌++◌, sym, subst, arith}
 use Rattle.rd_step.specs.Prelude.{model, room}
+use Rattle.rd_step.specs.declared.entries.Entry.{Entry}
+use Rattle.rd_depend.specs.Index.{IsIndexOf}
 use Rattle.rd_journal.specs.Kept.{whole_journal}
 use Rattle.rd_journal.proofs.Calls.{opened_session}
 use Rattle.rd_journal.proofs.sessions.Session.open.Goals as goal
@@ -10,4 +12,5 @@ invariant_of-result g c = record {
       opened_session g.row.R (whole_journal (model c.args.world) c.new.result) (room c.args.world) c.args.world.well_formed
       c.new.ensures.live c.new.ensures.ahead;
   within = omega arith;
+  indexed = subst (λ (es : List Entry). IsIndexOf c.new-2.result es) (λ i. sym c.new.ensures.live i ++ sym c.new.ensures.ahead i) c.new-2.ensures;
 }

@@ -2,6 +2,7 @@ use Rattle.std.proofs.Common.{◌-◌, ◌≤◌, arith, ap, sym, subst, List, l
 use Rattle.std.proofs.lemmas.List.{length-take}
 use Rattle.rd_step.specs.Prelude.{model, room}
 use Rattle.rd_step.specs.declared.entries.Entry.{Entry}
+use Rattle.rd_depend.specs.Index.{IsIndexOf}
 use Rattle.rd_journal.specs.Moves.{IsMovedForward}
 use Rattle.rd_journal.specs.Kept.{whole_journal, with_undone}
 use Rattle.rd_journal.specs.Room.{HasRoom}
@@ -66,6 +67,7 @@ invariant_of-self g c =
             c.step_again.ensures.done self.kept.has_room c.step_again.ensures.room);
       };
       within = omega (arith, self.within, ap length moved.undone, length-drop 1 old.undone);
+      indexed = subst (λ (es : List Entry). IsIndexOf self.index es) (sym c.step_forward.ensures.kept) self.indexed;
     }
 
 pub returns-clause-track : goal.returns-clause-track

@@ -10,6 +10,7 @@ loop-init g c = record {
   state = refl;
   track = refl;
   capacity = refl;
+  index = refl;
 }
 
 pub redo_first-requires : goal.redo_first-requires
@@ -27,6 +28,7 @@ loop-preserved g c = record {
       c.loop.invariant.state c.redo_first.ensures.state;
   track = c.redo_first.ensures.track ∙ c.loop.invariant.track;
   capacity = c.redo_first.ensures.capacity ∙ c.loop.invariant.capacity;
+  index = c.redo_first.ensures.index ∙ c.loop.invariant.index;
 }
 
 pub returns-clause-records : goal.returns-clause-records

@@ -1,6 +1,9 @@
-use Rattle.std.proofs.Common.{◌++◌, ◌≤◌, length, take, sym, ◌∙◌, ap, subst, arith}
+use Rattle.std.proofs.Common.{◌++◌, ◌≤◌, length, take, inr, sym, ◌∙◌, ap, subst, arith}
+use Rattle.std.proofs.lemmas.Result.{on_ok_weaker, on_err_weaker, IfErr-weaker}
 use Rattle.rd_step.proofs.PassedUp.{fact_passed_up}
+use Rattle.rd_depend.specs.declared.index.DependIndex.{DependIndex}
 use Rattle.rd_journal.specs.Journal.{Journal, events, start_of, IsRunFrom}
+use Rattle.rd_journal.specs.Room.{LacksIndexRoom}
 use Rattle.rd_journal.specs.State.{state_of, switch}
 use Rattle.rd_journal.proofs.sessions.Session.switch.Goals as goal
 
@@ -19,4 +22,15 @@ exchange-requires g c =
 
 pub returns-clause-ok : goal.returns-clause-ok
 returns-clause-ok g c =
-    c.exchange.ensures.state ∙ ap (λ (j : Journal). switch (state_of j) c.args.n (events c.args.entries.now)) c.make_room_to_switch.ensures.unchanged
+    on_ok_weaker c.exchange.result (λ goes. goes ∙ ap (λ (j : Journal). switch (state_of j) c.args.n (events c.args.entries.now)) c.make_room_to_switch.ensures.unchanged) c.exchange.ensures.state
+
+pub returns-clause-err : goal.returns-clause-err
+returns-clause-err g c =
+    IfErr-weaker c.exchange.result _ _
+    (λ refusal lacks. (lacks.0, inr (inr (subst (λ (x : DependIndex). LacksIndexRoom x c.args.entries.now) c.make_room_to_switch.ensures.index lacks.1)))) c.exchange.ensures.err
+
+pub returns-clause-unchanged : goal.returns-clause-unchanged
+returns-clause-unchanged g c = on_err_weaker c.exchange.result (λ same. same ∙ c.make_room_to_switch.ensures.unchanged) c.exchange.ensures.unchanged
+
+pub returns-clause-track : goal.returns-clause-track
+returns-clause-track g c = on_err_weaker c.exchange.result (λ same. same ∙ c.make_room_to_switch.ensures.track) c.exchange.ensures.track

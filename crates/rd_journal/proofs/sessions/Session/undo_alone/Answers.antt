@@ -1,5 +1,9 @@
-use Rattle.std.proofs.Common.{◌+◌, ap, arith, length}
+use Rattle.std.proofs.Common.{ℕ, ◌+◌, ◌∙◌, List, ap, sym, subst, arith, length}
 use Rattle.rd_step.specs.Prelude.{model, room}
+use Rattle.rd_step.specs.declared.entries.Entry.{Entry}
+use Rattle.rd_depend.specs.Index.{IsIndexOf}
+use Rattle.rd_depend.specs.Moved.{moved_behind}
+use Rattle.rd_journal.specs.Records.{kept_records}
 use Rattle.rd_journal.specs.Moves.{IsTakenOutAt}
 use Rattle.rd_journal.specs.Kept.{whole_journal, with_undone}
 use Rattle.rd_journal.specs.Sessions.{journal}
@@ -33,6 +37,10 @@ invariant_of-self g c =
         has_room = given_back old.undone new.undone x (room self.world) (room c.unstep.new.world) front self.kept.has_room c.unstep.ensures.room;
       };
       within = omega (arith, self.within, ap length front);
+      indexed =
+          subst (λ (es : List Entry). IsIndexOf c.move_behind.new.self es)
+          (ap (λ (n : ℕ). moved_behind (kept_records self.records) c.args.k n) c.live_len.ensures ∙ sym c.take_out.ensures.kept)
+          (c.move_behind.ensures.moved (kept_records self.records) self.indexed);
     }
 
 pub returns-clause-records : goal.returns-clause-records

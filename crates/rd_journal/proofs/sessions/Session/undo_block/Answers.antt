@@ -1,36 +1,105 @@
-use Rattle.std.proofs.Common.{refl, ap, arith, take, length}
-use Rattle.rd_step.specs.Prelude.{model, room}
+use Rattle.std.proofs.Common.{◌≡◌, ◌∙◌, ◌-◌, ℕ, List, [], ◌++◌, refl, ap, sym, subst, arith, take, drop, length, length-append}
+use Rattle.std.proofs.lemmas.List.{append-nil, length-take-le, take_at, drop_at, take-append-le, drop-append-le}
+use Rattle.rd_step.specs.Prelude.{model, room, closure_of, without_closure}
+use Rattle.rd_step.specs.declared.entries.Entry.{Entry}
+use Rattle.rd_depend.specs.Index.{IsIndexOf, HasRoomFor}
+use Rattle.rd_journal.specs.Records.{live_records, ahead_records, kept_records}
 use Rattle.rd_journal.specs.Kept.{whole_journal, journal_of}
 use Rattle.rd_journal.specs.Sessions.{journal}
 use Rattle.rd_journal.proofs.Ahead.{is_session}
+use Rattle.rd_journal.proofs.Finding.{cut_before}
+use Rattle.rd_journal.proofs.IndexRoom.{fits_none, fits_turned}
 use Rattle.rd_journal.proofs.RolledBack.{IsGatheredLast, gathered_session, rolled_back, rolled_start}
 use Rattle.rd_journal.proofs.sessions.Session.undo_block.Goals as goal
+
+pub gather_closure-count-requires-clause-before : goal.gather_closure-count-requires-clause-before
+gather_closure-count-requires-clause-before g c =
+    let self = c.args.self.now in
+    let n = c.args.k - 1 in
+    subst (λ (es : List Entry). IsIndexOf c.cut_index.new.index es)
+    (take-append-le n (live_records self.records) (ahead_records self.records) (omega (arith, c.requires.position))) c.cut_index.ensures.left
+
+pub gather_closure-count-requires-clause-room : goal.gather_closure-count-requires-clause-room
+gather_closure-count-requires-clause-room g c =
+    let self = c.args.self.now in
+    let n = c.args.k - 1 in
+    subst (λ (es : List Entry). HasRoomFor c.cut_index.new.index es)
+    (append-nil (drop n (kept_records self.records)) ∙ drop-append-le n (live_records self.records) (ahead_records self.records) (omega (arith, c.requires.position)))
+    (c.cut_index.ensures.room [] (fits_none self.index))
+
+pub truncate-requires : goal.truncate-requires
+truncate-requires g c =
+    let self = c.args.self.now in
+    let live = live_records self.records in
+    let k = c.args.k in
+    let said = c.gather_closure-count.ensures in
+    let cut = cut_before live (ahead_records self.records) k c.requires.some c.requires.position in
+    omega (
+      arith,
+      said.index.len,
+      length-append (take (k - 1) live) (closure_of live k),
+      length-take-le (k - 1) live (omega (arith, c.requires.position)),
+      length-append (without_closure live k) (closure_of live k),
+      ap length said.live,
+      said.len,
+      cut.long,
+      self.kept.few,
+    )
+
+pub fill_index-requires : goal.fill_index-requires
+fill_index-requires g c =
+    let self = c.args.self.now in
+    let live = live_records self.records in
+    let ahead = ahead_records self.records in
+    let k = c.args.k in
+    let n = k - 1 in
+    let index = c.truncate.new.self in
+    let said = c.gather_closure-count.ensures in
+    let len : length (take n live) ≡ n = length-take-le n live (omega (arith, c.requires.position)) in
+    let kept : kept_records c.gather_closure-count.new.self ≡ (without_closure live k ++ closure_of live k) ++ ahead = λ i. said.live i ++ said.ahead i in
+    let cut = cut_before live ahead k c.requires.some c.requires.position in
+    let left : IsIndexOf index (take n live) =
+    subst (λ (es : List Entry). IsIndexOf index es) (take_at (take n live) (closure_of live k) n len) (c.truncate.ensures.left (take n live ++ closure_of live k) said.index) in
+    let long : n ≡ index.len = omega (arith, left.len, len) in
+    let room : HasRoomFor index (closure_of live k ++ (drop n (without_closure live k) ++ ahead)) =
+    subst (λ (es : List Entry). HasRoomFor index (es ++ (drop n (without_closure live k) ++ ahead))) (drop_at (take n live) (closure_of live k) n len)
+    (c.truncate.ensures.room (take n live ++ closure_of live k) (drop n (without_closure live k) ++ ahead) said.index said.room) in
+    record {
+      indexed =
+          subst (λ (m : ℕ). IsIndexOf index (take m (kept_records c.gather_closure-count.new.self))) long
+          (subst (λ (es : List Entry). IsIndexOf index es) (sym cut.before ∙ sym (ap (take n) kept)) left);
+      room =
+          subst (λ (m : ℕ). HasRoomFor index (drop m (kept_records c.gather_closure-count.new.self))) long
+          (subst (λ (es : List Entry). HasRoomFor index es) (sym cut.behind ∙ sym (ap (drop n) kept))
+          (fits_turned index (closure_of live k) (drop n (without_closure live k)) ahead room));
+    }
 
 pub invariant_of-self : goal.invariant_of-self
 invariant_of-self g c =
     let self = c.args.self.now in
     let old = whole_journal (model self.world) self.records in
-    let mid = whole_journal (model self.world) c.put_closure_last-count.new.self in
-    let said = c.put_closure_last-count.ensures in
+    let mid = whole_journal (model self.world) c.gather_closure-count.new.self in
+    let said = c.gather_closure-count.ensures in
     let gathered : IsGatheredLast c.args.k old mid = record { world = refl; live = said.live; undone = said.ahead; len = said.len } in
     record {
       kept = gathered_session g.row.R c.args.k old mid (room self.world) self.kept c.requires.some c.requires.position gathered;
       within = omega (arith, self.within, ap length said.ahead);
+      indexed = c.fill_index.ensures;
     }
 
 pub returns-clause-records : goal.returns-clause-records
 returns-clause-records g c =
     let self = c.args.self.now in
-    let mid = journal_of (model self.world) c.put_closure_last-count.new.self self.undone in
-    let said = c.put_closure_last-count.ensures in
+    let mid = journal_of (model self.world) c.gather_closure-count.new.self self.undone in
+    let said = c.gather_closure-count.ensures in
     let gathered : IsGatheredLast c.args.k (journal self) mid = record { world = refl; live = said.live; undone = ap (take self.undone) said.ahead; len = said.len } in
-    rolled_back c.args.k c.put_closure_last-count.result (journal self) mid (journal c.undo_many.new.self) said.count gathered c.undo_many.ensures.records
+    rolled_back c.args.k c.gather_closure-count.result (journal self) mid (journal c.undo_many.new.self) said.count gathered c.undo_many.ensures.records
 
 pub returns-clause-start : goal.returns-clause-start
 returns-clause-start g c =
     let self = c.args.self.now in
-    let mid = journal_of (model self.world) c.put_closure_last-count.new.self self.undone in
-    let said = c.put_closure_last-count.ensures in
+    let mid = journal_of (model self.world) c.gather_closure-count.new.self self.undone in
+    let said = c.gather_closure-count.ensures in
     let gathered : IsGatheredLast c.args.k (journal self) mid = record { world = refl; live = said.live; undone = ap (take self.undone) said.ahead; len = said.len } in
-    rolled_start g.row.R c.args.k c.put_closure_last-count.result (journal self) mid (journal c.undo_many.new.self) (is_session self).runs c.requires.some
+    rolled_start g.row.R c.args.k c.gather_closure-count.result (journal self) mid (journal c.undo_many.new.self) (is_session self).runs c.requires.some
     c.requires.position gathered c.undo_many.ensures.state

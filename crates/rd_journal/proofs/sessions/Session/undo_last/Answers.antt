@@ -1,5 +1,7 @@
-use Rattle.std.proofs.Common.{◌+◌, ap, arith, length}
+use Rattle.std.proofs.Common.{◌+◌, List, ap, sym, subst, arith, length}
 use Rattle.rd_step.specs.Prelude.{model, room}
+use Rattle.rd_step.specs.declared.entries.Entry.{Entry}
+use Rattle.rd_depend.specs.Index.{IsIndexOf}
 use Rattle.rd_journal.specs.Kept.{whole_journal, with_undone}
 use Rattle.rd_journal.specs.Moves.{IsMovedBack}
 use Rattle.rd_journal.specs.Sessions.{journal}
@@ -47,6 +49,7 @@ invariant_of-self g c =
         has_room = given_back old.undone new.undone x (room self.world) (room c.unstep.new.world) front self.kept.has_room c.unstep.ensures.room;
       };
       within = omega (arith, self.within, ap length front);
+      indexed = subst (λ (es : List Entry). IsIndexOf self.index es) (sym c.step_back.ensures.kept) self.indexed;
     }
 
 pub returns-clause-track : goal.returns-clause-track

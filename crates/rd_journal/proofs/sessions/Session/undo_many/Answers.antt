@@ -11,6 +11,7 @@ loop-init g c = record {
   room = λ m. omega arith;
   track = refl;
   capacity = refl;
+  index = refl;
 }
 
 pub undo_last-requires : goal.undo_last-requires
@@ -29,6 +30,7 @@ loop-preserved g c = record {
   room = λ m. let a = c.loop.invariant.room m in let b = c.undo_last.ensures.room m in omega arith;
   track = c.undo_last.ensures.track ∙ c.loop.invariant.track;
   capacity = c.undo_last.ensures.capacity ∙ c.loop.invariant.capacity;
+  index = c.undo_last.ensures.index ∙ c.loop.invariant.index;
 }
 
 pub returns-clause-records : goal.returns-clause-records

@@ -1,6 +1,6 @@
 use Rattle.std.proofs.Common.{◌≡◌, ℕ, ◌≤◌}
 use Rattle.rd_journal.specs.Moves.{IsMovedBack}
-use Rattle.rd_journal.specs.Sessions.{journal, state, track, room, capacity}
+use Rattle.rd_journal.specs.Sessions.{journal, state, track, room, capacity, index}
 use Rattle.rd_journal.specs.State.{back_one, times}
 use Rattle.rd_journal.proofs.sessions.Session.undo_many.Given as goal
 
@@ -11,4 +11,5 @@ invariant-loop g l = record {
   room : (m : ℕ) → room l.fn.self m ≤ room l.self m;
   track : track l.self ≡ track l.fn.self;
   capacity : capacity l.self ≡ capacity l.fn.self;
+  index : index l.self ≡ index l.fn.self;
 }

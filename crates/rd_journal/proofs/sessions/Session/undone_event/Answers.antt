@@ -14,12 +14,12 @@ returns-then-i-eq0 g c =
 pub ahead_at-requires : goal.ahead_at-requires
 ahead_at-requires g c =
     let self = c.args.self.now in
-    record { within = omega (arith, c.undone_len.ensures.records, length-take self.undone (ahead_records self.records.records)) }
+    record { within = omega (arith, c.undone_len.ensures.records, length-take self.undone (ahead_records self.records)) }
 
 pub returns : goal.returns
 returns g c =
     let self = c.args.self.now in
-    let all = ahead_records self.records.records in
+    let all = ahead_records self.records in
     let x = c.ahead_at.result.now in
     let below : c.args.i - 1 < self.undone = omega (arith, c.undone_len.ensures.records, length-take self.undone all) in
     event_found (journal self).undone c.args.i x (omega arith) (omega (arith, c.undone_len.ensures.records))

@@ -1,9 +1,18 @@
-use Rattle.std.proofs.Common.{◌≡◌, ℕ, zero, suc, ◌+◌, ◌∙◌, IsSome, subst, sym, ap, arith}
+use Rattle.std.proofs.Common.{◌≡◌, ℕ, zero, suc, ◌+◌, ◌-◌, ◌<◌, ◌∙◌, IsSome, List, get_or, subst, sym, ap, arith}
 use Rattle.rd_step.specs.Prelude.{World, model, room}
+use Rattle.rd_step.specs.declared.entries.Entry.{Entry}
 use Rattle.rd_step.proofs.PassedUp.{error_passed_up}
-use Rattle.rd_journal.specs.Room.{room_returned_by}
+use Rattle.rd_journal.specs.Room.{room_returned_by, room_without}
 use Rattle.rd_journal.proofs.Switching.{room_for_one_more, room_for_actors, makings_known}
 use Rattle.rd_journal.proofs.sessions.switching.make_room_for_makings.Goals as goal
+
+-- for how many makings room is asked
+abbrev missing : List Entry → List Entry → ℕ → ℕ
+missing dropped given m = room_returned_by given m - room_returned_by dropped m
+
+counted : (dropped given : List Entry) (counts left : List ℕ) → ((m : ℕ) → m < 256 → get_or counts m 0 ≡ room_returned_by given m)
+    → ((m : ℕ) → m < 256 → get_or left m 0 ≡ get_or counts m 0 - room_returned_by dropped m) → (m : ℕ) → m < 256 → get_or left m 0 ≡ missing dropped given m
+counted dropped given counts left all less m small = less m small ∙ ap (λ (n : ℕ). n - room_returned_by dropped m) (all m small)
 
 pub make_room-requires : goal.make_room-requires
 make_room-requires g c =
@@ -21,14 +30,15 @@ pub loop-number-preserved : goal.loop-number-preserved
 loop-number-preserved g c = record {
   same = c.make_room.ensures.unchanged ∙ c.loop-number.invariant.same;
   made =
-      room_for_one_more c.args.given.now c.loop-number.number (room c.loop-number.world) (room c.make_room.new.self) c.loop-number.invariant.made
-      c.make_room.ensures.room (let h = c.in_ok-make_room.ensures.ok in let its = makings_known c.args.given.now c.makings_of-counts.result c.loop-number.number c.from.result c.from.ensures c.makings_of-counts.ensures (omega (arith, c.loop-number-test.true, c.actors-number-end.ensures.within)) in omega arith);
+      room_for_one_more c.args.given.now c.loop-number.number (room_without c.args.dropped.now (room c.loop-number.world)) (room_without c.args.dropped.now (room c.make_room.new.self))
+      c.loop-number.invariant.made (λ m. let b = c.make_room.ensures.room m in omega arith) (let h = c.in_ok-make_room.ensures.ok in let its = makings_known (missing c.args.dropped.now c.args.given.now) c.makings_missing-counts.result c.loop-number.number c.from.result c.from.ensures
+      (counted c.args.dropped.now c.args.given.now c.makings_of.result c.makings_missing-counts.result c.makings_of.ensures c.makings_missing-counts.ensures) (omega (arith, c.loop-number-test.true, c.actors-number-end.ensures.within)) in omega arith);
   more = λ m. let a = c.loop-number.invariant.more m in let b = c.make_room.ensures.room m in omega arith;
 }
 
 pub returns-clause-ok : goal.returns-clause-ok
 returns-clause-ok g c =
-    room_for_actors (model c.args.world.now) (model c.loop-number.world) c.args.given.now c.loop-number.number (room c.loop-number.world)
+    room_for_actors (model c.args.world.now) (model c.loop-number.world) c.args.given.now c.loop-number.number (room_without c.args.dropped.now (room c.loop-number.world))
     c.loop-number.invariant.same c.loop-number.invariant.made
     (λ (h : IsSome ((model c.args.world.now).actor zero)). cc)
     (λ n h. let low = (c.actors-number-end.ensures.count n).0 h in omega arith)
@@ -37,12 +47,19 @@ pub returns-in_err-make_room-clause-err : goal.returns-in_err-make_room-clause-e
 returns-in_err-make_room-clause-err g c =
     let more = c.loop-number.invariant.more (c.loop-number.number + 1) in
     let lacks = c.in_err-make_room.ensures.err in
-    error_passed_up _ c.in_err-make_room.field-0.0 c.from_residual.result c.from_residual.ensures.1
-    (lacks.0, (c.loop-number.number + 1, let its = makings_known c.args.given.now c.makings_of-counts.result c.loop-number.number c.from.result c.from.ensures c.makings_of-counts.ensures (omega (arith, c.loop-number-test.true, c.actors-number-end.ensures.within)) in omega arith))
+    error_passed_up _ c.in_err-make_room.field-0.0 c.from_residual.result c.from_residual.ensures.1 (
+      lacks.0,
+      (
+        c.loop-number.number + 1,
+        let its = makings_known (missing c.args.dropped.now c.args.given.now) c.makings_missing-counts.result c.loop-number.number c.from.result c.from.ensures
+            (counted c.args.dropped.now c.args.given.now c.makings_of.result c.makings_missing-counts.result c.makings_of.ensures c.makings_missing-counts.ensures) (omega (arith, c.loop-number-test.true, c.actors-number-end.ensures.within)) in omega arith,
+      ),
+    )
 
 pub returns-in_err-make_room-clause-succeeds : goal.returns-in_err-make_room-clause-succeeds
 returns-in_err-make_room-clause-succeeds g c none =
-    let its = makings_known c.args.given.now c.makings_of-counts.result c.loop-number.number c.from.result c.from.ensures c.makings_of-counts.ensures (omega (arith, c.loop-number-test.true, c.actors-number-end.ensures.within)) in
+    let its = makings_known (missing c.args.dropped.now c.args.given.now) c.makings_missing-counts.result c.loop-number.number c.from.result c.from.ensures
+    (counted c.args.dropped.now c.args.given.now c.makings_of.result c.makings_missing-counts.result c.makings_of.ensures c.makings_missing-counts.ensures) (omega (arith, c.loop-number-test.true, c.actors-number-end.ensures.within)) in
     let lacks = c.in_err-make_room.ensures.err in
     let zero_of : room_returned_by c.args.given.now (c.loop-number.number + 1) ≡ 0 = ap (λ xs. room_returned_by xs (c.loop-number.number + 1)) none in
     absurd (omega (arith, lacks.1))

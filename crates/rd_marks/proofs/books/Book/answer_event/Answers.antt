@@ -22,7 +22,7 @@ invariant_of-self-2 g c =
       kept = marks_stay g.row.R old.start (state c.apply.new.self).start book.tree.nodes book.tree.records.items book.marks.entries start book.kept;
       stands =
           track_cut (mark_tree book.tree) book.tree.kept.tree book.here c.ancestor-self.result n (journal book.session) (journal c.apply.new.self)
-          (events (ahead_records book.session.records.records)) (events (ahead_records c.apply.new.self.records.records)) book.stands
+          (events (ahead_records book.session.records)) (events (ahead_records c.apply.new.self.records)) book.stands
           c.ancestor-self.ensures.present c.ancestor-self.ensures.begins (omega (arith, c.ancestor-self.ensures.depth, c.in_ok-step.ensures.number, longer))
           (omega arith) (added_leaves n c.in_ok-step.entry (journal book.session) (journal c.apply.new.self) refl c.in_ok-step.ensures.records);
     }

@@ -25,7 +25,7 @@ invariant_of-self g c =
       kept = marks_stay g.row.R old.start (state c.roll-done.new.self).start c.args.self.now.tree.nodes c.args.self.now.tree.records.items c.args.self.now.marks.entries start c.args.self.now.kept;
       stands =
           after_out (mark_tree book.tree) book.tree.kept.tree c.roll-done.result book.here c.cut_back-self.result n (journal book.session) (journal c.roll-done.new.self)
-          (events (ahead_records book.session.records.records)) (events (ahead_records c.roll-done.new.self.records.records)) book.stands
+          (events (ahead_records book.session.records)) (events (ahead_records c.roll-done.new.self.records)) book.stands
           c.cut_back-self.ensures.present c.cut_back-self.ensures.begins c.cut_back-self.ensures.ok c.roll-done.ensures.track c.roll-done.ensures.ok
           (λ done. let there = rolled_within g.row.R old c.args.k _ done in omega (arith, there, len)) c.roll-done.ensures.records
           (roll_leaves c.args.k n (journal book.session) (journal c.roll-done.new.self) (omega arith));

@@ -25,7 +25,7 @@ invariant_of-self g c =
       kept = marks_stay g.row.R old.start (state c.undo_at-done.new.self).start c.args.self.now.tree.nodes c.args.self.now.tree.records.items c.args.self.now.marks.entries start c.args.self.now.kept;
       stands =
           after_out (mark_tree book.tree) book.tree.kept.tree c.undo_at-done.result book.here c.cut_back-self.result n (journal book.session) (journal c.undo_at-done.new.self)
-          (events (ahead_records book.session.records.records)) (events (ahead_records c.undo_at-done.new.self.records.records)) book.stands
+          (events (ahead_records book.session.records)) (events (ahead_records c.undo_at-done.new.self.records)) book.stands
           c.cut_back-self.ensures.present c.cut_back-self.ensures.begins c.cut_back-self.ensures.ok c.undo_at-done.ensures.track c.undo_at-done.ensures.ok
           (λ done. let there = undone_within g.row.R old c.args.k _ done in omega (arith, there, len)) c.undo_at-done.ensures.records
           (one_out_leaves c.args.k n (journal book.session) (journal c.undo_at-done.new.self) c.saturating_sub.ensures);

@@ -1,0 +1,14 @@
+use Rattle.std.proofs.Common.{sym, ap, ◌∙◌}
+use Rattle.std.specs.Option.{is_some}
+use Rattle.rd_depend.specs.Index.{By}
+use Rattle.rd_depend.proofs.IndexFirst.{found_in, found_of_actor}
+use Rattle.rd_depend.proofs.index.DependIndex.is_one_above.Goals as goal
+
+pub returns-then-is_some : goal.returns-then-is_some
+returns-then-is_some c = λ es is.
+    sym (found_of_actor c.args.entry.now c.args.k es
+    (ap is_some (sym (found_in c.args.self.now es is c.requires.few (By c.args.entry.now.event.actor) c.args.k c.first_by.result c.first_by.ensures.answer))
+    ∙ sym c.is_some.ensures ∙ c.if-is_some.true))
+
+pub returns : goal.returns
+returns c = λ es is. c.is_some-2.ensures ∙ ap is_some (c.first_above.ensures.answer es is)

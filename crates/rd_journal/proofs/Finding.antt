@@ -1,0 +1,122 @@
+-- What the index of the live records and those behind them finds, and where the records before a closure stand.
+use Rattle.std.proofs.Common.{◌≡◌, ℕ, zero, suc, ◌+◌, ◌-◌, ◌<◌, ◌≤◌, Bool, true, false, nat_lt, if◌then◌else◌, List, [], ◌∷◌, ◌++◌, length, get_or, take, drop, Option, Some, None, refl, sym, ◌∙◌, ap, arith, length-append, length-drop}
+use Rattle.std.proofs.lemmas.Bool.{lt-ltb, le-ltb}
+use Rattle.std.proofs.lemmas.List.{append_assoc, length-take-le, take_at, take-append-le, drop-append-le, get_or_append_left}
+use Rattle.std.proofs.lemmas.Option.{slice_get-get_or}
+use Rattle.rd_step.specs.Dependence.{numbered, first_from, first_after, first_dependant, depends, closure_from}
+use Rattle.rd_step.specs.Prelude.{closure_of, without_closure, unmarked}
+use Rattle.rd_step.specs.declared.entries.Entry.{Entry}
+use Rattle.rd_journal.proofs.Gathering.{cut_at}
+use Rattle.rd_journal.proofs.ListLemmas.{nth}
+
+-- the record of this number
+pub numbered_in : (xs : List Entry) (k : ℕ) (x : Entry) → 1 ≤ k → k ≤ length xs → x ≡ get_or xs (k - 1) x → numbered xs k ≡ Some x
+numbered_in xs zero x some within here = absurd (omega arith)
+numbered_in xs (suc i) x some within here =
+    let same : suc i - 1 ≡ i = omega arith in
+    slice_get-get_or xs i x (omega arith) ∙ ap (λ (y : Entry). Some y) (ap (λ (n : ℕ). get_or xs n x) (sym same) ∙ sym here)
+
+-- the same with others behind them
+pub numbered_before : (live others : List Entry) (k : ℕ) (x : Entry) → 1 ≤ k → k ≤ length live → x ≡ get_or live (k - 1) x → numbered (live ++ others) k ≡ Some x
+numbered_before live others k x some within here =
+    numbered_in (live ++ others) k x some (omega (arith, length-append live others)) (here ∙ sym (get_or_append_left live others x (k - 1) (omega arith)))
+
+-- those before the k-th stand where they stood when its closure is gathered last
+pub outside_begins : (l : List Entry) (k : ℕ) → 1 ≤ k → k ≤ length l → (rest : List Entry) × (without_closure l k ≡ take (k - 1) l ++ rest)
+outside_begins l zero some within = absurd (omega arith)
+outside_begins l (suc i) some within =
+    let x = nth l i (omega arith) in
+    let same : i ≡ suc i - 1 = omega arith in
+    let rest = unmarked (closure_from (x.0 ∷ []) (drop (suc i) l)) (drop (suc i) l) in
+    (rest, (cut_at l i x.0 (omega arith) x.1).outside ∙ ap (λ (n : ℕ). take n l ++ rest) same)
+
+-- the list cut before the k-th, with its closure behind the others and these behind it
+pub record IsCutBefore (l others : List Entry) (k : ℕ) : Type 0 where
+  pub long : k - 1 ≤ length (without_closure l k)
+  pub before : take (k - 1) ((without_closure l k ++ closure_of l k) ++ others) ≡ take (k - 1) l
+  pub behind : drop (k - 1) ((without_closure l k ++ closure_of l k) ++ others) ≡ drop (k - 1) (without_closure l k) ++ (closure_of l k ++ others)
+
+pub cut_before : (l others : List Entry) (k : ℕ) → 1 ≤ k → k ≤ length l → IsCutBefore l others k
+cut_before l others k some within =
+    let w = without_closure l k in
+    let c = closure_of l k in
+    let out = outside_begins l k some within in
+    let len : length (take (k - 1) l) ≡ k - 1 = length-take-le (k - 1) l (omega arith) in
+    let long : k - 1 ≤ length w = omega (arith, ap length out.1, length-append (take (k - 1) l) out.0, len) in
+    record {
+      long = long;
+      before =
+          ap (take (k - 1)) (append_assoc w c others) ∙ take-append-le (k - 1) w (c ++ others) long
+          ∙ ap (take (k - 1)) out.1 ∙ take_at (take (k - 1) l) out.0 (k - 1) len;
+      behind = ap (drop (k - 1)) (append_assoc w c others) ∙ drop-append-le (k - 1) w (c ++ others) long;
+    }
+
+-- the first dependant
+
+-- found in the first part
+found_before : (x : Entry) (n j : ℕ) (a b : List Entry) → first_from x n a ≡ Some j → first_from x n (a ++ b) ≡ Some j
+found_before x n j [] b h = absurd cc
+found_before x n j (y ∷ a) b h = by (depends x y) (found_before x (n + 1) j a b) h
+  where
+    by : (d : Bool) → (first_from x (n + 1) a ≡ Some j → first_from x (n + 1) (a ++ b) ≡ Some j) → (if d then Some n else first_from x (n + 1) a) ≡ Some j → (if d then Some n else first_from x (n + 1) (a ++ b)) ≡ Some j
+    by true later g = g
+    by false later g = later g
+
+-- not found in the first part
+found_behind : (x : Entry) (n : ℕ) (a b : List Entry) → first_from x n a ≡ None → first_from x n (a ++ b) ≡ first_from x (n + length a) b
+found_behind x n [] b h = let e : n ≡ n + 0 = omega arith in ap (λ (m : ℕ). first_from x m b) e
+found_behind x n (y ∷ a) b h = by (depends x y) (found_behind x (n + 1) a b) h
+  where
+    by : (d : Bool) → (first_from x (n + 1) a ≡ None → first_from x (n + 1) (a ++ b) ≡ first_from x (n + 1 + length a) b)
+        → (if d then Some n else first_from x (n + 1) a) ≡ None
+        → (if d then Some n else first_from x (n + 1) (a ++ b)) ≡ first_from x (n + suc (length a)) b
+    by true later g = absurd cc
+    by false later g = let e : n + 1 + length a ≡ n + suc (length a) = omega arith in later g ∙ ap (λ (m : ℕ). first_from x m b) e
+
+-- where it is
+found_within : (x : Entry) (n j : ℕ) (a : List Entry) → first_from x n a ≡ Some j → (n ≤ j) × (j < n + length a)
+found_within x n j [] h = absurd cc
+found_within x n j (y ∷ a) h = by (depends x y) (found_within x (n + 1) j a) h
+  where
+    by : (d : Bool) → (first_from x (n + 1) a ≡ Some j → (n + 1 ≤ j) × (j < n + 1 + length a)) → (if d then Some n else first_from x (n + 1) a) ≡ Some j → (n ≤ j) × (j < n + suc (length a))
+    by true later g = let e : n ≡ j = cc in (omega arith, omega arith)
+    by false later g = let both = later g in (omega (arith, both.0), omega (arith, both.1))
+
+-- the number of what is found among live and other ones, if it is that of a live one
+abbrev pub if_live : List Entry → Option ℕ → Option ℕ
+if_live live None = None
+if_live live (Some j) = if nat_lt (length live) j then None else Some j
+
+within_live : (n j : ℕ) → j ≤ n → Some j ≡ (if nat_lt n j then None else Some j)
+within_live n j h = let no : nat_lt n j ≡ false = le-ltb n j h in ap (λ (b : Bool). if b then None else Some j) (sym no)
+
+behind_live : (n j : ℕ) → n < j → None ≡ (if nat_lt n j then None else Some j)
+behind_live n j h = let yes : nat_lt n j ≡ true = lt-ltb n j h in ap (λ (b : Bool). if b then None else Some j) (sym yes)
+
+pub scan_is : (x : Entry) (live : List Entry) (k : ℕ) → numbered live k ≡ Some x → first_dependant live k ≡ first_from x (k + 1) (drop k live)
+scan_is x live zero here = absurd cc
+scan_is x live (suc i) here =
+    let one : suc (suc i) ≡ suc i + 1 = omega arith in
+    ap (λ (o : Option Entry). first_after o (suc (suc i)) (drop (suc i) live)) here ∙ ap (λ (n : ℕ). first_from x n (drop (suc i) live)) one
+
+among : (x : Entry) (live others : List Entry) (k : ℕ) → k ≤ length live
+    → first_from x (k + 1) (drop k live) ≡ if_live live (first_from x (k + 1) (drop k live ++ others))
+among x live others k position =
+    by (first_from x (k + 1) (drop k live)) (first_from x (k + 1) (drop k live ++ others)) refl refl
+  where
+    by : (o p : Option ℕ) → first_from x (k + 1) (drop k live) ≡ o → first_from x (k + 1) (drop k live ++ others) ≡ p → o ≡ if_live live p
+    by (Some i) p h g =
+        let in_it = found_within x (k + 1) i (drop k live) h in
+        within_live (length live) i (omega (arith, in_it.1, length-drop k live)) ∙ ap (if_live live) (sym (found_before x (k + 1) i (drop k live) others h) ∙ g)
+    by None None h g = refl
+    by None (Some j) h g =
+        let in_it = found_within x (k + 1 + length (drop k live)) j others (sym (found_behind x (k + 1) (drop k live) others h) ∙ g) in
+        behind_live (length live) j (omega (arith, in_it.0, length-drop k live))
+
+-- the first dependant among the live ones is what is found among all, if that is live
+pub found_live : (x : Entry) (live others : List Entry) (k : ℕ) → 1 ≤ k → k ≤ length live → x ≡ get_or live (k - 1) x
+    → first_dependant live k ≡ if_live live (first_dependant (live ++ others) k)
+found_live x live others k some within here =
+    scan_is x live k (numbered_in live k x some within here) ∙ among x live others k within
+    ∙ ap (λ (zs : List Entry). if_live live (first_from x (k + 1) zs)) (sym (drop-append-le k live others within))
+    ∙ ap (if_live live) (sym (scan_is x (live ++ others) k (numbered_before live others k x some within here)))

@@ -1,0 +1,277 @@
+-- The loop that gathers the closure of a step: what it has done so far, and what it has done at the end.
+use Rattle.std.proofs.Common.{◌≡◌, ℕ, ◌+◌, ◌-◌, ◌<◌, ◌≤◌, Bool, true, false, zero, suc, cond, refl, sym, ◌∙◌, ap, subst, arith, List, [], ◌∷◌, ◌++◌, length, take, drop, set, get_or, length-append, length-drop}
+use Rattle.std.specs.List.{count_by}
+use Rattle.std.proofs.lemmas.List.{append_assoc, take-append-drop, take-take, length-take-le, length-set, get_or-take, drop_at, drop-append-le, drop-set-lt, drop_all, take_at, take_more_set}
+use Rattle.std.proofs.lemmas.List.Sums.{sum_by-append, sum_by-cons, sum_by_push}
+use Rattle.rd_step.specs.Prelude.{depends_on_one, closure_of, without_closure}
+use Rattle.rd_step.specs.declared.entries.Entry.{Entry}
+use Rattle.rd_depend.specs.declared.index.DependIndex.{DependIndex}
+use Rattle.rd_depend.specs.Index.{IsIndexOf, HasRoomFor}
+use Rattle.rd_journal.specs.Numbers.{at_numbers, IsOrder}
+use Rattle.rd_journal.proofs.Gathering.{Gathering, gathering_first, joins, stays, gathered_outside, gathered_inside}
+use Rattle.rd_journal.proofs.IndexRoom.{fits_between}
+use Rattle.rd_journal.proofs.ListLemmas.{drop_one_less}
+use Rattle.rd_journal.proofs.Numbers.{one, at-append, at-length, at-take, at-drop, at-get, order_below, order_moved}
+
+-- the live ones of these slots
+abbrev pub live_of : List Entry → List ℕ → ℕ → List Entry
+live_of es ns live = take live (at_numbers es ns)
+
+-- of the live records those before the next are looked at: the numbers of those that stay are the first ones now, those of the others
+-- are gathered, and the index is that of the records before the k-th and of these
+pub record UnderWay (es : List Entry) (ns now gathered : List ℕ) (old index : DependIndex) (k live front next : ℕ) : Type 0 where
+  pub from : k - 1 ≤ front
+  pub number : front + length gathered ≡ next
+  pub some : 1 ≤ length gathered
+  pub within : next ≤ live
+  pub long : length now ≡ length ns
+  pub later : drop next now ≡ drop next ns
+  pub once : (test : ℕ → Bool) → count_by test (take front now) + count_by test gathered + count_by test (drop next ns) ≡ count_by test ns
+  pub staying : length (at_numbers es (take front now)) ≡ front
+  pub going : length (at_numbers es gathered) ≡ length gathered
+  pub cut : Gathering (live_of es ns live) k (at_numbers es (take front now)) (at_numbers es gathered) (drop next (live_of es ns live))
+  pub indexed : IsIndexOf index (take (k - 1) (live_of es ns live) ++ at_numbers es gathered)
+  pub room : (rest : List Entry) → HasRoomFor old (drop (k - 1) (live_of es ns live) ++ rest)
+      → HasRoomFor index (drop (k - 1) (at_numbers es (take front now)) ++ (drop next (live_of es ns live) ++ rest))
+
+-- the next number, and the record in its slot
+pub record Next (es : List Entry) (ns : List ℕ) (live next v : ℕ) : Type 0 where
+  pub below : v < length es
+  pub numbers : drop next ns ≡ v ∷ drop (next + 1) ns
+  pub here : (x : Entry) → x ≡ get_or es v x → get_or (live_of es ns live) next x ≡ x
+  pub entry : (x : Entry) → x ≡ get_or es v x → drop next (live_of es ns live) ≡ x ∷ drop (next + 1) (live_of es ns live)
+  pub alone : (x : Entry) → x ≡ get_or es v x → at_numbers es (v ∷ []) ≡ x ∷ []
+
+pub live-length : (es : List Entry) (ns : List ℕ) (live : ℕ) → IsOrder (length es) ns → live ≤ length ns → length (live_of es ns live) ≡ live
+live-length es ns live o within = length-take-le live (at_numbers es ns) (omega (arith, at-length es ns (order_below (length es) ns o), within))
+
+pub next_one : (es : List Entry) (ns now : List ℕ) (live next v : ℕ) → IsOrder (length es) ns → live ≤ length ns → next < live → length now ≡ length ns
+    → drop next now ≡ drop next ns → v ≡ get_or now next v → Next es ns live next v
+next_one es ns now live next v o within low long later at =
+    let there : drop next now ≡ v ∷ drop (next + 1) now = drop_one_less now next v (omega (arith, long, within, low)) at in
+    let of_old : drop next ns ≡ get_or ns next v ∷ drop (next + 1) ns = drop_one_less ns next (get_or ns next v) (omega (arith, within, low)) (default ns next v (omega (arith, within, low))) in
+    let same : v ≡ get_or ns next v = (let both : v ∷ drop (next + 1) now ≡ get_or ns next v ∷ drop (next + 1) ns = sym there ∙ later ∙ of_old in cc) in
+    let below : v < length es = subst (λ (m : ℕ). m < length es) (sym same) (order_below (length es) ns o next v (omega (arith, within, low))) in
+    let all = live-length es ns live o within in
+    let here : (x : Entry) → x ≡ get_or es v x → get_or (live_of es ns live) next x ≡ x =
+    λ x e.
+    get_or-take live (at_numbers es ns) next x low ∙ at-get es ns next x v (order_below (length es) ns o) (omega (arith, within, low))
+    ∙ ap (λ (m : ℕ). get_or es m x) (sym same) ∙ sym e in
+    record {
+      below = below;
+      numbers = of_old ∙ ap (λ (m : ℕ). m ∷ drop (next + 1) ns) (sym same);
+      here = here;
+      entry = λ x e. drop_one_less (live_of es ns live) next x (omega (arith, all, low)) (sym (here x e));
+      alone = λ x e. ap (λ (xs : List Entry). xs ++ []) (one es v x below e);
+    }
+  where
+    default : (xs : List ℕ) (n d : ℕ) → n < length xs → get_or xs n d ≡ get_or xs n (get_or xs n d)
+    default [] n d h = absurd (omega arith)
+    default (x ∷ xs) zero d h = refl
+    default (x ∷ xs) (suc n) d h = default xs n d (omega arith)
+
+-- one more number
+at_more : (es : List Entry) (ns : List ℕ) (live next v : ℕ) (x : Entry) (xs : List ℕ) → Next es ns live next v → x ≡ get_or es v x
+    → at_numbers es (xs ++ v ∷ []) ≡ at_numbers es xs ++ x ∷ []
+at_more es ns live next v x xs n e = at-append es xs (v ∷ []) ∙ ap (λ (ys : List Entry). at_numbers es xs ++ ys) (n.alone x e)
+
+count_more : (test : ℕ → Bool) (xs : List ℕ) (v : ℕ) → count_by test (xs ++ v ∷ []) ≡ count_by test xs + cond (test v) 1 0
+count_more test xs v = sum_by_push (λ m. cond (test m) 1 0) xs v
+
+count_next : (test : ℕ → Bool) (es : List Entry) (ns : List ℕ) (live next v : ℕ) → Next es ns live next v
+    → count_by test (drop next ns) ≡ cond (test v) 1 0 + count_by test (drop (next + 1) ns)
+count_next test es ns live next v n = ap (count_by test) n.numbers ∙ sum_by-cons (λ m. cond (test m) 1 0) v (drop (next + 1) ns)
+
+-- the same of equal lists, of an equal index and of an equal number
+pub carried : (es : List Entry) (ns now gathered : List ℕ) (old index : DependIndex) (k live front next : ℕ) (now_too gathered_too : List ℕ) (index_too : DependIndex) (front_too : ℕ)
+    → now_too ≡ now → gathered_too ≡ gathered → index_too ≡ index → front_too ≡ front → UnderWay es ns now gathered old index k live front next
+    → UnderWay es ns now_too gathered_too old index_too k live front_too next
+carried es ns now gathered old index k live front next now_too gathered_too index_too front_too a b c d u =
+    subst (λ (ms : List ℕ). UnderWay es ns ms gathered_too old index_too k live front_too next) (sym a)
+    (subst (λ (ms : List ℕ). UnderWay es ns now ms old index_too k live front_too next) (sym b)
+    (subst (λ (x : DependIndex). UnderWay es ns now gathered old x k live front_too next) (sym c)
+    (subst (λ (f : ℕ). UnderWay es ns now gathered old index k live f next) (sym d) u)))
+
+-- at first the step itself is gathered
+pub first_gathered : (es : List Entry) (ns : List ℕ) (old index : DependIndex) (k live v : ℕ) (x : Entry) → IsOrder (length es) ns → 1 ≤ k → k ≤ live → live ≤ length ns
+    → Next es ns live (k - 1) v → x ≡ get_or es v x → IsIndexOf old (take (k - 1) (live_of es ns live))
+    → ((zs : List Entry) → IsIndexOf old zs → IsIndexOf index (zs ++ x ∷ [])) → ((rest : List Entry) → HasRoomFor old (x ∷ rest) → HasRoomFor index rest)
+    → UnderWay es ns ns (v ∷ []) old index k live (k - 1) k
+first_gathered es ns old index k live v x o some position within n e is put room =
+    let L = live_of es ns live in
+    let all = live-length es ns live o within in
+    let next : (k - 1) + 1 ≡ k = omega arith in
+    let below = order_below (length es) ns o in
+    let front : at_numbers es (take (k - 1) ns) ≡ take (k - 1) L =
+    sym (at-take es (k - 1) ns below) ∙ sym (take-take (k - 1) live (at_numbers es ns) (omega arith)) in
+    let one_there = n.alone x e in
+    let behind : drop (k - 1) L ≡ x ∷ drop k L = n.entry x e ∙ ap (λ (m : ℕ). x ∷ drop m L) next in
+    let whole : length (take (k - 1) L) ≡ k - 1 = length-take-le (k - 1) L (omega (arith, all)) in
+    record {
+      from = omega arith;
+      number = omega arith;
+      some = omega arith;
+      within = position;
+      long = refl;
+      later = refl;
+      once = λ test.
+          omega (
+            arith,
+            ap (count_by test) (take-append-drop (k - 1) ns),
+            sum_by-append (λ m. cond (test m) 1 0) (take (k - 1) ns) (drop (k - 1) ns),
+            count_next test es ns live (k - 1) v n,
+            ap (λ (m : ℕ). count_by test (drop m ns)) next,
+            count_more test [] v,
+          );
+      staying = ap length front ∙ whole;
+      going = ap length one_there;
+      cut =
+          subst (λ (bs : List Entry). Gathering L k bs (at_numbers es (v ∷ [])) (drop k L)) (sym front)
+          (subst (λ (bs : List Entry). Gathering L k (take (k - 1) L) bs (drop k L)) (sym one_there)
+          (gathering_first L k x some (omega (arith, all)) (sym (n.here x e))));
+      indexed = subst (λ (bs : List Entry). IsIndexOf index (take (k - 1) L ++ bs)) (sym one_there) (put (take (k - 1) L) is);
+      room = λ rest has.
+          let none : drop (k - 1) (at_numbers es (take (k - 1) ns)) ≡ [] = ap (drop (k - 1)) front ∙ drop_all (k - 1) (take (k - 1) L) (omega (arith, whole)) in
+          subst (λ (bs : List Entry). HasRoomFor index (bs ++ (drop k L ++ rest))) (sym none)
+          (room (drop k L ++ rest) (subst (λ (bs : List Entry). HasRoomFor old (bs ++ rest)) behind has));
+    }
+
+-- the room that is left for the others before the next one is looked at
+pub before_next : (es : List Entry) (ns now gathered : List ℕ) (old index : DependIndex) (k live front next v : ℕ) (x : Entry)
+    → UnderWay es ns now gathered old index k live front next → Next es ns live next v → x ≡ get_or es v x → (rest : List Entry)
+    → HasRoomFor old (drop (k - 1) (live_of es ns live) ++ rest)
+    → HasRoomFor index (drop (k - 1) (at_numbers es (take front now)) ++ x ∷ (drop (next + 1) (live_of es ns live) ++ rest))
+before_next es ns now gathered old index k live front next v x u n e rest has =
+    subst (λ (bs : List Entry). HasRoomFor index (drop (k - 1) (at_numbers es (take front now)) ++ (bs ++ rest))) (n.entry x e) (u.room rest has)
+
+-- the next one, with what is gathered, if it goes
+pub joined : (es : List Entry) (ns now gathered : List ℕ) (old index new : DependIndex) (k live front next v : ℕ) (x : Entry)
+    → UnderWay es ns now gathered old index k live front next → next < live → Next es ns live next v → x ≡ get_or es v x
+    → depends_on_one (at_numbers es gathered) x ≡ true → ((zs : List Entry) → IsIndexOf index zs → IsIndexOf new (zs ++ x ∷ []))
+    → ((rest : List Entry) → HasRoomFor index (x ∷ rest) → HasRoomFor new rest) → drop (next + 1) now ≡ drop (next + 1) ns
+    → UnderWay es ns now (gathered ++ v ∷ []) old new k live front (next + 1)
+joined es ns now gathered old index new k live front next v x u low n e depends put room later =
+    let L = live_of es ns live in
+    let more = at_more es ns live next v x gathered n e in
+    record {
+      from = u.from;
+      number = omega (arith, u.number, length-append gathered (v ∷ []));
+      some = omega (arith, length-append gathered (v ∷ []));
+      within = omega arith;
+      long = u.long;
+      later = later;
+      once = λ test. omega (arith, u.once test, count_more test gathered v, count_next test es ns live next v n);
+      staying = u.staying;
+      going = omega (arith, ap length more, length-append (at_numbers es gathered) (x ∷ []), u.going, length-append gathered (v ∷ []));
+      cut =
+          subst (λ (bs : List Entry). Gathering L k (at_numbers es (take front now)) bs (drop (next + 1) L)) (sym more)
+          (joins L (at_numbers es (take front now)) (at_numbers es gathered) (drop (next + 1) L) k x
+          (subst (λ (bs : List Entry). Gathering L k (at_numbers es (take front now)) (at_numbers es gathered) bs) (n.entry x e) u.cut) depends);
+      indexed =
+          subst (λ (bs : List Entry). IsIndexOf new bs)
+          (append_assoc (take (k - 1) L) (at_numbers es gathered) (x ∷ []) ∙ ap (λ (bs : List Entry). take (k - 1) L ++ bs) (sym more))
+          (put (take (k - 1) L ++ at_numbers es gathered) u.indexed);
+      room = λ rest has.
+          room (drop (k - 1) (at_numbers es (take front now)) ++ (drop (next + 1) L ++ rest))
+          (fits_between index (drop (k - 1) (at_numbers es (take front now))) (drop (next + 1) L ++ rest) x
+          (before_next es ns now gathered old index k live front next v x u n e rest has));
+    }
+
+-- and if it stays, put behind those that stay
+pub stayed : (es : List Entry) (ns now gathered : List ℕ) (old index : DependIndex) (k live front next v : ℕ) (x : Entry)
+    → UnderWay es ns now gathered old index k live front next → next < live → live ≤ length ns → Next es ns live next v → x ≡ get_or es v x
+    → depends_on_one (at_numbers es gathered) x ≡ false → drop (next + 1) now ≡ drop (next + 1) ns
+    → UnderWay es ns (set now front v) gathered old index k live (front + 1) (next + 1)
+stayed es ns now gathered old index k live front next v x u low within n e depends later =
+    let L = live_of es ns live in
+    let put : take (front + 1) (set now front v) ≡ take front now ++ v ∷ [] = take_more_set now front v (omega (arith, u.number, u.some, u.long, within, low)) in
+    let more : at_numbers es (take (front + 1) (set now front v)) ≡ at_numbers es (take front now) ++ x ∷ [] =
+    ap (at_numbers es) put ∙ at_more es ns live next v x (take front now) n e in
+    record {
+      from = omega (arith, u.from);
+      number = omega (arith, u.number);
+      some = u.some;
+      within = omega arith;
+      long = length-set now front v ∙ u.long;
+      later = drop-set-lt (next + 1) now front v (omega (arith, u.number, u.some)) ∙ later;
+      once = λ test. omega (arith, u.once test, ap (count_by test) put, count_more test (take front now) v, count_next test es ns live next v n);
+      staying = omega (arith, ap length more, length-append (at_numbers es (take front now)) (x ∷ []), u.staying);
+      going = u.going;
+      cut =
+          subst (λ (bs : List Entry). Gathering L k bs (at_numbers es gathered) (drop (next + 1) L)) (sym more)
+          (stays L (at_numbers es (take front now)) (at_numbers es gathered) (drop (next + 1) L) k x
+          (subst (λ (bs : List Entry). Gathering L k (at_numbers es (take front now)) (at_numbers es gathered) bs) (n.entry x e) u.cut) depends);
+      indexed = u.indexed;
+      room = λ rest has.
+          subst (λ (bs : List Entry). HasRoomFor index bs)
+          (sym (append_assoc (drop (k - 1) (at_numbers es (take front now))) (x ∷ []) (drop (next + 1) L ++ rest))
+          ∙ ap (λ (bs : List Entry). bs ++ (drop (next + 1) L ++ rest))
+          (sym (drop-append-le (k - 1) (at_numbers es (take front now)) (x ∷ []) (omega (arith, u.staying, u.from))) ∙ sym (ap (drop (k - 1)) more)))
+          (before_next es ns now gathered old index k live front next v x u n e rest has);
+    }
+
+-- at the end the numbers that were gathered stand behind the others
+pub record IsGathered (es : List Entry) (ns new : List ℕ) (old index : DependIndex) (k live front : ℕ) : Type 0 where
+  pub ordered : IsOrder (length es) new
+  pub count : live - front ≡ length (closure_of (live_of es ns live) k)
+  pub moved : live_of es new live ≡ without_closure (live_of es ns live) k ++ closure_of (live_of es ns live) k
+  pub behind : drop live (at_numbers es new) ≡ drop live (at_numbers es ns)
+  pub indexed : IsIndexOf index (take (k - 1) (live_of es ns live) ++ closure_of (live_of es ns live) k)
+  pub room : (rest : List Entry) → HasRoomFor old (drop (k - 1) (live_of es ns live) ++ rest)
+      → HasRoomFor index (drop (k - 1) (without_closure (live_of es ns live) k) ++ rest)
+
+pub ended : (es : List Entry) (ns now gathered new : List ℕ) (old index : DependIndex) (k live front next : ℕ)
+    → UnderWay es ns now gathered old index k live front next → live ≤ next → IsOrder (length es) ns → live ≤ length ns
+    → new ≡ take front now ++ (gathered ++ drop live now) → IsGathered es ns new old index k live front
+ended es ns now gathered new old index k live front next u end o within is =
+    let L = live_of es ns live in
+    let all : next ≡ live = omega (arith, u.within, end) in
+    let none : drop next L ≡ [] = drop_all next L (omega (arith, live-length es ns live o within, end)) in
+    let cut : Gathering L k (at_numbers es (take front now)) (at_numbers es gathered) [] =
+    subst (λ (bs : List Entry). Gathering L k (at_numbers es (take front now)) (at_numbers es gathered) bs) none u.cut in
+    let out = gathered_outside L (at_numbers es (take front now)) (at_numbers es gathered) k cut in
+    let in_it = gathered_inside L (at_numbers es (take front now)) (at_numbers es gathered) k cut in
+    let later : drop live now ≡ drop live ns = subst (λ (m : ℕ). drop m now ≡ drop m ns) all u.later in
+    let parts : at_numbers es new ≡ (at_numbers es (take front now) ++ at_numbers es gathered) ++ at_numbers es (drop live ns) =
+    ap (at_numbers es) is ∙ at-append es (take front now) (gathered ++ drop live now)
+    ∙ ap (λ (bs : List Entry). at_numbers es (take front now) ++ bs) (at-append es gathered (drop live now) ∙ ap (λ (ms : List ℕ). at_numbers es gathered ++ at_numbers es ms) later)
+    ∙ sym (append_assoc (at_numbers es (take front now)) (at_numbers es gathered) (at_numbers es (drop live ns))) in
+    let len : length (at_numbers es (take front now) ++ at_numbers es gathered) ≡ live =
+    omega (arith, length-append (at_numbers es (take front now)) (at_numbers es gathered), u.staying, u.going, u.number, all) in
+    record {
+      ordered =
+          order_moved (length es) ns new o
+          (λ test.
+          omega (
+            arith,
+            ap (count_by test) is,
+            sum_by-append (λ m. cond (test m) 1 0) (take front now) (gathered ++ drop live now),
+            sum_by-append (λ m. cond (test m) 1 0) gathered (drop live now),
+            ap (count_by test) later,
+            ap (λ (m : ℕ). count_by test (drop m ns)) all,
+            u.once test,
+          ))
+          (omega (
+            arith,
+            ap length is,
+            length-append (take front now) (gathered ++ drop live now),
+            length-append gathered (drop live now),
+            length-take-le front now (omega (arith, u.number, u.some, u.long, within, all)),
+            length-drop live now,
+            u.number,
+            u.long,
+            all,
+            within,
+          ));
+      count = omega (arith, ap length in_it, u.going, u.number, all);
+      moved =
+          ap (take live) parts ∙ take_at (at_numbers es (take front now) ++ at_numbers es gathered) (at_numbers es (drop live ns)) live len
+          ∙ (λ i. sym out i ++ sym in_it i);
+      behind =
+          ap (drop live) parts ∙ drop_at (at_numbers es (take front now) ++ at_numbers es gathered) (at_numbers es (drop live ns)) live len
+          ∙ sym (at-drop es live ns (order_below (length es) ns o));
+      indexed = subst (λ (bs : List Entry). IsIndexOf index (take (k - 1) L ++ bs)) (sym in_it) u.indexed;
+      room = λ rest has.
+          subst (λ (bs : List Entry). HasRoomFor index (drop (k - 1) bs ++ rest)) (sym out)
+          (subst (λ (bs : List Entry). HasRoomFor index (drop (k - 1) (at_numbers es (take front now)) ++ (bs ++ rest))) none (u.room rest has));
+    }

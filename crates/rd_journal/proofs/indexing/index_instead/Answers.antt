@@ -1,0 +1,28 @@
+use Rattle.std.proofs.Common.{◌≡◌, ◌∙◌, ℕ, List, [], ◌++◌, take, drop, sym, subst, arith}
+use Rattle.std.proofs.lemmas.List.{append-nil, length-take-le}
+use Rattle.rd_step.specs.declared.entries.Entry.{Entry}
+use Rattle.rd_depend.specs.Index.{HasRoomFor}
+use Rattle.rd_depend.proofs.IndexChanges.{not_refused}
+use Rattle.rd_journal.specs.Records.{kept_records}
+use Rattle.rd_journal.proofs.IndexRoom.{fits_none, fits_last}
+use Rattle.rd_journal.proofs.Outcomes.{err_then, in_error}
+use Rattle.rd_journal.proofs.indexing.index_instead.Goals as goal
+
+pub fill_index-requires-clause-room : goal.fill_index-requires-clause-room
+fill_index-requires-clause-room c =
+    let kept = kept_records c.args.records.now in
+    let n = c.args.n in
+    let index = c.push_all-put.new.self in
+    let err = sym c.is_err.ensures.value ∙ c.if-is_err.true in
+    let is = err_then c.push_all-put.result err c.push_all-put.ensures.err (take n kept) c.cut_index.ensures.left in
+    let long : n ≡ index.len = omega (arith, is.len, length-take-le n kept c.requires.within) in
+    let room = err_then c.push_all-put.result err c.push_all-put.ensures.room_stays (drop n kept ++ []) (c.cut_index.ensures.room [] (fits_none c.args.index.now)) in
+    subst (λ (m : ℕ). HasRoomFor index (drop m kept)) long (subst (λ (es : List Entry). HasRoomFor index es) (append-nil (drop n kept)) room)
+
+pub returns-then-is_err-clause-lacks : goal.returns-then-is_err-clause-lacks
+returns-then-is_err-clause-lacks c =
+    in_error c.push_all-put.result
+    (λ err has.
+    not_refused c.push_all-put.result err
+    (c.push_all-put.ensures.succeeds
+    (fits_last c.cut_index.new.index (drop c.args.n (kept_records c.args.records.now)) c.args.given.now (c.cut_index.ensures.room c.args.given.now has))))

@@ -1,0 +1,13 @@
+use Rattle.std.proofs.Common.{◌≤◌, List, ◌++◌, length, take, drop}
+use Rattle.rd_step.specs.declared.entries.Entry.{Entry}
+use Rattle.rd_depend.specs.Index.{IsIndexOf, HasRoomFor}
+use Rattle.rd_journal.specs.Records.{kept_records}
+use Rattle.rd_journal.proofs.indexing.pop_behind.Given as goal
+
+abbrev pub invariant-loop-last : goal.invariant-loop-last
+invariant-loop-last l = record {
+  from : l.n ≤ l.last;
+  within : l.last ≤ length (kept_records l.records);
+  left : IsIndexOf l.index (take l.last (kept_records l.records));
+  room : (rest : List Entry) → HasRoomFor l.fn.index rest → HasRoomFor l.index (drop l.last (kept_records l.records) ++ rest);
+}

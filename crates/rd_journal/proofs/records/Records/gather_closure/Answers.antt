@@ -1,0 +1,26 @@
+use Rattle.std.proofs.Common.{◌∙◌, ◌-◌, List, length, take, drop, sym, subst, arith, length-take-le}
+use Rattle.rd_step.specs.declared.entries.Entry.{Entry}
+use Rattle.rd_depend.specs.Index.{HasRoomFor}
+use Rattle.rd_journal.specs.Records.{all_records, live_records, ahead_records}
+use Rattle.rd_journal.specs.Numbers.{at_numbers, IsOrder}
+use Rattle.rd_journal.proofs.IndexRoom.{fits_first}
+use Rattle.rd_journal.proofs.Numbers.{at-length, order_below}
+use Rattle.rd_journal.proofs.RecordLemmas.{live-length}
+use Rattle.rd_journal.proofs.records.Records.gather_closure.Goals as goal
+
+pub gather-requires-clause-room : goal.gather-requires-clause-room
+unfolding all_records
+gather-requires-clause-room c =
+    let self = c.args.self.now in
+    subst (λ (es : List Entry). HasRoomFor c.args.index.now (drop (c.args.k - 1) (take self.live (at_numbers es self.order.items)))) (sym c.deref.ensures.value)
+    (fits_first c.args.index.now (drop (c.args.k - 1) (live_records self)) (ahead_records self) c.requires.room)
+
+pub returns-clause-len : goal.returns-clause-len
+unfolding all_records
+returns-clause-len c =
+    let self = c.args.self.now in
+    let es = self.slots.items in
+    let new = c.gather.new.order.items in
+    let ordered : IsOrder (length es) new = subst (λ (ys : List Entry). IsOrder (length ys) new) c.deref.ensures.value c.gather.ensures.ordered in
+    let long = at-length es new (order_below (length es) new ordered) in
+    length-take-le self.live (at_numbers es new) (omega (arith, long, ordered.all, self.within, self.order_of_all.all)) ∙ sym (live-length self)

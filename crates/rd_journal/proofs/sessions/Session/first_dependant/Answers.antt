@@ -1,0 +1,42 @@
+use Rattle.std.proofs.Common.{◌≡◌, ◌∙◌, Bool, true, false, nat_lt, None, Some, if◌then◌else◌, length, sym, ap, arith}
+use Rattle.std.proofs.lemmas.Bool.{lt-ltb, le-ltb}
+use Rattle.rd_journal.specs.Records.{live_records, ahead_records, kept_records}
+use Rattle.rd_journal.proofs.Finding.{numbered_before, if_live, found_live}
+use Rattle.rd_journal.proofs.sessions.Session.first_dependant.Goals as goal
+
+pub first-requires-clause-held : goal.first-requires-clause-held
+first-requires-clause-held g c =
+    let r = c.args.self.now.records in
+    record {
+      entries = kept_records r;
+      is = c.args.self.now.indexed;
+      at = numbered_before (live_records r) (ahead_records r) c.args.k c.live_at-entry.result.now c.requires.some c.requires.within c.live_at-entry.ensures;
+    }
+
+pub returns-in-None : goal.returns-in-None
+returns-in-None g c =
+    let r = c.args.self.now.records in
+    let x = c.live_at-entry.result.now in
+    let at = numbered_before (live_records r) (ahead_records r) c.args.k x c.requires.some c.requires.within c.live_at-entry.ensures in
+    sym (found_live x (live_records r) (ahead_records r) c.args.k c.requires.some c.requires.within c.live_at-entry.ensures
+    ∙ ap (if_live (live_records r)) (sym (c.first.ensures.answer (kept_records r) c.args.self.now.indexed at) ∙ c.in-None.is))
+
+pub returns-then-number-len : goal.returns-then-number-len
+returns-then-number-len g c =
+    let r = c.args.self.now.records in
+    let x = c.live_at-entry.result.now in
+    let at = numbered_before (live_records r) (ahead_records r) c.args.k x c.requires.some c.requires.within c.live_at-entry.ensures in
+    let past : nat_lt (length (live_records r)) c.in-Some.number ≡ true = lt-ltb (length (live_records r)) c.in-Some.number (omega (arith, c.len.ensures.records, c.if-number-len.true)) in
+    sym (found_live x (live_records r) (ahead_records r) c.args.k c.requires.some c.requires.within c.live_at-entry.ensures
+    ∙ ap (if_live (live_records r)) (sym (c.first.ensures.answer (kept_records r) c.args.self.now.indexed at) ∙ c.in-Some.is)
+    ∙ ap (λ (b : Bool). if b then None else Some c.in-Some.number) past)
+
+pub returns-else-number-len : goal.returns-else-number-len
+returns-else-number-len g c =
+    let r = c.args.self.now.records in
+    let x = c.live_at-entry.result.now in
+    let at = numbered_before (live_records r) (ahead_records r) c.args.k x c.requires.some c.requires.within c.live_at-entry.ensures in
+    let live : nat_lt (length (live_records r)) c.in-Some.number ≡ false = le-ltb (length (live_records r)) c.in-Some.number (omega (arith, c.len.ensures.records, c.if-number-len.false)) in
+    sym (found_live x (live_records r) (ahead_records r) c.args.k c.requires.some c.requires.within c.live_at-entry.ensures
+    ∙ ap (if_live (live_records r)) (sym (c.first.ensures.answer (kept_records r) c.args.self.now.indexed at) ∙ c.in-Some.is)
+    ∙ ap (λ (b : Bool). if b then None else Some c.in-Some.number) live)

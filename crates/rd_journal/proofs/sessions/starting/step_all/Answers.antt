@@ -1,0 +1,70 @@
+use Rattle.std.proofs.Common.{◌≡◌, ◌∙◌, ◌+◌, ◌<◌, ℕ, List, [], ◌∷◌, ◌++◌, Ok, take, drop, length, refl, sym, ap, subst, arith}
+use Rattle.std.proofs.lemmas.List.{map-append, take_all, take_more}
+use Rattle.rd_step.specs.Prelude.{World, Stepped, model, room, run}
+use Rattle.rd_step.specs.declared.entries.Entry.{Entry}
+use Rattle.rd_step.proofs.RunParts.{first_step}
+use Rattle.rd_step.proofs.Inverse.{run-cons}
+use Rattle.rd_journal.specs.Journal.{events, IsRunFrom}
+use Rattle.rd_journal.specs.Room.{HasRoom}
+use Rattle.rd_journal.proofs.ListLemmas.{drop_one_less}
+use Rattle.rd_journal.proofs.RoomLemmas.{redo_room, redone_room}
+use Rattle.rd_journal.proofs.Runs.{run_joined}
+use Rattle.rd_journal.proofs.sessions.starting.step_all.Goals as goal
+
+-- the next one in front
+in_front : (xs : List Entry) (n : ℕ) (x : Entry) → drop n xs ≡ x ∷ drop (n + 1) xs → drop n xs ≡ x ∷ drop 1 (drop n xs)
+in_front xs n x here = here ∙ ap (λ (ys : List Entry). x ∷ drop 1 ys) (sym here)
+
+behind_it : (xs : List Entry) (n : ℕ) (x : Entry) → drop n xs ≡ x ∷ drop (n + 1) xs → drop 1 (drop n xs) ≡ drop (n + 1) xs
+behind_it xs n x here = ap (λ (ys : List Entry). drop 1 ys) here
+
+pub step_again-requires : goal.step_again-requires
+step_again-requires g c =
+    let xs = c.args.steps.now in
+    let n = c.loop-next.next in
+    let w = model c.loop-next.world in
+    let x = c.at.result.now in
+    let here = drop_one_less xs n x (omega (arith, c.loop-next-test.true, c.len-next-end.ensures)) c.at.ensures in
+    let first = first_step g.row.R w x (drop (n + 1) xs) (subst (λ (ys : List Entry). IsRunFrom g.row.R w ys) here c.loop-next.invariant.rest) in (
+      omega (arith, c.loop-next.world.small),
+      (
+        (first.after, first.goes),
+        redo_room g.row.R w first.after (drop n xs) x (room c.loop-next.world) (in_front xs n x here) first.goes c.loop-next.invariant.room,
+      ),
+    )
+
+pub loop-next-preserved : goal.loop-next-preserved
+loop-next-preserved g c =
+    let xs = c.args.steps.now in
+    let n = c.loop-next.next in
+    let w = model c.loop-next.world in
+    let v = model c.step_again.new.self in
+    let x = c.at.result.now in
+    let within : n < length xs = omega (arith, c.loop-next-test.true, c.len-next-end.ensures) in
+    let here = drop_one_less xs n x within c.at.ensures in
+    let first = first_step g.row.R w x (drop (n + 1) xs) (subst (λ (ys : List Entry). IsRunFrom g.row.R w ys) here c.loop-next.invariant.rest) in
+    let both : record { world = first.after; entry = x } ≡ record { world = v; entry = x } = cc (first.goes, c.step_again.ensures.done) in
+    let same : first.after ≡ v = ap (λ (s : Stepped). s.world) both in
+    let one : run g.row.R w (x.event ∷ []) ≡ Ok (record { world = v; entries = x ∷ [] }) =
+    run-cons g.row.R w x.event [] (record { world = v; entry = x }) (record { world = v; entries = [] }) c.step_again.ensures.done refl in
+    let more : take (n + 1) xs ≡ take n xs ++ x ∷ [] = take_more xs n x within ∙ ap (λ (y : Entry). take n xs ++ y ∷ []) (sym c.at.ensures) in
+    record {
+      ran =
+          ap (λ (ys : List Entry). run g.row.R (model c.args.world.now) (events ys)) more
+          ∙ ap (run g.row.R (model c.args.world.now)) (map-append (λ (y : Entry). y.event) (take n xs) (x ∷ []))
+          ∙ run_joined g.row.R (model c.args.world.now) (events (take n xs)) (x.event ∷ []) (record { world = w; entries = take n xs })
+          (record { world = v; entries = x ∷ [] }) c.loop-next.invariant.ran one
+          ∙ ap (λ (ys : List Entry). Ok (record { world = v; entries = ys })) (sym more);
+      rest = subst (λ (u : World). IsRunFrom g.row.R u (drop (n + 1) xs)) same first.rest;
+      room =
+          subst (λ (ys : List Entry). HasRoom ys (room c.step_again.new.self)) (behind_it xs n x here)
+          (redone_room g.row.R w v (drop n xs) x (room c.loop-next.world) (room c.step_again.new.self) (in_front xs n x here) c.step_again.ensures.done
+          c.loop-next.invariant.room c.step_again.ensures.room);
+    }
+
+pub returns : goal.returns
+returns g c =
+    let xs = c.args.steps.now in
+    let all : take c.loop-next.next xs ≡ xs = take_all c.loop-next.next xs (omega (arith, c.loop-next-test.false, c.len-next-end.ensures)) in
+    ap (λ (ys : List Entry). run g.row.R (model c.args.world.now) (events ys)) (sym all) ∙ c.loop-next.invariant.ran
+    ∙ ap (λ (ys : List Entry). Ok (record { world = model c.loop-next.world; entries = ys })) all

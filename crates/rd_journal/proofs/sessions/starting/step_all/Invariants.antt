@@ -1,0 +1,12 @@
+use Rattle.std.proofs.Common.{◌≡◌, Ok, take, drop}
+use Rattle.rd_step.specs.Prelude.{model, room, run}
+use Rattle.rd_journal.specs.Journal.{events, IsRunFrom}
+use Rattle.rd_journal.specs.Room.{HasRoom}
+use Rattle.rd_journal.proofs.sessions.starting.step_all.Given as goal
+
+abbrev pub invariant-loop-next : goal.invariant-loop-next
+invariant-loop-next g l = record {
+  ran : run g.row.R (model l.fn.world) (events (take l.next l.steps)) ≡ Ok (record { world = model l.world; entries = take l.next l.steps });
+  rest : IsRunFrom g.row.R (model l.world) (drop l.next l.steps);
+  room : HasRoom (drop l.next l.steps) (room l.world);
+}

@@ -1,0 +1,61 @@
+use Rattle.std.proofs.Common.{◌≡◌, ℕ, ◌+◌, ◌-◌, ◌≤◌, List, take, drop, sym, ap, subst, arith}
+use Rattle.std.proofs.lemmas.List.{take_all, drop_all}
+use Rattle.rd_step.specs.Prelude.{World, model, room}
+use Rattle.rd_step.specs.declared.entries.Entry.{Entry}
+use Rattle.rd_journal.specs.Journal.{LeadsTo}
+use Rattle.rd_journal.specs.Room.{room_returned_by}
+use Rattle.rd_journal.proofs.Starting.{one_more, one_before, may_step_back}
+use Rattle.rd_journal.proofs.sessions.starting.undo_behind.Goals as goal
+
+pub loop-last-init : goal.loop-last-init
+loop-last-init g c =
+    let xs = c.args.steps.now in
+    let all = c.len-last.result in
+    record {
+      from = omega (arith, c.requires.within, c.len-last.ensures);
+      within = omega (arith, c.len-last.ensures);
+      leads = λ start leads. subst (λ (ys : List Entry). LeadsTo g.row.R start (model c.args.world.now) ys) (sym (take_all all xs (omega (arith, c.len-last.ensures)))) leads;
+      room = λ m.
+          let none = ap (λ (ys : List Entry). room_returned_by ys m) (drop_all all xs (omega (arith, c.len-last.ensures))) in
+          omega (arith, none);
+    }
+
+pub unstep-requires : goal.unstep-requires
+unstep-requires g c =
+    let xs = c.args.steps.now in
+    let n = c.loop-last.last in
+    let cut = one_more xs n c.at.result.now (omega (arith, c.loop-last.invariant.from)) c.loop-last.invariant.within c.at.ensures in
+    let leads = c.loop-last.invariant.leads c.requires.leads.0 c.requires.leads.1 in (
+      omega (arith, c.loop-last.world.small),
+      (may_step_back g.row.R c.requires.leads.0 (model c.loop-last.world) (take (n - 1) xs) c.at.result.now
+          (subst (λ (ys : List Entry). LeadsTo g.row.R c.requires.leads.0 (model c.loop-last.world) ys) cut leads)).was,
+    )
+
+pub loop-last-preserved : goal.loop-last-preserved
+loop-last-preserved g c =
+    let xs = c.args.steps.now in
+    let n = c.loop-last.last in
+    let x = c.at.result.now in
+    let cut = one_more xs n x (omega (arith, c.loop-last.invariant.from)) c.loop-last.invariant.within c.at.ensures in
+    let behind = one_before xs n x (omega (arith, c.loop-last.invariant.from)) c.loop-last.invariant.within c.at.ensures in
+    record {
+      from = omega arith;
+      within = omega (arith, c.loop-last.invariant.within);
+      leads = λ start first.
+          subst (λ (w : World). LeadsTo g.row.R start w (take (n - 1) xs)) (sym c.unstep.ensures.back)
+          (may_step_back g.row.R start (model c.loop-last.world) (take (n - 1) xs) x
+          (subst (λ (ys : List Entry). LeadsTo g.row.R start (model c.loop-last.world) ys) cut (c.loop-last.invariant.leads start first))).left;
+      room = λ m.
+          let more = ap (λ (ys : List Entry). room_returned_by ys m) behind in
+          omega (arith, more, c.loop-last.invariant.room m, c.unstep.ensures.room m);
+    }
+
+pub returns : goal.returns
+returns g c =
+    let end : c.loop-last.last ≡ c.args.n = omega (arith, c.loop-last.invariant.from) in
+    record {
+      leads = λ start leads.
+          subst (λ (n : ℕ). LeadsTo g.row.R start (model c.loop-last.world) (take n c.args.steps.now)) end (c.loop-last.invariant.leads start leads);
+      room = λ m.
+          subst (λ (n : ℕ). room c.args.world.now m + room_returned_by (drop n c.args.steps.now) m ≤ room c.loop-last.world m) end (c.loop-last.invariant.room m);
+    }

@@ -1,0 +1,13 @@
+use Rattle.std.proofs.Common.{ℕ, ◌+◌, ◌≤◌, length, take, drop}
+use Rattle.rd_step.specs.Prelude.{World, model, room}
+use Rattle.rd_journal.specs.Journal.{LeadsTo}
+use Rattle.rd_journal.specs.Room.{room_returned_by}
+use Rattle.rd_journal.proofs.sessions.starting.undo_behind.Given as goal
+
+abbrev pub invariant-loop-last : goal.invariant-loop-last
+invariant-loop-last g l = record {
+  from : l.n ≤ l.last;
+  within : l.last ≤ length l.steps;
+  leads : (start : World) → LeadsTo g.row.R start (model l.fn.world) l.steps → LeadsTo g.row.R start (model l.world) (take l.last l.steps);
+  room : (m : ℕ) → room l.fn.world m + room_returned_by (drop l.last l.steps) m ≤ room l.world m;
+}

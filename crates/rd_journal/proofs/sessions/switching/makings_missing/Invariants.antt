@@ -1,0 +1,9 @@
+use Rattle.std.proofs.Common.{◌≡◌, ◌-◌, ◌<◌, ℕ, length, take, get_or}
+use Rattle.rd_journal.specs.Room.{room_returned_by}
+use Rattle.rd_journal.proofs.sessions.switching.makings_missing.Given as goal
+
+abbrev pub invariant-loop-position : goal.invariant-loop-position
+invariant-loop-position l = record {
+  long : length l.counts ≡ 256;
+  counted : (m : ℕ) → m < 256 → get_or l.counts m 0 ≡ get_or l.fn.given m 0 - room_returned_by (take l.position l.dropped) m;
+}

@@ -1,0 +1,96 @@
+//! The index of dependants beside a session's records: that of the live ones and, behind them, of those ahead.
+//!
+//! A step that is undone or redone last changes nothing of that list. What takes records out of it, or puts others in, takes the
+//! positions behind the first ones that stay away and puts the new ones in. Room that positions had is kept, so those that were taken
+//! away can always be put back.
+
+ghost use Rattle.std.specs.Prelude.{◌≡◌, ◌++◌, ◌+◌, ◌<◌, ◌≤◌, [], List, ◌∷◌, OnOk, OnErr, length, take, drop};
+ghost use Rattle.rd_step.specs.declared.entries.Entry.{Entry as Record};
+ghost use Rattle.rd_step.specs.Prelude.{MOST_STEPS};
+ghost use Rattle.rd_depend.specs.Index.{IsIndexOf, HasRoomFor};
+ghost use Rattle.rd_journal.specs.Records.{kept_records};
+
+use super::records::Records;
+use rd_depend::DependIndex;
+use rd_step::Entry;
+use std::alloc::AllocError;
+
+/// How many positions are taken out of the index one by one at most.
+const FEW: usize = 1_000;
+
+/// Has the index of the records be that of the first `n` of them and, behind these, of the given ones.
+///
+/// # Errors
+///
+/// If memory was refused, which is asked for only where the room is missing behind the first `n`. The index is as before then.
+pub(crate) fn index_instead(
+    index: &mut DependIndex,
+    records: &Records,
+    n: usize,
+    given: &[Entry],
+) -> Result<(), AllocError>
+    requires indexed { IsIndexOf index.old (kept_records records.now) }
+    requires within { n ≤ length (kept_records records.now) }
+    requires few { n + length given.now ≤ MOST_STEPS }
+    ensures ok { OnOk result (IsIndexOf index.new (take n (kept_records records.now) ++ given.now)) }
+    ensures err { OnErr result (IsIndexOf index.new (kept_records records.now)) }
+    ensures lacks { OnErr result (HasRoomFor index.old given.now → ⊥) }
+{
+    cut_index(index, records, n);
+    let put = index.push_all(given);
+    if put.is_err() {
+        fill_index(index, records);
+    }
+    put
+}
+
+/// Takes the positions behind the first `n` out of the index: a few one by one, and many by one pass over all its lists. The room
+/// that they had is kept.
+pub(crate) fn cut_index(index: &mut DependIndex, records: &Records, n: usize)
+    requires indexed { IsIndexOf index.old (kept_records records.now) }
+    requires within { n ≤ length (kept_records records.now) }
+    ensures left { IsIndexOf index.new (take n (kept_records records.now)) }
+    ensures room { (rest : List Record) → HasRoomFor index.old rest → HasRoomFor index.new (drop n (kept_records records.now) ++ rest) }
+{
+    if records.kept_len() - n > FEW {
+        index.truncate(n as u64);
+    } else {
+        pop_behind(index, records, n);
+    }
+}
+
+/// Takes the positions behind the first `n` out of the index, one by one.
+fn pop_behind(index: &mut DependIndex, records: &Records, n: usize)
+    requires indexed { IsIndexOf index.old (kept_records records.now) }
+    requires within { n ≤ length (kept_records records.now) }
+    ensures left { IsIndexOf index.new (take n (kept_records records.now)) }
+    ensures room { (rest : List Record) → HasRoomFor index.old rest → HasRoomFor index.new (drop n (kept_records records.now) ++ rest) }
+{
+    for last in (n..records.kept_len()).rev() {
+        index.pop(records.kept_at(last));
+    }
+}
+
+/// Puts the records behind those that the index is of into it. There is room for them.
+pub(crate) fn fill_index(index: &mut DependIndex, records: &Records)
+    requires indexed { IsIndexOf index.old (take index.old.len (kept_records records.now)) }
+    requires room { HasRoomFor index.old (drop index.old.len (kept_records records.now)) }
+    ensures { IsIndexOf index.new (kept_records records.now) }
+{
+    for next in index.len() as usize..records.kept_len() {
+        put_back(index, records.kept_at(next));
+    }
+}
+
+/// Puts an entry into the index, in which there is room for it.
+pub(crate) fn put_back(index: &mut DependIndex, entry: &Entry)
+    requires few { index.old.len < MOST_STEPS }
+    requires room { HasRoomFor index.old (entry.now ∷ []) }
+    ensures put { (es : List Record) → IsIndexOf index.old es → IsIndexOf index.new (es ++ entry.now ∷ []) }
+    ensures room { (rest : List Record) → HasRoomFor index.old (entry.now ∷ rest) → HasRoomFor index.new rest }
+{
+    match index.push(entry) {
+        Ok(()) => {}
+        Err(_) => unreachable!(),
+    }
+}
