@@ -126,10 +126,7 @@ fn exchange<const R: usize>(
     let stands = tree.ancestor(here, session.len() as usize);
     let beginning = tree.follow(stands, &session.live());
     let common = tree.depth(tree.common(beginning, node));
-    if let Some(records) = tree.slice(node, common) {
-        return session.switch(common as u64, records);
-    }
-    match tree.records(alloc, node, common) {
+    match tree.path_behind(alloc, node, common) {
         Err(_) => Err(Refusal::NoMemory),
         Ok(records) => session.switch(common as u64, &records),
     }
@@ -176,8 +173,8 @@ pub(crate) fn are_same(
         return Ok(one == other);
     }
     let shared = tree.depth(common);
-    let ones = tree.records(alloc, one, shared)?;
-    let others = tree.records(alloc, other, shared)?;
+    let ones = tree.path_behind(alloc, one, shared)?;
+    let others = tree.path_behind(alloc, other, shared)?;
     are_equivalent(alloc, &ones, &others)
 }
 

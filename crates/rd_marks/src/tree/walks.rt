@@ -1,6 +1,7 @@
 //! Walks up and down the tree.
 
 ghost use Rattle.std.specs.Prelude.{◌≡◌, ◌<◌, ◌≤◌, ◌+◌, ◌++◌, length, take, drop, min, IfOk, IsOk, IfSome};
+ghost use Rattle.std.specs.Cow.{cow_slice_items};
 ghost use Rattle.rd_step.specs.Prelude.{MOST_STEPS};
 ghost use Rattle.rd_step.specs.Run.{events};
 ghost use Rattle.rd_depend.specs.Beginnings.{Begins};
@@ -10,6 +11,7 @@ use super::Tree;
 use rd_journal::LiveRecords;
 use rd_step::{Entry, Event};
 use std::alloc::{AllocError, Global};
+use std::borrow::CowSlice;
 
 impl Tree {
     ghost use Rattle.rd_marks.specs.Tree.{IsIn, depth_in, path_in, IsHigher, IsNew, IsPartOf, AreLinkedBelow};
@@ -118,9 +120,31 @@ impl Tree {
         a
     }
 
-    /// The records of a node's path behind the first `n`, lent from the tree if they are of one row, as those of nodes that were put
-    /// one after another mostly are. None if they are not, or if there are no such records.
-    pub(crate) fn slice(&self, from: Option<usize>, n: usize) -> Option<&[Entry]>
+    /// The records of a node's path behind the first `n`: lent from the tree if they are of one row, as those of nodes that were put
+    /// one after another mostly are, and else copied.
+    ///
+    /// # Errors
+    ///
+    /// If memory was refused for a copy, so not if there are no such records.
+    pub(crate) fn path_behind(
+        &self,
+        alloc: Global,
+        from: Option<usize>,
+        n: usize,
+    ) -> Result<CowSlice<'_, Entry>, AllocError>
+        requires present { IsIn (mark_tree self.now) from }
+        requires within { n ≤ depth_in (mark_tree self.now) from }
+        ensures ok { IfOk result (λ records. cow_slice_items records ≡ drop n (path_in (mark_tree self.now) from)) }
+        ensures succeeds { depth_in (mark_tree self.now) from ≡ n → IsOk result }
+    {
+        if let Some(records) = self.slice(from, n) {
+            return Ok(CowSlice::Borrowed(records));
+        }
+        Ok(CowSlice::Owned(self.records(alloc, from, n)?))
+    }
+
+    /// The records of a node's path behind the first `n` where they are in the tree, if there are any and they are of one row.
+    fn slice(&self, from: Option<usize>, n: usize) -> Option<&[Entry]>
         requires present { IsIn (mark_tree self.now) from }
         requires within { n ≤ depth_in (mark_tree self.now) from }
         ensures { IfSome result (λ records. records.now ≡ drop n (path_in (mark_tree self.now) from)) }
@@ -146,12 +170,12 @@ impl Tree {
         Some(last - above)
     }
 
-    /// The records of a node's path behind the first `n`.
+    /// A copy of the records of a node's path behind the first `n`.
     ///
     /// # Errors
     ///
     /// If memory was refused for them, so not if there are none.
-    pub(crate) fn records(
+    fn records(
         &self,
         alloc: Global,
         from: Option<usize>,

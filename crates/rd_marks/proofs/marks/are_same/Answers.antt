@@ -20,14 +20,14 @@ returns-then-eq-clause-answer c =
     decided_by_node (mark_tree c.args.tree.now) c.args.tree.now.kept.tree c.args.one c.args.other c.requires.one c.requires.other c.common-common.result
     c.eq-then-eq.result c.eq-then-eq.ensures c.common-common.ensures.first c.common-common.ensures.second meets
 
-pub records-requires-clause-within : goal.records-requires-clause-within
-records-requires-clause-within c =
+pub path_behind-requires-clause-within : goal.path_behind-requires-clause-within
+path_behind-requires-clause-within c =
     let t = mark_tree c.args.tree.now in
     let short = common_depth t c.args.tree.now.kept.tree c.common-common.result c.args.one c.common-common.ensures.present c.requires.one c.common-common.ensures.first in
     omega (arith, short, c.depth-shared.ensures)
 
-pub records-requires-2-clause-within : goal.records-requires-2-clause-within
-records-requires-2-clause-within c =
+pub path_behind-requires-2-clause-within : goal.path_behind-requires-2-clause-within
+path_behind-requires-2-clause-within c =
     let t = mark_tree c.args.tree.now in
     let short = common_depth t c.args.tree.now.kept.tree c.common-common.result c.args.other c.common-common.ensures.present c.requires.other c.common-common.ensures.second in
     omega (arith, short, c.depth-shared.ensures)

@@ -24,68 +24,14 @@ follow-beginning-requires-clause-begins g c =
     (stands c.args.session.now (mark_tree c.args.tree.now) c.args.tree.now.kept.tree c.args.here c.ancestor-stands.result c.len.result c.len.ensures.count c.requires.here c.ancestor-stands.ensures.present
     c.ancestor-stands.ensures.begins c.ancestor-stands.ensures.depth)
 
-pub slice-requires-clause-within : goal.slice-requires-clause-within
-slice-requires-clause-within g c =
+pub path_behind-requires-clause-within : goal.path_behind-requires-clause-within
+path_behind-requires-clause-within g c =
     let t = mark_tree c.args.tree.now in
     let short = common_depth t c.args.tree.now.kept.tree c.common.result c.args.node c.common.ensures.present c.requires.present c.common.ensures.second in
     omega (arith, short, c.depth-common.ensures)
 
 pub switch-requires : goal.switch-requires
 switch-requires g c =
-    let t = mark_tree c.args.tree.now in
-    let rule = c.args.tree.now.kept.tree in
-    let node = c.args.node in
-    let n = c.depth-common.result in
-    let ys = path_in t node in
-    let given = c.in-Some.ensures in
-    let first = common_depth t rule c.common.result c.follow-beginning.result c.common.ensures.present c.follow-beginning.ensures.present c.common.ensures.first in
-    let second = common_depth t rule c.common.result node c.common.ensures.present c.requires.present c.common.ensures.second in
-    let long = path_length t rule node c.requires.present in
-    let live_run = subst (λ (xs : List Entry). IsRunFrom g.row.R (state c.args.session.now).start xs) c.live.ensures.records c.live.ensures.run in
-    let same =
-    common_live t rule c.follow-beginning.result c.common.result node n (events c.live.result) (state c.args.session.now).live c.live.ensures.events c.depth-common.ensures
-    c.follow-beginning.ensures.present c.common.ensures.present c.requires.present c.common.ensures.first c.common.ensures.second c.follow-beginning.ensures.begins in (
-      lit< tt,
-      (
-        omega (arith, first, c.depth-common.ensures, c.follow-beginning.ensures.within, ap length c.live.ensures.records),
-        (
-          few_enough n c.in-Some.records.now ys given (omega (arith, second, long, c.depth-common.ensures)) c.requires.run.few,
-          may_switch g.row.R (journal c.args.session.now) n c.in-Some.records.now ys given live_run c.requires.run same,
-        ),
-      ),
-    )
-
-pub returns-in-Some-clause-ok : goal.returns-in-Some-clause-ok
-returns-in-Some-clause-ok g c =
-    let t = mark_tree c.args.tree.now in
-    let rule = c.args.tree.now.kept.tree in
-    let node = c.args.node in
-    let n = c.depth-common.result in
-    let same =
-    common_live t rule c.follow-beginning.result c.common.result node n (events c.live.result) (state c.args.session.now).live c.live.ensures.events c.depth-common.ensures
-    c.follow-beginning.ensures.present c.common.ensures.present c.requires.present c.common.ensures.first c.common.ensures.second c.follow-beginning.ensures.begins in
-    switched c.switch.result (state c.args.session.now) (state c.switch.new.self) n c.in-Some.records.now (path_in t node) (c.in-Some.ensures) same c.switch.ensures.ok
-
-pub returns-in-Some-clause-succeeds : goal.returns-in-Some-clause-succeeds
-returns-in-Some-clause-succeeds g c = λ h.
-    let t = mark_tree c.args.tree.now in
-    let rule = c.args.tree.now.kept.tree in
-    let here : Begins (events (path_in t c.args.node)) (events c.live.result) =
-    subst (λ (es : List Event). Begins (events (path_in t c.args.node)) es) (sym c.live.ensures.events) h in
-    let meets =
-    c.common.ensures.second_begins (reached t rule c.follow-beginning.result c.args.node c.live.result c.follow-beginning.ensures.present c.requires.present
-    c.follow-beginning.ensures.begins c.follow-beginning.ensures.deepest here) in
-    let all : depth_in t c.args.node ≡ c.depth-common.result = ap (depth_in t) (sym meets) ∙ sym c.depth-common.ensures in
-    c.switch.ensures.succeeds (none_behind t rule c.args.node c.depth-common.result c.in-Some.records.now c.requires.present all (c.in-Some.ensures))
-
-pub records-requires-clause-within : goal.records-requires-clause-within
-records-requires-clause-within g c =
-    let t = mark_tree c.args.tree.now in
-    let short = common_depth t c.args.tree.now.kept.tree c.common.result c.args.node c.common.ensures.present c.requires.present c.common.ensures.second in
-    omega (arith, short, c.depth-common.ensures)
-
-pub switch-requires-in-Ok : goal.switch-requires-in-Ok
-switch-requires-in-Ok g c =
     let t = mark_tree c.args.tree.now in
     let rule = c.args.tree.now.kept.tree in
     let node = c.args.node in
@@ -130,7 +76,7 @@ returns-in-Ok-clause-ok g c =
     let same =
     common_live t rule c.follow-beginning.result c.common.result node n (events c.live.result) (state c.args.session.now).live c.live.ensures.events c.depth-common.ensures
     c.follow-beginning.ensures.present c.common.ensures.present c.requires.present c.common.ensures.first c.common.ensures.second c.follow-beginning.ensures.begins in
-    switched c.switch-in-Ok.result (state c.args.session.now) (state c.switch-in-Ok.new.self) n c.deref.result.now (path_in t node) (c.deref.ensures.value ∙ c.in-Ok.ensures.ok) same c.switch-in-Ok.ensures.ok
+    switched c.switch.result (state c.args.session.now) (state c.switch.new.self) n c.deref.result.now (path_in t node) (c.deref.ensures.value ∙ c.in-Ok.ensures.ok) same c.switch.ensures.ok
 
 pub returns-in-Ok-clause-succeeds : goal.returns-in-Ok-clause-succeeds
 returns-in-Ok-clause-succeeds g c = λ h.
@@ -142,4 +88,4 @@ returns-in-Ok-clause-succeeds g c = λ h.
     c.common.ensures.second_begins (reached t rule c.follow-beginning.result c.args.node c.live.result c.follow-beginning.ensures.present c.requires.present
     c.follow-beginning.ensures.begins c.follow-beginning.ensures.deepest here) in
     let all : depth_in t c.args.node ≡ c.depth-common.result = ap (depth_in t) (sym meets) ∙ sym c.depth-common.ensures in
-    c.switch-in-Ok.ensures.succeeds (none_behind t rule c.args.node c.depth-common.result c.deref.result.now c.requires.present all (c.deref.ensures.value ∙ c.in-Ok.ensures.ok))
+    c.switch.ensures.succeeds (none_behind t rule c.args.node c.depth-common.result c.deref.result.now c.requires.present all (c.deref.ensures.value ∙ c.in-Ok.ensures.ok))
