@@ -2,13 +2,14 @@
 
 ghost use Rattle.std.specs.Prelude.{◌≡◌, ◌≤◌, IfOk, IfErr, length, map, vec_len, true, false};
 ghost use Rattle.std.specs.Process.{exit_status};
+ghost use Rattle.clap.specs.declared.error.kind.ErrorKind.TheVariants.{InvalidValue};
 ghost use Rattle.rd_trace.specs.Traces.{ring_length};
 ghost use Rattle.rd_trace.specs.Devices.{devices};
 ghost use Rattle.rd_program.specs.declared.faults.ProgramFault.TheVariants.{Read};
 ghost use Rattle.rd_program.specs.Endings.{asks_for_output};
 ghost use Rattle.rd_program.specs.Program.{IsUnread};
 ghost use Rattle.rd_program.specs.Viewers.{by_ring};
-ghost use Rattle.rd_command_line.specs.Options.{AreInRange, MOST_FILES};
+ghost use Rattle.rd_command_line.specs.Options.{AreInRange, IsMistake, MOST_FILES};
 ghost use Rattle.rd_command_line.specs.Answering.{Answers, DoesOptions, HasOutcome, IsFaultOf, LoadsFile, Performs, PlaysFile, PlaysNamed, ViewsFiles};
 
 use super::command_line::{not_text, options};
@@ -248,7 +249,9 @@ fn opened<R: Files>(rt: &R, name: &str) -> Result<R::File, ProgramFault>
 /// # Errors
 ///
 /// `NoMemory` if memory was refused; else `Refused`, since a word is no text.
-pub fn words_of<R: Env + Alloc<A = Global>>(rt: &R) -> Result<Vec<String>, ProgramFault> {
+pub fn words_of<R: Env + Alloc<A = Global>>(rt: &R) -> Result<Vec<String>, ProgramFault>
+    ensures err { IfErr result (λ fault. (reason : OptionsFault) × IsMistake InvalidValue reason × IsFaultOf reason fault) }
+{
     let alloc = rt.alloc();
     match env::args(rt) {
         Ok(words) => words.collect(alloc).map_err(|_| ProgramFault::NoMemory),
