@@ -6,7 +6,7 @@ ghost use Rattle.rd_cell.specs.declared.operations.Answer.TheVariants.{Won, Lost
 
 use super::contents::Content;
 use super::operations::{Answer, Operation};
-use super::places::{Place, SegName, Wrote};
+use super::places::{Place, Wrote};
 
 /// The one access of a step.
 #[derive(Clone, Copy, Debug, PartialEq, Eq)]

@@ -1,7 +1,5 @@
 //! What a place has in it.
 
-ghost use Rattle.std.specs.Prelude.{◌≡◌};
-
 use super::cells::Cell;
 use super::places::SegName;
 

@@ -1,16 +1,14 @@
 -- What was done with the scripts in files, for options and for words.
-use Rattle.std.proofs.Common.{◌≡◌, Bool, false, ℕ, List, length, map, Option, Result, Ok, Err, Vec, inl, inr, refl, subst, sym}
+use Rattle.std.proofs.Common.{◌≡◌, Bool, ℕ, List, map, Result, Ok, Err, Vec, inr, refl, subst, sym}
 use Rattle.std.specs.Prelude.{IsErrAnd}
 use Rattle.std.specs.Global.{Global}
-use Rattle.std.proofs.KnownBytes.{Keeps-refl}
 use Rattle.clap.specs.Walk.{Text}
 use Rattle.rd_script.specs.Script.{Devices}
-use Rattle.rd_trace.specs.declared.rings.Ring.{Ring}
 use Rattle.rd_program.specs.declared.faults.ProgramFault.{ProgramFault}
-use Rattle.rd_program.specs.Program.{IsUnread, PlaysScript, TouchesNothing}
-use Rattle.rd_program.specs.Viewers.{Tellings, ViewsFresh}
+use Rattle.rd_program.specs.Program.{PlaysScript, TouchesNothing}
+use Rattle.rd_program.specs.Viewers.{Tellings}
 use Rattle.rd_program.proofs.ProgramLemmas.{fault_passed_up}
-use Rattle.rd_command_line.specs.Answering.{Answers, HasOutcome, PlaysFile, ViewsFiles}
+use Rattle.rd_command_line.specs.Answering.{Answers, HasOutcome, PlaysFile}
 
 -- the script in a file was played
 pub plays_file : (R actors : ℕ) (traced : Bool) (d : Devices) (r : Result ℕ ProgramFault) → PlaysScript R actors traced d r → PlaysFile R actors traced d.out_before d.out_after d.out_failed r

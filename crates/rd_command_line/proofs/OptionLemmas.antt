@@ -1,17 +1,16 @@
 -- What clap's errors are to the program, and that the program's command is one of which clap's clauses are exact.
-use Rattle.std.proofs.Common.{◌≡◌, ◌∙◌, inl, inr, refl, sym, subst, ap, true, List, [], Option, Some, None}
+use Rattle.std.proofs.Common.{◌≡◌, ◌∙◌, inl, inr, refl, sym, subst, ap, true, List, []}
 use Rattle.clap.specs.Simple.{App, HasMatchesOf, is_simple, subcommand_rows_of, with_subcommand}
 use Rattle.clap.specs.Kinds.{HasKind}
 use Rattle.clap.specs.Faults.{fault_of, is_simple_and_free}
 use Rattle.clap.specs.Values.{kind_of}
-use Rattle.clap.specs.Walk.{Row, Text}
+use Rattle.clap.specs.Walk.{Text}
 use Rattle.clap.specs.declared.error.Error.{Error}
 use Rattle.clap.specs.declared.error.kind.ErrorKind.{ErrorKind}
 use Rattle.clap.specs.declared.error.kind.ErrorKind.TheVariants as kind
 use Rattle.clap.specs.declared.parser.matches.ArgMatches.{ArgMatches}
 use Rattle.rd_command_line.specs.declared.requests.Options.{Options}
-use Rattle.rd_command_line.specs.declared.requests.Options.TheVariants.{Run, View, Load}
-use Rattle.rd_command_line.specs.Options.{AreInRange, HasFewFiles, fault_by, options_fault}
+use Rattle.rd_command_line.specs.Options.{fault_by, options_fault}
 use Rattle.rd_command_line.specs.CommandLine.{AreRings, BothNames, EndsFor, HasFault, Reads, Tells, TellsNothing, is_request, program_app}
 
 -- clap's clauses on matches are exact of the program's command

@@ -7,21 +7,21 @@ use Rattle.rd_step.specs.declared.entries.Entry.{Entry}
 use Rattle.rd_depend.specs.declared.index.keys.Key.{Key}
 use Rattle.rd_depend.specs.declared.last_writers.Reached.{Reached}
 use Rattle.rd_depend.specs.Equivalence.{DecidesEquivalence}
-use Rattle.rd_depend.specs.LastWriters.{Placed, placed, by_actor, nothing_reached, moved, with_steps, KeepsOrder}
+use Rattle.rd_depend.specs.LastWriters.{Placed, enumerated, by_actor, nothing_reached, moved, with_steps, KeepsOrder}
 use Rattle.rd_depend.specs.ComparedSteps.{GoesOn, StandsElsewhere}
 use Rattle.rd_depend.proofs.KeepingOrder.{kept_taken, taken_kept}
 use Rattle.rd_depend.proofs.RunsAgree.{taken_equivalent, untaken_different}
 
 -- the steps of the first run keep the order of the second
 abbrev pub KeepsOrderOf : List Entry → List Entry → Type 0
-KeepsOrderOf a b = KeepsOrder nothing_reached a (λ n. by_actor n (placed 1 b))
+KeepsOrderOf a b = KeepsOrder nothing_reached a (λ n. by_actor n (enumerated 1 b))
 
 -- they do exactly where those from the k-th on keep the order of what is left
 abbrev pub IsLeftToCompare : List Entry → List Entry → ℕ → (Key → Reached) → (ℕ → List Placed) → Type 0
 IsLeftToCompare a b k s left = KeepsOrderOf a b ↔ KeepsOrder s (drop k a) left
 
 pub left_at_first : (a b : List Entry) (s : Key → Reached) (left : ℕ → List Placed) → ((k : Key) → s k ≡ nothing_reached k)
-    → ((n : ℕ) → left n ≡ by_actor n (placed 1 b)) → IsLeftToCompare a b 0 s left
+    → ((n : ℕ) → left n ≡ by_actor n (enumerated 1 b)) → IsLeftToCompare a b 0 s left
 left_at_first a b s left none all = (
   λ h. subst (λ (t : Key → Reached). KeepsOrder t a left) (λ i k. sym (none k) i)
       (subst (λ (l : ℕ → List Placed). KeepsOrder nothing_reached a l) (λ i n. sym (all n) i) h),

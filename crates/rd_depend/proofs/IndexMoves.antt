@@ -3,11 +3,11 @@ use Rattle.std.proofs.Common.{◌≡◌, ℕ, zero, suc, ◌+◌, ◌-◌, ◌�
 use Rattle.std.proofs.Math.ListN.{drop_of_length-le}
 use Rattle.std.proofs.lemmas.List.{length-take-le, take_all, take-append-drop, drop-drop}
 use Rattle.rd_step.specs.declared.entries.Entry.{Entry}
-use Rattle.rd_step.specs.Dependence.{numbered}
+use Rattle.rd_step.specs.Dependence.{numbered, without}
 use Rattle.rd_depend.specs.declared.index.DependIndex.{DependIndex}
 use Rattle.rd_depend.specs.Lists.{IsMoved, with_first}
 use Rattle.rd_depend.specs.Moved.{moved_behind}
-use Rattle.rd_depend.specs.Index.{positions_from, positions, number_of, touches, kept, IsIndexOf, HasRoomFor, MovesAll, without_entry}
+use Rattle.rd_depend.specs.Index.{positions_from, positions, number_of, touches, kept, IsIndexOf, HasRoomFor, MovesAll}
 use Rattle.rd_depend.proofs.IndexPositions.{positions-ascend, ascending, positions-within, positions-append, positions-lower, number-append}
 use Rattle.rd_depend.proofs.IndexChanges.{drop_one}
 use Rattle.rd_depend.proofs.IndexLists.{ascends_lower}
@@ -115,11 +115,11 @@ moved_room old new k n some order within moves es is rest has = record {
 }
 
 -- moved behind all others
-pub moved_last : (es : List Entry) (k n : ℕ) (x : Entry) → n ≡ length es → numbered es k ≡ Some x → moved_behind es k n ≡ without_entry es k ++ x ∷ []
+pub moved_last : (es : List Entry) (k n : ℕ) (x : Entry) → n ≡ length es → numbered es k ≡ Some x → moved_behind es k n ≡ without es k ++ x ∷ []
 moved_last es zero n x all h = absurd cc
 moved_last es (suc i) n x all h =
     let whole : take n es ≡ es = take_all n es (omega arith) in
     let none : drop n es ≡ [] = drop_of_length-le es (omega arith) in
     let at : suc i - 1 ≡ i = omega arith in
     (λ j. (take (suc i - 1) (whole j) ++ drop (suc i) (whole j)) ++ (take 1 (drop (at j) (whole j)) ++ none j))
-    ∙ ap (λ (l : List Entry). without_entry es (suc i) ++ (take 1 l ++ [])) (drop_one es i x h)
+    ∙ ap (λ (l : List Entry). without es (suc i) ++ (take 1 l ++ [])) (drop_one es i x h)

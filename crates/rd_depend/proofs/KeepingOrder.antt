@@ -7,7 +7,7 @@ use Rattle.rd_step.specs.declared.entries.Entry.{Entry}
 use Rattle.rd_depend.specs.declared.index.keys.Key.{Key}
 use Rattle.rd_depend.specs.declared.last_writers.Reached.{Reached}
 use Rattle.rd_depend.specs.Keys.{is_under}
-use Rattle.rd_depend.specs.LastWriters.{wrote_under, bound, passed, nothing_reached, moved, IsInOrder, AreAlike, Placed, placed, by_actor, with_steps, KeepsOrder}
+use Rattle.rd_depend.specs.LastWriters.{wrote_under, bound, passed, nothing_reached, moved, IsInOrder, AreAlike, Placed, enumerated, by_actor, with_steps, KeepsOrder}
 use Rattle.rd_depend.proofs.FirstOfActor.{HasNoneBy}
 use Rattle.rd_depend.proofs.TouchedKeys.{wrote_touched}
 use Rattle.rd_depend.proofs.TakingOut.{alike-sym, touched-alike, wrote-alike, AreApart, IsApartFrom, TakesAll}
@@ -134,17 +134,17 @@ around (r ∷ ps) p qs h =
       rest = (each-append (λ q. r.0 < q.0) ps qs (each-first (λ q. r.0 < q.0) ps (p ∷ qs) h.0) its.1, a.rest);
     }
 
-placed-behind : (P : ℕ → Type 0) (i : ℕ) (xs : List Entry) → ((j : ℕ) → i ≤ j → P j) → Each (λ q. P q.0) (placed i xs)
-placed-behind P i [] h = tt
-placed-behind P i (x ∷ xs) h = (h i (omega arith), placed-behind P (suc i) xs (λ j l. h j (omega arith)))
+enumerated-behind : (P : ℕ → Type 0) (i : ℕ) (xs : List Entry) → ((j : ℕ) → i ≤ j → P j) → Each (λ q. P q.0) (enumerated i xs)
+enumerated-behind P i [] h = tt
+enumerated-behind P i (x ∷ xs) h = (h i (omega arith), enumerated-behind P (suc i) xs (λ j l. h j (omega arith)))
 
-placed-ascends : (i : ℕ) (xs : List Entry) → Ascends (placed i xs)
-placed-ascends i [] = tt
-placed-ascends i (x ∷ xs) = (placed-behind (λ j. i < j) (suc i) xs (λ j l. omega arith), placed-ascends (suc i) xs)
+enumerated-ascends : (i : ℕ) (xs : List Entry) → Ascends (enumerated i xs)
+enumerated-ascends i [] = tt
+enumerated-ascends i (x ∷ xs) = (enumerated-behind (λ j. i < j) (suc i) xs (λ j l. omega arith), enumerated-ascends (suc i) xs)
 
-entries-placed : (i : ℕ) (xs : List Entry) → entries_of (placed i xs) ≡ xs
-entries-placed i [] = refl
-entries-placed i (x ∷ xs) = ap (λ (l : List Entry). x ∷ l) (entries-placed (suc i) xs)
+entries-enumerated : (i : ℕ) (xs : List Entry) → entries_of (enumerated i xs) ≡ xs
+entries-enumerated i [] = refl
+entries-enumerated i (x ∷ xs) = ap (λ (l : List Entry). x ∷ l) (entries-enumerated (suc i) xs)
 
 -- The steps of one actor
 
@@ -282,9 +282,9 @@ kept s (x ∷ xs) ps ascends h =
     (kept (moved s x p.0) xs (f.earlier ++ f.later) (around f.earlier p f.later asc).rest
     (subst (λ (l : ℕ → List Placed). KeepsOrder (moved s x p.0) xs l) (λ i m. left m i) h.3)))
 
-pub kept_taken : (xs ys : List Entry) → KeepsOrder nothing_reached xs (λ n. by_actor n (placed 1 ys)) → TakesAll xs ys
+pub kept_taken : (xs ys : List Entry) → KeepsOrder nothing_reached xs (λ n. by_actor n (enumerated 1 ys)) → TakesAll xs ys
 kept_taken xs ys h =
-    subst (λ (l : List Entry). TakesAll xs l) (entries-placed 1 ys) (kept nothing_reached xs (placed 1 ys) (placed-ascends 1 ys) h).taken
+    subst (λ (l : List Entry). TakesAll xs l) (entries-enumerated 1 ys) (kept nothing_reached xs (enumerated 1 ys) (enumerated-ascends 1 ys) h).taken
 
 -- and where they may be taken out they keep the order
 
@@ -366,7 +366,7 @@ at_first false k i h = omega arith
 all_at_first : (ps : List Placed) → Each (λ p. 1 ≤ p.0) ps → AreInOrder nothing_reached ps
 all_at_first ps h = each-more _ _ ps (λ p behind k touched. at_first (wrote_under k p.1.place p.1.wrote) k p.0 behind) h
 
-pub taken_kept : (xs ys : List Entry) → TakesAll xs ys → KeepsOrder nothing_reached xs (λ n. by_actor n (placed 1 ys))
+pub taken_kept : (xs ys : List Entry) → TakesAll xs ys → KeepsOrder nothing_reached xs (λ n. by_actor n (enumerated 1 ys))
 taken_kept xs ys h =
-    taken nothing_reached xs (placed 1 ys) (placed-ascends 1 ys) (all_at_first (placed 1 ys) (placed-behind (λ j. 1 ≤ j) 1 ys (λ j l. l)))
-    (subst (λ (l : List Entry). TakesAll xs l) (sym (entries-placed 1 ys)) h)
+    taken nothing_reached xs (enumerated 1 ys) (enumerated-ascends 1 ys) (all_at_first (enumerated 1 ys) (enumerated-behind (λ j. 1 ≤ j) 1 ys (λ j l. l)))
+    (subst (λ (l : List Entry). TakesAll xs l) (sym (entries-enumerated 1 ys)) h)

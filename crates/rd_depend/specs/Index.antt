@@ -1,6 +1,6 @@
 -- What an index keeps: of the entries of a list, the positions of those that touch an actor, a place or a segment, and of those
 -- that wrote a place or one of a segment.
-use Rattle.std.specs.Prelude.{◌≡◌, ℕ, ◌+◌, ◌-◌, ◌≤◌, Bool, true, false, ◌==◌, not, if◌then◌else◌, List, [], ◌∷◌, ◌++◌, length, take, drop, Option, Some, ◌<◌}
+use Rattle.std.specs.Prelude.{◌≡◌, ℕ, ◌+◌, ◌-◌, ◌≤◌, Bool, true, false, ◌==◌, not, if◌then◌else◌, List, [], ◌∷◌, ◌++◌, length, take, Option, Some, ◌<◌}
 use Rattle.rd_step.specs.Prelude.{Place, Wrote, WrotePlace, is_nothing, written}
 use Rattle.rd_step.specs.declared.entries.Entry.{Entry}
 use Rattle.rd_step.specs.Dependence.{numbered}
@@ -104,10 +104,6 @@ pub record Drops (x : Entry) (old new : DependIndex) : Type 0 where
   pub lists : (t : Touch) → kept new t ≡ (if touches t x then take (length (kept old t) - 1) (kept old t) else kept old t)
   pub room : (t : Touch) → spare new t ≡ spare old t + one_if (touches t x)
   pub len : new.len + 1 ≡ old.len
-
--- the entries with that at position k taken out, counted from 1
-abbrev pub without_entry : List Entry → ℕ → List Entry
-without_entry entries k = take (k - 1) entries ++ drop k entries
 
 -- how many positions it can have there before it has to grow
 abbrev pub capacity : DependIndex → Touch → ℕ

@@ -62,14 +62,14 @@ pub record AreAlike (x y : Entry) : Type 0 where
   pub place : x.place ≡ y.place
   pub wrote : x.wrote ≡ y.wrote
 
--- a step with its place in its run
+-- a step with its number in its run
 abbrev pub Placed : Type 0
 Placed = ℕ × Entry
 
--- these steps with their places, the first one's being i
-abbrev pub placed : ℕ → List Entry → List Placed
-placed i [] = []
-placed i (x ∷ xs) = (i, x) ∷ placed (suc i) xs
+-- these steps with their numbers in their run, from i on
+abbrev pub enumerated : ℕ → List Entry → List Placed
+enumerated i [] = []
+enumerated i (x ∷ xs) = (i, x) ∷ enumerated (suc i) xs
 
 -- those of one actor
 abbrev pub by_actor : ℕ → List Placed → List Placed

@@ -5,9 +5,9 @@
 
 ghost use Rattle.std.specs.Prelude.{◌≡◌, ◌+◌, ◌-◌, ◌<◌, ◌≤◌, ◌^◌, ◌++◌, ◌∷◌, [], length, take, drop, List, Some, IsOk, OnOk, OnErr};
 ghost use Rattle.rd_step.specs.declared.entries.Entry.{Entry as Record};
-ghost use Rattle.rd_step.specs.Dependence.{numbered};
+ghost use Rattle.rd_step.specs.Dependence.{numbered, without};
 ghost use Rattle.rd_step.specs.Prelude.{first_dependant, depends_on_one};
-ghost use Rattle.rd_depend.specs.Index.{IsIndexOf, IsIndex, IsHeld, IsLast, HasRoomFor, without_entry};
+ghost use Rattle.rd_depend.specs.Index.{IsIndexOf, IsIndex, IsHeld, IsLast, HasRoomFor};
 ghost use Rattle.rd_depend.specs.Moved.{moved_behind};
 ghost use Rattle.rd_depend.specs.Writers.{last_position, writes_to};
 
@@ -91,7 +91,7 @@ impl DependIndex {
     pub fn remove(&mut self, k: u64, entry: &Entry)
         requires held { IsHeld self.old k entry.now }
         requires few { self.old.len ≤ MOST_STEPS }
-        ensures left { (es : List Record) → IsIndexOf self.old es → numbered es k ≡ Some entry.now → IsIndexOf self.new (without_entry es k) }
+        ensures left { (es : List Record) → IsIndexOf self.old es → numbered es k ≡ Some entry.now → IsIndexOf self.new (without es k) }
         ensures room { (rest : List Record) → HasRoomFor self.old rest → HasRoomFor self.new (entry.now ∷ rest) }
     {
         self.move_behind(k, self.len());

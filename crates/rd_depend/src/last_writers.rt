@@ -5,9 +5,9 @@
 //! those reached that touched it and those that wrote it: a step that writes has to stand behind both there, and one that only reads behind
 //! those that wrote. A making counts as a write of its segment, and each step at a place of the segment as a read of it.
 
-ghost use Rattle.std.specs.Prelude.{◌≡◌, ◌↔◌, ◌<◌, ◌∷◌, [], ℕ, length, List, Some, None, IsTrue, IfOk, OnOk, MatchOption};
+ghost use Rattle.std.specs.Prelude.{◌≡◌, ◌↔◌, ◌<◌, [], ℕ, length, Some, None, IsTrue, IfOk, OnOk, MatchOption};
 ghost use Rattle.rd_depend.specs.declared.index.keys.Key.{Key as KeyOf};
-ghost use Rattle.rd_depend.specs.LastWriters.{AreAlike, IsBehind, IsInOrder, bound, by_actor, is_making, moved, moved_under, nothing_reached, passed, placed, with_first};
+ghost use Rattle.rd_depend.specs.LastWriters.{AreAlike, IsBehind, IsInOrder, bound, by_actor, is_making, moved, moved_under, nothing_reached, passed, enumerated, with_first};
 ghost use Rattle.rd_depend.specs.ComparedSteps.{left_of, reached_of};
 ghost use Rattle.rd_depend.specs.Lists.{list_at};
 
@@ -130,7 +130,7 @@ impl<'a> StepsByActor<'a> {
     ///
     /// If memory was refused.
     pub(crate) fn of(alloc: Global, entries: &'a [Entry]) -> Result<StepsByActor<'a>, AllocError>
-        ensures { IfOk result (λ steps. (n : ℕ) → left_of steps n ≡ by_actor n (placed 1 entries.entry.now)) }
+        ensures { IfOk result (λ steps. (n : ℕ) → left_of steps n ≡ by_actor n (enumerated 1 entries.entry.now)) }
     {
         let mut steps = StepsByActor {
             steps: empty_lists(alloc)?,

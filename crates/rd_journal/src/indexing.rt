@@ -4,7 +4,7 @@
 //! positions behind the first ones that stay away and puts the new ones in. Room that positions had is kept, so those that were taken
 //! away can always be put back.
 
-ghost use Rattle.std.specs.Prelude.{◌≡◌, ◌++◌, ◌+◌, ◌<◌, ◌≤◌, [], List, ◌∷◌, OnOk, OnErr, length, take, drop};
+ghost use Rattle.std.specs.Prelude.{◌++◌, ◌+◌, ◌<◌, ◌≤◌, [], List, ◌∷◌, OnOk, OnErr, length, take, drop};
 ghost use Rattle.rd_step.specs.declared.entries.Entry.{Entry as Record};
 ghost use Rattle.rd_step.specs.Prelude.{MOST_STEPS};
 ghost use Rattle.rd_depend.specs.Index.{IsIndexOf, HasRoomFor};

@@ -1,5 +1,5 @@
 //! Seats that are split and joined: at the opening, at a meeting, at the end.
-ghost use Rattle.std.specs.Prelude.{◌≡◌, ◌<◌, ◌≤◌, [], IfSome, IfNone, vec_len, vec_capacity};
+ghost use Rattle.std.specs.Prelude.{◌≡◌, ◌<◌, ◌≤◌, [], IfSome, IfNone, vec_capacity};
 ghost use Rattle.rd_lock.specs.Histories.{Every};
 ghost use Rattle.rd_lock.specs.Rule.{newcomers, opening_view, view_of};
 ghost use Rattle.rd_lock.specs.Opening.{people_of, IsSeatOf};

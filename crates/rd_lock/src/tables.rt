@@ -1,5 +1,5 @@
 //! The memory of a lock: laid out with the value in the slot, and given back.
-ghost use Rattle.std.specs.Prelude.{◌≡◌, ◌<◌, ◌≤◌, ◌^◌, [], ◌∷◌, IfOk, IfErr, IsOk, Some, slice_index, map, ◌≢◌};
+ghost use Rattle.std.specs.Prelude.{◌≡◌, ◌<◌, ◌≤◌, ◌^◌, [], IfOk, IfErr, IsOk, Some, slice_index, map, ◌≢◌};
 ghost use Rattle.std.specs.Mem.Slots.{slots_items, slots_len, IsFull};
 ghost use Rattle.rd_lock.specs.Rule.{opening_view};
 ghost use Rattle.rd_lock.specs.Opening.{IsLeft, KnowsUpTo};

@@ -1,7 +1,6 @@
 //! The tickets: draw, wait, hold, release.
-ghost use Rattle.std.specs.Prelude.{◌≡◌, ◌≢◌, ℕ, ◌^◌, ◌<◌, ◌≤◌, IfOk, IfErr, OnOk, OnErr, MatchResult};
-ghost use Rattle.rd_lock.specs.Histories.{Adds};
-ghost use Rattle.rd_lock.specs.Locks.{number, seen, own, next_seen, served_seen, seats, root, IsOut, IsWaiting, IsPassOf, IsSamePass, IsTaken, IsMissed, IsDue, HasPut};
+ghost use Rattle.std.specs.Prelude.{◌≡◌, ◌^◌, ◌<◌, IfOk, IfErr, OnOk, OnErr};
+ghost use Rattle.rd_lock.specs.Locks.{own, next_seen, seats, IsOut, IsWaiting, IsPassOf, IsSamePass, IsTaken, IsMissed, IsDue, HasPut};
 
 use super::locks::TicketLock;
 use super::passes::Pass;

@@ -12,9 +12,9 @@ mod moves;
 mod obeying;
 mod queries;
 
-ghost use Rattle.std.specs.Prelude.{◌≡◌, ◌⊎◌, [], length, Ok, Err, OnOk, OnErr, IfOk, IfErr, IsOk};
+ghost use Rattle.std.specs.Prelude.{◌≡◌, ◌⊎◌, [], length, Ok, Err, OnOk, OnErr, IfErr, IsOk};
 ghost use Rattle.rd_cell.specs.declared.refusal.Refusal.TheVariants.{NoMemory};
-ghost use Rattle.rd_journal.specs.Sessions.{state, track, journal};
+ghost use Rattle.rd_journal.specs.Sessions.{state, track};
 ghost use Rattle.rd_marks.specs.Layout.{KeepsMarks, IsHere};
 ghost use Rattle.rd_marks.specs.TreeViews.{mark_tree};
 

@@ -1,12 +1,12 @@
 //! The bookmarks by name, each with its node, which nodes they use, and where the session's track lies.
 
-ghost use Rattle.std.specs.Prelude.{◌≡◌, ◌<◌, ◌↔◌, ◌++◌, [], ◌∷◌, ℕ, None, Some, false, min, length, is_some, IsTrue, IsOk, IfOk, OnOk, IfErr, OnErr};
+ghost use Rattle.std.specs.Prelude.{◌≡◌, ◌<◌, ◌↔◌, ◌++◌, [], ◌∷◌, None, Some, false, min, length, is_some, IsTrue, IsOk, IfOk, OnOk, IfErr, OnErr};
 ghost use Rattle.std.specs.List.{All};
 ghost use Rattle.rd_depend.specs.Beginnings.{Begins, IsBegunByNeither};
 ghost use Rattle.rd_depend.specs.Equivalence.{DecidesEquivalence};
 ghost use Rattle.rd_journal.specs.Journal.{events};
 ghost use Rattle.rd_journal.specs.Sessions.{state, track, journal};
-ghost use Rattle.rd_marks.specs.Books.{Mark, marked_events};
+ghost use Rattle.rd_marks.specs.Books.{marked_events};
 ghost use Rattle.rd_marks.specs.Layout.{IsRecordOfRun, KeepsMarks, IsHere, has_mark};
 ghost use Rattle.rd_marks.specs.Marks.{marks_of};
 ghost use Rattle.rd_marks.specs.Tree.{MarkTree, IsIn, IsPartOf, depth_in, path_in};

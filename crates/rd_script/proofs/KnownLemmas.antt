@@ -3,12 +3,6 @@ use Rattle.std.proofs.Common.{ℕ, List, [], ◌++◌, Option, Some, None, refl,
 use Rattle.std.proofs.lemmas.List.{append-nil}
 use Rattle.std.specs.Io.KnownBytes.{Keeps, Consumes, Appends}
 
--- what is kept is given nothing of
-pub Consumes-from_keeps : (a b : Option (List ℕ)) → Keeps a b → Consumes a b []
-Consumes-from_keeps None b k = tt
-Consumes-from_keeps (Some xs) None k = absurd k
-Consumes-from_keeps (Some xs) (Some ys) k = sym k
-
 -- nothing was given
 pub Consumes-nil : (a : Option (List ℕ)) → Consumes a a []
 Consumes-nil None = tt

@@ -1,6 +1,6 @@
 //! The makers' lists of a fresh space.
 
-ghost use Rattle.std.specs.Prelude.{◌≡◌, ◌≤◌, IfOk, IfErr, ℕ, suc, length};
+ghost use Rattle.std.specs.Prelude.{◌≡◌, ◌≤◌, IfOk, suc, length};
 ghost use Rattle.rd_ring.specs.Prelude.{MOST_CELLS};
 ghost use Rattle.rd_segments.specs.Lists.{IsFresh};
 

@@ -1,6 +1,6 @@
 //! The makers' lists of a space that is put together from parts, and the parts of such lists.
 
-ghost use Rattle.std.specs.Prelude.{◌≡◌, ◌≤◌, IsTrue, IfOk, IfErr, ℕ, length};
+ghost use Rattle.std.specs.Prelude.{◌≡◌, ◌≤◌, IsTrue, IfOk, length};
 ghost use Rattle.std.specs.List.{list_all};
 ghost use Rattle.rd_ring.specs.Prelude.{MOST_CELLS, SegName, Place};
 ghost use Rattle.rd_ring.specs.Segments.{counters_fit};

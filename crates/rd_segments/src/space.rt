@@ -4,8 +4,7 @@ ghost use Rattle.std.specs.Prelude.{◌≡◌, ◌≢◌, ◌+◌, ◌-◌, ◌<
 ghost use Rattle.rd_ring.specs.Prelude.{MOST_CELLS, WholeOf, content_at, may_have, operand, operate, restore, everywhere, Operates, Makes, RefusesMaking};
 ghost use Rattle.rd_cell.specs.Operations.{suits};
 ghost use Rattle.rd_segments.specs.Room.{room_used};
-ghost use Rattle.rd_segments.specs.SpaceFields.{contents_of, fresh_space};
-ghost use Rattle.rd_segments.specs.Array.{array_part};
+ghost use Rattle.rd_segments.specs.SpaceFields.{fresh_space};
 ghost use Rattle.rd_segments.specs.Parts.{each_segment, contents_of_parts};
 ghost use Rattle.rd_ring.specs.Segments.{counters_fit};
 

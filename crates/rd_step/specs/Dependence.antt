@@ -2,7 +2,6 @@
 -- our profile's), what is left if a step is taken out, and the causal closure of a step.
 use Rattle.std.specs.Prelude.{◌≡◌, ◌<◌, ◌≤◌, true, false, ℕ, zero, suc, ◌+◌, ◌-◌, Bool, nat_lt, ◌==◌, ◌||◌, if◌then◌else◌, List, [], ◌∷◌, ◌++◌, length, take, drop, Option, Some, None, slice_get}
 use Rattle.rd_ring.specs.Prelude.{interfere}
-use Rattle.rd_step.specs.declared.entries.Event.{Event}
 use Rattle.rd_step.specs.declared.entries.Entry.{Entry}
 
 -- whether two steps depend on each other: they have one actor, or there is a place that both touched and one of them wrote
@@ -29,9 +28,9 @@ abbrev pub first_dependant : List Entry → ℕ → Option ℕ
 first_dependant entries zero = None
 first_dependant entries (suc k) = first_after (slice_get entries k) (suc (suc k)) (drop (suc k) entries)
 
--- the events with that at position k taken out, counted from 1
-abbrev pub without : List Event → ℕ → List Event
-without events k = take (k - 1) events ++ drop k events
+-- the list without its element of this number, from 1
+abbrev pub without : {X : Type 0} → List X → ℕ → List X
+without xs k = take (k - 1) xs ++ drop k xs
 
 -- the element of this number, from 1, if there is one
 abbrev pub numbered : {X : Type 0} → List X → ℕ → Option X

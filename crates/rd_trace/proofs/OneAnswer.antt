@@ -6,7 +6,7 @@ use Rattle.rd_step.specs.declared.entries.Event.{Event}
 use Rattle.rd_step.specs.declared.flaws.Flaw.{Flaw}
 use Rattle.rd_journal.specs.State.{apply}
 use Rattle.rd_marks.specs.Books.{Mark}
-use Rattle.rd_marks.specs.Rules.{GoThrough, MarksGoThrough}
+use Rattle.rd_marks.specs.Rules.{GoThrough}
 use Rattle.rd_trace.specs.Starts.{start_world, start_flaw}
 use Rattle.rd_trace.specs.Saved.{Trace, IsTraceText, loaded_state, seen_mark, IsSameBook}
 use Rattle.rd_trace.specs.Traces.{session_at, IsRefusedAt, IsMarkRefusedAt}

@@ -1,6 +1,4 @@
 //! The text of a view, and views of scripts by threads.
 
-ghost use Rattle.std.specs.Prelude.{◌≤◌};
-
 mod reports;
 mod viewing;

@@ -5,7 +5,7 @@ use rd_program::ProgramFault;
 use rd_script::{ReadSource, WriteSink};
 use std::alloc::Global;
 use std::fs::Files;
-use std::process::{Abort, ExitCode};
+use std::process::ExitCode;
 use std::sync::Wait;
 use std::test::Fail;
 use std::thread::Threads;

@@ -1,6 +1,6 @@
 //! What the calls of the index do to its lists.
 
-ghost use Rattle.std.specs.Prelude.{◌≡◌, ◌+◌, ◌<◌, ◌≤◌, ◌++◌, length, take, not, true, ℕ, List, IsOk, IfOk, OnOk, OnErr};
+ghost use Rattle.std.specs.Prelude.{◌≡◌, ◌+◌, ◌<◌, ◌≤◌, ◌++◌, length, take, not, true, List, IsOk, IfOk, OnOk, OnErr};
 ghost use Rattle.rd_step.specs.declared.entries.Entry.{Entry as Record};
 ghost use Rattle.rd_cell.specs.Places.{is_nothing};
 ghost use Rattle.rd_depend.specs.Keys.{place_key, value_key, segment_key};

@@ -1,5 +1,4 @@
 //! A try is Busy while another viewer's call is under the lock.
-ghost use Rattle.rd_lock.specs.Histories.{Every};
 ghost use Rattle.rd_desk.specs.Desks.{IsViewerOf};
 
 use super::calls::fresh;
@@ -7,7 +6,6 @@ use super::threads::work_of;
 use rd_cell::Refusal;
 use rd_desk::{Desk, DeskPass, DeskRefusal, Gate, Ran, run_viewers};
 use rd_marks::{Command, Reply};
-use std::process::Abort;
 use std::sync::Wait;
 use std::sync::atomic::{AtomicBool, Ordering};
 

@@ -1,5 +1,4 @@
 //! A full history.
-ghost use Rattle.std.specs.Prelude.{◌≤◌};
 
 use super::calls::{fresh, last_pass};
 use rd_cell::Refusal;

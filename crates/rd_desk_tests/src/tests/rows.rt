@@ -1,5 +1,4 @@
 //! Worked rows, in one thread.
-ghost use Rattle.std.specs.Prelude.{◌≤◌};
 
 use super::calls::{fresh, last_pass};
 use rd_actor::Act;

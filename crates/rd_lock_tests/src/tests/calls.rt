@@ -1,5 +1,5 @@
 //! The calls that the tests make, each with what it must answer.
-ghost use Rattle.std.specs.Prelude.{◌≡◌, ℕ, ◌++◌, ◌-◌, ◌<◌, ◌∷◌, [], map};
+ghost use Rattle.std.specs.Prelude.{◌≡◌, ℕ, ◌-◌, ◌<◌, map};
 ghost use Rattle.rd_lock.specs.Histories.{Every, numbers};
 ghost use Rattle.rd_lock.specs.Locks.{number, IsHolding, IsOut, IsPassOf};
 ghost use Rattle.rd_lock.specs.Opening.{IsNewPass};

@@ -1,7 +1,6 @@
 //! A close of a free lock and of one that is held, with no pass, with some, and with all.
-ghost use Rattle.std.specs.Prelude.{◌≡◌, ◌≤◌};
 ghost use Rattle.rd_lock.specs.Histories.{Every};
-ghost use Rattle.rd_lock.specs.Locks.{number, IsOut, IsPassOf};
+ghost use Rattle.rd_lock.specs.Locks.{IsOut, IsPassOf};
 
 use super::Numbers;
 use super::calls::{has_all_in_order, last_pass, works};

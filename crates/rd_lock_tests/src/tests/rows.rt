@@ -1,6 +1,4 @@
 //! Worked rows, in one thread.
-ghost use Rattle.std.specs.Prelude.{◌≡◌};
-ghost use Rattle.rd_lock.specs.Locks.{IsOut, IsPassOf};
 
 use super::Numbers;
 use super::calls::{adds, finds, has_all_in_order, last_pass, puts, returns, stays_busy};

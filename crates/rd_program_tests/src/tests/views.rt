@@ -1,7 +1,5 @@
 //! Views: several scripts over one fresh world, of the options' actors and ring.
 
-ghost use Rattle.std.specs.Prelude.{◌≤◌, length};
-
 use rd_program::{ProgramFault, view};
 use rd_script::WriteSink;
 use rd_trace::Ring;

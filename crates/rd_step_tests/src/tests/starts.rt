@@ -1,7 +1,5 @@
 //! The tests of fresh and poised worlds, of the room for makings, and of where makings end.
 
-ghost use Rattle.std.specs.Prelude.{◌≡◌, length};
-
 use super::*;
 use rd_actor::OpReply;
 

@@ -1,6 +1,5 @@
 //! A desk that is refused memory: when it is opened, and at a call.
 
-ghost use Rattle.std.specs.Prelude.{◌≡◌, ◌≤◌};
 ghost use Rattle.rd_lock.specs.Histories.{Every};
 ghost use Rattle.rd_desk.specs.Desks.{IsNewViewer, IsViewerOf};
 

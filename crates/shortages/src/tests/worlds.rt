@@ -1,8 +1,5 @@
 //! Worlds that are refused memory while they are made, and room for makings that is refused.
 
-ghost use Rattle.std.specs.Prelude.{◌≡◌, IsSome};
-ghost use Rattle.rd_step.specs.Prelude.{model};
-
 use rd_actor::Actor;
 use rd_cell::{Cell, Place, Refusal, SegName};
 use rd_segments::ArrayParts;

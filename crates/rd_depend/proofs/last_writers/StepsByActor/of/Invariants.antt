@@ -1,5 +1,5 @@
 use Rattle.std.proofs.Common.{◌≡◌, ℕ, ◌+◌, ◌≤◌, length, drop}
-use Rattle.rd_depend.specs.LastWriters.{by_actor, placed}
+use Rattle.rd_depend.specs.LastWriters.{by_actor, enumerated}
 use Rattle.rd_depend.specs.ComparedSteps.{left_of}
 use Rattle.rd_depend.proofs.last_writers.StepsByActor.of.Given as goal
 
@@ -7,7 +7,7 @@ abbrev pub invariant-loop-index : goal.invariant-loop-index
 invariant-loop-index l = record {
   number : length l.steps.steps.items ≡ 256;
   within : l.index ≤ length l.entries;
-  left : (n : ℕ) → left_of l.steps n ≡ by_actor n (placed (l.index + 1) (drop l.index l.entries));
+  left : (n : ℕ) → left_of l.steps n ≡ by_actor n (enumerated (l.index + 1) (drop l.index l.entries));
 }
 
 abbrev pub decreases-loop-index : goal.decreases-loop-index

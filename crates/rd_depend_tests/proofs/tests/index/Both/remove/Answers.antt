@@ -1,7 +1,7 @@
 use Rattle.std.proofs.Common.{◌≡◌, ℕ, suc, ◌+◌, ◌-◌, ◌<◌, List, ◌++◌, length, take, drop, get_or, Some, sym, ap, ◌∙◌, subst, arith}
 use Rattle.rd_step.specs.declared.entries.Entry.{Entry}
-use Rattle.rd_step.specs.Dependence.{numbered}
-use Rattle.rd_depend.specs.Index.{IsIndexOf, without_entry}
+use Rattle.rd_step.specs.Dependence.{numbered, without}
+use Rattle.rd_depend.specs.Index.{IsIndexOf}
 use Rattle.rd_depend.proofs.IndexChanges.{there_at}
 use Rattle.rd_depend_tests.proofs.tests.index.Both.remove.Goals as goal
 
@@ -10,10 +10,10 @@ held_at : (es : List Entry) (i k : ℕ) (x : Entry) → k ≡ suc i → i < leng
 held_at es i k x next within at = ap (numbered es) next ∙ there_at es i x within ∙ ap Some (sym at)
 
 -- and is taken out there
-out_at : (es : List Entry) (i k : ℕ) → k ≡ suc i → without_entry es k ≡ take i es ++ drop (suc i) es
+out_at : (es : List Entry) (i k : ℕ) → k ≡ suc i → without es k ≡ take i es ++ drop (suc i) es
 out_at es i k next =
     let e : suc i - 1 ≡ i = omega arith in
-    ap (without_entry es) next ∙ ap (λ (m : ℕ). take m es ++ drop (suc i) es) e
+    ap (without es) next ∙ ap (λ (m : ℕ). take m es ++ drop (suc i) es) e
 
 pub remove-requires-clause-held : goal.remove-requires-clause-held
 remove-requires-clause-held c =
