@@ -24,6 +24,16 @@ const VERSION: &str = "0.1.0";
 /// The numbers of cells that a ring may have, as the command line spells them.
 static RINGS: [&str; 3] = ["2", "4", "8"];
 
+/// What the help of `run` and `load` ends with: the lines of a script in six rows, and where the manual is.
+const LINES: &str = "Lines of a script:\n  \
+    calls      enq A X, deq A, aenq A X, adeq A\n  \
+    steps      go A, starve A yes, starve A no\n  \
+    undo       undo, undo K, roll K, back N, redo, forward N\n  \
+    bookmarks  mark NAME, drop NAME, goto NAME, marks, markat I, same NAME NAME\n  \
+    queries    show PLACE, writer PLACE, actor A, step K, origin K, len\n  \
+    places     qhead, qtail, head M.S, tail M.S, next M.S, cell M.S I, value M.S I, index M.S I, whole M.S, ahead, atail, acell I\n\n\
+    The manual is docs/MANUAL.md in the repository of lcrqdb";
+
 /// Reads the words of a command line, of which the first is the program's name.
 pub fn options<'a, S: AsStr>(alloc: Global, words: &'a [S]) -> Result<Options<'a>, OptionsFault>
     ensures ok { IfOk result (Reads (map S.text words.entry.now)) }
@@ -184,6 +194,7 @@ fn run_over<'a>(alloc: Global) -> Result<Command<'a>, AllocError>
 {
     Command::new(alloc, "run")
         .about("Does the lines of a script and writes a reply to each")
+        .after_help(LINES)
         .arg(file(alloc, "FILE").help("The script; - is standard input"))?
         .arg(actors(alloc))?
         .arg(ring(alloc))
@@ -208,6 +219,7 @@ fn load<'a>(alloc: Global) -> Result<Command<'a>, AllocError>
 {
     Command::new(alloc, "load")
         .about("Does the lines of standard input over the run of a trace")
+        .after_help(LINES)
         .arg(file(alloc, "TRACE").help("A trace, as run --trace writes it"))
 }
 

@@ -27,7 +27,7 @@ struct Rehearsal {
 const AMPLE: usize = 1_000_000;
 
 /// The command lines, in order. The script on the input of those that open a file differs from that file's.
-const REHEARSALS: [Rehearsal; 26] = [
+const REHEARSALS: [Rehearsal; 27] = [
     Rehearsal {
         words: &[
             "run",
@@ -123,6 +123,11 @@ const REHEARSALS: [Rehearsal; 26] = [
     },
     Rehearsal {
         words: &["run", "--help"],
+        input: "len\n",
+        room: AMPLE,
+    },
+    Rehearsal {
+        words: &["load", "--help"],
         input: "len\n",
         room: AMPLE,
     },

@@ -237,7 +237,8 @@ fn help_and_the_version_are_shown(rt: HostRuntime) -> Result<(), Fail> {
     let about = "A causal reversible debugger for LCRQ\n";
     let run = "Does the lines of a script";
     let view = "Does the lines of several scripts";
-    let rows: [(&[&str], Wanted); 9] = [
+    let load = "Does the lines of standard input";
+    let rows: [(&[&str], Wanted); 12] = [
         (
             &["lcrqdb", "--help"],
             Wanted::Shown(about, "Usage: lcrqdb <COMMAND>"),
@@ -257,6 +258,18 @@ fn help_and_the_version_are_shown(rt: HostRuntime) -> Result<(), Fail> {
         (
             &["lcrqdb", "help", "run"],
             Wanted::Shown(run, "--actors <COUNT>"),
+        ),
+        (
+            &["lcrqdb", "run", "-h"],
+            Wanted::Shown(run, "\n  steps      go A, starve A yes, starve A no\n"),
+        ),
+        (
+            &["lcrqdb", "help", "load"],
+            Wanted::Shown(load, "\n  calls      enq A X, deq A, aenq A X, adeq A\n"),
+        ),
+        (
+            &["lcrqdb", "load", "--help"],
+            Wanted::Shown(load, "\nThe manual is docs/MANUAL.md"),
         ),
         (
             &["lcrqdb", "view", "--help"],
