@@ -3,9 +3,10 @@
 
     python3 checks/hostile.py --program PATH
 
-What a line is, and what a trace is, comes from grammars of their own here, written from docs/MANUAL.md and not from the code. Each check
-prints one line; the status is 1 if any of them differs. The timed ones say how time and memory grow with the text. Only Python's standard
-library is used.
+What a line is, and what a trace is, comes from grammars of their own here, written from docs/MANUAL.md and not from the code. On each trace
+that is loaded docs/trace.schema.json is tried too: what it refuses has to be BadTrace, and what it takes may be BadTrace only where no schema
+can say so. Each check prints one line; the status is 1 if any of them differs. The timed ones say how time and memory grow with the text.
+Only Python's standard library is used.
 """
 
 import argparse
@@ -17,6 +18,8 @@ import subprocess
 import sys
 import tempfile
 import time
+
+import schema
 
 SECONDS = 120  # a run that takes longer has failed
 START_KIB = 8 * 1024  # more than a start takes
@@ -405,11 +408,49 @@ def second_trace_checks(program):
 
 
 def load(program, text, script=b"len\n"):
-    """Loads a trace and runs a script over it."""
+    """Loads a trace and runs a script over it. Where the schema differs from the answer, that stands behind standard error."""
     with tempfile.NamedTemporaryFile() as file:
         file.write(text)
         file.flush()
-        return run(program, ["load", file.name], script)
+        status, output, errors = run(program, ["load", file.name], script)
+    return status, output, errors + schema_fault(text, errors == BAD_TRACE)
+
+
+# ---- The schema of traces ----------------------------------------------------------------------------------------------
+
+SCHEMA = schema.load_schema()
+MOST_FOR_SCHEMA = 1_000_000  # bytes of a text on which the schema is tried
+
+
+def with_one_key_each(pairs):
+    """An object of these keys and values; none if a key is there twice, of which nothing is promised."""
+    if len(dict(pairs)) < len(pairs):
+        raise ValueError("a key is there twice")
+    return dict(pairs)
+
+
+def is_beyond_schemas(value):
+    """Whether a value has what is no trace and what no schema can say: a number as 1.0, one name twice, slots that do not rise."""
+    inside = [at(value, path) for path in places_in(value)]
+    lists = [it for it in inside if type(it) is list]
+    names = [[mark.get("name") for mark in it] for it in lists if all(type(mark) is dict for mark in it)]
+    numbers = [[slot[0] for slot in it] for it in lists if all(type(slot) is list and slot and type(slot[0]) is int for slot in it)]
+    twice = any(len(it) > len(set(map(str, it))) for it in names)
+    return any(type(it) is float for it in inside) or twice or any(it != sorted(set(it)) for it in numbers)
+
+
+def schema_fault(text, is_bad):
+    """Where the schema differs from the program on a text, which answers that it is BadTrace or not; nothing if it does not differ."""
+    try:
+        value = json.loads(text, object_pairs_hook=with_one_key_each) if len(text) <= MOST_FOR_SCHEMA else None
+    except (ValueError, RecursionError):
+        return ""  # no JSON, or none of which anything is promised
+    if value is None:
+        return ""
+    fault = schema.fault_of(value, SCHEMA)
+    if fault and not is_bad:
+        return f"the schema refuses it: {fault}"
+    return "the schema takes it" if is_bad and not fault and not is_beyond_schemas(value) else ""
 
 
 def differs(got, wanted):
