@@ -1,5 +1,5 @@
 #!/usr/bin/env python3
-"""Runs the built program itself: its options, exit statuses, standard error, traces, and the script of each lesson.
+"""Runs the built program itself: its options, exit statuses, standard error, traces, the script of each lesson, and the sessions of README and manual.
 
     python3 bench/statuses.py --program PATH
 
@@ -175,6 +175,16 @@ def replies_of_two(program: str, scripts: list) -> list:
     return [first.splitlines(), second.splitlines()[:-1]]
 
 
+def is_as_report(program: str, script: Path, page: str = "") -> bool:
+    """Whether the replies to a script, over the trace of its name if there is one, are those of its report, or those in a table of this page."""
+    lines, trace = script.read_text(encoding="ascii"), script.with_suffix(".trace")
+    words = ["load", str(trace)] if trace.exists() else ["run", "-"]
+    ended = subprocess.run([program, *words], input=lines, capture_output=True, text=True, check=False)
+    if page:
+        return ended.returncode == 0 and table_of(lines, ended.stdout.splitlines()) in page
+    return (ended.returncode, ended.stdout) == (0, script.with_suffix(".report").read_text(encoding="ascii"))
+
+
 def lesson_is_as_its_page_says(program: str, page: Path) -> bool:
     """Whether the replies to a lesson's script are those beside it on its page; of two viewers, whether each line has one."""
     text = page.read_text(encoding="utf-8")
@@ -182,6 +192,8 @@ def lesson_is_as_its_page_says(program: str, page: Path) -> bool:
         scripts = [page.with_name(f"{page.stem}-{viewer}.script") for viewer in (1, 2)]
         told = replies_of_two(program, scripts)
         return [len(one) for one in told] == [len(script.read_text(encoding="ascii").splitlines()) for script in scripts]
+    if "\nRun over two starts.\n" in text:
+        return all(is_as_report(program, page.with_name(f"{page.stem}-{part}.script"), text) for part in (1, 2))
     lines = page.with_suffix(".script").read_text(encoding="ascii")
     if "\nRun over: " in text:
         words = ["load", str(page.with_suffix(".trace"))]
@@ -201,6 +213,8 @@ def main() -> int:
     checks.append(("a full device", full_device(program)))
     for page in sorted(LESSONS.glob("[0-9]*.md")):
         checks.append((page.stem, lesson_is_as_its_page_says(program, page)))
+    for report in sorted(LESSONS.glob("*.report")):
+        checks.append((report.stem, is_as_report(program, report.with_suffix(".script"))))
     for name, good in checks:
         print(f"{'ok  ' if good else 'WRONG'} {name}")
     return 0 if all(good for _, good in checks) else 1

@@ -1,7 +1,8 @@
 //! The lessons for teachers and the guide: runs the scripts of each as the program does, and compares the replies with those on its page.
 //!
-//! A lesson's page has its script beside the replies in a table of its own. The guide has several tables and traces, and no other ones than
-//! those that its scripts give, in this order. One line for each page says whether they are the same.
+//! A lesson's page has its script beside the replies in a table of its own. The guide, and a lesson over two starts, have several tables and
+//! traces, and no other ones than those that their scripts give, in this order. The sessions of the README and the manual have a report beside
+//! each script. One line for each page or report says whether they are the same.
 #![tactic(auto)]
 
 use anyhow::Result;
@@ -15,7 +16,7 @@ use std::sync::Wait;
 use std::thread::Threads;
 
 /// The lessons, in the order of reading: each has a page and a script of this name.
-const LESSONS: [&str; 13] = [
+const LESSONS: [&str; 14] = [
     "01-one-enqueue-and-back",
     "02-empty-dequeue-repairs-tail",
     "03-refused-undo-names-dependant",
@@ -29,10 +30,21 @@ const LESSONS: [&str; 13] = [
     "11-who-wrote-this",
     "12-two-viewers",
     "13-a-start-of-ones-own",
+    "14-what-the-safe-bit-prevents",
 ];
 
 /// The guide's page.
 const GUIDE: &str = "guide";
+
+/// The session of README.md and the examples of docs/MANUAL.md: each has a script and a report of this name, and may run over the trace of it.
+const SESSIONS: [(&str, bool); 6] = [
+    ("session", false),
+    ("manual-1", false),
+    ("manual-2", false),
+    ("manual-3", false),
+    ("manual-4", false),
+    ("manual-5", true),
+];
 
 /// Mistakes in the guide's own start: what is written there, and what is written in its place.
 const MISTAKES: [(&str, &str); 6] = [
@@ -58,6 +70,9 @@ const TRACE: &str = "\nRun over: `";
 
 /// The line of a page whose lesson is run by two viewers. Its scripts are those of its name with `-1` and `-2` behind.
 const TWO_VIEWERS: &str = "\nRun by two viewers.\n";
+
+/// The line of a page whose lesson is run over two starts. Its traces and its scripts are those of its name with `-1` and `-2` behind.
+const TWO_STARTS: &str = "\nRun over two starts.\n";
 
 /// The head of the table with the script and the replies.
 const TABLE_HEAD: &str = "\n| Line | Reply |\n|---|---|\n";
@@ -85,6 +100,13 @@ fn main(rt: HostRuntime) -> Result<ExitCode> {
     if !right {
         status = ExitCode::FAILURE;
     }
+    for (name, over_trace) in SESSIONS {
+        let right = is_as_its_report_says(&rt, rt.alloc(), name, over_trace)?;
+        print_whether(&rt, name, right)?;
+        if !right {
+            status = ExitCode::FAILURE;
+        }
+    }
     Ok(status)
 }
 
@@ -109,6 +131,10 @@ fn is_as_its_page_says<R: Files + Alloc<A = Global> + Threads + Wait + Sync>(
         let table = table_of_viewers(rt, alloc, name)?;
         return Ok(page.contains(table.as_str()));
     }
+    if page.contains(TWO_STARTS) {
+        let blocks = blocks_of_starts(rt, alloc, name)?;
+        return Ok(has_just(page.as_str(), blocks.as_slice()));
+    }
     let script = fs::read_to_string(rt, format!(in alloc; "{name}.script")?.as_str())?;
     let replies = if page.contains(TRACE) {
         let trace = fs::read_to_string(rt, format!(in alloc; "{name}.trace")?.as_str())?;
@@ -125,6 +151,40 @@ fn is_as_its_page_says<R: Files + Alloc<A = Global> + Threads + Wait + Sync>(
     Ok(page.contains(table.as_str()))
 }
 
+/// Whether the replies to a session's script are those of its report, over the fresh world or over the run of the trace of its name.
+fn is_as_its_report_says<R: Files + Alloc<A = Global>>(
+    rt: &R,
+    alloc: Global,
+    name: &str,
+    over_trace: bool,
+) -> Result<bool> {
+    let script = fs::read_to_string(rt, format!(in alloc; "{name}.script")?.as_str())?;
+    let report = fs::read_to_string(rt, format!(in alloc; "{name}.report")?.as_str())?;
+    let replies = if over_trace {
+        let trace = fs::read_to_string(rt, format!(in alloc; "{name}.trace")?.as_str())?;
+        replies_over(alloc, &trace, &script)?
+    } else {
+        report_from_start(alloc, Ring::Four, &script, false)?
+    };
+    Ok(replies.as_str() == report.as_str())
+}
+
+/// The traces and the tables of a lesson over two starts, in order.
+fn blocks_of_starts<R: Files + Alloc<A = Global>>(
+    rt: &R,
+    alloc: Global,
+    name: &str,
+) -> Result<Vec<String>> {
+    let mut blocks = Vec::new(alloc);
+    for part in ["1", "2"] {
+        let trace = fs::read_to_string(rt, format!(in alloc; "{name}-{part}.trace")?.as_str())?;
+        blocks.push(block_of(alloc, &trace)?)?;
+        let script = format!(in alloc; "{name}-{part}.script")?;
+        push_run_over(rt, alloc, &mut blocks, &trace, script.as_str())?;
+    }
+    Ok(blocks)
+}
+
 /// Whether the tables and the traces of the guide are those that its scripts give, in order, and whether it has no other ones.
 fn is_guide_as_it_says<R: Files + Alloc<A = Global> + Threads + Wait + Sync>(
     rt: &R,
@@ -132,14 +192,19 @@ fn is_guide_as_it_says<R: Files + Alloc<A = Global> + Threads + Wait + Sync>(
 ) -> Result<bool> {
     let page = fs::read_to_string(rt, "guide.md")?;
     let blocks = guide_blocks(rt, alloc)?;
-    let mut rest = page.as_str();
-    for block in &blocks {
+    Ok(has_just(page.as_str(), blocks.as_slice()))
+}
+
+/// Whether a page has these blocks in this order, and no other ones.
+fn has_just(page: &str, blocks: &[String]) -> bool {
+    let mut rest = page;
+    for block in blocks {
         let Some(behind) = text_behind(rest, block.as_str()) else {
-            return Ok(false);
+            return false;
         };
         rest = behind;
     }
-    Ok(!has_block(rest))
+    !has_block(rest)
 }
 
 /// The tables and the traces that the guide must have, in order.
