@@ -1,0 +1,106 @@
+#!/usr/bin/env python3
+"""Compares each block of lines and replies in README.md and docs/MANUAL.md with the file of it that the gate compares with the program.
+
+    python3 checks/pages.py
+
+The gate's programs see the files of their own folders alone. So the session of the README and the examples of the manual lie in `examples/`,
+each a script beside its report, and the program `lessons` compares what the one is answered with the other. This compares the pages with
+these files. A view, and the line of a trace, stand in the stored output of `rehearsals`. A block that shows a reply and is none of these is
+a fault. Each block prints one line; the status is 1 if any of them differs. Only Python's standard library is used.
+"""
+
+import json
+import re
+import sys
+from pathlib import Path
+
+import schema
+
+TOP = Path(__file__).resolve().parent.parent
+EXAMPLES = TOP / "crates" / "lessons" / "data"
+REHEARSED = TOP / "crates" / "rehearsals" / "stdout"
+BLOCK = re.compile(r"^( *)```(\w+)\n(.*?)^ *```$", re.MULTILINE | re.DOTALL)
+REPLY = re.compile(
+    r"(?:ok|at|is|marked|marks|mark|actor|step|origin|writer|refused|viewer|history|same|dropped)\b.*|dropped"
+)
+OUTPUT = "  output|"  # before each line of standard output in the stored output of `rehearsals`
+
+# The pages, and of each the examples in their order: a name, and that of the one whose lines the page leaves out before it.
+PAGES = {
+    "README.md": [("session", None)],
+    "docs/MANUAL.md": [("manual-1", None), ("manual-2", None), ("manual-3", "manual-1"), ("manual-4", None)],
+}
+
+
+def blocks_of(page):
+    """The blocks of a page, each its kind and its lines, without what a list puts before them."""
+    for found in BLOCK.finditer(page):
+        yield found[2], [line.removeprefix(found[1]) for line in found[3].splitlines()]
+
+
+def rows_of(lines):
+    """The lines and the replies of a block, what stands behind a reply left out; none if it is no such block."""
+    rows = [re.split(r" {2,}", line)[:2] for line in lines]
+    return rows if all(len(row) == 2 and REPLY.fullmatch(row[1]) for row in rows) else None
+
+
+def example(name):
+    """The lines of an example with the replies of its report."""
+    lines, replies = ((EXAMPLES / f"{name}.{kind}").read_text(encoding="ascii").splitlines() for kind in ("script", "report"))
+    return [list(row) for row in zip(lines, replies, strict=True)]
+
+
+def is_example(rows, name, before):
+    """What is wrong with these lines and replies, or nothing, where they are those of an example behind those of another."""
+    wanted = example(name)
+    if before:
+        wanted = wanted[len(example(before)):] if wanted[: len(example(before))] == example(before) else None
+    return "" if rows == wanted else f"it is not {name}.script beside {name}.report"
+
+
+def is_rehearsed(lines):
+    """What is wrong with a block of a command line and what it writes, or of a trace alone, or nothing."""
+    stored = REHEARSED.read_text(encoding="utf-8")
+    head = [lines[0], "  status: 0"] if lines[0].startswith("lcrqdb ") else []
+    wanted = "\n".join(head + [OUTPUT + line for line in lines[len(head[:1]):]]) + "\n"
+    return "" if wanted in stored else "it is not in the stored output of rehearsals"
+
+
+def is_a_trace(lines):
+    """What is wrong with a trace that is written by hand, or nothing, where it is one of the traces of the examples."""
+    value = json.loads("\n".join(lines))
+    traces = [json.loads(path.read_text(encoding="ascii")) for path in EXAMPLES.glob("*.trace")]
+    return schema.fault_of(value) or ("" if value in traces else "no example has this trace")
+
+
+def checks_of(name, examples):
+    """The checks of a page, each a name and what is wrong, or nothing."""
+    left = list(examples)
+    for kind, lines in blocks_of((TOP / name).read_text(encoding="utf-8")):
+        if kind == "sh":
+            continue
+        rows = rows_of(lines)
+        if rows and left:
+            example_name, before = left.pop(0)
+            yield f"{name}: {example_name}", is_example(rows, example_name, before)
+        elif rows:
+            yield f"{name}: {lines[0]}", "it is none of the examples"
+        elif lines[0].startswith('{"version"'):
+            yield f"{name}: a trace by hand", is_a_trace(lines)
+        elif lines[0].startswith('{"') or any(REPLY.fullmatch(line) for line in lines):
+            yield f"{name}: {lines[0]}", is_rehearsed(lines)
+    for example_name, _ in left:
+        yield f"{name}: {example_name}", "it is not on the page"
+
+
+def main():
+    wrong = 0
+    for name, examples in PAGES.items():
+        for check, fault in checks_of(name, examples):
+            wrong += bool(fault)
+            print(f"WRONG {check}: {fault}" if fault else f"ok    {check}")
+    return 1 if wrong else 0
+
+
+if __name__ == "__main__":
+    sys.exit(main())
