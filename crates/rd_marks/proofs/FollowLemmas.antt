@@ -1,120 +1,142 @@
--- Going down and growing: the path gets one record longer.
-use Rattle.std.proofs.Common.{◌≡◌, ℕ, suc, ◌+◌, ◌<◌, ◌≤◌, sym, ap, ◌∙◌, List, [], ◌∷◌, ◌++◌, length, take, drop, get_or, Option, Some, None, inl, inr, ◌⊎◌, arith, add-one, reverse, length-append}
-use Rattle.std.proofs.Math.Seq.{take-suc, drop-cons, drop-append_seam}
-use Rattle.std.proofs.lemmas.List.{take-map, map-append, append_assoc, length-take, reverse-append}
-use Rattle.std.proofs.lemmas.Bool.{cases_eq}
-use Rattle.rd_step.specs.Prelude.{MOST_STEPS}
+-- Which stretch goes on after a position, and how far a list is in the tree.
+use Rattle.std.proofs.Common.{◌≡◌, ◌⊎◌, ◌↔◌, ℕ, zero, suc, ◌+◌, ◌-◌, ◌<◌, ◌≤◌, inl, inr, refl, sym, ap, ◌∙◌, subst, List, [], ◌∷◌, ◌++◌, length, take, drop, get_or, slice_get, Option, Some, None, MatchOption, arith, add-one, length-append, length-drop}
+use Rattle.std.proofs.Math.Seq.{take-suc, drop-cons, take-append_seam}
+use Rattle.std.proofs.lemmas.Bool.{cases_lt, cases_eq}
+use Rattle.std.proofs.lemmas.List.{length-map, length-take-le, take-map, map-append, take-take, append_assoc, take-append-le}
+use Rattle.std.proofs.lemmas.Option.{slice_get_within, slice_get-get_or}
 use Rattle.rd_step.specs.Run.{events}
 use Rattle.rd_step.specs.declared.entries.Event.{Event}
 use Rattle.rd_step.specs.declared.entries.Entry.{Entry}
-use Rattle.rd_marks.specs.Tree.{TreeNode, MarkTree, IsIn, depth_in, parent_in, entry_of, entry_in, path_in, IsChildBy, HasChild, IsTree, IsPartOf, AreLinkedBelow, ChangesAt}
-use Rattle.rd_marks.proofs.TreeLemmas.{there, is_there, parent_there, parent_is_in, path_length, depth_there, events_there, path_there, path_kept}
+use Rattle.rd_depend.specs.Beginnings.{Begins}
+use Rattle.rd_marks.specs.declared.tree.Position.{Position}
+use Rattle.rd_marks.specs.Tree.{Branch, MarkTree, list_in, path_in, IsOn, IsPosition, IsIn, IsTree, IsNext, HasNoNext, IsNew, GoesOnBy, BranchesBy}
+use Rattle.rd_marks.proofs.TreeLemmas.{is_low, list_there, list_length, total, end_of, position_within, path_length, events_length, on_there, its_branch, foot_path, on_way, same_stretch, begins_with, one_more, is_there, its_record}
+
+-- lists with one more element each are equal only if their parts are
+pub last_parts : {X : Type 0} (xs ys : List X) (x y : X) → xs ++ x ∷ [] ≡ ys ++ y ∷ [] → (xs ≡ ys) × (x ≡ y)
+last_parts [] [] x y h = (refl, (cc))
+last_parts [] (b ∷ ys) x y h =
+    let long = ap length h ∙ ap suc (length-append ys (y ∷ [])) in
+    absurd (omega (arith, long))
+last_parts (a ∷ xs) [] x y h =
+    let long = sym (ap length h) ∙ ap suc (length-append xs (x ∷ [])) in
+    absurd (omega (arith, long))
+last_parts {X} (a ∷ xs) (b ∷ ys) x y h =
+    let heads : a ≡ b = cc in
+    let tails : xs ++ x ∷ [] ≡ ys ++ y ∷ [] = cc in
+    let rest = last_parts xs ys x y tails in
+    ((λ i. heads i ∷ rest.0 i), rest.1)
+
+pub event_of_more : (xs ys : List Entry) (x : Entry) → xs ≡ ys ++ x ∷ [] → events xs ≡ events ys ++ x.event ∷ []
+event_of_more xs ys x h = ap events h ∙ map-append (λ (y : Entry). y.event) ys (x ∷ [])
+
+module _ (t : MarkTree) (rule : IsTree t) where
+  -- the same stretch with one more record of its list
+  longer : (key : ℕ) (x : Branch) (d : ℕ) (y : Entry) (e : Event) → t key ≡ Some x → x.before ≤ d → slice_get x.records (d - x.before) ≡ Some y → y.event ≡ e
+      → events (take (suc d) (list_in t (Some key))) ≡ events (take d (list_in t (Some key))) ++ e ∷ []
+  longer key x d y e there h its of =
+      let list = list_in t (Some key) in
+      event_of_more (take (suc d) list) (take d list) y (one_more list d y (its_record t rule key x d y there h its))
+      ∙ ap (λ (f : Event). events (take d list) ++ f ∷ []) of
+
+  pub goes_on : (p : Position) (e : Event) (key : ℕ) → IsIn t p → GoesOnBy t p e key → IsNext t p e key
+  goes_on p e key is g =
+      let here : IsOn t key p.depth = subst (λ (at : Option ℕ). IsPosition t at p.depth) g.own is in
+      let bounds = its_branch t key p.depth g.branch g.there here in
+      let low = bounds.0 in
+      let within = slice_get_within g.branch.records (p.depth - g.branch.before) g.entry g.next in
+      record {
+        on = on_there t key (suc p.depth) g.branch g.there (omega (arith, low)) (omega (arith, low, within));
+        goes =
+            longer key g.branch p.depth g.entry e g.there (omega (arith, low)) g.next g.its_event
+            ∙ ap (λ (at : Option ℕ). events (take p.depth (list_in t at)) ++ e ∷ []) (sym g.own);
+      }
+
+  pub branches : (p : Position) (e : Event) (key : ℕ) → BranchesBy t p e key → IsNext t p e key
+  branches p e key b =
+      let x = b.branch in
+      let before = b.before in
+      let some = slice_get_within x.records 0 b.entry b.first in
+      let first : slice_get x.records (p.depth - x.before) ≡ Some b.entry = ap (slice_get x.records) (let none : p.depth - x.before ≡ 0 = omega (arith, before) in none) ∙ b.first in
+      let down : take p.depth (list_in t (Some key)) ≡ path_in t p =
+      ap (λ (n : ℕ). take n (list_in t (Some key))) (sym before)
+      ∙ sym (take-take x.before x.before (list_in t (Some key)) (omega arith)) ∙ foot_path t rule key x x.before b.there (omega arith)
+      ∙ (λ i. take (before i) (list_in t (b.below i))) in
+      record {
+        on = on_there t key (suc p.depth) x b.there (omega (arith, before)) (omega (arith, before, some));
+        goes =
+            longer key x p.depth b.entry e b.there (omega (arith, before)) first b.its_event
+            ∙ ap (λ (zs : List Entry). events zs ++ e ∷ []) down;
+      }
+
+  -- what goes on after a position is its own stretch, or branches off there
+  pub found : (p : Position) (e : Event) (key : ℕ) → IsIn t p → IsNext t p e key → GoesOnBy t p e key ⊎ BranchesBy t p e key
+  found p e key is next =
+      let x = next.on.branch in
+      let there = next.on.there in
+      let d = p.depth in
+      let list = list_in t (Some key) in
+      let after = next.on.after in
+      let within = next.on.within in
+      let record_there = is_there x.records (d - x.before) (omega (arith, after, within)) in
+      let y = record_there.0 in
+      let more = event_of_more (take (suc d) list) (take d list) y (one_more list d y (its_record t rule key x d y there (omega (arith, after)) record_there.1)) in
+      let parts = last_parts (events (take d list)) (events (path_in t p)) y.event e (sym more ∙ next.goes) in
+      elim (cases_lt x.before d) [
+        | inl deeper ↦ inl (record {
+          own = sym (same_stretch t rule (Some key) p.stretch d (on_there t key d x there deeper (omega (arith, within))) is parts.0);
+          branch = x;
+          there = there;
+          entry = y;
+          next = record_there.1;
+          its_event = parts.1;
+        })
+        | inr shallow ↦
+            let before : x.before ≡ d = omega (arith, after, shallow) in
+            let down : take d (list_in t x.below) ≡ take d list =
+            ap (λ (n : ℕ). take n (list_in t x.below)) (sym before) ∙ sym (foot_path t rule key x x.before there (omega arith))
+            ∙ take-take x.before x.before list (omega arith) ∙ ap (λ (n : ℕ). take n list) before in
+            inr (record {
+              branch = x;
+              there = there;
+              below = same_stretch t rule x.below p.stretch d (subst (λ (n : ℕ). IsPosition t x.below n) before (rule.below key x there)) is (ap events down ∙ parts.0);
+              before = before;
+              entry = y;
+              first = ap (slice_get x.records) (let none : 0 ≡ d - x.before = omega (arith, before) in none) ∙ record_there.1;
+              its_event = parts.1;
+            })
+      ]
+
+  -- what was found goes on
+  pub goes_next : (p : Position) (e : Event) → IsIn t p → (key : ℕ) × GoesOnBy t p e key → MatchOption p.stretch (HasNoNext t p e) (λ key. IsNext t p e key)
+  goes_next p e is g = subst (λ (o : Option ℕ). MatchOption o (HasNoNext t p e) (λ key. IsNext t p e key)) (sym g.1.own) (goes_on p e g.0 is g.1)
+
+  pub branch_next : (p : Position) (e : Event) → IsIn t p → (((key : ℕ) × GoesOnBy t p e key) → ⊥) → (o : Option ℕ)
+      → MatchOption o ((key : ℕ) → BranchesBy t p e key → ⊥) (λ key. BranchesBy t p e key) → MatchOption o (HasNoNext t p e) (λ key. IsNext t p e key)
+  branch_next p e is never None none = λ key next. elim (found p e key is next) [ | inl goes ↦ never (key, goes) | inr branch ↦ none key branch ]
+  branch_next p e is never (Some key) b = branches p e key b
+
+  -- one record further
+  pub followed : (p : Position) (i : ℕ) (xs : List Entry) (key : ℕ) (d : Entry) → i < length xs → p.depth ≡ i → events (path_in t p) ≡ take i (events xs)
+      → IsNext t p (get_or xs i d).event key → events (take (i + 1) (list_in t (Some key))) ≡ take (i + 1) (events xs)
+  followed p i xs key d h deep begins next =
+      let e = (get_or xs i d).event in
+      ap (λ (n : ℕ). events (take n (list_in t (Some key)))) (let same : i + 1 ≡ suc p.depth = omega (arith, deep) in same)
+      ∙ next.goes ∙ ap (λ (es : List Event). es ++ e ∷ []) begins
+      ∙ sym (take-map (λ (x : Entry). x.event) (i + 1) xs ∙ ap (λ (n : ℕ). events (take n xs)) (add-one i) ∙ event_of_more (take (suc i) xs) (take i xs) (get_or xs i d) (take-suc xs i d h)
+      ∙ ap (λ (es : List Event). es ++ e ∷ []) (sym (take-map (λ (x : Entry). x.event) i xs)))
 
 -- the first of what is left of a list
 pub first_left : (xs : List Entry) (i : ℕ) (d x : Entry) (rest : List Entry) → i < length xs → drop i xs ≡ x ∷ rest → get_or xs i d ≡ x
 first_left xs i d x rest h k = let both = sym (drop-cons xs i d h) ∙ k in cc
 
--- one more record's event
-pub one_more_event : (xs : List Entry) (i : ℕ) (d : Entry) → i < length xs → take (i + 1) (events xs) ≡ take i (events xs) ++ (get_or xs i d).event ∷ []
-one_more_event xs i d h =
-    take-map (λ (x : Entry). x.event) (i + 1) xs ∙ ap (λ (n : ℕ). events (take n xs)) (add-one i) ∙ ap events (take-suc xs i d h)
-    ∙ map-append (λ (x : Entry). x.event) (take i xs) (get_or xs i d ∷ []) ∙ ap (λ (es : List Event). es ++ (get_or xs i d).event ∷ []) (sym (take-map (λ (x : Entry). x.event) i xs))
-
--- a child by the next event is one step further
-pub record Followed (t : MarkTree) (key i : ℕ) (xs : List Entry) : Type 0 where
-  pub present : IsIn t (Some key)
-  pub depth : depth_in t (Some key) ≡ i + 1
-  pub begins : events (path_in t (Some key)) ≡ take (i + 1) (events xs)
-
-pub followed : (t : MarkTree) → IsTree t → (at : Option ℕ) (i : ℕ) (xs : List Entry) (key : ℕ) (d : Entry) → i < length xs → IsChildBy t key at (get_or xs i d).event
-    → events (path_in t at) ≡ take i (events xs) → depth_in t at ≡ i → Followed t key i xs
-followed t rule at i xs key d h child begins depth = record {
-  present = is_there t key child.node child.there;
-  depth = depth_there t rule key child.node child.there ∙ ap (λ (p : Option ℕ). suc (depth_in t p)) child.below ∙ ap suc depth ∙ sym (add-one i);
-  begins =
-      events_there t rule key child.node child.there
-      ∙ (λ k. events (path_in t (child.below k)) ++ child.its_event k ∷ [])
-      ∙ ap (λ (es : List Event). es ++ (get_or xs i d).event ∷ []) begins ∙ sym (one_more_event xs i d h);
-}
-
--- a new node below another: its path is one record more, all others are as before, and it has no child
-pub record Grown (t u : MarkTree) (from : Option ℕ) (key i : ℕ) (v : MarkTree) (xs : List Entry) : Type 0 where
-  pub present : IsIn v (Some key)
-  pub kept : IsPartOf t v
-  pub path : path_in v (Some key) ≡ path_in t from ++ take (i + 1) xs
-  pub used : AreLinkedBelow t v (Some key)
-
-pub grown : (t u v : MarkTree) (from at : Option ℕ) (key i : ℕ) (xs : List Entry) (d : Entry) → i < length xs → IsTree u → IsTree v → IsIn u at → IsPartOf t u
-    → path_in u at ≡ path_in t from ++ take i xs → AreLinkedBelow t u at → u key ≡ None
-    → ChangesAt u v key (Some (record { entry = get_or xs i d; parent = at; depth = suc (depth_in u at) })) → Grown t u from key i v xs
-grown t u v from at key i xs d h rule after is part path used vacant change =
-    let whole : IsPartOf u v = λ k n e. change.others k (λ same. (let no = sym e ∙ ap u same ∙ vacant in cc)) ∙ e in
-    record {
-      present = is_there v key _ change.changed;
-      kept = λ k n e. whole k n (part k n e);
-      path =
-          path_there v after key _ change.changed
-          ∙ ap (λ (ys : List Entry). ys ++ get_or xs i d ∷ []) (path_kept u v rule whole at is ∙ path)
-          ∙ append_assoc (path_in t from) (take i xs) (get_or xs i d ∷ [])
-          ∙ ap (λ (ys : List Entry). path_in t from ++ ys) (sym (ap (λ (n : ℕ). take n xs) (add-one i) ∙ take-suc xs i d h));
-      used = λ k n e. elim (cases_eq k key) [
-        | inl same ↦ inr (inr (ap (λ (j : ℕ). Some j) (sym same)))
-        | inr apart ↦ linked_on k n (sym (change.others k apart) ∙ e) whole
-      ];
-    }
-  where
-    -- a node that had a child has it still, and the one that was last has the new one
-    linked_on : (k : ℕ) (n : TreeNode) → u k ≡ Some n → IsPartOf u v → (t k ≡ Some n) ⊎ (HasChild v (Some k) ⊎ (Some key ≡ Some k))
-    linked_on k n e whole =
-        elim (used k n e) [
-          | inl was ↦ inl was
-          | inr later ↦ elim later [
-            | inl parent ↦ inr (inl (parent.0, record { node = parent.1.node; there = whole parent.0 parent.1.node parent.1.there; below = parent.1.below }))
-            | inr last ↦ inr (inl (key, record { node = record { entry = get_or xs i d; parent = at; depth = suc (depth_in u at) }; there = change.changed; below = last }))
-          ]
-        ]
-
--- there is room for one more record on the path
-pub grows_on : (t u : MarkTree) (from at : Option ℕ) (i : ℕ) (xs : List Entry) → IsTree t → IsTree u → IsIn t from → IsIn u at → i < length xs
-    → path_in u at ≡ path_in t from ++ take i xs → depth_in t from + length xs ≤ MOST_STEPS → depth_in u at < MOST_STEPS
-grows_on t u from at i xs before rule from_in is h path few =
-    let from_length = path_length t before from from_in in
-    let at_length = path_length u rule at is in
-    let both = ap length path ∙ length-append (path_in t from) (take i xs) in
-    let taken = length-take i xs in
-    omega (arith, from_length, at_length, both, taken, h, few)
-
--- A node's record is the last of its path
-
-pub record IsOneUp (t : MarkTree) (at : Option ℕ) (x : Entry) : Type 0 where
-  pub present : IsIn t (parent_in t at)
-  pub depth : depth_in t at ≡ suc (depth_in t (parent_in t at))
-  pub path : path_in t at ≡ path_in t (parent_in t at) ++ x ∷ []
-
-pub one_up : (t : MarkTree) → IsTree t → (at : Option ℕ) (x : Entry) → IsIn t at → entry_in t at ≡ Some x → IsOneUp t at x
-one_up t rule None x is h = cc
-one_up t rule (Some key) x is h =
-    let found = there t key is in
-    let n = found.0 in
-    let its : n.entry ≡ x = (let both = sym h ∙ ap entry_of found.1 in cc) in
-    let parent = parent_there t rule key n found.1 in
-    record {
-      present = parent_is_in t rule (Some key) is;
-      depth = depth_there t rule key n found.1 ∙ ap (λ (p : Option ℕ). suc (depth_in t p)) (sym parent);
-      path = path_there t rule key n found.1 ∙ (λ k. path_in t (sym parent k) ++ its k ∷ []);
-    }
-
--- one more record read, from the last one up
-pub read_on : {X : Type 0} (ps qs rs xs : List X) (x : X) → ps ≡ qs ++ x ∷ [] → xs ≡ ps ++ reverse rs → xs ≡ qs ++ reverse (rs ++ x ∷ [])
-read_on {X} ps qs rs xs x h k =
-    k ∙ ap (λ (ys : List X). ys ++ reverse rs) h ∙ append_assoc qs (x ∷ []) (reverse rs)
-    ∙ ap (λ (ys : List X). qs ++ ys) (sym (reverse-append rs (x ∷ [])))
-
--- and its event
-pub event_read_on : (ps qs : List Entry) (rs es : List Event) (x : Entry) → ps ≡ qs ++ x ∷ [] → es ≡ events ps ++ reverse rs
-    → es ≡ events qs ++ reverse (rs ++ x.event ∷ [])
-event_read_on ps qs rs es x h k = read_on (events ps) (events qs) rs es x.event (ap events h ∙ map-append (λ (y : Entry). y.event) qs (x ∷ [])) k
-
--- all of those behind the first
-pub all_read : (ps rs xs : List Entry) (n : ℕ) → length ps ≡ n → xs ≡ ps ++ reverse rs → reverse rs ≡ drop n xs
-all_read ps rs xs n h k = sym (ap (λ (m : ℕ). drop m xs) (sym h) ∙ ap (drop (length ps)) k ∙ drop-append_seam ps (reverse rs))
+-- what is said of the first record of a stretch that branches off the position
+pub branches_said : (t : MarkTree) (p : Position) (e : Event) (key : ℕ) (x : Branch) (y : Entry) → t key ≡ Some x → x.below ≡ p.stretch → x.before ≡ p.depth → slice_get x.records 0 ≡ Some y
+    → {P : Type 0} → (P ↔ (y.event ≡ e)) → P ↔ BranchesBy t p e key
+branches_said t p e key x y there below before first said = (
+  λ h. record { branch = x; there = there; below = below; before = before; entry = y; first = first; its_event = said.0 h },
+  λ b.
+      (let one : x ≡ b.branch = (let both = sym there ∙ b.there in cc) in
+      let same : y ≡ b.entry = (let both = sym first ∙ ap (λ (z : Branch). slice_get z.records 0) one ∙ b.first in cc) in
+      said.1 (ap (λ (z : Entry). z.event) same ∙ b.its_event)),
+)

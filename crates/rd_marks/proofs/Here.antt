@@ -15,18 +15,9 @@ use Rattle.rd_journal.specs.Sessions.{state, track}
 use Rattle.rd_journal.specs.State.{State, undo_at, roll}
 use Rattle.rd_marks.specs.declared.names.MarkName.{MarkName}
 use Rattle.rd_marks.specs.Layout.{IsHere}
-use Rattle.rd_marks.specs.Tree.{MarkTree, IsIn, depth_in, parent_in, path_in, IsTree, IsPartOf, ChangesAt}
-use Rattle.rd_marks.specs.Uses.{IsUsed}
-use Rattle.rd_marks.proofs.CommonNode.{begins_itself}
-use Rattle.rd_marks.proofs.Switches.{begins_shorter, begins_with}
-use Rattle.rd_marks.proofs.TreeChanges.{tree_without}
-use Rattle.rd_marks.proofs.TreeLemmas.{there, events_length, path_there, parent_there, stays_in, path_kept}
-use Rattle.rd_marks.proofs.Uses.{still_in, part_left, parent_left}
-
-pub begins_trans : {X : Type 0} (xs ys zs : List X) → Begins xs ys → Begins ys zs → Begins xs zs
-begins_trans xs ys zs h k =
-    let short = begins_shorter xs ys h in
-    sym (take-take (length xs) (length ys) zs short) ∙ ap (take (length xs)) k ∙ h
+use Rattle.rd_marks.specs.declared.tree.Position.{Position}
+use Rattle.rd_marks.specs.Tree.{MarkTree, IsIn, path_in, IsTree, Stays}
+use Rattle.rd_marks.proofs.TreeLemmas.{events_length, begins_shorter, begins_trans}
 
 -- the events of records that begin others begin theirs
 pub begins_events : (xs ys : List Entry) → Begins xs ys → Begins (events xs) (events ys)
@@ -78,9 +69,9 @@ rolled_within R s zero t h = omega arith
 rolled_within R s (suc i) t h = within_by (nat_lt i (length s.live)) i (length s.live) _ _ t refl h
 
 module _ (t : MarkTree) (rule : IsTree t) where
-  -- a node on the way there that is no deeper than what stayed
-  pub here_cut : (here at : Option ℕ) (n : ℕ) (old new : List Event) → IsHere t here old → IsIn t at → Begins (path_in t at) (path_in t here)
-      → depth_in t at ≤ n → take n new ≡ take n old → IsHere t at new
+  -- a position on the way there that is no deeper than what stayed
+  pub here_cut : (here at : Position) (n : ℕ) (old new : List Event) → IsHere t here old → IsIn t at → Begins (path_in t at) (path_in t here)
+      → at.depth ≤ n → take n new ≡ take n old → IsHere t at new
   here_cut here at n old new stands is begins shallow same =
       let es = events (path_in t at) in
       let whole = begins_trans es (events (path_in t here)) old (begins_events (path_in t at) (path_in t here) begins) stands.begins in
@@ -92,8 +83,8 @@ module _ (t : MarkTree) (rule : IsTree t) where
       }
 
   -- where the first n live steps stayed, whatever is ahead
-  pub track_cut : (here at : Option ℕ) (n : ℕ) (old new : Journal) (old_ahead new_ahead : List Event) → IsHere t here (events old.live ++ old_ahead)
-      → IsIn t at → Begins (path_in t at) (path_in t here) → depth_in t at ≤ n → n ≤ length old.live → take n new.live ≡ take n old.live
+  pub track_cut : (here at : Position) (n : ℕ) (old new : Journal) (old_ahead new_ahead : List Event) → IsHere t here (events old.live ++ old_ahead)
+      → IsIn t at → Begins (path_in t at) (path_in t here) → at.depth ≤ n → n ≤ length old.live → take n new.live ≡ take n old.live
       → IsHere t at (events new.live ++ new_ahead)
   track_cut here at n old new old_ahead new_ahead stands is begins shallow within same =
       let event = λ (x : Entry). x.event in
@@ -107,8 +98,8 @@ module _ (t : MarkTree) (rule : IsTree t) where
       (new_first ∙ take-map event n new.live ∙ ap events same ∙ sym (take-map event n old.live) ∙ sym old_first)
 
   -- where steps were taken out behind them, if the call was not refused
-  pub after_out : {X P Q : Type 0} (r : Result X Refusal) (here at : Option ℕ) (n : ℕ) (old new : Journal) (old_ahead new_ahead : List Event)
-      → IsHere t here (events old.live ++ old_ahead) → IsIn t at → Begins (path_in t at) (path_in t here) → OnOk r (depth_in t at ≡ min n (depth_in t here))
+  pub after_out : {X P Q : Type 0} (r : Result X Refusal) (here at : Position) (n : ℕ) (old new : Journal) (old_ahead new_ahead : List Event)
+      → IsHere t here (events old.live ++ old_ahead) → IsIn t at → Begins (path_in t at) (path_in t here) → OnOk r (at.depth ≡ min n (here.depth))
       → OnErr r (events new.live ++ new_ahead ≡ events old.live ++ old_ahead) → OnOk r P → (P → n ≤ length old.live) → OnOk r Q
       → (Q → take n new.live ≡ take n old.live) → IsHere t at (events new.live ++ new_ahead)
   after_out (Ok x) here at n old new old_ahead new_ahead stands is begins depth unchanged there within left leaves =
@@ -120,43 +111,43 @@ module _ (t : MarkTree) (rule : IsTree t) where
         (subst (λ (es : List Event). Begins (events (path_in t here)) es) (sym unchanged) stands.begins);
   }
 
-  -- where the live steps stand: at the node on the way there whose path is no longer than they are
-  pub live_here : (here at : Option ℕ) (n : ℕ) (live ahead : List Event) → n ≡ length live → IsHere t here (live ++ ahead) → IsIn t at
-      → Begins (path_in t at) (path_in t here) → depth_in t at ≤ n → IsHere t at live
+  -- where the live steps stand: at the position on the way there whose path is no longer than they are
+  pub live_here : (here at : Position) (n : ℕ) (live ahead : List Event) → n ≡ length live → IsHere t here (live ++ ahead) → IsIn t at
+      → Begins (path_in t at) (path_in t here) → at.depth ≤ n → IsHere t at live
   live_here here at n live ahead all stands is begins shallow =
       here_cut here at n (live ++ ahead) live stands is begins shallow
       (ap (λ (m : ℕ). take m live) all ∙ take-length live ∙ sym (ap (λ (m : ℕ). take m (live ++ ahead)) all ∙ take-append_seam live ahead))
 
 -- of a session
-pub stands : {R : ℕ} (session : Session R) (t : MarkTree) → IsTree t → (here at : Option ℕ) (n : ℕ) → n ≡ length (state session).live
-    → IsHere t here (track session) → IsIn t at → Begins (path_in t at) (path_in t here) → depth_in t at ≡ min n (depth_in t here)
+pub stands : {R : ℕ} (session : Session R) (t : MarkTree) → IsTree t → (here at : Position) (n : ℕ) → n ≡ length (state session).live
+    → IsHere t here (track session) → IsIn t at → Begins (path_in t at) (path_in t here) → at.depth ≡ min n (here.depth)
     → IsHere t at (state session).live
 stands session t rule here at n all lies is begins depth =
     live_here t rule here at n (state session).live (events (ahead_records session.records)) all lies is begins (omega (arith, depth))
 
 -- Going down begins where the live steps stand
 
-pub within_at : (t : MarkTree) → IsTree t → (here : Option ℕ) (xs : List Entry) (live : List Event) → events xs ≡ live → IsHere t here live → depth_in t here ≤ length xs
+pub within_at : (t : MarkTree) → IsTree t → (here : Position) (xs : List Entry) (live : List Event) → events xs ≡ live → IsHere t here live → here.depth ≤ length xs
 within_at t rule here xs live its stands =
     let short = begins_shorter (events (path_in t here)) live stands.begins in
     let long = events_length t rule here stands.present in
     let all = sym (length-map xs (λ (x : Entry). x.event)) ∙ ap length its in
     omega (arith, short, long, all)
 
-pub begins_at : (t : MarkTree) → IsTree t → (here : Option ℕ) (xs : List Entry) (live : List Event) → events xs ≡ live → IsHere t here live
-    → events (path_in t here) ≡ take (depth_in t here) (events xs)
+pub begins_at : (t : MarkTree) → IsTree t → (here : Position) (xs : List Entry) (live : List Event) → events xs ≡ live → IsHere t here live
+    → events (path_in t here) ≡ take (here.depth) (events xs)
 begins_at t rule here xs live its stands =
     sym (ap (λ (n : ℕ). take n (events xs)) (sym (events_length t rule here stands.present)) ∙ ap (take (length (events (path_in t here)))) its ∙ stands.begins)
 
 -- at a node whose events the live steps have lies the track
-pub track_at : (t : MarkTree) (at : Option ℕ) (live ahead : List Event) → IsIn t at → events (path_in t at) ≡ live → IsHere t at (live ++ ahead)
+pub track_at : (t : MarkTree) (at : Position) (live ahead : List Event) → IsIn t at → events (path_in t at) ≡ live → IsHere t at (live ++ ahead)
 track_at t at live ahead is its = record {
   present = is;
   begins = subst (λ (es : List Event). Begins (events (path_in t at)) (es ++ ahead)) its (take-append_seam (events (path_in t at)) ahead);
 }
 
--- a node on the way to where the track lies begins it
-pub track_above : (t : MarkTree) (here at : Option ℕ) (track : List Event) → IsHere t here track → IsIn t at → Begins (path_in t at) (path_in t here) → IsHere t at track
+-- a position on the way to where the track lies begins it
+pub track_above : (t : MarkTree) (here at : Position) (track : List Event) → IsHere t here track → IsIn t at → Begins (path_in t at) (path_in t here) → IsHere t at track
 track_above t here at track stands is begins = record {
   present = is;
   begins =
@@ -164,57 +155,16 @@ track_above t here at track stands is begins = record {
 }
 
 -- so its steps are the first ones of the track
-pub along_to : (t : MarkTree) → IsTree t → (at : Option ℕ) (n : ℕ) (track : List Event) → n ≡ depth_in t at → IsHere t at track
+pub along_to : (t : MarkTree) → IsTree t → (at : Position) (n : ℕ) (track : List Event) → n ≡ at.depth → IsHere t at track
     → (n ≤ length track) × (take n track ≡ events (path_in t at))
 along_to t rule at n track deep stands =
-    let long : length (events (path_in t at)) ≡ depth_in t at = events_length t rule at stands.present in
+    let long : length (events (path_in t at)) ≡ at.depth = events_length t rule at stands.present in
     let short = begins_shorter (events (path_in t at)) track stands.begins in
     (omega (arith, long, short, deep), ap (λ (m : ℕ). take m track) (deep ∙ sym long) ∙ stands.begins)
 
--- also in a tree with more room
-pub stands_in : (t u : MarkTree) (here : Option ℕ) (track : List Event) → u ≡ t → IsHere t here track → IsHere u here track
-stands_in t u here track same stands = subst (λ (v : MarkTree). IsHere v here track) (sym same) stands
-
--- and in a tree that has all its nodes
-pub lies_on : (t u : MarkTree) (here : Option ℕ) (track : List Event) → IsTree t → IsPartOf t u → IsHere t here track → IsHere u here track
-lies_on t u here track rule part lies = record {
-  present = stays_in t u rule part here lies.present;
-  begins = subst (λ (xs : List Entry). Begins (events xs) track) (sym (path_kept t u rule part here lies.present)) lies.begins;
+-- and in a tree that has its list
+pub lies_on : (t u : MarkTree) (here : Position) (track : List Event) → Stays t u here → IsHere t here track → IsHere u here track
+lies_on t u here track stays lies = record {
+  present = stays.present;
+  begins = subst (λ (xs : List Entry). Begins (events xs) track) (sym stays.path) lies.begins;
 }
-
--- What lay in a tree from which a node goes lies at the node above it, if it lay there
-module _ (t u : MarkTree) (ms : List (MarkName × Option ℕ)) (key : ℕ) (rule : IsTree t) (is : IsIn t (Some key)) (unused : IsUsed t ms (Some key) → ⊥)
-    (change : ChangesAt t u key None) where
-  kept_path : (at : Option ℕ) → IsIn u at → path_in t at ≡ path_in u at
-  kept_path at at_in = path_kept u t (tree_without t u key rule (λ h. unused (inl h)) change) (part_left t u ms key rule is unused change) at at_in
-
-  pub here_left : (stood stands : Option ℕ) → IsIn t stood → (stood ≡ Some key → stands ≡ parent_in t (Some key)) → ((stood ≡ Some key → ⊥) → stands ≡ stood)
-      → IsIn u stands × Begins (path_in u stands) (path_in t stood)
-  here_left stood stands stood_in gone others =
-      elim (same_or_not stood) [
-        | inl same ↦
-            let found = there t key is in
-            let up = parent_in t (Some key) in
-            let up_in = parent_left t u ms key rule is unused change in
-            let begins : Begins (path_in u up) (path_in t (Some key)) =
-            subst (λ (xs : List Entry). Begins xs (path_in t (Some key))) (kept_path up up_in)
-            (begins_with (path_in t up) (path_in t (Some key)) (found.0.entry ∷ [])
-            (path_there t rule key found.0 found.1 ∙ ap (λ (p : Option ℕ). path_in t p ++ found.0.entry ∷ []) (sym (parent_there t rule key found.0 found.1)))) in (
-              subst (λ (p : Option ℕ). IsIn u p) (sym (gone same)) up_in,
-              subst (λ (p : Option ℕ). Begins (path_in u p) (path_in t stood)) (sym (gone same))
-                  (subst (λ (p : Option ℕ). Begins (path_in u up) (path_in t p)) (sym same) begins),
-            )
-        | inr apart ↦
-            let left = still_in t u ms key rule is unused change stood apart stood_in in (
-              subst (λ (p : Option ℕ). IsIn u p) (sym (others apart)) left,
-              subst (λ (p : Option ℕ). Begins (path_in u p) (path_in t stood)) (sym (others apart))
-                  (subst (λ (xs : List Entry). Begins xs (path_in t stood)) (kept_path stood left) (begins_itself (path_in t stood))),
-            )
-      ]
-    where
-      same_or_not : (at : Option ℕ) → (at ≡ Some key) ⊎ (at ≡ Some key → ⊥)
-      same_or_not None = inr (λ h. cc)
-      same_or_not (Some k) = elim (cases_eq k key) [
-        | inl same ↦ inl (ap (λ (j : ℕ). Some j) same)
-        | inr apart ↦ inr (λ h. apart (cc))
-      ]

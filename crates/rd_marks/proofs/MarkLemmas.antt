@@ -14,10 +14,11 @@ use Rattle.std.proofs.lemmas.Option.{slice_get-map}
 use Rattle.rd_step.specs.Prelude.{Refusal, World, NoMark, NoMemory, MarkTaken, TooManyMarks}
 use Rattle.rd_journal.specs.State.{State}
 use Rattle.rd_marks.specs.NameBytes.{MOST_MARKS}
-use Rattle.rd_marks.specs.Layout.{IsRecordOfRun, has_mark}
+use Rattle.rd_marks.specs.Layout.{IsRecordOfRun}
+use Rattle.rd_marks.specs.Uses.{IsMarked}
+use Rattle.rd_marks.specs.declared.tree.Position.{Position}
 use Rattle.rd_marks.specs.Tree.{MarkTree, path_in}
-use Rattle.rd_marks.proofs.NodeLemmas.{same_option}
-use Rattle.std.specs.Option.{option_eq}
+use Rattle.slab.proofs.SlabLemmas.{Contains-cons, Contains-cons_cases}
 use Rattle.rd_depend.specs.Beginnings.{Begins}
 use Rattle.rd_marks.specs.Books.{Mark, BookState, with_session, with_marks, marked_events, without_mark, mark, drop_mark, goto_mark, at_events, mark_at, name_and_length, MakesSteps, AnswersSame}
 use Rattle.rd_step.specs.Equivalence.{IsEquivalent}
@@ -26,7 +27,7 @@ use Rattle.rd_marks.specs.Marks.{mark_of, marks_of}
 
 module _ (t : MarkTree) (name : MarkName) where
   -- what is found under a name is the events of its mark
-  pub lookup_events : (ms : List (MarkName × Option ℕ)) → option_map (λ v. events (path_in t v)) (lookup (same_name name) ms) ≡ marked_events (marks_of t ms) name
+  pub lookup_events : (ms : List (MarkName × Position)) → option_map (λ v. events (path_in t v)) (lookup (same_name name) ms) ≡ marked_events (marks_of t ms) name
   lookup_events [] = refl
   lookup_events (m ∷ ms) =
       elim (same_name name m.0) as (λ b. option_map (λ v. events (path_in t v)) (cond b (Some m.1) (lookup (same_name name) ms))
@@ -35,16 +36,16 @@ module _ (t : MarkTree) (name : MarkName) where
         | false ↦ lookup_events ms
       ]
 
-  is_some_map : (o : Option (Option ℕ)) → is_some (option_map (λ v. events (path_in t v)) o) ≡ is_some o
+  is_some_map : (o : Option Position) → is_some (option_map (λ v. events (path_in t v)) o) ≡ is_some o
   is_some_map None = refl
   is_some_map (Some v) = refl
 
   -- something is found exactly if there is a mark of that name
-  pub found_marked : (ms : List (MarkName × Option ℕ)) → is_some (lookup (same_name name) ms) ≡ is_some (marked_events (marks_of t ms) name)
+  pub found_marked : (ms : List (MarkName × Position)) → is_some (lookup (same_name name) ms) ≡ is_some (marked_events (marks_of t ms) name)
   found_marked ms = sym (is_some_map (lookup (same_name name) ms)) ∙ ap is_some (lookup_events ms)
 
   -- without the entry of a name, the marks are without its mark
-  pub marks_without : (ms : List (MarkName × Option ℕ)) → marks_of t (remove_entry (same_name name) ms) ≡ without_mark (marks_of t ms) name
+  pub marks_without : (ms : List (MarkName × Position)) → marks_of t (remove_entry (same_name name) ms) ≡ without_mark (marks_of t ms) name
   marks_without [] = refl
   marks_without (m ∷ ms) =
       elim (same_name name m.0) as (λ b. marks_of t (cond b ms (m ∷ remove_entry (same_name name) ms))
@@ -54,7 +55,7 @@ module _ (t : MarkTree) (name : MarkName) where
       ]
 
   -- what holds of each entry holds of each other one
-  pub all_without : (P : MarkName × Option ℕ → Type 0) (ms : List (MarkName × Option ℕ)) → All P ms → All P (remove_entry (same_name name) ms)
+  pub all_without : (P : MarkName × Position → Type 0) (ms : List (MarkName × Position)) → All P ms → All P (remove_entry (same_name name) ms)
   all_without P [] h = h
   all_without P (m ∷ ms) h =
       elim (same_name name m.0) as (λ b. All P (cond b ms (m ∷ remove_entry (same_name name) ms))) [
@@ -63,28 +64,28 @@ module _ (t : MarkTree) (name : MarkName) where
       ]
 
   -- and its events are those of the mark
-  pub found_events : (ms : List (MarkName × Option ℕ)) (o : Option (Option ℕ)) → lookup (same_name name) ms ≡ o
+  pub found_events : (ms : List (MarkName × Position)) (o : Option Position) → lookup (same_name name) ms ≡ o
       → marked_events (marks_of t ms) name ≡ option_map (λ v. events (path_in t v)) o
   found_events ms o h = sym (lookup_events ms) ∙ ap (option_map (λ v. events (path_in t v))) h
 
   -- a new name goes last
-  insert_last : (v : Option ℕ) (ms : List (MarkName × Option ℕ)) → is_some (marked_events (marks_of t ms) name) ≡ false
+  insert_last : (v : Position) (ms : List (MarkName × Position)) → is_some (marked_events (marks_of t ms) name) ≡ false
       → insert_entry same_name ms name v ≡ ms ++ (name, v) ∷ []
   insert_last v [] h = refl
   insert_last v (m ∷ ms) h =
       (elim (same_name name m.0) as (λ b. is_some (if b then Some (events (path_in t m.1)) else marked_events (marks_of t ms) name) ≡ false
       → (if b then (m.0, v) ∷ ms else m ∷ insert_entry same_name ms name v) ≡ m ∷ (ms ++ (name, v) ∷ [])) [
         | true ↦ λ k. absurd (true≢false k)
-        | false ↦ λ k. ap (λ (rest : List (MarkName × Option ℕ)). m ∷ rest) (insert_last v ms k)
+        | false ↦ λ k. ap (λ (rest : List (MarkName × Position)). m ∷ rest) (insert_last v ms k)
       ]) h
 
   -- the entries then
-  pub entries_put : (v : Option ℕ) (ms es : List (MarkName × Option ℕ)) → is_some (marked_events (marks_of t ms) name) ≡ false
+  pub entries_put : (v : Position) (ms es : List (MarkName × Position)) → is_some (marked_events (marks_of t ms) name) ≡ false
       → es ≡ insert_entry same_name ms name v → es ≡ ms ++ (name, v) ∷ []
   entries_put v ms es new e = e ∙ insert_last v ms new
 
   -- with one fewer there are no more
-  pub shorter : (ms : List (MarkName × Option ℕ)) → length (remove_entry (same_name name) ms) ≤ length ms
+  pub shorter : (ms : List (MarkName × Position)) → length (remove_entry (same_name name) ms) ≤ length ms
   shorter [] = omega arith
   shorter (m ∷ ms) =
       let rest : length (remove_entry (same_name name) ms) ≤ length ms = shorter ms in
@@ -93,22 +94,29 @@ module _ (t : MarkTree) (name : MarkName) where
         | false ↦ omega arith
       ]
 
-  -- a mark at another node than the one found stays
-  pub mark_stays : (at v : Option ℕ) (ms : List (MarkName × Option ℕ)) → lookup (same_name name) ms ≡ Some v → (v ≡ at → ⊥) → has_mark ms at ≡ true
-      → has_mark (remove_entry (same_name name) ms) at ≡ true
-  mark_stays at v [] found apart h = h
-  mark_stays at v (m ∷ ms) found apart h =
-      (elim (same_name name m.0) as (λ b. cond b (Some m.1) (lookup (same_name name) ms) ≡ Some v → has_mark (cond b ms (m ∷ remove_entry (same_name name) ms)) at ≡ true) [
+  -- a mark in another stretch than the one found stays
+  pub mark_stays : (key d : ℕ) (v : Position) (ms : List (MarkName × Position)) → lookup (same_name name) ms ≡ Some v → (v.stretch ≡ Some key → ⊥) → IsMarked ms key d
+      → IsMarked (remove_entry (same_name name) ms) key d
+  mark_stays key d v [] found apart h = cc
+  mark_stays key d v (m ∷ ms) found apart h =
+      (elim (same_name name m.0) as (λ b. cond b (Some m.1) (lookup (same_name name) ms) ≡ Some v → IsMarked (cond b ms (m ∷ remove_entry (same_name name) ms)) key d) [
         | true ↦ λ k.
             (let same : m.1 ≡ v = cc in
-            elim (or_cases (option_eq nat_eq m.1 at) (has_mark ms at) h) [
-              | inl here ↦ absurd (apart (sym same ∙ same_option m.1 at here))
-              | inr later ↦ later
+            elim (Contains-cons_cases m h.mark ms h.kept) [
+              | inl here ↦ absurd (apart (ap (λ (p : Position). p.stretch) (sym same ∙ ap (λ (n : MarkName × Position). n.1) here) ∙ h.stretch))
+              | inr later ↦ record { mark = h.mark; kept = later; stretch = h.stretch; depth = h.depth }
             ])
         | false ↦ λ k.
-            elim (or_cases (option_eq nat_eq m.1 at) (has_mark ms at) h) [
-              | inl here ↦ or_left (option_eq nat_eq m.1 at) (has_mark (remove_entry (same_name name) ms) at) here
-              | inr later ↦ or_right (option_eq nat_eq m.1 at) (has_mark (remove_entry (same_name name) ms) at) (mark_stays at v ms k apart later)
+            elim (Contains-cons_cases m h.mark ms h.kept) [
+              | inl here ↦ record {
+                mark = m;
+                kept = (0, omega arith, refl);
+                stretch = ap (λ (n : MarkName × Position). n.1.stretch) here ∙ h.stretch;
+                depth = ap (λ (n : MarkName × Position). n.1.depth) here ∙ h.depth;
+              }
+              | inr later ↦
+                  let rest = mark_stays key d v ms k apart (record { mark = h.mark; kept = later; stretch = h.stretch; depth = h.depth }) in
+                  record { mark = rest.mark; kept = Contains-cons m rest.mark (remove_entry (same_name name) ms) rest.kept; stretch = rest.stretch; depth = rest.depth }
             ]
       ]) found
 
@@ -122,7 +130,7 @@ mark_goes b name new few =
     ∙ cond-false (length b.marks == MOST_MARKS) (Err TooManyMarks) done no
 
 -- a mark is dropped if it is there
-pub drop_goes : (t : MarkTree) (b : BookState) (name : MarkName) (ms es : List (MarkName × Option ℕ)) → b.marks ≡ marks_of t ms → is_some (marked_events b.marks name) ≡ true
+pub drop_goes : (t : MarkTree) (b : BookState) (name : MarkName) (ms es : List (MarkName × Position)) → b.marks ≡ marks_of t ms → is_some (marked_events b.marks name) ≡ true
     → es ≡ remove_entry (same_name name) ms → drop_mark b name ≡ Ok (with_marks b (marks_of t es))
 drop_goes t b name ms es same there e =
     let left : without_mark b.marks name ≡ marks_of t es =
@@ -173,12 +181,12 @@ decided R w xs ys same p q d = d R w p.ran q.ran
 
 -- The mark of a number
 
-pub mark_missing : (t : MarkTree) (b : BookState) (ms : List (MarkName × Option ℕ)) (i j : ℕ) → b.marks ≡ marks_of t ms → i ≡ suc j → slice_get ms j ≡ None → Err NoMark ≡ mark_at b i
+pub mark_missing : (t : MarkTree) (b : BookState) (ms : List (MarkName × Position)) (i j : ℕ) → b.marks ≡ marks_of t ms → i ≡ suc j → slice_get ms j ≡ None → Err NoMark ≡ mark_at b i
 mark_missing t b ms i j same e h =
     let at : slice_get b.marks j ≡ None = ap (λ (xs : List Mark). slice_get xs j) same ∙ slice_get-map (mark_of t) ms j ∙ ap (option_map (mark_of t)) h in
     sym (ap (mark_at b) e ∙ ap name_and_length at)
 
-pub mark_found : (t : MarkTree) (b : BookState) (ms : List (MarkName × Option ℕ)) (i j n : ℕ) (m : MarkName × Option ℕ) → b.marks ≡ marks_of t ms → i ≡ suc j → slice_get ms j ≡ Some m
+pub mark_found : (t : MarkTree) (b : BookState) (ms : List (MarkName × Position)) (i j n : ℕ) (m : MarkName × Position) → b.marks ≡ marks_of t ms → i ≡ suc j → slice_get ms j ≡ Some m
     → n ≡ length (path_in t m.1) → Ok (m.0, n) ≡ mark_at b i
 mark_found t b ms i j n m same e h len =
     let at : slice_get b.marks j ≡ Some (mark_of t m) = ap (λ (xs : List Mark). slice_get xs j) same ∙ slice_get-map (mark_of t) ms j ∙ ap (option_map (mark_of t)) h in

@@ -7,7 +7,8 @@ use Rattle.rd_journal.specs.Journal.{Journal, start_of}
 use Rattle.rd_journal.specs.State.{State, state_of, run_of, step_after, with_event, apply, back_one, forward_one, times, undo, back, redo, forward, one_out_unless, undo_at, dependant_in, roll, marked_out, closure_in}
 use Rattle.slab.specs.Slab.{Slab}
 use Rattle.rd_marks.specs.declared.names.MarkName.{MarkName}
-use Rattle.rd_marks.specs.declared.tree.Node.{Node}
+use Rattle.rd_marks.specs.declared.tree.Position.{Position}
+use Rattle.rd_marks.specs.declared.tree.Stretch.{Stretch}
 use Rattle.rd_marks.specs.Layout.{KeepsMarks}
 
 of_ok : (s t : State) (r : Result State Refusal) → r ≡ Ok s → r ≡ Ok t → t.start ≡ s.start
@@ -91,6 +92,6 @@ start_stays (Ok x) i j moved starts h g = starts (state_of j) h
 start_stays (Err e) i j moved starts h g = ap start_of g
 
 -- so the marks stay runs from it
-pub marks_stay : (R : ℕ) (v w : World) (nodes : Slab Node) (records : List Entry) (ms : List (MarkName × Option ℕ)) → w ≡ v → KeepsMarks R v nodes records ms
-    → KeepsMarks R w nodes records ms
-marks_stay R v w nodes records ms e k = subst (λ (u : World). KeepsMarks R u nodes records ms) (sym e) k
+pub marks_stay : (R : ℕ) (v w : World) (stretches : Slab Stretch) (ms : List (MarkName × Position)) → w ≡ v → KeepsMarks R v stretches ms
+    → KeepsMarks R w stretches ms
+marks_stay R v w stretches ms e k = subst (λ (u : World). KeepsMarks R u stretches ms) (sym e) k

@@ -1,148 +1,84 @@
--- Going to a node: what its path has in common with the live steps.
-use Rattle.std.proofs.Common.{◌≡◌, ℕ, zero, suc, ◌<◌, ◌≤◌, inl, inr, refl, sym, ap, ◌∙◌, subst, List, [], ◌∷◌, ◌++◌, length, take, drop, Option, Some, None, length-append, arith}
-use Rattle.std.proofs.Math.Seq.{take-append_seam, drop-append_seam, drop-length}
-use Rattle.std.proofs.lemmas.Bool.{cases_lt, cases_eq}
-use Rattle.std.proofs.lemmas.List.{map-append, append_assoc, append-nil, take-map, drop-map, take-append-drop}
+-- Going to a position: what its list has in common with the live steps.
+use Rattle.std.proofs.Common.{◌≡◌, ℕ, zero, suc, ◌+◌, ◌<◌, ◌≤◌, inl, inr, refl, sym, ap, ◌∙◌, subst, List, [], ◌∷◌, ◌++◌, length, take, drop, get_or, slice_get, option_map, Option, Some, None, arith}
+use Rattle.std.proofs.Math.Seq.{take-length, drop-length, drop-cons}
+use Rattle.std.proofs.lemmas.Bool.{cases_lt}
+use Rattle.std.proofs.lemmas.List.{length-map, take-map, take-take}
+use Rattle.std.proofs.lemmas.Option.{slice_get-map, get_or_from_slice_get}
 use Rattle.rd_step.specs.Run.{events}
 use Rattle.rd_step.specs.declared.entries.Event.{Event}
 use Rattle.rd_step.specs.declared.entries.Entry.{Entry}
 use Rattle.rd_depend.specs.Beginnings.{Begins}
-use Rattle.rd_marks.specs.Tree.{MarkTree, IsIn, depth_in, path_in, IsTree, IsNew}
-use Rattle.rd_marks.proofs.TreeLemmas.{there, deep, depth_there, path_there, events_there, path_length, events_length, same_path}
+use Rattle.rd_marks.specs.declared.tree.Position.{Position}
+use Rattle.rd_marks.specs.Tree.{Branch, MarkTree, list_in, path_in, IsPosition, IsIn, IsTree, IsNew}
+use Rattle.rd_marks.proofs.TreeLemmas.{path_length, events_length, position_within, on_way, begins_shorter, one_more, is_there}
 
-take_shorter : {X : Type 0} (n d : ℕ) (xs : List X) → n ≤ d → take n (take d xs) ≡ take n xs
-take_shorter zero d xs h = refl
-take_shorter (suc n) zero xs h = absurd (omega (arith, h))
-take_shorter (suc n) (suc d) [] h = refl
-take_shorter {X} (suc n) (suc d) (x ∷ xs) h = ap (λ (ys : List X). x ∷ ys) (take_shorter n d xs (omega (arith, h)))
-
--- a list that begins with another is that and a rest
-pub begun : {X : Type 0} (xs ys : List X) → Begins xs ys → ys ≡ xs ++ drop (length xs) ys
-begun {X} xs ys h = sym (take-append-drop (length xs) ys) ∙ ap (λ (zs : List X). zs ++ drop (length xs) ys) h
-
-pub begins_with : {X : Type 0} (xs ys rest : List X) → ys ≡ xs ++ rest → Begins xs ys
-begins_with xs ys rest h = ap (take (length xs)) h ∙ take-append_seam xs rest
-
-pub begins_shorter : {X : Type 0} (xs ys : List X) → Begins xs ys → length xs ≤ length ys
-begins_shorter xs ys h =
-    let all = ap length (begun xs ys h) ∙ length-append xs (drop (length xs) ys) in
-    omega (arith, all)
-
--- the node so far down on the way to another
-pub record IsOnWay (t : MarkTree) (at : Option ℕ) (i : ℕ) : Type 0 where
-  pub node : Option ℕ
-  pub present : IsIn t node
-  pub depth : depth_in t node ≡ i
-  pub rest : List Entry
-  pub path : path_in t at ≡ path_in t node ++ rest
+-- the live events have as many in common with the list of a position as what they begin with in the tree has
+pub common_live : (t : MarkTree) (b node : Position) (n : ℕ) (es live : List Event) → es ≡ live → n ≤ b.depth → events (path_in t b) ≡ take b.depth es
+    → take n (path_in t b) ≡ take n (path_in t node) → take n live ≡ take n (events (path_in t node))
+common_live t b node n es live same within begins alike =
+    let event = λ (x : Entry). x.event in
+    ap (take n) (sym same) ∙ sym (take-take n b.depth es within) ∙ ap (take n) (sym begins) ∙ take-map event n (path_in t b) ∙ ap events alike
+    ∙ sym (take-map event n (path_in t node))
 
 module _ (t : MarkTree) (rule : IsTree t) where
-  pub on_way : (d : ℕ) (at : Option ℕ) → depth_in t at ≡ d → IsIn t at → (i : ℕ) → i ≤ d → IsOnWay t at i
-  on_way d at e is i h =
-      elim (cases_eq i d) [
-        | inl same ↦ record { node = at; present = is; depth = e ∙ sym same; rest = []; path = sym (append-nil (path_in t at)) }
-        | inr apart ↦ above d at e is i (omega (arith, h, apart))
-      ]
-    where
-      above : (d : ℕ) (at : Option ℕ) → depth_in t at ≡ d → IsIn t at → (i : ℕ) → i < d → IsOnWay t at i
-      above zero at e is i h = absurd (omega (arith, h))
-      above (suc d) None e is i h = absurd (omega (arith, e))
-      above (suc d) (Some key) e is i h =
-          let found = there t key is in
-          let n = found.0 in
-          let up = depth_there t rule key n found.1 in
-          let shallow : depth_in t n.parent ≡ d = omega (arith, up, e) in
-          let present = (rule.below key n found.1).0 in
-          let path = path_there t rule key n found.1 in
-          elim (cases_eq i d) [
-            | inl same ↦ record { node = n.parent; present = present; depth = shallow ∙ sym same; rest = n.entry ∷ []; path = path }
-            | inr apart ↦
-                let on = above d n.parent shallow present i (omega (arith, h, apart)) in
-                record {
-                  node = on.node;
-                  present = on.present;
-                  depth = on.depth;
-                  rest = on.rest ++ n.entry ∷ [];
-                  path = path ∙ ap (λ (xs : List Entry). xs ++ n.entry ∷ []) on.path ∙ append_assoc (path_in t on.node) on.rest (n.entry ∷ []);
-                }
-          ]
-
-  -- what two paths share
-  pub common_depth : (c at : Option ℕ) → IsIn t c → IsIn t at → Begins (path_in t c) (path_in t at) → depth_in t c ≤ depth_in t at
-  common_depth c at c_in is h =
-      let short = begins_shorter (path_in t c) (path_in t at) h in
-      let here = path_length t rule c c_in in
-      let there_too = path_length t rule at is in
-      omega (arith, short, here, there_too)
-
-  pub common_events : (b c node : Option ℕ) (live : List Event) → IsIn t b → IsIn t c → IsIn t node → Begins (path_in t c) (path_in t b) → Begins (path_in t c) (path_in t node)
-      → events (path_in t b) ≡ take (depth_in t b) live → take (depth_in t c) live ≡ take (depth_in t c) (events (path_in t node))
-  common_events b c node live b_in c_in node_in first second begins =
-      let n = depth_in t c in
-      let long = path_length t rule c c_in in
-      let within = common_depth c b c_in b_in first in
-      sym (take_shorter n (depth_in t b) live within) ∙ ap (take n) (sym begins)
-      ∙ take-map (λ (x : Entry). x.event) n (path_in t b) ∙ ap events (ap (λ (m : ℕ). take m (path_in t b)) (sym long) ∙ first)
-      ∙ sym (take-map (λ (x : Entry). x.event) n (path_in t node) ∙ ap events (ap (λ (m : ℕ). take m (path_in t node)) (sym long) ∙ second))
-
-  -- so that the live events keep as many as the node that both are below is deep
-  pub common_live : (b c node : Option ℕ) (n : ℕ) (es live : List Event) → es ≡ live → n ≡ depth_in t c → IsIn t b → IsIn t c → IsIn t node
-      → Begins (path_in t c) (path_in t b) → Begins (path_in t c) (path_in t node) → events (path_in t b) ≡ take (depth_in t b) es
-      → take n live ≡ take n (events (path_in t node))
-  common_live b c node n es live same deep b_in c_in node_in first second begins =
-      subst (λ (m : ℕ). take m live ≡ take m (events (path_in t node))) (sym deep)
-      (subst (λ (fs : List Event). take (depth_in t c) fs ≡ take (depth_in t c) (events (path_in t node))) same
-      (common_events b c node es b_in c_in node_in first second begins))
-
-  -- behind as many as it is deep, the path of a node has no records
-  pub none_behind : (node : Option ℕ) (n : ℕ) (zs : List Entry) → IsIn t node → depth_in t node ≡ n → zs ≡ drop n (path_in t node) → zs ≡ []
+  -- behind as many as it is deep, the list of a position has no records
+  pub none_behind : (node : Position) (n : ℕ) (zs : List Entry) → IsIn t node → node.depth ≡ n → zs ≡ drop n (path_in t node) → zs ≡ []
   none_behind node n zs is all given =
       given ∙ ap (λ (m : ℕ). drop m (path_in t node)) (sym all ∙ sym (path_length t rule node is)) ∙ drop-length (path_in t node)
 
-  -- a node whose path begins the records is on the way to the deepest whose path does
-  pub reached : (b node : Option ℕ) (xs : List Entry) → IsIn t b → IsIn t node → events (path_in t b) ≡ take (depth_in t b) (events xs) → IsNew t b (drop (depth_in t b) xs)
-      → Begins (events (path_in t node)) (events xs) → Begins (events (path_in t node)) (events (path_in t b))
-  reached b node xs b_in node_in begins deepest h =
-      elim (cases_lt (depth_in t b) (depth_in t node)) [
-        | inr shallow ↦
-            let long = events_length t rule node node_in in
-            ap (take (length (events (path_in t node)))) begins
-            ∙ take_shorter (length (events (path_in t node))) (depth_in t b) (events xs) (omega (arith, long, shallow)) ∙ h
-        | inl further ↦ absurd (too_deep (on_way (depth_in t node) node refl node_in (suc (depth_in t b)) (omega (arith, further))))
+  -- a position whose list begins the records is no deeper than the deepest whose list does
+  pub no_deeper : (b node : Position) (xs : List Entry) → IsIn t node → events (path_in t b) ≡ take b.depth (events xs) → IsNew t b (drop b.depth xs)
+      → Begins (events (path_in t node)) (events xs) → node.depth ≤ b.depth
+  no_deeper b node xs node_in begins deepest h =
+      elim (cases_lt b.depth node.depth) [
+        | inr shallow ↦ shallow
+        | inl further ↦ absurd (too_deep further)
       ]
     where
-      all : events xs ≡ events (path_in t node) ++ drop (length (events (path_in t node))) (events xs)
-      all = begun (events (path_in t node)) (events xs) h
+      event : Entry → Event
+      event x = x.event
 
-      first_of : (ys : List Entry) (e : Event) (tail : List Event) → events ys ≡ e ∷ tail → (x : Entry) × (rest : List Entry) × (ys ≡ x ∷ rest) × (x.event ≡ e)
-      first_of [] e tail k = cc
-      first_of (y ∷ ys) e tail k = (y, ys, refl, (cc))
+      long : length (events (path_in t node)) ≡ node.depth
+      long = events_length t rule node node_in
 
-      too_deep : IsOnWay t node (suc (depth_in t b)) → ⊥
-      too_deep on =
-          let found = deep t rule on.node on.present (omega (arith, on.depth)) in
-          let key = found.0 in
-          let n = found.1 in
-          let shallow : depth_in t n.parent ≡ depth_in t b =
-          (let up = ap (depth_in t) (sym found.2) ∙ on.depth in let more = depth_there t rule key n found.3 in omega (arith, up, more)) in
-          let parent_in = (rule.below key n found.3).0 in
-          let tail = events on.rest ++ drop (length (events (path_in t node))) (events xs) in
-          let whole : events xs ≡ events (path_in t n.parent) ++ n.entry.event ∷ tail =
-          all ∙ ap (λ (es : List Event). es ++ drop (length (events (path_in t node))) (events xs))
-          (ap events on.path ∙ map-append (λ (x : Entry). x.event) (path_in t on.node) on.rest
-          ∙ ap (λ (es : List Event). es ++ events on.rest) (ap (λ (p : Option ℕ). events (path_in t p)) found.2 ∙ events_there t rule key n found.3)
-          ∙ append_assoc (events (path_in t n.parent)) (n.entry.event ∷ []) (events on.rest))
-          ∙ append_assoc (events (path_in t n.parent)) (n.entry.event ∷ events on.rest) (drop (length (events (path_in t node))) (events xs)) in
-          let long : length (events (path_in t n.parent)) ≡ depth_in t b = events_length t rule n.parent parent_in ∙ shallow in
-          let start : take (depth_in t b) (events xs) ≡ events (path_in t n.parent) =
-          ap (λ (m : ℕ). take m (events xs)) (sym long) ∙ begins_with (events (path_in t n.parent)) (events xs) (n.entry.event ∷ tail) whole in
-          let end : events (drop (depth_in t b) xs) ≡ n.entry.event ∷ tail =
-          sym (drop-map (λ (x : Entry). x.event) (depth_in t b) xs) ∙ ap (λ (m : ℕ). drop m (events xs)) (sym long) ∙ ap (drop (length (events (path_in t n.parent)))) whole
-          ∙ drop-append_seam (events (path_in t n.parent)) (n.entry.event ∷ tail) in
-          let next = first_of (drop (depth_in t b) xs) n.entry.event tail end in
-          deepest next.0 next.1 next.2 key (record {
-            node = n;
-            there = found.3;
-            below = same_path t rule n.parent parent_in b b_in (sym start ∙ sym begins);
-            its_event = sym next.3;
-          })
+      all_events : length (events xs) ≡ length xs
+      all_events = length-map xs (λ (x : Entry). x.event)
+
+      short : length (events (path_in t node)) ≤ length (events xs)
+      short = begins_shorter (events (path_in t node)) (events xs) h
+
+      too_deep : b.depth < node.depth → ⊥
+      too_deep further =
+          let d = b.depth in
+          let within = position_within t node.stretch node.depth node_in in
+          let way = on_way t rule node.stretch (suc d) (omega (arith, further, within)) in
+          let next = is_there xs d (omega (arith, further, long, short, all_events)) in
+          let x = next.0 in
+          let its : slice_get (events xs) d ≡ Some x.event = slice_get-map (λ (y : Entry). y.event) xs d ∙ ap (option_map (λ (y : Entry). y.event)) next.1 in
+          let cut : take (suc d) (events (path_in t node)) ≡ events (path_in t b) ++ x.event ∷ [] =
+          ap (take (suc d)) (sym h) ∙ take-take (suc d) (length (events (path_in t node))) (events xs) (omega (arith, long, further))
+          ∙ one_more (events xs) d x.event its ∙ ap (λ (es : List Event). es ++ x.event ∷ []) (sym begins) in
+          let goes : events (take (suc d) (list_in t way.stretch)) ≡ events (path_in t b) ++ x.event ∷ [] =
+          ap events (way.path ∙ sym (take-take (suc d) node.depth (list_in t node.stretch) (omega (arith, further))))
+          ∙ sym (take-map (λ (y : Entry). y.event) (suc d) (path_in t node)) ∙ cut in
+          let rest : drop d xs ≡ x ∷ drop (suc d) xs =
+          drop-cons xs d x (omega (arith, further, long, short, all_events)) ∙ ap (λ (y : Entry). y ∷ drop (suc d) xs) (get_or_from_slice_get xs d x x next.1) in
+          at way.stretch way.present goes rest
+        where
+          at : {x : Entry} {tail : List Entry} (k : Option ℕ) → IsPosition t k (suc b.depth) → events (take (suc b.depth) (list_in t k)) ≡ events (path_in t b) ++ x.event ∷ [] → drop b.depth xs ≡ x ∷ tail → ⊥
+          at None is goes rest = omega (arith, is)
+          at {x = x} {tail = tail} (Some key) is goes rest = deepest x tail rest key (record { on = is; goes = goes })
+
+  -- so a list that begins the records has all of its own in common with them
+  pub whole_common : (b node : Position) (n : ℕ) (xs : List Entry) → IsIn t node → events (path_in t b) ≡ take b.depth (events xs) → IsNew t b (drop b.depth xs)
+      → Begins (events (path_in t node)) (events xs) → n ≤ node.depth
+      → ((m : ℕ) → m ≤ b.depth → m ≤ node.depth → take m (events (path_in t b)) ≡ take m (events (path_in t node)) → m ≤ n) → node.depth ≡ n
+  whole_common b node n xs is begins deepest h within most =
+      let shallow = no_deeper b node xs is begins deepest h in
+      let long = events_length t rule node is in
+      let d = node.depth in
+      let alike : take d (events (path_in t b)) ≡ take d (events (path_in t node)) =
+      ap (take d) begins ∙ take-take d b.depth (events xs) shallow ∙ ap (λ (m : ℕ). take m (events xs)) (sym long) ∙ h
+      ∙ sym (ap (λ (m : ℕ). take m (events (path_in t node))) (sym long) ∙ take-length (events (path_in t node))) in
+      let all = most d shallow (omega arith) alike in
+      omega (arith, all, within)

@@ -1,140 +1,335 @@
--- Paths in a tree of marks.
-use Rattle.std.proofs.Common.{◌≡◌, ℕ, zero, suc, ◌+◌, ◌≤◌, true, true≢false, refl, sym, ap, ◌∙◌, subst, List, [], ◌∷◌, ◌++◌, length, is_some, Option, Some, None, arith, length-append}
-use Rattle.std.specs.Option.{option_map_or}
-use Rattle.std.proofs.lemmas.List.{map-append, length-map}
+-- Lists in a tree of stretches.
+use Rattle.std.proofs.Common.{◌≡◌, ℕ, zero, suc, ◌+◌, ◌-◌, ◌<◌, ◌≤◌, inl, inr, refl, sym, ap, ◌∙◌, subst, List, [], ◌∷◌, ◌++◌, length, take, drop, slice_get, Option, Some, None, arith, length-append}
+use Rattle.std.proofs.Math.Seq.{take-append_seam, take-length}
+use Rattle.std.proofs.lemmas.Bool.{cases_lt}
+use Rattle.std.proofs.lemmas.Option.{slice_get_within}
+use Rattle.std.proofs.lemmas.List.{length-map, length-take-le, take-map, take-take, take-append-le, drop-take}
 use Rattle.rd_step.specs.Run.{events}
+use Rattle.rd_step.specs.declared.entries.Event.{Event}
 use Rattle.rd_step.specs.declared.entries.Entry.{Entry}
-use Rattle.rd_marks.specs.Tree.{TreeNode, MarkTree, IsIn, depth_in, above, parent_in, path_by, path_up, path_in, IsTree, IsPartOf}
+use Rattle.rd_depend.specs.Beginnings.{Begins}
+use Rattle.rd_marks.specs.declared.tree.Position.{Position}
+use Rattle.rd_marks.specs.Tree.{Branch, MarkTree, rank_of, rank, list_by, list_up, list_in, path_in, IsOn, IsPosition, IsIn, IsTree, IsHigher}
 
--- what is there
-pub there : (t : MarkTree) (key : ℕ) → IsIn t (Some key) → (n : TreeNode) × (t key ≡ Some n)
-there t key h = found (t key) refl h
+-- Beginnings of lists
+
+pub begins_itself : {X : Type 0} (xs : List X) → Begins xs xs
+begins_itself xs = take-length xs
+
+pub begins_with : {X : Type 0} (xs ys rest : List X) → ys ≡ xs ++ rest → Begins xs ys
+begins_with xs ys rest h = ap (take (length xs)) h ∙ take-append_seam xs rest
+
+pub begins_taken : {X : Type 0} (xs : List X) (n : ℕ) → n ≤ length xs → Begins (take n xs) xs
+begins_taken xs n h = ap (λ (m : ℕ). take m xs) (length-take-le n xs h)
+
+pub begins_trans : {X : Type 0} (xs ys zs : List X) → Begins xs ys → Begins ys zs → Begins xs zs
+begins_trans {X} xs ys zs h k =
+    let cut = ap length (sym h) in
+    let short : length xs ≤ length ys = shorter (length xs) ys cut in
+    sym (take-take (length xs) (length ys) zs short) ∙ ap (take (length xs)) k ∙ h
   where
-    found : (o : Option TreeNode) → t key ≡ o → is_some o ≡ true → (n : TreeNode) × (t key ≡ Some n)
-    found None e k = absurd (true≢false (sym k))
-    found (Some n) e k = (n, e)
+    shorter : (n : ℕ) (ys : List X) → n ≡ length (take n ys) → n ≤ length ys
+    shorter zero ys e = omega arith
+    shorter (suc n) [] e = absurd (omega (arith, e))
+    shorter (suc n) (y ∷ ys) e = let rest = shorter n ys (omega (arith, e)) in omega (arith, rest)
 
-pub is_there : (t : MarkTree) (key : ℕ) (n : TreeNode) → t key ≡ Some n → IsIn t (Some key)
-is_there t key n e = ap is_some e
+pub begins_shorter : {X : Type 0} (xs ys : List X) → Begins xs ys → length xs ≤ length ys
+begins_shorter [] ys h = omega arith
+begins_shorter (x ∷ xs) [] h = cc
+begins_shorter {X} (x ∷ xs) (y ∷ ys) h =
+    let tail : take (length xs) ys ≡ xs = cc in
+    let rest = begins_shorter xs ys tail in
+    omega (arith, rest)
 
--- lists with one more element each are equal only if their parts are
-pub last_parts : {X : Type 0} (xs ys : List X) (x y : X) → xs ++ x ∷ [] ≡ ys ++ y ∷ [] → (xs ≡ ys) × (x ≡ y)
-last_parts [] [] x y h = (refl, (cc))
-last_parts [] (b ∷ ys) x y h =
-    let long = ap length h ∙ ap suc (length-append ys (y ∷ [])) in
-    absurd (omega (arith, long))
-last_parts (a ∷ xs) [] x y h =
-    let long = sym (ap length h) ∙ ap suc (length-append xs (x ∷ [])) in
-    absurd (omega (arith, long))
-last_parts {X} (a ∷ xs) (b ∷ ys) x y h =
-    let heads : a ≡ b = cc in
-    let tails : xs ++ x ∷ [] ≡ ys ++ y ∷ [] = cc in
-    let rest = last_parts xs ys x y tails in
-    ((λ i. heads i ∷ rest.0 i), rest.1)
+pub take_past : {X : Type 0} (xs ys : List X) (d : ℕ) → length xs ≤ d → take d (xs ++ ys) ≡ xs ++ take (d - length xs) ys
+take_past [] ys d h = ap (λ (n : ℕ). take n ys) (let same : d ≡ d - 0 = omega arith in same)
+take_past (x ∷ xs) ys zero h = absurd (omega (arith, h))
+take_past {X} (x ∷ xs) ys (suc d) h =
+    ap (λ (zs : List X). x ∷ zs) (take_past xs ys d (omega (arith, h)) ∙ ap (λ (n : ℕ). xs ++ take n ys) (let same : d - length xs ≡ suc d - suc (length xs) = omega arith in same))
+
+-- Going down from a stretch
+
+-- what a stretch branches off has a lower rank
+abbrev pub IsLow : MarkTree → Type 0
+IsLow t = (key : ℕ) (x : Branch) → t key ≡ Some x → rank t x.below ≤ x.before
+
+position_rank : (t : MarkTree) (at : Option ℕ) (d : ℕ) → IsPosition t at d → rank t at ≤ d
+position_rank t None d h = omega arith
+position_rank t (Some key) d h =
+    let deep : rank t (Some key) ≡ suc h.branch.before = ap rank_of h.there in
+    let after = h.after in
+    omega (arith, deep, after)
+
+pub is_low : (t : MarkTree) → IsTree t → IsLow t
+is_low t rule key x e = position_rank t x.below x.before (rule.below key x e)
+
+module _ (t : MarkTree) (low : IsLow t) where
+  no_rank : (n : ℕ) (at : Option ℕ) → rank t at ≤ 0 → list_up t n at ≡ []
+  no_rank zero at h = refl
+  no_rank (suc n) None h = refl
+  no_rank (suc n) (Some key) h = by (t key) refl
+    where
+      by : (o : Option Branch) → t key ≡ o → list_up t (suc n) (Some key) ≡ []
+      by None e = ap (list_by (λ below. list_up t n below)) e
+      by (Some x) e = let deep : rank t (Some key) ≡ suc x.before = ap rank_of e in absurd (omega (arith, deep, h))
+
+  same_at : (m n key : ℕ) (o : Option Branch) → t key ≡ o → ((x : Branch) → t key ≡ Some x → list_up t m x.below ≡ list_up t n x.below)
+      → list_up t (suc m) (Some key) ≡ list_up t (suc n) (Some key)
+  same_at m n key None e up = ap (list_by (λ below. list_up t m below)) e ∙ sym (ap (list_by (λ below. list_up t n below)) e)
+  same_at m n key (Some x) e up =
+      ap (list_by (λ below. list_up t m below)) e ∙ ap (λ (xs : List Entry). take x.before xs ++ x.records) (up x e) ∙ sym (ap (list_by (λ below. list_up t n below)) e)
+
+  -- going down more stretches than there are finds no more
+  same_up : (m n : ℕ) (at : Option ℕ) → rank t at ≤ m → rank t at ≤ n → list_up t m at ≡ list_up t n at
+  same_up zero n at h k = sym (no_rank n at h)
+  same_up (suc m) zero at h k = no_rank (suc m) at k
+  same_up (suc m) (suc n) None h k = refl
+  same_up (suc m) (suc n) (Some key) h k =
+      same_at m n key (t key) refl (λ x e.
+          (let deep : rank t (Some key) ≡ suc x.before = ap rank_of e in
+          let under = low key x e in
+          same_up m n x.below (omega (arith, deep, under, h)) (omega (arith, deep, under, k))))
+
+  -- the list of a stretch is what lies below it, and its records
+  pub list_there : (key : ℕ) (x : Branch) → t key ≡ Some x → list_in t (Some key) ≡ take x.before (list_in t x.below) ++ x.records
+  list_there key x e =
+      let deep : rank t (Some key) ≡ suc x.before = ap rank_of e in
+      let under = low key x e in
+      ap (λ (n : ℕ). list_up t n (Some key)) deep
+      ∙ ap (list_by (λ below. list_up t x.before below)) e
+      ∙ ap (λ (xs : List Entry). take x.before xs ++ x.records) (same_up x.before (rank t x.below) x.below under (omega arith))
+
+  pub list_nowhere : (key : ℕ) → t key ≡ None → list_in t (Some key) ≡ []
+  list_nowhere key e = ap (λ (n : ℕ). list_up t n (Some key)) (ap rank_of e)
+
+  -- what holds at the start and where nothing is, and goes up from each stretch to those that branch off, holds everywhere
+  pub down : (P : Option ℕ → Type 0) → P None → ((key : ℕ) → t key ≡ None → P (Some key)) → ((key : ℕ) (x : Branch) → t key ≡ Some x → P x.below → P (Some key))
+      → (at : Option ℕ) → P at
+  down P start nowhere step at = go (rank t at) at (omega arith)
+    where
+      by : (key : ℕ) (o : Option Branch) → t key ≡ o → ((x : Branch) → t key ≡ Some x → P x.below) → P (Some key)
+      by key None e up = nowhere key e
+      by key (Some x) e up = step key x e (up x e)
+
+      go : (n : ℕ) (at : Option ℕ) → rank t at ≤ n → P at
+      go n None h = start
+      go zero (Some key) h = by key (t key) refl (λ x e. (let deep : rank t (Some key) ≡ suc x.before = ap rank_of e in absurd (omega (arith, deep, h))))
+      go (suc n) (Some key) h =
+          by key (t key) refl (λ x e.
+              (let deep : rank t (Some key) ≡ suc x.before = ap rank_of e in
+              let under = low key x e in
+              go n x.below (omega (arith, deep, under, h))))
+
+-- Lengths
+
+abbrev pub end_of : Option Branch → ℕ
+end_of None = 0
+end_of (Some x) = x.before + length x.records
+
+-- how many records the list of a stretch has
+abbrev pub total : MarkTree → Option ℕ → ℕ
+total t None = 0
+total t (Some key) = end_of (t key)
+
+pub position_within : (t : MarkTree) (at : Option ℕ) (d : ℕ) → IsPosition t at d → d ≤ total t at
+position_within t None d h = omega (arith, h)
+position_within t (Some key) d h =
+    let all : total t (Some key) ≡ h.branch.before + length h.branch.records = ap end_of h.there in
+    let within = h.within in
+    omega (arith, all, within)
+
+-- a position in a stretch, as its branch says
+pub on_there : (t : MarkTree) (key d : ℕ) (x : Branch) → t key ≡ Some x → x.before < d → d ≤ x.before + length x.records → IsOn t key d
+on_there t key d x e after within = record { branch = x; there = e; after = after; within = within }
+
+pub its_branch : (t : MarkTree) (key d : ℕ) (x : Branch) → t key ≡ Some x → (on : IsOn t key d) → (x.before < d) × (d ≤ x.before + length x.records)
+its_branch t key d x e on =
+    let same : on.branch ≡ x = (let both = sym on.there ∙ e in cc) in
+    (subst (λ (y : Branch). y.before < d) same on.after, subst (λ (y : Branch). d ≤ y.before + length y.records) same on.within)
 
 module _ (t : MarkTree) (rule : IsTree t) where
-  -- the depth of a node is one more than that of the one above it
-  pub depth_there : (key : ℕ) (n : TreeNode) → t key ≡ Some n → depth_in t (Some key) ≡ suc (depth_in t n.parent)
-  depth_there key n e = ap (λ (o : Option TreeNode). option_map_or (λ m. m.depth) o 0) e ∙ (rule.below key n e).1
+  pub list_length : (at : Option ℕ) → length (list_in t at) ≡ total t at
+  list_length = down t (is_low t rule) (λ at. length (list_in t at) ≡ total t at) refl
+      (λ key e. ap length (list_nowhere t (is_low t rule) key e) ∙ sym (ap end_of e))
+      (λ key x e h.
+          let within = position_within t x.below x.before (rule.below key x e) in
+          let long = length-take-le x.before (list_in t x.below) (omega (arith, within, h)) in
+          let parts = ap length (list_there t (is_low t rule) key x e) ∙ length-append (take x.before (list_in t x.below)) x.records in
+          let all : total t (Some key) ≡ x.before + length x.records = ap end_of e in
+          omega (arith, long, parts, all))
 
-  -- its path is one record more
-  pub path_there : (key : ℕ) (n : TreeNode) → t key ≡ Some n → path_in t (Some key) ≡ path_in t n.parent ++ n.entry ∷ []
-  path_there key n e =
-      ap (λ (d : ℕ). path_up t d (Some key)) (depth_there key n e)
-      ∙ ap (λ (o : Option TreeNode). path_by (λ parent. path_up t (depth_in t n.parent) parent) o) e
+  -- the list of a position has as many records as it is deep
+  pub path_length : (p : Position) → IsIn t p → length (path_in t p) ≡ p.depth
+  path_length p is =
+      let within = position_within t p.stretch p.depth is in
+      let long = list_length p.stretch in
+      length-take-le p.depth (list_in t p.stretch) (omega (arith, within, long))
 
-  -- what holds at the root and goes down from each node to those below it holds at every node
-  pub down : (P : Option ℕ → Type 0) → P None → ((key : ℕ) (n : TreeNode) → t key ≡ Some n → P n.parent → P (Some key)) → (at : Option ℕ) → IsIn t at → P at
-  down P root step at is = go (depth_in t at) at refl is
-    where
-      go : (d : ℕ) (at : Option ℕ) → depth_in t at ≡ d → IsIn t at → P at
-      go d None e is = root
-      go zero (Some key) e is =
-          let found = there t key is in
-          let deep = depth_there key found.0 found.1 in
-          absurd (omega (arith, deep, e))
-      go (suc d) (Some key) e is =
-          let found = there t key is in
-          let deep = depth_there key found.0 found.1 in
-          step key found.0 found.1 (go d found.0.parent (omega (arith, deep, e)) (rule.below key found.0 found.1).0)
+  pub events_length : (p : Position) → IsIn t p → length (events (path_in t p)) ≡ p.depth
+  events_length p is = length-map (path_in t p) (λ (x : Entry). x.event) ∙ path_length p is
 
-  -- a path has as many records as its node is deep
-  pub path_length : (at : Option ℕ) → IsIn t at → length (path_in t at) ≡ depth_in t at
-  path_length = down (λ at. length (path_in t at) ≡ depth_in t at) refl
-      (λ key n e h. ap length (path_there key n e) ∙ length-append (path_in t n.parent) (n.entry ∷ []) ∙ more (length (path_in t n.parent)) (depth_in t n.parent) h ∙ sym (depth_there key n e))
-    where
-      more : (k d : ℕ) → k ≡ d → k + 1 ≡ suc d
-      more k d h = omega (arith, h)
+  -- the list where a stretch branches off begins its list
+  pub foot_path : (key : ℕ) (x : Branch) (d : ℕ) → t key ≡ Some x → x.before ≤ d → take x.before (take d (list_in t (Some key))) ≡ take x.before (list_in t x.below)
+  foot_path key x d e h =
+      let within = position_within t x.below x.before (rule.below key x e) in
+      let long = length-take-le x.before (list_in t x.below) (let all = list_length x.below in omega (arith, within, all)) in
+      take-take x.before d (list_in t (Some key)) h ∙ ap (take x.before) (list_there t (is_low t rule) key x e)
+      ∙ take-append-le x.before (take x.before (list_in t x.below)) x.records (omega (arith, long))
+      ∙ take-take x.before x.before (list_in t x.below) (omega arith)
 
-  pub events_length : (at : Option ℕ) → IsIn t at → length (events (path_in t at)) ≡ depth_in t at
-  events_length at is = length-map (path_in t at) (λ (x : Entry). x.event) ∙ path_length at is
+  -- the position with so many records of the list of a stretch
+  pub record IsOnWay (at : Option ℕ) (d : ℕ) : Type 0 where
+    pub stretch : Option ℕ
+    pub present : IsPosition t stretch d
+    pub path : take d (list_in t stretch) ≡ take d (list_in t at)
 
-  -- the events of a path are those of the path above and one more
-  pub events_there : (key : ℕ) (n : TreeNode) → t key ≡ Some n → events (path_in t (Some key)) ≡ events (path_in t n.parent) ++ n.entry.event ∷ []
-  events_there key n e = ap events (path_there key n e) ∙ map-append (λ (x : Entry). x.event) (path_in t n.parent) (n.entry ∷ [])
+  no_way : (at : Option ℕ) (d : ℕ) → d ≡ 0 → IsOnWay at d
+  no_way at zero e = record { stretch = None; present = refl; path = refl }
+  no_way at (suc d) e = absurd (omega (arith, e))
 
-  -- a node that is deep enough is below another
-  pub deep : (at : Option ℕ) → IsIn t at → 1 ≤ depth_in t at → (key : ℕ) × (n : TreeNode) × (at ≡ Some key) × (t key ≡ Some n)
-  deep None is h = absurd (omega (arith, h))
-  deep (Some key) is h = let found = there t key is in (key, found.0, refl, found.1)
+  pub on_way : (at : Option ℕ) (d : ℕ) → d ≤ total t at → IsOnWay at d
+  on_way = down t (is_low t rule) (λ at. (d : ℕ) → d ≤ total t at → IsOnWay at d) (λ d h. no_way None d (omega (arith, h)))
+      (λ key e d h. let none : total t (Some key) ≡ 0 = ap end_of e in no_way (Some key) d (omega (arith, none, h)))
+      (λ key x e go d h. elim (cases_lt x.before d) [
+        | inl after ↦
+            let all : total t (Some key) ≡ x.before + length x.records = ap end_of e in
+            record { stretch = Some key; present = on_there t key d x e after (omega (arith, all, h)); path = refl }
+        | inr shallow ↦
+            let within = position_within t x.below x.before (rule.below key x e) in
+            let on = go d (omega (arith, within, shallow)) in
+            record {
+              stretch = on.stretch;
+              present = on.present;
+              path =
+                  on.path ∙ sym (take-take d x.before (list_in t x.below) shallow) ∙ ap (take d) (sym (foot_path key x x.before e (omega arith)))
+                  ∙ take-take d x.before (take x.before (list_in t (Some key))) shallow ∙ take-take d x.before (list_in t (Some key)) shallow;
+            }
+      ])
 
-  -- and else it is the root
-  pub root : (at : Option ℕ) → IsIn t at → depth_in t at ≡ 0 → at ≡ None
-  root None is h = refl
-  root (Some key) is h =
-      let found = there t key is in
-      let more = depth_there key found.0 found.1 in
-      absurd (omega (arith, more, h))
+  -- positions with lists of the same events are one
+  pub same_stretch : (a b : Option ℕ) (d : ℕ) → IsPosition t a d → IsPosition t b d → events (take d (list_in t a)) ≡ events (take d (list_in t b)) → a ≡ b
+  same_stretch None None d h k same = refl
+  same_stretch None (Some key) d h k same = let after = k.after in absurd (omega (arith, h, after))
+  same_stretch (Some key) None d h k same = let after = h.after in absurd (omega (arith, k, after))
+  same_stretch (Some a) (Some b) d h k same = ap (λ (key : ℕ). Some key) (rule.different a b d h k same)
 
-  pub parent_there : (key : ℕ) (n : TreeNode) → t key ≡ Some n → parent_in t (Some key) ≡ n.parent
-  parent_there key n e = ap above e
+  pub same_position : (p q : Position) → IsIn t p → IsIn t q → events (path_in t p) ≡ events (path_in t q) → p ≡ q
+  same_position p q h k same =
+      let deep : p.depth ≡ q.depth = sym (events_length p h) ∙ ap length same ∙ events_length q k in
+      let here : IsPosition t q.stretch p.depth = subst (λ (d : ℕ). IsPosition t q.stretch d) (sym deep) k in
+      let one = same_stretch p.stretch q.stretch p.depth h here (same ∙ ap (λ (d : ℕ). events (take d (list_in t q.stretch))) (sym deep)) in
+      (λ i. record { stretch = one i; depth = deep i })
 
-  -- the node above it is of the tree too
-  pub parent_is_in : (at : Option ℕ) → IsIn t at → IsIn t (parent_in t at)
-  parent_is_in None is = refl
-  parent_is_in (Some key) is =
-      let found = there t key is in
-      subst (λ (p : Option ℕ). IsIn t p) (sym (parent_there key found.0 found.1)) (rule.below key found.0 found.1).0
+  -- a position with fewer records of the list of another begins it
+  pub begins_deeper : (key : Option ℕ) (n d : ℕ) → n ≤ d → IsPosition t key d → Begins (take n (list_in t key)) (take d (list_in t key))
+  begins_deeper key n d h is =
+      let within = position_within t key d is in
+      let all = list_length key in
+      let long = length-take-le n (list_in t key) (omega (arith, within, all, h)) in
+      ap (λ (m : ℕ). take m (take d (list_in t key))) long ∙ take-take n d (list_in t key) h
 
-  -- nodes with paths of the same events are one
-  pub same_path : (a : Option ℕ) → IsIn t a → (b : Option ℕ) → IsIn t b → events (path_in t a) ≡ events (path_in t b) → a ≡ b
-  same_path = down (λ a. (b : Option ℕ) → IsIn t b → events (path_in t a) ≡ events (path_in t b) → a ≡ b)
-      (λ b is h. sym (root b is (sym (events_length b is) ∙ sym (ap length h))))
-      (λ key n e up b is h. below key n e up b is h)
-    where
-      below : (key : ℕ) (n : TreeNode) → t key ≡ Some n → ((b : Option ℕ) → IsIn t b → events (path_in t n.parent) ≡ events (path_in t b) → n.parent ≡ b)
-          → (b : Option ℕ) → IsIn t b → events (path_in t (Some key)) ≡ events (path_in t b) → Some key ≡ b
-      below key n e up None is h =
-          let none = sym (events_length (Some key) (is_there t key n e)) ∙ ap length h in
-          let more = depth_there key n e in
-          absurd (omega (arith, none, more))
-      below key n e up (Some other) is h =
-          let found = there t other is in
-          let both = sym (events_there key n e) ∙ h ∙ events_there other found.0 found.1 in
-          let parts = last_parts (events (path_in t n.parent)) (events (path_in t found.0.parent)) n.entry.event found.0.entry.event both in
-          let parents = up found.0.parent (rule.below other found.0 found.1).0 parts.0 in
-          ap (λ (k : ℕ). Some k) (rule.different key other n found.0 e found.1 parents parts.1)
+-- one more element of a list
+pub one_more : {X : Type 0} (xs : List X) (n : ℕ) (x : X) → slice_get xs n ≡ Some x → take (suc n) xs ≡ take n xs ++ x ∷ []
+one_more [] n x h = cc
+one_more {X} (y ∷ xs) zero x h = let same : y ≡ x = cc in ap (λ (z : X). z ∷ []) same
+one_more {X} (y ∷ xs) (suc n) x h = ap (λ (zs : List X). y ∷ zs) (one_more xs n x h)
 
--- in a tree that has all nodes of another, these have the paths that they have there
-module _ (t u : MarkTree) (rule : IsTree t) (part : IsPartOf t u) where
-  pub depth_kept : (at : Option ℕ) → IsIn t at → depth_in u at ≡ depth_in t at
-  depth_kept None is = refl
-  depth_kept (Some key) is =
-      let found = there t key is in
-      ap (λ (o : Option TreeNode). option_map_or (λ m. m.depth) o 0) (part key found.0 found.1 ∙ sym found.1)
+-- an element of the second of two lists
+behind_first : {X : Type 0} (xs ys : List X) (n : ℕ) → length xs ≤ n → slice_get (xs ++ ys) n ≡ slice_get ys (n - length xs)
+behind_first [] ys n h = ap (slice_get ys) (let same : n ≡ n - 0 = omega arith in same)
+behind_first (x ∷ xs) ys zero h = absurd (omega (arith, h))
+behind_first (x ∷ xs) ys (suc n) h =
+    behind_first xs ys n (omega (arith, h)) ∙ ap (slice_get ys) (let same : n - length xs ≡ suc n - suc (length xs) = omega arith in same)
 
-  pub stays_in : (at : Option ℕ) → IsIn t at → IsIn u at
-  stays_in None is = refl
-  stays_in (Some key) is = let found = there t key is in ap is_some (part key found.0 found.1)
+-- the element is there
+pub is_there : {X : Type 0} (xs : List X) (n : ℕ) → n < length xs → (x : X) × (slice_get xs n ≡ Some x)
+is_there [] n h = absurd (omega (arith, h))
+is_there (x ∷ xs) zero h = (x, refl)
+is_there (x ∷ xs) (suc n) h = is_there xs n (omega (arith, h))
 
-  path_up_kept : (d : ℕ) (at : Option ℕ) → IsIn t at → path_up u d at ≡ path_up t d at
-  path_up_kept zero at is = refl
-  path_up_kept (suc d) None is = refl
-  path_up_kept (suc d) (Some key) is =
-      let found = there t key is in
-      ap (path_by (λ parent. path_up u d parent)) (part key found.0 found.1)
-      ∙ ap (λ (xs : List Entry). xs ++ found.0.entry ∷ []) (path_up_kept d found.0.parent (rule.below key found.0 found.1).0)
-      ∙ ap (path_by (λ parent. path_up t d parent)) (sym found.1)
+-- a record of a stretch in its list
+pub its_record : (t : MarkTree) (rule : IsTree t) (key : ℕ) (x : Branch) (d : ℕ) (y : Entry) → t key ≡ Some x → x.before ≤ d → slice_get x.records (d - x.before) ≡ Some y
+    → slice_get (list_in t (Some key)) d ≡ Some y
+its_record t rule key x d y e h its =
+    let within = position_within t x.below x.before (rule.below key x e) in
+    let below = take x.before (list_in t x.below) in
+    let long : length below ≡ x.before = length-take-le x.before (list_in t x.below) (let all = list_length t rule x.below in omega (arith, within, all)) in
+    ap (λ (zs : List Entry). slice_get zs d) (list_there t (is_low t rule) key x e) ∙ behind_first below x.records d (omega (arith, long, h))
+    ∙ ap (λ (n : ℕ). slice_get x.records (d - n)) long ∙ its
 
-  pub path_kept : (at : Option ℕ) → IsIn t at → path_in u at ≡ path_in t at
-  path_kept at is = ap (λ (d : ℕ). path_up u d at) (depth_kept at is) ∙ path_up_kept (depth_in t at) at is
+-- where a position's stretch is
+pub in_stretch : (t : MarkTree) (p : Position) (key : ℕ) → p.stretch ≡ Some key → IsIn t p → IsOn t key p.depth
+in_stretch t p key own is = subst (λ (at : Option ℕ). IsPosition t at p.depth) own is
+
+-- a position with fewer records in the same stretch
+pub higher_there : (t : MarkTree) → IsTree t → (p : Position) (key n : ℕ) → p.stretch ≡ Some key → (on : IsOn t key p.depth) → on.branch.before < n → n < p.depth
+    → IsHigher t n p (record { stretch = p.stretch; depth = n })
+higher_there t rule p key n own on after less =
+    let within = on.within in
+    let here : IsPosition t p.stretch n = subst (λ (at : Option ℕ). IsPosition t at n) (sym own) (on_there t key n on.branch on.there after (omega (arith, within, less))) in
+    record {
+      present = here;
+      begins = begins_deeper t rule p.stretch n p.depth (omega (arith, less)) (subst (λ (at : Option ℕ). IsPosition t at p.depth) (sym own) on);
+      deep = omega arith;
+      shallower = less;
+    }
+
+-- where its stretch branches off
+pub foot_higher : (t : MarkTree) → IsTree t → (p : Position) (key n : ℕ) → p.stretch ≡ Some key → (on : IsOn t key p.depth) → n ≤ on.branch.before
+    → IsHigher t n p (record { stretch = on.branch.below; depth = on.branch.before })
+foot_higher t rule p key n own on less =
+    let x = on.branch in
+    let after = on.after in
+    let within = position_within t x.below x.before (rule.below key x on.there) in
+    let long = length-take-le x.before (list_in t x.below) (let all = list_length t rule x.below in omega (arith, within, all)) in
+    let whole : take x.before (path_in t p) ≡ take x.before (list_in t x.below) =
+    ap (λ (at : Option ℕ). take x.before (take p.depth (list_in t at))) own ∙ foot_path t rule key x p.depth on.there (omega (arith, after)) in
+    record {
+      present = rule.below key x on.there;
+      begins = ap (λ (m : ℕ). take m (path_in t p)) long ∙ whole;
+      deep = less;
+      shallower = after;
+    }
+
+-- the last record of a list
+pub last_there : (t : MarkTree) → IsTree t → (p : Position) (key : ℕ) (x : Branch) (y : Entry) → p.stretch ≡ Some key → t key ≡ Some x → IsIn t p → slice_get x.records (p.depth - x.before - 1) ≡ Some y
+    → path_in t p ≡ take (length (path_in t p) - 1) (path_in t p) ++ y ∷ []
+last_there t rule p key x y own e is its = by p.depth refl
+  where
+    bounds : (x.before < p.depth) × (p.depth ≤ x.before + length x.records)
+    bounds = its_branch t key p.depth x e (in_stretch t p key own is)
+
+    by : (d : ℕ) → p.depth ≡ d → path_in t p ≡ take (length (path_in t p) - 1) (path_in t p) ++ y ∷ []
+    by zero deep = let after = bounds.0 in absurd (omega (arith, deep, after))
+    by (suc d) deep =
+        let after = bounds.0 in
+        let list = list_in t (Some key) in
+        let at : p.depth - x.before - 1 ≡ d - x.before = omega (arith, deep, after) in
+        let found = its_record t rule key x d y e (omega (arith, deep, after)) (ap (slice_get x.records) (sym at) ∙ its) in
+        let here : path_in t p ≡ take (suc d) list = (λ i. take (deep i) (list_in t (own i))) in
+        let less : length (path_in t p) - 1 ≡ d = (let long = path_length t rule p is in omega (arith, long, deep)) in
+        here ∙ one_more list d y found
+        ∙ ap (λ (xs : List Entry). xs ++ y ∷ []) (sym (take-take d (suc d) list (omega arith)) ∙ (λ i. take (sym less i) (sym here i)))
+
+drop_past : {X : Type 0} (xs ys : List X) (n : ℕ) → length xs ≤ n → drop n (xs ++ ys) ≡ drop (n - length xs) ys
+drop_past [] ys n h = ap (λ (m : ℕ). drop m ys) (let same : n ≡ n - 0 = omega arith in same)
+drop_past (x ∷ xs) ys zero h = absurd (omega (arith, h))
+drop_past {X} (x ∷ xs) ys (suc n) h = drop_past xs ys n (omega (arith, h)) ∙ ap (λ (m : ℕ). drop m ys) (let same : n - length xs ≡ suc n - suc (length xs) = omega arith in same)
+
+-- the records of a list behind the first n, where they are of one stretch
+pub slice_there : (t : MarkTree) → IsTree t → (p : Position) (key n : ℕ) (x : Branch) → p.stretch ≡ Some key → t key ≡ Some x → IsIn t p → x.before ≤ n → n ≤ p.depth
+    → take (p.depth - x.before - (n - x.before)) (drop (n - x.before) x.records) ≡ drop n (path_in t p)
+slice_there t rule p key n x own e is low high =
+    let b = x.before in
+    let bounds = its_branch t key p.depth x e (in_stretch t p key own is) in
+    let after = bounds.0 in
+    let within = position_within t x.below b (rule.below key x e) in
+    let below = take b (list_in t x.below) in
+    let long : length below ≡ b = length-take-le b (list_in t x.below) (let all = list_length t rule x.below in omega (arith, within, all)) in
+    let all : p.depth - b ≡ (n - b) + (p.depth - b - (n - b)) = omega (arith, low, high, after) in
+    sym (ap (λ (at : Option ℕ). drop n (take p.depth (list_in t at))) own
+    ∙ ap (λ (xs : List Entry). drop n (take p.depth xs)) (list_there t (is_low t rule) key x e)
+    ∙ ap (drop n) (take_past below x.records p.depth (omega (arith, long, after)))
+    ∙ drop_past below (take (p.depth - length below) x.records) n (omega (arith, long, low))
+    ∙ (λ i. drop (n - long i) (take (p.depth - long i) x.records))
+    ∙ ap (λ (m : ℕ). drop (n - b) (take m x.records)) all ∙ drop-take (n - b) (p.depth - b - (n - b)) x.records)

@@ -6,8 +6,8 @@ pub mod Tree
 pub mod TreeLayout
 pub mod TreeViews
 pub mod Marks
-pub mod Layout
 pub mod Uses
+pub mod Layout
 pub mod Rules
 pub mod BookViews
 pub mod Commands

@@ -1,119 +1,176 @@
--- The tree of the bookmarks' records: what is at each key, the path of a node, and the rule of the tree. The root is no key: it is
--- `None`.
-use Rattle.std.specs.Prelude.{◌≡◌, ◌⊎◌, ℕ, zero, suc, ◌<◌, ◌≤◌, List, [], ◌∷◌, ◌++◌, Option, Some, None, Bool, true, is_some}
-use Rattle.std.specs.Option.{option_map_or}
+-- The tree of the bookmarks' records: what is in each stretch, the list that ends with it, and the rule of the tree.
+use Rattle.std.specs.Prelude.{◌≡◌, ◌==◌, ◌&&◌, not, nat_lt, Bool, true, false, ℕ, zero, suc, ◌+◌, ◌-◌, ◌<◌, ◌≤◌, List, [], ◌∷◌, ◌++◌, length, take, Option, Some, None, option_map, slice_get}
 use Rattle.rd_step.specs.Prelude.{MOST_STEPS}
+use Rattle.rd_step.specs.Run.{events}
 use Rattle.rd_step.specs.declared.entries.Event.{Event}
 use Rattle.rd_step.specs.declared.entries.Entry.{Entry}
 use Rattle.rd_depend.specs.Beginnings.{Begins}
+use Rattle.rd_marks.specs.declared.tree.Position.{Position}
 
--- a node: the record of its step, the node above it, and how many records its path has
-pub record TreeNode : Type 0 where
-  pub entry : Entry
-  pub parent : Option ℕ
-  pub depth : ℕ
+-- a stretch: the one that it branches off, if it is not the start's, after how many records of the list there, and its own records
+pub record Branch : Type 0 where
+  pub below : Option ℕ
+  pub before : ℕ
+  pub records : List Entry
 
 -- what is at each key
 abbrev pub MarkTree : Type 0
-MarkTree = ℕ → Option TreeNode
+MarkTree = ℕ → Option Branch
 
--- whether the node is one of the tree, or the root
-abbrev pub is_in : MarkTree → Option ℕ → Bool
-is_in t None = true
-is_in t (Some key) = is_some (t key)
+-- how far down it is to the start at most
+abbrev pub rank_of : Option Branch → ℕ
+rank_of None = 0
+rank_of (Some x) = suc x.before
 
--- it is
-abbrev pub IsIn : MarkTree → Option ℕ → Type 0
-IsIn t at = is_in t at ≡ true
+abbrev pub rank : MarkTree → Option ℕ → ℕ
+rank t None = 0
+rank t (Some key) = rank_of (t key)
 
--- how many records its path has
-abbrev pub depth_in : MarkTree → Option ℕ → ℕ
-depth_in t None = 0
-depth_in t (Some key) = option_map_or (λ n. n.depth) (t key) 0
+-- the list that ends with what is at a key, where this gives the list of what it branches off
+abbrev pub list_by : (Option ℕ → List Entry) → Option Branch → List Entry
+list_by lists None = []
+list_by lists (Some x) = take x.before (lists x.below) ++ x.records
 
--- what is above what is at a key
-abbrev pub above : Option TreeNode → Option ℕ
-above None = None
-above (Some n) = n.parent
+-- the list from the start to the end of a stretch, going down so many stretches
+abbrev pub list_up : MarkTree → ℕ → Option ℕ → List Entry
+list_up t zero at = []
+list_up t (suc n) None = []
+list_up t (suc n) (Some key) = list_by (λ below. list_up t n below) (t key)
 
--- the node above it
-abbrev pub parent_in : MarkTree → Option ℕ → Option ℕ
-parent_in t None = None
-parent_in t (Some key) = above (t key)
+-- the list from the start to the end of a stretch
+abbrev pub list_in : MarkTree → Option ℕ → List Entry
+list_in t at = list_up t (rank t at) at
 
--- the record of what is at a key
-abbrev pub entry_of : Option TreeNode → Option Entry
-entry_of None = None
-entry_of (Some n) = Some n.entry
+-- the list that ends at a position
+abbrev pub path_in : MarkTree → Position → List Entry
+path_in t p = take p.depth (list_in t p.stretch)
 
--- its record
-abbrev pub entry_in : MarkTree → Option ℕ → Option Entry
-entry_in t None = None
-entry_in t (Some key) = entry_of (t key)
+-- after the d-th record of the list of a stretch, where this record is its own
+pub record IsOn (t : MarkTree) (key d : ℕ) : Type 0 where
+  pub branch : Branch
+  pub there : t key ≡ Some branch
+  pub after : branch.before < d
+  pub within : d ≤ branch.before + length branch.records
 
--- the path that goes on to this node
-abbrev pub path_by : (Option ℕ → List Entry) → Option TreeNode → List Entry
-path_by go None = []
-path_by go (Some n) = go n.parent ++ n.entry ∷ []
+-- the same, or the start
+abbrev pub IsPosition : MarkTree → Option ℕ → ℕ → Type 0
+IsPosition t None d = d ≡ 0
+IsPosition t (Some key) d = IsOn t key d
 
--- the records of so many nodes from this one up, from the uppermost down
-abbrev pub path_up : MarkTree → ℕ → Option ℕ → List Entry
-path_up t zero at = []
-path_up t (suc d) None = []
-path_up t (suc d) (Some key) = path_by (λ parent. path_up t d parent) (t key)
+abbrev pub IsIn : MarkTree → Position → Type 0
+IsIn t p = IsPosition t p.stretch p.depth
 
--- the records from the root down to this node
-abbrev pub path_in : MarkTree → Option ℕ → List Entry
-path_in t at = path_up t (depth_in t at) at
+-- each stretch branches off a position of the tree and has a record, and no list is too long; positions with lists of the same events
+-- are in one stretch
+pub record IsTree (t : MarkTree) : Type 0 where
+  pub below : (key : ℕ) (x : Branch) → t key ≡ Some x → IsPosition t x.below x.before
+  pub some : (key : ℕ) (x : Branch) → t key ≡ Some x → 0 < length x.records
+  pub few : (key : ℕ) (x : Branch) → t key ≡ Some x → x.before + length x.records ≤ MOST_STEPS
+  pub different : (key other d : ℕ) → IsOn t key d → IsOn t other d → events (take d (list_in t (Some key))) ≡ events (take d (list_in t (Some other))) → key ≡ other
 
--- a node above another, whose path has this many records or more
-pub record IsHigher (t : MarkTree) (least : ℕ) (from at : Option ℕ) : Type 0 where
+-- whether the d-th record of the list of what is at a key is its own
+abbrev pub has_own : ℕ → Option Branch → Bool
+has_own d None = false
+has_own d (Some x) = nat_lt x.before d && not (nat_lt (x.before + length x.records) d)
+
+-- whether that is a position
+abbrev pub is_position : MarkTree → Option ℕ → ℕ → Bool
+is_position t None d = d == 0
+is_position t (Some key) d = has_own d (t key)
+
+-- the rule of the tree, as the code's tree has it
+pub record KeepsTree (t : MarkTree) : Type 0 where
+  pub below : (key : ℕ) (x : Branch) → t key ≡ Some x → is_position t x.below x.before ≡ true
+  pub some : (key : ℕ) (x : Branch) → t key ≡ Some x → 0 < length x.records
+  pub few : (key : ℕ) (x : Branch) → t key ≡ Some x → x.before + length x.records ≤ MOST_STEPS
+  pub different : (key other d : ℕ) → has_own d (t key) ≡ true → has_own d (t other) ≡ true → events (take d (list_in t (Some key))) ≡ events (take d (list_in t (Some other))) → key ≡ other
+
+-- the list of the position is in the second tree what it is in the first
+pub record Stays (t u : MarkTree) (p : Position) : Type 0 where
+  pub present : IsIn u p
+  pub path : path_in u p ≡ path_in t p
+
+-- a stretch that goes on after the position with a record of this event
+pub record IsNext (t : MarkTree) (p : Position) (e : Event) (key : ℕ) : Type 0 where
+  pub on : IsOn t key (suc p.depth)
+  pub goes : events (take (suc p.depth) (list_in t (Some key))) ≡ events (path_in t p) ++ e ∷ []
+
+abbrev pub HasNoNext : MarkTree → Position → Event → Type 0
+HasNoNext t p e = (key : ℕ) → IsNext t p e key → ⊥
+
+-- no stretch goes on after the position with the first of these records' events
+abbrev pub IsNew : MarkTree → Position → List Entry → Type 0
+IsNew t p entries = (x : Entry) (rest : List Entry) → entries ≡ x ∷ rest → HasNoNext t p x.event
+
+-- the position's own stretch goes on after it with a record of this event
+pub record GoesOnBy (t : MarkTree) (p : Position) (e : Event) (key : ℕ) : Type 0 where
+  pub own : p.stretch ≡ Some key
+  pub branch : Branch
+  pub there : t key ≡ Some branch
+  pub entry : Entry
+  pub next : slice_get branch.records (p.depth - branch.before) ≡ Some entry
+  pub its_event : entry.event ≡ e
+
+-- a stretch branches off the position, and its first record is of this event
+pub record BranchesBy (t : MarkTree) (p : Position) (e : Event) (key : ℕ) : Type 0 where
+  pub branch : Branch
+  pub there : t key ≡ Some branch
+  pub below : branch.below ≡ p.stretch
+  pub before : branch.before ≡ p.depth
+  pub entry : Entry
+  pub first : slice_get branch.records 0 ≡ Some entry
+  pub its_event : entry.event ≡ e
+
+-- a stretch branches off this one after so many records of the list
+pub record IsBranchOff (t : MarkTree) (key d child : ℕ) : Type 0 where
+  pub branch : Branch
+  pub there : t child ≡ Some branch
+  pub below : branch.below ≡ Some key
+  pub before : branch.before ≡ d
+
+-- where what is at a key branches off; the start where nothing is
+abbrev pub foot_of : Option Branch → Position
+foot_of None = record { stretch = None; depth = 0 }
+foot_of (Some x) = record { stretch = x.below; depth = x.before }
+
+-- where the stretch of a position branches off; the start for the start
+abbrev pub foot_from : MarkTree → Position → Option ℕ → Position
+foot_from t p None = p
+foot_from t p (Some key) = foot_of (t key)
+
+abbrev pub foot_at : MarkTree → Position → Position
+foot_at t p = foot_from t p p.stretch
+
+-- how many records of its own what is at a key has
+abbrev pub own_length : Option Branch → ℕ
+own_length None = 0
+own_length (Some x) = length x.records
+
+-- a position on the way down from another, whose list has this many records or more
+pub record IsHigher (t : MarkTree) (least : ℕ) (from at : Position) : Type 0 where
   pub present : IsIn t at
   pub begins : Begins (path_in t at) (path_in t from)
-  pub deep : least ≤ depth_in t at
-  pub shallower : depth_in t at < depth_in t from
+  pub deep : least ≤ at.depth
+  pub shallower : at.depth < from.depth
 
--- what is at the key is right below the other node
-pub record IsChild (t : MarkTree) (key : ℕ) (at : Option ℕ) : Type 0 where
-  pub node : TreeNode
-  pub there : t key ≡ Some node
-  pub below : node.parent ≡ at
+-- the position is the end of a stretch
+pub record IsEnd (t : MarkTree) (p : Position) : Type 0 where
+  pub key : ℕ
+  pub own : p.stretch ≡ Some key
+  pub branch : Branch
+  pub there : t key ≡ Some branch
+  pub all : p.depth ≡ branch.before + length branch.records
 
--- and its record is of this event
-pub record IsChildBy (t : MarkTree) (key : ℕ) (at : Option ℕ) (e : Event) : Type 0 where
-  pub node : TreeNode
-  pub there : t key ≡ Some node
-  pub below : node.parent ≡ at
-  pub its_event : node.entry.event ≡ e
-
--- some node is right below it
-abbrev pub HasChild : MarkTree → Option ℕ → Type 0
-HasChild t at = (key : ℕ) × IsChild t key at
-
--- no node right below it is of this event
-abbrev pub HasNoChildBy : MarkTree → Option ℕ → Event → Type 0
-HasNoChildBy t at e = (key : ℕ) → IsChildBy t key at e → ⊥
-
--- each node is right below one of the tree, and its path has one record more; and children of one parent are of different events
-pub record IsTree (t : MarkTree) : Type 0 where
-  pub below : (key : ℕ) (n : TreeNode) → t key ≡ Some n → IsIn t n.parent × (n.depth ≡ suc (depth_in t n.parent))
-  pub few : (key : ℕ) (n : TreeNode) → t key ≡ Some n → n.depth ≤ MOST_STEPS
-  pub different : (key other : ℕ) (n m : TreeNode) → t key ≡ Some n → t other ≡ Some m → n.parent ≡ m.parent → n.entry.event ≡ m.entry.event
-      → key ≡ other
-
--- every node of the first tree is in the second one
-abbrev pub IsPartOf : MarkTree → MarkTree → Type 0
-IsPartOf t u = (key : ℕ) (n : TreeNode) → t key ≡ Some n → u key ≡ Some n
+-- this is the last record of the list, if it has one
+abbrev pub IsLast : List Entry → Option Entry → Type 0
+IsLast xs None = xs ≡ []
+IsLast xs (Some x) = xs ≡ take (length xs - 1) xs ++ x ∷ []
 
 -- the second tree has this at the key, and at every other what the first has
-pub record ChangesAt (t u : MarkTree) (key : ℕ) (node : Option TreeNode) : Type 0 where
-  pub changed : u key ≡ node
+pub record ChangesAt (t u : MarkTree) (key : ℕ) (branch : Option Branch) : Type 0 where
+  pub changed : u key ≡ branch
   pub others : (other : ℕ) → (other ≡ key → ⊥) → u other ≡ t other
 
--- no child of the node is of the first of these records' events
-abbrev pub IsNew : MarkTree → Option ℕ → List Entry → Type 0
-IsNew t at entries = (x : Entry) (rest : List Entry) → entries ≡ x ∷ rest → HasNoChildBy t at x.event
-
--- each node of the second tree is one of the first, has a child, or is this one
-abbrev pub AreLinkedBelow : MarkTree → MarkTree → Option ℕ → Type 0
-AreLinkedBelow t u at = (key : ℕ) (n : TreeNode) → u key ≡ Some n → (t key ≡ Some n) ⊎ (HasChild u (Some key) ⊎ (at ≡ Some key))
+-- a stretch of which no more is left than up to this depth
+abbrev pub cut_at : ℕ → Option Branch → Option Branch
+cut_at d o = option_map (λ x. record { below = x.below; before = x.before; records = take (d - x.before) x.records }) o

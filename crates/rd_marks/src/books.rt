@@ -15,12 +15,12 @@ mod queries;
 ghost use Rattle.std.specs.Prelude.{◌≡◌, ◌⊎◌, [], length, Ok, Err, OnOk, OnErr, IfErr, IsOk};
 ghost use Rattle.rd_cell.specs.declared.refusal.Refusal.TheVariants.{NoMemory};
 ghost use Rattle.rd_journal.specs.Sessions.{state, track};
-ghost use Rattle.rd_marks.specs.Layout.{KeepsMarks, IsHere};
+ghost use Rattle.rd_marks.specs.Layout.{KeepsMarks, LiesHere};
 ghost use Rattle.rd_marks.specs.TreeViews.{mark_tree};
 
 use super::marks::{are_same, is_marked, prune, put_mark, switch_to};
 use super::names::MarkName;
-use super::tree::Tree;
+use super::tree::{Position, Tree};
 use indexmap::IndexMap;
 use rd_cell::Refusal;
 use rd_cell::limits::MOST_MARKS;
@@ -32,13 +32,13 @@ pub struct Book<const R: usize> {
     session: Session<R>,
     tree: Tree,
     /// The node of each bookmark, whose path has the records of its steps.
-    marks: IndexMap<MarkName, Option<usize>>,
+    marks: IndexMap<MarkName, Position>,
     /// Where the session's track lies in the tree: a node whose path begins it, which is the live steps with those ahead of them. Setting
     /// a bookmark and going to one begin there, and not at the root.
-    here: Option<usize>,
+    here: Position,
     alloc: Global,
-    ghost kept: { KeepsMarks R (state session).start tree.nodes tree.records.items marks.entries },
-    ghost stands: { IsHere (mark_tree tree) here (track session) },
+    ghost kept: { KeepsMarks R (state session).start tree.stretches marks.entries },
+    ghost stands: { LiesHere (mark_tree tree) here (track session) },
 }
 
 /// Written out and not derived, so that a proof of a function in which a book ends has one step for that, and not one for
@@ -70,7 +70,7 @@ impl<const R: usize> Book<R> {
             session,
             tree: Tree::new(alloc),
             marks: IndexMap::new(alloc),
-            here: None,
+            here: Position::START,
             alloc,
         }
     }
@@ -102,6 +102,7 @@ impl<const R: usize> Book<R> {
         }
         match put_mark(
             &mut self.tree,
+            self.alloc,
             &mut self.marks,
             &mut self.here,
             &self.session,
@@ -127,7 +128,7 @@ impl<const R: usize> Book<R> {
         };
         let node = *node;
         let _gone = self.marks.shift_remove(&name);
-        prune(&mut self.tree, &self.marks, &mut self.here, node);
+        prune(&mut self.tree, &self.marks, &mut self.here, node.stretch);
         Ok(())
     }
 
@@ -209,7 +210,7 @@ impl<const R: usize> Book<R> {
         }
         match self.marks.get_index(i as usize - 1) {
             None => Err(Refusal::NoMark),
-            Some((name, node)) => Ok((*name, self.tree.depth(*node) as u64)),
+            Some((name, node)) => Ok((*name, node.depth as u64)),
         }
     }
 }

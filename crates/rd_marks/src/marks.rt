@@ -1,20 +1,20 @@
 //! The bookmarks by name, each with its node, which nodes they use, and where the session's track lies.
 
-ghost use Rattle.std.specs.Prelude.{◌≡◌, ◌<◌, ◌↔◌, ◌++◌, [], ◌∷◌, None, Some, false, min, length, is_some, IsTrue, IsOk, IfOk, OnOk, IfErr, OnErr};
+ghost use Rattle.std.specs.Prelude.{◌≡◌, ◌⊎◌, ◌<◌, ◌≤◌, ◌++◌, [], ◌∷◌, ℕ, None, Some, false, min, length, is_some, IsSome, IsOk, IfOk, OnOk, IfErr, OnErr};
 ghost use Rattle.std.specs.List.{All};
 ghost use Rattle.rd_depend.specs.Beginnings.{Begins, IsBegunByNeither};
 ghost use Rattle.rd_depend.specs.Equivalence.{DecidesEquivalence};
 ghost use Rattle.rd_journal.specs.Journal.{events};
 ghost use Rattle.rd_journal.specs.Sessions.{state, track, journal};
 ghost use Rattle.rd_marks.specs.Books.{marked_events};
-ghost use Rattle.rd_marks.specs.Layout.{IsRecordOfRun, KeepsMarks, IsHere, has_mark};
+ghost use Rattle.rd_marks.specs.Layout.{IsRecordOfRun, Keeps, IsHere};
 ghost use Rattle.rd_marks.specs.Marks.{marks_of};
-ghost use Rattle.rd_marks.specs.Tree.{MarkTree, IsIn, IsPartOf, depth_in, path_in};
+ghost use Rattle.rd_marks.specs.Tree.{Branch, MarkTree, IsIn, Stays, path_in};
 ghost use Rattle.rd_marks.specs.TreeViews.{mark_tree};
-ghost use Rattle.rd_marks.specs.Uses.{IsUsed, AreUsedExcept};
+ghost use Rattle.rd_marks.specs.Uses.{IsMarked, IsNeeded, AreUsedExcept};
 
 use super::names::MarkName;
-use super::tree::Tree;
+use super::tree::{Position, Tree};
 use indexmap::IndexMap;
 use rd_cell::Refusal;
 use rd_cell::limits::MOST_MARKS;
@@ -23,7 +23,7 @@ use rd_journal::Session;
 use std::alloc::{AllocError, Global};
 
 /// Whether there is a bookmark of this name.
-pub(crate) fn is_marked(marks: &IndexMap<MarkName, Option<usize>>, name: &MarkName) -> bool
+pub(crate) fn is_marked(marks: &IndexMap<MarkName, Position>, name: &MarkName) -> bool
     ensures { (t : MarkTree) → result ≡ is_some (marked_events (marks_of t marks.now.entries) name.now) }
 {
     marks.contains_key(name)
@@ -37,28 +37,27 @@ pub(crate) fn is_marked(marks: &IndexMap<MarkName, Option<usize>>, name: &MarkNa
 /// If the room for its nodes or for itself was refused. The bookmarks stay.
 pub(crate) fn put_mark<const R: usize>(
     tree: &mut Tree,
-    marks: &mut IndexMap<MarkName, Option<usize>>,
-    here: &mut Option<usize>,
+    alloc: Global,
+    marks: &mut IndexMap<MarkName, Position>,
+    here: &mut Position,
     session: &Session<R>,
     name: MarkName,
 ) -> Result<(), AllocError>
     requires new { is_some (marked_events (marks_of (mark_tree tree.old) marks.old.entries) name) ≡ false }
     requires few { length marks.old.entries < MOST_MARKS }
-    requires kept { KeepsMarks R (state session.now).start tree.old.nodes tree.old.records.items marks.old.entries }
+    requires kept { Keeps R (state session.now).start (mark_tree tree.old) marks.old.entries }
     requires here { IsHere (mark_tree tree.old) here.old (track session.now) }
     ensures ok { OnOk result (marks_of (mark_tree tree.new) marks.new.entries
         ≡ marks_of (mark_tree tree.old) marks.old.entries ++ record { name = name; events = (state session.now).live } ∷ []) }
-    ensures kept { KeepsMarks R (state session.now).start tree.new.nodes tree.new.records.items marks.new.entries }
+    ensures kept { Keeps R (state session.now).start (mark_tree tree.new) marks.new.entries }
     ensures here { IsHere (mark_tree tree.new) here.new (track session.now) }
     ensures unchanged { OnErr result (marks_of (mark_tree tree.new) marks.new.entries ≡ marks_of (mark_tree tree.old) marks.old.entries) }
 {
     let live = session.live();
     let beginning = tree.follow(tree.ancestor(*here, live.len()), &live);
-    let rest = live.behind(tree.depth(beginning));
-    tree.reserve(rest.len())?;
     marks.reserve(1)?;
-    let node = tree.grow(beginning, &rest);
-    if tree.depth(*here) <= live.len() {
+    let node = tree.grow(alloc, beginning, &live.behind(beginning.depth))?;
+    if here.depth <= live.len() {
         *here = node;
     }
     match marks.insert(name, node) {
@@ -77,8 +76,8 @@ pub(crate) fn switch_to<const R: usize>(
     session: &mut Session<R>,
     tree: &Tree,
     alloc: Global,
-    here: &mut Option<usize>,
-    node: Option<usize>,
+    here: &mut Position,
+    node: Position,
 ) -> Result<(), Refusal>
     requires here { IsHere (mark_tree tree.now) here.old (track session.old) }
     requires present { IsIn (mark_tree tree.now) node }
@@ -90,9 +89,8 @@ pub(crate) fn switch_to<const R: usize>(
     ensures succeeds { Begins (events (path_in (mark_tree tree.now) node)) (state session.old).live → IsOk result }
     ensures unchanged { OnErr result (journal session.new ≡ journal session.old) }
 {
-    let depth = tree.depth(node);
-    if tree.ancestor(*here, depth) == node {
-        session.go_along(depth as u64);
+    if tree.ancestor(*here, node.depth) == node {
+        session.go_along(node.depth as u64);
         return Ok(());
     }
     exchange(session, tree, alloc, *here, node)?;
@@ -110,8 +108,8 @@ fn exchange<const R: usize>(
     session: &mut Session<R>,
     tree: &Tree,
     alloc: Global,
-    here: Option<usize>,
-    node: Option<usize>,
+    here: Position,
+    node: Position,
 ) -> Result<(), Refusal>
     requires here { IsHere (mark_tree tree.now) here (track session.old) }
     requires present { IsIn (mark_tree tree.now) node }
@@ -125,7 +123,7 @@ fn exchange<const R: usize>(
 {
     let stands = tree.ancestor(here, session.len() as usize);
     let beginning = tree.follow(stands, &session.live());
-    let common = tree.depth(tree.common(beginning, node));
+    let common = tree.common(beginning, node);
     match tree.path_behind(alloc, node, common) {
         Err(_) => Err(Refusal::NoMemory),
         Ok(records) => session.switch(common as u64, &records),
@@ -136,14 +134,14 @@ fn exchange<const R: usize>(
 /// node on the way there whose path is no longer than the first `n` steps, which stayed.
 pub(crate) fn cut_back(
     tree: &Tree,
-    here: Option<usize>,
+    here: Position,
     done: &Result<(), Refusal>,
     n: u64,
-) -> Option<usize>
+) -> Position
     requires present { IsIn (mark_tree tree.now) here }
     ensures present { IsIn (mark_tree tree.now) result }
     ensures begins { Begins (path_in (mark_tree tree.now) result) (path_in (mark_tree tree.now) here) }
-    ensures ok { OnOk done.now (depth_in (mark_tree tree.now) result ≡ min n (depth_in (mark_tree tree.now) here)) }
+    ensures ok { OnOk done.now (result.depth ≡ min n here.depth) }
     ensures err { OnErr done.now (result ≡ here) }
 {
     match done {
@@ -160,78 +158,96 @@ pub(crate) fn cut_back(
 pub(crate) fn are_same(
     tree: &Tree,
     alloc: Global,
-    one: Option<usize>,
-    other: Option<usize>,
+    one: Position,
+    other: Position,
 ) -> Result<bool, AllocError>
     requires one { IsIn (mark_tree tree.now) one }
     requires other { IsIn (mark_tree tree.now) other }
     ensures answer { IfOk result (DecidesEquivalence (path_in (mark_tree tree.now) one) (path_in (mark_tree tree.now) other)) }
     ensures memory { OnErr result (IsBegunByNeither (events (path_in (mark_tree tree.now) one)) (events (path_in (mark_tree tree.now) other))) }
 {
-    let common = tree.common(one, other);
-    if common == one || common == other {
-        return Ok(one == other);
+    let shared = tree.common(one, other);
+    if shared == one.depth || shared == other.depth {
+        return Ok(one.depth == other.depth);
     }
-    let shared = tree.depth(common);
     let ones = tree.path_behind(alloc, one, shared)?;
     let others = tree.path_behind(alloc, other, shared)?;
     are_equivalent(alloc, &ones, &others)
 }
 
-/// Takes away this node and those above it that no bookmark uses, if this is the only one that may not be used. What lay at one of
-/// them lies at the deepest above it that is left.
+/// Takes away the records behind those of a stretch that a bookmark or another stretch still needs: all of it if none does, and then so on
+/// with the one that it branched off. It is the only one whose end may not be needed. What lay on one of the records lies at the deepest
+/// position below that is left.
 pub(crate) fn prune(
     tree: &mut Tree,
-    marks: &IndexMap<MarkName, Option<usize>>,
-    here: &mut Option<usize>,
+    marks: &IndexMap<MarkName, Position>,
+    here: &mut Position,
     from: Option<usize>,
 )
-    requires present { IsIn (mark_tree tree.old) from }
+    requires present { (key : ℕ) → from ≡ Some key → IsSome (mark_tree tree.old key) }
     requires here { IsIn (mark_tree tree.old) here.old }
     requires marked { All (λ m. IsIn (mark_tree tree.old) m.1) marks.now.entries }
     requires used { AreUsedExcept (mark_tree tree.old) marks.now.entries from }
-    ensures part { IsPartOf (mark_tree tree.new) (mark_tree tree.old) }
-    ensures marked { All (λ m. IsIn (mark_tree tree.new) m.1) marks.now.entries }
+    ensures marked { All (λ m. Stays (mark_tree tree.old) (mark_tree tree.new) m.1) marks.now.entries }
     ensures used { AreUsedExcept (mark_tree tree.new) marks.now.entries None }
     ensures here { IsIn (mark_tree tree.new) here.new }
     ensures begins { Begins (path_in (mark_tree tree.new) here.new) (path_in (mark_tree tree.old) here.old) }
 {
     let mut at = from;
     while let Some(key) = at {
-        if is_used(tree, marks, at) {
+        let needed = needed_in(tree, marks, key);
+        if tree.foot(key).depth < needed {
+            tree.cut(key, needed);
+            *here = moved_down(
+                *here,
+                key,
+                Position {
+                    stretch: at,
+                    depth: needed,
+                },
+            );
             return;
         }
-        at = tree.remove(key);
-        *here = moved_up(*here, key, at);
+        let foot = tree.remove(key);
+        *here = moved_down(*here, key, foot);
+        at = foot.stretch;
     }
 }
 
-/// Where something stands that stood here, when the node at this key has gone that was right below the other.
-fn moved_up(here: Option<usize>, key: usize, above: Option<usize>) -> Option<usize>
-    ensures gone { here ≡ Some key → result ≡ above }
-    ensures others { (here ≡ Some key → ⊥) → result ≡ here }
+/// Where something lies that lay here, when of this stretch nothing is left behind the other position.
+fn moved_down(here: Position, key: usize, left: Position) -> Position
+    ensures gone { here.stretch ≡ Some key → left.depth < here.depth → result ≡ left }
+    ensures others { (here.stretch ≡ Some key → here.depth ≤ left.depth) → result ≡ here }
 {
-    if here == Some(key) { above } else { here }
+    if here.stretch == Some(key) && left.depth < here.depth {
+        left
+    } else {
+        here
+    }
 }
 
-/// Whether a node has a child or a bookmark.
-fn is_used(tree: &Tree, marks: &IndexMap<MarkName, Option<usize>>, at: Option<usize>) -> bool
-    ensures { IsTrue result ↔ IsUsed (mark_tree tree.now) marks.now.entries at }
+/// The depth up to which a bookmark or another stretch needs this one; 0 if none does.
+fn needed_in(tree: &Tree, marks: &IndexMap<MarkName, Position>, key: usize) -> usize
+    ensures marks { All (λ m. m.1.stretch ≡ Some key → m.1.depth ≤ result) marks.now.entries }
+    ensures branches { (child : ℕ) (x : Branch) → mark_tree tree.now child ≡ Some x → x.below ≡ Some key → x.before ≤ result }
+    ensures needed { (result ≡ 0) ⊎ IsNeeded (mark_tree tree.now) marks.now.entries key result }
 {
-    tree.is_parent(at) || has_mark(marks, at)
+    deepest_mark(marks, key).max(tree.highest_branch(key))
 }
 
-/// Whether a bookmark is at the node.
-fn has_mark(marks: &IndexMap<MarkName, Option<usize>>, at: Option<usize>) -> bool
-    ensures { result ≡ has_mark marks.now.entries at }
+/// The depth of the deepest bookmark in a stretch; 0 if none is in it.
+fn deepest_mark(marks: &IndexMap<MarkName, Position>, key: usize) -> usize
+    ensures marks { All (λ m. m.1.stretch ≡ Some key → m.1.depth ≤ result) marks.now.entries }
+    ensures reached { (result ≡ 0) ⊎ IsMarked marks.now.entries key result }
 {
+    let mut depth = 0;
     for index in 0..marks.len() {
-        let Some((_, node)) = marks.get_index(index) else {
+        let Some((_, position)) = marks.get_index(index) else {
             unreachable!();
         };
-        if *node == at {
-            return true;
+        if position.stretch == Some(key) && position.depth > depth {
+            depth = position.depth;
         }
     }
-    false
+    depth
 }

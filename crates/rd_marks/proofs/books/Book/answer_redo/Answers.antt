@@ -1,11 +1,9 @@
-use Rattle.std.proofs.Common.{List, refl, sym, subst}
+use Rattle.std.proofs.Common.{List, sym, subst}
 use Rattle.rd_step.specs.declared.entries.Event.{Event}
 use Rattle.rd_journal.specs.Sessions.{journal, state}
 use Rattle.rd_journal.specs.State.{redo}
-use Rattle.rd_marks.specs.BookViews.{book_state}
-use Rattle.rd_marks.specs.Layout.{IsHere}
+use Rattle.rd_marks.specs.Layout.{LiesHere}
 use Rattle.rd_marks.specs.TreeViews.{mark_tree}
-use Rattle.rd_marks.proofs.AnswerLemmas.{move_answered}
 use Rattle.rd_marks.proofs.Starts.{redo_start, start_stays, marks_stay}
 use Rattle.rd_marks.proofs.books.Book.answer_redo.Goals as goal
 
@@ -17,12 +15,6 @@ invariant_of-self g c =
     start_stays c.redo-done.result (journal c.args.self.now.session) (journal c.redo-done.new.self) (redo old)
     (redo_start old) c.redo-done.ensures.ok c.redo-done.ensures.unchanged in
     record {
-      kept = marks_stay g.row.R old.start (state c.redo-done.new.self).start c.args.self.now.tree.nodes c.args.self.now.tree.records.items c.args.self.now.marks.entries start c.args.self.now.kept;
-      stands = subst (λ (es : List Event). IsHere (mark_tree book.tree) book.here es) (sym c.redo-done.ensures.track) book.stands;
+      kept = marks_stay g.row.R old.start (state c.redo-done.new.self).start book.tree.stretches book.marks.entries start book.kept;
+      stands = subst (λ (es : List Event). LiesHere (mark_tree book.tree) book.here es) (sym c.redo-done.ensures.track) book.stands;
     }
-
-pub returns : goal.returns
-returns g c =
-    let b = book_state c.args.self.now in
-    move_answered c.redo-done.result b (journal c.args.self.now.session) (journal c.redo-done.new.self) (redo b.session)
-    c.counts_after.result refl c.redo-done.ensures.ok c.redo-done.ensures.err c.redo-done.ensures.unchanged c.counts_after.ensures.ok c.counts_after.ensures.err

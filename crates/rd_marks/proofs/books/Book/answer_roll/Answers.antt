@@ -1,38 +1,39 @@
-use Rattle.std.proofs.Common.{refl, arith}
+use Rattle.std.proofs.Common.{arith}
 use Rattle.std.proofs.lemmas.List.{length-map}
 use Rattle.rd_step.specs.Run.{events}
 use Rattle.rd_step.specs.declared.entries.Entry.{Entry}
 use Rattle.rd_journal.specs.Records.{ahead_records}
-use Rattle.rd_journal.specs.Sessions.{journal, state}
+use Rattle.rd_journal.specs.Sessions.{journal, state, track}
 use Rattle.rd_journal.specs.State.{roll}
-use Rattle.rd_marks.specs.BookViews.{book_state}
 use Rattle.rd_marks.specs.TreeViews.{mark_tree}
-use Rattle.rd_marks.proofs.AnswerLemmas.{move_answered}
 use Rattle.rd_marks.proofs.Here.{after_out, roll_leaves, rolled_within}
+use Rattle.rd_marks.proofs.Kept.{tree_is, here_is, here_lies}
 use Rattle.rd_marks.proofs.Starts.{roll_start, start_stays, marks_stay}
 use Rattle.rd_marks.proofs.books.Book.answer_roll.Goals as goal
+
+pub cut_back-self-requires : goal.cut_back-self-requires
+cut_back-self-requires g c =
+    let book = c.args.self.now in
+    record { present = (here_is (mark_tree book.tree) book.here (track book.session) book.stands).present }
 
 pub invariant_of-self : goal.invariant_of-self
 invariant_of-self g c =
     let book = c.args.self.now in
+    let t = mark_tree book.tree in
     let old = state book.session in
+    let new = c.roll-done.new.self in
     let start =
-    start_stays c.roll-done.result (journal c.args.self.now.session) (journal c.roll-done.new.self) (roll g.row.R old c.args.k)
+    start_stays c.roll-done.result (journal book.session) (journal new) (roll g.row.R old c.args.k)
     (roll_start g.row.R old c.args.k) c.roll-done.ensures.ok c.roll-done.ensures.unchanged in
     let n = c.saturating_sub.result in
     let len = length-map (journal book.session).live (λ (x : Entry). x.event) in
     record {
-      kept = marks_stay g.row.R old.start (state c.roll-done.new.self).start c.args.self.now.tree.nodes c.args.self.now.tree.records.items c.args.self.now.marks.entries start c.args.self.now.kept;
+      kept = marks_stay g.row.R old.start (state new).start book.tree.stretches book.marks.entries start book.kept;
       stands =
-          after_out (mark_tree book.tree) book.tree.kept.tree c.roll-done.result book.here c.cut_back-self.result n (journal book.session) (journal c.roll-done.new.self)
-          (events (ahead_records book.session.records)) (events (ahead_records c.roll-done.new.self.records)) book.stands
+          here_lies t c.cut_back-self.result (track new)
+          (after_out t (tree_is t book.tree.kept) c.roll-done.result book.here c.cut_back-self.result n (journal book.session) (journal new)
+          (events (ahead_records book.session.records)) (events (ahead_records new.records)) (here_is t book.here (track book.session) book.stands)
           c.cut_back-self.ensures.present c.cut_back-self.ensures.begins c.cut_back-self.ensures.ok c.roll-done.ensures.track c.roll-done.ensures.ok
           (λ done. let there = rolled_within g.row.R old c.args.k _ done in omega (arith, there, len)) c.roll-done.ensures.records
-          (roll_leaves c.args.k n (journal book.session) (journal c.roll-done.new.self) (omega arith));
+          (roll_leaves c.args.k n (journal book.session) (journal new) (omega arith)));
     }
-
-pub returns : goal.returns
-returns g c =
-    let b = book_state c.args.self.now in
-    move_answered c.roll-done.result b (journal c.args.self.now.session) (journal c.roll-done.new.self) (roll g.row.R b.session c.args.k)
-    c.counts_after.result refl c.roll-done.ensures.ok c.roll-done.ensures.err c.roll-done.ensures.unchanged c.counts_after.ensures.ok c.counts_after.ensures.err

@@ -1,17 +1,13 @@
-use Rattle.std.proofs.Common.{◌≡◌, ◌∙◌, ◌-◌, suc, List, Option, refl, sym, ap, inl, inr, arith}
+use Rattle.std.proofs.Common.{◌≡◌, ◌∙◌, ◌-◌, suc, List, Option, refl, sym, ap, inr, arith}
 use Rattle.rd_step.specs.declared.entries.Event.{Event}
+use Rattle.rd_journal.specs.Sessions.{state}
 use Rattle.rd_marks.specs.Books.{event_in}
 use Rattle.rd_marks.specs.BookViews.{book_state}
 use Rattle.rd_marks.specs.TreeViews.{mark_tree}
+use Rattle.rd_marks.proofs.Kept.{marks_are}
 use Rattle.rd_marks.proofs.Sharing.{marked_in}
-use Rattle.rd_marks.proofs.MarkedEvents.{no_events, its_events}
+use Rattle.rd_marks.proofs.ReadLemmas.{no_events, its_events}
 use Rattle.rd_marks.proofs.books.Book.mark_event.Goals as goal
-
-pub returns-then-i-eq0 : goal.returns-then-i-eq0
-returns-then-i-eq0 g c =
-    let book = c.args.self.now in
-    sym (ap (λ (es : Option (List Event)). event_in es c.args.n)
-    (no_events (mark_tree book.tree) (book_state book) book.marks.entries c.args.i refl (inl (omega arith))))
 
 pub returns-in-None : goal.returns-in-None
 returns-in-None g c =
@@ -23,10 +19,11 @@ returns-in-None g c =
 pub event_at-requires : goal.event_at-requires
 event_at-requires g c =
     let book = c.args.self.now in
+    let kept = marks_are g.row.R (state book.session).start book.tree.stretches book.marks.entries book.kept in
     record {
       present =
           marked_in (mark_tree book.tree) book.marks.entries (c.args.i - 1) (c.in-Some.field-0-0.now, c.in-Some.node.now) (sym c.in-Some.ensures.entry)
-          book.kept.present;
+          kept.present;
     }
 
 pub returns-in-Some : goal.returns-in-Some

@@ -6,18 +6,22 @@ use Rattle.rd_marks.specs.Books.{marked_events}
 use Rattle.rd_marks.specs.BookViews.{book_state}
 use Rattle.rd_marks.specs.Tree.{path_in}
 use Rattle.rd_marks.specs.TreeViews.{mark_tree}
+use Rattle.rd_marks.proofs.Kept.{marks_are}
 use Rattle.rd_marks.proofs.MarkLemmas.{found_events, first_missing, second_missing, both_there, decided}
-use Rattle.rd_marks.proofs.Sharing.{node_in, node_run}
+use Rattle.rd_marks.proofs.Sharing.{mark_in, mark_run}
 use Rattle.rd_marks.proofs.books.Book.same.Goals as goal
 
 pub are_same-requires-clause-one : goal.are_same-requires-clause-one
 are_same-requires-clause-one g c =
-    node_in (mark_tree c.args.self.now.tree) c.args.one c.args.self.now.marks.entries c.in-Some.one.now (sym c.in-Some.ensures.value) c.args.self.now.kept.present
+    let book = c.args.self.now in
+    let kept = marks_are g.row.R (state book.session).start book.tree.stretches book.marks.entries book.kept in
+    mark_in (mark_tree book.tree) c.args.one book.marks.entries c.in-Some.one.now (sym c.in-Some.ensures.value) kept.present
 
 pub are_same-requires-clause-other : goal.are_same-requires-clause-other
 are_same-requires-clause-other g c =
-    node_in (mark_tree c.args.self.now.tree) c.args.other c.args.self.now.marks.entries c.in-Some-get.other.now (sym c.in-Some-get.ensures.value)
-    c.args.self.now.kept.present
+    let book = c.args.self.now in
+    let kept = marks_are g.row.R (state book.session).start book.tree.stretches book.marks.entries book.kept in
+    mark_in (mark_tree book.tree) c.args.other book.marks.entries c.in-Some-get.other.now (sym c.in-Some-get.ensures.value) kept.present
 
 pub returns-in_default : goal.returns-in_default
 returns-in_default g c =
@@ -54,5 +58,5 @@ returns-in-Ok g c =
     (found_events t c.args.one ms (Some c.in-Some.one.now) (sym c.in-Some.ensures.value))
     (found_events t c.args.other ms (Some c.in-Some-get.other.now) (sym c.in-Some-get.ensures.value))
     (decided g.row.R w (path_in t c.in-Some.one.now) (path_in t c.in-Some-get.other.now) c.in-Ok.same
-    (node_run g.row.R w t c.args.one ms c.in-Some.one.now (sym c.in-Some.ensures.value) c.args.self.now.kept.runs)
-    (node_run g.row.R w t c.args.other ms c.in-Some-get.other.now (sym c.in-Some-get.ensures.value) c.args.self.now.kept.runs) c.in-Ok.ensures.answer)
+    (mark_run g.row.R w t c.args.one ms c.in-Some.one.now (sym c.in-Some.ensures.value) c.args.self.now.kept.runs)
+    (mark_run g.row.R w t c.args.other ms c.in-Some-get.other.now (sym c.in-Some-get.ensures.value) c.args.self.now.kept.runs) c.in-Ok.ensures.answer)

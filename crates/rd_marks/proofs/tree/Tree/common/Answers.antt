@@ -1,30 +1,53 @@
-use Rattle.std.proofs.Common.{◌≡◌, true≢false, ap, sym, subst, ◌∙◌, arith, ℕ, Option}
+use Rattle.std.proofs.Common.{◌≡◌, true≢false, sym, ap, subst, ◌∙◌, arith}
 use Rattle.std.proofs.lemmas.Bool.{not_from_true}
-use Rattle.rd_marks.specs.Tree.{depth_in, parent_in}
+use Rattle.rd_marks.specs.declared.tree.Position.{Position}
+use Rattle.rd_marks.specs.Tree.{rank}
 use Rattle.rd_marks.specs.TreeViews.{mark_tree}
-use Rattle.rd_marks.proofs.NodeLemmas.{one_option}
-use Rattle.rd_marks.proofs.LevelNodes.{AreLevel, at_level, shallower, both_go_up}
+use Rattle.rd_marks.proofs.Kept.{tree_is, one_option}
+use Rattle.rd_marks.proofs.CommonLemmas.{AreBelow, at_first, turned, first_down}
 use Rattle.rd_marks.proofs.tree.Tree.common.Goals as goal
 
-pub loop-b-init : goal.loop-b-init
-loop-b-init c =
-    let a = c.ancestor-a.ensures in
-    let b = c.ancestor-b.ensures in
-    at_level (mark_tree c.args.self.now) c.args.self.now.kept.tree c.args.one c.args.other c.requires.one c.requires.other c.min-depth.result c.ancestor-a.result c.ancestor-b.result
-    (omega (arith, c.min-depth.ensures, c.depth.ensures, c.depth-2.ensures)) a.present b.present a.begins b.begins a.depth b.depth
+pub loop-a-init : goal.loop-a-init
+loop-a-init c = at_first (mark_tree c.args.self.now) c.args.one c.args.other c.requires.one c.requires.other
 
-pub loop-b-smaller : goal.loop-b-smaller
-loop-b-smaller c =
+pub loop-a-preserved-then-rank : goal.loop-a-preserved-then-rank
+loop-a-preserved-then-rank c =
     let t = mark_tree c.args.self.now in
-    let apart : c.loop-b.a ≡ c.loop-b.b → ⊥ = λ h. true≢false (sym c.loop-b-test.true ∙ c.ne.ensures ∙ not_from_true _ (one_option c.loop-b.a c.loop-b.b h)) in
-    let up = shallower t c.args.self.now.kept.tree c.args.one c.args.other c.requires.one c.requires.other c.loop-b.a c.loop-b.b c.loop-b.invariant apart in
-    let there = ap (depth_in t) c.parent-a.ensures in
-    omega (arith, there, up)
+    let a = c.loop-a.a in
+    let b = c.loop-a.b in
+    let apart : a.stretch ≡ b.stretch → ⊥ = λ h. true≢false (sym c.loop-a-test.true ∙ c.ne.ensures ∙ not_from_true _ (one_option a.stretch b.stretch h)) in
+    let down = first_down t (tree_is t c.args.self.now.kept) c.args.one c.args.other a b c.loop-a.invariant apart (omega (arith, c.rank.ensures, c.rank-in-loop-a.ensures, c.if-rank.true)) in
+    subst (λ (p : Position). AreBelow t c.args.one c.args.other p b) (sym c.below-a.ensures) down.below
 
-pub loop-b-preserved : goal.loop-b-preserved
-loop-b-preserved c =
+pub loop-a-smaller-then-rank : goal.loop-a-smaller-then-rank
+loop-a-smaller-then-rank c =
     let t = mark_tree c.args.self.now in
-    let apart : c.loop-b.a ≡ c.loop-b.b → ⊥ = λ h. true≢false (sym c.loop-b-test.true ∙ c.ne.ensures ∙ not_from_true _ (one_option c.loop-b.a c.loop-b.b h)) in
-    let both = both_go_up t c.args.self.now.kept.tree c.args.one c.args.other c.requires.one c.requires.other c.loop-b.a c.loop-b.b c.loop-b.invariant apart in
-    subst (λ (p : Option ℕ). AreLevel t c.args.one c.args.other p c.parent-b.result) (sym c.parent-a.ensures)
-    (subst (λ (p : Option ℕ). AreLevel t c.args.one c.args.other (parent_in t c.loop-b.a) p) (sym c.parent-b.ensures) both)
+    let a = c.loop-a.a in
+    let b = c.loop-a.b in
+    let apart : a.stretch ≡ b.stretch → ⊥ = λ h. true≢false (sym c.loop-a-test.true ∙ c.ne.ensures ∙ not_from_true _ (one_option a.stretch b.stretch h)) in
+    let down = first_down t (tree_is t c.args.self.now.kept) c.args.one c.args.other a b c.loop-a.invariant apart (omega (arith, c.rank.ensures, c.rank-in-loop-a.ensures, c.if-rank.true)) in
+    let lower = down.lower in
+    let is = ap (λ (p : Position). rank t p.stretch) c.below-a.ensures in
+    omega (arith, lower, is)
+
+pub loop-a-preserved : goal.loop-a-preserved
+loop-a-preserved c =
+    let t = mark_tree c.args.self.now in
+    let a = c.loop-a.a in
+    let b = c.loop-a.b in
+    let apart : b.stretch ≡ a.stretch → ⊥ = λ h. true≢false (sym c.loop-a-test.true ∙ c.ne.ensures ∙ not_from_true _ (one_option a.stretch b.stretch (sym h))) in
+    let down = first_down t (tree_is t c.args.self.now.kept) c.args.other c.args.one b a (turned t c.args.one c.args.other a b c.loop-a.invariant) apart
+    (omega (arith, c.rank.ensures, c.rank-in-loop-a.ensures, c.if-rank.false)) in
+    subst (λ (p : Position). AreBelow t c.args.one c.args.other a p) (sym c.below-b.ensures) (turned t c.args.other c.args.one _ a down.below)
+
+pub loop-a-smaller : goal.loop-a-smaller
+loop-a-smaller c =
+    let t = mark_tree c.args.self.now in
+    let a = c.loop-a.a in
+    let b = c.loop-a.b in
+    let apart : b.stretch ≡ a.stretch → ⊥ = λ h. true≢false (sym c.loop-a-test.true ∙ c.ne.ensures ∙ not_from_true _ (one_option a.stretch b.stretch (sym h))) in
+    let down = first_down t (tree_is t c.args.self.now.kept) c.args.other c.args.one b a (turned t c.args.one c.args.other a b c.loop-a.invariant) apart
+    (omega (arith, c.rank.ensures, c.rank-in-loop-a.ensures, c.if-rank.false)) in
+    let lower = down.lower in
+    let is = ap (λ (p : Position). rank t p.stretch) c.below-b.ensures in
+    omega (arith, lower, is)

@@ -1,10 +1,11 @@
-use Rattle.rd_marks.specs.Tree.{depth_in}
+use Rattle.rd_marks.specs.Tree.{rank}
+use Rattle.std.proofs.Common.{◌+◌}
 use Rattle.rd_marks.specs.TreeViews.{mark_tree}
-use Rattle.rd_marks.proofs.LevelNodes.{AreLevel}
+use Rattle.rd_marks.proofs.CommonLemmas.{AreBelow}
 use Rattle.rd_marks.proofs.tree.Tree.common.Given as goal
 
-abbrev pub invariant-loop-b : goal.invariant-loop-b
-invariant-loop-b l = AreLevel (mark_tree l.self) l.fn.one l.fn.other l.a l.b
+abbrev pub invariant-loop-a : goal.invariant-loop-a
+invariant-loop-a l = AreBelow (mark_tree l.self) l.fn.one l.fn.other l.a l.b
 
-abbrev pub decreases-loop-b : goal.decreases-loop-b
-decreases-loop-b l = depth_in (mark_tree l.self) l.a
+abbrev pub decreases-loop-a : goal.decreases-loop-a
+decreases-loop-a l = rank (mark_tree l.self) l.a.stretch + rank (mark_tree l.self) l.b.stretch

@@ -1,36 +1,39 @@
-use Rattle.std.proofs.Common.{◌≡◌, ◌++◌, ◌∷◌, [], suc, reverse, length, ℕ, List, Option, Some, subst, sym, ap, ◌∙◌, option_copied, arith}
+use Rattle.std.proofs.Common.{◌≡◌, ◌++◌, ◌-◌, reverse, ℕ, List, Option, subst, sym, ap, ◌∙◌, length, option_copied, arith}
 use Rattle.rd_step.specs.declared.entries.Entry.{Entry}
-use Rattle.rd_marks.specs.Tree.{IsIn, depth_in, path_in, entry_in}
+use Rattle.rd_marks.specs.Tree.{path_in, IsLast}
 use Rattle.rd_marks.specs.TreeViews.{mark_tree}
+use Rattle.rd_marks.proofs.Kept.{tree_is}
 use Rattle.rd_marks.proofs.TreeLemmas.{path_length}
-use Rattle.rd_marks.proofs.FollowLemmas.{one_up, read_on, all_read}
+use Rattle.rd_marks.proofs.ReadLemmas.{read_on, all_read, one_less}
 use Rattle.rd_marks.proofs.tree.Tree.records.Goals as goal
 
-pub loop-index-preserved : goal.loop-index-preserved
-loop-index-preserved c =
+pub loop-at-preserved : goal.loop-at-preserved
+loop-at-preserved c =
     let t = mark_tree c.args.self.now in
-    let at = c.loop-index.at in
-    let inv = c.loop-index.invariant in
+    let rule = tree_is t c.args.self.now.kept in
+    let at = c.loop-at.at in
+    let inv = c.loop-at.invariant in
+    let up = c.ancestor-at.ensures in
+    let below = c.ancestor-at.result in
     let x = c.in-Some.entry.now in
-    let its : entry_in t at ≡ Some x = sym c.entry.ensures ∙ ap option_copied c.in-Some.is in
-    let up = one_up t c.args.self.now.kept.tree at x inv.present its in
-    let parent = sym c.parent-at.ensures in
-    let shallower = up.depth ∙ ap (λ (p : Option ℕ). suc (depth_in t p)) parent in
+    let last = subst (λ (o : Option Entry). IsLast (path_in t at) o) (ap option_copied c.in-Some.is) c.last.ensures in
+    let long = path_length t rule at inv.present in
+    let less = path_length t rule below up.present in
+    let whole = one_less (path_in t at) (path_in t below) x last up.begins (omega (arith, long, less, up.depth)) in
     record {
-      present = subst (λ (p : Option ℕ). IsIn t p) parent up.present;
+      present = up.present;
       path =
-          read_on (path_in t at) (path_in t c.parent-at.result) c.loop-index.records.items (path_in t c.args.from) x
-          (up.path ∙ ap (λ (p : Option ℕ). path_in t p ++ x ∷ []) parent) inv.path
-          ∙ ap (λ (ys : List Entry). path_in t c.parent-at.result ++ reverse ys) (sym c.push_reserved.ensures.items);
-      depth = omega (arith, shallower, inv.depth, c.loop-index.auto.index);
-      len = omega (arith, c.push_reserved.ensures.len, inv.len, c.loop-index.auto.index);
+          read_on (path_in t at) (path_in t below) c.loop-at.records.items (path_in t c.args.from) x whole inv.path
+          ∙ ap (λ (ys : List Entry). path_in t below ++ reverse ys) (sym c.push_reserved.ensures.items);
+      least = omega (arith, up.depth, c.loop-at-test.true);
+      len = omega (arith, c.push_reserved.ensures.len, inv.len, up.depth, c.loop-at-test.true);
       capacity = omega (arith, c.push_reserved.ensures.capacity, inv.capacity);
     }
 
 pub returns-clause-ok : goal.returns-clause-ok
 returns-clause-ok c =
     let t = mark_tree c.args.self.now in
-    let inv = c.loop-index.invariant in
-    let long = path_length t c.args.self.now.kept.tree c.loop-index.at inv.present in
-    let end : length (path_in t c.loop-index.at) ≡ c.args.n = omega (arith, long, inv.depth, c.loop-index-test.false, c.loop-index.auto.index, c.loop-index.auto.index-end, c.depth-depth.ensures, c.requires.within) in
-    c.reverse.ensures.items ∙ all_read (path_in t c.loop-index.at) c.loop-index.records.items (path_in t c.args.from) c.args.n end inv.path
+    let inv = c.loop-at.invariant in
+    let long = path_length t (tree_is t c.args.self.now.kept) c.loop-at.at inv.present in
+    let end : length (path_in t c.loop-at.at) ≡ c.args.n = omega (arith, long, inv.least, c.loop-at-test.false) in
+    c.reverse.ensures.items ∙ all_read (path_in t c.loop-at.at) c.loop-at.records.items (path_in t c.args.from) c.args.n end inv.path
