@@ -1,0 +1,86 @@
+#!/usr/bin/env python3
+"""How many lines of code, definitions, proofs and tests each crate has.
+
+    python3 tools/lines.py
+
+It prints a Markdown table, a row a crate in the order of crates.txt. Code is what `src/` has but tests, contracts included;
+definitions are `specs/`, proofs are `proofs/`; tests are `src/tests.rt`, `src/tests/` and the proofs of these, in the crate or in the
+one with `_tests` after its name. Which definitions a contract reaches is said by `definitions.py`.
+
+A line counts if it is neither blank nor a comment alone. Only Python's standard library is used.
+"""
+
+import argparse
+import sys
+from pathlib import Path
+
+TOP = Path(__file__).resolve().parent.parent
+CRATES = TOP / "crates"
+KINDS = ("code", "definitions", "proofs", "tests")
+TESTS = "_tests"  # after the name of a crate: that of the crate of its tests
+COMMENT = {".rt": "//", ".antt": "--"}
+
+
+def counts_as_line(line, suffix):
+    """Whether a line of a file with this suffix counts."""
+    return bool(line.strip()) and not line.strip().startswith(COMMENT[suffix])
+
+
+def lines_in(path):
+    """How many lines of a file count."""
+    return sum(counts_as_line(line, path.suffix) for line in path.read_text(encoding="utf-8").splitlines())
+
+
+def kind_of(parts):
+    """The kind of the file that stands in its crate under these names; none if it isn't counted."""
+    if parts[0] not in ("src", "specs", "proofs"):
+        return None
+    if parts[0] != "specs" and len(parts) > 1 and Path(parts[1]).stem == "tests":
+        return "tests"
+    return {"src": "code", "specs": "definitions", "proofs": "proofs"}[parts[0]]
+
+
+def counts_of(crate):
+    """The lines of a crate by their kind."""
+    counts = dict.fromkeys(KINDS, 0)
+    for path in sorted(crate.rglob("*")):
+        kind = kind_of(path.relative_to(crate).parts)
+        if kind and path.suffix in COMMENT:
+            counts[kind] += lines_in(path)
+    return counts
+
+
+def crate_names():
+    """The names of all crates, lowest first."""
+    rows = (TOP / "crates.txt").read_text(encoding="utf-8").splitlines()
+    return [row.split(":")[0].split()[0] for row in rows if row.strip()]
+
+
+def row(name, counts):
+    """A row of the table."""
+    return f"| {name} | " + " | ".join(f"{counts[kind]:,}" for kind in KINDS) + f" | {sum(counts.values()):,} |"
+
+
+def print_crates():
+    """Prints the table of all crates."""
+    total = dict.fromkeys(KINDS, 0)
+    print("| Crate | Code | Definitions | Proofs | Tests | All |")
+    print("|---|---|---|---|---|---|")
+    for name in crate_names():
+        if name.endswith(TESTS):
+            continue
+        counts, tests = counts_of(CRATES / name), counts_of(CRATES / (name + TESTS))
+        counts["tests"] += tests["tests"]
+        print(row(name, counts))
+        total = {kind: total[kind] + counts[kind] for kind in KINDS}
+    print(row("all", total))
+
+
+def main():
+    argparse.ArgumentParser(description="Lines by crate and kind.").parse_args()
+    print_crates()
+    return 0
+
+
+if __name__ == "__main__":
+    sys.exit(main())
