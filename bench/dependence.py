@@ -1,7 +1,9 @@
-"""Which steps of a run depend on which, worked out from the steps' records by the words of docs/MODEL.md alone.
+"""Which steps of a run depend on which, worked out from the steps' records by the words of
+docs/MODEL.md alone.
 
-A record is the reply to `step K`. An actor counts as a place that each of its steps writes: so two steps depend on each other exactly
-where they share a place that one of the two wrote. Numbers of steps count from 1.
+A record is the reply to `step K`. An actor counts as a place that each of its steps writes: so two
+steps depend on each other exactly where they share a place that one of the two wrote. Numbers of
+steps count from 1.
 """
 
 import heapq
@@ -16,11 +18,11 @@ class Step:
     place: str  # - where it has none
     touched: tuple
     wrote: tuple
-    ended: str  # what the reply to its line has behind `ok K`
+    ended: str  # what the reply to its line has after `ok K`
 
 
 def names(place, ring):
-    """The places that this one names, over rings of so many cells."""
+    """The places that this one names, over rings of this many cells."""
     kind, *rest = place.split(" ")
     if kind == "cell":
         return tuple(f"{half} {' '.join(rest)}" for half in ("value", "index"))
@@ -56,7 +58,8 @@ def last_writer(steps, place, ring):
 
 
 def closure(steps, number):
-    """The numbers of this step and of all later ones that depend on it, directly or through others."""
+    """The numbers of this step and of all later ones that depend on it, directly or through
+    others."""
     taken, touched, wrote = [], set(), set()
     for at, step in enumerate(steps[number - 1:], number):
         if at == number or not (touched.isdisjoint(step.wrote) and wrote.isdisjoint(step.touched)):
@@ -67,8 +70,9 @@ def closure(steps, number):
 
 
 def leads(steps):
-    """For each step later ones that depend on it, enough of them: all others do so through these."""
-    behind, writer, readers = [[] for _ in steps], {}, {}
+    """For each step later ones that depend on it, enough of them: all others do so through
+    these."""
+    after, writer, readers = [[] for _ in steps], {}, {}
     for at, step in enumerate(steps):
         before = {writer[place] for place in step.touched if place in writer}
         before.update(reader for place in step.wrote for reader in readers.pop(place, ()))
@@ -78,14 +82,15 @@ def leads(steps):
             else:
                 readers.setdefault(place, []).append(at)
         for earlier in before:
-            behind[earlier].append(at)
-    return behind
+            after[earlier].append(at)
+    return after
 
 
 def latest_first(steps):
-    """The steps in another order, in which each still stands behind those on which it depends: always the latest that may come next."""
-    behind, waits, order = leads(steps), [0] * len(steps), []
-    for later in behind:
+    """The steps in another order, in which each is still after those on which it depends: always
+    the latest that may come next."""
+    after, waits, order = leads(steps), [0] * len(steps), []
+    for later in after:
         for at in later:
             waits[at] += 1
     free = [-at for at, count in enumerate(waits) if not count]
@@ -93,7 +98,7 @@ def latest_first(steps):
     while free:
         at = -heapq.heappop(free)
         order.append(steps[at])
-        for later in behind[at]:
+        for later in after[at]:
             waits[later] -= 1
             if not waits[later]:
                 heapq.heappush(free, -later)

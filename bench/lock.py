@@ -1,27 +1,26 @@
 #!/usr/bin/env python3
-"""How long a short hold of the ticket lock takes: four threads with 20,000 holds each, beside one thread with 80,000.
+"""How long a short hold of the ticket lock takes: four threads with 20,000 holds each, beside one
+thread with 80,000.
 
     python3 bench/lock.py [--runs N] [--holds N]
 
-A program is written into a temporary folder beside a copy of `crates/rd_lock`, and `rt try` builds and runs it there, several times
-over. It is not proved: it is only timed, and each run checks that no hold was lost. Standard output gets one Markdown table with
-the median, the least and the greatest of the runs. `rt` has to be on the PATH. Only Python's standard library is used.
+A program is written into a temporary folder beside a copy of `crates/rd_lock`, and `rt try` builds
+and runs it there, several times over. It is not proved: it is only timed, and each run checks that
+no hold was lost. Standard output gets one Markdown table with the median, the least and the
+greatest of the runs. `rt` has to be on the PATH. Only Python's standard library is used.
 
-A hold takes the value, adds 1 to a number in it, and puts it back. The program reads the clock before the first thread starts and
-after the last has ended.
+A hold takes the value, adds 1 to a number in it, and puts it back. The program reads the clock
+before the first thread starts and after the last has ended.
 """
 
 import argparse
-import os
 import re
-import shutil
-import statistics
-import subprocess
 import sys
-import tempfile
 from pathlib import Path
 
-LOCK = Path(__file__).resolve().parent.parent / "crates" / "rd_lock"
+sys.path.insert(0, str(Path(__file__).resolve().parent.parent / "tools"))
+
+import program
 
 PROGRAM = """//! Times short holds of the ticket lock.
 #![tactic(auto)]
@@ -103,39 +102,24 @@ fn main(rt: HostRuntime) -> io::Result<()> {
 """
 
 
-def lay_out(folder: Path, runs: int, holds: int) -> Path:
-    """Writes the repository of the program, and answers the program's folder."""
-    shutil.copytree(LOCK, folder / "crates" / "rd_lock", ignore=shutil.ignore_patterns("out", "must-fail"))
-    program = folder / "crates" / "lock_bench"
-    (program / "src").mkdir(parents=True)
-    text = PROGRAM.replace("RUNS", str(runs)).replace("HOLDS", str(holds))
-    (program / "src" / "main.rt").write_text(text)
-    (folder / "crates.txt").write_text("rd_lock: atomic_table crossbeam_utils\nlock_bench: rd_lock\n")
-    (folder / "HANDLES").write_text("Handles allowed: Threads, Wait.\n")
-    return program
-
-
-def main() -> int:
+def main():
     parser = argparse.ArgumentParser(description="Times short holds of the ticket lock.")
     parser.add_argument("--runs", type=int, default=9, help="how often both are timed (9)")
-    parser.add_argument("--holds", type=int, default=20_000, help="the holds of each of the four threads (20000)")
+    parser.add_argument("--holds", type=int, default=20_000, help="holds of each thread (20000)")
     given = parser.parse_args()
-    with tempfile.TemporaryDirectory() as folder:
-        program = lay_out(Path(folder), given.runs, given.holds)
-        ran = subprocess.run(["rt", "try"], cwd=program, capture_output=True, text=True, env=os.environ)
-    rows = [tuple(map(int, row)) for row in re.findall(r"four (\d+) one (\d+) holds (\d+)", ran.stdout)]
-    wanted = 8 * given.holds
-    if len(rows) != given.runs or any(row[2] != wanted for row in rows):
+    source = PROGRAM.replace("RUNS", str(given.runs)).replace("HOLDS", str(given.holds))
+    ran = program.try_program(source, ["rd_lock"], ["rd_lock"])
+    found = re.findall(r"four (\d+) one (\d+) holds (\d+)", ran.stdout)
+    rows = [tuple(map(int, row)) for row in found]
+    if len(rows) != given.runs or any(row[2] != 8 * given.holds for row in rows):
         print(ran.stdout, ran.stderr, sep="\n", file=sys.stderr)
         return 1
-    print("| What | Median | Least | Greatest | A hold |")
-    print("|---|---|---|---|---|")
+    program.print_head("What", "Median", "Least", "Greatest", "A hold")
     names = [f"4 threads, {given.holds:,} holds each", f"1 thread, {4 * given.holds:,} holds"]
-    for index, name in enumerate(names):
-        micros = [row[index] for row in rows]
-        middle = statistics.median(micros)
-        hold = 1_000 * middle / (4 * given.holds)
-        print(f"| {name} | {middle / 1000:.1f} ms | {min(micros) / 1000:.1f} ms | {max(micros) / 1000:.1f} ms | {hold:,.0f} ns |")
+    for name, micros in zip(names, zip(*rows)):
+        spread = program.spread_of(micros)
+        times = [f"{one / 1000:.1f} ms" for one in spread]
+        program.print_row(name, *times, f"{1_000 * spread[0] / (4 * given.holds):,.0f} ns")
     return 0
 
 

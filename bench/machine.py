@@ -1,8 +1,16 @@
-"""The queue's machine, as far as the writer of a script must know it: which line each actor takes next.
+"""The queue's machine, as far as the writer of a script must know it: which line each actor takes
+next. With it random runs, and starts by hand over which `load` runs a script.
 
-It follows the table of control points in docs/MODEL.md, a method a row. Segments are named by identity, and nothing is kept of a
-step but what it leaves behind.
+It follows the table of control points in docs/MODEL.md, a method a row. Segments are named by
+identity, and nothing is kept of a step but what it leaves. A start is a trace of version 2 as
+docs/MANUAL.md has it.
 """
+
+import json
+import random
+
+SEED = 20130223
+FAR = 2**61  # a tail that no head comes to: who dequeues there goes on forever, in rounds of five steps
 
 
 class Segment:
@@ -31,7 +39,7 @@ class Actor:
 
 
 class Machine:
-    """The fresh world of so many actors, numbered from 1, over rings of so many cells."""
+    """The fresh world of actors, numbered from 1, over rings of this many cells."""
 
     def __init__(self, actors, ring):
         self.ring = ring
@@ -39,7 +47,7 @@ class Machine:
         self.actors = {number: Actor() for number in range(1, actors + 1)}
 
     def place(self, number):
-        """Where an actor stands."""
+        """Where an actor is."""
         return self.actors[number].place
 
     def enqueue(self, number, value):
@@ -56,7 +64,8 @@ class Machine:
         self.actors[number].place = "E11" if starves else "E4"
 
     def go(self, number):
-        """An actor that stands anywhere else makes its step. A row answers the next place, or Idle where the call is over."""
+        """An actor that is anywhere else makes its step. A row returns the next place, or Idle
+        where the call is over."""
         actor = self.actors[number]
         place = ROWS[actor.place](self, actor)
         if place == "Idle":
@@ -193,7 +202,8 @@ class Machine:
         return self.after_empty(actor)
 
     def after_empty(self, actor):
-        """After a ring was found empty: look for the next one the first time, move the queue's head the second time."""
+        """After a ring was found empty: look for the next one the first time, move the queue's head
+        the second time."""
         return "Q13" if actor.times == 1 else "Q14"
 
     def q13(self, actor):
@@ -209,3 +219,65 @@ class Machine:
 
 
 ROWS = {name.upper(): row for name, row in vars(Machine).items() if name[0] in "eq" and name[1:].isdigit()}
+
+
+# ---- Random runs ---------------------------------------------------------------------------------
+
+
+def random_line(machine, source, actor, enqueues):
+    """The line of an actor's next event, which the machine makes too. It is never refused."""
+    place = machine.place(actor)
+    if place == "Idle" and source.random() < enqueues:
+        value = source.randrange(1000)
+        machine.enqueue(actor, value)
+        return f"enq {actor} {value}"
+    if place == "Idle":
+        machine.dequeue(actor)
+        return f"deq {actor}"
+    if place == "E10":
+        starves = source.random() < 0.5
+        machine.choose(actor, starves)
+        return f"starve {actor} {'yes' if starves else 'no'}"
+    machine.go(actor)
+    return f"go {actor}"
+
+
+def random_run(steps, enqueues=0.5, actors=4, ring=4):
+    """This many events of actors that take turns by chance."""
+    machine, source = Machine(actors, ring), random.Random(SEED)
+    return [random_line(machine, source, source.randint(1, actors), enqueues) for _ in range(steps)]
+
+
+# ---- Starts by hand ------------------------------------------------------------------------------
+
+
+def actor(maker=None):
+    """An idle actor, or one that dequeues and is to draw from the head of the segment that this
+    maker made first."""
+    words = {"closed": False, "crq": [0, 0], "h": 0, "idx": 0, "new": [0, 0], "next": [0, 0], "op": None, "pass": 0, "pc": "Idle"}
+    words |= {"safe": False, "t": 0, "val": None}
+    return words if maker is None else words | {"crq": [maker, 0], "op": ["deq"], "pass": 1, "pc": "Q2"}
+
+
+def segment(ring, tail):
+    """An empty segment of this many cells with this tail."""
+    cells = [[True, index, None] for index in range(ring)]
+    return {"cells": cells, "closed": False, "head": 0, "next": None, "tail": tail}
+
+
+def root(ring):
+    """The root, which holds one value."""
+    held = segment(ring, 1)
+    held["cells"][0][2] = 7
+    return held
+
+
+def dequeuers(ring, makers, idle=0):
+    """The text of a trace of no events: for each of these makers an actor that dequeues forever on
+    the first segment of that maker, and after them this many idle ones. The root is the queue's one
+    segment, and nobody is there."""
+    actors = [actor(maker) for maker in makers] + [actor()] * idle
+    segments = [[root(ring)]] + [[segment(ring, FAR)] * (maker in makers) for maker in range(1, len(actors) + 1)]
+    array = {"cells": [], "head": 0, "tail": 0}
+    start = {"actors": actors, "array": array, "qhead": [0, 0], "qtail": [0, 0], "segments": segments}
+    return json.dumps({"events": [], "marks": [], "ring": ring, "start": start, "undone": [], "version": 2}) + "\n"

@@ -1,33 +1,39 @@
 #!/usr/bin/env python3
-"""The slowest line of each command at several lengths of runs, over runs that are hard in different ways.
+"""The slowest line of each command at several lengths of runs, over runs that are hard in different
+ways.
 
-    python3 bench/slowest.py --program PATH [--runs N] [--lengths N,N,..] [--limit MS] [--processor] [--only LETTERS] [--seconds N]
+    python3 bench/slowest.py [--program P] [--runs N] [--lengths N,N,..] [--limit MS] [--processor]
+        [--only LETTERS] [--seconds N]
 
-PATH is the built program. It is driven line by line: a line is written, its one reply is waited for, and what that takes is the line's
-time, not a share of the time of a whole run. The rule is that no line takes more than 50 ms at 65,535 steps, whatever the run. The runs
-have letters:
+P is the built program. It is driven line by line: a line is written, its one reply is waited for,
+and what that takes is the line's time, not a share of the time of a whole run. The rule is that no
+line takes more than 50 ms at 65,535 steps, whatever the run. The runs have letters:
 
     a   four actors by chance, with calls of both kinds
-    b   eight actors that dequeue, each on a segment of its own, in turn: no step depends on another actor's
+    b   eight actors that dequeue, each on its own segment, in turn: no step depends on another actor's
     c   the same in 64 stretches, each of one actor
     d   eight actors by chance that dequeue on one segment
     e   eight actors by chance that only enqueue, over rings of two cells, so that rings close and segments are made all the time
     f   sixteen actors, twelve of which dequeue by chance on two segments of two cells
 
-Behind each run the session asks, undoes and redoes each step, undoes steps alone, rolls back a step of each actor, goes back and forth,
-sets bookmarks, goes from one to another, compares them and drops them; and it makes the run anew in another order of independent steps,
-the latest first. A session is driven several times, and the time of each of its lines is the median. All replies are checked, those of
-`show`, `actor`, `step` and `origin` by how they begin; and for that it is worked out anew which steps depend on which (dependence.py).
+After each run the session asks, undoes and redoes each step, undoes steps alone, rolls back a step
+of each actor, goes back and forth, sets bookmarks, goes from one to another, compares them and
+drops them; and it makes the run anew in another order of independent steps, the latest first. A
+session is driven several times, and the time of each of its lines is the median. All replies are
+checked, those of `show`, `actor`, `step` and `origin` by how they begin; and for that it is worked
+out anew which steps depend on which (dependence.py).
 
-Standard output gets three Markdown tables, in milliseconds. The first one has for each command its slowest line at each length with the
-letter of the run on which it was, and how many times as long that is as at the next smaller length. The second one has the same for
-`same` and `roll` on run b alone: in bold is what takes over a millisecond, and more than 2.3 times as long for twice the steps. The
-third one has each line that took longer than the limit at the greatest length. Times are from end to end, with the processor's time of
-the same line beside them; with --processor the other way round. Last comes the share of the time with work that the machine's host gave
-to others. Standard error gets what is being measured.
+Standard output gets three Markdown tables, in milliseconds. The first one has for each command its
+slowest line at each length with the letter of the run on which it was, and how many times as long
+that is as at the next smaller length. The second one has the same for `same` and `roll` on run b
+alone: in bold is what takes over a millisecond, and more than 2.3 times as long for twice the
+steps. The third one has each line that took longer than the limit at the greatest length. Times are
+from end to end, with the processor's time of the same line beside them; with --processor the other
+way round. Last comes the share of the time with work that the machine's host gave to others.
+Standard error gets what is being measured.
 
-The status is 1 if a line at the greatest length took longer than the limit, or if a reply is wrong. Only Python's standard library is
-used.
+The status is 1 if a line at the greatest length took longer than the limit, or if a reply is wrong.
+Only Python's standard library is used.
 """
 
 import argparse
@@ -37,20 +43,24 @@ import math
 import os
 import random
 import statistics
-import subprocess
 import sys
 import tempfile
 from array import array
 from collections.abc import Callable
 from dataclasses import dataclass, field
+from pathlib import Path
+
+sys.path.insert(0, str(Path(__file__).resolve().parent.parent / "tools"))
 
 import dependence
-from bench import MOST_STEPS, SEED, processor_ticks, random_run
-from driven import Broken, Driven, dequeuers
+import program
+from commands import MOST_STEPS
+from machine import SEED, dequeuers, random_run
+from program import Broken, Driven
 
 FEWEST_STEPS = 1000
 STRETCHES = 64
-SPARES = 4  # actors behind the runners of each run, which make nine of its steps
+SPARES = 4  # actors after the runners of each run, which make nine of its steps
 SPARE_STEPS = 9
 MOST_GROWTH = 2.3  # times as long for twice the steps
 APART = "b"
@@ -62,7 +72,7 @@ MARK, DROP = "`mark`", "`drop`"
 ALONG, ACROSS = "`goto` along a run", "`goto` another order of a run"
 UNEQUAL = "`same` of lists that differ at the end"
 
-# ---- Runs --------------------------------------------------------------------------------------------------------------
+# ---- Runs ----------------------------------------------------------------------------------------
 
 
 def in_turn(runners, steps):
@@ -93,7 +103,8 @@ def calls(runners, steps):
 
 @dataclass
 class Run:
-    """A run over the fresh world; or, with makers, over a start by hand in which the runners dequeue on these makers' segments."""
+    """A run over the fresh world; or, with makers, over a start by hand in which the runners
+    dequeue on these makers' segments."""
 
     runners: int
     ring: int
@@ -101,7 +112,7 @@ class Run:
     makers: list = field(default_factory=list)
 
     def words(self, folder):
-        """The words behind the program's name, for lines on standard input."""
+        """The words after the program's name, for lines on standard input."""
         if not self.makers:
             return ["run", "-", "--actors", str(self.runners + SPARES), "--ring", str(self.ring)]
         trace = os.path.join(folder, "start.trace")
@@ -110,8 +121,9 @@ class Run:
         return ["load", trace]
 
     def whole(self, steps):
-        """The lines of so many steps: the runners', a step on which nothing depends as number 2 and another in the middle, and a call as
-        number 3 that goes on only at the end, where it takes a value if there is one. The last step can be exchanged for another."""
+        """The lines of this many steps: the runners', a step on which nothing depends as number 2
+        and another in the middle, and a call as number 3 that goes on only at the end, where it
+        takes a value if there is one. The last step can be exchanged for another."""
         free, middle, late, last = range(self.runners + 1, self.runners + SPARES + 1)
         lines, half = self.lines(self.runners, steps - SPARE_STEPS), steps // 2
         front = [lines[0], f"deq {free}", f"deq {late}"]
@@ -131,20 +143,22 @@ RUNS = {
 def steps_of(words, run, count):
     """The steps of a run of this length, from their records."""
     lines = run.whole(count) + [f"step {number}" for number in range(1, count + 1)]
-    ended = subprocess.run(words, input="\n".join(lines) + "\n", capture_output=True, text=True, check=False)
-    replies = ended.stdout.splitlines()
+    ended = program.run(words, ("\n".join(lines) + "\n").encode())
+    replies = ended.output.decode().splitlines()
     refused = next((f"{line}: {reply}" for line, reply in zip(lines, replies) if reply.startswith("refused")), "")
-    if ended.returncode or refused or len(replies) != 2 * count:
-        raise Broken(f"status {ended.returncode}, {len(replies)} replies to {len(lines)} lines, {refused or ended.stderr.strip()}")
+    if ended.status or refused or len(replies) != 2 * count:
+        fault = refused or ended.errors.strip()
+        raise Broken(f"status {ended.status}, {len(replies)} replies to {len(lines)} lines, {fault}")
     return [dependence.step_of(record, run.ring) for record in replies[count:]]
 
 
-# ---- Sessions ----------------------------------------------------------------------------------------------------------
+# ---- Sessions ------------------------------------------------------------------------------------
 
 
 @dataclass
 class Line:
-    """A line of a session: its row in the table, its text and its reply, or, where that ends with a space, how its reply begins."""
+    """A line of a session: its row in the table, its text and its reply, or, where that ends with a
+    space, how its reply begins."""
 
     row: str
     text: str
@@ -156,7 +170,8 @@ class Line:
 
 
 class Session:
-    """The lines of a session over a run. Each method adds some; between them the run is live as it was made, with none undone."""
+    """The lines of a session over a run. Each method adds some; between them the run is live as it
+    was made, with none undone."""
 
     def __init__(self, run, steps):
         self.run, self.steps, self.count, self.lines = run, steps, len(steps), []
@@ -176,7 +191,8 @@ class Session:
         self.lines.append(Line(row, text, wanted))
 
     def move(self, row, text, undone=0, live=None):
-        """Adds a line that moves steps, and leaves so many undone; and live, if these are not all others."""
+        """Adds a line that moves steps, and leaves this many undone; and live, if these are not all
+        others."""
         self.say(row, text, f"at {self.count - undone if live is None else live} {undone}")
 
     def drop(self, *names):
@@ -226,7 +242,8 @@ class Session:
         self.drop("equal")
 
     def compare(self, row):
-        """Compares the live steps, which are the run in another order, with it, and goes to and fro between the two."""
+        """Compares the live steps, which are the run in another order, with it, and goes to and fro
+        between the two."""
         self.say(MARK, "mark other", f"marked {self.count}")
         self.say(row, "same run other", "same yes")
         self.say(row, "same other run", "same yes")
@@ -234,7 +251,8 @@ class Session:
             self.move(ACROSS, f"goto {name}")
 
     def undo_alone(self):
-        """Undoes steps alone and redoes them: at the front, in the middle and at the end; and is refused."""
+        """Undoes steps alone and redoes them: at the front, in the middle and at the end; and is
+        refused."""
         for number in (1, 3):
             refused = f"refused 13 Depended {dependence.first_dependant(self.steps, number)}"
             self.say("`undo K`, refused", f"undo {number}", refused)
@@ -247,8 +265,8 @@ class Session:
                 self.drop("other")
 
     def rolled(self):
-        """The numbers of the steps that are rolled back, each with its row: the first one, one in the middle, and one of each actor, which
-        stands the later the greater the actor's number is."""
+        """The numbers of the steps that are rolled back, each with its row: the first one, one in
+        the middle, and one of each actor, which is the later the greater the actor's number is."""
         runners, found = self.run.runners, {1: "`roll 1`", self.count // 2: "`roll` of a step in the middle"}
         for actor in range(1, runners + 1):
             begin = self.count * (actor - 1) // runners
@@ -257,7 +275,7 @@ class Session:
         return found
 
     def roll(self, row, number):
-        """Rolls a step back, and answers how many are undone then."""
+        """Rolls a step back, and returns how many are undone then."""
         undone = len(dependence.closure(self.steps, number))
         self.move(row, f"roll {number}", undone)
         return undone
@@ -274,7 +292,8 @@ class Session:
         self.move(ACROSS, "goto run")
 
     def make_another_order(self):
-        """Makes the run anew in another order, compares and goes to and fro; then another last step, which makes it another run."""
+        """Makes the run anew in another order, compares and goes to and fro; then another last
+        step, which makes it another run."""
         order = dependence.latest_first(self.steps[:-1]) + self.steps[-1:]
         self.move(BACK, f"back {self.count}", self.count)
         self.make(order, DISCARDS)
@@ -302,12 +321,13 @@ class Session:
         self.drop("start", "middle", "near")
 
 
-# ---- Measures ----------------------------------------------------------------------------------------------------------
+# ---- Measures ------------------------------------------------------------------------------------
 
 
 @dataclass
 class Timed:
-    """A line of a session over a run, and its milliseconds by the clock that counts and by the other one."""
+    """A line of a session over a run, and its milliseconds by the clock that counts and by the
+    other one."""
 
     letter: str
     line: Line
@@ -318,14 +338,14 @@ class Timed:
 def driven_once(words, lines, seconds):
     """What each line of a session took, from end to end and of the processor."""
     wholes, processors = array("d"), array("d")
-    with Driven(words, seconds) as program:
+    with Driven(words, seconds) as driven:
         for line in lines:
-            reply, whole, processor = program.ask(line.text)
+            reply, whole, processor = driven.ask(line.text)
             if not line.fits(reply):
                 raise Broken(f"`{line.text}` has the reply `{reply}`, wanted `{line.wanted}`")
             wholes.append(whole)
             processors.append(processor)
-        if status := program.end():
+        if status := driven.end():
             raise Broken(f"the status is {status}")
     return wholes, processors
 
@@ -352,7 +372,7 @@ def slowest(lines, key):
     return found
 
 
-# ---- The tables --------------------------------------------------------------------------------------------------------
+# ---- The tables ----------------------------------------------------------------------------------
 
 
 def shown(ms):
@@ -375,7 +395,7 @@ def print_table(options, columns, tells_growth=False):
     pairs = list(itertools.pairwise(options.lengths))
     heads = [f"{count:,} steps, ms" for count in options.lengths] + [f"{many:,} / {few:,}" for few, many in pairs]
     heads += [f"{other_clock(options)}, ms", "Line"]
-    print(f"| Command | {' | '.join(heads)} |\n|{'---|' * (len(heads) + 1)}")
+    program.print_head("Command", *heads)
     for name in columns[0]:
         row = [column[name] for column in columns if name in column]
         if len(row) < len(columns):
@@ -384,7 +404,7 @@ def print_table(options, columns, tells_growth=False):
         for lengths, times in zip(pairs, itertools.pairwise(row)):
             bold = "**" if tells_growth and is_too_much(*lengths, *times) else ""
             cells.append(f"{bold}{times[1].ms / times[0].ms:.1f}{bold}")
-        print(f"| {name} | {' | '.join(cells)} | {shown(row[-1].other)} | `{row[-1].line.text}` |")
+        program.print_row(name, *cells, shown(row[-1].other), f"`{row[-1].line.text}`")
     print(flush=True)
 
 
@@ -392,15 +412,17 @@ def print_long(options, lines):
     """Prints the lines that took longer than the limit."""
     print(f"Lines of more than {options.limit:g} ms at {options.lengths[-1]:,} steps: {len(lines) or 'none'}\n")
     if lines:
-        print(f"| Run | Line | Command | ms | {other_clock(options)}, ms |\n|---|---|---|---|---|")
+        program.print_head("Run", "Line", "Command", "ms", f"{other_clock(options)}, ms")
     for one in sorted(lines, key=lambda one: -one.ms):
-        print(f"| {one.letter} | `{one.line.text}` | {one.line.row} | {shown(one.ms)} | {shown(one.other)} |")
+        times = shown(one.ms), shown(one.other)
+        program.print_row(one.letter, f"`{one.line.text}`", one.line.row, *times)
     if lines:
         print()
 
 
 def measured(options, folder):
-    """For each length the slowest lines of each row of each run, and the lines at the greatest length that took longer than the limit."""
+    """For each length the slowest lines of each row of each run, and the lines at the greatest
+    length that took longer than the limit."""
     columns, long = [], []
     for count in options.lengths:
         found = {}
@@ -433,7 +455,7 @@ def print_all(options, columns, long):
 def read_options():
     """The command line."""
     parser = argparse.ArgumentParser(description=__doc__.splitlines()[0])
-    parser.add_argument("--program", required=True, help="the built program")
+    program.add_program(parser)
     parser.add_argument("--runs", type=int, default=5, help="how often each session is driven (5)")
     parser.add_argument("--lengths", default="16000,32000,65535", help="steps of the runs, rising (16000,32000,65535)")
     parser.add_argument("--limit", type=float, default=50.0, help="the most milliseconds of a line at the greatest length (50)")
@@ -453,16 +475,16 @@ def read_options():
 def main():
     options = read_options()
     gc.disable()  # a pause would count as the program's time
-    worked, stolen = processor_ticks()
-    with tempfile.TemporaryDirectory(prefix="lcrqdb-slowest-") as folder:
+    ticks = program.processor_ticks()
+    with tempfile.TemporaryDirectory() as folder:
         try:
             columns, long = measured(options, folder)
         except Broken as fault:
             print(f"WRONG: {fault}")
             return 1
     print_all(options, columns, long)
-    worked, stolen = (after - before for after, before in zip(processor_ticks(), (worked, stolen)))
-    print(f"Given to others by the machine's host: {stolen / (worked + stolen or 1):.0%} of the time with work")
+    stolen = program.stolen_since(ticks)
+    print(f"Given to others by the machine's host: {stolen:.0%} of the time with work")
     return 1 if long else 0
 
 

@@ -1,15 +1,16 @@
 #!/usr/bin/env python3
-"""How long traces of 65,000 events take to be written and to be loaded, in both versions and with 64 bookmarks along them, and how long origins
-and last writers take.
+"""How long traces of 65,000 events take to be written and to be loaded, in both versions and with
+64 bookmarks along them, and how long origins and last writers take.
 
-    python3 bench/traces.py --program PATH [--before PATH] [--steps N] [--runs N]
+    python3 bench/traces.py [--program P] [--steps N] [--runs N]
 
-PATH is the built program; that of `--before` is one that writes traces of version 1, which are then written in the same run. Standard
-output gets one Markdown table. Seconds are the median of several rounds, in each of which every row's program runs once, without the time of the
-same run without what is timed. Peak MiB is the most memory that the process held in three more runs, looked at all the time (`VmHWM` of /proc). Text
-is how long the trace is. The last column compares: version 2 with version 1, and 64 bookmarks along a run with those along a tenth of it, whose text
-is a tenth as long. The replies are compared; a row whose replies are others says `wrong`, and the status is 1 then. Only Python's
-standard library is used.
+P is the built program. Standard output gets one Markdown table. Seconds are the median of several
+rounds, in each of which every row's program runs once, without the time of the same run without
+what is timed. Peak MiB is the most memory that the process held in three more runs, looked at all
+the time (`VmHWM` of /proc). Text is how long the trace is. The last column compares: version 2 with
+version 1, and 64 bookmarks along a run with those along a tenth of it, whose text is a tenth as
+long. The replies are compared; a row whose replies are others says `wrong`, and the status is 1
+then. Only Python's standard library is used.
 """
 
 import argparse
@@ -22,12 +23,16 @@ import tempfile
 import time
 from pathlib import Path
 
-from bench import random_run
+sys.path.insert(0, str(Path(__file__).resolve().parent.parent / "tools"))
+
+import program
+from machine import random_run
 
 QUERIES = 200
 MARKS = 64
 
-# a run of the program over a file on standard input, and the file with what it is to write, if that is compared
+# a run of the program over a file on standard input, and the file with what it is to write, if that
+# is compared
 Job = collections.namedtuple("Job", "words given wanted")
 
 
@@ -49,14 +54,14 @@ def first_trace(lines):
 
 
 def second_trace(lines, marked):
-    """That of version 2, with a bookmark behind each of these numbers of lines."""
+    """That of version 2, with a bookmark after each of these numbers of lines."""
     events = [event(line) for line in lines]
     marks = [{"events": events[:count], "name": f"n{count}"} for count in marked]
     return text_of({"events": events, "marks": marks, "ring": 4, "start": {"fresh": 4}, "undone": [], "version": 2})
 
 
 def marked_script(lines, marked):
-    """The lines of a run with a bookmark behind each of these numbers of them."""
+    """The lines of a run with a bookmark after each of these numbers of them."""
     script = []
     for number, line in enumerate(lines, 1):
         script.append(line)
@@ -77,27 +82,18 @@ def run_once(job):
 
 
 def peak_of(job):
-    """The most KiB that the process of a run has held: of three runs, since on a loaded machine a look may come too late for one."""
-    return max(seen_peak(job) for _ in range(3))
-
-
-def seen_peak(job):
-    """The most KiB that the process of one run was seen to hold."""
-    with open(job.given, "rb") as given:
-        child = subprocess.Popen(job.words, stdin=given, stdout=subprocess.DEVNULL)
-        peak = 0
-        while child.poll() is None:
-            try:
-                with open(f"/proc/{child.pid}/status", encoding="utf-8") as status:
-                    peak = max([peak] + [int(line.split()[1]) for line in status if line.startswith("VmHWM")])
-            except OSError:
-                pass
-            time.sleep(0.0005)
-    return peak
+    """The most KiB that the process of a run has held: of three runs, since on a loaded machine a
+    look may come too late for one."""
+    peaks = []
+    for _ in range(3):
+        with open(job.given, "rb") as given:
+            peaks.append(program.watch(job.words, given).peak_kib)
+    return max(peaks)
 
 
 def in_turn(jobs, runs):
-    """The median seconds of each job over several rounds, in each of which every job runs once; none where one of its runs went wrong."""
+    """The median seconds of each job over several rounds, in each of which every job runs once;
+    none where one of its runs went wrong."""
     seconds, wrong = collections.defaultdict(list), set()
     for _ in range(runs):
         for name, job in jobs.items():
@@ -125,7 +121,7 @@ def jobs_of(options, folder):
     """The jobs by their names; those that begin with a run have its report before the trace."""
     lines, empty = random_run(options.steps), folder.put("empty", "")
     script = folder.put("run", "".join(line + "\n" for line in lines))
-    report = subprocess.run([options.program, "run", str(script)], capture_output=True, text=True, check=True).stdout
+    report = program.run([options.program, "run", str(script)]).output.decode()
     first, second = first_trace(lines), second_trace(lines, [])
     traces = {"first": folder.put("first", first), "second": folder.put("second", second)}
     jobs = {
@@ -133,9 +129,6 @@ def jobs_of(options, folder):
         "run": Job([options.program, "run", str(script)], empty, None),
         "written": Job([options.program, "run", str(script), "--trace"], empty, folder.put("report 2", report + second)),
     }
-    if options.before:
-        jobs["before: run"] = Job([options.before, "run", str(script)], empty, None)
-        jobs["before: written"] = Job([options.before, "run", str(script), "--trace"], empty, folder.put("report 1", report + first))
     for name, file in traces.items():
         jobs[f"{name} loaded"] = Job([options.program, "load", str(file)], empty, empty)
     asks = folder.put("asks", f"writer cell 0.0 0\norigin {options.steps}\n" * QUERIES)
@@ -150,7 +143,7 @@ def marked_jobs(options, folder, lines, part):
     empty = folder.path / "empty"
     marked = sorted({len(lines) * number // MARKS for number in range(1, MARKS + 1)})
     script = folder.put(f"marked {part}", "".join(line + "\n" for line in marked_script(lines, set(marked))))
-    report = subprocess.run([options.program, "run", str(script)], capture_output=True, text=True, check=True).stdout
+    report = program.run([options.program, "run", str(script)]).output.decode()
     text = second_trace(lines, marked)
     trace, wanted = folder.put(f"marked trace {part}", text), folder.put(f"marked report {part}", report + text)
     return {
@@ -161,7 +154,8 @@ def marked_jobs(options, folder, lines, part):
 
 
 def rows(options, folder):
-    """The rows: a name, the length of the text in bytes, seconds, peak memory in KiB, and what it is compared with: a row's number and words."""
+    """The rows: a name, the length of the text in bytes, seconds, peak memory in KiB, and what it
+    is compared with: a row's number and words."""
     jobs = jobs_of(options, folder)
     took = in_turn(jobs, options.runs)
 
@@ -171,39 +165,42 @@ def rows(options, folder):
         return name, (folder.path / text).stat().st_size, None if bad else took[job] - took[base], peak_of(jobs[job]), compared
 
     events = f"a trace of {options.steps:,} events"
-    if options.before:
-        yield row(f"{events}, version 1, written by the program before", "before: written", "before: run", "first")
-    yield row(f"{events}, version 2, written", "written", "run", "second", "of version 1" if options.before else "")
+    yield row(f"{events}, version 2, written", "written", "run", "second")
     yield row(f"{events}, version 1, loaded", "first loaded", "start", "first")
     yield row(f"{events}, version 2, loaded", "second loaded", "start", "second", "of version 1")
     for verb, base in (("written", "marked run"), ("loaded", "start")):
         for part in (10, 1):
             name = f"{MARKS} bookmarks along {options.steps // part:,} events, {verb}"
-            told = "of a tenth" if part == 1 else ""
-            yield row(name, f"marked {verb} {part}", base if base == "start" else f"{base} {part}", f"marked trace {part}", told)
+            base_job = base if base == "start" else f"{base} {part}"
+            compared = "of a tenth" if part == 1 else ""
+            yield row(name, f"marked {verb} {part}", base_job, f"marked trace {part}", compared)
     yield row(f"{QUERIES} last writers and {QUERIES} origins over {options.steps:,} events", "asked", "second loaded", "second")
 
 
+def growth(now, before, compared):
+    """How many times the time, the memory and the text a row has of the row before."""
+    times = [one / other for one, other in zip(now, before)]
+    return "{:.2f} times the time {}, {:.2f} times its memory, {:.2f} times its text".format(times[0], compared, *times[1:])
+
+
 def main():
-    parser = argparse.ArgumentParser(description=__doc__, formatter_class=argparse.RawDescriptionHelpFormatter)
-    parser.add_argument("--program", required=True)
-    parser.add_argument("--before")
+    parser = argparse.ArgumentParser(description=__doc__.splitlines()[0])
+    program.add_program(parser)
     parser.add_argument("--steps", type=int, default=65_000)
     parser.add_argument("--runs", type=int, default=9)
     options = parser.parse_args()
     good, before = True, None
-    print("| What | Text, MB | Seconds | Peak MiB | Compared |\n|---|---|---|---|---|")
+    program.print_head("What", "Text, MB", "Seconds", "Peak MiB", "Compared")
     with tempfile.TemporaryDirectory() as path:
         for name, size, seconds, peak, compared in rows(options, Folder(path)):
             if seconds is None:
                 good, before = False, None
-                print(f"| {name} | wrong | | | |", flush=True)
+                program.print_row(name, "wrong", "", "", "")
                 continue
-            told = ""
-            if compared and before:
-                told = f"{seconds / before[0]:.2f} times the time {compared}, {peak / before[1]:.2f} times its memory, {size / before[2]:.2f} times its text"
-            print(f"| {name} | {size / 1e6:.2f} | {seconds:.4f} | {peak / 1024:.1f} | {told} |", flush=True)
-            before = (seconds, peak, size)
+            now = (seconds, peak, size)
+            grown = growth(now, before, compared) if compared and before else ""
+            program.print_row(name, f"{size / 1e6:.2f}", f"{seconds:.4f}", f"{peak / 1024:.1f}", grown)
+            before = now
     return 0 if good else 1
 
 

@@ -1,12 +1,14 @@
 #!/usr/bin/env python3
-"""Throws hostile scripts, traces, command lines and devices at the built program, and compares what it answers with the manual.
+"""Throws hostile scripts, traces, command lines and devices at the built program, and compares what
+it answers with the manual.
 
-    python3 checks/hostile.py --program PATH
+    python3 checks/hostile.py [--program P]
 
-What a line is, and what a trace is, comes from grammars of their own here, written from docs/MANUAL.md and not from the code. On each trace
-that is loaded docs/trace.schema.json is tried too: what it refuses has to be BadTrace, and what it takes may be BadTrace only where no schema
-can say so. Each check prints one line; the status is 1 if any of them differs. The timed ones say how time and memory grow with the text.
-Only Python's standard library is used.
+What a line is, and what a trace is, comes from its own grammars here, written from docs/MANUAL.md
+and not from the code. On each trace that is loaded docs/trace.schema.json is tried too: what it
+refuses has to be BadTrace, and what it takes may be BadTrace only where no schema can say so. Each
+check prints one line; the status is 1 if any of them differs. The timed ones say how time and
+memory grow with the text. Only Python's standard library is used.
 """
 
 import argparse
@@ -17,17 +19,20 @@ import re
 import subprocess
 import sys
 import tempfile
-import time
+from pathlib import Path
 
+sys.path.insert(0, str(Path(__file__).resolve().parent.parent / "tools"))
+
+import program
 import schema
+from program import SECONDS, peak_of
 
-SECONDS = 120  # a run that takes longer has failed
 START_KIB = 8 * 1024  # more than a start takes
 
 READ, WRITE = "lcrqdb: refused 24 Read\n", "lcrqdb: refused 25 Write\n"
 BAD_TRACE = "lcrqdb: refused 27 BadTrace\n"
 
-# ---- The grammar of lines ----------------------------------------------------------------------------------------------
+# ---- The grammar of lines ------------------------------------------------------------------------
 
 NUMBER = rb"(?:0|[1-9][0-9]*)"
 MOST = {"A": 2**8 - 1, "X": 2**64 - 1, "M": 2**8 - 1, "S": 2**32 - 1, "I": 2**8 - 1}
@@ -76,18 +81,18 @@ def lines_of(script):
     return lines if lines[-1] else lines[:-1]
 
 
-# ---- Runs --------------------------------------------------------------------------------------------------------------
+# ---- Runs ----------------------------------------------------------------------------------------
 
 
-def run(program, words, given=b"", **more):
+def run(built, words, given=b"", **more):
     """What a run of the program gives: its status, standard output and standard error."""
-    ended = subprocess.run([program, *words], input=given, capture_output=True, timeout=SECONDS, check=False, **more)
-    return ended.returncode, ended.stdout, ended.stderr.decode()
+    return program.run([built, *words], given, **more)
 
 
-def replies_fit(program, script):
-    """Whether each line of a script has the reply that the grammar wants; says the first that has not."""
-    status, output, errors = run(program, ["run", "-"], script)
+def replies_fit(built, script):
+    """Whether each line of a script has the reply that the grammar wants; says the first that has
+    not."""
+    status, output, errors = run(built, ["run", "-"], script)
     lines, replies = lines_of(script), output.split(b"\n")[:-1]
     if (status, errors) != (0, "") or len(lines) != len(replies):
         return f"status {status}, {len(replies)} replies to {len(lines)} lines, {errors!r}"
@@ -99,7 +104,7 @@ def replies_fit(program, script):
     return ""
 
 
-# ---- Lines -------------------------------------------------------------------------------------------------------------
+# ---- Lines ---------------------------------------------------------------------------------------
 
 SPELLED = ["enq 1 7", "enq 255 18446744073709551615", "deq 2", "aenq 1 0", "adeq 16", "go 1", "starve 1 yes", "starve 1 no"]
 SPELLED += ["undo", "undo 3", "roll 1", "back 0", "redo", "forward 2", "mark a", "mark abcdefghij-45678", "drop a", "goto a-1"]
@@ -110,7 +115,8 @@ SPELLED += ["show acell 63", "actor 1", "step 1", "len"]
 
 
 def mutations(line):
-    """The beginnings of a line, and the line with each byte left out, changed to each other, or put in."""
+    """The beginnings of a line, and the line with each byte left out, changed to each other, or put
+    in."""
     for at in range(len(line) + 1):
         yield line[:at]
         yield line[:at] + line[at + 1:]
@@ -119,22 +125,22 @@ def mutations(line):
             yield line[:at] + bytes([byte]) + line[at + 1:]
 
 
-def line_checks(program):
+def line_checks(built):
     """Scripts of hostile lines."""
     alone = b"".join(bytes([byte]) + b"\n" for byte in range(256))
-    yield "each of the 256 bytes alone is a line", replies_fit(program, alone)
-    yield "`len` with a carriage return", replies_fit(program, b"len\r\nlen\n")
-    yield "names of 17 letters and with a capital", replies_fit(program, b"mark " + b"a" * 17 + b"\nsame A b\nmark A\n")
+    yield "each of the 256 bytes alone is a line", replies_fit(built, alone)
+    yield "`len` with a carriage return", replies_fit(built, b"len\r\nlen\n")
+    yield "names of 17 letters and with a capital", replies_fit(built, b"mark " + b"a" * 17 + b"\nsame A b\nmark A\n")
     longs = b"\n".join(b"x" * count for count in (255, 256, 257, 100_000, 1_000_000)) + b"\nlen\n"
-    yield "lines of 255 to 1,000,000 bytes", replies_fit(program, longs)
+    yield "lines of 255 to 1,000,000 bytes", replies_fit(built, longs)
     padded = b"".join(line.encode().ljust(length) + b"\n" for line in SPELLED for length in (256, 257))
-    yield "a spelled command with spaces up to 256 and 257 bytes", replies_fit(program, padded)
+    yield "a spelled command with spaces up to 256 and 257 bytes", replies_fit(built, padded)
     for line in SPELLED:
         script = b"\n".join(mutations(line.encode())) + b"\n"
-        yield f"`{line}`, {len(lines_of(script)):,} lines that nearly spell it", replies_fit(program, script)
+        yield f"`{line}`, {len(lines_of(script)):,} lines that nearly spell it", replies_fit(built, script)
 
 
-# ---- The grammar of traces of version 2 --------------------------------------------------------------------------------
+# ---- The grammar of traces of version 2 ----------------------------------------------------------
 
 WORDS = {"go": [], "deq": [], "adeq": [], "enq": [2**64 - 1], "aenq": [2**64 - 1], "starve": [None]}
 POINTS = {"Idle"} | {f"E{n}" for n in range(1, 15)} | {f"Q{n}" for n in range(1, 15)} | {"A1", "A2", "B1", "B2", "B3"}
@@ -179,7 +185,8 @@ def is_events(value):
 
 
 def is_object(value, members):
-    """Whether a value is an object with exactly these keys, and each member is what it has to be."""
+    """Whether a value is an object with exactly these keys, and each member is what it has to
+    be."""
     return type(value) is dict and value.keys() == members.keys() and all(fits(value[key]) for key, fits in members.items())
 
 
@@ -189,7 +196,7 @@ def is_cell(value):
 
 
 def is_segment(ring):
-    """What says whether a value is a segment with so many cells."""
+    """What says whether a value is a segment with this many cells."""
     members = {"closed": is_bit, "head": is_number, "tail": is_number, "next": lambda it: it is None or is_name(it)}
     members["cells"] = lambda it: is_list(it, is_cell) and len(it) == ring
     return lambda value: is_object(value, members)
@@ -216,7 +223,7 @@ ACTOR |= {"pass": lambda it: is_number(it, 255), "pc": lambda it: type(it) is st
 
 
 def is_start(ring):
-    """What says whether a value is a start over rings of so many cells."""
+    """What says whether a value is a start over rings of this many cells."""
     array = {"cells": is_slots, "head": is_number, "tail": is_number}
     parts = {"qhead": is_name, "qtail": is_name, "array": lambda it: is_object(it, array)}
     parts["actors"] = lambda it: is_list(it, lambda actor: is_object(actor, ACTOR))
@@ -240,7 +247,7 @@ def is_trace(value):
     return is_object(value, members)
 
 
-# ---- Traces ------------------------------------------------------------------------------------------------------------
+# ---- Traces --------------------------------------------------------------------------------------
 
 TRACE = '{"actors":4,"events":[["enq",1,7],["go",1]],"ring":4,"version":1}'
 BAD_EVENTS = ['["go",256]', '["go",-1]', '["go"]', '["enq",1]', '["starve",1,1]', '["hop",1]', '["go",1.0]', '["go",1e0]', '["go",1,1]']
@@ -263,7 +270,7 @@ def bad_traces():
     yield "200 opening brackets", b"[" * 200
     yield "bytes that are no UTF-8", TRACE.encode().replace(b"enq", b"\xff\xfe")
     yield "an empty text", b""
-    yield "a second value behind it", TRACE.encode() * 2
+    yield "a second value after it", TRACE.encode() * 2
 
 
 # an actor at the fetch-and-add of its enqueue, with two bookmarks, a live and an undone event
@@ -294,14 +301,15 @@ def at(value, path):
 
 
 def changed(value, path, change):
-    """A value with another behind a path: `change` is called with what has it and the last key."""
+    """A value with another at a path: `change` is called with what has it and the last key."""
     new = copy.deepcopy(value)
     change(at(new, path[:-1]), path[-1])
     return new
 
 
 def nearly_traces():
-    """Values that are nearly that trace: each value in it changed to others, left out or doubled, each key misspelled, a key more in each object."""
+    """Values that are nearly that trace: each value in it changed to others, left out or doubled,
+    each key misspelled, a key more in each object."""
     whole = json.loads(SECOND)
     for path in places_in(whole):
         inside = at(whole, path)
@@ -318,14 +326,15 @@ def nearly_traces():
             yield changed(whole, path, lambda it, key: it.insert(key, copy.deepcopy(it[key])))
 
 
-def nearly_trace_fault(program):
-    """Whether just those of these values are no trace that the grammar says; says the first that is not answered so. A value that is a trace is
-    loaded, or its start is flawed, or an event of it is refused."""
+def nearly_trace_fault(built):
+    """Whether just those of these values are no trace that the grammar says; says the first that is
+    not answered so. A value that is a trace is loaded, or its start is flawed, or an event of it is
+    refused."""
     count = 0
     for value in nearly_traces():
         count += 1
         text = json.dumps(value)
-        status, output, errors = load(program, text.encode())
+        status, output, errors = load(built, text.encode())
         refused = re.fullmatch(r"lcrqdb: refused (26 Flaw|28 TraceStep|32 TraceMark) [0-9].*\n", errors)
         fits = (status, output) == (1, b"") and bool(refused) or (status, errors) == (0, "")
         if not fits if is_trace(value) else (status, output, errors) != (1, b"", BAD_TRACE):
@@ -340,7 +349,8 @@ def second_with(old, new):
 
 
 def second_bad_traces():
-    """Texts that are no trace of version 2 and no value that JSON's own writer gives, by what is wrong with them."""
+    """Texts that are no trace of version 2 and no value that JSON's own writer gives, by what is
+    wrong with them."""
     for number in ("0.0", "0e0", "1e0", "1E400", "00", "+0", "0x0", "1" * 5000, "NaN", "Infinity"):
         yield f"the number {number[:20]}", second_with('"t":0', f'"t":{number}')
     for old in (PARTS, ACTORS, SEGMENT, ARRAY, MARKS, '[["go",1]]', '"name":"a"', '[0,0]'):
@@ -353,7 +363,7 @@ def second_bad_traces():
     yield "a name with an escaped NUL", second_with('"name":"a"', '"name":"\\u0000"')
     yield "half of a surrogate pair", second_with('"name":"a"', '"name":"\\ud800"')
     yield "a name that is not closed", second_with('"name":"a"', '"name":"a')
-    yield "a second version behind the first trace", SECOND.encode() + TRACE.encode()
+    yield "a second version after the first trace", SECOND.encode() + TRACE.encode()
 
 
 FLAW = "lcrqdb: refused 26 Flaw {}\n"
@@ -379,58 +389,61 @@ def huge_parts():
     yield "64 bookmarks with names of 16 bytes", second_with(MARKS, names), loaded
 
 
-def second_trace_checks(program):
+def second_trace_checks(built):
     """Texts of traces of version 2."""
     wanted = (1, b"", BAD_TRACE)
     assert is_trace(json.loads(SECOND))
-    yield "a whole session", differs(load(program, SECOND.encode(), b"len\nmarks\nredo\n"), (0, b"at 1 1\nmarks 2\nat 2 0\n", ""))
-    beginnings = [load(program, SECOND[:end].encode()) for end in range(len(SECOND))]
+    yield "a whole session", differs(load(built, SECOND.encode(), b"len\nmarks\nredo\n"), (0, b"at 1 1\nmarks 2\nat 2 0\n", ""))
+    beginnings = [load(built, SECOND[:end].encode()) for end in range(len(SECOND))]
     yield f"each of the {len(SECOND)} beginnings of a whole session", differs([it for it in beginnings if it != wanted], [])
-    count, fault = nearly_trace_fault(program)
+    count, fault = nearly_trace_fault(built)
     yield f"{count:,} values that are nearly a whole session", fault
     for name, text in second_bad_traces():
-        yield f"no trace of version 2: {name}", differs(load(program, text), wanted)
+        yield f"no trace of version 2: {name}", differs(load(built, text), wanted)
     for name, text, ended in huge_parts():
-        yield name, differs(load(program, text), ended)
+        yield name, differs(load(built, text), ended)
     refused = [(MARKS, MARKS.replace('"go",1', '"go",0', 1), "32 TraceMark 1 1 cause 1 NoActor")]
     refused += [('"events":[["go",1]],"marks"', '"events":[["go",0]],"marks"', "28 TraceStep 1 cause 1 NoActor")]
     refused += [('"undone":[["go",1]]', '"undone":[["go",1],["go",0]]', "28 TraceStep 3 cause 1 NoActor")]
     refused += [('"head":0,"next"', '"head":4611686018427387905,"next"', "26 Flaw 4")]
     for old, new, text in refused:
-        yield f"{text} of a whole session", differs(load(program, second_with(old, new)), (1, b"", f"lcrqdb: refused {text}\n"))
+        yield f"{text} of a whole session", differs(load(built, second_with(old, new)), (1, b"", f"lcrqdb: refused {text}\n"))
     for key in ("events", "marks", "ring", "start", "undone", "version"):
         twice = second_with(f'"{key}":', f'"{key}":{json.dumps(json.loads(SECOND)[key])},"{key}":')
-        status, _, errors = load(program, twice)
+        status, _, errors = load(built, twice)
         fault = "" if status == 0 or (status, errors) == (1, BAD_TRACE) else f"status {status}, {errors!r}"
         yield f"the key {key} twice ends as some trace or as none", fault
     other = json.dumps(dict(reversed(json.loads(SECOND).items())), indent=3).replace("enq", "\\u0065nq").encode()
-    yield "a whole session in other white space, order of keys and escapes", differs(load(program, b"\n\t" + other + b"\r\n"), (0, b"at 1 1\n", ""))
+    yield "a whole session in other white space, order of keys and escapes", differs(load(built, b"\n\t" + other + b"\r\n"), (0, b"at 1 1\n", ""))
 
 
-def load(program, text, script=b"len\n"):
-    """Loads a trace and runs a script over it. Where the schema differs from the answer, that stands behind standard error."""
+def load(built, text, script=b"len\n"):
+    """Loads a trace and runs a script over it. Where the schema differs from the answer, that is
+    after standard error."""
     with tempfile.NamedTemporaryFile() as file:
         file.write(text)
         file.flush()
-        status, output, errors = run(program, ["load", file.name], script)
+        status, output, errors = run(built, ["load", file.name], script)
     return status, output, errors + schema_fault(text, errors == BAD_TRACE)
 
 
-# ---- The schema of traces ----------------------------------------------------------------------------------------------
+# ---- The schema of traces ------------------------------------------------------------------------
 
 SCHEMA = schema.load_schema()
 MOST_FOR_SCHEMA = 1_000_000  # bytes of a text on which the schema is tried
 
 
 def with_one_key_each(pairs):
-    """An object of these keys and values; none if a key is there twice, of which nothing is promised."""
+    """An object of these keys and values; none if a key is there twice, of which nothing is
+    promised."""
     if len(dict(pairs)) < len(pairs):
         raise ValueError("a key is there twice")
     return dict(pairs)
 
 
 def is_beyond_schemas(value):
-    """Whether a value has what is no trace and what no schema can say: a number as 1.0, one name twice, slots that do not rise."""
+    """Whether a value has what is no trace and what no schema can say: a number as 1.0, one name
+    twice, slots that do not rise."""
     inside = [at(value, path) for path in places_in(value)]
     lists = [it for it in inside if type(it) is list]
     names = [[mark.get("name") for mark in it] for it in lists if all(type(mark) is dict for mark in it)]
@@ -440,7 +453,8 @@ def is_beyond_schemas(value):
 
 
 def schema_fault(text, is_bad):
-    """Where the schema differs from the program on a text, which answers that it is BadTrace or not; nothing if it does not differ."""
+    """Where the schema differs from the program on a text, which answers that it is BadTrace or
+    not; nothing if it does not differ."""
     try:
         value = json.loads(text, object_pairs_hook=with_one_key_each) if len(text) <= MOST_FOR_SCHEMA else None
     except (ValueError, RecursionError):
@@ -458,50 +472,37 @@ def differs(got, wanted):
     return "" if got == wanted else f"{got!r}, wanted {wanted!r}"
 
 
-def trace_checks(program):
+def trace_checks(built):
     """Texts of traces."""
-    beginnings = [load(program, TRACE[:at].encode()) for at in range(len(TRACE))]
+    beginnings = [load(built, TRACE[:at].encode()) for at in range(len(TRACE))]
     wanted = (1, b"", BAD_TRACE)
     yield f"each of the {len(TRACE)} beginnings of a trace", differs([it for it in beginnings if it != wanted], [])
     for name, text in bad_traces():
-        yield f"no trace: {name}", differs(load(program, text), wanted)
+        yield f"no trace: {name}", differs(load(built, text), wanted)
     refused = TRACE.replace('["enq",1,7]', '["go",0]').encode()
-    yield "an event of no actor", differs(load(program, refused), (1, b"", "lcrqdb: refused 28 TraceStep 1 cause 1 NoActor\n"))
+    yield "an event of no actor", differs(load(built, refused), (1, b"", "lcrqdb: refused 28 TraceStep 1 cause 1 NoActor\n"))
     other = json.dumps(dict(reversed(json.loads(TRACE).items())), indent=3).replace("enq", "\\u0065nq").encode()
-    yield "other white space, order of keys and escapes", differs(load(program, b"\n\t" + other + b"\r\n"), (0, b"at 2 0\n", ""))
+    yield "other white space, order of keys and escapes", differs(load(built, b"\n\t" + other + b"\r\n"), (0, b"at 2 0\n", ""))
 
 
-def peak_of(child):
-    """The most KiB that a running process has held since it was started as this program; none if it has gone."""
-    try:
-        with open(f"/proc/{child.pid}/status", encoding="utf-8") as status:
-            return max((int(line.split()[1]) for line in status if line.startswith("VmHWM")), default=0)
-    except OSError:
-        return 0
-
-
-def cost(program, text, wanted):
+def cost(built, text, wanted):
     """The seconds and the most KiB of refusing a text, and whether it was refused so."""
     with tempfile.NamedTemporaryFile() as file:
         file.write(text)
         file.flush()
-        begin, peak = time.perf_counter(), 0
-        child = subprocess.Popen([program, "load", file.name], stdin=subprocess.DEVNULL, stdout=subprocess.PIPE, stderr=subprocess.PIPE)
-        while child.poll() is None:
-            peak = max(peak, peak_of(child))
-            time.sleep(0.001)
-        seconds = time.perf_counter() - begin
-        output, errors = child.communicate()
-    return seconds, peak, (child.returncode, output, errors.decode()) == (1, b"", wanted)
+        ended = program.watch([built, "load", file.name])
+    fits = (ended.status, ended.output, ended.errors) == (1, b"", wanted)
+    return ended.seconds, ended.peak_kib, fits
 
 
 def repeated(old, item, count):
-    """That trace with a list of so many of these items for a part of it."""
+    """That trace with a list of this many of these items for a part of it."""
     return second_with(old, "[" + ",".join([item] * count) + "]")
 
 
-def growth_checks(program):
-    """Long texts that are refused: with ten times the bytes at most twenty times the time and the memory, beside a start's own."""
+def growth_checks(built):
+    """Long texts that are refused: with ten times the bytes at most twenty times the time and the
+    memory, beside a start's own."""
     deep = '"start":'
     texts = {
         "opening brackets": (lambda n: b"[" * n, BAD_TRACE),
@@ -518,33 +519,33 @@ def growth_checks(program):
         "segments": (lambda n: repeated(f"[[{SEGMENT}],[]]", f"[{SEGMENT}]", n // 10), FLAW.format(1)),
     }
     for name, (text, wanted) in texts.items():
-        few, many = cost(program, text(100_000), wanted), cost(program, text(1_000_000), wanted)
+        few, many = cost(built, text(100_000), wanted), cost(built, text(1_000_000), wanted)
         grew = many[0] > 20 * few[0] + 0.1 or many[1] > 20 * max(few[1], START_KIB)
         fault = "" if few[2] and many[2] and not grew else f"refused {few[2]} {many[2]}"
-        told = f"{few[0]:.3f} s and {few[1] / 1024:.0f} MiB, ten times as long {many[0]:.3f} s and {many[1] / 1024:.0f} MiB"
-        yield f"{name} of {len(text(1_000_000)):,} bytes: {told}", fault
+        shown = f"{few[0]:.3f} s and {few[1] / 1024:.0f} MiB, ten times as long {many[0]:.3f} s and {many[1] / 1024:.0f} MiB"
+        yield f"{name} of {len(text(1_000_000)):,} bytes: {shown}", fault
 
 
-# ---- Command lines and devices -----------------------------------------------------------------------------------------
+# ---- Command lines and devices -------------------------------------------------------------------
 
 
-def bad_words(program):
+def bad_words(built):
     """Command lines."""
-    yield "a word that is no UTF-8", differs(run(program, ["run", b"\xff\xfe"])[::2][0], 2)
-    yield "an empty name", differs(run(program, ["run", ""]), (1, b"", READ))
-    yield "a name of 100,000 bytes", differs(run(program, ["run", "a" * 100_000]), (1, b"", READ))
-    yield "an option of 100,000 bytes", differs(run(program, ["run", "-", "--ring", "4" * 100_000])[:2], (2, b""))
+    yield "a word that is no UTF-8", differs(run(built, ["run", b"\xff\xfe"])[::2][0], 2)
+    yield "an empty name", differs(run(built, ["run", ""]), (1, b"", READ))
+    yield "a name of 100,000 bytes", differs(run(built, ["run", "a" * 100_000]), (1, b"", READ))
+    yield "an option of 100,000 bytes", differs(run(built, ["run", "-", "--ring", "4" * 100_000])[:2], (2, b""))
     with tempfile.NamedTemporaryFile() as file:
         file.write(b"len\n")
         file.flush()
         viewers = b"".join(b"viewer %d\nat 0 0\n" % number for number in range(1, 65)) + b"history 64\n"
-        yield "64 files for `view`", differs(run(program, ["view"] + [file.name] * 64), (0, viewers, ""))
-        yield "65 files for `view`", differs(run(program, ["view"] + [file.name] * 65), (2, b"", "lcrqdb: 1 to 64 files\n"))
+        yield "64 files for `view`", differs(run(built, ["view"] + [file.name] * 64), (0, viewers, ""))
+        yield "65 files for `view`", differs(run(built, ["view"] + [file.name] * 65), (2, b"", "lcrqdb: 1 to 64 files\n"))
         two = b"viewer 1\nat 0 0\nviewer 2\nat 0 0\nhistory 2\n"
-        yield "two views of one file", differs(run(program, ["view", file.name, file.name]), (0, two, ""))
-        yield "a file of a view that is not there", differs(run(program, ["view", file.name, "/nowhere/script"]), (1, b"", READ))
-    yield "`view` of a folder", differs(run(program, ["view", "/"]), (1, b"", READ))
-    yield "`load` of a folder", differs(run(program, ["load", "/"]), (1, b"", READ))
+        yield "two views of one file", differs(run(built, ["view", file.name, file.name]), (0, two, ""))
+        yield "a file of a view that is not there", differs(run(built, ["view", file.name, "/nowhere/script"]), (1, b"", READ))
+    yield "`view` of a folder", differs(run(built, ["view", "/"]), (1, b"", READ))
+    yield "`load` of a folder", differs(run(built, ["load", "/"]), (1, b"", READ))
 
 
 def closed(number):
@@ -552,36 +553,38 @@ def closed(number):
     return lambda: os.close(number)
 
 
-def stream_checks(program):
+def stream_checks(built):
     """Streams that are closed, empty or endless."""
-    yield "/dev/null for a script", differs(run(program, ["run", "/dev/null"]), (0, b"", ""))
-    yield "a folder for a script", differs(run(program, ["run", "/"]), (1, b"", READ))
-    ended = subprocess.run([program, "run", "-"], capture_output=True, preexec_fn=closed(0), timeout=SECONDS, check=False)
-    yield "a closed standard input", differs((ended.returncode, ended.stdout, ended.stderr.decode()), (1, b"", READ))
-    ended = subprocess.run([program, "run", "-"], input=b"len\n", stderr=subprocess.PIPE, preexec_fn=closed(1), timeout=SECONDS, check=False)
-    yield "a closed standard output", differs((ended.returncode, ended.stderr.decode()), (1, WRITE))
-    ended = subprocess.run([program, "run", "/nowhere"], stdout=subprocess.PIPE, preexec_fn=closed(2), timeout=SECONDS, check=False)
-    yield "a closed standard error", differs((ended.returncode, ended.stdout), (1, b""))
-    yield "100,000,000 zero bytes and no line feed", endless(program, 100_000_000)
+    yield "/dev/null for a script", differs(run(built, ["run", "/dev/null"]), (0, b"", ""))
+    yield "a folder for a script", differs(run(built, ["run", "/"]), (1, b"", READ))
+    ended = run(built, ["run", "-"], preexec_fn=closed(0))
+    yield "a closed standard input", differs(ended, (1, b"", READ))
+    ended = run(built, ["run", "-"], b"len\n", preexec_fn=closed(1))
+    yield "a closed standard output", differs((ended.status, ended.errors), (1, WRITE))
+    ended = run(built, ["run", "/nowhere"], preexec_fn=closed(2))
+    yield "a closed standard error", differs((ended.status, ended.output), (1, b""))
+    yield "100,000,000 zero bytes and no line feed", endless(built, 100_000_000)
 
 
-def endless(program, count):
-    """Reads so many bytes of a device that gives no line feed: one line that is too long, in the memory of any other."""
-    child = subprocess.Popen([program, "run", "-"], stdin=subprocess.PIPE, stdout=subprocess.PIPE)
+def endless(built, count):
+    """Reads this many bytes of a device that gives no line feed: one line that is too long, in the
+    memory of any other."""
+    child = subprocess.Popen([built, "run", "-"], stdin=subprocess.PIPE, stdout=subprocess.PIPE)
     for _ in range(count // 1_000_000):
         child.stdin.write(bytes(1_000_000))
-    peak = peak_of(child)
+    peak = peak_of(child.pid)
     output, _ = child.communicate()
     fits = (child.returncode, output) == (0, b"refused 23 LineTooLong\n") and 0 < peak < START_KIB
     return "" if fits else f"status {child.returncode}, {output[:80]!r}, {peak} KiB"
 
 
-def shrinking(program):
-    """A file that is made empty while its script runs: whole lines were read, so each reply is whole."""
+def shrinking(built):
+    """A file that is made empty while its script runs: whole lines were read, so each reply is
+    whole."""
     with tempfile.NamedTemporaryFile() as file:
         file.write(b"len\n" * 1_000_000)
         file.flush()
-        child = subprocess.Popen([program, "run", file.name], stdout=subprocess.PIPE, stderr=subprocess.PIPE)
+        child = subprocess.Popen([built, "run", file.name], stdout=subprocess.PIPE, stderr=subprocess.PIPE)
         first = child.stdout.read(7)
         os.truncate(file.name, 0)
         rest, errors = child.stdout.read(), child.stderr.read()
@@ -592,11 +595,12 @@ def shrinking(program):
     return "" if fits else f"status {status}, {errors!r}, {sorted(replies)[:3]}"
 
 
-def reader_that_leaves(program, lines):
-    """For each reply a reader that goes away behind it: the program ends with status 1 and says so, or had written all."""
+def reader_that_leaves(built, lines):
+    """For each reply a reader that goes away after it: the program ends with status 1 and says so,
+    or had written all."""
     for taken in range(lines):
         reading, writing = os.pipe()
-        child = subprocess.Popen([program, "run", "-"], stdin=subprocess.PIPE, stdout=writing, stderr=subprocess.PIPE)
+        child = subprocess.Popen([built, "run", "-"], stdin=subprocess.PIPE, stdout=writing, stderr=subprocess.PIPE)
         os.close(writing)
         for _ in range(taken):
             child.stdin.write(b"len\n")
@@ -610,32 +614,26 @@ def reader_that_leaves(program, lines):
             pass
         errors, status = child.stderr.read().decode(), child.wait(SECONDS)
         if (status, errors) != (1, WRITE):
-            return f"behind {taken} replies: status {status}, {errors!r}"
+            return f"after {taken} replies: status {status}, {errors!r}"
     return ""
 
 
-def device_checks(program):
+def device_checks(built):
     """Files and readers that change while the program runs."""
-    yield "a file that shrinks while it is read", shrinking(program)
-    yield "a reader that leaves behind each of 50 replies", reader_that_leaves(program, 50)
+    yield "a file that shrinks while it is read", shrinking(built)
+    yield "a reader that leaves after each of 50 replies", reader_that_leaves(built, 50)
 
 
-def all_checks(program):
+def all_checks(built):
     """The checks, each a name and what is wrong, or nothing."""
     for checks in (line_checks, trace_checks, second_trace_checks, growth_checks, bad_words, stream_checks, device_checks):
-        yield from checks(program)
+        yield from checks(built)
 
 
 def main():
-    parser = argparse.ArgumentParser(description="Throws hostile scripts, traces, command lines and devices at the program.")
-    parser.add_argument("--program", required=True, help="the built program")
-    program, wrong, count = parser.parse_args().program, 0, 0
-    for name, fault in all_checks(program):
-        count += 1
-        wrong += bool(fault)
-        print(f"WRONG {name}: {fault}" if fault else f"ok    {name}", flush=True)
-    print(f"{count - wrong} passed, {wrong} failed")
-    return 1 if wrong else 0
+    parser = argparse.ArgumentParser(description=__doc__.splitlines()[0])
+    program.add_program(parser)
+    return program.print_checks(all_checks(parser.parse_args().program))
 
 
 if __name__ == "__main__":

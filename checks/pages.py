@@ -1,12 +1,15 @@
 #!/usr/bin/env python3
-"""Compares each block of lines and replies in README.md and docs/MANUAL.md with the file of it that the gate compares with the program.
+"""Compares each block of lines and replies in README.md and docs/MANUAL.md with the file of it that
+the gate compares with the program.
 
     python3 checks/pages.py
 
-The gate's programs see the files of their own folders alone. So the session of the README and the examples of the manual lie in `examples/`,
-each a script beside its report, and the program `lessons` compares what the one is answered with the other. This compares the pages with
-these files. A view, and the line of a trace, stand in the stored output of `rehearsals`. A block that shows a reply and is none of these is
-a fault. Each block prints one line; the status is 1 if any of them differs. Only Python's standard library is used.
+The gate's programs see the files of their own folders alone. So the session of the README and the
+examples of the manual are in `examples/`, each a script beside its report, and the program
+`lessons` compares what the one is answered with the other. This compares the pages with these
+files. A view, and the line of a trace, are in the stored output of `rehearsals`. A block that shows
+a reply and is none of these is a fault. Each block prints one line; the status is 1 if any of them
+differs. Only Python's standard library is used.
 """
 
 import json
@@ -25,7 +28,8 @@ REPLY = re.compile(
 )
 OUTPUT = "  output|"  # before each line of standard output in the stored output of `rehearsals`
 
-# The pages, and of each the examples in their order: a name, and that of the one whose lines the page leaves out before it.
+# The pages, and of each the examples in their order: a name, and that of the one whose lines the
+# page leaves out before it.
 PAGES = {
     "README.md": [("session", None)],
     "docs/MANUAL.md": [("manual-1", None), ("manual-2", None), ("manual-3", "manual-1"), ("manual-4", None)],
@@ -39,7 +43,8 @@ def blocks_of(page):
 
 
 def rows_of(lines):
-    """The lines and the replies of a block, what stands behind a reply left out; none if it is no such block."""
+    """The lines and the replies of a block, what is after a reply left out; none if it is no such
+    block."""
     rows = [re.split(r" {2,}", line)[:2] for line in lines]
     return rows if all(len(row) == 2 and REPLY.fullmatch(row[1]) for row in rows) else None
 
@@ -51,7 +56,8 @@ def example(name):
 
 
 def is_example(rows, name, before):
-    """What is wrong with these lines and replies, or nothing, where they are those of an example behind those of another."""
+    """What is wrong with these lines and replies, or nothing, where they are those of an example
+    after those of another."""
     wanted = example(name)
     if before:
         wanted = wanted[len(example(before)):] if wanted[: len(example(before))] == example(before) else None
@@ -59,7 +65,8 @@ def is_example(rows, name, before):
 
 
 def is_rehearsed(lines):
-    """What is wrong with a block of a command line and what it writes, or of a trace alone, or nothing."""
+    """What is wrong with a block of a command line and what it writes, or of a trace alone, or
+    nothing."""
     stored = REHEARSED.read_text(encoding="utf-8")
     head = [lines[0], "  status: 0"] if lines[0].startswith("lcrqdb ") else []
     wanted = "\n".join(head + [OUTPUT + line for line in lines[len(head[:1]):]]) + "\n"
@@ -67,7 +74,8 @@ def is_rehearsed(lines):
 
 
 def is_a_trace(lines):
-    """What is wrong with a trace that is written by hand, or nothing, where it is one of the traces of the examples."""
+    """What is wrong with a trace that is written by hand, or nothing, where it is one of the traces
+    of the examples."""
     value = json.loads("\n".join(lines))
     traces = [json.loads(path.read_text(encoding="ascii")) for path in EXAMPLES.glob("*.trace")]
     return schema.fault_of(value) or ("" if value in traces else "no example has this trace")

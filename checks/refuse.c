@@ -1,9 +1,11 @@
-// Refuses memory to a program that it is loaded into before the C library's own calls are found (LD_PRELOAD).
+// Refuses memory to a program that it is loaded into before the C library's own calls are found
+// (LD_PRELOAD).
 //
-// It counts the calls of malloc, calloc, realloc, posix_memalign, aligned_alloc and memalign from the start of the program on, in all
-// threads, and answers null from the call of number REFUSE_FIRST to that of number REFUSE_LAST. A call of realloc that asks for less
-// counts too. The file that REFUSE_COUNTS names holds two numbers of 8 bytes, which whoever started the program reads when it has
-// ended, however it ended: how many calls there were, and how many of them were refused.
+// It counts the calls of malloc, calloc, realloc, posix_memalign, aligned_alloc and memalign from the
+// start of the program on, in all threads, and returns null from the call of number REFUSE_FIRST to
+// that of number REFUSE_LAST. A call of realloc that asks for less counts too. The file that
+// REFUSE_COUNTS names holds two numbers of 8 bytes, which whoever started the program reads when it
+// has ended, however it ended: how many calls there were, and how many of them were refused.
 
 #include <errno.h>
 #include <fcntl.h>

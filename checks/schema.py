@@ -3,8 +3,9 @@
 
     python3 checks/schema.py FILE..
 
-For each file it prints where the first value is that the schema refuses, and why; the status is 1 if there is one. It knows the keywords
-that this schema uses, as draft 7 defines them, and stops at any other. Only Python's standard library is used.
+For each file it prints where the first value is that the schema refuses, and why; the status is 1
+if there is one. It knows the keywords that this schema uses, as draft 7 defines them, and stops at
+any other. Only Python's standard library is used.
 """
 
 import json
@@ -41,13 +42,14 @@ def is_same(value, other):
     return value == other and (type(value) is bool) == (type(other) is bool)
 
 
-def beyond(value, length, kind, fits, told):
-    """What is wrong with a value of this kind whose length, or which itself, does not fit; nothing of another kind."""
-    return [] if not kind(value) or fits(length(value)) else [("", told)]
+def beyond(value, length, kind, fits, fault):
+    """What is wrong with a value of this kind whose length, or which itself, does not fit; nothing
+    of another kind."""
+    return [] if not kind(value) or fits(length(value)) else [("", fault)]
 
 
 def inside(key, found):
-    """Faults inside the value that stands at this key or number."""
+    """Faults inside the value at this key or number."""
     return [(f"[{key}]{path}" if type(key) is int else f".{key}{path}", fault) for path, fault in found]
 
 

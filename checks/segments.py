@@ -1,37 +1,41 @@
 #!/usr/bin/env python3
-"""Two orders of 65,528 steps by eight actors, each on a segment of its own: what comparing, rolling back and undoing answers, and how long
-it takes.
+"""Two orders of 65,528 steps by eight actors, each on its own segment: what comparing, rolling back
+and undoing answers, and how long it takes.
 
     python3 checks/segments.py [--program P] [--limit MS]
 
-P is the built program; without it the one that `rt ci` leaves. The world is one written by hand, in which each actor dequeues forever
-on its own segment, in rounds of five steps. So no step depends on another actor's, and each reply can be worked out from the table of
-control points in docs/MODEL.md: that is done here, and nothing is taken from the program. A line that takes longer than MS
-milliseconds, 1,000 without the option, is wrong too. That is twenty times what a line may take, so that a busy machine passes, and what
-grows with the square of the steps does not. Each check prints one line with the slowest line that it asked, and the status is 1 if any
-of them is wrong. Only Python's standard library is used.
+P is the built program. The world is one written by hand, in which each actor dequeues forever on
+its own segment, in rounds of five steps. So no step depends on another actor's, and each reply can
+be worked out from the table of control points in docs/MODEL.md: that is done here, and nothing is
+taken from the program. A line that takes longer than MS milliseconds, 1,000 without the option, is
+wrong too. That is twenty times what a line may take, so that a busy machine passes, and what grows
+with the square of the steps does not. Each check prints one line with the slowest line that it
+asked, and the status is 1 if any of them is wrong. Only Python's standard library is used.
 """
 
 import argparse
-import pathlib
 import sys
 import tempfile
+from pathlib import Path
 
-ROOT = pathlib.Path(__file__).resolve().parent.parent
-sys.path.insert(0, str(ROOT / "bench"))
+TOP = Path(__file__).resolve().parent.parent
+sys.path[:0] = [str(TOP / "tools"), str(TOP / "bench")]
 
-from driven import FAR, Broken, Driven, dequeuers
+import program
+from machine import FAR, dequeuers
+from program import Broken, Driven
 
 ACTORS = 8
 EACH = 8_191  # steps of an actor
 STEPS = ACTORS * EACH
 RING = 4
 
-# ---- What the program has to answer ------------------------------------------------------------------------------------
+# ---- What the program has to answer --------------------------------------------------------------
 
 
 def record(actor, at):
-    """What `step K` says of the step behind so many others of the actor, without its number: its rounds are Q2, Q3, Q4, Q7 and Q8."""
+    """What `step K` says of the step after this many others of the actor, without its number: its
+    rounds are Q2, Q3, Q4, Q7 and Q8."""
     drawn, part = divmod(at, 5)
     cell = f"{actor}.0 {drawn % RING}"
     rows = [f"head {actor}.0; wrote; {drawn}", f"value {cell}; read; none", f"index {cell}; read; 1 {drawn}"]
@@ -40,7 +44,7 @@ def record(actor, at):
 
 
 def in_turn():
-    """The steps in turn, each an actor and how many steps of that actor stand before it."""
+    """The steps in turn, each an actor and how many steps of that actor are before it."""
     return [(actor, at) for at in range(EACH) for actor in range(1, ACTORS + 1)]
 
 
@@ -50,7 +54,8 @@ def one_by_one():
 
 
 def rolled_back(steps, number):
-    """The steps that stay when this one is rolled back, and those that go: the ones of its actor from there on."""
+    """The steps that stay when this one is rolled back, and those that go: the ones of its actor
+    from there on."""
     before, later, actor = steps[:number - 1], steps[number - 1:], steps[number - 1][0]
     return before + [step for step in later if step[0] != actor], [step for step in later if step[0] == actor]
 
@@ -61,11 +66,12 @@ def makes(steps):
 
 
 def records(steps, first=1):
-    """Lines that ask for the records of these steps, which stand in a run from this number on, with their replies."""
+    """Lines that ask for the records of these steps, which are in a run from this number on, with
+    their replies."""
     return [(f"step {number}", f"step {number}; {record(*step)}") for number, step in enumerate(steps, first)]
 
 
-# ---- Checks ------------------------------------------------------------------------------------------------------------
+# ---- Checks --------------------------------------------------------------------------------------
 
 
 def making():
@@ -79,7 +85,8 @@ def making():
 
 
 def comparing():
-    """What `same` says: yes of two orders of independent steps, and no where one actor made a step less and another a step more."""
+    """What `same` says: yes of two orders of independent steps, and no where one actor made a step
+    less and another a step more."""
     yield "`same` of both orders", [("same turn single", "same yes"), ("same single turn", "same yes")]
     other = [("goto turn", f"at {STEPS} 0"), ("undo", f"at {STEPS - 1} 1"), ("go 1", f"ok {STEPS}"), ("mark other", f"marked {STEPS}")]
     yield "a last step by another actor", other
@@ -101,7 +108,8 @@ def rolling(number):
 
 
 def undoing():
-    """Undoing a step alone: refused where its actor went on, and done where it did not; and last writers."""
+    """Undoing a step alone: refused where its actor went on, and done where it did not; and last
+    writers."""
     number = STEPS - ACTORS + 1
     yield "`undo 1`", [("undo 1", f"refused 13 Depended {ACTORS + 1}")]
     undone = [(f"undo {number}", f"at {STEPS - 1} 1"), ("redo", f"at {STEPS} 0")]
@@ -109,7 +117,7 @@ def undoing():
     compared = [("same turn alone", "same yes"), ("same alone turn", "same yes")]
     yield "`same` of the run and this", [("mark alone", f"marked {STEPS}"), *compared]
     yield "going back", [("goto turn", f"at {STEPS} 0"), ("drop alone", "dropped")]
-    draws = (EACH - 1) // 5 * 5  # how many steps of an actor stand before its last draw
+    draws = (EACH - 1) // 5 * 5  # how many steps of an actor are before its last draw
     heads = [(f"writer head {actor}.0", f"writer {draws * ACTORS + actor}") for actor in range(1, ACTORS + 1)]
     yield "last writers", heads + [(f"writer tail {actor}.0", "writer none") for actor in range(1, ACTORS + 1)]
 
@@ -123,11 +131,12 @@ def all_checks():
     yield from undoing()
 
 
-def fault_and_slowest(program, lines, limit):
-    """What is wrong with the replies to these lines or with the time that one takes, or nothing; and what the slowest line took."""
+def fault_and_slowest(driven, lines, limit):
+    """What is wrong with the replies to these lines or with the time that one takes, or nothing;
+    and what the slowest line took."""
     fault, most, slowest = "", 0.0, ""
     for line, wanted in lines:
-        reply, took, _ = program.ask(line)
+        reply, took, _ = driven.ask(line)
         if took > most:
             most, slowest = took, line
         if reply != wanted and not fault:
@@ -138,21 +147,21 @@ def fault_and_slowest(program, lines, limit):
 
 
 def faults(given, trace):
-    """Runs the checks, and prints and answers what is wrong."""
+    """Runs the checks, and prints and returns what is wrong."""
     wrong = []
-    with Driven([given.program, "load", trace]) as program:
+    with Driven([given.program, "load", trace]) as driven:
         for name, lines in all_checks():
-            fault, slowest = fault_and_slowest(program, lines, given.limit)
+            fault, slowest = fault_and_slowest(driven, lines, given.limit)
             wrong += [fault] * bool(fault)
             print(f"WRONG {name}: {fault}" if fault else f"ok    {name}: {slowest}", flush=True)
-        if status := program.end():
+        if status := driven.end():
             raise Broken(f"the status is {status}")
     return wrong
 
 
 def main():
     parser = argparse.ArgumentParser(description=__doc__.splitlines()[0])
-    parser.add_argument("--program", default=str(ROOT / "crates/lcrqdb/out/lcrqdb"), help="the built program")
+    program.add_program(parser)
     parser.add_argument("--limit", type=float, default=1000.0, help="the most milliseconds of a line (1000)")
     given = parser.parse_args()
     with tempfile.NamedTemporaryFile("w", suffix=".trace") as trace:

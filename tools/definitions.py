@@ -19,7 +19,8 @@ import re
 import sys
 from pathlib import Path
 
-from lines import CRATES, counts_as_line, crate_names
+from lines import counts_as_line, crate_names
+from program import CRATES, print_head, print_row
 
 HEADLINE = [
     ("rd_marks/src/books/obeying.rt", ["obey", "apply_all"]),
@@ -182,13 +183,13 @@ def print_table(reached):
     order = {name: number for number, name in enumerate(crate_names())}
     files = sorted({path for path, _ in reached}, key=lambda it: (order[crate_of(it)], str(it)))
     total = 0
-    print("| File | Lines | What is read there |\n|---|---|---|")
+    print_head("File", "Lines", "What is read there")
     for path in files:
         names = [name for name in blocks_of(path) if (path, name) in reached]
         lines = sum(len(reached[path, name].splitlines()) for name in names)
         total += lines
-        print(f"| {path.relative_to(CRATES)} | {lines:,} | {', '.join(names)} |")
-    print(f"| all | {total:,} | {len(reached)} in {len(files)} files |")
+        print_row(path.relative_to(CRATES), f"{lines:,}", ", ".join(names))
+    print_row("all", f"{total:,}", f"{len(reached)} in {len(files)} files")
 
 
 def main():

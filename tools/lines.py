@@ -3,9 +3,10 @@
 
     python3 tools/lines.py
 
-It prints a Markdown table, a row a crate in the order of crates.txt. Code is what `src/` has but tests, contracts included;
-definitions are `specs/`, proofs are `proofs/`; tests are `src/tests.rt`, `src/tests/` and the proofs of these, in the crate or in the
-one with `_tests` after its name. Which definitions a contract reaches is said by `definitions.py`.
+It prints a Markdown table, a row a crate in the order of crates.txt. Code is what `src/` has but
+tests, contracts included; definitions are `specs/`, proofs are `proofs/`; tests are `src/tests.rt`,
+`src/tests/` and the proofs of these, in the crate or in the one with `_tests` after its name. Which
+definitions a contract reaches is said by `definitions.py`.
 
 A line counts if it is neither blank nor a comment alone. Only Python's standard library is used.
 """
@@ -14,8 +15,8 @@ import argparse
 import sys
 from pathlib import Path
 
-TOP = Path(__file__).resolve().parent.parent
-CRATES = TOP / "crates"
+from program import CRATES, TOP, print_head, print_row
+
 KINDS = ("code", "definitions", "proofs", "tests")
 TESTS = "_tests"  # after the name of a crate: that of the crate of its tests
 COMMENT = {".rt": "//", ".antt": "--"}
@@ -32,7 +33,7 @@ def lines_in(path):
 
 
 def kind_of(parts):
-    """The kind of the file that stands in its crate under these names; none if it isn't counted."""
+    """The kind of the file that is in its crate under these names; none if it isn't counted."""
     if parts[0] not in ("src", "specs", "proofs"):
         return None
     if parts[0] != "specs" and len(parts) > 1 and Path(parts[1]).stem == "tests":
@@ -56,24 +57,23 @@ def crate_names():
     return [row.split(":")[0].split()[0] for row in rows if row.strip()]
 
 
-def row(name, counts):
-    """A row of the table."""
-    return f"| {name} | " + " | ".join(f"{counts[kind]:,}" for kind in KINDS) + f" | {sum(counts.values()):,} |"
+def print_counts(name, counts):
+    """Prints a row of the table."""
+    print_row(name, *(f"{counts[kind]:,}" for kind in KINDS), f"{sum(counts.values()):,}")
 
 
 def print_crates():
     """Prints the table of all crates."""
     total = dict.fromkeys(KINDS, 0)
-    print("| Crate | Code | Definitions | Proofs | Tests | All |")
-    print("|---|---|---|---|---|---|")
+    print_head("Crate", "Code", "Definitions", "Proofs", "Tests", "All")
     for name in crate_names():
         if name.endswith(TESTS):
             continue
         counts, tests = counts_of(CRATES / name), counts_of(CRATES / (name + TESTS))
         counts["tests"] += tests["tests"]
-        print(row(name, counts))
+        print_counts(name, counts)
         total = {kind: total[kind] + counts[kind] for kind in KINDS}
-    print(row("all", total))
+    print_counts("all", total)
 
 
 def main():

@@ -1,21 +1,24 @@
 #!/usr/bin/env python3
-"""Refuses memory to the tests of `crates/shortages` and to the built program, at each point in turn, and looks at what they answer.
+"""Refuses memory to the tests of `crates/shortages` and to the built program, at each point in
+turn, and looks at what they answer.
 
-    python3 checks/checks.py [PART..] [--program P] [--tests T]
+    python3 checks/refused_memory.py [PART..] [--program P] [--tests T]
 
 Parts, all of them if none is named:
 
-    devices   the tests of crates/shortages over devices that fail at each of their calls, which the gate runs too
-    tests     the other tests of crates/shortages, with each one of their allocations refused in turn
-    none      its tests of calls that take no memory, with all allocations refused from each one on
+    devices   the tests of crates/shortages over devices that fail at each of their calls, which the
+              gate runs too
+    tests     the other tests of crates/shortages, each one of their allocations refused in turn
+    none      its tests of calls that take no memory, all allocations refused from each one on
     one       the program, with each one of its allocations refused in turn
     rest      the program, with all allocations refused from each one on
-    undos     the program, with all refused from a line on: undos, redos and queries answer as ever
+    undos     the program, all refused from a line on: undos, redos and queries answer as ever
     limits    the program under a limit of its address space that is lowered step by step
 
-P is the built program, T the built tests of crates/shortages; `rt ci` leaves both in the crates' folders out/. Each part prints a line with
-how many points were refused, and the status is 1 if anything is wrong. It needs a C compiler (`cc`) and `prlimit`. Only Python's standard
-library is used.
+P is the built program, T the built tests of crates/shortages; `rt ci` leaves both in the crates'
+folders out/. Each part prints a line with how many points were refused, and the status is 1 if
+anything is wrong. It needs a C compiler (`cc`) and `prlimit`. Only Python's standard library is
+used.
 """
 
 import argparse
@@ -24,24 +27,28 @@ import concurrent.futures
 import functools
 import mmap
 import os
-import pathlib
 import resource
 import struct
 import subprocess
 import sys
 import tempfile
+from pathlib import Path
 
-SECONDS = 120  # a run that takes longer has failed
-HERE = pathlib.Path(__file__).resolve().parent
-ROOT = HERE.parent
+sys.path.insert(0, str(Path(__file__).resolve().parent.parent / "tools"))
+
+import program
+from program import run
+
+HERE = Path(__file__).resolve().parent
 NO_MEMORY = "lcrqdb: refused 20 NoMemory\n"
 REFUSED = b"refused 20 NoMemory"
 # the first words of the lines that may be refused memory
 MAY_TAKE = {b"enq", b"deq", b"aenq", b"adeq", b"go", b"starve", b"mark", b"goto", b"same"}
 
-Ended = collections.namedtuple("Ended", "status output errors calls refused")
+# what a run gives, how many allocations it asked for, and how many of these were refused
+Counted = collections.namedtuple("Counted", [*program.Ended._fields, "calls", "refused"])
 
-# ---- Runs that are refused memory ---------------------------------------------------------------------------------------
+# ---- Runs that are refused memory ----------------------------------------------------------------
 
 
 class Refuser:
@@ -62,21 +69,15 @@ class Refuser:
             ended = run(words, given, env={**os.environ, **more})
             with mmap.mmap(file.fileno(), 16, access=mmap.ACCESS_READ) as counts:
                 calls, refused = struct.unpack("QQ", counts[:])
-        return ended._replace(calls=calls, refused=refused)
+        return Counted(*ended, calls, refused)
 
     def one(self, words, number, given=b""):
         """A run in which just this allocation is refused."""
         return self.run(words, number, number, given)
 
     def rest(self, words, number, given=b""):
-        """A run in which this allocation and all behind it are refused."""
+        """A run in which this allocation and all after it are refused."""
         return self.run(words, number, 2**63, given)
-
-
-def run(words, given=b"", **more):
-    """What a run gives."""
-    ended = subprocess.run(words, input=given, capture_output=True, timeout=SECONDS, check=False, **more)
-    return Ended(ended.returncode, ended.stdout, ended.stderr.decode(errors="replace"), 0, 0)
 
 
 def each_refused(runs):
@@ -92,13 +93,13 @@ def each_refused(runs):
                 number += 1
 
 
-# ---- What a run may answer ----------------------------------------------------------------------------------------------
+# ---- What a run may answer -----------------------------------------------------------------------
 
 
 @functools.lru_cache(maxsize=4096)
-def usual(program, words, script):
+def usual(built, words, script):
     """The replies to a script with ample memory."""
-    ended = run([program, *words], script)
+    ended = run([built, *words], script)
     assert (ended.status, ended.errors) == (0, ""), f"with ample memory: {ended}"
     return ended.output
 
@@ -108,9 +109,10 @@ def lines_of(text):
     return text.splitlines()
 
 
-def fault_in_report(program, words, script, output):
-    """What is wrong with the report of a script that was refused memory here and there. A line that was refused memory may be one that
-    takes some, and all others are answered as if it weren't there."""
+def fault_in_report(built, words, script, output):
+    """What is wrong with the report of a script that was refused memory here and there. A line that
+    was refused memory may be one that takes some, and all others are answered as if it weren't
+    there."""
     lines, replies = lines_of(script), lines_of(output)
     if not output.endswith(b"\n") or len(lines) != len(replies):
         return f"{len(replies)} replies to {len(lines)} lines, the last {output[-40:]!r}"
@@ -119,7 +121,7 @@ def fault_in_report(program, words, script, output):
         if lines[at].split(b" ")[0] not in MAY_TAKE:
             return f"{lines[at]!r} was refused memory"
     kept = b"".join(line + b"\n" for at, line in enumerate(lines) if at not in refused)
-    wanted = lines_of(usual(program, words, kept))
+    wanted = lines_of(usual(built, words, kept))
     others = [(at, reply) for at, reply in enumerate(replies) if at not in refused]
     for (at, reply), other in zip(others, wanted):
         if reply != other:
@@ -127,31 +129,33 @@ def fault_in_report(program, words, script, output):
     return "" if len(others) == len(wanted) else f"{len(others)} replies, wanted {len(wanted)}"
 
 
-def fault_in_run(program, words, script, ended):
+def fault_in_run(built, words, script, ended):
     """What is wrong with a run of a script."""
     if (ended.status, ended.errors) == (0, ""):
-        return fault_in_report(program, words, script, ended.output)
+        return fault_in_report(built, words, script, ended.output)
     if (ended.status, ended.output, ended.errors) == (1, b"", NO_MEMORY):
         return ""
     return f"status {ended.status}, {ended.errors!r}, {ended.output[-40:]!r}"
 
 
-def fault_in_traced_run(program, words, script, ended):
-    """What is wrong with a run of a script that writes its trace: there is the whole trace of what was done, or none of it."""
+def fault_in_traced_run(built, words, script, ended):
+    """What is wrong with a run of a script that writes its trace: there is the whole trace of what
+    was done, or none of it."""
     report, trace = parted(ended.output)
     if trace:
         kept = kept_lines(script, report)
-        wanted = usual(program, words, kept)
+        wanted = usual(built, words, kept)
         fits = (ended.status, ended.errors) == (0, "") and wanted.endswith(trace)
-        return fault_in_report(program, tuple(it for it in words if it != "--trace"), script, report) if fits else f"{ended}, {trace!r}"
+        return fault_in_report(built, tuple(it for it in words if it != "--trace"), script, report) if fits else f"{ended}, {trace!r}"
     if (ended.status, ended.errors) != (1, NO_MEMORY):
         return f"status {ended.status}, {ended.errors!r}"
     without = tuple(it for it in words if it != "--trace")
-    return fault_in_report(program, without, script, ended.output) if ended.output else ""
+    return fault_in_report(built, without, script, ended.output) if ended.output else ""
 
 
 def parted(output):
-    """The report of a run that writes its trace, and the trace, which is nothing where there is none: its line alone begins with a brace."""
+    """The report of a run that writes its trace, and the trace, which is nothing where there is
+    none: its line alone begins with a brace."""
     lines = output.splitlines(keepends=True)
     return (b"".join(lines[:-1]), lines[-1]) if lines and lines[-1].startswith(b"{") else (output, b"")
 
@@ -175,14 +179,14 @@ def viewers_in(output):
     return replies, calls
 
 
-def fault_in_view(program, words, _script, ended):
-    """What is wrong with a view of scripts of queries: each viewer has its usual answers, or was not started; a call that is not
-    recorded says so, and is not counted."""
+def fault_in_view(built, words, _script, ended):
+    """What is wrong with a view of scripts of queries: each viewer has its usual answers, or was
+    not started; a call that is not recorded says so, and is not counted."""
     if (ended.status, ended.output, ended.errors) == (1, b"", NO_MEMORY):
         return ""
     if (ended.status, ended.errors) != (0, "") or not ended.output.endswith(b"\n"):
         return f"status {ended.status}, {ended.errors!r}, {ended.output[-40:]!r}"
-    (viewers, calls), (wanted, _) = viewers_in(ended.output), viewers_in(usual(program, words, b""))
+    (viewers, calls), (wanted, _) = viewers_in(ended.output), viewers_in(usual(built, words, b""))
     if len(viewers) != len(wanted):
         return f"{len(viewers)} viewers, wanted {len(wanted)}"
     recorded = 0
@@ -197,15 +201,15 @@ def fault_in_view(program, words, _script, ended):
     return "" if calls == recorded else f"history {calls}, wanted {recorded}"
 
 
-def fault_in_words(program, words, _script, ended):
+def fault_in_words(built, words, _script, ended):
     """What is wrong with a command line that asks for help or is a mistake."""
     if (ended.status, ended.output, ended.errors) == (1, b"", NO_MEMORY):
         return ""
-    wanted = run([program, *words])
-    return "" if ended[:3] == wanted[:3] else f"{ended}"
+    wanted = run([built, *words])
+    return "" if ended[:3] == wanted else f"{ended}"
 
 
-# ---- Scripts -----------------------------------------------------------------------------------------------------------
+# ---- Scripts -------------------------------------------------------------------------------------
 
 QUERIES = ["len", "marks", "markat 1", "markat 2", "show qhead", "show qtail", "show ahead", "show atail", "show acell 0", "show acell 1"]
 QUERIES += [f"show {kind} {name}" for name in ("0.0", "1.0", "2.0") for kind in ("head", "tail", "next", "whole")]
@@ -213,7 +217,8 @@ QUERIES += [f"show {kind} {name} {at}" for name in ("0.0", "1.0", "2.0") for kin
 QUERIES += [f"actor {number}" for number in (1, 2, 3, 4)]
 QUERIES += ["step 1", "step 7", "step 26", "step 28", "writer qtail", "writer tail 0.0", "writer cell 0.0 0", "writer value 0.0 0", "origin 7"]
 
-# up to the two makings of a ring behind a full one, that of actor 1 last, and both actors' next step: over rings of two cells
+# up to the two makings of a ring after a full one, that of actor 1 last, and both actors' next
+# step: over rings of two cells
 RACE = ["enq 1 7"] + ["go 1"] * 6 + ["enq 1 8"] + ["go 1"] * 6 + ["enq 1 9"] + ["go 1"] * 2 + ["enq 2 10"] + ["go 2"] * 2 + ["go 1"] * 5
 RACE += ["go 2", "go 1", "go 2", "undo 27", "redo", "go 2", "go 1"]
 # before them, two bookmarks of which neither begins the other
@@ -225,7 +230,8 @@ MORE = ["mark a", "undo", "undo 28", "back 3", "forward 2", "mark b", "hello", "
 MORE += ["starve 1 yes", "aenq 4 5", "go 4", "adeq 4", "goto c", "drop b", "goto b", "same c a", "back 30", "enq 4 5", "mark A", "roll 1"]
 
 TRACE = b'{"actors":4,"events":[["enq",1,7],["go",1],["aenq",2,5],["deq",3],["go",3]],"ring":4,"version":1}\n'
-# a start of its own, whose actor makes the next ring, with live and undone events and two bookmarks that share two
+# a start by hand, whose actor makes the next ring, with live and undone events and two bookmarks
+# that share two
 START = b'{"actors":[{"closed":false,"crq":[0,0],"h":0,"idx":0,"new":[0,0],"next":[0,0],"op":["enq",1],"pass":0,"pc":"E11","safe":false,"t":2,"val":null}],'
 START += b'"array":{"cells":[[1,"top"],[63,5]],"head":2,"tail":3},"qhead":[0,0],"qtail":[0,0],'
 START += b'"segments":[[{"cells":[[true,0,7],[true,1,8]],"closed":false,"head":0,"next":null,"tail":2}],[]]}'
@@ -240,7 +246,7 @@ def script_of(lines):
 
 
 def asked_behind(lines):
-    """The text of these lines with all queries behind each that may take memory."""
+    """The text of these lines with all queries after each that may take memory."""
     text = []
     for line in lines:
         text.append(line)
@@ -250,13 +256,14 @@ def asked_behind(lines):
 
 
 def command_lines(folder):
-    """Command lines with the script on standard input, and what says what is wrong with their end."""
+    """Command lines with the script on standard input, and what says what is wrong with their
+    end."""
     script = asked_behind(RACE + MORE)
     files = []
     texts = [("script", script), ("trace", TRACE), ("session", SESSION), ("first", b"len\nhello\nshow qhead\n"), ("second", b"show tail 0.0\nactor 1\n")]
     for name, text in texts:
         files.append(os.path.join(folder, name))
-        pathlib.Path(files[-1]).write_bytes(text)
+        Path(files[-1]).write_bytes(text)
     file, trace, session, first, second = files
     yield "run", ("run", "-", "--ring", "2"), script, fault_in_run
     yield "run of a file", ("run", file, "--ring", "2"), b"", functools.partial(fault_in_file_run, script)
@@ -269,15 +276,16 @@ def command_lines(folder):
     yield "a mistake", ("run", "-", "--ring", "3"), b"", fault_in_words
 
 
-def fault_in_file_run(script, program, words, _given, ended):
-    """What is wrong with a run of the script in a file, which is compared with runs over standard input."""
-    return fault_in_run(program, tuple("-" if at == 1 else word for at, word in enumerate(words)), script, ended)
+def fault_in_file_run(script, built, words, _given, ended):
+    """What is wrong with a run of the script in a file, which is compared with runs over standard
+    input."""
+    return fault_in_run(built, tuple("-" if at == 1 else word for at, word in enumerate(words)), script, ended)
 
 
-# ---- Parts --------------------------------------------------------------------------------------------------------------
+# ---- Parts ---------------------------------------------------------------------------------------
 
 
-DEVICES = "tests::devices::"  # tests that make so many runs that to refuse each allocation of each would take hours
+DEVICES = "tests::devices::"  # tests of which to refuse each allocation would take hours
 NONE = "tests::none_left::"  # tests that pass whatever is refused to them from some point on
 
 
@@ -345,32 +353,34 @@ def rest_part(given, refuser):
 
 
 def undos_part(given, refuser):
-    """Undos, redos and queries with all allocations refused from the line before them on: it compares two bookmarks, which needs some."""
+    """Undos, redos and queries with all allocations refused from the line before them on: it
+    compares two bookmarks, which needs some."""
     words = [given.program, "run", "-", "--ring", "2"]
     before = script_of(APART + RACE)
     taken = refuser.run(words, 2**63, 2**63, before).calls
-    behind = script_of([line for line, _ in UNDOS] + QUERIES + ["drop x", "marks", "markat 1", "len"])
-    ended = refuser.rest(words, taken + 1, before + b"same x y\n" + behind)
-    answered = lines_of(usual(given.program, tuple(words[1:]), before + behind))
+    later = script_of([line for line, _ in UNDOS] + QUERIES + ["drop x", "marks", "markat 1", "len"])
+    ended = refuser.rest(words, taken + 1, before + b"same x y\n" + later)
+    answered = lines_of(usual(given.program, tuple(words[1:]), before + later))
     first = len(lines_of(before))
     wanted = answered[:first] + [REFUSED] + [reply.encode() for _, reply in UNDOS] + answered[first + len(UNDOS):]
     wrong = [(at, *pair) for at, pair in enumerate(zip(lines_of(ended.output), wanted), 1) if pair[0] != pair[1]]
     fits = (ended.status, ended.errors, len(lines_of(ended.output))) == (0, "", len(wanted)) and not wrong
     fault = "" if fits else f"status {ended.status}, {ended.errors!r}, {wrong[:3]}"
-    yield f"{len(lines_of(behind))} lines behind {taken} allocations", ended.refused, fault
+    yield f"{len(lines_of(later))} lines after {taken} allocations", ended.refused, fault
 
 
-def limited(program, words, script, limit):
+def limited(built, words, script, limit):
     """A run under a limit of its address space."""
-    return run(["prlimit", f"--as={limit}", program, *words], script)
+    return run(["prlimit", f"--as={limit}", built, *words], script)
 
 
-def lowest(program):
-    """The lowest limit, in steps of a page, under which the program starts: the loader and the C library need it."""
+def lowest(built):
+    """The lowest limit, in steps of a page, under which the program starts: the loader and the C
+    library need it."""
     low, high = 0, 1 << 30
     while high - low > resource.getpagesize():
         middle = (low + high) // 2 // resource.getpagesize() * resource.getpagesize()
-        starts = limited(program, ["--version"], b"", middle).status == 0
+        starts = limited(built, ["--version"], b"", middle).status == 0
         low, high = (low, middle) if starts else (middle, high)
     return high
 
@@ -387,11 +397,13 @@ def long_script():
 
 
 def limits_part(given, refuser):
-    """Runs under limits that are lowered step by step, to the lowest under which the program starts."""
+    """Runs under limits that are lowered step by step, to the lowest under which the program
+    starts."""
     floor = lowest(given.program)
     many = os.path.join(refuser.folder, "many")
-    # few lines: viewers take turns, and 64 threads that do so are slow on a machine that does other work too
-    pathlib.Path(many).write_bytes(b"len\nshow tail 0.0\n")
+    # few lines: viewers take turns, and 64 threads that do so are slow on a machine that does other
+    # work too
+    Path(many).write_bytes(b"len\nshow tail 0.0\n")
     runs = [("run", ("run", "-", "--ring", "2"), long_script(), fault_in_run, 64 << 10, 130)]
     runs += [("view of 64", ("view", *[many] * 64), b"", fault_in_view, 8 << 20, 80)]
     for name, words, script, fault_in, step, steps in runs:
@@ -411,9 +423,9 @@ PARTS = {"devices": devices_part, "tests": tests_part, "none": none_part}
 PARTS |= {"one": one_part, "rest": rest_part, "undos": undos_part, "limits": limits_part}
 
 
-def told(part, outcomes):
-    """Prints what became of a part: for each of its checks how many points were refused, if it is one that refuses. Answers how many are
-    wrong."""
+def print_part(part, outcomes):
+    """Prints what became of a part: for each of its checks how many points were refused, if it is
+    one that refuses. Returns how many are wrong."""
     total, wrong = 0, 0
     for name, points, fault in outcomes:
         total += points or 0
@@ -429,13 +441,13 @@ def told(part, outcomes):
 def main():
     parser = argparse.ArgumentParser(description="Refuses memory at each point in turn, and looks at what is answered.")
     parser.add_argument("parts", nargs="*", choices=[[], *PARTS], metavar="PART", help=f"{', '.join(PARTS)}; all if none is named")
-    parser.add_argument("--program", default=str(ROOT / "crates/lcrqdb/out/lcrqdb"), help="the built program")
-    parser.add_argument("--tests", default=str(ROOT / "crates/shortages/out/shortages_tests"), help="the built tests of crates/shortages")
+    program.add_program(parser)
+    parser.add_argument("--tests", default=str(program.CRATES / "shortages/out/shortages_tests"), help="the built tests of crates/shortages")
     given, wrong = parser.parse_args(), 0
     with tempfile.TemporaryDirectory() as folder:
         refuser = Refuser(folder)
         for part in given.parts or PARTS:
-            wrong += told(part, PARTS[part](given, refuser))
+            wrong += print_part(part, PARTS[part](given, refuser))
     print("nothing is wrong" if not wrong else f"{wrong} wrong")
     return 1 if wrong else 0
 

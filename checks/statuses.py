@@ -1,20 +1,24 @@
 #!/usr/bin/env python3
-"""Runs the built program itself: its options, exit statuses, standard error, traces, the script of each lesson, and the sessions of README and manual.
+"""Runs the built program itself: its options, exit statuses, standard error, traces, the script of
+each lesson, and the sessions of README and manual.
 
-    python3 bench/statuses.py --program PATH
+    python3 checks/statuses.py [--program P]
 
-The gate can't start the program more than once, with one command line; this does, and compares. The status is 1 if anything
-differs. Only Python's standard library is used.
+The gate can't start the program more than once, with one command line; this does, and compares. The
+status is 1 if anything differs. Only Python's standard library is used.
 """
 
 import argparse
 import os
-import subprocess
 import sys
 import tempfile
 from pathlib import Path
 
-LESSONS = Path(__file__).resolve().parent.parent / "crates" / "lessons" / "data"
+sys.path.insert(0, str(Path(__file__).resolve().parent.parent / "tools"))
+
+import program
+
+LESSONS = program.CRATES / "lessons" / "data"
 
 # A name, the words, standard input, the status, and how standard output and standard error begin.
 ROWS = [
@@ -36,7 +40,7 @@ ROWS = [
     ("a file that is not there", ["run", "/nowhere/script"], "", 1, "", "lcrqdb: refused 24 Read\n"),
     ("a folder for a file", ["run", "/"], "", 1, "", "lcrqdb: refused 24 Read\n"),
     (
-        "a trace behind the report",
+        "a trace after the report",
         ["run", "-", "--trace", "--actors", "2"],
         "deq 1\nmark a\nundo\n",
         0,
@@ -115,51 +119,62 @@ TRACES = [
 ]
 
 
+def run(built: str, words: list, given: str = "", **more) -> tuple:
+    """The status, standard output and standard error of a run, as texts."""
+    status, output, errors = program.run([built, *words], given.encode(), **more)
+    return status, (output or b"").decode(), errors
+
+
 def begins(text: str, start: str) -> bool:
     """Whether the text begins so; an empty beginning stands for an empty text."""
     return text.startswith(start) if start else text == ""
 
 
-def run_row(program: str, row) -> bool:
-    """Runs one row and compares."""
-    _, words, given, status, output, errors = row
-    ended = subprocess.run([program, *words], input=given, capture_output=True, text=True, check=False)
-    return ended.returncode == status and begins(ended.stdout, output) and begins(ended.stderr, errors)
+def fault_of(got, wanted, is_good) -> str:
+    """What is wrong with a run, or nothing."""
+    return "" if is_good else f"{got!r}, wanted {wanted!r}"
 
 
-def run_trace(program: str, row) -> bool:
-    """Loads one trace and compares."""
-    _, trace, given, status, output, errors = row
+def run_row(built: str, row) -> str:
+    """What is wrong with one row."""
+    _, words, given, *wanted = row
+    got = run(built, words, given)
+    fits = got[0] == wanted[0] and begins(got[1], wanted[1]) and begins(got[2], wanted[2])
+    return fault_of(got, wanted, fits)
+
+
+def run_trace(built: str, row) -> str:
+    """What is wrong with the loading of one trace."""
+    _, trace, given, *wanted = row
     with tempfile.NamedTemporaryFile("w", encoding="ascii") as file:
         file.write(trace)
         file.flush()
-        words = [program, "load", file.name]
-        ended = subprocess.run(words, input=given, capture_output=True, text=True, check=False)
-    return (ended.returncode, ended.stdout, ended.stderr) == (status, output, errors)
+        got = run(built, ["load", file.name], given)
+    return fault_of(got, wanted, list(got) == wanted)
 
 
-def fails_to_write(program: str, output) -> bool:
-    """Whether the program ends with status 1 and the text of a failed write, with this standard output."""
-    ended = subprocess.run(
-        [program, "run", "-"], input="len\n" * 1000, stdout=output, stderr=subprocess.PIPE, text=True, check=False
-    )
-    return ended.returncode == 1 and ended.stderr == "lcrqdb: refused 25 Write\n"
+def write_fault(built: str, output) -> str:
+    """What is wrong where standard output takes nothing: status 1 and the text of a failed
+    write."""
+    status, _, errors = run(built, ["run", "-"], "len\n" * 1000, stdout=output)
+    fits = (status, errors) == (1, "lcrqdb: refused 25 Write\n")
+    return "" if fits else f"status {status}, {errors!r}"
 
 
-def closed_pipe(program: str) -> bool:
-    """Whether it ends so with a pipe that nobody reads."""
+def closed_pipe(built: str) -> str:
+    """What is wrong with a pipe that nobody reads."""
     reading, writing = os.pipe()
     os.close(reading)
     try:
-        return fails_to_write(program, writing)
+        return write_fault(built, writing)
     finally:
         os.close(writing)
 
 
-def full_device(program: str) -> bool:
-    """Whether it ends so with a full device."""
+def full_device(built: str) -> str:
+    """What is wrong with a full device."""
     with open("/dev/full", "w", encoding="ascii") as full:
-        return fails_to_write(program, full)
+        return write_fault(built, full)
 
 
 def table_of(lines: str, replies: list) -> str:
@@ -168,56 +183,63 @@ def table_of(lines: str, replies: list) -> str:
     return "\n| Line | Reply |\n|---|---|\n" + "".join(f"| `{line}` | `{reply}` |\n" for line, reply in pairs) + "\n"
 
 
-def replies_of_two(program: str, scripts: list) -> list:
-    """What `view` answers to the lines of two viewers, the replies to each."""
-    ended = subprocess.run([program, "view", *scripts], capture_output=True, text=True, check=True)
-    first, second = ended.stdout.removeprefix("viewer 1\n").split("viewer 2\n")
-    return [first.splitlines(), second.splitlines()[:-1]]
+def has_each_reply(built: str, scripts: list) -> bool:
+    """Whether each line of two viewers has a reply."""
+    status, text, _ = run(built, ["view", *map(str, scripts)])
+    first, second = text.removeprefix("viewer 1\n").split("viewer 2\n")
+    counts = [len(first.splitlines()), len(second.splitlines()) - 1]
+    wanted = [len(script.read_text(encoding="ascii").splitlines()) for script in scripts]
+    return status == 0 and counts == wanted
 
 
-def is_as_report(program: str, script: Path, page: str = "") -> bool:
-    """Whether the replies to a script, over the trace of its name if there is one, are those of its report, or those in a table of this page."""
+def is_as_report(built: str, script: Path, page: str = "") -> bool:
+    """Whether the replies to a script, over the trace of its name if there is one, are those of its
+    report, or those in a table of this page."""
     lines, trace = script.read_text(encoding="ascii"), script.with_suffix(".trace")
     words = ["load", str(trace)] if trace.exists() else ["run", "-"]
-    ended = subprocess.run([program, *words], input=lines, capture_output=True, text=True, check=False)
+    status, output, _ = run(built, words, lines)
     if page:
-        return ended.returncode == 0 and table_of(lines, ended.stdout.splitlines()) in page
-    return (ended.returncode, ended.stdout) == (0, script.with_suffix(".report").read_text(encoding="ascii"))
+        return status == 0 and table_of(lines, output.splitlines()) in page
+    return (status, output) == (0, script.with_suffix(".report").read_text(encoding="ascii"))
 
 
-def lesson_is_as_its_page_says(program: str, page: Path) -> bool:
-    """Whether the replies to a lesson's script are those beside it on its page; of two viewers, whether each line has one."""
+def is_as_its_page_says(built: str, page: Path) -> bool:
+    """Whether the replies to a lesson's script are those beside it on its page; of two viewers,
+    whether each line has one."""
     text = page.read_text(encoding="utf-8")
+    parts = [page.with_name(f"{page.stem}-{part}.script") for part in (1, 2)]
     if "\nRun by two viewers.\n" in text:
-        scripts = [page.with_name(f"{page.stem}-{viewer}.script") for viewer in (1, 2)]
-        told = replies_of_two(program, scripts)
-        return [len(one) for one in told] == [len(script.read_text(encoding="ascii").splitlines()) for script in scripts]
+        return has_each_reply(built, parts)
     if "\nRun over two starts.\n" in text:
-        return all(is_as_report(program, page.with_name(f"{page.stem}-{part}.script"), text) for part in (1, 2))
-    lines = page.with_suffix(".script").read_text(encoding="ascii")
+        return all(is_as_report(built, script, text) for script in parts)
     if "\nRun over: " in text:
         words = ["load", str(page.with_suffix(".trace"))]
     else:
         words = ["run", "-", "--ring", "2" if "\nRun with: --ring 2\n" in text else "4"]
-    ended = subprocess.run([program, *words], input=lines, capture_output=True, text=True, check=False)
-    return ended.returncode == 0 and table_of(lines, ended.stdout.splitlines()) in text
+    lines = page.with_suffix(".script").read_text(encoding="ascii")
+    status, output, _ = run(built, words, lines)
+    return status == 0 and table_of(lines, output.splitlines()) in text
+
+
+def all_checks(built: str):
+    """The checks, each a name and what is wrong, or nothing."""
+    for row in ROWS:
+        yield row[0], run_row(built, row)
+    for row in TRACES:
+        yield row[0], run_trace(built, row)
+    yield "a closed pipe", closed_pipe(built)
+    yield "a full device", full_device(built)
+    for page in sorted(LESSONS.glob("[0-9]*.md")):
+        yield page.stem, "" if is_as_its_page_says(built, page) else "it is not as its page says"
+    for report in sorted(LESSONS.glob("*.report")):
+        script = report.with_suffix(".script")
+        yield report.stem, "" if is_as_report(built, script) else "it is not as its report"
 
 
 def main() -> int:
-    parser = argparse.ArgumentParser(description=__doc__, formatter_class=argparse.RawDescriptionHelpFormatter)
-    parser.add_argument("--program", required=True)
-    program = parser.parse_args().program
-    checks = [(row[0], run_row(program, row)) for row in ROWS]
-    checks += [(row[0], run_trace(program, row)) for row in TRACES]
-    checks.append(("a closed pipe", closed_pipe(program)))
-    checks.append(("a full device", full_device(program)))
-    for page in sorted(LESSONS.glob("[0-9]*.md")):
-        checks.append((page.stem, lesson_is_as_its_page_says(program, page)))
-    for report in sorted(LESSONS.glob("*.report")):
-        checks.append((report.stem, is_as_report(program, report.with_suffix(".script"))))
-    for name, good in checks:
-        print(f"{'ok  ' if good else 'WRONG'} {name}")
-    return 0 if all(good for _, good in checks) else 1
+    parser = argparse.ArgumentParser(description=__doc__.splitlines()[0])
+    program.add_program(parser)
+    return program.print_checks(all_checks(parser.parse_args().program))
 
 
 if __name__ == "__main__":

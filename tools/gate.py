@@ -1,15 +1,18 @@
 #!/usr/bin/env python3
-"""Where the processor minutes of a gate go: proofs, proofs of tests and must-fail edits, crate by crate.
+"""Where the processor minutes of a gate go: proofs, proofs of tests and must-fail edits, crate by
+crate.
 
-    python3 bench/gate.py --watch TIMES
-    python3 bench/gate.py TIMES.. [--run NUMBER]..
+    python3 tools/gate.py --watch TIMES
+    python3 tools/gate.py TIMES.. [--run NUMBER]..
 
-With --watch it looks five times a second at the checker's processes on this machine, and appends a line to TIMES for each that has ended:
-processor seconds, seconds, most memory in KiB, the folder that it was called in, and its words, with tabs between. It goes on until it is
-stopped. Start it before `rt ci`.
+With --watch it looks five times a second at the checker's processes on this machine, and appends a
+line to TIMES for each that has ended: processor seconds, seconds, most memory in KiB, the folder
+that it was called in, and its words, with tabs between. It goes on until it is stopped. Start it
+before `rt ci`.
 
-Otherwise it prints a table for each TIMES. With --run, calls count only if their folder names this process number of an `rt ci`, so that
-checks by hand at the same time don't. The unit is one proof of rd_step alone. Only Python's standard library is used.
+Otherwise it prints a table for each TIMES. With --run, calls count only if their folder names this
+process number of an `rt ci`, so that checks by hand at the same time don't. The unit is one proof
+of rd_step alone. Only Python's standard library is used.
 """
 
 import argparse
@@ -19,12 +22,14 @@ import sys
 import time
 from collections import defaultdict
 
+from program import print_head, print_row
+
 UNIT = ("rd_step", "proofs")
 KINDS = ("proofs", "tests", "edits")
 LOOK_EVERY = 0.2
 
 
-# ---- Watching --------------------------------------------------------------------------------------------------------
+# ---- Watching ------------------------------------------------------------------------------------
 
 
 def text_of(path):
@@ -37,7 +42,8 @@ def text_of(path):
 
 
 def look():
-    """The checker's processes: processor seconds, most memory, folder and words, by number and start."""
+    """The checker's processes: processor seconds, most memory, folder and words, by number and
+    start."""
     found, tick = {}, os.sysconf("SC_CLK_TCK")
     for number in filter(str.isdigit, os.listdir("/proc")):
         stat = text_of(f"/proc/{number}/stat")
@@ -67,12 +73,13 @@ def watch(path):
                 times.write(f"{seconds:.2f}\t{time.time() - began.pop(key):.2f}\t{peak}\t{folder}\t{words}\n")
             for key in now:
                 began.setdefault(key, time.time())
-            # a process that is ending has no memory, folder or words any more: what was seen before stands
+            # a process that is ending has no memory, folder or words any more: what was seen before
+            # stays
             seen |= {key: one for key, one in now.items() if one[3] or key not in seen}
             time.sleep(LOOK_EVERY)
 
 
-# ---- The table -------------------------------------------------------------------------------------------------------
+# ---- The table -----------------------------------------------------------------------------------
 
 
 def kind_of(folder, words):
@@ -102,12 +109,12 @@ def times_of(path, runs):
 def show(times):
     """Prints the table of one gate."""
     unit, total = times[UNIT] or 1.0, sum(times.values())
-    print("| Crate | Proofs | Tests | Edits | Share |\n|---|---|---|---|---|")
+    print_head("Crate", "Proofs", "Tests", "Edits", "Share")
     for crate in sorted({crate for crate, _ in times}, key=lambda it: -sum(times[it, kind] for kind in KINDS)):
         parts = [times[crate, kind] / unit for kind in KINDS]
-        print(f"| {crate} | " + " | ".join(f"{part:.1f}" for part in parts) + f" | {sum(parts) * unit / total:.0%} |")
+        print_row(crate, *(f"{part:.1f}" for part in parts), f"{sum(parts) * unit / total:.0%}")
     sums = [sum(seconds for (_, kind), seconds in times.items() if kind == which) for which in KINDS]
-    print("| all | " + " | ".join(f"{part / unit:.1f}" for part in sums) + f" | {total / unit:.0f} units |")
+    print_row("all", *(f"{part / unit:.1f}" for part in sums), f"{total / unit:.0f} units")
     print(f"\n{total / 60:.0f} processor minutes; the unit is {unit / 60:.2f} of them.")
 
 

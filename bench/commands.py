@@ -1,48 +1,53 @@
 #!/usr/bin/env python3
-"""How fast the program answers, how much memory it takes, and how both grow with the length of the run.
+"""How fast the program answers, how much memory it takes, and how both grow with the run's length.
 
-    python3 bench/bench.py --program PATH [--quick] [--runs N] [--lengths N,N,..] [--marks N] [--seconds N] [--rest N] [--only TEXT]
+    python3 bench/commands.py [--program P] [--quick] [--runs N] [--lengths N,N,..] [--marks N]
+        [--seconds N] [--rest N] [--only TEXT]
 
-PATH is the built program; it is called as `PATH run FILE --actors A --ring R`. Standard output gets one Markdown table, standard
-error what is being measured. Only Python's standard library is used. All scripts are written into a temporary folder.
+P is the built program; it is called as `P run FILE --actors A --ring R`. Standard output gets one
+Markdown table, standard error what is being measured. Only Python's standard library is used. All
+scripts are written into a temporary folder.
 
-Each row is the median of several runs. The replies go through a pipe that is read all the time, or with `--rest` by a reader that
-rests after each read; a reader that does not is woken by nearly every reply, which costs the program time. They are checked: a row whose
-replies are not those that it is meant to time says `wrong`, and the status is 1 then.
+Each row is the median of several runs. The replies go through a pipe that is read all the time, or
+with `--rest` by a reader that rests after each read; a reader that does not is woken by nearly
+every reply, which costs the program time. They are checked: a row whose replies are not those that
+it is meant to time says `wrong`, and the status is 1 then.
 
-Columns. Steps: how many steps are live when the timed lines begin. Lines: how many lines are timed. Seconds: time from start to
-end of the process, without that of the same script that lacks the timed lines; with < before it, no more than that is left, for
-the runs differ by as much. Peak MiB: the most memory that the whole process held, looked at every few milliseconds (`VmHWM` of
-/proc); with < before it, what the system says after the end (`ru_maxrss`), which counts the process that started it. Time x and
-Memory x: the row divided by the same measure at the next smaller length. Stolen: of the time in which the processors had work
-while the row was measured, the share that the machine's host gave to others (`steal` of /proc/stat); where that is much, the row
-says little of the program.
+Columns. Steps: how many steps are live when the timed lines begin. Lines: how many lines are timed.
+Seconds: time from start to end of the process, without that of the same script that lacks the timed
+lines; with < before it, no more than that is left, for the runs differ by as much. Peak MiB: the
+most memory that the whole process held, looked at every few milliseconds (`VmHWM` of /proc);
+nothing where it ended before a look. Time x and Memory x: the row divided by the same measure at
+the next smaller length. Stolen: of the time in which the processors had work while the row was
+measured, the share that the machine's host gave to others (`steal` of /proc/stat); where that is
+much, the row says little of the program.
 """
 
 import argparse
 import os
 import random
-import select
 import statistics
-import subprocess
 import sys
 import tempfile
-import time
 from dataclasses import dataclass
+from pathlib import Path
 
-from machine import Machine
+sys.path.insert(0, str(Path(__file__).resolve().parent.parent / "tools"))
 
-SEED = 20130223
-LOOK_EVERY = 0.005
-PIPE_BYTES = 1 << 16
+import program
+from machine import SEED, random_run
+
 FEWEST_STEPS, MOST_STEPS = 100, 65_535
+LOOK_EVERY = 0.005  # seldom, so that the looks take no time of the program
+LEAST_KIB = 1024  # a process that held less when it was looked at was still being loaded
 SPARE = 12  # actors 5 to 16 in the scripts that have steps on which nothing depends
 SPARE_STEPS = 3  # each of them: a call and two reads of places that these scripts never write
 
 
 @dataclass
 class Job:
-    """A script and what to expect of it. The seconds of `base` are taken off, and only `timed` lines count."""
+    """A script and what to expect of it. The seconds of `base` are taken off, and only `timed`
+    lines count."""
 
     name: str
     steps: int
@@ -61,52 +66,29 @@ class Measure:
     """What the runs of a job gave."""
 
     seconds: float
-    peak_kib: float
-    sure: bool  # whether the peak was seen in the process itself
+    peak_kib: float  # 0 where it was not seen
     fault: str = ""
     spread: float = 0.0  # twice the median distance of a run from the median
     stolen: float = 0.0  # of the time with work, the share that the machine's host gave to others
 
 
-# ---- Scripts ---------------------------------------------------------------------------------------------------------
-
-
-def random_line(machine, source, actor, enqueues):
-    """The line of an actor's next event, which the machine makes too. It is never refused."""
-    place = machine.place(actor)
-    if place == "Idle" and source.random() < enqueues:
-        value = source.randrange(1000)
-        machine.enqueue(actor, value)
-        return f"enq {actor} {value}"
-    if place == "Idle":
-        machine.dequeue(actor)
-        return f"deq {actor}"
-    if place == "E10":
-        starves = source.random() < 0.5
-        machine.choose(actor, starves)
-        return f"starve {actor} {'yes' if starves else 'no'}"
-    machine.go(actor)
-    return f"go {actor}"
-
-
-def random_run(steps, enqueues=0.5, actors=4, ring=4):
-    """So many events of actors that take turns by chance."""
-    machine, source = Machine(actors, ring), random.Random(SEED)
-    return [random_line(machine, source, source.randint(1, actors), enqueues) for _ in range(steps)]
+# ---- Scripts -------------------------------------------------------------------------------------
 
 
 def spare_steps():
-    """A call, a read of the queue's tail and a read of the root's next, by each actor that the others do not have."""
+    """A call, a read of the queue's tail and a read of the root's next, by each actor that the
+    others do not have."""
     return [line for actor in range(5, 5 + SPARE) for line in (f"enq {actor} 1", f"go {actor}", f"go {actor}")]
 
 
 def run_with_spare_steps(steps, before):
-    """Random dequeues, which write neither the queue's ends nor the root's next, and the spare steps behind the first of them."""
+    """Random dequeues, which write neither the queue's ends nor the root's next, and the spare
+    steps after the first of them."""
     run = random_run(steps - SPARE * SPARE_STEPS, enqueues=0.0)
     return run[:before] + spare_steps() + run[before:]
 
 
-# ---- Jobs ------------------------------------------------------------------------------------------------------------
+# ---- Jobs ----------------------------------------------------------------------------------------
 
 
 def start_jobs(few):
@@ -139,7 +121,8 @@ def rollback_jobs(base):
 
 
 def lone_undo_jobs(steps):
-    """Lone undos of steps on which nothing depends, at the front and in the middle; and rollbacks of the same."""
+    """Lone undos of steps on which nothing depends, at the front and in the middle; and rollbacks
+    of the same."""
     jobs = []
     for where, before in (("at the front", 0), ("in the middle", steps // 2)):
         run = run_with_spare_steps(steps, before)
@@ -153,12 +136,12 @@ def lone_undo_jobs(steps):
 
 
 def free_steps_job(steps):
-    """Free steps at random places of a run, each undone alone and redone, so that it stands last."""
+    """Free steps at random places of a run, each undone alone and redone, so that it is last."""
     source = random.Random(SEED)
     lines = random_run(steps - SPARE * SPARE_STEPS, enqueues=0.0)
     spare = spare_steps()
     places = sorted(source.sample(range(len(lines)), SPARE))
-    free = []  # where each spare actor's last step stands, from 1
+    free = []  # where each spare actor's last step is, from 1
     for number, place in enumerate(places):
         at = place + number * SPARE_STEPS
         lines[at:at] = spare[number * SPARE_STEPS:(number + 1) * SPARE_STEPS]
@@ -174,7 +157,8 @@ def free_steps_job(steps):
 
 
 def refused_undo_jobs(steps, few):
-    """Lone undos that only the last step of the run refuses: the actor of the step goes on at the end."""
+    """Lone undos that only the last step of the run refuses: the actor of the step goes on at the
+    end."""
     jobs, times = [], 50 if few else 200
     for where, before in (("at the front", 0), ("in the middle", steps // 2)):
         run = random_run(steps - 2)
@@ -219,11 +203,11 @@ def mark_jobs(base, marks, few):
 
 
 def same_job(steps, few):
-    """Comparing a run with itself when its first step stands last."""
+    """Comparing a run with itself when its first step is last."""
     run = ["enq 5 1"] + random_run(steps - 1) + ["mark a", "undo 1", "redo", "mark b"]
     base = Job("run with its first step moved to the end", steps, run, steps, actors=5)
     times = 5 if few else 10
-    name = "`same` when the first step stands last"
+    name = "`same` when the first step is last"
     return Job(name, steps, run + ["same a b"] * times, times, base, "same yes", actors=5)
 
 
@@ -239,58 +223,16 @@ def all_jobs(options):
     return [job for job in jobs if options.only in job.name]
 
 
-# ---- Runs ------------------------------------------------------------------------------------------------------------
+# ---- Runs ----------------------------------------------------------------------------------------
 
 
-def peak_now(process):
-    """The most memory that the process has held so far, in KiB; 0 if it can't be seen any more."""
-    try:
-        with open(f"/proc/{process}/status", encoding="ascii") as status:
-            for line in status:
-                if line.startswith("VmHWM:"):
-                    return int(line.split()[1])
-    except OSError:
-        pass
-    return 0
-
-
-def processor_ticks():
-    """How long the processors have worked, and how long their host gave them to others when they had work; zeros if it isn't told."""
-    try:
-        with open("/proc/stat", encoding="ascii") as stat:
-            user, nice, system, _, _, irq, softirq, steal = map(int, stat.readline().split()[1:9])
-    except (OSError, ValueError):
-        return 0, 0
-    return user + nice + system + irq + softirq, steal
-
-
-def read_replies(pipe, process, seconds, rest):
-    """All that the process writes, the greatest peak seen, and whether it ended in time. The reader rests so long after each read."""
-    chunks, peak, looked = [], 0, 0.0
-    end = time.perf_counter() + seconds
-    while True:
-        now = time.perf_counter()
-        if now - looked >= LOOK_EVERY:
-            peak, looked = max(peak, peak_now(process)), now
-        if now >= end:
-            return b"".join(chunks), peak, False
-        if not select.select([pipe], [], [], LOOK_EVERY)[0]:
-            continue
-        chunk = os.read(pipe, PIPE_BYTES)
-        if not chunk:
-            return b"".join(chunks), peak, True
-        chunks.append(chunk)
-        if rest:
-            time.sleep(rest)
-
-
-def fault_in(job, replies, status, in_time):
+def fault_in(job, ended):
     """What is wrong with the replies of a run, or nothing."""
-    if not in_time:
+    if not ended.is_in_time:
         return "too long"
-    got = replies.decode("ascii", "replace").splitlines()
+    got = ended.output.decode("ascii", "replace").splitlines()
     refused = sum(reply.startswith("refused") for reply in got)
-    if os.waitstatus_to_exitcode(status) != 0:
+    if ended.status != 0:
         return "wrong status"
     if len(got) != len(job.lines):
         return f"wrong: {len(got)} replies to {len(job.lines)} lines"
@@ -304,16 +246,11 @@ def fault_in(job, replies, status, in_time):
 def one_run(options, job, script):
     """Runs the program once on a script."""
     words = [options.program, "run", script, "--actors", str(job.actors), "--ring", str(job.ring)]
-    begin = time.perf_counter()
-    child = subprocess.Popen(words, stdin=subprocess.DEVNULL, stdout=subprocess.PIPE)
-    replies, peak, in_time = read_replies(child.stdout.fileno(), child.pid, options.seconds, options.rest)
-    if not in_time:
-        child.kill()
-    _, status, usage = os.wait4(child.pid, 0)
-    seconds = time.perf_counter() - begin
-    child.returncode = os.waitstatus_to_exitcode(status)
-    child.stdout.close()
-    return Measure(seconds, peak or usage.ru_maxrss, peak > 0, fault_in(job, replies, status, in_time))
+    ended = program.watch(
+        words, rest=options.rest, seconds=options.seconds, look_every=LOOK_EVERY
+    )
+    peak = ended.peak_kib if ended.peak_kib >= LEAST_KIB else 0
+    return Measure(ended.seconds, peak, fault_in(job, ended))
 
 
 def measure(options, job, folder):
@@ -321,20 +258,19 @@ def measure(options, job, folder):
     script = os.path.join(folder, "script")
     with open(script, "w", encoding="ascii") as file:
         file.writelines(line + "\n" for line in job.lines)
-    runs, (worked, stolen) = [], processor_ticks()
+    runs, ticks = [], program.processor_ticks()
     for _ in range(options.runs * job.often):
         runs.append(one_run(options, job, script))
         if runs[-1].fault:
             return runs[-1]
     seconds = statistics.median(run.seconds for run in runs)
     spread = 2 * statistics.median(abs(run.seconds - seconds) for run in runs)
-    peak = statistics.median(run.peak_kib for run in runs)
-    worked, stolen = (after - before for after, before in zip(processor_ticks(), (worked, stolen)))
-    share = stolen / (worked + stolen) if stolen else 0.0
-    return Measure(seconds, peak, all(run.sure for run in runs), spread=spread, stolen=share)
+    peaks = [run.peak_kib for run in runs if run.peak_kib]
+    peak = statistics.median(peaks) if peaks else 0
+    return Measure(seconds, peak, spread=spread, stolen=program.stolen_since(ticks))
 
 
-# ---- The table -------------------------------------------------------------------------------------------------------
+# ---- The table -----------------------------------------------------------------------------------
 
 
 def ratio(new, old):
@@ -349,15 +285,16 @@ def rate(lines, seconds):
     return f"{lines / seconds:,.0f}" if lines / seconds >= 10 else f"{lines / seconds:.2g}"
 
 
-def row(job, seconds, done, shorter):
-    """A row of the table. Seconds that are none are within the spread; `shorter` has those of the next smaller length."""
-    name = f"| {job.name} | {job.steps:,} | {job.timed:,} |"
+def cells_of(job, seconds, done, shorter):
+    """The cells of a row. Seconds that are none are within the spread; `shorter` has those of the
+    next smaller length."""
+    head = (job.name, f"{job.steps:,}", f"{job.timed:,}")
     if done.fault:
-        return f"{name} {done.fault} | | | | | |"
+        return (*head, done.fault, "", "", "", "", "")
     shown = f"{seconds:.4f}" if seconds else f"<{done.spread:.4f}"
-    peak = f"{'' if done.sure else '<'}{done.peak_kib / 1024:.1f}"
-    growth = f"{ratio(seconds, shorter[0])} | {ratio(done.peak_kib, shorter[1])}"
-    return f"{name} {shown} | {rate(job.timed, seconds)} | {peak} | {growth} | {done.stolen:.0%} |"
+    peak = f"{done.peak_kib / 1024:.1f}" if done.peak_kib else ""
+    growth = ratio(seconds, shorter[0]), ratio(done.peak_kib, shorter[1])
+    return (*head, shown, rate(job.timed, seconds), peak, *growth, f"{done.stolen:.0%}")
 
 
 class Table:
@@ -366,8 +303,8 @@ class Table:
     def __init__(self, options, folder):
         self.options, self.folder = options, folder
         self.whole, self.shorter, self.failed = {}, {}, False
-        print("| What | Steps | Lines | Seconds | Lines a second | Peak MiB | Time x | Memory x | Stolen |")
-        print("|---|---|---|---|---|---|---|---|---|", flush=True)
+        head = ("Seconds", "Lines a second", "Peak MiB", "Time x", "Memory x", "Stolen")
+        program.print_head("What", "Steps", "Lines", *head)
 
     def measured(self, job):
         """The job's measure, taken once."""
@@ -378,18 +315,21 @@ class Table:
         return self.whole[key]
 
     def without_base(self, job):
-        """The job's measure without its base, and the seconds that are left if they are more than the spread of both."""
+        """The job's measure without its base, and the seconds that are left if they are more than
+        the spread of both."""
         done = self.measured(job)
-        base = self.measured(job.base) if job.base else Measure(0.0, 0, True)
+        base = self.measured(job.base) if job.base else Measure(0.0, 0)
         seconds = done.seconds - base.seconds
         spread = max(done.spread + base.spread, -seconds)
         left = seconds if seconds > spread or not job.base else None
-        return Measure(seconds, done.peak_kib, done.sure, base.fault or done.fault, spread, done.stolen), left
+        fault = base.fault or done.fault
+        return Measure(seconds, done.peak_kib, fault, spread, done.stolen), left
 
     def add(self, job):
         """Measures a job and prints its row."""
         done, left = self.without_base(job)
-        print(row(job, left, done, self.shorter.get(job.name, (None, None))), flush=True)
+        shorter = self.shorter.get(job.name, (None, None))
+        program.print_row(*cells_of(job, left, done, shorter))
         self.shorter[job.name] = (None, None) if done.fault else (left, done.peak_kib)
         self.failed |= done.fault.startswith("wrong")
 
@@ -397,7 +337,7 @@ class Table:
 def read_options():
     """The command line."""
     parser = argparse.ArgumentParser(description=__doc__.splitlines()[0])
-    parser.add_argument("--program", required=True, help="the built program")
+    program.add_program(parser)
     parser.add_argument("--quick", action="store_true", help="short runs, few repetitions")
     parser.add_argument("--runs", type=int, help="runs of each script (5, quick: 3)")
     parser.add_argument("--lengths", help="steps of the runs, rising (1000,8000,65000, quick: 1000,8000)")
@@ -419,7 +359,7 @@ def read_options():
 
 def main():
     options = read_options()
-    with tempfile.TemporaryDirectory(prefix="lcrqdb-bench-") as folder:
+    with tempfile.TemporaryDirectory() as folder:
         table = Table(options, folder)
         for job in all_jobs(options):
             table.add(job)
