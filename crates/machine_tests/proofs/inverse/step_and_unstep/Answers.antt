@@ -1,6 +1,6 @@
 use Rattle.std.proofs.Common.{refl, [], arith}
 use Rattle.rd_step.specs.Worlds.{model}
-use Rattle.rd_inverse_tests.proofs.tests.step_and_unstep.Goals as goal
+use Rattle.machine_tests.proofs.inverse.step_and_unstep.Goals as goal
 
 pub unstep-requires : goal.unstep-requires
 unstep-requires c = (

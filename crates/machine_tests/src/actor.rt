@@ -1,10 +1,11 @@
-//! The tests of the table of control points: what each row asks for, which acts are refused, and how rows go on, as the
-//! table of docs/MODEL.md says it.
+//! The tests of the table of control points: what each row asks for, which acts are refused, and
+//! how rows go on, as the table of docs/MODEL.md says it.
 
 use rd_actor::{Act, Actor, Op, OpReply, Pc, after, need};
 use rd_cell::{Access, Answer, ArrSlot, Cell, Content, Operation, Place, Refusal, SegName};
 
-/// The segments that the actor of these tests names: its own, the one that it made, and the next one.
+/// The segments that the actor of these tests names: its own, the one that it made, and the next
+/// one.
 const CRQ: SegName = SegName { maker: 2, n: 1 };
 
 const NEW: SegName = SegName { maker: 1, n: 3 };
@@ -267,7 +268,8 @@ fn an_add_leads_to_the_cell_or_from_a_closed_ring_to_a_making(rt: HostRuntime) {
     }
 }
 
-/// How a call on the array goes on from a control point, by what was found there: to another, or over with a reply.
+/// How a call on the array goes on from a control point, by what was found there: to another, or
+/// over with a reply.
 const ARRAY: &[(Pc, Content, Result<Pc, OpReply>)] = &[
     (
         Pc::A2,

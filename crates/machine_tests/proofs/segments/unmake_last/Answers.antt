@@ -4,7 +4,7 @@ use Rattle.rd_ring.specs.Prelude.{SegName, Content, is_there}
 use Rattle.rd_segments.specs.declared.space.Space.{Space}
 use Rattle.rd_segments.specs.Space.{contents, making_count}
 use Rattle.rd_segments.proofs.CountLemmas.{absent_from}
-use Rattle.rd_segments_tests.proofs.tests.unmake_last.Goals as goal
+use Rattle.machine_tests.proofs.segments.unmake_last.Goals as goal
 
 -- the maker of a segment that is there has made one
 some_made : {R : ℕ} (space : Space R) (s : SegName) → is_there (contents space) s ≡ true → 0 < making_count space s.maker

@@ -1,4 +1,5 @@
-//! The tests of the inverse: the last of two steps of the poised world is undone whole, and so is each step of a run.
+//! The tests of the inverse: the last of two steps of the poised world is undone whole, and so is
+//! each step of a run.
 
 use rd_actor::{Act, Actor, Pc};
 use rd_cell::{Content, Place, Refusal, SegName};
@@ -42,7 +43,8 @@ fn an_undone_add_gives_the_counter_and_the_actor_back(rt: HostRuntime) -> Result
     Ok(())
 }
 
-/// A run over rings of one cell that reads and writes every kind of place: an actor, an act, and how often it does it.
+/// A run over rings of one cell that reads and writes every kind of place: an actor, an act, and
+/// how often it does it.
 const RUN: &[(u8, Act, u8)] = &[
     (1, Act::Enq(7), 1),
     (1, Act::Go, 6),
