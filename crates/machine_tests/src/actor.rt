@@ -211,6 +211,8 @@ fn an_idle_actor_takes_calls_alone(rt: HostRuntime) {
     assert_eq!(rt; (idle.pc, idle.op, idle.val), (Pc::Idle, None, None));
     assert_eq!(rt; (idle.t, idle.h, idle.idx, idle.pass), (0, 0, 0, 0));
     assert!(rt; idle.words_fit());
+    assert!(rt; idle.is_idle());
+    assert!(rt; !ACTOR.is_idle());
     assert_eq!(rt; need::<4>(&idle, Act::Go), Err(Refusal::Idle));
     assert_eq!(rt; need::<4>(&idle, Act::Starve(false)), Err(Refusal::Idle));
     for &(call, pc, op) in BEGINS {
@@ -306,5 +308,19 @@ fn a_call_on_the_array_goes_on_by_what_it_found(rt: HostRuntime) {
             next,
             "{pc:?} finds {content:?}"
         );
+    }
+}
+
+#[test]
+fn each_control_point_has_a_label_of_its_own(rt: HostRuntime) {
+    assert_eq!(rt; Pc::ALL[0].label(), "Idle");
+    assert_eq!(rt; Pc::ALL[14].label(), "E14");
+    assert_eq!(rt; Pc::ALL[28].label(), "Q14");
+    assert_eq!(rt; Pc::ALL[33].label(), "B3");
+    for pc in Pc::ALL {
+        assert_eq!(rt; Pc::of_label(pc.label()), Some(pc), "{pc:?}");
+    }
+    for word in ["", "E", "E0", "E15", "e1", "E1 ", "Q15", "A3"] {
+        assert_eq!(rt; Pc::of_label(word), None, "{word}");
     }
 }

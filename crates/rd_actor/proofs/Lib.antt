@@ -1,1 +1,2 @@
 pub mod Representable
+pub mod PointLemmas

@@ -1,3 +1,4 @@
 pub mod Actors
+pub mod Labels
 pub mod Table
 pub mod Words

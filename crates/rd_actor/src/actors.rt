@@ -1,6 +1,6 @@
 //! An actor's record, what it may be asked to do, and what its calls reply.
 
-ghost use Rattle.std.specs.Prelude.{◌≡◌};
+ghost use Rattle.std.specs.Prelude.{◌≡◌, ◌↔◌, IsTrue};
 ghost use Rattle.rd_actor.specs.Actors.{idle, poised, calling};
 
 use rd_cell::SegName;
@@ -168,6 +168,13 @@ impl Actor {
             val: None,
             idx: 0,
         }
+    }
+
+    /// Whether it is the record of an actor in no call: one that was in none, or whose calls were all undone.
+    pub fn is_idle(&self) -> bool
+        ensures { IsTrue result ↔ (self.now ≡ idle) }
+    {
+        *self == Actor::idle()
     }
 
     /// The record of an actor that stands at the fetch-and-add of an enqueue of this value, on the root.

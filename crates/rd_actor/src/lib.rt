@@ -5,6 +5,7 @@
 #![tactic(auto)]
 
 mod actors;
+mod points;
 mod table;
 mod words;
 

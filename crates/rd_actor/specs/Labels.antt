@@ -1,0 +1,41 @@
+-- The labels of the control points.
+use Rattle.std.specs.Prelude.{ℕ, List, codes}
+use Rattle.rd_actor.specs.declared.actors.Pc.{Pc}
+use Rattle.rd_actor.specs.declared.actors.Pc.TheVariants.{Idle, E1, E2, E3, E4, E5, E6, E7, E8, E9, E10, E11, E12, E13, E14, Q1, Q2, Q3, Q4, Q5, Q6, Q7, Q8, Q9, Q10, Q11, Q12, Q13, Q14, A1, A2, B1, B2, B3}
+
+-- the label of a control point
+abbrev pub label : Pc → List ℕ
+label Idle = codes "Idle"
+label E1 = codes "E1"
+label E2 = codes "E2"
+label E3 = codes "E3"
+label E4 = codes "E4"
+label E5 = codes "E5"
+label E6 = codes "E6"
+label E7 = codes "E7"
+label E8 = codes "E8"
+label E9 = codes "E9"
+label E10 = codes "E10"
+label E11 = codes "E11"
+label E12 = codes "E12"
+label E13 = codes "E13"
+label E14 = codes "E14"
+label Q1 = codes "Q1"
+label Q2 = codes "Q2"
+label Q3 = codes "Q3"
+label Q4 = codes "Q4"
+label Q5 = codes "Q5"
+label Q6 = codes "Q6"
+label Q7 = codes "Q7"
+label Q8 = codes "Q8"
+label Q9 = codes "Q9"
+label Q10 = codes "Q10"
+label Q11 = codes "Q11"
+label Q12 = codes "Q12"
+label Q13 = codes "Q13"
+label Q14 = codes "Q14"
+label A1 = codes "A1"
+label A2 = codes "A2"
+label B1 = codes "B1"
+label B2 = codes "B2"
+label B3 = codes "B3"
