@@ -12,7 +12,7 @@ fn counters<const R: usize>(segment: &Segment<R>) -> (u64, (bool, u64)) {
 
 #[test]
 fn a_fresh_segment_is_open_and_empty(rt: HostRuntime) {
-    let segment = Segment::<4>::fresh();
+    let mut segment = Segment::<4>::fresh();
     assert_eq!(rt; counters(&segment), (0, (false, 0)));
     assert_eq!(rt; segment.next(), None);
     let last = Cell {
@@ -20,6 +20,7 @@ fn a_fresh_segment_is_open_and_empty(rt: HostRuntime) {
         idx: 3,
         val: None,
     };
+    assert_eq!(rt; Cell::fresh(3), last);
     assert_eq!(rt; segment.cell(3), Some(last));
     assert_eq!(rt; segment.cell(4), None);
     let at = SegName::ROOT;
@@ -38,6 +39,13 @@ fn a_fresh_segment_is_open_and_empty(rt: HostRuntime) {
     assert_eq!(rt; segment.content(Place::Idx(at, 4)), None);
     assert_eq!(rt; segment.content(Place::Whole(at)), None);
     assert_eq!(rt; segment.content(Place::QHead), None);
+    assert!(rt; segment.is_fresh());
+    segment.restore_cell(3, Cell { idx: 7, ..last });
+    assert!(rt; !segment.is_fresh());
+    segment.restore_cell(3, last);
+    assert!(rt; segment.is_fresh());
+    segment.restore_tail(true, 0);
+    assert!(rt; !segment.is_fresh());
 }
 
 #[test]

@@ -33,6 +33,7 @@ fn a_fresh_space_has_the_root_alone(rt: HostRuntime) -> Result<(), Fail> {
         Some(Content::Slot(ArrSlot::Empty))
     );
     assert_eq!(rt; space.content(Place::ArrCell(64)), None);
+    assert!(rt; space.is_fresh());
     Ok(())
 }
 
@@ -70,6 +71,7 @@ fn each_maker_counts_its_own_segments(rt: HostRuntime) -> Result<(), Fail> {
     assert_eq!(rt; space.make(2, 9)?, second);
     assert_eq!(rt; space.make(1, 7)?, UNMADE);
     assert_eq!(rt; space.make(1, 8)?, SegName { maker: 1, n: 1 });
+    assert!(rt; !space.is_fresh());
     let held = Cell {
         safe: true,
         idx: 0,

@@ -2,4 +2,5 @@ pub mod PlaceLemmas
 pub mod AccessLemmas
 pub mod ListLemmas
 pub mod CellLemmas
+pub mod TestLemmas
 pub mod EffectLemmas

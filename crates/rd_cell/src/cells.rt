@@ -1,7 +1,8 @@
 //! One cell of a ring, and its double-word compare-and-swap.
 
-ghost use Rattle.std.specs.Prelude.{◌≡◌, ◌↔◌, IsTrue};
+ghost use Rattle.std.specs.Prelude.{◌≡◌, ◌↔◌, None, IsTrue};
 ghost use Rattle.std.specs.Bool.{OnTrue, OnFalse};
+ghost use Rattle.rd_cell.specs.Cells.{new_cell};
 ghost use Rattle.rd_cell.specs.Operations.{wrote_cell};
 
 use super::places::Wrote;
@@ -18,6 +19,17 @@ pub struct Cell {
 }
 
 impl Cell {
+    /// The cell of this index in a fresh segment: it is safe, at its index, and empty.
+    pub fn fresh(index: u64) -> Cell
+        ensures { result ≡ new_cell index None }
+    {
+        Cell {
+            safe: true,
+            idx: index,
+            val: None,
+        }
+    }
+
     /// What putting `new` over this cell writes: its index half always, and its value half if the values differ.
     pub fn wrote(self, new: Cell) -> Wrote
         ensures { result ≡ wrote_cell self new }

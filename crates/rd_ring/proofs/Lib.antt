@@ -1,2 +1,3 @@
 pub mod SegmentLemmas
+pub mod FreshLemmas
 pub mod OperationLemmas

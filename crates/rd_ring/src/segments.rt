@@ -38,6 +38,20 @@ impl<const R: usize> Segment<R> {
         }
     }
 
+    /// Whether the segment is as a fresh one: nothing was done to it, or all of it was undone.
+    pub fn is_fresh(&self) -> bool
+        ensures { IsTrue result ↔ ((q : Place) → part self.now q ≡ fresh R q) }
+    {
+        self.has_fresh_words() && are_fresh(&self.cells)
+    }
+
+    /// Whether both counters are 0, it is open, and no segment follows.
+    fn has_fresh_words(&self) -> bool
+        ensures { IsTrue result ↔ (((self.now.head ≡ 0) × (self.now.tail ≡ 0)) × ((self.now.closed ≡ false) × (self.now.next ≡ None))) }
+    {
+        self.head == 0 && self.tail == 0 && !self.closed && self.next.is_none()
+    }
+
     /// A new segment that holds a value already: the fresh one, but its tail is 1 and the value is in cell 0.
     pub fn holding(value: u64) -> Self
         requires positive { 1 ≤ R }
@@ -271,19 +285,23 @@ fn fresh_cells<const R: usize>() -> [Cell; R]
     requires { R ≤ MOST_CELLS }
     ensures { (u : ℕ) → u < R → slice_get result u ≡ Some (new_cell u None) }
 {
-    let mut cells = [Cell {
-        safe: true,
-        idx: 0,
-        val: None,
-    }; R];
+    let mut cells = [Cell::fresh(0); R];
     for i in 0..R {
-        cells[i] = Cell {
-            safe: true,
-            idx: i as u64,
-            val: None,
-        };
+        cells[i] = Cell::fresh(i as u64);
     }
     cells
+}
+
+/// Whether these are the cells of a fresh segment.
+fn are_fresh(cells: &[Cell]) -> bool
+    ensures { IsTrue result ↔ ((u : ℕ) → u < length cells.now → slice_get cells.now u ≡ Some (new_cell u None)) }
+{
+    for i in 0..cells.len() {
+        if cells[i] != Cell::fresh(i as u64) {
+            return false;
+        }
+    }
+    true
 }
 
 /// The cells that are handed in, in an array of their own.
@@ -292,11 +310,7 @@ fn same_cells<const R: usize>(given: &[Cell]) -> [Cell; R]
     requires sized { length given.now ≡ R }
     ensures { (u : ℕ) → u < R → slice_get result u ≡ slice_get given.now u }
 {
-    let mut cells = [Cell {
-        safe: true,
-        idx: 0,
-        val: None,
-    }; R];
+    let mut cells = [Cell::fresh(0); R];
     for i in 0..R {
         cells[i] = given[i];
     }

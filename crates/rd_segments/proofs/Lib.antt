@@ -4,3 +4,4 @@ pub mod ListsLemmas
 pub mod SegmentsLemmas
 pub mod SpaceLemmas
 pub mod CountLemmas
+pub mod FreshLemmas

@@ -62,3 +62,9 @@ pub record IsFresh {R : ℕ} (makers : List (ListOf R)) : Type 0 where
   pub segment : Segment R
   pub fresh_parts : (q : Place) → part segment q ≡ fresh R q
   pub at : (t : SegName) → by_name makers t ≡ (if is_name root t then Some segment else None)
+
+-- there is just one segment, and it is fresh
+pub record IsFreshAlone {R : ℕ} (list : List (Segment R)) : Type 0 where
+  pub segment : Segment R
+  pub fresh_parts : (q : Place) → part segment q ≡ fresh R q
+  pub alone : list ≡ segment ∷ []

@@ -1,7 +1,8 @@
 //! The array of the array queue (Morrison and Afek's queue over an infinite array, here of 64 slots): its two counters
 //! and its slots.
 
-ghost use Rattle.std.specs.Prelude.{◌≡◌, is_some, length, Some, Err, IsTrue, IfOk, IfErr, OnErr};
+ghost use Rattle.std.specs.Prelude.{◌≡◌, ◌↔◌, is_some, length, Some, Err, IsTrue, IfOk, IfErr, OnErr};
+ghost use Rattle.std.specs.List.{All};
 ghost use Rattle.rd_ring.specs.Prelude.{SLOTS, Number, Slot, may_have, operand, operate, restore, everywhere, Operates, OperatesOn};
 ghost use Rattle.rd_cell.specs.Operations.{suits_array};
 
@@ -32,6 +33,20 @@ impl ArrayParts {
             tail: 0,
             cells: [ArrSlot::Empty; SLOTS],
         }
+    }
+
+    /// Whether the array is as a fresh one.
+    pub(crate) fn is_fresh(&self) -> bool
+        ensures { IsTrue result ↔ (array_part self.now ≡ fresh_array) }
+    {
+        self.has_fresh_counters() && are_empty(&self.cells)
+    }
+
+    /// Whether both counters are 0.
+    fn has_fresh_counters(&self) -> bool
+        ensures { IsTrue result ↔ ((self.now.head ≡ 0) × (self.now.tail ≡ 0)) }
+    {
+        self.head == 0 && self.tail == 0
     }
 
     /// What is at a place of the array; none if it has no such place.
@@ -87,6 +102,20 @@ impl ArrayParts {
             _ => unreachable!(),
         }
     }
+}
+
+/// Whether each of these slots is empty.
+fn are_empty(slots: &[ArrSlot]) -> bool
+    ensures { IsTrue result ↔ All (λ slot. slot ≡ ArrSlot.Empty) slots.now }
+{
+    slots.iter().all(|slot| is_empty(slot))
+}
+
+/// Whether a slot is empty.
+fn is_empty(slot: &ArrSlot) -> bool
+    ensures { IsTrue result ↔ (slot.now ≡ ArrSlot.Empty) }
+{
+    *slot == ArrSlot::Empty
 }
 
 /// Does an operation on a counter of the array: a read or a fetch-and-add.

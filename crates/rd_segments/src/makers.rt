@@ -1,8 +1,9 @@
-//! The makers' lists of a fresh space.
+//! The makers' lists of a fresh space, and whether lists are those.
 
-ghost use Rattle.std.specs.Prelude.{◌≡◌, ◌≤◌, IfOk, suc, length};
+ghost use Rattle.std.specs.Prelude.{◌≡◌, ◌≤◌, ◌↔◌, IfOk, IsTrue, [], suc, length};
+ghost use Rattle.std.specs.List.{All};
 ghost use Rattle.rd_ring.specs.Prelude.{MOST_CELLS};
-ghost use Rattle.rd_segments.specs.Lists.{IsFresh};
+ghost use Rattle.rd_segments.specs.Lists.{IsFresh, IsFreshAlone};
 
 use rd_ring::Segment;
 use std::alloc::{AllocError, Global};
@@ -28,4 +29,45 @@ pub fn first_lists<const R: usize>(
         makers.push_reserved(Vec::new(alloc));
     }
     Ok(makers)
+}
+
+/// Whether the root is there, fresh, and no other segment.
+pub fn are_fresh<const R: usize>(makers: &[Vec<Segment<R>>]) -> bool
+    requires { R ≤ MOST_CELLS }
+    ensures { IsTrue result ↔ IsFresh makers.now }
+{
+    match makers {
+        [] => false,
+        [first, others @ ..] => is_fresh_alone(first) && are_empty(others),
+    }
+}
+
+/// Whether there is just one segment, and it is fresh.
+fn is_fresh_alone<const R: usize>(list: &[Segment<R>]) -> bool
+    requires { R ≤ MOST_CELLS }
+    ensures { IsTrue result ↔ IsFreshAlone list.now }
+{
+    match list {
+        [segment] => segment.is_fresh(),
+        _ => false,
+    }
+}
+
+/// Whether none of these lists has a segment.
+fn are_empty<const R: usize>(makers: &[Vec<Segment<R>>]) -> bool
+    requires { R ≤ MOST_CELLS }
+    ensures { IsTrue result ↔ All (λ list. list.items ≡ []) makers.now }
+{
+    makers.iter().all(
+        |list| -> bool
+            ensures { IsTrue result ↔ (list.now.items ≡ []) }
+        { is_empty(list) },
+    )
+}
+
+/// Whether a list has no segment.
+fn is_empty<const R: usize>(list: &Vec<Segment<R>>) -> bool
+    ensures { IsTrue result ↔ (list.now.items ≡ []) }
+{
+    list.is_empty()
 }

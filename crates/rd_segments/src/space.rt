@@ -1,17 +1,19 @@
 //! The space and what is done to it.
 
-ghost use Rattle.std.specs.Prelude.{◌≡◌, ◌≢◌, ◌+◌, ◌-◌, ◌<◌, ◌≤◌, ℕ, suc, true, Some, None, is_ok, is_some, Err, IsTrue, IfOk, IfErr, OnOk, OnErr, length};
-ghost use Rattle.rd_ring.specs.Prelude.{MOST_CELLS, WholeOf, content_at, may_have, operand, operate, restore, everywhere, Operates, Makes, RefusesMaking};
+ghost use Rattle.std.specs.Prelude.{◌≡◌, ◌≢◌, ◌+◌, ◌-◌, ◌<◌, ◌≤◌, ◌↔◌, ℕ, suc, true, Some, None, is_ok, is_some, Err, IsTrue, IfOk, IfErr, OnOk, OnErr, length};
+ghost use Rattle.rd_ring.specs.Prelude.{MOST_CELLS, WholeOf, root, content_at, may_have, operand, operate, restore, everywhere, Operates, Makes, RefusesMaking};
 ghost use Rattle.rd_cell.specs.Operations.{suits};
 ghost use Rattle.rd_segments.specs.Room.{room_used};
 ghost use Rattle.rd_segments.specs.SpaceFields.{fresh_space};
+ghost use Rattle.rd_segments.specs.Lists.{IsFresh};
+ghost use Rattle.rd_segments.specs.Array.{array_part, fresh_array};
 ghost use Rattle.rd_segments.specs.Parts.{each_segment, contents_of_parts};
 ghost use Rattle.rd_ring.specs.Segments.{counters_fit};
 
 use super::array::ArrayParts;
 use super::ends::operate_on_name;
 use super::lists::{find, make_in, make_room_in, operate_in, restore_in, unmake_in};
-use super::makers::first_lists;
+use super::makers::{are_fresh, first_lists};
 use super::parts::{lists_from_parts, parts_of_lists};
 use rd_cell::{Content, Done, Operation, Place, Refusal, SegName};
 use rd_ring::{Segment, SegmentParts};
@@ -50,6 +52,27 @@ impl<const R: usize> Space<R> {
             qtail: SegName::ROOT,
             array: ArrayParts::fresh(),
         })
+    }
+
+    /// Whether each place has what it has in a fresh space.
+    pub fn is_fresh(&self) -> bool
+        ensures { IsTrue result ↔ (contents self.now ≡ fresh_space R) }
+    {
+        self.has_fresh_ends() && self.is_fresh_inside()
+    }
+
+    /// Whether both of the queue's ends name the root.
+    fn has_fresh_ends(&self) -> bool
+        ensures { IsTrue result ↔ ((head_name self.now ≡ root) × (tail_name self.now ≡ root)) }
+    {
+        self.qhead == SegName::ROOT && self.qtail == SegName::ROOT
+    }
+
+    /// Whether the array is fresh, and the root, which is the only segment.
+    fn is_fresh_inside(&self) -> bool
+        ensures { IsTrue result ↔ ((array_part self.now.array ≡ fresh_array) × IsFresh self.now.makers.items) }
+    {
+        self.array.is_fresh() && are_fresh(&self.makers)
     }
 
     /// The space of these parts: element m of `segments` has maker m's segments, in the order of their making.

@@ -1,7 +1,7 @@
 -- The worlds that a session may begin with are well-formed.
-use Rattle.std.proofs.Common.{◌≡◌, ℕ, zero, suc, ◌+◌, ◌<◌, ◌≤◌, Bool, true, false, ◌&&◌, if◌then◌else◌, nat_lt, inl, inr, refl, sym, ◌∙◌, ap, subst, arith, List, length, slice_get, Option, Some, None, is_some, le-leb, lt-ltb, le-ltb, ltb-true}
-use Rattle.std.proofs.lemmas.Bool.{cases_Bool, cases_lt, cond-true, cond-false, cond_both, and_from}
-use Rattle.std.proofs.lemmas.Option.{slice_get_past}
+use Rattle.std.proofs.Common.{◌≡◌, ◌↔◌, ℕ, zero, suc, ◌+◌, ◌<◌, ◌≤◌, Bool, true, false, ◌&&◌, if◌then◌else◌, nat_lt, inl, inr, refl, sym, ◌∙◌, ap, subst, arith, List, length, get_or, slice_get, All, IsSome, Option, Some, None, is_some, le-leb, lt-ltb, le-ltb, ltb-true}
+use Rattle.std.proofs.lemmas.Bool.{cases_Bool, cases_lt, cond-true, cond-false, cond_both, and_from, both_ways}
+use Rattle.std.proofs.lemmas.Option.{slice_get-get_or, slice_get_past}
 use mathlib.Core.Path.{fun_ext}
 use Rattle.rd_ring.specs.Prelude.{MOST_ACTORS, COUNTER_END, SegName, Place, QHead, QTail, Head, Tail, Next, CellAt, ValAt, IdxAt, WholeOf, ArrHead, ArrTail, ArrCell, Content, Number, TailIs, NextIs, ValIs, IdxIs, Slot, Empty as NobodyYet, root, is_name, is_there}
 use Rattle.rd_cell.proofs.PlaceLemmas.{is_name-true}
@@ -10,6 +10,7 @@ use Rattle.rd_segments.specs.SpaceFields.{fresh_space}
 use Rattle.rd_segments.specs.Space.{contents}
 use Rattle.rd_actor.specs.declared.actors.Actor.{Actor}
 use Rattle.rd_actor.specs.Actors.{idle, poised}
+use Rattle.rd_step.specs.World.{World}
 use Rattle.rd_step.specs.Fields.{actor_at, world_of_fields}
 use Rattle.rd_step.specs.Starts.{actors_by, fresh_world, poised_world}
 use Rattle.rd_step.specs.WellFormed.{Presence, belongs, place_fits, record_fits, actor_fits, is_actor, maker_fits, IsNumbered, AreMade, IsWellFormed}
@@ -164,3 +165,34 @@ pub fields_make : {R : ℕ} (space : Space R) (xs : List Actor) (each : ℕ → 
     → ((n : ℕ) → n < count → slice_get xs n ≡ Some (each (suc n)))
     → world_of_fields space xs ≡ record { at = fresh_space R; actor = actors_by each count }
 fields_make space xs each count fresh len all = λ i. record { at = fresh i; actor = list_actors xs each count len all i }
+
+-- ---- when a world is fresh: the space is, and the actors are idle
+
+pub idle_actors : (xs : List Actor) → All (λ x. x ≡ idle) xs → actor_at xs ≡ actors_by (λ n. idle) (length xs)
+idle_actors xs all = list_actors xs (λ n. idle) (length xs) refl (λ n within. slice_get-get_or xs n idle within ∙ ap Some (all n idle within))
+
+some_idle : (b : Bool) (x : Actor) → Some x ≡ (if b then Some idle else None) → x ≡ idle
+some_idle true x h = cc
+some_idle false x h = absurd (cc)
+
+pub all_idle : (xs : List Actor) (count : ℕ) → actor_at xs ≡ actors_by (λ n. idle) count → All (λ x. x ≡ idle) xs
+all_idle xs count e k d within =
+    some_idle (nat_lt k count) (get_or xs k d) (sym (slice_get-get_or xs k d within) ∙ ap (λ (at : ℕ → Option Actor). at (suc k)) e)
+
+-- a fresh world has just one number of actors
+pub one_count : (R count n : ℕ) (w : World) → w ≡ fresh_world R count → ((k : ℕ) → IsSome (w.actor (suc k)) ↔ (k < n)) → count ≡ n
+one_count R count n w e there =
+    elim (cases_lt n count) [
+      | inl h ↦
+          let some : IsSome (w.actor (suc n)) = ap (λ (x : World). is_some (x.actor (suc n))) e ∙ ap is_some (cond-true (nat_lt n count) (Some idle) None (lt-ltb n count h)) in
+          let no : n < n = (there n).0 some in
+          absurd (omega arith)
+      | inr h ↦
+          elim (cases_lt count n) [
+            | inl k ↦
+                let none : is_some (w.actor (suc count)) ≡ false =
+                ap (λ (x : World). is_some (x.actor (suc count))) e ∙ ap is_some (cond-false (nat_lt count count) (Some idle) None (le-ltb count count (omega arith))) in
+                absurd (both_ways (is_some (w.actor (suc count))) none ((there count).1 k))
+            | inr k ↦ omega arith
+          ]
+    ]

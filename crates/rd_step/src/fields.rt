@@ -1,8 +1,10 @@
 //! What a step and its undoing do to the fields of a world: an access, an actor's words, and what is put back.
 
-ghost use Rattle.std.specs.Prelude.{◌≡◌, ◌≢◌, ◌+◌, ◌<◌, ◌≤◌, ℕ, true, Some, None, Ok, Err, IsSome, IsTrue, IfOk, IfErr, OnErr, length, vec_capacity};
+ghost use Rattle.std.specs.Prelude.{◌≡◌, ◌≢◌, ◌+◌, ◌<◌, ◌≤◌, ◌↔◌, ℕ, true, Some, None, Ok, Err, IsSome, IsTrue, IfOk, IfErr, OnErr, length, vec_capacity};
 ghost use Rattle.rd_ring.specs.Prelude.{MOST_CELLS, MOST_SEGMENTS, Make, Nothing, WroteNothing, perform, restore, everywhere, HasEffect};
+ghost use Rattle.std.specs.List.{All};
 ghost use Rattle.rd_segments.specs.Room.{room_used, room_returned};
+ghost use Rattle.rd_actor.specs.Actors.{idle};
 ghost use Rattle.rd_segments.specs.Space.{contents, lists, making_count, room, capacity};
 ghost use Rattle.rd_step.specs.Step.{revert, with_actor, CanPutBack};
 ghost use Rattle.rd_step.specs.Fields.{world_of_fields, actor_at, access_suits};
@@ -147,4 +149,11 @@ fn make<const R: usize>(space: &mut Space<R>, actor: u8, value: u64) -> Result<D
         answer: Answer::Made(name),
         wrote: Wrote::Place,
     })
+}
+
+/// Whether each of these actors is idle, and has made no step or undone all of them.
+pub fn are_idle(actors: &[Actor]) -> bool
+    ensures { IsTrue result ↔ All (λ actor. actor ≡ idle) actors.now }
+{
+    actors.iter().all(|actor| actor.is_idle())
 }

@@ -13,7 +13,7 @@ ghost use Rattle.rd_step.specs.World.{World as Model};
 ghost use Rattle.rd_step.specs.Parts.{world_of_parts, first_flaw, Refuses};
 
 use super::entries::{Entry, Event};
-use super::fields::{actor_in, perform, revert_fields, set_actor};
+use super::fields::{actor_in, are_idle, perform, revert_fields, set_actor};
 use super::flaws::{Unassembled, first_flaw};
 use super::parts::Parts;
 use rd_actor::{Actor, after, need};
@@ -67,6 +67,13 @@ impl<const R: usize> World<R> {
             space,
             actors: list,
         })
+    }
+
+    /// Whether the world is the fresh one of some number of actors, which is then the number of its own.
+    pub fn is_fresh(&self) -> bool
+        ensures { IsTrue result ↔ ((count : ℕ) × (model self.now ≡ fresh_world R count)) }
+    {
+        self.space.is_fresh() && are_idle(&self.actors)
     }
 
     /// The poised world: the fresh world, but each actor a is about to draw a position for the value a on the root.
@@ -178,6 +185,7 @@ impl<const R: usize> World<R> {
 
     /// The number of actors, 1 to 16.
     pub fn actors(&self) -> u8
+        ensures some { 1 ≤ result }
         ensures within { result ≤ MOST_ACTORS }
         ensures count { (n : ℕ) → (IsSome ((model self.now).actor (suc n)) ↔ (n < result)) }
     {

@@ -14,6 +14,7 @@ fn a_fresh_world_has_idle_actors_and_the_root(rt: HostRuntime) -> Result<(), Fai
         assert_eq!(rt; world.actor(actors + 1), None);
         assert_eq!(rt; world.content(Place::Whole(ROOT)), Some(Content::Whole));
         assert_eq!(rt; world.content(Place::QTail), Some(Content::Name(ROOT)));
+        assert!(rt; world.is_fresh());
     }
     Ok(())
 }
@@ -27,6 +28,7 @@ fn a_poised_world_has_actors_that_are_to_draw(rt: HostRuntime) -> Result<(), Fai
         assert_eq!(rt; world.actor(actors), Some(Actor::poised(u64::from(actors))));
         assert_eq!(rt; world.actor(actors + 1), None);
         assert_eq!(rt; world.content(Place::Whole(ROOT)), Some(Content::Whole));
+        assert!(rt; !world.is_fresh());
     }
     Ok(())
 }
@@ -51,8 +53,10 @@ fn enqueue(world: &mut World<1>) -> Result<Option<OpReply>, Refusal> {
 fn a_world_with_room_takes_as_many_makings(rt: HostRuntime) -> Result<(), Fail> {
     for makings in [0, 1, 2, 10, 40] {
         let mut world = World::<1>::fresh(rt.alloc(), 1)?;
+        assert!(rt; world.is_fresh());
         // The first enqueue fills the root's one cell; each later one closes a ring and makes the next.
         assert_eq!(rt; enqueue(&mut world)?, Some(OpReply::Enqueued));
+        assert!(rt; !world.is_fresh());
         assert_eq!(rt; world.make_room(1, usize::MAX), Err(Refusal::NoMemory));
         assert_eq!(rt; world.make_room(1, makings as usize), Ok(()));
         for n in 0..makings {

@@ -1,0 +1,11 @@
+-- A test of two facts in order.
+use Rattle.std.proofs.Common.{◌≡◌, ◌↔◌, Bool, true, false}
+use Rattle.std.proofs.lemmas.Bool.{both_ways}
+
+-- the first is passed
+pub both_tests : {P Q W : Type 0} (a b : Bool) → (a ≡ true) ↔ P → (b ≡ true) ↔ Q → (P → Q → W) → (W → Q) → a ≡ true → (b ≡ true) ↔ W
+both_tests a b first second all other passed = ((λ e. all (first.0 passed) (second.0 e)), (λ w. second.1 (other w)))
+
+-- the first is failed
+pub first_test : {P W : Type 0} (a : Bool) → (a ≡ true) ↔ P → (W → P) → a ≡ false → (a ≡ true) ↔ W
+first_test a first one failed = ((λ e. absurd (both_ways a failed e)), (λ w. first.1 (one w)))

@@ -1,0 +1,6 @@
+use Rattle.std.proofs.Common.{◌≡◌, ℕ, ◌<◌, slice_get, Some, None}
+use Rattle.rd_ring.specs.Prelude.{new_cell}
+use Rattle.rd_ring.proofs.segments.are_fresh.Given as goal
+
+abbrev pub invariant-loop-i : goal.invariant-loop-i
+invariant-loop-i l = (u : ℕ) → u < l.i → slice_get l.cells u ≡ Some (new_cell u None)

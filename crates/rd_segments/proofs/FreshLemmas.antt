@@ -1,0 +1,174 @@
+-- When a space is as a fresh one: by its ends, its array and its makers' lists.
+use Rattle.std.proofs.Common.{◌≡◌, ℕ, zero, suc, ◌-◌, ◌<◌, ◌≤◌, ◌&&◌, ◌==◌, if◌then◌else◌, nat_lt, All, List, [], ◌∷◌, length, get_or, take, drop, slice_get, Option, Some, None, option_map, inl, inr, refl, sym, ap, ap₂, ◌∙◌, arith, lt-ltb, le-ltb, ne_eqb}
+use Rattle.std.proofs.lemmas.Bool.{cases_Bool, cases_lt, cond-true, cond-false, and_left, and_right}
+use Rattle.std.proofs.lemmas.Option.{slice_get-get_or, slice_get_past}
+use Rattle.std.proofs.lemmas.List.Elements.{All-head, All-tail}
+use Rattle.std.proofs.lemmas.List.{take_rest}
+use mathlib.Core.Path.{fun_ext}
+use Rattle.rd_cell.proofs.PlaceLemmas.{is_name-true}
+use Rattle.rd_ring.specs.Prelude.{SLOTS, SegName, Place, QHead, QTail, Head, Tail, Next, ValAt, IdxAt, ArrHead, ArrTail, ArrCell, Content, Name, Number, Slot, Empty, root, is_name, Contents, fresh}
+use Rattle.rd_ring.specs.declared.segments.Segment.{Segment}
+use Rattle.rd_ring.specs.Segments.{part}
+use Rattle.rd_segments.specs.Lists.{ListOf, by_number, by_name, part_of, IsFresh, IsFreshAlone}
+use Rattle.rd_segments.specs.declared.array.ArrayParts.{ArrayParts}
+use Rattle.rd_segments.specs.Array.{array_part, fresh_array}
+use Rattle.rd_segments.specs.SpaceFields.{contents_of, fresh_space}
+
+-- ---- the array
+
+pub array_fresh : (a : ArrayParts) → a.head ≡ 0 → a.tail ≡ 0 → All (λ slot. slot ≡ Empty) a.cells → array_part a ≡ fresh_array
+array_fresh a head tail all = fun_ext each
+  where
+    slot_at : (i : ℕ) → option_map Slot (slice_get a.cells i) ≡ (if nat_lt i SLOTS then Some (Slot Empty) else None)
+    slot_at i =
+        elim (cases_lt i SLOTS) [
+          | inl h ↦
+              let within : i < length a.cells = omega (arith, a.sized) in
+              ap (option_map Slot) (slice_get-get_or a.cells i Empty within ∙ ap Some (all i Empty within))
+              ∙ sym (cond-true (nat_lt i SLOTS) (Some (Slot Empty)) None (lt-ltb i SLOTS h))
+          | inr h ↦
+              ap (option_map Slot) (slice_get_past a.cells i (omega (arith, a.sized)))
+              ∙ sym (cond-false (nat_lt i SLOTS) (Some (Slot Empty)) None (le-ltb i SLOTS h))
+        ]
+
+    each : (q : Place) → array_part a q ≡ fresh_array q
+    each ArrHead = ap (λ n. Some (Number n)) head
+    each ArrTail = ap (λ n. Some (Number n)) tail
+    each (ArrCell i) = slot_at i
+    each _ = refl
+
+-- and back
+module _ (a : ArrayParts) (e : array_part a ≡ fresh_array) where
+  pub array_counters : (a.head ≡ 0) × (a.tail ≡ 0)
+  array_counters =
+      let h : Some (Number a.head) ≡ Some (Number 0) = ap (λ (f : Contents). f ArrHead) e in
+      let t : Some (Number a.tail) ≡ Some (Number 0) = ap (λ (f : Contents). f ArrTail) e in
+      ((cc), (cc))
+
+  pub array_slots : All (λ slot. slot ≡ Empty) a.cells
+  array_slots k d within =
+      let h : Some (Slot (get_or a.cells k d)) ≡ Some (Slot Empty) =
+      sym (ap (option_map Slot) (slice_get-get_or a.cells k d within)) ∙ ap (λ (f : Contents). f (ArrCell k)) e
+      ∙ cond-true (nat_lt k SLOTS) (Some (Slot Empty)) None (lt-ltb k SLOTS (omega (arith, a.sized))) in
+      cc
+
+-- ---- the makers' lists
+
+module _ {R : ℕ} where
+  pub one_alone : (s : Segment R) → ((q : Place) → part s q ≡ fresh R q) → IsFreshAlone (s ∷ [])
+  one_alone s parts = record { segment = s; fresh_parts = parts; alone = refl }
+
+  pub alone_one : (s : Segment R) → IsFreshAlone (s ∷ []) → (q : Place) → part s q ≡ fresh R q
+  alone_one s h q = let same : s ≡ h.segment = cc (h.alone) in ap (λ (x : Segment R). part x q) same ∙ h.fresh_parts q
+
+  pub only_one : (ss : List (Segment R)) (s : Segment R) → length ss ≡ 1 → s ≡ get_or ss 0 s → ss ≡ s ∷ []
+  only_one [] s len is = absurd (omega (arith, len))
+  only_one (t ∷ []) s len is = ap (λ x. x ∷ []) (sym is)
+  only_one (t ∷ u ∷ ss) s len is = absurd (omega (arith, len))
+
+  pub not_alone : (ss : List (Segment R)) → (length ss ≡ 1 → ⊥) → IsFreshAlone ss → ⊥
+  not_alone ss other h = other (ap length h.alone)
+
+  -- the first list, and the others
+  pub first_and_others : (makers : List (ListOf R)) (first : ListOf R) → 1 ≤ length makers → first ≡ get_or makers 0 first
+      → makers ≡ first ∷ take (length makers - 1) (drop 1 makers)
+  first_and_others [] first some is = absurd (omega (arith, some))
+  first_and_others (list ∷ lists) first some is = ap₂ (λ l ls. l ∷ ls) (sym is) (sym (take_rest (list ∷ lists) 1))
+
+  none_in : (lists : List (ListOf R)) (m n : ℕ) → All (λ list. list.items ≡ []) lists → by_number (slice_get lists m) n ≡ None
+  none_in [] m n h = refl
+  none_in (list ∷ lists) zero n h = ap (λ ss. slice_get ss n) (All-head (λ l. l.items ≡ []) list lists h)
+  none_in (list ∷ lists) (suc m) n h = none_in lists m n (All-tail (λ l. l.items ≡ []) list lists h)
+
+  later_segment : (n : ℕ) (s : Segment R) → (if is_name root (record { maker = 0; n = suc n }) then Some s else None) ≡ None
+  later_segment n s = cond-false ((0 == 0) && (0 == suc n)) (Some s) None (and_right (0 == 0) (0 == suc n) (ne_eqb 0 (suc n) (λ e. absurd (omega arith))))
+
+  other_maker : (m n : ℕ) (s : Segment R) → (if is_name root (record { maker = suc m; n = n }) then Some s else None) ≡ None
+  other_maker m n s = cond-false ((0 == suc m) && (0 == n)) (Some s) None (and_left (0 == suc m) (0 == n) (ne_eqb 0 (suc m) (λ e. absurd (omega arith))))
+
+  root_alone : (first : ListOf R) (lists : List (ListOf R)) (s : Segment R) → first.items ≡ s ∷ [] → All (λ list. list.items ≡ []) lists → (m n : ℕ)
+      → by_number (slice_get (first ∷ lists) m) n ≡ (if is_name root (record { maker = m; n = n }) then Some s else None)
+  root_alone first lists s one none zero zero = ap (λ ss. slice_get ss 0) one
+  root_alone first lists s one none zero (suc n) = ap (λ ss. slice_get ss (suc n)) one ∙ sym (later_segment n s)
+  root_alone first lists s one none (suc m) n = none_in lists m n none ∙ sym (other_maker m n s)
+
+  pub fresh_lists : (first : ListOf R) (lists : List (ListOf R)) → IsFreshAlone first.items → All (λ list. list.items ≡ []) lists → IsFresh (first ∷ lists)
+  fresh_lists first lists h none = record {
+    segment = h.segment;
+    fresh_parts = h.fresh_parts;
+    at = λ t. root_alone first lists h.segment h.alone none t.maker t.n;
+  }
+
+  -- and back
+  pub no_lists : (makers : List (ListOf R)) → makers ≡ [] → IsFresh makers → ⊥
+  no_lists [] e h = let no : None ≡ Some h.segment = h.at root in cc
+  no_lists (first ∷ lists) e h = cc
+
+  only_first : (ss : List (Segment R)) (s : Segment R) → slice_get ss 0 ≡ Some s → slice_get ss 1 ≡ None → ss ≡ s ∷ []
+  only_first [] s one two = absurd (cc)
+  only_first (t ∷ []) s one two = let same : t ≡ s = cc in ap (λ x. x ∷ []) same
+  only_first (t ∷ u ∷ ss) s one two = absurd (cc)
+
+  no_first : (ss : List (Segment R)) → slice_get ss 0 ≡ None → ss ≡ []
+  no_first [] h = refl
+  no_first (s ∷ ss) h = absurd (cc)
+
+  module _ (first : ListOf R) (lists : List (ListOf R)) (h : IsFresh (first ∷ lists)) where
+    pub first_alone : IsFreshAlone first.items
+    first_alone = record {
+      segment = h.segment;
+      fresh_parts = h.fresh_parts;
+      alone = only_first first.items h.segment (h.at root) (h.at (record { maker = 0; n = 1 }));
+    }
+
+    pub others_empty : All (λ list. list.items ≡ []) lists
+    others_empty k d within =
+        no_first (get_or lists k d).items (ap (λ o. by_number o 0) (sym (slice_get-get_or lists k d within)) ∙ h.at (record { maker = suc k; n = 0 }) ∙ other_maker k 0 h.segment)
+
+-- ---- the space
+
+some_segment : {R : ℕ} (o : Option (Segment R)) (c : Content) → part_of o (Head root) ≡ Some c → (s : Segment R) × (o ≡ Some s)
+some_segment None c h = absurd (cc)
+some_segment (Some s) c h = (s, refl)
+
+no_segment : {R : ℕ} (o : Option (Segment R)) (t : SegName) → part_of o (Head t) ≡ None → o ≡ None
+no_segment None t h = refl
+no_segment (Some s) t h = absurd (cc)
+
+module _ {R : ℕ} (makers : List (ListOf R)) (qhead qtail : SegName) (array : ArrayParts) (e : contents_of makers qhead qtail array ≡ fresh_space R) where
+  at : (q : Place) → contents_of makers qhead qtail array q ≡ fresh_space R q
+  at q = ap (λ (f : Contents). f q) e
+
+  pub fresh_ends : (qhead ≡ root) × (qtail ≡ root)
+  fresh_ends =
+      let h : Some (Name qhead) ≡ Some (Name root) = at QHead in
+      let t : Some (Name qtail) ≡ Some (Name root) = at QTail in
+      ((cc), (cc))
+
+  array_at : (q : Place) → array_part array q ≡ fresh_array q
+  array_at ArrHead = at ArrHead
+  array_at ArrTail = at ArrTail
+  array_at (ArrCell i) = at (ArrCell i)
+  array_at _ = refl
+
+  root_parts : (s : Segment R) → by_name makers root ≡ Some s → (q : Place) → part s q ≡ fresh R q
+  root_parts s is (Head t) = ap (λ o. part_of o (Head root)) (sym is) ∙ at (Head root)
+  root_parts s is (Tail t) = ap (λ o. part_of o (Tail root)) (sym is) ∙ at (Tail root)
+  root_parts s is (Next t) = ap (λ o. part_of o (Next root)) (sym is) ∙ at (Next root)
+  root_parts s is (ValAt t i) = ap (λ o. part_of o (ValAt root i)) (sym is) ∙ at (ValAt root i)
+  root_parts s is (IdxAt t i) = ap (λ o. part_of o (IdxAt root i)) (sym is) ∙ at (IdxAt root i)
+  root_parts s is _ = refl
+
+  by_names : (s : Segment R) → by_name makers root ≡ Some s → (t : SegName) → by_name makers t ≡ (if is_name root t then Some s else None)
+  by_names s is t =
+      elim (cases_Bool (is_name root t)) [
+        | inl b ↦ ap (by_name makers) (sym (is_name-true root t b)) ∙ is ∙ sym (cond-true (is_name root t) (Some s) None b)
+        | inr b ↦
+            no_segment (by_name makers t) t (at (Head t) ∙ cond-false (is_name root t) (Some (Number 0)) None b)
+            ∙ sym (cond-false (is_name root t) (Some s) None b)
+      ]
+
+  pub fresh_inside : (array_part array ≡ fresh_array) × IsFresh makers
+  fresh_inside =
+      let found = some_segment (by_name makers root) (Number 0) (at (Head root)) in
+      (fun_ext array_at, record { segment = found.0; fresh_parts = root_parts found.0 found.1; at = by_names found.0 found.1 })
