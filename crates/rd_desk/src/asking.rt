@@ -12,7 +12,7 @@ use super::desks::{Desk, DeskPass};
 use super::gates::DeskRefusal;
 use super::recording::BookWithHistory;
 use rd_cell::Refusal;
-use rd_lock::Missed;
+use rd_lock::TryTakeError;
 use rd_marks::{Command, Reply};
 use std::sync::Wait;
 
@@ -63,8 +63,8 @@ impl<const R: usize> Desk<R> {
     {
         match self.lock.try_take(pass) {
             Ok(kept) => self.record_and_put_back(pass, kept, command),
-            Err(Missed::Busy(words)) => Err(DeskRefusal::Busy(words)),
-            Err(Missed::TicketsEnded) => Err(DeskRefusal::TicketsEnded),
+            Err(TryTakeError::Busy(words)) => Err(DeskRefusal::Busy(words)),
+            Err(TryTakeError::TicketsEnded) => Err(DeskRefusal::TicketsEnded),
         }
     }
 

@@ -7,7 +7,7 @@ use Rattle.rd_lock.specs.declared.views.Recorded.{Ghosts}
 use Rattle.rd_lock.specs.declared.views.Stage.TheVariants.{Out, Waits, Holds}
 use Rattle.rd_lock.specs.declared.passes.Pass.{Pass}
 use Rattle.rd_lock.specs.declared.locks.TicketLock.{TicketLock}
-use Rattle.rd_lock.specs.declared.tickets.Missed.{Missed}
+use Rattle.rd_lock.specs.declared.tickets.TryTakeError.{TryTakeError}
 use Rattle.rd_lock.specs.Histories.{named, Adds, placed, signed}
 use Rattle.rd_lock.specs.Rule.{number_in}
 
@@ -46,9 +46,9 @@ module _ {E O : Type 0} where
     pub served : served_in v.people ≤ served_in w.people
 
   -- what a view is told that took nothing: the greatest words that it has seen, which differ; or that the next ticket is beyond the last
-  abbrev pub IsMissedIn : View E O → Missed → Type 0
-  IsMissedIn v (Missed.Busy words) = (words.next ≡ next_in v.people) × (words.served ≡ served_in v.people) × (words.served < words.next) × (words.next < 2 ^ 63)
-  IsMissedIn v Missed.TicketsEnded = next_in v.people ≡ 2 ^ 63
+  abbrev pub IsMissedIn : View E O → TryTakeError → Type 0
+  IsMissedIn v (TryTakeError.Busy words) = (words.next ≡ next_in v.people) × (words.served ≡ served_in v.people) × (words.served < words.next) × (words.next < 2 ^ 63)
+  IsMissedIn v TryTakeError.TicketsEnded = next_in v.people ≡ 2 ^ 63
 
 module _ {T E O : Type 0} (history : T → List (ℕ × E)) (origin : T → O) (root : O) where
   -- What is taken has the lock's origin, begins with all that had been seen, and its entries that name the pass are those that it
@@ -133,7 +133,7 @@ module _ {T E O : Type 0} {K : Ghosts T E O} where
   IsTaken lock old new value = IsTakenIn K.history K.origin (root K.origin lock) old.seat.me.0 new.seat.me.0 value
 
   -- what the pass is told that took nothing
-  abbrev pub IsMissed : Pass T E O K → Missed → Type 0
+  abbrev pub IsMissed : Pass T E O K → TryTakeError → Type 0
   IsMissed pass missed = IsMissedIn pass.seat.me.0 missed
 
   -- the pass holds and may put this back

@@ -30,7 +30,7 @@ pub struct Busy {
 
 /// Why `try_take` gave nothing.
 #[derive(Debug, Clone, Copy, PartialEq, Eq)]
-pub enum Missed {
+pub enum TryTakeError {
     /// The lock isn't free.
     Busy(Busy),
     /// All tickets are drawn.
@@ -38,14 +38,14 @@ pub enum Missed {
 }
 
 impl<T: Recorded> TicketLock<T> {
-    ghost use Rattle.rd_lock.specs.declared.tickets.Missed.TheVariants as Missed;
+    ghost use Rattle.rd_lock.specs.declared.tickets.TryTakeError.TheVariants as TryTakeError;
 
     /// Takes the value if it is free, by one load and at most one compare-and-exchange. It waits for nobody.
     ///
     /// # Errors
     ///
     /// `TicketsEnded` if all tickets are drawn, as this pass saw it. `Busy` if a ticket is drawn and not done with.
-    pub fn try_take(&self, pass: &mut Pass<T>) -> Result<T, Missed>
+    pub fn try_take(&self, pass: &mut Pass<T>) -> Result<T, TryTakeError>
         requires own { IsPassOf self.now pass.old }
         requires out { IsOut pass.old }
         ensures pass { IsPassOf self.now pass.new }
@@ -54,21 +54,21 @@ impl<T: Recorded> TicketLock<T> {
         ensures left { OnOk result (next_seen pass.old < 2 ^ 63) }
         ensures err { IfErr result (IsMissed pass.new) }
         ensures out { OnErr result (IsOut pass.new) }
-        ensures succeeds { seats self.now ≡ 1 → IfErr result (λ missed. missed ≡ Missed.TicketsEnded) }
+        ensures succeeds { seats self.now ≡ 1 → IfErr result (λ missed. missed ≡ TryTakeError.TicketsEnded) }
     {
         let shared = &self.table.shared;
         let served = shared.load::<SawServed>(&mut pass.seat, SERVED);
         if served >= TICKETS {
-            return Err(Missed::TicketsEnded);
+            return Err(TryTakeError::TicketsEnded);
         }
         let next = shared.compare_exchange::<Tried>(&mut pass.seat, NEXT, served, served + 1);
         if next == served {
             return Ok(take_out(shared, &mut pass.seat));
         }
         if next >= TICKETS {
-            return Err(Missed::TicketsEnded);
+            return Err(TryTakeError::TicketsEnded);
         }
-        Err(Missed::Busy(Busy { next, served }))
+        Err(TryTakeError::Busy(Busy { next, served }))
     }
 
     /// Draws a ticket and waits until it is served, by loads of the word `served`.

@@ -5,7 +5,7 @@ ghost use Rattle.rd_lock.specs.Locks.{number, IsHolding, IsOut, IsPassOf};
 ghost use Rattle.rd_lock.specs.Opening.{IsNewPass};
 
 use super::Numbers;
-use rd_lock::{Busy, Missed, Pass, TicketLock};
+use rd_lock::{Busy, TryTakeError, Pass, TicketLock};
 use std::process::Abort;
 use std::sync::Wait;
 
@@ -108,7 +108,7 @@ pub(super) fn stays_busy(
         let Err(missed) = lock.try_take(pass) else {
             panic!(rt; "free")
         };
-        assert!(rt; missed == Missed::Busy(words));
+        assert!(rt; missed == TryTakeError::Busy(words));
     }
 }
 

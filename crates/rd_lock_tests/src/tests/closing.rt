@@ -4,7 +4,7 @@ ghost use Rattle.rd_lock.specs.Locks.{IsOut, IsPassOf};
 
 use super::Numbers;
 use super::calls::{has_all_in_order, last_pass, works};
-use rd_lock::{Busy, Missed, Pass, TICKETS, TicketLock};
+use rd_lock::{Busy, TryTakeError, Pass, TICKETS, TicketLock};
 use std::alloc::Global;
 use std::process::Abort;
 use std::sync::Wait;
@@ -67,8 +67,8 @@ fn keeps<R: Abort + Wait>(
         panic!(rt; "free")
     };
     match missed {
-        Missed::Busy(words) => assert!(rt; answer == Err(words)),
-        Missed::TicketsEnded => assert!(rt; matches!(answer, Err(Busy { next: TICKETS, .. }))),
+        TryTakeError::Busy(words) => assert!(rt; answer == Err(words)),
+        TryTakeError::TicketsEnded => assert!(rt; matches!(answer, Err(Busy { next: TICKETS, .. }))),
     }
 }
 

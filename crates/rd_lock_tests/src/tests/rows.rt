@@ -2,7 +2,7 @@
 
 use super::Numbers;
 use super::calls::{adds, finds, has_all_in_order, last_pass, puts, returns, stays_busy};
-use rd_lock::{Busy, Missed, TICKETS, TicketLock, TicketsEnded};
+use rd_lock::{Busy, TryTakeError, TICKETS, TicketLock, TicketsEnded};
 use std::alloc::Global;
 use std::process::Abort;
 use std::sync::Wait;
@@ -81,7 +81,7 @@ fn has_left<R: Abort + Wait>(rt: &R, alloc: Global, ticket: u64, left: u64) {
         assert!(rt; has_all_in_order(&numbers, 2, added));
         puts(rt, &lock, &mut second, numbers, 2, added);
     }
-    assert!(rt; matches!(lock.try_take(&mut first), Err(Missed::TicketsEnded)));
+    assert!(rt; matches!(lock.try_take(&mut first), Err(TryTakeError::TicketsEnded)));
     assert!(rt; matches!(lock.take(rt, &mut second), Err(TicketsEnded)));
 }
 
