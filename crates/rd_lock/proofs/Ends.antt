@@ -6,7 +6,7 @@ use mathlib.Core.List.{IsPrefix}
 use native.Mathlib.Decide.{ℕ_discrete}
 use lib.ListN.{get_elem?}
 use Rattle.atomic_table.specs.Table.{State, Final, Seen, opening}
-use Rattle.rd_lock.specs.declared.views.Person.{Person}
+use Rattle.rd_lock.specs.declared.views.PassView.{PassView}
 use Rattle.rd_lock.specs.declared.views.View.{View}
 use Rattle.rd_lock.specs.declared.views.Stage.TheVariants.{Out}
 use Rattle.rd_lock.specs.Histories.{Every, named, NamesUpTo, IsIn, AreAll}
@@ -20,7 +20,7 @@ use Rattle.rd_lock.proofs.Releases.{value_or}
 use Rattle.rd_lock.proofs.Draws.{no_ticket, idle_home}
 
 module _ (E : Type 0) {O : Type 0} where
-  later : (seats : ℕ) (root : O) (first k j n : ℕ) → k < j → Every (λ (q : Person E O). q.pass ≢ k) (newcomers seats root first j n)
+  later : (seats : ℕ) (root : O) (first k j n : ℕ) → k < j → Every (λ (q : PassView E O). q.pass ≢ k) (newcomers seats root first j n)
   later seats root first k j zero low = tt
   later seats root first k j (suc n) low = ((λ e. omega arith), later seats root first k (suc j) n (omega arith))
 
@@ -34,8 +34,8 @@ module _ (E : Type 0) {O : Type 0} where
   is_newcomer seats root first k (suc n) j low high = dite (ℕ_discrete k j) (λ e. inl e) (λ ne. inr (is_newcomer seats root first (suc k) n j (omega arith) (omega arith)))
 
 module _ {E O : Type 0} where
-  -- the person of this number
-  of_number : (ps : List (Person E O)) (k : ℕ) (P : Person E O → Type 0) → IsIn k (numbers_of ps) → Every P ps → (p : Person E O) × (p.pass ≡ k) × P p
+  -- the member of this number
+  of_number : (ps : List (PassView E O)) (k : ℕ) (P : PassView E O → Type 0) → IsIn k (numbers_of ps) → Every P ps → (p : PassView E O) × (p.pass ≡ k) × P p
   of_number [] k P h each = absurd h
   of_number (p ∷ ps) k P h each = ⊎_elim (λ (e : p.pass ≡ k). (p, e, each.0)) (λ (rest : IsIn k (numbers_of ps)). of_number ps k P rest each.1) h
 
@@ -62,7 +62,7 @@ module _ {T E O : Type 0} (lock : Lock T E O) where
 
   first_view : (x : T) (first : ℕ) (j : ℕ) (v : View E O) → get_elem? (opening_view seats root first ∷ []) j ≡ some v → Fits lock (opened x first) j v
   first_view x first zero v at = subst (Fits lock (opened x first) 0) (some-injective (opening_view seats root first) v at) (record {
-    people = newcomers_fit x first 1 seats (omega arith) (omega arith);
+    members = newcomers_fit x first 1 seats (omega arith) (omega arith);
     apart = newcomers_apart E seats root first 1 seats;
     stage = tt;
     alone = tt;
@@ -95,42 +95,42 @@ module _ {T E O : Type 0} (lock : Lock T E O) where
       (x, (values 0 (Some x) (ap (λ hs. get_elem? hs 0) (homes ∙ ap (λ (p : Place T). slot_of p) there.1)), there.3, subst (NamesUpTo seats) (sym there.2) kept.names), there.2)
 
   -- where all passes are out, no ticket is open
-  none_open : (f : Facts T E) (views : List (View E O)) (id : ℕ) (ps : List (Person E O)) → Kept lock f views → get_elem? views id ≡ some (view_of ps Out)
+  none_open : (f : Facts T E) (views : List (View E O)) (id : ℕ) (ps : List (PassView E O)) → Kept lock f views → get_elem? views id ≡ some (view_of ps Out)
       → AreAll seats (numbers_of ps) → f.served ≡ f.next
   none_open f views id ps kept at all = let order = kept.order in dite (ℕ_discrete f.served f.next) (λ e. e)
       (λ ne. let has = kept.each_ticket f.served (omega arith) (omega arith) in let k : ℕ = f.taker f.served in let theirs = kept.each_view k has.0 has.1 in
-      let who = alone_with f.served has.0.stage has.0.people has.2 theirs.alone in let suits = (subst (Every (Suits lock f k)) who.1 theirs.people).0 in
-      let mine = of_number ps (who.0).pass (Suits lock f id) (all (who.0).pass suits.numbered.0 suits.numbered.1) (kept.each_view id (view_of ps Out) at).people in
+      let who = alone_with f.served has.0.stage has.0.members has.2 theirs.alone in let suits = (subst (Every (Suits lock f k)) who.1 theirs.members).0 in
+      let mine = of_number ps (who.0).pass (Suits lock f id) (all (who.0).pass suits.numbered.0 suits.numbered.1) (kept.each_view id (view_of ps Out) at).members in
       let same : k ≡ id = sym suits.owned ∙ (ap f.owner (sym mine.1) ∙ mine.2.owned) in
       absurd (no_ticket lock views id ps k f.served at has same))
 
   -- The last state of a table: its words are in order and no one has seen greater ones, with equal words the value is in the slot, and
   -- if the seat has all passes, the words are equal.
-  pub record IsEnded (ps : List (Person E O)) (ws : List ℕ) (xs : List (Option T)) : Type 0 where
+  pub record IsEnded (ps : List (PassView E O)) (ws : List ℕ) (xs : List (Option T)) : Type 0 where
     pub served : ℕ
     pub next : ℕ
     pub words : ws ≡ served ∷ next ∷ []
     pub order : served ≤ next
     pub limit : next ≤ 2 ^ 63
-    pub newest : Every (λ (p : Person E O). (p.next ≤ next) × (p.served ≤ served)) ps
+    pub newest : Every (λ (p : PassView E O). (p.next ≤ next) × (p.served ≤ served)) ps
     pub value : served ≡ next → (x : T) × IsBack x xs × Every (IsToldOf history origin x) ps
     pub all : AreAll seats (numbers_of ps) → served ≡ next
 
-  pub ends : (id : ℕ) (v : View E O) (ws : List ℕ) (xs : List (Option T)) → v.stage ≡ Out → Final (Seen (Rule lock) id v) ws xs → IsEnded v.people ws xs
-  ends id v ws xs out (s, seen, words, _, values) = let r = seen.0 in let f = r.0 in let kept = r.3 in let at : get_elem? s.views id ≡ some (view_of v.people Out) = seen.1 ∙ (λ i. some (view_of v.people (out i))) in record {
+  pub ends : (id : ℕ) (v : View E O) (ws : List ℕ) (xs : List (Option T)) → v.stage ≡ Out → Final (Seen (Rule lock) id v) ws xs → IsEnded v.members ws xs
+  ends id v ws xs out (s, seen, words, _, values) = let r = seen.0 in let f = r.0 in let kept = r.3 in let at : get_elem? s.views id ≡ some (view_of v.members Out) = seen.1 ∙ (λ i. some (view_of v.members (out i))) in record {
     served = f.served;
     next = f.next;
     words = sym words ∙ r.1;
     order = kept.order;
     limit = kept.limit;
-    newest = every_from (Suits lock f id) (λ p. (p.next ≤ f.next) × (p.served ≤ f.served)) (λ p h. h.words) v.people (kept.each_view id (view_of v.people Out) at).people;
+    newest = every_from (Suits lock f id) (λ p. (p.next ≤ f.next) × (p.served ≤ f.served)) (λ p h. h.words) v.members (kept.each_view id (view_of v.members Out) at).members;
     value = λ same. let b = back s f xs r.2 kept values same in (
       b.0,
       b.1,
       every_from (Suits lock f id) (IsToldOf history origin b.0)
-          (λ p h. (subst (IsPrefix p.seen) (sym b.2) h.has_seen, h.has_put ∙ ap (named p.pass 0) (sym b.2))) v.people (kept.each_view id (view_of v.people Out) at).people,
+          (λ p h. (subst (IsPrefix p.seen) (sym b.2) h.has_seen, h.has_put ∙ ap (named p.pass 0) (sym b.2))) v.members (kept.each_view id (view_of v.members Out) at).members,
     );
-    all = none_open f s.views id v.people kept at;
+    all = none_open f s.views id v.members kept at;
   }
 
   -- the same where no seat is there
@@ -147,20 +147,20 @@ module _ {T E O : Type 0} (lock : Lock T E O) where
   }
 
   -- equal words give the value
-  pub has_value : (ps : List (Person E O)) (ws : List ℕ) (xs : List (Option T)) → IsEnded ps ws xs → get_or ws 0 0 ≡ get_or ws 1 0 → (x : T) × (get_elem? xs 0 ≡ some (Some x))
+  pub has_value : (ps : List (PassView E O)) (ws : List ℕ) (xs : List (Option T)) → IsEnded ps ws xs → get_or ws 0 0 ≡ get_or ws 1 0 → (x : T) × (get_elem? xs 0 ≡ some (Some x))
   has_value ps ws xs e same = let v = e.value (ap (λ l. get_or l 0 0) (sym e.words) ∙ (same ∙ ap (λ l. get_or l 1 0) e.words)) in (v.0, v.1.0)
 
   -- and tell what it is
-  pub is_left : (ps : List (Person E O)) (ws : List ℕ) (xs : List (Option T)) → IsEnded ps ws xs → (x : T) → (get_or ws 0 0 ≡ get_or ws 1 0) × (get_elem? xs 0 ≡ some (Some x)) → IsLeft history origin seats root ps x
+  pub is_left : (ps : List (PassView E O)) (ws : List ℕ) (xs : List (Option T)) → IsEnded ps ws xs → (x : T) → (get_or ws 0 0 ≡ get_or ws 1 0) × (get_elem? xs 0 ≡ some (Some x)) → IsLeft history origin seats root ps x
   is_left ps ws xs e x found = let v = e.value (ap (λ l. get_or l 0 0) (sym e.words) ∙ (found.0 ∙ ap (λ l. get_or l 1 0) e.words)) in
       let same : v.0 ≡ x = ap (value_or x) (some-injective (Some v.0) (Some x) (sym v.1.0 ∙ found.1)) in
       subst (IsLeft history origin seats root ps) same (v.1.1, v.1.2, v.2)
 
   -- with all passes the words are equal
-  pub all_equal : (ps : List (Person E O)) (ws : List ℕ) (xs : List (Option T)) → IsEnded ps ws xs → AreAll seats (numbers_of ps) → get_or ws 0 0 ≡ get_or ws 1 0
+  pub all_equal : (ps : List (PassView E O)) (ws : List ℕ) (xs : List (Option T)) → IsEnded ps ws xs → AreAll seats (numbers_of ps) → get_or ws 0 0 ≡ get_or ws 1 0
   all_equal ps ws xs e all = ap (λ l. get_or l 0 0) e.words ∙ (e.all all ∙ ap (λ l. get_or l 1 0) (sym e.words))
 
   -- no one has seen greater words than the last ones
-  pub none_newer : (ps : List (Person E O)) (ws : List ℕ) (xs : List (Option T)) → IsEnded ps ws xs → (words : Busy) → words.served ≡ get_or ws 0 0 → words.next ≡ get_or ws 1 0 → Every (KnowsUpTo words) ps
+  pub none_newer : (ps : List (PassView E O)) (ws : List ℕ) (xs : List (Option T)) → IsEnded ps ws xs → (words : Busy) → words.served ≡ get_or ws 0 0 → words.next ≡ get_or ws 1 0 → Every (KnowsUpTo words) ps
   none_newer ps ws xs e words served next = let a : e.served ≡ words.served = ap (λ l. get_or l 0 0) (sym e.words) ∙ sym served in let b : e.next ≡ words.next = ap (λ l. get_or l 1 0) (sym e.words) ∙ sym next in
-      subst (λ (w : ℕ × ℕ). Every (λ (p : Person E O). (p.next ≤ w.1) × (p.served ≤ w.0)) ps) (λ i. (a i, b i)) e.newest
+      subst (λ (w : ℕ × ℕ). Every (λ (p : PassView E O). (p.next ≤ w.1) × (p.served ≤ w.0)) ps) (λ i. (a i, b i)) e.newest

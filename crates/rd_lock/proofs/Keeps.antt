@@ -6,7 +6,7 @@ use native.Mathlib.Decide.{ℕ_discrete}
 use lib.ListN.{get_elem?}
 use Rattle.atomic_table.specs.Table.{Me, Act, Valid, homes_after, carried_after, Allows}
 use Rattle.atomic_table.proofs.Lists.{at_set, set_here, set_else}
-use Rattle.rd_lock.specs.declared.views.Person.{Person}
+use Rattle.rd_lock.specs.declared.views.PassView.{PassView}
 use Rattle.rd_lock.specs.declared.views.View.{View}
 use Rattle.rd_lock.specs.declared.views.Stage.{Stage}
 use Rattle.rd_lock.specs.declared.views.Stage.TheVariants.{Out, Waits, Holds}
@@ -17,23 +17,23 @@ use Rattle.rd_lock.proofs.Lists.{inside}
 
 module _ {E O : Type 0} where
   -- the ticket of a seat that waits or holds shows that it is alone
-  pub alone_with : (t : ℕ) (s : Stage E) (ps : List (Person E O)) → ticket s ≡ some t → IsAloneAt s ps → (p : Person E O) × (ps ≡ p ∷ [])
+  pub alone_with : (t : ℕ) (s : Stage E) (ps : List (PassView E O)) → ticket s ≡ some t → IsAloneAt s ps → (p : PassView E O) × (ps ≡ p ∷ [])
   alone_with t Out ps e h = absurd (some-ne-none t (sym e))
   alone_with t (Waits u) ps e h = h
   alone_with t (Holds u found) ps e h = h
 
-  -- people who come to know more are the same passes
-  pub same_passes : (k : Person E O → Person E O) → ((p : Person E O) → (k p).pass ≡ p.pass) → (ps : List (Person E O)) → numbers_of (map k ps) ≡ numbers_of ps
+  -- members who come to know more are the same passes
+  pub same_passes : (k : PassView E O → PassView E O) → ((p : PassView E O) → (k p).pass ≡ p.pass) → (ps : List (PassView E O)) → numbers_of (map k ps) ≡ numbers_of ps
   same_passes k same [] = refl
   same_passes k same (p ∷ ps) = λ i. same p i ∷ same_passes k same ps i
 
   -- a pass is where it was after a change of a seat's view that keeps its passes
-  pass_stays : (views : List (View E O)) (id : ℕ) (v w : View E O) → get_elem? views id ≡ some v → numbers_of w.people ≡ numbers_of v.people → (k pass : ℕ) → HasPass views k pass → HasPass (set views id w) k pass
+  pass_stays : (views : List (View E O)) (id : ℕ) (v w : View E O) → get_elem? views id ≡ some v → numbers_of w.members ≡ numbers_of v.members → (k pass : ℕ) → HasPass views k pass → HasPass (set views id w) k pass
   pass_stays views id v w at same k pass (u, here, has) = dite (ℕ_discrete k id)
       (λ e. let is : u ≡ v = some-injective u v (sym here ∙ (ap (λ (j : ℕ). get_elem? views j) e ∙ at)) in (
         w,
         subst (λ (j : ℕ). get_elem? (set views id w) j ≡ some w) (sym e) (set_here views id w (inside views id v at)),
-        subst (λ (ns : List ℕ). IsIn pass ns) (ap (λ (x : View E O). numbers_of x.people) is ∙ sym same) has,
+        subst (λ (ns : List ℕ). IsIn pass ns) (ap (λ (x : View E O). numbers_of x.members) is ∙ sym same) has,
       ))
       (λ ne. (u, set_else views id k w ne ∙ here, has))
 
@@ -42,7 +42,7 @@ module _ {T E O : Type 0} (lock : Lock T E O) where
 
   -- what a step owes: its own view, of the same passes, that the other views still fit, the tickets, and where the value is
   pub moved : (f g : Facts T E) (views : List (View E O)) (id : ℕ) (v w : View E O) → Kept lock f views → get_elem? views id ≡ some v → g.served ≤ g.next → g.next ≤ 2 ^ 63 → NamesUpTo seats g.log → Fits lock g id w
-      → g.owner ≡ f.owner → numbers_of w.people ≡ numbers_of v.people
+      → g.owner ≡ f.owner → numbers_of w.members ≡ numbers_of v.members
       → ((j : ℕ) (u : View E O) → j ≢ id → get_elem? views j ≡ some u → Fits lock f j u → Fits lock g j u)
       → ((t : ℕ) → g.served ≤ t → t < g.next → ((g.taker t ≡ id) × (ticket w.stage ≡ some t)) ⊎ ((g.taker t ≢ id) × HasTicket views (g.taker t) t))
       → Placed lock g (set views id w) g.place → Kept lock g (set views id w)
@@ -76,7 +76,7 @@ module _ {T E O : Type 0} (lock : Lock T E O) where
       (λ ne. (u, set_else views id k w ne ∙ here, holds))
 
   -- a step after which only this seat knows more
-  pub knows_more : (f : Facts T E) (views : List (View E O)) (id : ℕ) (v w : View E O) → Kept lock f views → get_elem? views id ≡ some v → w.stage ≡ v.stage → numbers_of w.people ≡ numbers_of v.people → Fits lock f id w → Kept lock f (set views id w)
+  pub knows_more : (f : Facts T E) (views : List (View E O)) (id : ℕ) (v w : View E O) → Kept lock f views → get_elem? views id ≡ some v → w.stage ≡ v.stage → numbers_of w.members ≡ numbers_of v.members → Fits lock f id w → Kept lock f (set views id w)
   knows_more f views id v w kept at same passes fits = moved f f views id v w kept at kept.order kept.limit kept.names fits refl passes (λ j u ne here h. h)
       (λ t low high. ticket_stays f views id v w at same (f.taker t) t (kept.each_ticket t low high)) (place_stays f views id v w f.place at same kept.is_placed)
 

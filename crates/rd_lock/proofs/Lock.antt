@@ -1,10 +1,10 @@
 -- What stays of a lock as one value, and the rule's facts over it.
 use Rattle.std.proofs.Common.{ℕ, List, Option}
 use Rattle.atomic_table.specs.Table.{State}
-use Rattle.rd_lock.specs.declared.views.Person.{Person}
+use Rattle.rd_lock.specs.declared.views.PassView.{PassView}
 use Rattle.rd_lock.specs.declared.views.View.{View}
 use Rattle.rd_lock.specs.declared.views.Stage.{Stage}
-use Rattle.rd_lock.specs.Rule.{Place, Facts, PersonFits, StageFits, ViewFits, IsPlaced, IsKept, LockRule}
+use Rattle.rd_lock.specs.Rule.{Place, Facts, MemberFits, StageFits, ViewFits, IsPlaced, IsKept, LockRule}
 
 -- how what is guarded is read, the number of seats, and the origin of what the lock was opened with
 pub record Lock (T E O : Type 0) : Type 0 where
@@ -17,8 +17,8 @@ module _ {T E O : Type 0} where
   abbrev pub lock_of : (T → List (ℕ × E)) → (T → O) → ℕ → O → Lock T E O
   lock_of history origin seats root = record { history = history; origin = origin; seats = seats; root = root }
 
-  abbrev pub Suits : Lock T E O → Facts T E → ℕ → Person E O → Type 0
-  Suits lock = PersonFits lock.history lock.origin lock.seats lock.root
+  abbrev pub Suits : Lock T E O → Facts T E → ℕ → PassView E O → Type 0
+  Suits lock = MemberFits lock.history lock.origin lock.seats lock.root
 
   abbrev pub StageSuits : Lock T E O → Facts T E → ℕ → Stage E → Type 0
   StageSuits lock = StageFits lock.history lock.origin lock.seats lock.root

@@ -3,7 +3,7 @@ use Rattle.std.proofs.Common.{◌≡◌, ◌≢◌, ℕ, ◌^◌, ◌≤◌, Lis
 use mathlib.Core.Option.{some}
 use lib.ListN.{get_elem?}
 use Rattle.atomic_table.specs.Table.{Me, keeps, Allows}
-use Rattle.rd_lock.specs.declared.views.Person.{Person}
+use Rattle.rd_lock.specs.declared.views.PassView.{PassView}
 use Rattle.rd_lock.specs.declared.views.View.{View}
 use Rattle.rd_lock.specs.declared.views.Stage.{Stage}
 use Rattle.rd_lock.specs.declared.views.Stage.TheVariants.{Out, Waits, Holds}
@@ -14,7 +14,7 @@ use Rattle.rd_lock.proofs.Lists.{every_from, every_map, pairwise_from, pairwise_
 use Rattle.rd_lock.proofs.Keeps.{same_passes, knows_more, allowed}
 
 module _ {E O : Type 0} where
-  alone_map : (k : Person E O → Person E O) (s : Stage E) (ps : List (Person E O)) → IsAloneAt s ps → IsAloneAt s (map k ps)
+  alone_map : (k : PassView E O → PassView E O) (s : Stage E) (ps : List (PassView E O)) → IsAloneAt s ps → IsAloneAt s (map k ps)
   alone_map k Out ps h = tt
   alone_map k (Waits t) ps h = (k h.0, ap (map k) h.1)
   alone_map k (Holds t found) ps h = (k h.0, ap (map k) h.1)
@@ -22,31 +22,31 @@ module _ {E O : Type 0} where
 module _ {T E O : Type 0} (lock : Lock T E O) where
   open lock use {seats}
 
-  -- a view each of whose people knows more
-  pub maps_fit : (f g : Facts T E) (id : ℕ) (k : Person E O → Person E O) (v : View E O) (s : Stage E) → ((p : Person E O) → (k p).pass ≡ p.pass) → ((p : Person E O) → Suits lock f id p → Suits lock g id (k p))
-      → StageSuits lock g id s → IsAloneAt s v.people → Fits lock f id v → Fits lock g id (view_of (map k v.people) s)
+  -- a view each of whose members knows more
+  pub maps_fit : (f g : Facts T E) (id : ℕ) (k : PassView E O → PassView E O) (v : View E O) (s : Stage E) → ((p : PassView E O) → (k p).pass ≡ p.pass) → ((p : PassView E O) → Suits lock f id p → Suits lock g id (k p))
+      → StageSuits lock g id s → IsAloneAt s v.members → Fits lock f id v → Fits lock g id (view_of (map k v.members) s)
   maps_fit f g id k v s same suits stage alone fits = record {
-    people = every_map k (Suits lock g id) v.people (every_from (Suits lock f id) (λ p. Suits lock g id (k p)) suits v.people fits.people);
-    apart = pairwise_map k (λ p q. q.pass ≢ p.pass) v.people (pairwise_from (λ p q. q.pass ≢ p.pass) (λ p q. (k q).pass ≢ (k p).pass) (λ p q ne e. ne (sym (same q) ∙ (e ∙ same p))) v.people fits.apart);
+    members = every_map k (Suits lock g id) v.members (every_from (Suits lock f id) (λ p. Suits lock g id (k p)) suits v.members fits.members);
+    apart = pairwise_map k (λ p q. q.pass ≢ p.pass) v.members (pairwise_from (λ p q. q.pass ≢ p.pass) (λ p q. (k q).pass ≢ (k p).pass) (λ p q ne e. ne (sym (same q) ∙ (e ∙ same p))) v.members fits.apart);
     stage = stage;
-    alone = alone_map k s v.people alone;
+    alone = alone_map k s v.members alone;
   }
 
-  -- another seat's view, whose people and stage still fit
-  pub others_fit : (f g : Facts T E) (j : ℕ) (u : View E O) → ((p : Person E O) → Suits lock f j p → Suits lock g j p) → ((s : Stage E) → StageSuits lock f j s → StageSuits lock g j s)
+  -- another seat's view, whose members and stage still fit
+  pub others_fit : (f g : Facts T E) (j : ℕ) (u : View E O) → ((p : PassView E O) → Suits lock f j p → Suits lock g j p) → ((s : Stage E) → StageSuits lock f j s → StageSuits lock g j s)
       → Fits lock f j u → Fits lock g j u
   others_fit f g j u suits stays h = record {
-    people = every_from (Suits lock f j) (Suits lock g j) suits u.people h.people;
+    members = every_from (Suits lock f j) (Suits lock g j) suits u.members h.members;
     apart = h.apart;
     stage = stays u.stage h.stage;
     alone = h.alone;
   }
 
   -- where there is one seat, there is one pass
-  pub one_seat : (f : Facts T E) (i j : ℕ) (p q : Person E O) → seats ≡ 1 → Suits lock f i p → Suits lock f j q → j ≡ i
+  pub one_seat : (f : Facts T E) (i j : ℕ) (p q : PassView E O) → seats ≡ 1 → Suits lock f i p → Suits lock f j q → j ≡ i
   one_seat f i j p q one a b = let x = a.numbered in let y = b.numbered in let same : q.pass ≡ p.pass = omega arith in sym b.owned ∙ (ap f.owner same ∙ a.owned)
 
-  next_suits : (f : Facts T E) (id : ℕ) (p : Person E O) → Suits lock f id p → Suits lock f id (knows_next f.next p)
+  next_suits : (f : Facts T E) (id : ℕ) (p : PassView E O) → Suits lock f id p → Suits lock f id (knows_next f.next p)
   next_suits f id p h = record {
     owned = h.owned;
     numbered = h.numbered;
@@ -57,7 +57,7 @@ module _ {T E O : Type 0} (lock : Lock T E O) where
     only = λ one. (refl, (h.only one).1);
   }
 
-  pub served_suits : (f : Facts T E) (id : ℕ) (p : Person E O) → f.served ≤ f.next → Suits lock f id p → Suits lock f id (knows_served f.served p)
+  pub served_suits : (f : Facts T E) (id : ℕ) (p : PassView E O) → f.served ≤ f.next → Suits lock f id p → Suits lock f id (knows_served f.served p)
   served_suits f id p order h = let least = h.words.0 in record {
     owned = h.owned;
     numbered = h.numbered;
@@ -69,21 +69,21 @@ module _ {T E O : Type 0} (lock : Lock T E O) where
   }
 
   pub newest_next : (f : Facts T E) (views : List (View E O)) (id : ℕ) (v : View E O) → Kept lock f views → Fits lock f id v → IsNewestNext f.next v
-  newest_next f views id v kept fits = (kept.limit, every_from (Suits lock f id) (λ p. p.next ≤ f.next) (λ p h. h.words.0) v.people fits.people)
+  newest_next f views id v kept fits = (kept.limit, every_from (Suits lock f id) (λ p. p.next ≤ f.next) (λ p h. h.words.0) v.members fits.members)
 
   pub newest_served : (f : Facts T E) (views : List (View E O)) (id : ℕ) (v : View E O) → Kept lock f views → Fits lock f id v → IsNewestServed f.served v
-  newest_served f views id v kept fits = let a = kept.limit in let b = kept.order in (omega arith, every_from (Suits lock f id) (λ p. (p.served ≤ f.served) × (p.next ≤ 2 ^ 63)) (λ p h. let low = h.words.0 in (h.words.1, omega arith)) v.people fits.people)
+  newest_served f views id v kept fits = let a = kept.limit in let b = kept.order in (omega arith, every_from (Suits lock f id) (λ p. (p.served ≤ f.served) × (p.next ≤ 2 ^ 63)) (λ p h. let low = h.words.0 in (h.words.1, omega arith)) v.members fits.members)
 
   -- the view after a load of next
   pub next_kept : (f : Facts T E) (views : List (View E O)) (id : ℕ) (v : View E O) → Kept lock f views → get_elem? views id ≡ some v → Kept lock f (set views id (after_next f.next v.stage v))
   next_kept f views id v kept at = let fits = kept.each_view id v at in
-      knows_more lock f views id v (after_next f.next v.stage v) kept at refl (same_passes (knows_next f.next) (λ p. refl) v.people)
+      knows_more lock f views id v (after_next f.next v.stage v) kept at refl (same_passes (knows_next f.next) (λ p. refl) v.members)
       (maps_fit f f id (knows_next f.next) v v.stage (λ p. refl) (next_suits f id) fits.stage fits.alone fits)
 
   -- the view after a load of served
   pub served_kept : (f : Facts T E) (views : List (View E O)) (id : ℕ) (v : View E O) → Kept lock f views → get_elem? views id ≡ some v → Kept lock f (set views id (after_served f.served v.stage v))
   served_kept f views id v kept at = let fits = kept.each_view id v at in
-      knows_more lock f views id v (after_served f.served v.stage v) kept at refl (same_passes (knows_served f.served) (λ p. refl) v.people)
+      knows_more lock f views id v (after_served f.served v.stage v) kept at refl (same_passes (knows_served f.served) (λ p. refl) v.members)
       (maps_fit f f id (knows_served f.served) v v.stage (λ p. refl) (λ p. served_suits f id p kept.order) fits.stage fits.alone fits)
 
   pub looks_next : (slots id : ℕ) (me : Me (Option T) (View E O)) → Allows (Rule lock) slots id me 1 (λ n. n) (saw_next me)
@@ -103,6 +103,6 @@ module _ {T E O : Type 0} (lock : Lock T E O) where
         (
           newest_served f views id me.0 kept fits,
           refl,
-          pairwise_all (Suits lock f id) AreInLine (λ p q a b. prefix_line p.seen q.seen f.log a.has_seen b.has_seen) me.0.people fits.people,
+          pairwise_all (Suits lock f id) AreInLine (λ p q a b. prefix_line p.seen q.seen f.log a.has_seen b.has_seen) me.0.members fits.members,
         ),
       ))

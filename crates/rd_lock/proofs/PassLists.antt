@@ -1,10 +1,10 @@
--- Lists of passes, and the people of their seats.
+-- Lists of passes, and the members of their seats.
 use Rattle.std.proofs.Common.{◌≡◌, ℕ, zero, suc, ◌+◌, ◌-◌, ◌<◌, ◌≤◌, List, [], ◌∷◌, ◌++◌, map, length, sym, refl, ap, ◌∙◌, subst, arith, Result, Ok, Err, IfOk, IfErr, IsOk, length-append, rules, append_assoc}
 use Rattle.std.proofs.lemmas.List.{append-nil}
 use mathlib.Core.List.{IsPrefix}
 use Rattle.atomic_table.specs.Seated.{TableId}
 use Rattle.atomic_table.specs.Table.{Joins, Splits}
-use Rattle.rd_lock.specs.declared.views.Person.{Person}
+use Rattle.rd_lock.specs.declared.views.PassView.{PassView}
 use Rattle.rd_lock.specs.declared.views.View.{View}
 use Rattle.rd_lock.specs.declared.views.Recorded.{Ghosts}
 use Rattle.rd_lock.specs.declared.views.Stage.TheVariants.{Out}
@@ -12,9 +12,9 @@ use Rattle.rd_lock.specs.declared.passes.Pass.{Pass}
 use Rattle.rd_lock.specs.declared.tickets.Busy.{Busy}
 use Rattle.rd_lock.specs.declared.locks.TicketLock.{TicketLock}
 use Rattle.rd_lock.specs.Histories.{Every, named, numbers}
-use Rattle.rd_lock.specs.Rule.{number_in, view_of, newcomer, newcomers, first_of_people, other_people}
+use Rattle.rd_lock.specs.Rule.{number_in, view_of, newcomer, newcomers, first_of_members, other_members}
 use Rattle.rd_lock.specs.Locks.{seen_in, own_in, next_in, served_in, IsToldIn, number, seats, root}
-use Rattle.rd_lock.specs.Opening.{people_of, IsSeatOf, IsNewPass, IsToldOf, KnowsUpTo, HasSeenUpTo, Tells}
+use Rattle.rd_lock.specs.Opening.{members_of, IsSeatOf, IsNewPass, IsToldOf, KnowsUpTo, HasSeenUpTo, Tells}
 use Rattle.rd_lock.proofs.Lock.{Lock, Rule}
 use Rattle.rd_lock.proofs.Calls.{one_of}
 use Rattle.rd_lock.proofs.Seats.{joins, splits}
@@ -50,81 +50,81 @@ module _ {A B : Type 0} where
   is_ok_unless P (Err e) f h = absurd (f e h)
 
 module _ {E O : Type 0} where
-  pub parts : (ps : List (Person E O)) → first_of_people ps ++ other_people ps ≡ ps
+  pub parts : (ps : List (PassView E O)) → first_of_members ps ++ other_members ps ≡ ps
   parts [] = refl
   parts (p ∷ ps) = refl
 
-  pub one_first : (ps : List (Person E O)) → 0 < length ps → length (first_of_people ps) ≡ 1
+  pub one_first : (ps : List (PassView E O)) → 0 < length ps → length (first_of_members ps) ≡ 1
   one_first [] h = absurd (omega arith)
   one_first (p ∷ ps) h = refl
 
 module _ (E : Type 0) {O : Type 0} where
-  pub newcomers_count : (count : ℕ) (origin : O) (first k n : ℕ) → length {A = Person E O} (newcomers count origin first k n) ≡ n
+  pub newcomers_count : (count : ℕ) (origin : O) (first k n : ℕ) → length {A = PassView E O} (newcomers count origin first k n) ≡ n
   newcomers_count count origin first k zero = refl
   newcomers_count count origin first k (suc n) = ap suc (newcomers_count count origin first (suc k) n)
 
-  pub newcomers_numbers : (count : ℕ) (origin : O) (first k n : ℕ) → map (λ (p : Person E O). p.pass) (newcomers count origin first k n) ≡ numbers k n
+  pub newcomers_numbers : (count : ℕ) (origin : O) (first k n : ℕ) → map (λ (p : PassView E O). p.pass) (newcomers count origin first k n) ≡ numbers k n
   newcomers_numbers count origin first k zero = refl
   newcomers_numbers count origin first k (suc n) = ap (λ l. k ∷ l) (newcomers_numbers count origin first (suc k) n)
 
   -- who is left when some are gone is the next in order
-  pub next_number : (count : ℕ) (origin : O) (first k n : ℕ) (gone left : List (Person E O)) → gone ++ left ≡ newcomers count origin first k n → length gone < n → number_in (first_of_people left) ≡ length gone + k
+  pub next_number : (count : ℕ) (origin : O) (first k n : ℕ) (gone left : List (PassView E O)) → gone ++ left ≡ newcomers count origin first k n → length gone < n → number_in (first_of_members left) ≡ length gone + k
   next_number count origin first k zero gone left is less = absurd (omega arith)
   next_number count origin first k (suc n) [] [] is less = cc
-  next_number count origin first k (suc n) [] (p ∷ ps) is less = let e : p ∷ [] ≡ newcomer count origin first k ∷ [] = ap first_of_people is in let same : p.pass ≡ k = ap number_in e in omega arith
-  next_number count origin first k (suc n) (q ∷ gone) left is less = let r = next_number count origin first (suc k) n gone left (ap other_people is) (omega arith) in omega arith
+  next_number count origin first k (suc n) [] (p ∷ ps) is less = let e : p ∷ [] ≡ newcomer count origin first k ∷ [] = ap first_of_members is in let same : p.pass ≡ k = ap number_in e in omega arith
+  next_number count origin first k (suc n) (q ∷ gone) left is less = let r = next_number count origin first (suc k) n gone left (ap other_members is) (omega arith) in omega arith
 
 module _ {T E O : Type 0} (lock : Lock T E O) where
   open lock use {history, origin, seats, root}
 
-  pub joins_it : (id other : ℕ) (v w : View E O) → v.stage ≡ Out → w.stage ≡ Out → Joins (Rule lock) id v other w (view_of (w.people ++ v.people) Out) (view_of [] Out)
+  pub joins_it : (id other : ℕ) (v w : View E O) → v.stage ≡ Out → w.stage ≡ Out → Joins (Rule lock) id v other w (view_of (w.members ++ v.members) Out) (view_of [] Out)
   joins_it id other v w out out' =
-      subst (λ (x : View E O). Joins (Rule lock) id x other w (view_of (w.people ++ v.people) Out) (view_of [] Out)) (λ i. view_of v.people (sym out i))
-      (subst (λ (x : View E O). Joins (Rule lock) id (view_of v.people Out) other x (view_of (w.people ++ v.people) Out) (view_of [] Out)) (λ i. view_of w.people (sym out' i))
-      (joins lock id other v.people w.people))
+      subst (λ (x : View E O). Joins (Rule lock) id x other w (view_of (w.members ++ v.members) Out) (view_of [] Out)) (λ i. view_of v.members (sym out i))
+      (subst (λ (x : View E O). Joins (Rule lock) id (view_of v.members Out) other x (view_of (w.members ++ v.members) Out) (view_of [] Out)) (λ i. view_of w.members (sym out' i))
+      (joins lock id other v.members w.members))
 
-  pub splits_it : (id : ℕ) (v : View E O) → v.stage ≡ Out → 0 < length v.people → Splits (Rule lock) id v (view_of (other_people v.people) Out) (view_of (first_of_people v.people) Out)
-  splits_it id v out some_people = let h = some_first v.people some_people in
-      subst (λ (x : View E O). Splits (Rule lock) id x (view_of (other_people x.people) Out) (view_of (first_of_people x.people) Out)) (λ i. view_of (sym h.2 i) (sym out i))
+  pub splits_it : (id : ℕ) (v : View E O) → v.stage ≡ Out → 0 < length v.members → Splits (Rule lock) id v (view_of (other_members v.members) Out) (view_of (first_of_members v.members) Out)
+  splits_it id v out some_members = let h = some_first v.members some_members in
+      subst (λ (x : View E O). Splits (Rule lock) id x (view_of (other_members x.members) Out) (view_of (first_of_members x.members) Out)) (λ i. view_of (sym h.2 i) (sym out i))
       (splits lock id h.0 h.1)
 
 module _ {T E O : Type 0} {K : Ghosts T E O} where
-  pub people_append : (xs ys : List (Pass T E O K)) → people_of (xs ++ ys) ≡ people_of xs ++ people_of ys
-  people_append [] ys = refl
-  people_append (x ∷ xs) ys = ap (λ ps. x.seat.me.0.people ++ ps) (people_append xs ys) ∙ sym (append_assoc x.seat.me.0.people (people_of xs) (people_of ys))
+  pub members_append : (xs ys : List (Pass T E O K)) → members_of (xs ++ ys) ≡ members_of xs ++ members_of ys
+  members_append [] ys = refl
+  members_append (x ∷ xs) ys = ap (λ ps. x.seat.me.0.members ++ ps) (members_append xs ys) ∙ sym (append_assoc x.seat.me.0.members (members_of xs) (members_of ys))
 
-  pub people_count : (xs : List (Pass T E O K)) → length (people_of xs) ≡ length xs
-  people_count [] = refl
-  people_count (x ∷ xs) = let one = x.alone in let rest = people_count xs in length-append x.seat.me.0.people (people_of xs) ∙ omega arith
+  pub members_count : (xs : List (Pass T E O K)) → length (members_of xs) ≡ length xs
+  members_count [] = refl
+  members_count (x ∷ xs) = let one = x.alone in let rest = members_count xs in length-append x.seat.me.0.members (members_of xs) ∙ omega arith
 
-  -- the numbers of the people are those of the passes
-  pub same_numbers : (xs : List (Pass T E O K)) → map (λ (p : Person E O). p.pass) (people_of xs) ≡ map number xs
+  -- the numbers of the members are those of the passes
+  pub same_numbers : (xs : List (Pass T E O K)) → map (λ (p : PassView E O). p.pass) (members_of xs) ≡ map number xs
   same_numbers [] = refl
-  same_numbers (x ∷ xs) = let p = one_of x.seat.me.0.people x.alone in
-      ap (λ ps. map (λ (p : Person E O). p.pass) (ps ++ people_of xs)) p.1 ∙ (λ i. sym (ap number_in p.1) i ∷ same_numbers xs i)
+  same_numbers (x ∷ xs) = let p = one_of x.seat.me.0.members x.alone in
+      ap (λ ps. map (λ (p : PassView E O). p.pass) (ps ++ members_of xs)) p.1 ∙ (λ i. sym (ap number_in p.1) i ∷ same_numbers xs i)
 
-  -- what holds of the people holds of the passes
-  of_each : (P : Person E O → Type 0) (Q : List (Person E O) → Type 0) → ((p : Person E O) → P p → Q (p ∷ [])) → (xs : List (Pass T E O K)) → Every P (people_of xs) → Every (λ (x : Pass T E O K). Q x.seat.me.0.people) xs
+  -- what holds of the members holds of the passes
+  of_each : (P : PassView E O → Type 0) (Q : List (PassView E O) → Type 0) → ((p : PassView E O) → P p → Q (p ∷ [])) → (xs : List (Pass T E O K)) → Every P (members_of xs) → Every (λ (x : Pass T E O K). Q x.seat.me.0.members) xs
   of_each P Q f [] h = tt
-  of_each P Q f (x ∷ xs) h = let p = one_of x.seat.me.0.people x.alone in let both : Every P (p.0 ∷ people_of xs) = subst (λ ps. Every P (ps ++ people_of xs)) p.1 h in
+  of_each P Q f (x ∷ xs) h = let p = one_of x.seat.me.0.members x.alone in let both : Every P (p.0 ∷ members_of xs) = subst (λ ps. Every P (ps ++ members_of xs)) p.1 h in
       (subst Q (sym p.1) (f p.0 both.0), of_each P Q f xs both.1)
 
-  pub tells_each : (value : T) (xs : List (Pass T E O K)) → Every (IsToldOf K.history K.origin value) (people_of xs) → Every (Tells {K = K} value) xs
+  pub tells_each : (value : T) (xs : List (Pass T E O K)) → Every (IsToldOf K.history K.origin value) (members_of xs) → Every (Tells {K = K} value) xs
   tells_each value xs h = of_each (IsToldOf K.history K.origin value) (λ ps. IsPrefix (seen_in ps) (K.history value) × (own_in ps ≡ named (number_in ps) 0 (K.history value))) (λ p t. t) xs h
 
-  pub seen_each : (words : Busy) (xs : List (Pass T E O K)) → Every (KnowsUpTo words) (people_of xs) → Every (HasSeenUpTo {K = K} words) xs
+  pub seen_each : (words : Busy) (xs : List (Pass T E O K)) → Every (KnowsUpTo words) (members_of xs) → Every (HasSeenUpTo {K = K} words) xs
   seen_each words xs h = of_each (KnowsUpTo words) (λ ps. (next_in ps ≤ words.next) × (served_in ps ≤ words.served)) (λ p t. t) xs h
 
   -- the passes of a lock that has just been opened
-  pub are_new : (lock : TicketLock T E O) (first k n : ℕ) (xs : List (Pass T E O K)) → people_of xs ≡ newcomers (seats lock) (root K.origin lock) first k n → Every (IsSeatOf lock.table.shared.table_id) xs
+  pub are_new : (lock : TicketLock T E O) (first k n : ℕ) (xs : List (Pass T E O K)) → members_of xs ≡ newcomers (seats lock) (root K.origin lock) first k n → Every (IsSeatOf lock.table.shared.table_id) xs
       → Every (IsNewPass lock first) xs × (map number xs ≡ numbers k n)
   are_new lock first k zero [] is own = (tt, refl)
   are_new lock first k (suc n) [] is own = cc
-  are_new lock first k zero (x ∷ xs) is own = let one = x.alone in let e = ap length is in let c = length-append x.seat.me.0.people (people_of xs) in absurd (omega arith)
-  are_new lock first k (suc n) (x ∷ xs) is own = let p = one_of x.seat.me.0.people x.alone in let who : Person E O = newcomer (seats lock) (root K.origin lock) first k in
-      let both : p.0 ∷ people_of xs ≡ who ∷ newcomers (seats lock) (root K.origin lock) first (suc k) n = ap (λ ps. ps ++ people_of xs) (sym p.1) ∙ is in
-      let same : p.0 ≡ who = cc in let rest : people_of xs ≡ newcomers (seats lock) (root K.origin lock) first (suc k) n = ap other_people both in
-      let mine : x.seat.me.0.people ≡ who ∷ [] = p.1 ∙ ap (λ q. q ∷ []) same in let r = are_new lock first (suc k) n xs rest own.1 in (
+  are_new lock first k zero (x ∷ xs) is own = let one = x.alone in let e = ap length is in let c = length-append x.seat.me.0.members (members_of xs) in absurd (omega arith)
+  are_new lock first k (suc n) (x ∷ xs) is own = let p = one_of x.seat.me.0.members x.alone in let who : PassView E O = newcomer (seats lock) (root K.origin lock) first k in
+      let both : p.0 ∷ members_of xs ≡ who ∷ newcomers (seats lock) (root K.origin lock) first (suc k) n = ap (λ ps. ps ++ members_of xs) (sym p.1) ∙ is in
+      let same : p.0 ≡ who = cc in let rest : members_of xs ≡ newcomers (seats lock) (root K.origin lock) first (suc k) n = ap other_members both in
+      let mine : x.seat.me.0.members ≡ who ∷ [] = p.1 ∙ ap (λ q. q ∷ []) same in let r = are_new lock first (suc k) n xs rest own.1 in (
         (
           record {
             is_pass = record { table = own.0.0; told = subst (IsToldIn (seats lock) (root K.origin lock)) (sym mine) (refl, refl) };
@@ -139,37 +139,37 @@ module _ {T E O : Type 0} {K : Ghosts T E O} where
         (λ i. ap number_in mine i ∷ r.1 i),
       )
 
-  -- while fewer passes than seats are handed out, the first seat has people
-  pub some_left : (count : ℕ) (top : O) (first n : ℕ) (xs : List (Pass T E O K)) (ps : List (Person E O)) → people_of xs ++ ps ≡ newcomers count top first 1 n → length xs < n → 0 < length ps
-  some_left count top first n xs ps is less = let a = people_count xs in let b = length-append (people_of xs) ps in let e = ap length is in let c = newcomers_count E count top first 1 n in omega arith
+  -- while fewer passes than seats are handed out, the first seat has members
+  pub some_left : (count : ℕ) (top : O) (first n : ℕ) (xs : List (Pass T E O K)) (ps : List (PassView E O)) → members_of xs ++ ps ≡ newcomers count top first 1 n → length xs < n → 0 < length ps
+  some_left count top first n xs ps is less = let a = members_count xs in let b = length-append (members_of xs) ps in let e = ap length is in let c = newcomers_count E count top first 1 n in omega arith
 
   -- the next pass is the one after those that are handed out
-  pub next_out : (count : ℕ) (top : O) (first n : ℕ) (xs : List (Pass T E O K)) (ps : List (Person E O)) → people_of xs ++ ps ≡ newcomers count top first 1 n → length xs < n → number_in (first_of_people ps) ≡ length xs + 1
-  next_out count top first n xs ps is less = let a = people_count xs in let r = next_number E count top first 1 n (people_of xs) ps is (omega arith) in omega arith
+  pub next_out : (count : ℕ) (top : O) (first n : ℕ) (xs : List (Pass T E O K)) (ps : List (PassView E O)) → members_of xs ++ ps ≡ newcomers count top first 1 n → length xs < n → number_in (first_of_members ps) ≡ length xs + 1
+  next_out count top first n xs ps is less = let a = members_count xs in let r = next_number E count top first 1 n (members_of xs) ps is (omega arith) in omega arith
 
   -- and then none
-  pub all_out : (count : ℕ) (top : O) (first n : ℕ) (xs : List (Pass T E O K)) (ps : List (Person E O)) → people_of xs ++ ps ≡ newcomers count top first 1 n → length xs ≡ n → people_of xs ≡ newcomers count top first 1 n
-  all_out count top first n xs ps is same = let a = people_count xs in let b = length-append (people_of xs) ps in let e = ap length is in let c = newcomers_count E count top first 1 n in
-      let zero_left : length ps ≡ 0 = omega arith in sym (append-nil (people_of xs)) ∙ (ap (λ qs. people_of xs ++ qs) (sym (none_left ps zero_left)) ∙ is)
+  pub all_out : (count : ℕ) (top : O) (first n : ℕ) (xs : List (Pass T E O K)) (ps : List (PassView E O)) → members_of xs ++ ps ≡ newcomers count top first 1 n → length xs ≡ n → members_of xs ≡ newcomers count top first 1 n
+  all_out count top first n xs ps is same = let a = members_count xs in let b = length-append (members_of xs) ps in let e = ap length is in let c = newcomers_count E count top first 1 n in
+      let zero_left : length ps ≡ 0 = omega arith in sym (append-nil (members_of xs)) ∙ (ap (λ qs. members_of xs ++ qs) (sym (none_left ps zero_left)) ∙ is)
 
   -- one more pass is handed out
-  pub handed : (xs : List (Pass T E O K)) (x : Pass T E O K) (ps all : List (Person E O)) → people_of xs ++ ps ≡ all → x.seat.me.0.people ≡ first_of_people ps → people_of (xs ++ x ∷ []) ++ other_people ps ≡ all
-  handed xs x ps all is mine = ap (λ l. l ++ other_people ps) (people_append xs (x ∷ []) ∙ ap (λ l. people_of xs ++ l) (append-nil x.seat.me.0.people ∙ mine))
-      ∙ (append_assoc (people_of xs) (first_of_people ps) (other_people ps) ∙ (ap (λ l. people_of xs ++ l) (parts ps) ∙ is))
+  pub handed : (xs : List (Pass T E O K)) (x : Pass T E O K) (ps all : List (PassView E O)) → members_of xs ++ ps ≡ all → x.seat.me.0.members ≡ first_of_members ps → members_of (xs ++ x ∷ []) ++ other_members ps ≡ all
+  handed xs x ps all is mine = ap (λ l. l ++ other_members ps) (members_append xs (x ∷ []) ∙ ap (λ l. members_of xs ++ l) (append-nil x.seat.me.0.members ∙ mine))
+      ∙ (append_assoc (members_of xs) (first_of_members ps) (other_members ps) ∙ (ap (λ l. members_of xs ++ l) (parts ps) ∙ is))
 
   -- the last pass is taken from the list
-  pub popped : (old new : List (Pass T E O K)) (x : Pass T E O K) (ps all : List (Person E O)) → old ≡ new ++ x ∷ [] → people_of old ++ ps ≡ all → people_of new ++ (x.seat.me.0.people ++ ps) ≡ all
-  popped old new x ps all is h = sym (append_assoc (people_of new) x.seat.me.0.people ps)
-      ∙ (ap (λ l. l ++ ps) (sym (people_append new (x ∷ []) ∙ ap (λ l. people_of new ++ l) (append-nil x.seat.me.0.people)) ∙ ap people_of (sym is)) ∙ h)
+  pub popped : (old new : List (Pass T E O K)) (x : Pass T E O K) (ps all : List (PassView E O)) → old ≡ new ++ x ∷ [] → members_of old ++ ps ≡ all → members_of new ++ (x.seat.me.0.members ++ ps) ≡ all
+  popped old new x ps all is h = sym (append_assoc (members_of new) x.seat.me.0.members ps)
+      ∙ (ap (λ l. l ++ ps) (sym (members_append new (x ∷ []) ∙ ap (λ l. members_of new ++ l) (append-nil x.seat.me.0.members)) ∙ ap members_of (sym is)) ∙ h)
 
   -- the same, by the numbers that the lock was opened with
   pub opened_new : (lock : TicketLock T E O) (table : TableId) (count : ℕ) (top : O) (first given n : ℕ) (xs : List (Pass T E O K)) → seats lock ≡ count → root K.origin lock ≡ top → given ≡ first
-      → table ≡ lock.table.shared.table_id → people_of xs ≡ newcomers count top given 1 n → Every (IsSeatOf table) xs → Every (IsNewPass lock first) xs
+      → table ≡ lock.table.shared.table_id → members_of xs ≡ newcomers count top given 1 n → Every (IsSeatOf table) xs → Every (IsNewPass lock first) xs
   opened_new lock table count top first given n xs counted rooted from tabled is own =
       (are_new lock first 1 n xs (is ∙ (λ i. newcomers (sym counted i) (sym rooted i) (from i) 1 n)) (subst (λ (t : TableId). Every (IsSeatOf t) xs) tabled own)).0
 
-  pub opened_numbers : (count : ℕ) (top : O) (first n : ℕ) (xs : List (Pass T E O K)) → people_of xs ≡ newcomers count top first 1 n → map number xs ≡ numbers 1 n
-  opened_numbers count top first n xs is = sym (same_numbers xs) ∙ (ap (λ ps. map (λ (p : Person E O). p.pass) ps) is ∙ newcomers_numbers E count top first 1 n)
+  pub opened_numbers : (count : ℕ) (top : O) (first n : ℕ) (xs : List (Pass T E O K)) → members_of xs ≡ newcomers count top first 1 n → map number xs ≡ numbers 1 n
+  opened_numbers count top first n xs is = sym (same_numbers xs) ∙ (ap (λ ps. map (λ (p : PassView E O). p.pass) ps) is ∙ newcomers_numbers E count top first 1 n)
 
   -- the last of some passes that are numbered in order
   last_number : (k n : ℕ) (xs : List (Pass T E O K)) (x : Pass T E O K) → map number (xs ++ x ∷ []) ≡ numbers k (suc n) → (number x ≡ k + n) × (map number xs ≡ numbers k n)

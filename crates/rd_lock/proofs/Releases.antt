@@ -3,7 +3,7 @@ use Rattle.std.proofs.Common.{◌≡◌, ◌≢◌, ℕ, ◌+◌, ◌%◌, ◌^�
 use mathlib.Core.Option.{some, some-injective}
 use lib.ListN.{get_elem?}
 use Rattle.atomic_table.specs.Table.{Act, gives, Valid, homes_after, carried_after, Allows}
-use Rattle.rd_lock.specs.declared.views.Person.{Person}
+use Rattle.rd_lock.specs.declared.views.PassView.{PassView}
 use Rattle.rd_lock.specs.declared.views.View.{View}
 use Rattle.rd_lock.specs.declared.views.Stage.{Stage}
 use Rattle.rd_lock.specs.declared.views.Stage.TheVariants.{Out, Waits, Holds}
@@ -36,8 +36,8 @@ module _ {T E O : Type 0} (lock : Lock T E O) where
   abbrev done : Facts T E → T → Facts T E
   done f x = record { next = f.next; served = f.served + 1; log = history x; owner = f.owner; taker = f.taker; place = home x }
 
-  -- another pass's person, whose entries are as they were
-  done_suits : (f : Facts T E) (id j : ℕ) (x : T) (es : List E) (p q : Person E O) → Suits lock f id p → j ≢ id → history x ≡ f.log ++ signed p.pass es → Suits lock f j q → Suits lock (done f x) j q
+  -- another pass's member, whose entries are as they were
+  done_suits : (f : Facts T E) (id j : ℕ) (x : T) (es : List E) (p q : PassView E O) → Suits lock f id p → j ≢ id → history x ≡ f.log ++ signed p.pass es → Suits lock f j q → Suits lock (done f x) j q
   done_suits f id j x es p q mine ne added h = let other : p.pass ≢ q.pass = (λ e. ne (sym h.owned ∙ (ap f.owner (sym e) ∙ mine.owned))) in record {
     owned = h.owned;
     numbered = h.numbered;
@@ -49,7 +49,7 @@ module _ {T E O : Type 0} (lock : Lock T E O) where
   }
 
   -- the pass that put
-  putter_suits : (f : Facts T E) (id : ℕ) (x : T) (p : Person E O) → Suits lock f id p → Suits lock (done f x) id (has_put (history x) (f.served + 1) p)
+  putter_suits : (f : Facts T E) (id : ℕ) (x : T) (p : PassView E O) → Suits lock f id p → Suits lock (done f x) id (has_put (history x) (f.served + 1) p)
   putter_suits f id x p h = record {
     owned = h.owned;
     numbered = h.numbered;
@@ -65,13 +65,13 @@ module _ {T E O : Type 0} (lock : Lock T E O) where
   done_stays f id j x ne mine is (Waits t) h = let low = h.0 in let apart : t ≢ f.served = (λ e. ne (sym h.2 ∙ (ap f.taker e ∙ mine))) in (omega arith, h.1, h.2)
   done_stays f id j x ne mine is (Holds t found) h = let a = h.0 in absurd (ne (sym h.2 ∙ (ap f.taker a ∙ mine)))
 
-  gives_back : (slots id : ℕ) (p : Person E O) (t : ℕ) (log : List (ℕ × E)) (x : T) (es : List E) (f : Facts T E) (views : List (View E O)) → history x ≡ log ++ signed p.pass es → origin x ≡ p.origin → Kept lock f views
+  gives_back : (slots id : ℕ) (p : PassView E O) (t : ℕ) (log : List (ℕ × E)) (x : T) (es : List E) (f : Facts T E) (views : List (View E O)) → history x ≡ log ++ signed p.pass es → origin x ≡ p.origin → Kept lock f views
       → get_elem? views id ≡ some (view_of (p ∷ []) (Holds t log))
       → (w : View E O) × (a : Act (Option T)) × (g : Facts T E) × ((((f.served + 1) % 2 ^ 64) ∷ f.next ∷ []) ≡ g.served ∷ g.next ∷ []) × Valid (slot_of f.place) ((0, Some x) ∷ []) a
       × (homes_after (slot_of f.place) ((0, Some x) ∷ []) a ≡ slot_of g.place) × Kept lock g (set views id w)
       × released history origin (view_of (p ∷ []) (Holds t log), (0, Some x) ∷ []) f.served (w, carried_after ((0, Some x) ∷ []) a)
-  gives_back slots id p t log x es f views added root_is kept at = let v : View E O = view_of (p ∷ []) (Holds t log) in let fits = kept.each_view id v at in let mine = fits.people.0 in let stage = fits.stage in
-      let g : Facts T E = done f x in let q : Person E O = has_put (history x) (f.served + 1) p in let w : View E O = view_of (q ∷ []) Out in
+  gives_back slots id p t log x es f views added root_is kept at = let v : View E O = view_of (p ∷ []) (Holds t log) in let fits = kept.each_view id v at in let mine = fits.members.0 in let stage = fits.stage in
+      let g : Facts T E = done f x in let q : PassView E O = has_put (history x) (f.served + 1) p in let w : View E O = view_of (q ∷ []) Out in
       let t_is : t ≡ f.served = stage.0 in let below : t < f.next = stage.1 in let limit = kept.limit in let here : f.taker f.served ≡ id = ap f.taker (sym t_is) ∙ stage.2 in
       let more : history x ≡ f.log ++ signed p.pass es = added ∙ ap (λ l. l ++ signed p.pass es) stage.4 in let number = mine.numbered in
       let fresh : (f.served + 1) % 18446744073709551616 ≡ f.served + 1 = omega arith in (
@@ -83,7 +83,7 @@ module _ {T E O : Type 0} (lock : Lock T E O) where
         subst (λ (l : Place T). homes_after (slot_of l) ((0, Some x) ∷ []) gives ≡ slot_of (home x)) (sym stage.3) refl,
         moved lock f g views id v w kept at (omega arith) limit
             (subst (NamesUpTo seats) (sym more) (every_append (λ (y : ℕ × E). (0 < y.0) × (y.0 ≤ seats)) f.log (signed p.pass es) kept.names (names_signed seats p.pass es number.0 number.1)))
-            (record { people = (putter_suits f id x p mine, tt); apart = (tt, tt); stage = tt; alone = tt }) refl refl
+            (record { members = (putter_suits f id x p mine, tt); apart = (tt, tt); stage = tt; alone = tt }) refl refl
             (λ j u ne there h. others_fit lock f g j u (λ q. done_suits f id j x es p q mine ne more) (done_stays f id j x ne here stage.3) h)
             (λ u low high. let has = kept.each_ticket u (omega arith) high in inr (
               (λ e. let has_t : Holds t log ≡ has.0.stage = ap (λ (z : View E O). z.stage) (some-injective v has.0 (sym at ∙ (ap (λ (j : ℕ). get_elem? views j) (sym e) ∙ has.1))) in
@@ -98,7 +98,7 @@ module _ {T E O : Type 0} (lock : Lock T E O) where
         ),
       )
 
-  pub releases : (slots id : ℕ) (p : Person E O) (t : ℕ) (log : List (ℕ × E)) (x : T) → Adds p.pass log (history x) → origin x ≡ p.origin
+  pub releases : (slots id : ℕ) (p : PassView E O) (t : ℕ) (log : List (ℕ × E)) (x : T) → Adds p.pass log (history x) → origin x ≡ p.origin
       → Allows (Rule lock) slots id (view_of (p ∷ []) (Holds t log), (0, Some x) ∷ []) 0 (λ n. (n + 1) % 2 ^ 64) (released history origin (view_of (p ∷ []) (Holds t log), (0, Some x) ∷ []))
   releases slots id p t log x added root_is = let v : View E O = view_of (p ∷ []) (Holds t log) in let c = (0, Some x) ∷ [] in
       allowed lock slots id (v, c) 0 (λ n. (n + 1) % 2 ^ 64) (released history origin (v, c))

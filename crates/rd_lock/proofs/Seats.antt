@@ -6,7 +6,7 @@ use native.Mathlib.Decide.{ℕ_discrete}
 use lib.ListN.{get_elem?}
 use Rattle.atomic_table.specs.Table.{Joins, Splits}
 use Rattle.atomic_table.proofs.Lists.{at_set, at_longer, at_last, set_here, set_else}
-use Rattle.rd_lock.specs.declared.views.Person.{Person}
+use Rattle.rd_lock.specs.declared.views.PassView.{PassView}
 use Rattle.rd_lock.specs.declared.views.View.{View}
 use Rattle.rd_lock.specs.declared.views.Stage.{Stage}
 use Rattle.rd_lock.specs.declared.views.Stage.TheVariants.{Out, Waits, Holds}
@@ -19,20 +19,20 @@ use Rattle.rd_lock.proofs.Looks.{others_fit}
 use Rattle.rd_lock.proofs.Draws.{no_ticket, place_else}
 
 module _ {E O : Type 0} where
-  is_in_front : (k : ℕ) (ps qs : List (Person E O)) → IsIn k (numbers_of ps) → IsIn k (numbers_of (ps ++ qs))
+  is_in_front : (k : ℕ) (ps qs : List (PassView E O)) → IsIn k (numbers_of ps) → IsIn k (numbers_of (ps ++ qs))
   is_in_front k [] qs h = absurd h
   is_in_front k (p ∷ ps) qs h = ⊎_elim (λ (e : p.pass ≡ k). inl e) (λ (later : IsIn k (numbers_of ps)). inr (is_in_front k ps qs later)) h
 
-  is_in_back : (k : ℕ) (ps qs : List (Person E O)) → IsIn k (numbers_of qs) → IsIn k (numbers_of (ps ++ qs))
+  is_in_back : (k : ℕ) (ps qs : List (PassView E O)) → IsIn k (numbers_of qs) → IsIn k (numbers_of (ps ++ qs))
   is_in_back k [] qs h = h
   is_in_back k (p ∷ ps) qs h = inr (is_in_back k ps qs h)
 
   -- a pass that is in a seat is in the view that the seat has
-  in_view : (views : List (View E O)) (seat k : ℕ) (v : View E O) → get_elem? views seat ≡ some v → (has : HasPass views seat k) → IsIn k (numbers_of v.people)
-  in_view views seat k v at (u, here, has) = subst (λ (x : View E O). IsIn k (numbers_of x.people)) (some-injective u v (sym here ∙ at)) has
+  in_view : (views : List (View E O)) (seat k : ℕ) (v : View E O) → get_elem? views seat ≡ some v → (has : HasPass views seat k) → IsIn k (numbers_of v.members)
+  in_view views seat k v at (u, here, has) = subst (λ (x : View E O). IsIn k (numbers_of x.members)) (some-injective u v (sym here ∙ at)) has
 
   -- after two seats are made one, each pass is in the seat that has its view
-  joined_passes : (views : List (View E O)) (id other : ℕ) (ps qs : List (Person E O)) (seat k : ℕ) → other ≢ id → get_elem? views id ≡ some (view_of ps Out) → get_elem? views other ≡ some (view_of qs Out)
+  joined_passes : (views : List (View E O)) (id other : ℕ) (ps qs : List (PassView E O)) (seat k : ℕ) → other ≢ id → get_elem? views id ≡ some (view_of ps Out) → get_elem? views other ≡ some (view_of qs Out)
       → HasPass views seat k → HasPass (set (set views id (view_of (qs ++ ps) Out)) other (view_of [] Out)) (cond (eqb seat other) id seat) k
   joined_passes views id other ps qs seat k apart at there has = let both : View E O = view_of (qs ++ ps) Out in let spent : View E O = view_of [] Out in let joining = set views id both in
       let at_id : get_elem? (set joining other spent) id ≡ some both = set_else joining other id spent (λ e. apart (sym e)) ∙ set_here views id both (inside views id (view_of ps Out) at) in dite (ℕ_discrete seat other)
@@ -43,7 +43,7 @@ module _ {E O : Type 0} where
       (λ no. (has.0, set_else joining other seat spent ne ∙ (set_else views id seat both no ∙ has.1), has.2))))
 
   -- after one seat is made two, each pass is in the seat that has its view
-  parted_passes : (views : List (View E O)) (id : ℕ) (p : Person E O) (ps : List (Person E O)) (owner : ℕ → ℕ) (k : ℕ) → get_elem? views id ≡ some (view_of (p ∷ ps) Out) → HasPass views (owner k) k
+  parted_passes : (views : List (View E O)) (id : ℕ) (p : PassView E O) (ps : List (PassView E O)) (owner : ℕ → ℕ) (k : ℕ) → get_elem? views id ≡ some (view_of (p ∷ ps) Out) → HasPass views (owner k) k
       → HasPass (set views id (view_of ps Out) ++ view_of (p ∷ []) Out ∷ []) (put owner p.pass (length (set views id (view_of ps Out))) k) k
   parted_passes views id p ps owner k at has = let left : View E O = view_of ps Out in let right : View E O = view_of (p ∷ []) Out in let leaving = set views id left in let new = length leaving in
       dite (ℕ_discrete k p.pass)
@@ -59,12 +59,12 @@ module _ {E O : Type 0} where
 module _ {T E O : Type 0} (lock : Lock T E O) where
   open lock use {seats}
 
-  -- the facts after the seat `other` has given its people to the seat `id`
+  -- the facts after the seat `other` has given its members to the seat `id`
   abbrev joined : Facts T E → ℕ → ℕ → Facts T E
   joined f id other = record { next = f.next; served = f.served; log = f.log; owner = λ p. cond (eqb (f.owner p) other) id (f.owner p); taker = f.taker; place = f.place }
 
   -- one who comes over
-  comes : (f : Facts T E) (id other : ℕ) (p : Person E O) → Suits lock f other p → Suits lock (joined f id other) id p
+  comes : (f : Facts T E) (id other : ℕ) (p : PassView E O) → Suits lock f other p → Suits lock (joined f id other) id p
   comes f id other p h = record {
     owned = ap (λ b. cond b id (f.owner p.pass)) (eq-eqb (f.owner p.pass) other h.owned);
     numbered = h.numbered;
@@ -76,7 +76,7 @@ module _ {T E O : Type 0} (lock : Lock T E O) where
   }
 
   -- one who stays
-  stays : (f : Facts T E) (id other j : ℕ) (p : Person E O) → j ≢ other → Suits lock f j p → Suits lock (joined f id other) j p
+  stays : (f : Facts T E) (id other j : ℕ) (p : PassView E O) → j ≢ other → Suits lock f j p → Suits lock (joined f id other) j p
   stays f id other j p ne h = record {
     owned = ap (λ b. cond b id (f.owner p.pass)) (ne_eqb (f.owner p.pass) other (λ e. ne (sym h.owned ∙ e))) ∙ h.owned;
     numbered = h.numbered;
@@ -92,13 +92,13 @@ module _ {T E O : Type 0} (lock : Lock T E O) where
   same_stage f id other j (Waits t) h = h
   same_stage f id other j (Holds t found) h = h
 
-  -- people of two seats are apart
-  across : (f : Facts T E) (id other : ℕ) (ps qs : List (Person E O)) → other ≢ id → Every (Suits lock f id) ps → Every (Suits lock f other) qs → Every (λ q. Every (λ (p : Person E O). p.pass ≢ q.pass) ps) qs
-  across f id other ps qs ne mine theirs = every_from (Suits lock f other) (λ q. Every (λ (p : Person E O). p.pass ≢ q.pass) ps)
+  -- members of two seats are apart
+  across : (f : Facts T E) (id other : ℕ) (ps qs : List (PassView E O)) → other ≢ id → Every (Suits lock f id) ps → Every (Suits lock f other) qs → Every (λ q. Every (λ (p : PassView E O). p.pass ≢ q.pass) ps) qs
+  across f id other ps qs ne mine theirs = every_from (Suits lock f other) (λ q. Every (λ (p : PassView E O). p.pass ≢ q.pass) ps)
       (λ q b. every_from (Suits lock f id) (λ p. p.pass ≢ q.pass) (λ p a e. ne (sym b.owned ∙ (ap f.owner (sym e) ∙ a.owned))) ps mine) qs theirs
 
   -- a ticket or the value is with neither of two seats that are out
-  pub joins : (id other : ℕ) (ps qs : List (Person E O)) → Joins (Rule lock) id (view_of ps Out) other (view_of qs Out) (view_of (qs ++ ps) Out) (view_of [] Out)
+  pub joins : (id other : ℕ) (ps qs : List (PassView E O)) → Joins (Rule lock) id (view_of ps Out) other (view_of qs Out) (view_of (qs ++ ps) Out) (view_of [] Out)
   joins id other ps qs s r at apart there = let f = r.0 in let kept = r.3 in let v : View E O = view_of ps Out in let u : View E O = view_of qs Out in let both : View E O = view_of (qs ++ ps) Out in let spent : View E O = view_of [] Out in
       let g = joined f id other in let views = set s.views id both in let was : get_elem? s.views other ≡ some u = sym (set_else s.views id other both apart) ∙ there in
       let mine = kept.each_view id v at in let theirs = kept.each_view other u was in (
@@ -109,12 +109,12 @@ module _ {T E O : Type 0} (lock : Lock T E O) where
           order = kept.order;
           limit = kept.limit;
           names = kept.names;
-          each_view = λ j w e. ⊎_elim (λ (z : (j ≡ other) × (spent ≡ w)). subst (λ (x : View E O). Fits lock g j x) z.1 (record { people = tt; apart = tt; stage = tt; alone = tt }))
+          each_view = λ j w e. ⊎_elim (λ (z : (j ≡ other) × (spent ≡ w)). subst (λ (x : View E O). Fits lock g j x) z.1 (record { members = tt; apart = tt; stage = tt; alone = tt }))
               (λ (z : (j ≢ other) × (get_elem? views j ≡ some w)). ⊎_elim
               (λ (y : (j ≡ id) × (both ≡ w)). subst (λ (x : ℕ × View E O). Fits lock g x.0 x.1) (λ i. (sym y.0 i, y.1 i)) (record {
-                people = every_append (Suits lock g id) qs ps (every_from (Suits lock f other) (Suits lock g id) (comes f id other) qs theirs.people)
-                    (every_from (Suits lock f id) (Suits lock g id) (λ p. stays f id other id p (λ e. apart (sym e))) ps mine.people);
-                apart = pairwise_append (λ p q. q.pass ≢ p.pass) qs ps theirs.apart mine.apart (across f id other ps qs apart mine.people theirs.people);
+                members = every_append (Suits lock g id) qs ps (every_from (Suits lock f other) (Suits lock g id) (comes f id other) qs theirs.members)
+                    (every_from (Suits lock f id) (Suits lock g id) (λ p. stays f id other id p (λ e. apart (sym e))) ps mine.members);
+                apart = pairwise_append (λ p q. q.pass ≢ p.pass) qs ps theirs.apart mine.apart (across f id other ps qs apart mine.members theirs.members);
                 stage = tt;
                 alone = tt;
               }))
@@ -133,7 +133,7 @@ module _ {T E O : Type 0} (lock : Lock T E O) where
   abbrev parted : Facts T E → ℕ → ℕ → Facts T E
   parted f pass new = record { next = f.next; served = f.served; log = f.log; owner = put f.owner pass new; taker = f.taker; place = f.place }
 
-  moves_out : (f : Facts T E) (id new : ℕ) (p : Person E O) → Suits lock f id p → Suits lock (parted f p.pass new) new p
+  moves_out : (f : Facts T E) (id new : ℕ) (p : PassView E O) → Suits lock f id p → Suits lock (parted f p.pass new) new p
   moves_out f id new p h = record {
     owned = put_here f.owner p.pass new p.pass refl;
     numbered = h.numbered;
@@ -144,7 +144,7 @@ module _ {T E O : Type 0} (lock : Lock T E O) where
     only = h.only;
   }
 
-  stays_in : (f : Facts T E) (j pass new : ℕ) (q : Person E O) → q.pass ≢ pass → Suits lock f j q → Suits lock (parted f pass new) j q
+  stays_in : (f : Facts T E) (j pass new : ℕ) (q : PassView E O) → q.pass ≢ pass → Suits lock f j q → Suits lock (parted f pass new) j q
   stays_in f j pass new q ne h = record {
     owned = put_else f.owner pass new q.pass ne ∙ h.owned;
     numbered = h.numbered;
@@ -165,9 +165,9 @@ module _ {T E O : Type 0} (lock : Lock T E O) where
   place_longer f g views w (home x) log served h = (h.0 ∙ sym log, h.1)
   place_longer f g views w (away k) log served h = (h.0, at_longer views (w ∷ []) k h.0 h.1, h.2 ∙ (λ i. Holds (sym served i) (sym log i)))
 
-  pub splits : (id : ℕ) (p : Person E O) (ps : List (Person E O)) → Splits (Rule lock) id (view_of (p ∷ ps) Out) (view_of ps Out) (view_of (p ∷ []) Out)
+  pub splits : (id : ℕ) (p : PassView E O) (ps : List (PassView E O)) → Splits (Rule lock) id (view_of (p ∷ ps) Out) (view_of ps Out) (view_of (p ∷ []) Out)
   splits id p ps s r at = let f = r.0 in let kept = r.3 in let v : View E O = view_of (p ∷ ps) Out in let left : View E O = view_of ps Out in let right : View E O = view_of (p ∷ []) Out in
-      let views = set s.views id left in let new = length views in let g = parted f p.pass new in let mine = kept.each_view id v at in let first = mine.people.0 in (
+      let views = set s.views id left in let new = length views in let g = parted f p.pass new in let mine = kept.each_view id v at in let first = mine.members.0 in (
         g,
         r.1,
         r.2,
@@ -177,7 +177,7 @@ module _ {T E O : Type 0} (lock : Lock T E O) where
           names = kept.names;
           each_view = λ j w e. ⊎_elim (λ (z : get_elem? views j ≡ some w). ⊎_elim
               (λ (y : (j ≡ id) × (left ≡ w)). subst (λ (x : ℕ × View E O). Fits lock g x.0 x.1) (λ i. (sym y.0 i, y.1 i)) (record {
-                people = every_both (λ q. q.pass ≢ p.pass) (Suits lock f id) (Suits lock g id) (λ q ne. stays_in f id p.pass new q ne) ps mine.apart.0 mine.people.1;
+                members = every_both (λ q. q.pass ≢ p.pass) (Suits lock f id) (Suits lock g id) (λ q ne. stays_in f id p.pass new q ne) ps mine.apart.0 mine.members.1;
                 apart = mine.apart.1;
                 stage = tt;
                 alone = tt;
@@ -185,7 +185,7 @@ module _ {T E O : Type 0} (lock : Lock T E O) where
               (λ (y : (j ≢ id) × (get_elem? s.views j ≡ some w)). others_fit lock f g j w
               (λ q h. stays_in f j p.pass new q (λ e. y.0 (sym h.owned ∙ (ap f.owner e ∙ first.owned))) h) (stage_in f j p.pass new) (kept.each_view j w y.1))
               (at_set s.views id j left w z))
-              (λ (z : (j ≡ new) × (right ≡ w)). subst (λ (x : ℕ × View E O). Fits lock g x.0 x.1) (λ i. (sym z.0 i, z.1 i)) (record { people = (moves_out f id new p first, tt); apart = (tt, tt); stage = tt; alone = tt }))
+              (λ (z : (j ≡ new) × (right ≡ w)). subst (λ (x : ℕ × View E O). Fits lock g x.0 x.1) (λ i. (sym z.0 i, z.1 i)) (record { members = (moves_out f id new p first, tt); apart = (tt, tt); stage = tt; alone = tt }))
               (at_end views right w j e);
           each_pass = λ k low high. parted_passes s.views id p ps f.owner k at (kept.each_pass k low high);
           each_ticket = λ t low high. let has = kept.each_ticket t low high in let k = f.taker t in let a = no_ticket lock s.views id (p ∷ ps) k t at has in

@@ -6,7 +6,7 @@ use native.Mathlib.Decide.{ℕ_discrete}
 use lib.ListN.{get_elem?}
 use Rattle.atomic_table.specs.Table.{Act, keeps, takes, Valid, homes_after, carried_after, Allows}
 use Rattle.atomic_table.proofs.Lists.{set_here}
-use Rattle.rd_lock.specs.declared.views.Person.{Person}
+use Rattle.rd_lock.specs.declared.views.PassView.{PassView}
 use Rattle.rd_lock.specs.declared.views.View.{View}
 use Rattle.rd_lock.specs.declared.views.Stage.{Stage}
 use Rattle.rd_lock.specs.declared.views.Stage.TheVariants.{Out, Waits, Holds}
@@ -22,7 +22,7 @@ module _ {T E O : Type 0} (lock : Lock T E O) where
   open lock use {history, origin, root}
 
   -- what a seat that waits for the ticket served finds at home
-  served_home : (f : Facts T E) (views : List (View E O)) (id : ℕ) (p : Person E O) (place : Place T) → Kept lock f views → get_elem? views id ≡ some (view_of (p ∷ []) (Waits f.served)) → f.place ≡ place
+  served_home : (f : Facts T E) (views : List (View E O)) (id : ℕ) (p : PassView E O) (place : Place T) → Kept lock f views → get_elem? views id ≡ some (view_of (p ∷ []) (Waits f.served)) → f.place ≡ place
       → (x : T) × (place ≡ home x) × (history x ≡ f.log) × (origin x ≡ root)
   served_home f views id p (home x) kept at is = let h = subst (Placed lock f views) is kept.is_placed in (x, refl, h.0, h.1)
   served_home f views id p (away k) kept at is = let h = subst (Placed lock f views) is kept.is_placed in
@@ -34,7 +34,7 @@ module _ {T E O : Type 0} (lock : Lock T E O) where
   abbrev taken : Facts T E → ℕ → Facts T E
   taken f id = record { next = f.next; served = f.served; log = f.log; owner = f.owner; taker = f.taker; place = away id }
 
-  taken_suits : (f : Facts T E) (id j : ℕ) (p : Person E O) → Suits lock f j p → Suits lock (taken f id) j p
+  taken_suits : (f : Facts T E) (id j : ℕ) (p : PassView E O) → Suits lock f j p → Suits lock (taken f id) j p
   taken_suits f id j p h = record { owned = h.owned; numbered = h.numbered; informed = h.informed; has_seen = h.has_seen; has_put = h.has_put; words = h.words; only = h.only }
 
   taken_stays : (f : Facts T E) (id j : ℕ) (x : T) → f.place ≡ home x → (s : Stage E) → StageSuits lock f j s → StageSuits lock (taken f id) j s
@@ -42,12 +42,12 @@ module _ {T E O : Type 0} (lock : Lock T E O) where
   taken_stays f id j x is (Waits t) h = h
   taken_stays f id j x is (Holds t found) h = absurd (elsewhere lock j (sym is ∙ h.3))
 
-  served_takes : (slots id : ℕ) (p : Person E O) (f : Facts T E) (views : List (View E O)) → Kept lock f views → get_elem? views id ≡ some (view_of (p ∷ []) (Waits f.served))
+  served_takes : (slots id : ℕ) (p : PassView E O) (f : Facts T E) (views : List (View E O)) → Kept lock f views → get_elem? views id ≡ some (view_of (p ∷ []) (Waits f.served))
       → (w : View E O) × (a : Act (Option T)) × (g : Facts T E) × (f.served ∷ f.next ∷ [] ≡ g.served ∷ g.next ∷ []) × Valid (slot_of f.place) [] a
       × (homes_after (slot_of f.place) [] a ≡ slot_of g.place) × Kept lock g (set views id w) × listened history origin (view_of (p ∷ []) (Waits f.served), []) f.served (w, carried_after [] a)
   served_takes slots id p f views kept at = let v : View E O = view_of (p ∷ []) (Waits f.served) in let fits = kept.each_view id v at in let there = served_home f views id p f.place kept at refl in let x : T = there.0 in
       let at_home : (history x ≡ f.log) × (origin x ≡ root) = (there.2, there.3) in let stage : Stage E = Holds f.served (history x) in let w : View E O = after_served f.served stage v in
-      let g : Facts T E = taken f id in let mine = fits.stage in let suits = served_suits lock f id p kept.order fits.people.0 in (
+      let g : Facts T E = taken f id in let mine = fits.stage in let suits = served_suits lock f id p kept.order fits.members.0 in (
         w,
         takes 0 (Some x),
         g,
@@ -55,7 +55,7 @@ module _ {T E O : Type 0} (lock : Lock T E O) where
         subst (λ (l : Place T). get_elem? (slot_of l) 0 ≡ some (some (Some x))) (sym there.1) refl,
         subst (λ (l : Place T). homes_after (slot_of l) [] (takes 0 (Some x)) ≡ slot_of (away id)) (sym there.1) refl,
         moved lock f g views id v w kept at kept.order kept.limit kept.names
-            (record { people = (taken_suits f id id (knows_served f.served p) suits, tt); apart = (tt, tt); stage = (refl, mine.1, mine.2, refl, there.2); alone = (knows_served f.served p, refl) }) refl refl
+            (record { members = (taken_suits f id id (knows_served f.served p) suits, tt); apart = (tt, tt); stage = (refl, mine.1, mine.2, refl, there.2); alone = (knows_served f.served p, refl) }) refl refl
             (λ j u ne here h. others_fit lock f g j u (taken_suits f id j) (taken_stays f id j x there.1) h)
             (λ t low high. let has = kept.each_ticket t low high in dite (ℕ_discrete (f.taker t) id)
             (λ e. inl (e, ap (λ (u : View E O). ticket u.stage) (some-injective v has.0 (sym at ∙ (ap (λ (j : ℕ). get_elem? views j) (sym e) ∙ has.1))) ∙ has.2))
@@ -64,13 +64,13 @@ module _ {T E O : Type 0} (lock : Lock T E O) where
         (
           newest_served lock f views id v kept fits,
           (λ t is. let same : f.served ≡ t = cc in (
-            (λ _. (x, refl, (found lock f id x p at_home fits.people.0, tt))),
+            (λ _. (x, refl, (found lock f id x p at_home fits.members.0, tt))),
             (λ miss. absurd (miss same)),
           )),
         ),
       )
 
-  pub listens : (slots id : ℕ) (p : Person E O) (t : ℕ) → Allows (Rule lock) slots id (view_of (p ∷ []) (Waits t), []) 0 (λ n. n) (listened history origin (view_of (p ∷ []) (Waits t), []))
+  pub listens : (slots id : ℕ) (p : PassView E O) (t : ℕ) → Allows (Rule lock) slots id (view_of (p ∷ []) (Waits t), []) 0 (λ n. n) (listened history origin (view_of (p ∷ []) (Waits t), []))
   listens slots id p t = let v : View E O = view_of (p ∷ []) (Waits t) in let then = listened history origin (v, []) in
       allowed lock slots id (v, []) 0 (λ n. n) then (λ f views kept at. let fits = kept.each_view id v at in dite (ℕ_discrete f.served t)
       (λ hit. subst (λ (k : ℕ). (w : View E O) × (a : Act (Option T)) × (g : Facts T E) × (f.served ∷ f.next ∷ [] ≡ g.served ∷ g.next ∷ []) × Valid (slot_of f.place) [] a

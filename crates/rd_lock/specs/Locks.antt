@@ -1,7 +1,7 @@
--- What contracts say of a lock and of its passes. A word that ends in `_in` is over the people of a view, of whom a pass has one.
+-- What contracts say of a lock and of its passes. A word that ends in `_in` is over the members of a view, of whom a pass has one.
 use Rattle.std.specs.Prelude.{◌≡◌, ℕ, ◌^◌, ◌<◌, ◌≤◌, length, List, [], ◌∷◌, ◌++◌}
 use mathlib.Core.List.{IsPrefix}
-use Rattle.rd_lock.specs.declared.views.Person.{Person}
+use Rattle.rd_lock.specs.declared.views.PassView.{PassView}
 use Rattle.rd_lock.specs.declared.views.View.{View}
 use Rattle.rd_lock.specs.declared.views.Recorded.{Ghosts}
 use Rattle.rd_lock.specs.declared.views.Stage.TheVariants.{Out, Waits, Holds}
@@ -13,68 +13,68 @@ use Rattle.rd_lock.specs.Rule.{number_in}
 
 module _ {E O : Type 0} where
   -- what it has seen
-  abbrev pub seen_in : List (Person E O) → List (ℕ × E)
+  abbrev pub seen_in : List (PassView E O) → List (ℕ × E)
   seen_in [] = []
   seen_in (p ∷ ps) = p.seen
 
   -- what it has put
-  abbrev pub own_in : List (Person E O) → List (ℕ × E)
+  abbrev pub own_in : List (PassView E O) → List (ℕ × E)
   own_in [] = []
   own_in (p ∷ ps) = p.own
 
   -- the greatest next that it knows of
-  abbrev pub next_in : List (Person E O) → ℕ
+  abbrev pub next_in : List (PassView E O) → ℕ
   next_in [] = 0
   next_in (p ∷ ps) = p.next
 
   -- the greatest served that it has seen
-  abbrev pub served_in : List (Person E O) → ℕ
+  abbrev pub served_in : List (PassView E O) → ℕ
   served_in [] = 0
   served_in (p ∷ ps) = p.served
 
-  -- what the people were told when the lock was opened
-  abbrev pub IsToldIn : ℕ → O → List (Person E O) → Type 0
+  -- what the members were told when the lock was opened
+  abbrev pub IsToldIn : ℕ → O → List (PassView E O) → Type 0
   IsToldIn seats root [] = Unit {0}
   IsToldIn seats root (p ∷ ps) = (p.seats ≡ seats) × (p.origin ≡ root)
 
   -- the view as it was, but for its stage and for what it knows of the words, which has only grown
   pub record IsSameView (v w : View E O) : Type 0 where
-    pub same_number : number_in w.people ≡ number_in v.people
-    pub same_seen : seen_in w.people ≡ seen_in v.people
-    pub same_own : own_in w.people ≡ own_in v.people
-    pub next : next_in v.people ≤ next_in w.people
-    pub served : served_in v.people ≤ served_in w.people
+    pub same_number : number_in w.members ≡ number_in v.members
+    pub same_seen : seen_in w.members ≡ seen_in v.members
+    pub same_own : own_in w.members ≡ own_in v.members
+    pub next : next_in v.members ≤ next_in w.members
+    pub served : served_in v.members ≤ served_in w.members
 
   -- what a view is told that took nothing: the greatest words that it has seen, which differ; or that the next ticket is beyond the last
   abbrev pub IsMissedIn : View E O → TryTakeError → Type 0
-  IsMissedIn v (TryTakeError.Busy words) = (words.next ≡ next_in v.people) × (words.served ≡ served_in v.people) × (words.served < words.next) × (words.next < 2 ^ 63)
-  IsMissedIn v TryTakeError.TicketsEnded = next_in v.people ≡ 2 ^ 63
+  IsMissedIn v (TryTakeError.Busy words) = (words.next ≡ next_in v.members) × (words.served ≡ served_in v.members) × (words.served < words.next) × (words.next < 2 ^ 63)
+  IsMissedIn v TryTakeError.TicketsEnded = next_in v.members ≡ 2 ^ 63
 
 module _ {T E O : Type 0} (history : T → List (ℕ × E)) (origin : T → O) (root : O) where
   -- What is taken has the lock's origin, begins with all that had been seen, and its entries that name the pass are those that it
   -- put. It is held by a ticket that there is.
   pub record IsTakenIn (v w : View E O) (value : T) : Type 0 where
     pub rooted : origin value ≡ root
-    pub extends : IsPrefix (seen_in v.people) (history value)
-    pub has_own : own_in v.people ≡ named (number_in v.people) 0 (history value)
+    pub extends : IsPrefix (seen_in v.members) (history value)
+    pub has_own : own_in v.members ≡ named (number_in v.members) 0 (history value)
     pub held : (ticket : ℕ) × (ticket < 2 ^ 63) × (w.stage ≡ Holds ticket (history value))
 
   -- what may be put back: its origin is the lock's, and its history is the one found and then entries of the pass
   pub record IsDueIn (v : View E O) (value : T) : Type 0 where
     pub rooted : origin value ≡ root
-    pub held : (ticket : ℕ) × (found : List (ℕ × E)) × (v.stage ≡ Holds ticket found) × Adds (number_in v.people) found (history value)
+    pub held : (ticket : ℕ) × (found : List (ℕ × E)) × (v.stage ≡ Holds ticket found) × Adds (number_in v.members) found (history value)
 
 module _ {T E O : Type 0} (history : T → List (ℕ × E)) where
   -- Just what was put is seen, and the own entries are those there that name the pass: the ones that it had, and the new ones with
   -- their positions.
   pub record HasPutIn (v w : View E O) (value : T) : Type 0 where
-    pub same_number : number_in w.people ≡ number_in v.people
-    pub has_seen : seen_in w.people ≡ history value
-    pub has_own : own_in w.people ≡ named (number_in v.people) 0 (history value)
-    pub has_grown : (ticket : ℕ) (found : List (ℕ × E)) (es : List E) → v.stage ≡ Holds ticket found → history value ≡ found ++ signed (number_in v.people) es
-        → own_in w.people ≡ own_in v.people ++ placed (length found) es
-    pub next : next_in v.people ≤ next_in w.people
-    pub served : served_in v.people ≤ served_in w.people
+    pub same_number : number_in w.members ≡ number_in v.members
+    pub has_seen : seen_in w.members ≡ history value
+    pub has_own : own_in w.members ≡ named (number_in v.members) 0 (history value)
+    pub has_grown : (ticket : ℕ) (found : List (ℕ × E)) (es : List E) → v.stage ≡ Holds ticket found → history value ≡ found ++ signed (number_in v.members) es
+        → own_in w.members ≡ own_in v.members ++ placed (length found) es
+    pub next : next_in v.members ≤ next_in w.members
+    pub served : served_in v.members ≤ served_in w.members
 
 module _ {T E O : Type 0} where
   -- how many passes the lock was opened with
@@ -88,23 +88,23 @@ module _ {T E O : Type 0} where
 module _ {T E O : Type 0} {K : Ghosts T E O} where
   -- the pass's number, from 1
   abbrev pub number : Pass T E O K → ℕ
-  number pass = number_in pass.seat.me.0.people
+  number pass = number_in pass.seat.me.0.members
 
   -- the history that it has seen last
   abbrev pub seen : Pass T E O K → List (ℕ × E)
-  seen pass = seen_in pass.seat.me.0.people
+  seen pass = seen_in pass.seat.me.0.members
 
   -- the entries that it has put, each with its position in the history
   abbrev pub own : Pass T E O K → List (ℕ × E)
-  own pass = own_in pass.seat.me.0.people
+  own pass = own_in pass.seat.me.0.members
 
   -- the greatest value of the word next that it knows of
   abbrev pub next_seen : Pass T E O K → ℕ
-  next_seen pass = next_in pass.seat.me.0.people
+  next_seen pass = next_in pass.seat.me.0.members
 
   -- the greatest value of the word served that it has seen
   abbrev pub served_seen : Pass T E O K → ℕ
-  served_seen pass = served_in pass.seat.me.0.people
+  served_seen pass = served_in pass.seat.me.0.members
 
   -- it doesn't hold
   abbrev pub IsOut : Pass T E O K → Type 0
@@ -121,7 +121,7 @@ module _ {T E O : Type 0} {K : Ghosts T E O} where
   -- the pass is one of the lock's
   pub record IsPassOf (lock : TicketLock T E O) (pass : Pass T E O K) : Type 0 where
     pub table : pass.seat.table_id ≡ lock.table.shared.table_id
-    pub told : IsToldIn (seats lock) (root K.origin lock) pass.seat.me.0.people
+    pub told : IsToldIn (seats lock) (root K.origin lock) pass.seat.me.0.members
 
   -- the pass has its number and has seen and put what it had; what it knows of the words has only grown
   abbrev pub IsSamePass : Pass T E O K → Pass T E O K → Type 0

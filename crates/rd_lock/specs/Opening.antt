@@ -2,7 +2,7 @@
 use Rattle.std.specs.Prelude.{◌≡◌, ◌⊎◌, ℕ, ◌≤◌, List, [], ◌∷◌, ◌++◌, map}
 use mathlib.Core.List.{IsPrefix}
 use Rattle.atomic_table.specs.Seated.{TableId}
-use Rattle.rd_lock.specs.declared.views.Person.{Person}
+use Rattle.rd_lock.specs.declared.views.PassView.{PassView}
 use Rattle.rd_lock.specs.declared.views.Recorded.{Ghosts}
 use Rattle.rd_lock.specs.declared.passes.Pass.{Pass}
 use Rattle.rd_lock.specs.declared.tickets.Busy.{Busy}
@@ -12,16 +12,16 @@ use Rattle.rd_lock.specs.Locks.{number, seen, own, next_seen, served_seen, seats
 
 module _ {T E O : Type 0} (history : T → List (ℕ × E)) (origin : T → O) where
   -- what the value says of a pass that was handed in: it begins with what that had seen, and the entries that name it are its own
-  abbrev pub IsToldOf : T → Person E O → Type 0
+  abbrev pub IsToldOf : T → PassView E O → Type 0
   IsToldOf x p = IsPrefix p.seen (history x) × (p.own ≡ named p.pass 0 (history x))
 
-  -- the value that is left at the end, by the people that were handed in
-  abbrev pub IsLeft : ℕ → O → List (Person E O) → T → Type 0
+  -- the value that is left at the end, by the members that were handed in
+  abbrev pub IsLeft : ℕ → O → List (PassView E O) → T → Type 0
   IsLeft seats root ps x = (origin x ≡ root) × NamesUpTo seats (history x) × Every (IsToldOf x) ps
 
 module _ {E O : Type 0} where
-  -- this person knows of no greater words
-  abbrev pub KnowsUpTo : Busy → Person E O → Type 0
+  -- this member knows of no greater words
+  abbrev pub KnowsUpTo : Busy → PassView E O → Type 0
   KnowsUpTo words p = (p.next ≤ words.next) × (p.served ≤ words.served)
 
 module _ {T E O : Type 0} {K : Ghosts T E O} where
@@ -63,10 +63,10 @@ module _ {T E O : Type 0} {K : Ghosts T E O} where
   abbrev pub AreInLine : Pass T E O K → Pass T E O K → Type 0
   AreInLine one other = IsPrefix (seen one) (seen other) ⊎ IsPrefix (seen other) (seen one)
 
-  -- the people of all these passes
-  abbrev pub people_of : List (Pass T E O K) → List (Person E O)
-  people_of [] = []
-  people_of (pass ∷ passes) = pass.seat.me.0.people ++ people_of passes
+  -- the members of all these passes
+  abbrev pub members_of : List (Pass T E O K) → List (PassView E O)
+  members_of [] = []
+  members_of (pass ∷ passes) = pass.seat.me.0.members ++ members_of passes
 
   -- the pass is one of this table, and is out
   abbrev pub IsSeatOf : TableId → Pass T E O K → Type 0

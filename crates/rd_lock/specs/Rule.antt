@@ -5,7 +5,7 @@ use mathlib.Core.Option as maybe
 use mathlib.Core.List.{IsPrefix}
 use lib.ListN.{get_elem?}
 use Rattle.atomic_table.specs.Table.{State}
-use Rattle.rd_lock.specs.declared.views.Person.{Person}
+use Rattle.rd_lock.specs.declared.views.PassView.{PassView}
 use Rattle.rd_lock.specs.declared.views.View.{View}
 use Rattle.rd_lock.specs.declared.views.Stage.{Stage}
 use Rattle.rd_lock.specs.declared.views.Stage.TheVariants.{Out, Waits, Holds}
@@ -34,52 +34,52 @@ module _ {E : Type 0} where
   ticket (Holds t found) = some t
 
 module _ {E O : Type 0} where
-  abbrev pub view_of : List (Person E O) → Stage E → View E O
-  view_of people stage = record { people = people; stage = stage }
+  abbrev pub view_of : List (PassView E O) → Stage E → View E O
+  view_of members stage = record { members = members; stage = stage }
 
-  -- the number of the first of the people
-  abbrev pub number_in : List (Person E O) → ℕ
+  -- the number of the first of the members
+  abbrev pub number_in : List (PassView E O) → ℕ
   number_in [] = 0
   number_in (p ∷ ps) = p.pass
 
-  -- the first of the people, alone
-  abbrev pub first_of_people : List (Person E O) → List (Person E O)
-  first_of_people [] = []
-  first_of_people (p ∷ ps) = p ∷ []
+  -- the first of the members, alone
+  abbrev pub first_of_members : List (PassView E O) → List (PassView E O)
+  first_of_members [] = []
+  first_of_members (p ∷ ps) = p ∷ []
 
-  -- all of the people but the first
-  abbrev pub other_people : List (Person E O) → List (Person E O)
-  other_people [] = []
-  other_people (p ∷ ps) = ps
+  -- all of the members but the first
+  abbrev pub other_members : List (PassView E O) → List (PassView E O)
+  other_members [] = []
+  other_members (p ∷ ps) = ps
 
-  -- no two people are one pass
-  abbrev pub Apart : List (Person E O) → Type 0
-  Apart ps = Pairwise (λ (p q : Person E O). q.pass ≢ p.pass) ps
+  -- no two members are one pass
+  abbrev pub Apart : List (PassView E O) → Type 0
+  Apart ps = Pairwise (λ (p q : PassView E O). q.pass ≢ p.pass) ps
 
   -- who waits or holds is alone in its seat
-  abbrev pub IsAloneAt : Stage E → List (Person E O) → Type 0
+  abbrev pub IsAloneAt : Stage E → List (PassView E O) → Type 0
   IsAloneAt Out ps = Unit {0}
-  IsAloneAt (Waits t) ps = (p : Person E O) × (ps ≡ p ∷ [])
-  IsAloneAt (Holds t found) ps = (p : Person E O) × (ps ≡ p ∷ [])
+  IsAloneAt (Waits t) ps = (p : PassView E O) × (ps ≡ p ∷ [])
+  IsAloneAt (Holds t found) ps = (p : PassView E O) × (ps ≡ p ∷ [])
 
   -- the seat of this number has the ticket
   abbrev pub HasTicket : List (View E O) → ℕ → ℕ → Type 0
   HasTicket views seat t = (v : View E O) × (get_elem? views seat ≡ some v) × (ticket v.stage ≡ some t)
 
-  -- the numbers of these people
-  abbrev pub numbers_of : List (Person E O) → List ℕ
-  numbers_of ps = map (λ (p : Person E O). p.pass) ps
+  -- the numbers of these members
+  abbrev pub numbers_of : List (PassView E O) → List ℕ
+  numbers_of ps = map (λ (p : PassView E O). p.pass) ps
 
   -- the pass is in the seat of this number
   abbrev pub HasPass : List (View E O) → ℕ → ℕ → Type 0
-  HasPass views seat pass = (v : View E O) × (get_elem? views seat ≡ some v) × IsIn pass (numbers_of v.people)
+  HasPass views seat pass = (v : View E O) × (get_elem? views seat ≡ some v) × IsIn pass (numbers_of v.members)
 
   -- a pass of a lock that has just been opened, with both words at `first`
-  abbrev pub newcomer : ℕ → O → ℕ → ℕ → Person E O
+  abbrev pub newcomer : ℕ → O → ℕ → ℕ → PassView E O
   newcomer seats root first pass = record { pass = pass; seats = seats; origin = root; seen = []; own = []; next = first; served = first }
 
   -- the passes from a number on, so many of them
-  abbrev pub newcomers : ℕ → O → ℕ → ℕ → ℕ → List (Person E O)
+  abbrev pub newcomers : ℕ → O → ℕ → ℕ → ℕ → List (PassView E O)
   newcomers seats root first pass zero = []
   newcomers seats root first pass (suc n) = newcomer seats root first pass ∷ newcomers seats root first (suc pass) n
 
@@ -102,7 +102,7 @@ module _ {T : Type 0} where
 
 module _ {T E O : Type 0} (history : T → List (ℕ × E)) (origin : T → O) (seats : ℕ) (root : O) where
   -- what is so of a pass whose seat has this number
-  pub record PersonFits (f : Facts T E) (seat : ℕ) (p : Person E O) : Type 0 where
+  pub record MemberFits (f : Facts T E) (seat : ℕ) (p : PassView E O) : Type 0 where
     pub owned : f.owner p.pass ≡ seat
     pub numbered : (0 < p.pass) × (p.pass ≤ seats)
     pub informed : (p.seats ≡ seats) × (p.origin ≡ root)
@@ -119,10 +119,10 @@ module _ {T E O : Type 0} (history : T → List (ℕ × E)) (origin : T → O) (
 
   -- what is so of the seat of this number
   pub record ViewFits (f : Facts T E) (seat : ℕ) (v : View E O) : Type 0 where
-    pub people : Every (PersonFits f seat) v.people
-    pub apart : Apart v.people
+    pub members : Every (MemberFits f seat) v.members
+    pub apart : Apart v.members
     pub stage : StageFits f seat v.stage
-    pub alone : IsAloneAt v.stage v.people
+    pub alone : IsAloneAt v.stage v.members
 
   -- at home the value has the history and the lock's origin; away it is with a seat that holds
   abbrev pub IsPlaced : Facts T E → List (View E O) → Place T → Type 0

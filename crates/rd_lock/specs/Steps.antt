@@ -2,7 +2,7 @@
 use Rattle.std.specs.Prelude.{◌≡◌, ◌≢◌, ◌⊎◌, ℕ, ◌+◌, ◌^◌, ◌≤◌, max, List, [], ◌∷◌, map, Option, Some}
 use mathlib.Core.List.{IsPrefix}
 use Rattle.atomic_table.specs.Table.{Me}
-use Rattle.rd_lock.specs.declared.views.Person.{Person}
+use Rattle.rd_lock.specs.declared.views.PassView.{PassView}
 use Rattle.rd_lock.specs.declared.views.View.{View}
 use Rattle.rd_lock.specs.declared.views.Stage.{Stage}
 use Rattle.rd_lock.specs.declared.views.Stage.TheVariants.{Out, Waits, Holds}
@@ -11,36 +11,36 @@ use Rattle.rd_lock.specs.Rule.{view_of}
 
 module _ {E O : Type 0} where
   -- the pass has seen this value of the word next
-  abbrev pub knows_next : ℕ → Person E O → Person E O
+  abbrev pub knows_next : ℕ → PassView E O → PassView E O
   knows_next n p = record p { next = n }
 
   -- the pass has seen this value of the word served, below which next never is
-  abbrev pub knows_served : ℕ → Person E O → Person E O
+  abbrev pub knows_served : ℕ → PassView E O → PassView E O
   knows_served n p = record p { next = max p.next n; served = n }
 
   -- the pass has put this history, and the word served is now n
-  abbrev pub has_put : List (ℕ × E) → ℕ → Person E O → Person E O
+  abbrev pub has_put : List (ℕ × E) → ℕ → PassView E O → PassView E O
   has_put log n p = record p { seen = log; own = named p.pass 0 log; served = n }
 
   -- one has seen a beginning of what the other has seen
-  abbrev pub AreInLine : Person E O → Person E O → Type 0
+  abbrev pub AreInLine : PassView E O → PassView E O → Type 0
   AreInLine p q = IsPrefix p.seen q.seen ⊎ IsPrefix q.seen p.seen
 
   -- the view after a look at the word next, at this stage
   abbrev pub after_next : ℕ → Stage E → View E O → View E O
-  after_next n stage v = view_of (map (knows_next n) v.people) stage
+  after_next n stage v = view_of (map (knows_next n) v.members) stage
 
   -- the view after a look at the word served, at this stage
   abbrev pub after_served : ℕ → Stage E → View E O → View E O
-  after_served n stage v = view_of (map (knows_served n) v.people) stage
+  after_served n stage v = view_of (map (knows_served n) v.members) stage
 
-  -- no person knows of a greater value of next
+  -- no member knows of a greater value of next
   abbrev pub IsNewestNext : ℕ → View E O → Type 0
-  IsNewestNext n v = (n ≤ 2 ^ 63) × Every (λ (p : Person E O). p.next ≤ n) v.people
+  IsNewestNext n v = (n ≤ 2 ^ 63) × Every (λ (p : PassView E O). p.next ≤ n) v.members
 
-  -- no person has seen a greater value of served, or of next a value beyond the end
+  -- no member has seen a greater value of served, or of next a value beyond the end
   abbrev pub IsNewestServed : ℕ → View E O → Type 0
-  IsNewestServed n v = (n ≤ 2 ^ 63) × Every (λ (p : Person E O). (p.served ≤ n) × (p.next ≤ 2 ^ 63)) v.people
+  IsNewestServed n v = (n ≤ 2 ^ 63) × Every (λ (p : PassView E O). (p.served ≤ n) × (p.next ≤ 2 ^ 63)) v.members
 
 module _ {T E O : Type 0} where
   -- a load of next
@@ -53,27 +53,27 @@ module _ {T E O : Type 0} where
 
   -- a load of served by seats that don't wait: of what two of them have seen one begins the other
   abbrev pub saw_served : Me (Option T) (View E O) → ℕ → Me (Option T) (View E O) → Type 0
-  saw_served m n m' = IsNewestServed n m.0 × (m' ≡ (after_served n m.0.stage m.0, m.1)) × Pairwise AreInLine m.0.people
+  saw_served m n m' = IsNewestServed n m.0 × (m' ≡ (after_served n m.0.stage m.0, m.1)) × Pairwise AreInLine m.0.members
 
   module _ (history : T → List (ℕ × E)) (origin : T → O) where
     -- the value has the origin that the pass knows, begins with what it has seen, and its own entries there are those that it put
-    abbrev pub IsFound : T → Person E O → Type 0
+    abbrev pub IsFound : T → PassView E O → Type 0
     IsFound x p = (origin x ≡ p.origin) × IsPrefix p.seen (history x) × (p.own ≡ named p.pass 0 (history x))
 
     -- a draw of the ticket that was served when it was loaded: if next was that number, the pass holds
     abbrev pub tried : ℕ → Me (Option T) (View E O) → ℕ → Me (Option T) (View E O) → Type 0
     tried expected m n m' = IsNewestNext n m.0
-        × (n ≡ expected → (x : T) × (m' ≡ (after_next (n + 1) (Holds n (history x)) m.0, (0, Some x) ∷ m.1)) × Every (IsFound x) m.0.people)
-        × (n ≢ expected → (m' ≡ (after_next n m.0.stage m.0, m.1)) × Every (λ (p : Person E O). p.seats ≢ 1) m.0.people)
+        × (n ≡ expected → (x : T) × (m' ≡ (after_next (n + 1) (Holds n (history x)) m.0, (0, Some x) ∷ m.1)) × Every (IsFound x) m.0.members)
+        × (n ≢ expected → (m' ≡ (after_next n m.0.stage m.0, m.1)) × Every (λ (p : PassView E O). p.seats ≢ 1) m.0.members)
 
     -- a load of served by a pass that waits: if it finds its ticket, it holds
     abbrev pub listened : Me (Option T) (View E O) → ℕ → Me (Option T) (View E O) → Type 0
     listened m n m' = IsNewestServed n m.0
         × ((t : ℕ) → m.0.stage ≡ Waits t
-        → (n ≡ t → (x : T) × (m' ≡ (after_served n (Holds n (history x)) m.0, (0, Some x) ∷ m.1)) × Every (IsFound x) m.0.people)
+        → (n ≡ t → (x : T) × (m' ≡ (after_served n (Holds n (history x)) m.0, (0, Some x) ∷ m.1)) × Every (IsFound x) m.0.members)
         × (n ≢ t → m' ≡ (after_served n (Waits t) m.0, m.1)))
 
     -- the release: the value is back, and the pass has seen just what it put
     abbrev pub released : Me (Option T) (View E O) → ℕ → Me (Option T) (View E O) → Type 0
-    released m n m' = IsNewestServed n m.0 × ((t : ℕ) (found : List (ℕ × E)) → m.0.stage ≡ Holds t found → Every (λ (p : Person E O). p.own ≡ named p.pass 0 found) m.0.people)
-        × ((x : T) → m.1 ≡ (0, Some x) ∷ [] → m' ≡ (view_of (map (has_put (history x) (n + 1)) m.0.people) Out, []))
+    released m n m' = IsNewestServed n m.0 × ((t : ℕ) (found : List (ℕ × E)) → m.0.stage ≡ Holds t found → Every (λ (p : PassView E O). p.own ≡ named p.pass 0 found) m.0.members)
+        × ((x : T) → m.1 ≡ (0, Some x) ∷ [] → m' ≡ (view_of (map (has_put (history x) (n + 1)) m.0.members) Out, []))

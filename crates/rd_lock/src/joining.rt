@@ -2,7 +2,7 @@
 ghost use Rattle.std.specs.Prelude.{◌≡◌, ◌<◌, ◌≤◌, [], IfSome, IfNone, vec_capacity};
 ghost use Rattle.rd_lock.specs.Histories.{Every};
 ghost use Rattle.rd_lock.specs.Rule.{newcomers, opening_view, view_of};
-ghost use Rattle.rd_lock.specs.Opening.{people_of, IsSeatOf};
+ghost use Rattle.rd_lock.specs.Opening.{members_of, IsSeatOf};
 ghost use Rattle.rd_lock.specs.declared.views.Stage.TheVariants.{Out};
 
 use super::passes::{LockSeat, Pass};
@@ -22,7 +22,7 @@ pub(crate) fn hand_out<T: Recorded>(
     requires empty { passes.old.items ≡ [] }
     requires room { seats ≤ vec_capacity passes.old }
     ensures own { Every (IsSeatOf shared.now.table_id) passes.new.items }
-    ensures people { people_of passes.new.items ≡ newcomers seats (T.origin shared.now.key.value.value) shared.now.key.first 1 seats }
+    ensures members { members_of passes.new.items ≡ newcomers seats (T.origin shared.now.key.value.value) shared.now.key.first 1 seats }
 {
     for number in 0..seats {
         let new = shared.split_seat::<Parted>(&mut seat);
@@ -42,7 +42,7 @@ pub(crate) fn gather<T: Recorded>(
 ) -> Option<LockSeat<T>>
     requires table { 0 < shared.now.table_id.words }
     requires own { Every (IsSeatOf shared.now.table_id) passes.items }
-    ensures some { IfSome result (λ seat. (seat.table_id ≡ shared.now.table_id) × (seat.me ≡ (view_of (people_of passes.items) Out, []))) }
+    ensures some { IfSome result (λ seat. (seat.table_id ≡ shared.now.table_id) × (seat.me ≡ (view_of (members_of passes.items) Out, []))) }
     ensures none { IfNone result (passes.items ≡ []) }
 {
     let Some(last) = passes.pop() else {

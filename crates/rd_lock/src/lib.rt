@@ -18,5 +18,5 @@ mod views;
 
 pub use locks::{NoMemory, TicketLock};
 pub use passes::Pass;
-pub use tickets::{Busy, TryTakeError, TICKETS, TicketsEnded};
+pub use tickets::{Busy, TICKETS, TicketsEnded, TryTakeError};
 pub use views::Recorded;

@@ -18,9 +18,9 @@ pub(crate) type LockSeat<T> = Seat<
 pub struct Pass<T: Recorded> {
     pub(crate) seat: LockSeat<T>,
     pub(crate) number: u64,
-    ghost alone: { length seat.me.0.people ≡ 1 },
+    ghost alone: { length seat.me.0.members ≡ 1 },
     ghost hand: { seat.me.1 ≡ in_hand seat.me.0.stage },
-    ghost numbered: { number ≡ number_in seat.me.0.people },
+    ghost numbered: { number ≡ number_in seat.me.0.members },
 }
 
 impl<T: Recorded> Pass<T> {

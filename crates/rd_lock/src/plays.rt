@@ -58,7 +58,7 @@ impl<T: Recorded> Play<Option<T>, View<T::Entry, T::Origin>> for Released {
     ghost then = { λ _. released T.history T.origin };
 }
 
-/// The second seat's people come first, and the second seat is spent.
+/// The second seat's members come first, and the second seat is spent.
 pub struct Joined;
 
 impl<E, O> Join<View<E, O>> for Joined {
@@ -66,19 +66,19 @@ impl<E, O> Join<View<E, O>> for Joined {
     ghost use Rattle.rd_lock.specs.Rule.{view_of};
     ghost use Rattle.rd_lock.specs.declared.views.Stage.TheVariants.{Out};
 
-    ghost both = { λ v w. view_of (w.people ++ v.people) Out };
+    ghost both = { λ v w. view_of (w.members ++ v.members) Out };
 
     ghost spent = { view_of [] Out };
 }
 
-/// The first of the people gets a seat of its own.
+/// The first of the members gets a seat of its own.
 pub struct Parted;
 
 impl<E, O> Split<View<E, O>> for Parted {
-    ghost use Rattle.rd_lock.specs.Rule.{view_of, first_of_people, other_people};
+    ghost use Rattle.rd_lock.specs.Rule.{view_of, first_of_members, other_members};
     ghost use Rattle.rd_lock.specs.declared.views.Stage.TheVariants.{Out};
 
-    ghost left = { λ v. view_of (other_people v.people) Out };
+    ghost left = { λ v. view_of (other_members v.members) Out };
 
-    ghost right = { λ v. view_of (first_of_people v.people) Out };
+    ghost right = { λ v. view_of (first_of_members v.members) Out };
 }

@@ -74,10 +74,10 @@ pub(crate) fn close_with_seat<T: Recorded>(
 ) -> Result<T, Busy>
     requires sized { (table.shared.table_id.words ≡ 2) × (table.shared.table_id.slots ≡ 1) }
     requires seat { (seat.table_id ≡ table.shared.table_id) × (seat.me.0.stage ≡ Out) }
-    ensures ok { IfOk result (IsLeft T.history T.origin table.shared.key.seats (T.origin table.shared.key.value.value) seat.me.0.people) }
+    ensures ok { IfOk result (IsLeft T.history T.origin table.shared.key.seats (T.origin table.shared.key.value.value) seat.me.0.members) }
     ensures err { IfErr result (λ words. (words.served < words.next) × (words.next ≤ 2 ^ 63)) }
-    ensures newest { IfErr result (λ words. Every (KnowsUpTo words) seat.me.0.people) }
-    ensures succeeds { AreAll table.shared.key.seats (map (λ p. p.pass) seat.me.0.people) → IsOk result }
+    ensures newest { IfErr result (λ words. Every (KnowsUpTo words) seat.me.0.members) }
+    ensures succeeds { AreAll table.shared.key.seats (map (λ p. p.pass) seat.me.0.members) → IsOk result }
 {
     finish(table.close_with(seat))
 }

@@ -17,7 +17,7 @@ pub trait Recorded: Drop {
 }
 
 /// One pass.
-pub struct Person<E, O> {
+pub struct PassView<E, O> {
     /// Its number, from 1.
     pub pass: u64,
     /// How many seats the lock was opened with.
@@ -44,9 +44,9 @@ pub enum Stage<E> {
     Holds(u64, LinkedList<(u64, E)>),
 }
 
-/// What a seat at the table knows: a pass's seat has one person, a joined seat has several, and a spent one none.
+/// What a seat at the table knows: a pass's seat has one member, a joined seat has several, and a spent one none.
 pub struct View<E, O> {
-    pub people: LinkedList<Person<E, O>>,
+    pub members: LinkedList<PassView<E, O>>,
     pub stage: Stage<E>,
 }
 

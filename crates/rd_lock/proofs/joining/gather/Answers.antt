@@ -2,7 +2,7 @@ use Rattle.std.proofs.Common.{◌++◌, [], ◌∷◌, sym, ap, ◌∙◌, subst
 use Rattle.std.proofs.lemmas.List.{append-nil}
 use Rattle.rd_lock.specs.Histories.{Every}
 use Rattle.rd_lock.specs.Rule.{in_hand}
-use Rattle.rd_lock.specs.Opening.{IsSeatOf, people_of}
+use Rattle.rd_lock.specs.Opening.{IsSeatOf, members_of}
 use Rattle.rd_lock.proofs.Lock.{lock_of}
 use Rattle.rd_lock.proofs.PassLists.{joins_it, every_front, every_back, popped}
 use Rattle.rd_lock.proofs.joining.gather.Goals as goal
@@ -14,7 +14,7 @@ loop-pass-init g c = let is = c.in-Some.ensures.items in let last = c.in-Some.la
       out = mine.1;
       hand = last.hand ∙ ap in_hand mine.1;
       own = every_front _ c.pop.new.self.items (last ∷ []) each;
-      people = ap (λ l. people_of c.pop.new.self.items ++ l) (sym (append-nil last.seat.me.0.people)) ∙ popped c.args.passes.items c.pop.new.self.items last [] _ is (append-nil (people_of c.args.passes.items));
+      members = ap (λ l. members_of c.pop.new.self.items ++ l) (sym (append-nil last.seat.me.0.members)) ∙ popped c.args.passes.items c.pop.new.self.items last [] _ is (append-nil (members_of c.args.passes.items));
     }
 
 pub join_seat-requires : goal.join_seat-requires
@@ -34,5 +34,5 @@ loop-pass-preserved g c = let i = c.loop-pass.invariant in let is = c.in-Some-po
       out = ap (λ m. m.0.stage) e.2;
       hand = ap (λ m. m.1) e.2 ∙ i.hand;
       own = every_front _ new (pass ∷ []) each;
-      people = ap (λ m. people_of new ++ m.0.people) e.2 ∙ popped c.loop-pass.passes.items new pass c.loop-pass.seat.me.0.people _ is i.people;
+      members = ap (λ m. members_of new ++ m.0.members) e.2 ∙ popped c.loop-pass.passes.items new pass c.loop-pass.seat.me.0.members _ is i.members;
     }

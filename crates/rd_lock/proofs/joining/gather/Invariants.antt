@@ -1,7 +1,7 @@
 use Rattle.std.proofs.Common.{◌≡◌, [], ◌++◌, vec_len}
 use Rattle.rd_lock.specs.declared.views.Stage.TheVariants.{Out}
 use Rattle.rd_lock.specs.Histories.{Every}
-use Rattle.rd_lock.specs.Opening.{people_of, IsSeatOf}
+use Rattle.rd_lock.specs.Opening.{members_of, IsSeatOf}
 use Rattle.rd_lock.proofs.joining.gather.Given as goal
 
 abbrev pub invariant-loop-pass : goal.invariant-loop-pass
@@ -10,7 +10,7 @@ invariant-loop-pass g l = record {
   out : l.seat.me.0.stage ≡ Out;
   hand : l.seat.me.1 ≡ [];
   own : Every (IsSeatOf l.shared.table_id) l.passes.items;
-  people : people_of l.passes.items ++ l.seat.me.0.people ≡ people_of l.fn.passes.items;
+  members : members_of l.passes.items ++ l.seat.me.0.members ≡ members_of l.fn.passes.items;
 }
 
 abbrev pub decreases-loop-pass : goal.decreases-loop-pass

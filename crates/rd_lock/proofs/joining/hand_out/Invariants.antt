@@ -2,7 +2,7 @@ use Rattle.std.proofs.Common.{◌≡◌, ◌≤◌, [], ◌++◌, length, vec_le
 use Rattle.rd_lock.specs.declared.views.Stage.TheVariants.{Out}
 use Rattle.rd_lock.specs.Histories.{Every}
 use Rattle.rd_lock.specs.Rule.{newcomers}
-use Rattle.rd_lock.specs.Opening.{people_of, IsSeatOf}
+use Rattle.rd_lock.specs.Opening.{members_of, IsSeatOf}
 use Rattle.rd_lock.proofs.joining.hand_out.Given as goal
 
 abbrev pub invariant-loop-number : goal.invariant-loop-number
@@ -14,5 +14,5 @@ invariant-loop-number g l = record {
   size : length l.passes.items ≡ l.number;
   room : l.seats ≤ vec_capacity l.passes;
   own : Every (IsSeatOf l.shared.table_id) l.passes.items;
-  people : people_of l.passes.items ++ l.seat.me.0.people ≡ newcomers l.seats (g.T.Recorded.origin l.shared.key.value.value) l.shared.key.first 1 l.seats;
+  members : members_of l.passes.items ++ l.seat.me.0.members ≡ newcomers l.seats (g.T.Recorded.origin l.shared.key.value.value) l.shared.key.first 1 l.seats;
 }

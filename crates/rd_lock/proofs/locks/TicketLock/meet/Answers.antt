@@ -25,10 +25,10 @@ split_seat-second-requires g c = (
   search rules,
   search rules,
   splits_it (lock_of g.T.Recorded.history g.T.Recorded.origin _ _) _ c.load-served.new.seat.me.0 (ap (λ m. m.0.stage) c.load-served.ensures.2.1 ∙ ap (λ m. m.0.stage) c.join_seat.ensures.2)
-      (some_both c.args.one.seat.me.0.people c.args.other.seat.me.0.people c.load-served.new.seat.me.0.people c.load-served.result c.args.one.alone
-      (ap (λ m. m.0.people) c.load-served.ensures.2.1 ∙ ap (λ m. map (knows_served c.load-served.result) m.0.people) c.join_seat.ensures.2)),
+      (some_both c.args.one.seat.me.0.members c.args.other.seat.me.0.members c.load-served.new.seat.me.0.members c.load-served.result c.args.one.alone
+      (ap (λ m. m.0.members) c.load-served.ensures.2.1 ∙ ap (λ m. map (knows_served c.load-served.result) m.0.members) c.join_seat.ensures.2)),
 )
 
 pub returns-clause-order : goal.returns-clause-order
-returns-clause-order g c = in_line c.args.one.seat.me.0.people c.args.other.seat.me.0.people c.args.one.alone c.args.other.alone
-    (subst (λ m. Pairwise AreInLine m.0.people) c.join_seat.ensures.2 c.load-served.ensures.2.2)
+returns-clause-order g c = in_line c.args.one.seat.me.0.members c.args.other.seat.me.0.members c.args.one.alone c.args.other.alone
+    (subst (λ m. Pairwise AreInLine m.0.members) c.join_seat.ensures.2 c.load-served.ensures.2.2)

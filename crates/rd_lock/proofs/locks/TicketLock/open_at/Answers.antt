@@ -6,6 +6,6 @@ pub returns-in-Ok-lay-clause-ok : goal.returns-in-Ok-lay-clause-ok
 returns-in-Ok-lay-clause-ok g c = record {
   counted = search rules;
   rooted = search rules;
-  are_new = opened_new _ c.in-Ok-lay.table.shared.table_id c.args.seats _ c.args.first c.in-Ok-lay.table.shared.key.first c.args.seats c.hand_out.new.passes.items (search rules) refl (search rules) refl c.hand_out.ensures.people c.hand_out.ensures.own;
-  numbered = opened_numbers c.args.seats _ _ c.args.seats c.hand_out.new.passes.items c.hand_out.ensures.people;
+  are_new = opened_new _ c.in-Ok-lay.table.shared.table_id c.args.seats _ c.args.first c.in-Ok-lay.table.shared.key.first c.args.seats c.hand_out.new.passes.items (search rules) refl (search rules) refl c.hand_out.ensures.members c.hand_out.ensures.own;
+  numbered = opened_numbers c.args.seats _ _ c.args.seats c.hand_out.new.passes.items c.hand_out.ensures.members;
 }
