@@ -13,7 +13,7 @@ use Rattle.rd_cell.specs.declared.operations.Operation.{Operation}
 use Rattle.rd_cell.specs.declared.operations.Answer.{Answer}
 use Rattle.rd_cell.specs.declared.access.Done.{Done}
 use Rattle.rd_cell.specs.declared.refusal.Refusal.{Refusal}
-use Rattle.rd_cell.specs.Places.{is_of, is_place, is_beside, covers, segment_of, some_covers, written}
+use Rattle.rd_cell.specs.Places.{is_of, is_place, is_of_same_segment, covers, segment_of, some_covers, written}
 use Rattle.rd_cell.specs.Contents.{Contents, share, after_write_at, restore, operand}
 use Rattle.rd_cell.specs.Operations.{effect, wrote_content}
 use Rattle.rd_cell.specs.Access.{Performed, effect_at, perform_effect, operate, HasEffect, everywhere, Operates, OperatesOn, Restores}
@@ -158,7 +158,7 @@ place_operates p op was now old new plain works found left others (Ok done) h =
 -- The places of one segment
 
 -- the places beside one that a segment has are that segment's
-pub beside_is_of : (p q : Place) (name : SegName) → segment_of p ≡ Some name → is_beside p q ≡ is_of name q
+pub beside_is_of : (p q : Place) (name : SegName) → segment_of p ≡ Some name → is_of_same_segment p q ≡ is_of name q
 beside_is_of (Head s) q name h = let e : s ≡ name = cc in ap (λ (n : SegName). is_of n q) e
 beside_is_of (Tail s) q name h = let e : s ≡ name = cc in ap (λ (n : SegName). is_of n q) e
 beside_is_of (Next s) q name h = let e : s ≡ name = cc in ap (λ (n : SegName). is_of n q) e

@@ -58,19 +58,19 @@ operand at (CellAt s i) = cell_of_halves (at (ValAt s i)) (at (IdxAt s i))
 operand at p = at p
 
 -- whether a content is of its place's kind, and a counter within its end. The whole of a segment has no content
-abbrev pub may_have : Place → Content → Bool
-may_have QHead (Name s) = true
-may_have QTail (Name s) = true
-may_have (Head s) (Number n) = nat_le n COUNTER_END
-may_have (Tail s) (TailIs closed n) = nat_le n COUNTER_END
-may_have (Next s) (NextIs m) = true
-may_have (CellAt s i) (CellIs c) = true
-may_have (ValAt s i) (ValIs val) = true
-may_have (IdxAt s i) (IdxIs safe idx) = true
-may_have ArrHead (Number n) = nat_le n SLOTS
-may_have ArrTail (Number n) = nat_le n SLOTS
-may_have (ArrCell i) (Slot slot) = true
-may_have _ _ = false
+abbrev pub can_hold : Place → Content → Bool
+can_hold QHead (Name s) = true
+can_hold QTail (Name s) = true
+can_hold (Head s) (Number n) = nat_le n COUNTER_END
+can_hold (Tail s) (TailIs closed n) = nat_le n COUNTER_END
+can_hold (Next s) (NextIs m) = true
+can_hold (CellAt s i) (CellIs c) = true
+can_hold (ValAt s i) (ValIs val) = true
+can_hold (IdxAt s i) (IdxIs safe idx) = true
+can_hold ArrHead (Number n) = nat_le n SLOTS
+can_hold ArrTail (Number n) = nat_le n SLOTS
+can_hold (ArrCell i) (Slot slot) = true
+can_hold _ _ = false
 
 -- whether a segment is there: its places are, and with them its head
 abbrev pub is_there : Contents → SegName → Bool

@@ -33,15 +33,15 @@ is_of_cell s i (Idx t j) = is_name s t && (i == j)
 is_of_cell s i _ = false
 
 -- whether a place is one of the segment that the first is of
-abbrev pub is_beside : Place → Place → Bool
-is_beside (Head s) q = is_of s q
-is_beside (Tail s) q = is_of s q
-is_beside (Next s) q = is_of s q
-is_beside (Cell s i) q = is_of s q
-is_beside (Val s i) q = is_of s q
-is_beside (Idx s i) q = is_of s q
-is_beside (Whole s) q = is_of s q
-is_beside _ q = false
+abbrev pub is_of_same_segment : Place → Place → Bool
+is_of_same_segment (Head s) q = is_of s q
+is_of_same_segment (Tail s) q = is_of s q
+is_of_same_segment (Next s) q = is_of s q
+is_of_same_segment (Cell s i) q = is_of s q
+is_of_same_segment (Val s i) q = is_of s q
+is_of_same_segment (Idx s i) q = is_of s q
+is_of_same_segment (Whole s) q = is_of s q
+is_of_same_segment _ q = false
 
 -- the segment that has a place, if one does; the whole of a segment is none of its places
 abbrev pub segment_of : Place → Option SegName

@@ -1,7 +1,7 @@
 //! Any operation at any place of a segment, done by the segment's own operations.
 
 ghost use Rattle.std.specs.Prelude.{◌≡◌, Some, is_some, IsTrue, IfOk, IfErr, OnErr, Err};
-ghost use Rattle.rd_ring.specs.Prelude.{is_beside, may_have, operand, operate, Operates, Restores};
+ghost use Rattle.rd_ring.specs.Prelude.{is_of_same_segment, can_hold, operand, operate, Operates, Restores};
 ghost use Rattle.rd_cell.specs.Operations.{suits_segments};
 
 use super::segments::Segment;
@@ -18,7 +18,7 @@ impl<const R: usize> Segment<R> {
     /// or a content of another kind there, which no actor asks for. The segment is then as before.
     pub fn operate(&mut self, place: Place, operation: Operation) -> Result<Done, Refusal>
         requires { IsTrue (suits_segments operation) }
-        ensures ok { IfOk result (λ done. Operates (is_beside place) place operation done (part self.old) (part self.new)) }
+        ensures ok { IfOk result (λ done. Operates (is_of_same_segment place) place operation done (part self.old) (part self.new)) }
         ensures err { IfErr result (λ e. operate place operation (operand (part self.old) place) ≡ Err e) }
         ensures unchanged { OnErr result (self.new ≡ self.old) }
     {
@@ -61,8 +61,8 @@ impl<const R: usize> Segment<R> {
     /// Puts the content from before back at one of the segment's places: the inverse of each operation that writes.
     pub fn restore(&mut self, place: Place, content: Content)
         requires there { IsTrue (is_some (operand (part self.old) place)) }
-        requires kind { IsTrue (may_have place content) }
-        ensures { Restores (is_beside place) place (Some content) (part self.old) (part self.new) }
+        requires kind { IsTrue (can_hold place content) }
+        ensures { Restores (is_of_same_segment place) place (Some content) (part self.old) (part self.new) }
     {
         match (place, content) {
             (Place::Head(_), Content::Number(count)) => self.restore_head(count),

@@ -3,7 +3,7 @@ use Rattle.std.proofs.Common.{◌≡◌, ℕ, ◌-◌, ◌<◌, true, false, nat
 use Rattle.std.specs.Vec.{with_item}
 use Rattle.std.proofs.lemmas.Bool.{cases_Bool, cond-true, cond-false}
 use mathlib.Core.Path.{fun_ext}
-use Rattle.rd_ring.specs.Prelude.{MOST_SEGMENTS, SegName, Place, Head, Tail, Next, CellAt, ValAt, IdxAt, WholeOf, WrotePlace, Content, Operation, Made, Done, Refusal, is_name, is_of, is_beside, segment_of, Contents, holding, operand, operate, everywhere, Operates, Makes, Restores, RefusesMaking}
+use Rattle.rd_ring.specs.Prelude.{MOST_SEGMENTS, SegName, Place, Head, Tail, Next, CellAt, ValAt, IdxAt, WholeOf, WrotePlace, Content, Operation, Made, Done, Refusal, is_name, is_of, is_of_same_segment, segment_of, Contents, holding, operand, operate, everywhere, Operates, Makes, Restores, RefusesMaking}
 use Rattle.rd_cell.proofs.PlaceLemmas.{is_name-true, is_name-refl}
 use Rattle.rd_cell.proofs.EffectLemmas.{Agrees, operand_agrees, lift_operates, lift_restore, beside_is_of, not_covered_outside}
 use Rattle.rd_ring.specs.declared.segments.Segment.{Segment}
@@ -63,7 +63,7 @@ changed_here old new name o changes = changes.at name ∙ cond-true (is_name nam
 -- a change of one segment, as one of the segments' places
 pub segment_agrees : {R : ℕ} (old new : List (ListOf R)) (name : SegName) (before left : Segment R) (p : Place) → by_name old name ≡ Some before
     → Changes name (Some left) old new → segment_of p ≡ Some name
-    → Agrees (is_beside p) p (part before) (part left) (segments_of old) (segments_of new)
+    → Agrees (is_of_same_segment p) p (part before) (part left) (segments_of old) (segments_of new)
 segment_agrees old new name before left p there changes own = record {
   old_inside = λ q h. segments_part old name before q there (sym (beside_is_of p q name own) ∙ h);
   new_inside = λ q h. segments_part new name left q (changed_here old new name (Some left) changes) (sym (beside_is_of p q name own) ∙ h);
@@ -81,18 +81,18 @@ pub record Reads {R : ℕ} (makers : List (ListOf R)) (name : SegName) (m : ℕ)
 
 reads_agree : {R : ℕ} (makers : List (ListOf R)) (name : SegName) (m : ℕ) (list : ListOf R) (before left : Segment R) (p : Place)
     → Reads makers name m list before p
-    → Agrees (is_beside p) p (part before) (part left) (segments_of makers) (segments_of (set makers m (with_item list name.n left)))
+    → Agrees (is_of_same_segment p) p (part before) (part left) (segments_of makers) (segments_of (set makers m (with_item list name.n left)))
 reads_agree makers name m list before left p h =
     segment_agrees makers (set makers m (with_item list name.n left)) name before left p
     (named_is makers name m list before h.maker h.there h.list_is h.segment_is)
     (segment_written makers name m list left h.maker h.there h.list_is) h.own
 
 pub operates_in : {R : ℕ} (makers : List (ListOf R)) (name : SegName) (m : ℕ) (list : ListOf R) (before left : Segment R) (p : Place) (op : Operation)
-    → Reads makers name m list before p → (r : Result Done Refusal) → IfOk r (λ done. Operates (is_beside p) p op done (part before) (part left))
+    → Reads makers name m list before p → (r : Result Done Refusal) → IfOk r (λ done. Operates (is_of_same_segment p) p op done (part before) (part left))
     → IfOk r (λ done. Operates everywhere p op done (segments_of makers) (segments_of (set makers m (with_item list name.n left))))
 operates_in makers name m list before left p op reads (Err e) h = tt
 operates_in makers name m list before left p op reads (Ok done) h =
-    lift_operates (is_beside p) p op done (part before) (part left) (segments_of makers) (segments_of (set makers m (with_item list name.n left)))
+    lift_operates (is_of_same_segment p) p op done (part before) (part left) (segments_of makers) (segments_of (set makers m (with_item list name.n left)))
     (reads_agree makers name m list before left p reads) h
 
 pub refuses_in : {R : ℕ} (makers : List (ListOf R)) (name : SegName) (m : ℕ) (list : ListOf R) (before left : Segment R) (p : Place) (op : Operation)
@@ -101,7 +101,7 @@ pub refuses_in : {R : ℕ} (makers : List (ListOf R)) (name : SegName) (m : ℕ)
 refuses_in makers name m list before left p op reads (Ok done) h = tt
 refuses_in makers name m list before left p op reads (Err e) h =
     ap (operate p op)
-    (operand_agrees (is_beside p) p (part before) (part left) (segments_of makers) (segments_of (set makers m (with_item list name.n left)))
+    (operand_agrees (is_of_same_segment p) p (part before) (part left) (segments_of makers) (segments_of (set makers m (with_item list name.n left)))
     (reads_agree makers name m list before left p reads)) ∙ h
 
 -- a segment that was left as it was leaves the places as they were
@@ -114,14 +114,14 @@ unchanged_in {R} makers name m list before left p reads (Err e) same = fun_ext e
     each : (q : Place) → segments_of (set makers m (with_item list name.n left)) q ≡ segments_of makers q
     each q =
         let agrees = reads_agree makers name m list before left p reads in
-        elim (cases_Bool (is_beside p q))
+        elim (cases_Bool (is_of_same_segment p q))
         [ inl h ↦ sym (agrees.new_inside q h) ∙ ap (λ (s : Segment R). part s q) same ∙ agrees.old_inside q h | inr h ↦ agrees.outside q h ]
 
 pub restores_in : {R : ℕ} (makers : List (ListOf R)) (name : SegName) (m : ℕ) (list : ListOf R) (before left : Segment R) (p : Place) (c : Content)
-    → Reads makers name m list before p → Restores (is_beside p) p (Some c) (part before) (part left)
+    → Reads makers name m list before p → Restores (is_of_same_segment p) p (Some c) (part before) (part left)
     → Restores everywhere p (Some c) (segments_of makers) (segments_of (set makers m (with_item list name.n left)))
 restores_in makers name m list before left p c reads h = λ q _.
-    lift_restore (is_beside p) p (Some c) (part before) (part left) (segments_of makers) (segments_of (set makers m (with_item list name.n left)))
+    lift_restore (is_of_same_segment p) p (Some c) (part before) (part left) (segments_of makers) (segments_of (set makers m (with_item list name.n left)))
     (reads_agree makers name m list before left p reads) h q
 
 -- Makings

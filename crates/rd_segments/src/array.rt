@@ -3,7 +3,7 @@
 
 ghost use Rattle.std.specs.Prelude.{◌≡◌, ◌↔◌, is_some, length, Some, Err, IsTrue, IfOk, IfErr, OnErr};
 ghost use Rattle.std.specs.List.{All};
-ghost use Rattle.rd_ring.specs.Prelude.{SLOTS, Number, Slot, may_have, operand, operate, restore, everywhere, Operates, OperatesOn};
+ghost use Rattle.rd_ring.specs.Prelude.{SLOTS, Number, Slot, can_hold, operand, operate, restore, everywhere, Operates, OperatesOn};
 ghost use Rattle.rd_cell.specs.Operations.{suits_array};
 
 use rd_cell::limits::SLOTS;
@@ -92,7 +92,7 @@ impl ArrayParts {
     /// Puts the content from before back at a place of the array: the inverse of a fetch-and-add and of a swap.
     pub(crate) fn restore(&mut self, place: Place, content: Content)
         requires there { IsTrue (is_some (array_part self.old place)) }
-        requires kind { IsTrue (may_have place content) }
+        requires kind { IsTrue (can_hold place content) }
         ensures { array_part self.new ≡ restore (Some place) (Some content) (array_part self.old) }
     {
         match (place, content) {

@@ -1,7 +1,7 @@
 //! The makers' lists of segments: what is done to one segment of one list.
 
 ghost use Rattle.std.specs.Prelude.{◌≡◌, ◌≢◌, ◌+◌, ◌-◌, ◌<◌, ◌≤◌, ℕ, Some, None, Err, is_some, IsTrue, IfOk, IfErr, OnOk, OnErr, MatchOption, take, true, length, is_ok, vec_len, vec_capacity, if◌then◌else◌};
-ghost use Rattle.rd_ring.specs.Prelude.{MOST_CELLS, SegName, Place, WholeOf, segment_of, may_have, operand, operate, everywhere, Operates, Makes, Restores, RefusesMaking};
+ghost use Rattle.rd_ring.specs.Prelude.{MOST_CELLS, SegName, Place, WholeOf, segment_of, can_hold, operand, operate, everywhere, Operates, Makes, Restores, RefusesMaking};
 ghost use Rattle.rd_cell.specs.Operations.{suits_segments};
 ghost use Rattle.rd_segments.specs.Lists.{by_name, part_of, segments_of, count, IsLengthened};
 ghost use Rattle.rd_segments.specs.Room.{spare, room_used};
@@ -53,7 +53,7 @@ pub fn restore_in<const R: usize>(
     requires small { R ≤ MOST_CELLS }
     requires there { IsTrue (is_some (operand (part_of (by_name makers.old.items name)) place)) }
     requires its { segment_of place ≡ Some name }
-    requires kind { IsTrue (may_have place content) }
+    requires kind { IsTrue (can_hold place content) }
     ensures done { Restores everywhere place (Some content) (segments_of makers.old.items) (segments_of makers.new.items) }
     ensures room { (m : ℕ) → spare makers.new.items m ≡ spare makers.old.items m }
     ensures number { length makers.new.items ≡ length makers.old.items }

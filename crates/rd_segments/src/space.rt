@@ -1,7 +1,7 @@
 //! The space and what is done to it.
 
 ghost use Rattle.std.specs.Prelude.{◌≡◌, ◌≢◌, ◌+◌, ◌-◌, ◌<◌, ◌≤◌, ◌↔◌, ℕ, suc, true, Some, None, is_ok, is_some, Err, IsTrue, IfOk, IfErr, OnOk, OnErr, length};
-ghost use Rattle.rd_ring.specs.Prelude.{MOST_CELLS, WholeOf, root, content_at, may_have, operand, operate, restore, everywhere, Operates, Makes, RefusesMaking};
+ghost use Rattle.rd_ring.specs.Prelude.{MOST_CELLS, WholeOf, root, content_at, can_hold, operand, operate, restore, everywhere, Operates, Makes, RefusesMaking};
 ghost use Rattle.rd_cell.specs.Operations.{suits};
 ghost use Rattle.rd_segments.specs.Room.{room_used};
 ghost use Rattle.rd_segments.specs.SpaceFields.{fresh_space};
@@ -228,7 +228,7 @@ impl<const R: usize> Space<R> {
     /// Puts the content from before back at a place that is there.
     pub fn restore(&mut self, place: Place, content: Content)
         requires there { IsTrue (is_some (operand (contents self.old) place)) }
-        requires kind { IsTrue (may_have place content) }
+        requires kind { IsTrue (can_hold place content) }
         ensures done { contents self.new ≡ restore (Some place) (Some content) (contents self.old) }
         ensures kept { (m : ℕ) → room self.new m ≡ room self.old m }
         ensures number { lists self.new ≡ lists self.old }

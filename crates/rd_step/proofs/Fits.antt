@@ -1,7 +1,7 @@
 -- Which accesses and answers fit, and that an actor whose record fits asks for an access that fits.
 use Rattle.std.proofs.Common.{nat_lt, ◌≡◌, ℕ, ◌+◌, ◌≤◌, Bool, true, not, ◌&&◌, nat_le, refl, arith, Option, Some, None, IfOk, le-leb, leb-true}
 use Rattle.std.proofs.lemmas.Bool.{and_parts, and_from}
-use Rattle.rd_ring.specs.Prelude.{SLOTS, COUNTER_END, SegName, Place, QHead, QTail, Head, Tail, Next, CellAt, ValAt, IdxAt, ArrHead, ArrTail, ArrCell, Content, Name, Number, TailIs, NextIs, CellIs, ValIs, IdxIs, Slot, Access, NoPlace, At, Make, Answer, Found, SafeAndIndex, Made, Operation, Add, AddArray, CasName, CasNext, CasTail, Cas2, is_array, may_have}
+use Rattle.rd_ring.specs.Prelude.{SLOTS, COUNTER_END, SegName, Place, QHead, QTail, Head, Tail, Next, CellAt, ValAt, IdxAt, ArrHead, ArrTail, ArrCell, Content, Name, Number, TailIs, NextIs, CellIs, ValIs, IdxIs, Slot, Access, NoPlace, At, Make, Answer, Found, SafeAndIndex, Made, Operation, Add, AddArray, CasName, CasNext, CasTail, Cas2, is_array, can_hold}
 use Rattle.rd_actor.specs.declared.actors.Act.{Act}
 use Rattle.rd_actor.specs.declared.actors.Act.TheVariants.{Enq, Deq, AEnq, ADeq, Go, Starve}
 use Rattle.rd_actor.specs.declared.actors.Actor.{Actor}
@@ -86,7 +86,7 @@ actor_grows R there there' None more h = h
 actor_grows R there there' (Some a) more h = record_grows R there there' a more h
 
 -- a content that fits a place is one that the place may have
-pub may_fit : (R : ℕ) (there : Presence) (p : Place) (c : Content) → content_fits R there p c ≡ true → may_have p c ≡ true
+pub may_fit : (R : ℕ) (there : Presence) (p : Place) (c : Content) → content_fits R there p c ≡ true → can_hold p c ≡ true
 may_fit R there QHead (Name s) h = refl
 may_fit R there QTail (Name s) h = refl
 may_fit R there (Head s) (Number n) h = h

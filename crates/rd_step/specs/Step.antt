@@ -1,6 +1,6 @@
 -- The plain step: one event in a world (Morrison and Afek 2013, in our profile of docs/MODEL.md), and its undoing.
 use Rattle.std.specs.Prelude.{◌≡◌, ℕ, ◌+◌, ◌≤◌, true, false, ◌==◌, if◌then◌else◌, Option, Some, None, is_some, IsTrue, Result, Ok, Err}
-use Rattle.rd_ring.specs.Prelude.{SegName, Place, WholeOf, Content, Access, Refusal, NoActor, Contents, operand, restore, is_there, may_have, Performed, contents_after, perform}
+use Rattle.rd_ring.specs.Prelude.{SegName, Place, WholeOf, Content, Access, Refusal, NoActor, Contents, operand, restore, is_there, can_hold, Performed, contents_after, perform}
 use Rattle.rd_actor.specs.declared.actors.Actor.{Actor}
 use Rattle.rd_actor.specs.declared.actors.OpReply.{OpReply}
 use Rattle.rd_actor.specs.Table.{need, after}
@@ -62,7 +62,7 @@ pub record IsLast (at : Contents) (s : SegName) : Type 0 where
 -- whole of a segment, if that is its maker's last one, that it was not there
 abbrev pub CanPutBack : Contents → Option Place → Option Content → Type 0
 CanPutBack at None None = Unit {0}
-CanPutBack at (Some p) (Some c) = IsTrue (is_some (operand at p)) × IsTrue (may_have p c)
+CanPutBack at (Some p) (Some c) = IsTrue (is_some (operand at p)) × IsTrue (can_hold p c)
 CanPutBack at (Some (WholeOf s)) None = IsLast at s
 CanPutBack at _ _ = ⊥
 
