@@ -15,9 +15,9 @@ use Rattle.rd_desk.specs.declared.histories.Call.{Call}
 use Rattle.rd_desk.specs.Histories.{MOST_CALLS, entry, IsLegal, IsUnrecorded}
 
 -- this refusal is not for want of waiting
-abbrev pub IsWaitedOut : DeskRefusal → Type 0
-IsWaitedOut (Busy words) = ⊥
-IsWaitedOut _ = Unit {0}
+abbrev pub IsNotBusy : DeskRefusal → Type 0
+IsNotBusy (Busy words) = ⊥
+IsNotBusy _ = Unit {0}
 
 module _ {T O : Type 0} {K : Ghosts T Call O} (R : ℕ) (opened : BookState) (old new : Pass T Call O K) where
   -- What the viewer has seen begins with all that it had seen, ends with just this call, and is a legal history of the book that was
@@ -52,4 +52,4 @@ module _ {T O : Type 0} {K : Ghosts T Call O} (R : ℕ) (opened : BookState) (ol
   -- what a viewer knows after a call that may wait
   abbrev pub IsTold : Command → Result (Result Reply Refusal) DeskRefusal → Type 0
   IsTold command (Ok answer) = HasAsked command answer
-  IsTold command (Err refusal) = IsRefused refusal × IsWaitedOut refusal
+  IsTold command (Err refusal) = IsRefused refusal × IsNotBusy refusal

@@ -6,7 +6,7 @@
 ghost use Rattle.std.specs.Prelude.{◌≡◌, ◌^◌, Err, IfOk, IfErr};
 ghost use Rattle.rd_lock.specs.Locks.{next_seen, IsPassOf, IsTaken};
 ghost use Rattle.rd_desk.specs.Desks.{opened_state, viewers, IsViewerOf};
-ghost use Rattle.rd_desk.specs.Asking.{HasAsked, IsRefused, IsWaitedOut};
+ghost use Rattle.rd_desk.specs.Asking.{HasAsked, IsRefused, IsNotBusy};
 
 use super::desks::{Desk, DeskPass};
 use super::gates::DeskRefusal;
@@ -36,7 +36,7 @@ impl<const R: usize> Desk<R> {
         ensures ok { IfOk result (λ answer. HasAsked R (opened_state self.now) pass.old pass.new command answer) }
         ensures err { IfErr result (λ refusal. IsRefused R (opened_state self.now) pass.old pass.new refusal) }
         ensures ended { next_seen pass.old ≡ 2 ^ 63 → result ≡ Err TicketsEnded }
-        ensures waits { IfErr result IsWaitedOut }
+        ensures waits { IfErr result IsNotBusy }
     {
         match self.lock.take(rt, pass) {
             Ok(kept) => self.record_and_put_back(pass, kept, command),
@@ -59,7 +59,7 @@ impl<const R: usize> Desk<R> {
         ensures ok { IfOk result (λ answer. HasAsked R (opened_state self.now) pass.old pass.new command answer) }
         ensures err { IfErr result (λ refusal. IsRefused R (opened_state self.now) pass.old pass.new refusal) }
         ensures ended { next_seen pass.old ≡ 2 ^ 63 → result ≡ Err TicketsEnded }
-        ensures succeeds { viewers self.now ≡ 1 → IfErr result IsWaitedOut }
+        ensures succeeds { viewers self.now ≡ 1 → IfErr result IsNotBusy }
     {
         match self.lock.try_take(pass) {
             Ok(kept) => self.record_and_put_back(pass, kept, command),
@@ -80,7 +80,7 @@ impl<const R: usize> Desk<R> {
         ensures own { IsViewerOf self.now pass.new }
         ensures ok { IfOk result (λ answer. HasAsked R (opened_state self.now) pass.old pass.new command answer) }
         ensures err { IfErr result (λ refusal. IsRefused R (opened_state self.now) pass.old pass.new refusal) }
-        ensures waits { IfErr result IsWaitedOut }
+        ensures waits { IfErr result IsNotBusy }
     {
         let answer = kept.record(pass.number(), command);
         self.lock.put_back(pass, kept);
