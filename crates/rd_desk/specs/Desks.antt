@@ -3,7 +3,7 @@ use Rattle.std.specs.Prelude.{◌≡◌, ℕ, List, [], map}
 use mathlib.Core.List.{IsPrefix}
 use Rattle.rd_lock.specs.declared.views.Recorded.{Ghosts}
 use Rattle.rd_lock.specs.declared.passes.Pass.{Pass}
-use Rattle.rd_lock.specs.Histories.{Every, named, numbers, NamesUpTo, AreAll}
+use Rattle.rd_lock.specs.Histories.{Every, named, numbers, NamesUpTo}
 use Rattle.rd_lock.specs.Locks.{number, seen, own, next_seen, served_seen, seats, root, IsOut, IsPassOf}
 use Rattle.rd_marks.specs.Books.{BookState}
 use Rattle.rd_marks.specs.BookViews.{book_state}
@@ -53,7 +53,3 @@ module _ {R : ℕ} where
       pub leaves : IsLeftBy R (opened_state desk) (entries history) (book_state book)
       pub names : NamesUpTo (viewers desk) (entries history)
       pub tells : Every (Tells history) passes
-
-    -- these are all passes of the desk
-    abbrev pub AreAllOf : Desk R → List (Pass (BookWithHistory R) Call (Book R) K) → Type 0
-    AreAllOf desk passes = AreAll (viewers desk) (map number passes)

@@ -1,10 +1,10 @@
 //! The desk: a book with its history under the ticket lock. Opening, meeting and closing; the calls are in `asking`.
 
-ghost use Rattle.std.specs.Prelude.{◌≡◌, ◌<◌, ◌≤◌, ◌^◌, IfOk, IfErr, IsOk};
-ghost use Rattle.rd_lock.specs.Histories.{Every};
-ghost use Rattle.rd_lock.specs.Locks.{served_seen, IsSamePass};
+ghost use Rattle.std.specs.Prelude.{◌≡◌, ◌<◌, ◌≤◌, ◌^◌, map, IfOk, IfErr, IsOk};
+ghost use Rattle.rd_lock.specs.Histories.{AreAll, Every};
+ghost use Rattle.rd_lock.specs.Locks.{number as number_of, served_seen, IsSamePass};
 ghost use Rattle.rd_lock.specs.Opening.{AreInLine, HasSeenUpTo};
-ghost use Rattle.rd_desk.specs.Desks.{IsViewerOf, IsOpened, IsClosedOver, AreAllOf};
+ghost use Rattle.rd_desk.specs.Desks.{IsViewerOf, IsOpened, IsClosedOver, viewers as viewers_of};
 
 use super::histories::History;
 use super::recording::BookWithHistory;
@@ -77,7 +77,7 @@ impl<const R: usize> Desk<R> {
         ensures ok { IfOk result (λ closed. IsClosedOver self.entry passes.entry.items closed.0 closed.1) }
         ensures err { IfErr result (λ words. (words.served < words.next) × (words.next ≤ 2 ^ 63)) }
         ensures newest { IfErr result (λ words. Every (HasSeenUpTo words) passes.entry.items) }
-        ensures succeeds { AreAllOf self.entry passes.entry.items → IsOk result }
+        ensures succeeds { AreAll (viewers_of self.entry) (map number_of passes.entry.items) → IsOk result }
     {
         let Desk { lock } = self;
         let kept = lock.close(passes)?;

@@ -7,7 +7,7 @@ use Rattle.rd_lock.specs.declared.views.Recorded.{Ghosts}
 use Rattle.rd_lock.specs.declared.passes.Pass.{Pass}
 use Rattle.rd_lock.specs.declared.tickets.Busy.{Busy}
 use Rattle.rd_lock.specs.declared.locks.TicketLock.{TicketLock}
-use Rattle.rd_lock.specs.Histories.{Every, named, numbers, NamesUpTo, AreAll}
+use Rattle.rd_lock.specs.Histories.{Every, named, numbers, NamesUpTo}
 use Rattle.rd_lock.specs.Locks.{number, seen, own, next_seen, served_seen, seats, root, IsOut, IsPassOf}
 
 module _ {T E O : Type 0} (history : T → List (ℕ × E)) (origin : T → O) where
@@ -54,10 +54,6 @@ module _ {T E O : Type 0} {K : Ghosts T E O} where
   -- this pass has seen no greater words
   abbrev pub HasSeenUpTo : Busy → Pass T E O K → Type 0
   HasSeenUpTo words pass = (next_seen pass ≤ words.next) × (served_seen pass ≤ words.served)
-
-  -- these are all passes of the lock
-  abbrev pub AreAllOf : TicketLock T E O → List (Pass T E O K) → Type 0
-  AreAllOf lock passes = AreAll (seats lock) (map number passes)
 
   -- of what the two have seen one begins the other
   abbrev pub AreInLine : Pass T E O K → Pass T E O K → Type 0

@@ -1,8 +1,8 @@
 //! Opening a lock, and closing it.
-ghost use Rattle.std.specs.Prelude.{◌≡◌, ◌<◌, ◌≤◌, ◌^◌, [], IfOk, IfErr, IsOk};
-ghost use Rattle.rd_lock.specs.Opening.{IsOpened, IsClosedOver, HasSeenUpTo, AreAllOf};
-ghost use Rattle.rd_lock.specs.Histories.{Every};
-ghost use Rattle.rd_lock.specs.Locks.{IsPassOf, IsOut};
+ghost use Rattle.std.specs.Prelude.{◌≡◌, ◌<◌, ◌≤◌, ◌^◌, [], map, IfOk, IfErr, IsOk};
+ghost use Rattle.rd_lock.specs.Opening.{IsOpened, IsClosedOver, HasSeenUpTo};
+ghost use Rattle.rd_lock.specs.Histories.{AreAll, Every};
+ghost use Rattle.rd_lock.specs.Locks.{number as number_of, seats as seats_of, IsPassOf, IsOut};
 
 use super::joining::{gather, hand_out};
 use super::locks::{NoMemory, TicketLock};
@@ -78,7 +78,7 @@ impl<T: Recorded> TicketLock<T> {
         ensures ok { IfOk result (IsClosedOver self passes.items) }
         ensures err { IfErr result (λ words. (words.served < words.next) × (words.next ≤ 2 ^ 63)) }
         ensures newest { IfErr result (λ words. Every (HasSeenUpTo words) passes.items) }
-        ensures succeeds { AreAllOf self passes.items → IsOk result }
+        ensures succeeds { AreAll (seats_of self) (map number_of passes.items) → IsOk result }
     {
         let TicketLock { table } = self;
         match gather(&table.shared, passes) {
