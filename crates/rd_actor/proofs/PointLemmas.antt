@@ -1,4 +1,5 @@
--- The control points one by one: what holds of each of all of them holds of any, and no two have one label.
+-- The control points one by one: what holds of each of all of them holds of any, and no two have
+-- one label.
 use Rattle.std.proofs.Common.{◌≡◌, ℕ, suc, ◌<◌, if◌then◌else◌, List, [], ◌∷◌, length, get_or, bytes_eq, refl, sym, ap, ◌∙◌, subst, arith, lit<}
 use Rattle.std.proofs.lemmas.Bool.{cond_both}
 use Rattle.rd_actor.specs.declared.actors.Pc.{Pc}
@@ -48,7 +49,8 @@ point_of B1 = refl
 point_of B2 = refl
 point_of B3 = refl
 
--- what holds of each of these, and of the one outside calls, holds of the first of them whose label a word is
+-- what holds of each of these, and of the one outside calls, holds of the first of them whose label
+-- a word is
 holds_of_first : (P : Pc → Type 0) (pcs : List Pc) (word : List ℕ) → P Idle → ((k : ℕ) → k < length pcs → P (get_or pcs k Idle)) → P (first_of pcs word)
 holds_of_first P [] word idle each = idle
 holds_of_first P (pc ∷ pcs) word idle each =

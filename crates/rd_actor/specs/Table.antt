@@ -1,4 +1,5 @@
--- The table of control points, one row a control point: what an actor asks for there, and how it goes on.
+-- The table of control points, one row a control point: what an actor asks for there, and how it
+-- goes on.
 use Rattle.std.specs.Prelude.{ℕ, ◌+◌, ◌%◌, ◌^◌, ◌<◌, Bool, true, false, ◌==◌, ◌&&◌, ◌||◌, nat_lt, nat_le, if◌then◌else◌, Option, Some, None, is_some, is_none, Result, Ok, Err}
 use Rattle.rd_cell.specs.declared.cells.Cell.{Cell}
 use Rattle.rd_cell.specs.declared.places.SegName.{SegName}
@@ -32,7 +33,8 @@ value_of (Some (Enqueue x)) = x
 value_of (Some (EnqueueInArray x)) = x
 value_of _ = 0
 
--- the cell that an enqueue works on, or a half of it, by the kind of place, and the same for a dequeue
+-- the cell that an enqueue works on, or a half of it, by the kind of place, and the same for a
+-- dequeue
 abbrev pub at_tail : ℕ → (SegName → ℕ → Place) → Actor → Place
 at_tail R kind a = kind a.crq (a.t % R)
 
@@ -100,8 +102,8 @@ need R a ADeq = need_call a.pc
 need R a Go = need_at R a.pc a
 need R a (Starve b) = need_choice a.pc
 
--- the numbers that this row's access names are within the words of the program: the index of a cell that is moved on to
--- its next round is below 2^64, and the number of a slot of the array is a byte
+-- the numbers that this row's access names are within the words of the program: the index of a cell
+-- that is moved on to its next round is below 2^64, and the number of a slot of the array is a byte
 abbrev pub IsRepresentableAt : ℕ → Pc → Actor → Type 0
 IsRepresentableAt R Q5 a = a.h + R < 2 ^ 64
 IsRepresentableAt R Q7 a = a.h + R < 2 ^ 64
@@ -118,23 +120,25 @@ IsRepresentable R a _ = Unit {0}
 abbrev pub with_pc : Pc → Actor → Actor
 with_pc pc a = record a { pc = pc }
 
--- the control point after a pass that found its segment empty: the first pass reads the next segment, the second moves
--- the queue's head
+-- the control point after a pass that found its segment empty: the first pass reads the next
+-- segment, the second moves the queue's head
 abbrev pub pc_after_empty_pass : Actor → Pc
 pc_after_empty_pass a = if a.pass == 1 then Q13 else Q14
 
--- an enqueue that drew a position from a tail goes on to its cell, or to make a segment if the ring is closed
+-- an enqueue that drew a position from a tail goes on to its cell, or to make a segment if the ring
+-- is closed
 abbrev pub after_tail_add : Actor → Bool → ℕ → Actor
 after_tail_add a closed count = record a { t = count; pc = if closed then E12 else E5 }
 
--- an enqueue that read a cell's safe bit and index tries the cell if it is empty and its index is not past the position:
--- at once if the cell is safe, else after a look at the head
+-- an enqueue that read a cell's safe bit and index tries the cell if it is empty and its index is
+-- not past the position: at once if the cell is safe, else after a look at the head
 abbrev pub after_enqueue_reads_index : Actor → Bool → ℕ → Actor
 after_enqueue_reads_index a safe idx =
     record a { safe = safe; idx = idx; pc = if is_none a.val && nat_le idx a.t then (if safe then E8 else E7) else E9 }
 
--- a dequeue that read a cell's safe bit and index takes the value of its position, marks the cell unsafe if the value is
--- older, moves an empty cell on to the next round, and passes by a cell whose index is past its position
+-- a dequeue that read a cell's safe bit and index takes the value of its position, marks the cell
+-- unsafe if the value is older, moves an empty cell on to the next round, and passes by a cell
+-- whose index is past its position
 abbrev pub after_dequeue_reads_index : Actor → Bool → ℕ → Actor
 after_dequeue_reads_index a safe idx = record a {
   safe = safe;
@@ -142,7 +146,8 @@ after_dequeue_reads_index a safe idx = record a {
   pc = if nat_lt a.h idx then Q8 else (if is_some a.val then (if idx == a.h then Q5 else Q6) else Q7);
 }
 
--- an enqueue that read the head because its cell is unsafe tries the cell if its position is not behind the head
+-- an enqueue that read the head because its cell is unsafe tries the cell if its position is not
+-- behind the head
 abbrev pub after_unsafe_check : Actor → ℕ → Actor
 after_unsafe_check a g = record a { pc = if nat_le g a.t then E8 else E9 }
 
@@ -150,12 +155,13 @@ after_unsafe_check a g = record a { pc = if nat_le g a.t then E8 else E9 }
 abbrev pub after_full_check : ℕ → Actor → ℕ → Actor
 after_full_check R a g = record a { h = g; pc = if nat_le (g + R) a.t then E11 else E10 }
 
--- a dequeue that read the tail goes to repair it if nothing is enqueued behind its position, else it draws the next one
+-- a dequeue that read the tail goes to repair it if nothing is enqueued behind its position, else
+-- it draws the next one
 abbrev pub after_empty_check : Actor → ℕ → Actor
 after_empty_check a count = record a { t = count; pc = if nat_le count (a.h + 1) then Q9 else Q2 }
 
--- a repair that read the tail again starts over if the tail changed, ends if it is closed or not behind the head, and
--- else tries to move it
+-- a repair that read the tail again starts over if the tail changed, ends if it is closed or not
+-- behind the head, and else tries to move it
 abbrev pub after_repair_check : Actor → Bool → ℕ → Actor
 after_repair_check a closed count =
     record a { pc = if is_bit closed a.closed && (count == a.t) then (if a.closed || nat_le a.h a.t then pc_after_empty_pass a else Q12) else Q9 }
@@ -165,24 +171,25 @@ abbrev pub after_take : Option ℕ → Actor → Actor × Option OpReply
 after_take (Some v) a = (idle, Some (Dequeued v))
 after_take None a = (a, None)
 
--- an enqueue on the array that swapped its value in is over if nobody had come to the slot yet, else it draws the next
--- position
+-- an enqueue on the array that swapped its value in is over if nobody had come to the slot yet,
+-- else it draws the next position
 abbrev pub after_swap_in : Actor → ArrSlot → Actor × Option OpReply
 after_swap_in a NobodyYet = (idle, Some Enqueued)
 after_swap_in a _ = (with_pc A1 a, None)
 
--- a dequeue on the array that swapped its slot out replies the value that it found, else it looks at the tail
+-- a dequeue on the array that swapped its slot out replies the value that it found, else it looks
+-- at the tail
 abbrev pub after_swap_out : Actor → ArrSlot → Actor × Option OpReply
 after_swap_out a (Held v) = (idle, Some (Dequeued v))
 after_swap_out a _ = (with_pc B3 a, None)
 
--- a dequeue on the array that read the tail is over if nothing is enqueued behind its position, else it draws the next
--- one
+-- a dequeue on the array that read the tail is over if nothing is enqueued behind its position,
+-- else it draws the next one
 abbrev pub after_array_empty_check : Actor → ℕ → Actor × Option OpReply
 after_array_empty_check a count = if nat_le count (a.h + 1) then (idle, Some Empty) else (with_pc B1 a, None)
 
--- how an actor at this control point goes on with an answer, and what it replies; an answer of a kind that the row's
--- access never gives changes nothing
+-- how an actor at this control point goes on with an answer, and what it replies; an answer of a
+-- kind that the row's access never gives changes nothing
 abbrev pub after_at : ℕ → Pc → Actor → Answer → Actor × Option OpReply
 after_at R E1 a (Found (Name s)) = (record a { crq = s; pc = E2 }, None)
 after_at R E2 a (Found (NextIs (Some m))) = (record a { next = m; pc = E3 }, None)

@@ -79,6 +79,6 @@ words_fit_at B1 a = array_dequeues a.op && (a.pass == 0)
 words_fit_at B2 a = array_dequeues a.op && (a.pass == 0) && nat_lt a.h SLOTS
 words_fit_at B3 a = array_dequeues a.op && (a.pass == 0) && nat_lt a.h SLOTS
 
--- whether an actor's words fit the control point where it stands
+-- whether an actor's words fit the control point where it is
 abbrev pub words_fit : Actor → Bool
 words_fit a = words_fit_at a.pc a

@@ -102,7 +102,7 @@ pub enum Act {
     AEnq(u64),
     /// The call of a dequeue on the array.
     ADeq,
-    /// The step of the row at which it stands.
+    /// The step of the row at which it is.
     Go,
     /// The choice whether an enqueue starves and closes the ring.
     Starve(bool),
@@ -119,11 +119,11 @@ pub enum OpReply {
     Empty,
 }
 
-/// The words of one actor. The small ones stand together, so that the record is short: every step copies it, and every entry
-/// of a journal keeps one.
+/// The words of one actor. The small ones are together, so that the record is short: every step
+/// copies it, and every entry of a journal keeps one.
 #[derive(Clone, Copy, Debug, PartialEq, Eq)]
 pub struct Actor {
-    /// The control point where it stands.
+    /// The control point where it is.
     pub pc: Pc,
     /// The pass of a dequeue over its segment: 0 before the first, then 1 or 2.
     pub pass: u8,
@@ -170,14 +170,16 @@ impl Actor {
         }
     }
 
-    /// Whether it is the record of an actor in no call: one that was in none, or whose calls were all undone.
+    /// Whether it is the record of an actor in no call: one that was in none, or whose calls were
+    /// all undone.
     pub fn is_idle(&self) -> bool
         ensures { IsTrue result ↔ (self.now ≡ idle) }
     {
         *self == Actor::idle()
     }
 
-    /// The record of an actor that stands at the fetch-and-add of an enqueue of this value, on the root.
+    /// The record of an actor that is at the fetch-and-add of an enqueue of this value, on the
+    /// root.
     pub fn poised(value: u64) -> Actor
         ensures { result ≡ poised value }
     {

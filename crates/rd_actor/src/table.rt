@@ -1,7 +1,8 @@
 //! The table of control points: what an actor asks for at each, and how it goes on.
 //!
-//! A row a control point, in the table's order. `need` has the column of accesses, `after` those of the words set and
-//! of the next control point. The helpers below have the rows that choose between control points.
+//! A row a control point, in the table's order. `need` has the column of accesses, `after` those of
+//! the words set and of the next control point. The helpers below have the rows that choose between
+//! control points.
 
 ghost use Rattle.std.specs.Prelude.{◌≡◌, ◌+◌, ◌%◌, ◌^◌, ◌<◌, ◌≤◌, true, false, Some, None};
 ghost use Rattle.rd_cell.specs.declared.limits.TheConstants.{MOST_CELLS};
@@ -13,13 +14,15 @@ ghost use Rattle.rd_actor.specs.Table.{value_of, cell_of, need, need_at, IsRepre
 use super::actors::{Act, Actor, Op, OpReply, Pc};
 use rd_cell::{Access, Answer, ArrSlot, Cell, Content, Operation, Place, Refusal, SegName};
 
-/// The one access that the actor's next step makes, over rings of `R` cells. The actors of a world name only indexes
-/// and slots that fit their words; for others two rows do not (`IsRepresentable`).
+/// The one access that the actor's next step makes, over rings of `R` cells. The actors of a world
+/// name only indexes and slots that fit their words; for others two rows do not
+/// (`IsRepresentable`).
 ///
 /// # Errors
 ///
-/// In this order: `NotIdle` for a call by an actor that is in one; `Idle` for a step or a choice by an actor that is
-/// in no call; `NeedsChoice` for a step if a choice is due; `NoChoice` for a choice if none is.
+/// In this order: `NotIdle` for a call by an actor that is in one; `Idle` for a step or a choice by
+/// an actor that is in no call; `NeedsChoice` for a step if a choice is due; `NoChoice` for a
+/// choice if none is.
 pub fn need<const R: usize>(actor: &Actor, act: Act) -> Result<Access, Refusal>
     requires positive { 1 ≤ R }
     requires small { R ≤ MOST_CELLS }
@@ -88,7 +91,8 @@ fn need_at<const R: usize>(actor: &Actor) -> Result<Access, Refusal>
     }
 }
 
-/// The actor's record after a step, by what the access answered, and what the call replies if that ended it.
+/// The actor's record after a step, by what the access answered, and what the call replies if that
+/// ended it.
 pub fn after<const R: usize>(actor: &Actor, act: Act, answer: Answer) -> (Actor, Option<OpReply>)
     requires { R ≤ MOST_CELLS }
     ensures { result ≡ after R actor.now act answer }
@@ -103,7 +107,8 @@ pub fn after<const R: usize>(actor: &Actor, act: Act, answer: Answer) -> (Actor,
     }
 }
 
-/// How an actor at its control point goes on. An answer that its row's access never gives leaves it as it is.
+/// How an actor at its control point goes on. An answer that its row's access never gives leaves it
+/// as it is.
 fn after_at<const R: usize>(actor: &Actor, answer: Answer) -> (Actor, Option<OpReply>)
     requires { R ≤ MOST_CELLS }
     ensures { result ≡ after_at R actor.now.pc actor.now answer }
@@ -210,8 +215,8 @@ fn with_value(actor: &Actor, val: Option<u64>, pc: Pc) -> Actor
     Actor { val, pc, ..*actor }
 }
 
-/// E6: the enqueue tries the cell if it is empty and its index is not past the position; an unsafe cell only after a look
-/// at the head.
+/// E6: the enqueue tries the cell if it is empty and its index is not past the position; an unsafe
+/// cell only after a look at the head.
 fn after_enqueue_reads_index(actor: &Actor, safe: bool, idx: u64) -> Actor
     ensures { result ≡ after_enqueue_reads_index actor.now safe idx }
 {
@@ -285,8 +290,8 @@ fn with_head(actor: &Actor, head: u64, pc: Pc) -> Actor
     }
 }
 
-/// Q4: the dequeue takes the value of its position, marks the cell unsafe if the value is older, moves an empty cell on to
-/// the next round, and passes by a cell whose index is past its position.
+/// Q4: the dequeue takes the value of its position, marks the cell unsafe if the value is older,
+/// moves an empty cell on to the next round, and passes by a cell whose index is past its position.
 fn after_dequeue_reads_index(actor: &Actor, safe: bool, idx: u64) -> Actor
     ensures { result ≡ after_dequeue_reads_index actor.now safe idx }
 {
@@ -317,7 +322,8 @@ fn after_take(actor: &Actor) -> (Actor, Option<OpReply>)
     }
 }
 
-/// Q8: the dequeue goes to repair the tail if nothing is enqueued behind its position, else it draws the next one.
+/// Q8: the dequeue goes to repair the tail if nothing is enqueued behind its position, else it
+/// draws the next one.
 fn after_empty_check(actor: &Actor, count: u64) -> Actor
     ensures { result ≡ after_empty_check actor.now count }
 {
@@ -343,8 +349,8 @@ fn with_repair_tail(actor: &Actor, closed: bool, count: u64) -> Actor
     }
 }
 
-/// Q11: the repair starts over if the tail changed, ends if it is closed or not behind the head, and else tries to move
-/// it.
+/// Q11: the repair starts over if the tail changed, ends if it is closed or not behind the head,
+/// and else tries to move it.
 fn after_repair_check(actor: &Actor, closed: bool, count: u64) -> Actor
     ensures { result ≡ after_repair_check actor.now closed count }
 {
@@ -360,8 +366,8 @@ fn after_repair_check(actor: &Actor, closed: bool, count: u64) -> Actor
     Actor { pc, ..*actor }
 }
 
-/// The control point after a pass that found its segment empty: the first pass reads the next segment, the second moves
-/// the queue's head.
+/// The control point after a pass that found its segment empty: the first pass reads the next
+/// segment, the second moves the queue's head.
 fn pc_after_empty_pass(actor: &Actor) -> Pc
     ensures { result ≡ pc_after_empty_pass actor.now }
 {
@@ -391,7 +397,8 @@ fn with_tail(actor: &Actor, tail: u64) -> Actor
     }
 }
 
-/// A2: the enqueue on the array is over if nobody had come to its slot yet, else it draws the next position.
+/// A2: the enqueue on the array is over if nobody had come to its slot yet, else it draws the next
+/// position.
 fn after_swap_in(actor: &Actor, slot: ArrSlot) -> (Actor, Option<OpReply>)
     ensures { result ≡ after_swap_in actor.now slot }
 {
@@ -411,7 +418,8 @@ fn after_swap_out(actor: &Actor, slot: ArrSlot) -> (Actor, Option<OpReply>)
     }
 }
 
-/// B3: the dequeue on the array is over if nothing is enqueued behind its position, else it draws the next one.
+/// B3: the dequeue on the array is over if nothing is enqueued behind its position, else it draws
+/// the next one.
 fn after_array_empty_check(actor: &Actor, count: u64) -> (Actor, Option<OpReply>)
     ensures { result ≡ after_array_empty_check actor.now count }
 {

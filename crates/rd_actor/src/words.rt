@@ -1,5 +1,5 @@
-//! Which words fit an actor's control point, one row a control point. Every step keeps an actor so, and no other actor
-//! comes into a world.
+//! Which words fit an actor's control point, one row a control point. Every step keeps an actor so,
+//! and no other actor comes into a world.
 
 ghost use Rattle.std.specs.Prelude.{◌≡◌};
 ghost use Rattle.rd_actor.specs.Words.{words_fit, is_idle, enqueues, dequeues, array_enqueues, array_dequeues, enqueue_fits, pass_fits};
@@ -9,7 +9,7 @@ use rd_cell::SegName;
 use rd_cell::limits::SLOTS;
 
 impl Actor {
-    /// Whether the words fit the control point where the actor stands.
+    /// Whether the words fit the control point where the actor is.
     pub fn words_fit(&self) -> bool
         ensures { result ≡ words_fit self.now }
     {

@@ -161,7 +161,8 @@ pub number_made-same : (at at' : Contents) (maker : ℕ)
 unfolding number_made
 number_made-same at at' maker same = number_made_from-same MOST_SEGMENTS at at' maker 0 same
 
--- an operation on a place that is there keeps which places are there, if it writes contents of the kind that was there
+-- an operation on a place that is there keeps which places are there, if it writes contents of the
+-- kind that was there
 pub after-is_some : (p : Place) (c : Content) (e : Effect) (at : Contents) (q : Place) → operand at p ≡ Some c → (is_cell_at q ≡ true → at q ≡ None)
     → IfSome e.writes (λ d. is_some (share p (Some d) q) ≡ is_some (share p (Some c) q))
     → is_some (contents_after (effect_at p c e) at q) ≡ is_some (at q)
@@ -256,7 +257,8 @@ place_of NoPlace = None
 place_of (At p op) = Some p
 place_of (Make x) = None
 
--- if an access finds the same content at its place, and its actor has made as many segments, it does the same
+-- if an access finds the same content at its place, and its actor has made as many segments, it
+-- does the same
 pub perform_same : (R actor : ℕ) (at at' : Contents) (x : Access)
     → ((p : Place) → place_of x ≡ Some p → operand at p ≡ operand at' p) → number_made at actor ≡ number_made at' actor
     → perform R actor at x ≡ perform R actor at' x
@@ -283,8 +285,8 @@ place_performed R actor at NoPlace did p h e = cc
 place_performed R actor at (At q op) did p h e = IfOk-at_ok (λ (d : Performed). d.place ≡ Some q) h (place-operate q op (operand at q)) ∙ e
 place_performed R actor at (Make x) did p h e = cc
 
--- an access finds the same at its place before and after another that doesn't interfere with what it did, wherever
--- it did that
+-- an access finds the same at its place before and after another that doesn't interfere with what
+-- it did, wherever it did that
 pub perform_around : (R a b : ℕ) (at there : Contents) (x y : Access) (d e : Performed) → (a ≡ b → ⊥)
     → perform R a at x ≡ Ok d → perform R b there y ≡ Ok e → interferes d e ≡ false
     → perform R b (contents_after d at) y ≡ perform R b at y

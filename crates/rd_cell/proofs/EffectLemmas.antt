@@ -20,7 +20,8 @@ use Rattle.rd_cell.specs.Access.{Performed, effect_at, perform_effect, operate, 
 use Rattle.rd_cell.proofs.PlaceLemmas.{is_name-refl, is_place-true, is_of_cell-of, Covering, itself, as_cell, as_whole, covers_cases, covers-refl, written-covers}
 use Rattle.rd_cell.proofs.AccessLemmas.{after_write-outside, after_write-same, operand-same, place-operate}
 
--- if two pairs of contents agree on the places that are looked at, and nothing else is covered or changed
+-- if two pairs of contents agree on the places that are looked at, and nothing else is covered or
+-- changed
 pub record Agrees (looked_at : Place → Bool) (p : Place) (old new old' new' : Contents) : Type 0 where
   pub old_inside : (q : Place) → looked_at q ≡ true → old q ≡ old' q
   pub new_inside : (q : Place) → looked_at q ≡ true → new q ≡ new' q
@@ -147,7 +148,8 @@ agrees_at p was now old new plain found left others = record {
   outside = others;
 }
 
--- an operation that had its effect on what is at a place, if every other place is as before, was done there
+-- an operation that had its effect on what is at a place, if every other place is as before, was
+-- done there
 pub place_operates : (p : Place) (op : Operation) (was now : Content) (old new : Contents) → ((q : Place) → covers p q ≡ is_place p q)
     → operand old p ≡ Some was → old p ≡ Some was → new p ≡ Some now → ((q : Place) → is_place p q ≡ false → new q ≡ old q)
     → (r : Result Done Refusal) → IfOk r (λ done. OperatesOn p op done was now) → IfOk r (λ done. Operates everywhere p op done old new)

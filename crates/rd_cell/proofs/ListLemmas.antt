@@ -21,7 +21,7 @@ pub slice_get-push_same : {X : Type 0} (xs : List X) (x : X) → slice_get (xs +
 slice_get-push_same [] x = refl
 slice_get-push_same (y ∷ xs) x = slice_get-push_same xs x
 
--- the elements before it, and none behind it
+-- the elements before it, and none after it
 pub slice_get-push_other : {X : Type 0} (xs : List X) (x : X) (k : ℕ) → k ≢ length xs → slice_get (xs ++ x ∷ []) k ≡ slice_get xs k
 slice_get-push_other [] x zero ne = absurd (ne refl)
 slice_get-push_other [] x (suc k) ne = refl

@@ -19,8 +19,8 @@ use Rattle.rd_cell.specs.Places.{is_place, written}
 use Rattle.rd_cell.specs.Contents.{Contents, share, after_write_at, restore, operand, holding}
 use Rattle.rd_cell.specs.Operations.{Effect, effect, wrote_by}
 
--- what an access did: its place and what that had, if there is one, its answer, what it wrote of its place, and what each place
--- that it wrote was given
+-- what an access did: its place and what that had, if there is one, its answer, what it wrote of
+-- its place, and what each place that it wrote was given
 pub record Performed : Type 0 where
   pub place : Option Place
   pub old : Option Content
@@ -36,7 +36,7 @@ contents_after did = after_write_at (written did.place did.wrote) did.given
 abbrev pub done_of : Performed → Done
 done_of did = record { place = did.place; old = did.old; answer = did.answer; wrote = did.wrote }
 
--- how many of the maker's segments are there, from the n-th on, looking at so many names at most
+-- how many of the maker's segments are there, from the n-th on, looking at this many names at most
 unfoldable pub number_made_from : ℕ → Contents → ℕ → ℕ → ℕ
 number_made_from zero at maker n = n
 number_made_from (suc more) at maker n =
@@ -77,8 +77,8 @@ perform R actor at NoPlace = Ok no_access
 perform R actor at (At p op) = operate p op (operand at p)
 perform R actor at (Make x) = make R (record { maker = actor; n = number_made at actor }) x
 
--- an access that does this had its effect on the places that are looked at: they have now what it leaves there, and this
--- is what the entry of its step records
+-- an access that does this had its effect on the places that are looked at: they have now what it
+-- leaves there, and this is what the entry of its step records
 pub record HasEffect (looked_at : Place → Bool) (does : Result Performed Refusal) (done : Done) (old new : Contents) : Type 0 where
   pub performed : Performed
   pub performs : does ≡ Ok performed
@@ -102,11 +102,13 @@ abbrev pub Makes : ℕ → SegName → ℕ → Contents → Contents → Type 0
 Makes R s x old new =
     HasEffect everywhere (make R s x) (record { place = Some (Whole s); old = None; answer = Made s; wrote = WrotePlace }) old new
 
--- this content was put back at the place, or its places were taken away, on the places that are looked at
+-- this content was put back at the place, or its places were taken away, on the places that are
+-- looked at
 abbrev pub Restores : (Place → Bool) → Place → Option Content → Contents → Contents → Type 0
 Restores looked_at p o old new = (q : Place) → looked_at q ≡ true → new q ≡ restore (Some p) o old q
 
--- no further segment is made: so many have been made as one maker may make, or there is no room for one more
+-- no further segment is made: as many have been made as one maker may make, or there is no room for
+-- one more
 abbrev pub RefusesMaking : ℕ → ℕ → Refusal → Type 0
 RefusesMaking number room SegmentsEnd = MOST_SEGMENTS ≤ number
 RefusesMaking number room NoMemory = (number < MOST_SEGMENTS) × (room ≡ 0)

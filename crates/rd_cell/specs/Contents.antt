@@ -10,12 +10,14 @@ use Rattle.rd_cell.specs.Places.{covers}
 use Rattle.rd_cell.specs.declared.cells.Cell.{Cell}
 use Rattle.rd_cell.specs.Cells.{value_in_cell}
 
--- what each place has: nothing if it is not there. A cell and the whole of a segment are no places of the map: the first is a
--- name for the cell's two halves, the second for the segment's 2R + 3 places together
+-- what each place has: nothing if it is not there. A cell and the whole of a segment are no places
+-- of the map: the first is a name for the cell's two halves, the second for the segment's 2R + 3
+-- places together
 abbrev pub Contents : Type 0
 Contents = Place → Option Content
 
--- the contents after a write at a place: each place that it covers has what it is given, and every other what it had
+-- the contents after a write at a place: each place that it covers has what it is given, and every
+-- other what it had
 abbrev pub after_write : Place → Contents → Contents → Contents
 after_write p given at q = if covers p q then given q else at q
 
@@ -35,7 +37,8 @@ abbrev pub halves : Option Content → Contents
 halves (Some (CellIs c)) q = half c q
 halves o q = o
 
--- what each place that a place covers has of its content, or of none: at a cell its half, else all of it
+-- what each place that a place covers has of its content, or of none: at a cell its half, else all
+-- of it
 abbrev pub share : Place → Option Content → Contents
 share (CellAt s i) o q = halves o q
 share p o q = o
@@ -45,19 +48,21 @@ abbrev pub after_write_at : Option Place → Contents → Contents → Contents
 after_write_at None given at = at
 after_write_at (Some p) given at = after_write p given at
 
--- the contents with the old content of a place put back, or for none without the places that it covers
+-- the contents with the old content of a place put back, or for none without the places that it
+-- covers
 abbrev pub restore : Option Place → Option Content → Contents → Contents
 restore None old at = at
 restore (Some p) old at = after_write p (share p old) at
 
--- what an operation at a place works on: its content, and of a cell those of its halves together. The whole of a segment takes
--- no operation
+-- what an operation at a place works on: its content, and of a cell those of its halves together.
+-- The whole of a segment takes no operation
 abbrev pub operand : Contents → Place → Option Content
 operand at (WholeOf s) = None
 operand at (CellAt s i) = cell_of_halves (at (ValAt s i)) (at (IdxAt s i))
 operand at p = at p
 
--- whether a content is of its place's kind, and a counter within its end. The whole of a segment has no content
+-- whether a content is of its place's kind, and a counter within its end. The whole of a segment
+-- has no content
 abbrev pub can_hold : Place → Content → Bool
 can_hold QHead (Name s) = true
 can_hold QTail (Name s) = true
@@ -76,12 +81,14 @@ can_hold _ _ = false
 abbrev pub is_there : Contents → SegName → Bool
 is_there at s = is_some (at (Head s))
 
--- what a query answers at a place: what an operation there works on, and of the whole of a segment that it is there
+-- what a query answers at a place: what an operation there works on, and of the whole of a segment
+-- that it is there
 abbrev pub content_at : Contents → Place → Option Content
 content_at at (WholeOf s) = if is_there at s then Some Whole else None
 content_at at p = operand at p
 
--- what a segment with R cells has at first at each of its places: its counters are 0, and it is open and empty
+-- what a segment with R cells has at first at each of its places: its counters are 0, and it is
+-- open and empty
 abbrev pub fresh : ℕ → Contents
 fresh R (Head s) = Some (Number 0)
 fresh R (Tail s) = Some (TailIs false 0)

@@ -16,7 +16,8 @@ use Rattle.rd_cell.specs.declared.refusal.Refusal.TheVariants.{CounterEnd, Array
 use Rattle.rd_cell.specs.Places.{is_name, is_array}
 use Rattle.rd_cell.specs.Cells.{is_value, is_cell}
 
--- what an operation does to one content: what it answers, and the content that it writes, or none if it only reads
+-- what an operation does to one content: what it answers, and the content that it writes, or none
+-- if it only reads
 pub record Effect : Type 0 where
   pub answer : Answer
   pub writes : Option Content
@@ -29,7 +30,8 @@ reads answer = Ok (record { answer = answer; writes = None })
 abbrev pub writes : Answer → Content → Result Effect Refusal
 writes answer c = Ok (record { answer = answer; writes = Some c })
 
--- a compare-and-swap: if the test holds it wins and writes this content, else it loses and writes nothing
+-- a compare-and-swap: if the test holds it wins and writes this content, else it loses and writes
+-- nothing
 abbrev pub swaps : Bool → Content → Result Effect Refusal
 swaps true c = writes Won c
 swaps false c = reads Lost
@@ -38,7 +40,8 @@ swaps false c = reads Lost
 abbrev pub adds : ℕ → ℕ → Refusal → Content → Content → Result Effect Refusal
 adds limit n refusal old new = if nat_lt n limit then writes (Found old) new else Err refusal
 
--- the effect of an operation on a content; no well-formed world asks for one on a content of another kind
+-- the effect of an operation on a content; no well-formed world asks for one on a content of
+-- another kind
 abbrev pub effect : Operation → Content → Result Effect Refusal
 effect Read (Name s) = reads (Found (Name s))
 effect Read (Number n) = reads (Found (Number n))
@@ -58,11 +61,13 @@ effect (Cas2 old new) (Cell c) = swaps (is_cell c old) (Cell new)
 effect (Swap new) (Slot old) = writes (Found (Slot old)) (Slot new)
 effect _ _ = Err NoSuchPlace
 
--- what putting a new cell over an old one writes: the index half always, and the value half if the values differ
+-- what putting a new cell over an old one writes: the index half always, and the value half if the
+-- values differ
 abbrev pub wrote_cell : Words → Words → Wrote
 wrote_cell old new = if is_value old.val new.val then Index else AllOfPlace
 
--- what writing a new content over an old one writes: all of its place, but for a cell that keeps its value
+-- what writing a new content over an old one writes: all of its place, but for a cell that keeps
+-- its value
 abbrev pub wrote_content : Content → Content → Wrote
 wrote_content (Cell old) (Cell new) = wrote_cell old new
 wrote_content _ _ = AllOfPlace

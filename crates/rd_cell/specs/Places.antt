@@ -76,7 +76,8 @@ is_place ArrTail ArrTail = true
 is_place (ArrCell i) (ArrCell j) = i == j
 is_place _ _ = false
 
--- whether a write of p may change what is at q: q is p, or p is the cell of which q is a half, or the whole of q's segment
+-- whether a write of p may change what is at q: q is p, or p is the cell of which q is a half, or
+-- the whole of q's segment
 abbrev pub covers : Place → Place → Bool
 covers (Whole s) q = is_of s q
 covers (Cell s i) q = is_of_cell s i q
@@ -112,8 +113,8 @@ written_at p Nothing = None
 written_at p AllOfPlace = Some p
 written_at p Index = Some (index_half p)
 
--- the same of an access that has a place or none. Which places of the map an access touches is what its place covers, and which
--- of them it wrote is what this one covers
+-- the same of an access that has a place or none. Which places of the map an access touches is what
+-- its place covers, and which of them it wrote is what this one covers
 abbrev pub written : Option Place → Wrote → Option Place
 written None w = None
 written (Some p) w = written_at p w

@@ -28,8 +28,9 @@ pub struct Done {
     pub old: Option<Content>,
     /// What the access answered.
     pub answer: Answer,
-    /// What it wrote of its place: all of it, but for reads and compare-and-swaps that lost, which write nothing, and for a
-    /// double-word compare-and-swap that won and left the cell's value as it was, which writes the index half.
+    /// What it wrote of its place: all of it, but for reads and compare-and-swaps that lost, which
+    /// write nothing, and for a double-word compare-and-swap that won and left the cell's value as
+    /// it was, which writes the index half.
     pub wrote: Wrote,
 }
 

@@ -30,7 +30,8 @@ impl Cell {
         }
     }
 
-    /// What putting `new` over this cell writes: its index half always, and its value half if the values differ.
+    /// What putting `new` over this cell writes: its index half always, and its value half if the
+    /// values differ.
     pub fn wrote(self, new: Cell) -> Wrote
         ensures { result ≡ wrote_cell self new }
     {
@@ -41,8 +42,9 @@ impl Cell {
         }
     }
 
-    /// Compare-and-swap of the whole cell (CAS2): if the cell equals `old` it becomes `new` and the answer is true, even
-    /// if `old` and `new` are equal; else it stays as it is and the answer is false.
+    /// Compare-and-swap of the whole cell (CAS2): if the cell equals `old` it becomes `new` and the
+    /// answer is true, even if `old` and `new` are equal; else it stays as it is and the answer is
+    /// false.
     pub fn cas2(&mut self, old: Cell, new: Cell) -> bool
         ensures won { IsTrue result ↔ (self.old ≡ old) }
         ensures swapped { OnTrue result (self.new ≡ new) }

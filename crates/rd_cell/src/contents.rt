@@ -19,7 +19,7 @@ pub enum ArrSlot {
 pub enum Content {
     /// The queue's head or tail: the name of a segment.
     Name(SegName),
-    /// A counter that stands alone: a segment's head, or one of the array's.
+    /// A counter by itself: a segment's head, or one of the array's.
     Number(u64),
     /// A segment's tail: its closed bit and its counter.
     Tail {

@@ -1,4 +1,5 @@
-//! The limits of counters, lists and numbers: each stands here once, for the code and for the definitions.
+//! The limits of counters, lists and numbers: each is said here once, for the code and for the
+//! definitions.
 
 /// The end of a segment's counters: 2^62.
 pub const COUNTER_END: u64 = 1 << 62;

@@ -54,7 +54,8 @@ pub enum Operation {
 pub enum Answer {
     /// Nothing: there was no access.
     Nothing,
-    /// The content that a read, a fetch-and-add or a swap found: a name, a number, a tail, a next or a slot.
+    /// The content that a read, a fetch-and-add or a swap found: a name, a number, a tail, a next
+    /// or a slot.
     Found(Content),
     /// The value of a cell.
     Value(Option<u64>),
@@ -76,7 +77,8 @@ pub enum Answer {
 }
 
 impl Operation {
-    /// What a read answers on this content; none if the content is of another kind, or if this is no read.
+    /// What a read answers on this content; none if the content is of another kind, or if this is
+    /// no read.
     pub fn read(self, content: Content) -> Option<Answer>
         ensures { result ≡ read_answer self content }
     {

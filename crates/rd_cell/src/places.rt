@@ -1,10 +1,12 @@
-//! Segment names, the twelve kinds of place, which places overlap, and which of them an access wrote.
+//! Segment names, the twelve kinds of place, which places overlap, and which of them an access
+//! wrote.
 
 ghost use Rattle.std.specs.Prelude.{◌≡◌};
 ghost use Rattle.rd_cell.specs.declared.places.TheConstants.SegName.{ROOT};
 ghost use Rattle.rd_cell.specs.Places.{covers, is_array, is_of, is_of_cell, overlaps, root, segment_of, index_half, is_nothing, written};
 
-/// The name of a segment: (maker, n) is the one that this actor made as its n-th, from 0. The root is (0, 0).
+/// The name of a segment: (maker, n) is the one that this actor made as its n-th, from 0. The root
+/// is (0, 0).
 #[derive(Clone, Copy, Debug, PartialEq, Eq)]
 pub struct SegName {
     /// The number of the actor that made the segment, 1 to 16, or 0 for the root.
@@ -31,7 +33,8 @@ pub enum Place {
     Tail(SegName),
     /// The name of the segment that follows a segment, or none.
     Next(SegName),
-    /// One cell of a segment, by its index from 0: its two halves together, which a double-word compare-and-swap reads.
+    /// One cell of a segment, by its index from 0: its two halves together, which a double-word
+    /// compare-and-swap reads.
     Cell(SegName, u8),
     /// The value half of a cell.
     Val(SegName, u8),
@@ -68,7 +71,8 @@ impl Wrote {
 }
 
 impl Place {
-    /// The segment that has this place; none for the queue's ends, the array's places and the whole of a segment.
+    /// The segment that has this place; none for the queue's ends, the array's places and the whole
+    /// of a segment.
     pub fn segment(self) -> Option<SegName>
         ensures { result ≡ segment_of self }
     {
@@ -101,8 +105,9 @@ impl Place {
     }
 }
 
-/// The place whose places an access wrote, or none if it only read or had no place. What an access touches is what its place
-/// names, and what it wrote is what this one names: dependence is defined by these two alone.
+/// The place whose places an access wrote, or none if it only read or had no place. What an access
+/// touches is what its place names, and what it wrote is what this one names: dependence is defined
+/// by these two alone.
 #[inline(always)]
 pub fn written(place: Option<Place>, wrote: Wrote) -> Option<Place>
     ensures { result ≡ written place wrote }
@@ -115,8 +120,9 @@ pub fn written(place: Option<Place>, wrote: Wrote) -> Option<Place>
     }
 }
 
-/// Whether two places overlap: they are equal, or one is the cell of which the other is a half, or the whole of the segment that
-/// the other belongs to. A scan for a dependant asks this of each step, so each place is looked at once if it can be.
+/// Whether two places overlap: they are equal, or one is the cell of which the other is a half, or
+/// the whole of the segment that the other belongs to. A scan for a dependant asks this of each
+/// step, so each place is looked at once if it can be.
 #[inline(always)]
 pub fn overlaps(a: Place, b: Place) -> bool
     ensures { result ≡ overlaps a b }

@@ -13,9 +13,9 @@ pub enum Refusal {
     NotIdle,
     /// 3: a step of an actor that is in no call.
     Idle,
-    /// 4: the actor stands at a choice, which `Starve` makes.
+    /// 4: the actor is at a choice, which `Starve` makes.
     NeedsChoice,
-    /// 5: a choice by an actor that stands at none.
+    /// 5: a choice by an actor that is at none.
     NoChoice,
     /// 6: a fetch-and-add on a segment's counter that is 2^62.
     CounterEnd,

@@ -7,11 +7,13 @@ ghost use Rattle.rd_step.specs.Laws.{WasStepped, IsTakenOut};
 
 use rd_step::{Entry, World};
 
-/// Undoes the step of an entry: puts back the old content of its place and the old words of its actor, and changes
-/// nothing else. It can't fail, and takes no memory. What a read found is still there, so its place isn't touched.
+/// Undoes the step of an entry: puts back the old content of its place and the old words of its
+/// actor, and changes nothing else. It can't fail, and takes no memory. What a read found is still
+/// there, so its place isn't touched.
 ///
-/// The step was made in a run that gave this world, and no step that was made after it and remains depends on it
-/// (Danos and Krivine 2004). What is left is the run without it, whichever run that was.
+/// The step was made in a run that gave this world, and no step that was made after it and remains
+/// depends on it (Danos and Krivine 2004). What is left is the run without it, whichever run that
+/// was.
 pub fn unstep<const R: usize>(world: &mut World<R>, entry: &Entry)
     requires { WasStepped R (model world.old) entry.now }
     ensures back { model world.new ≡ unstep (model world.old) entry.now }

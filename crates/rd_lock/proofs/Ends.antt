@@ -28,7 +28,7 @@ module _ (E : Type 0) {O : Type 0} where
   newcomers_apart seats root first k zero = tt
   newcomers_apart seats root first k (suc n) = (later seats root first k (suc k) n (omega arith), newcomers_apart seats root first (suc k) n)
 
-  -- each of so many passes is a newcomer
+  -- each of this many passes is a newcomer
   is_newcomer : (seats : ℕ) (root : O) (first k n j : ℕ) → k ≤ j → j < k + n → IsIn j (numbers_of {E = E} (newcomers seats root first k n))
   is_newcomer seats root first k zero j low high = absurd (omega arith)
   is_newcomer seats root first k (suc n) j low high = dite (ℕ_discrete k j) (λ e. inl e) (λ ne. inr (is_newcomer seats root first (suc k) n j (omega arith) (omega arith)))
@@ -104,8 +104,8 @@ module _ {T E O : Type 0} (lock : Lock T E O) where
       let same : k ≡ id = sym suits.owned ∙ (ap f.owner (sym mine.1) ∙ mine.2.owned) in
       absurd (no_ticket lock views id ps k f.served at has same))
 
-  -- The last state of a table: its words are in order and no one has seen greater ones, with equal words the value is in the slot, and
-  -- if the seat has all passes, the words are equal.
+  -- The last state of a table: its words are in order and no one has seen greater ones, with equal
+  -- words the value is in the slot, and if the seat has all passes, the words are equal.
   pub record IsEnded (ps : List (PassView E O)) (ws : List ℕ) (xs : List (Option T)) : Type 0 where
     pub served : ℕ
     pub next : ℕ

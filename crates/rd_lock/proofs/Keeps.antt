@@ -40,7 +40,8 @@ module _ {E O : Type 0} where
 module _ {T E O : Type 0} (lock : Lock T E O) where
   open lock use {seats}
 
-  -- what a step owes: its own view, of the same passes, that the other views still fit, the tickets, and where the value is
+  -- what a step owes: its own view, of the same passes, that the other views still fit, the
+  -- tickets, and where the value is
   pub moved : (f g : Facts T E) (views : List (View E O)) (id : ℕ) (v w : View E O) → Kept lock f views → get_elem? views id ≡ some v → g.served ≤ g.next → g.next ≤ 2 ^ 63 → NamesUpTo seats g.log → Fits lock g id w
       → g.owner ≡ f.owner → numbers_of w.members ≡ numbers_of v.members
       → ((j : ℕ) (u : View E O) → j ≢ id → get_elem? views j ≡ some u → Fits lock f j u → Fits lock g j u)

@@ -48,7 +48,8 @@ module _ {A : Type 0} where
   pairwise_map f R [] h = tt
   pairwise_map f R (x ∷ xs) h = (every_map f (R (f x)) xs h.0, pairwise_map f R xs h.1)
 
-  -- what holds of each pair of elements of two lists makes the lists' pairwise facts those of the list of both
+  -- what holds of each pair of elements of two lists makes the lists' pairwise facts those of the
+  -- list of both
   pub pairwise_append : (R : A → A → Type 0) (xs ys : List A) → Pairwise R xs → Pairwise R ys → Every (λ x. Every (R x) ys) xs → Pairwise R (xs ++ ys)
   pairwise_append R [] ys h k b = k
   pairwise_append R (x ∷ xs) ys h k b = (every_append (R x) xs ys h.0 b.0, pairwise_append R xs ys h.1 k b.1)

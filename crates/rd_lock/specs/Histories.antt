@@ -27,7 +27,7 @@ numbers k zero = []
 numbers k (suc n) = k ∷ numbers (suc k) n
 
 module _ {E : Type 0} where
-  -- the entries that name the pass, each with its position; the first entry of the list stands at k
+  -- the entries that name the pass, each with its position; the first entry of the list is at k
   abbrev pub named : ℕ → ℕ → List (ℕ × E) → List (ℕ × E)
   named pass k [] = []
   named pass k (x ∷ xs) = cond (x.0 == pass) ((k, x.1) ∷ named pass (suc k) xs) (named pass (suc k) xs)

@@ -1,4 +1,5 @@
--- What contracts say of a lock and of its passes. A word that ends in `_in` is over the members of a view, of whom a pass has one.
+-- What contracts say of a lock and of its passes. A word that ends in `_in` is over the members of
+-- a view, of whom a pass has one.
 use Rattle.std.specs.Prelude.{◌≡◌, ℕ, ◌^◌, ◌<◌, ◌≤◌, length, List, [], ◌∷◌, ◌++◌}
 use mathlib.Core.List.{IsPrefix}
 use Rattle.rd_lock.specs.declared.views.PassView.{PassView}
@@ -45,28 +46,30 @@ module _ {E O : Type 0} where
     pub next : next_in v.members ≤ next_in w.members
     pub served : served_in v.members ≤ served_in w.members
 
-  -- what a view is told that took nothing: the greatest words that it has seen, which differ; or that the next ticket is beyond the last
+  -- what a view is told that took nothing: the greatest words that it has seen, which differ; or
+  -- that the next ticket is beyond the last
   abbrev pub IsMissedIn : View E O → TryTakeError → Type 0
   IsMissedIn v (TryTakeError.Busy words) = (words.next ≡ next_in v.members) × (words.served ≡ served_in v.members) × (words.served < words.next) × (words.next < 2 ^ 63)
   IsMissedIn v TryTakeError.TicketsEnded = next_in v.members ≡ 2 ^ 63
 
 module _ {T E O : Type 0} (history : T → List (ℕ × E)) (origin : T → O) (root : O) where
-  -- What is taken has the lock's origin, begins with all that had been seen, and its entries that name the pass are those that it
-  -- put. It is held by a ticket that there is.
+  -- What is taken has the lock's origin, begins with all that had been seen, and its entries that
+  -- name the pass are those that it put. It is held by a ticket that there is.
   pub record IsTakenIn (v w : View E O) (value : T) : Type 0 where
     pub rooted : origin value ≡ root
     pub extends : IsPrefix (seen_in v.members) (history value)
     pub has_own : own_in v.members ≡ named (number_in v.members) 0 (history value)
     pub held : (ticket : ℕ) × (ticket < 2 ^ 63) × (w.stage ≡ Holds ticket (history value))
 
-  -- what may be put back: its origin is the lock's, and its history is the one found and then entries of the pass
+  -- what may be put back: its origin is the lock's, and its history is the one found and then
+  -- entries of the pass
   pub record IsDueIn (v : View E O) (value : T) : Type 0 where
     pub rooted : origin value ≡ root
     pub held : (ticket : ℕ) × (found : List (ℕ × E)) × (v.stage ≡ Holds ticket found) × Adds (number_in v.members) found (history value)
 
 module _ {T E O : Type 0} (history : T → List (ℕ × E)) where
-  -- Just what was put is seen, and the own entries are those there that name the pass: the ones that it had, and the new ones with
-  -- their positions.
+  -- Just what was put is seen, and the own entries are those there that name the pass: the ones
+  -- that it had, and the new ones with their positions.
   pub record HasPutIn (v w : View E O) (value : T) : Type 0 where
     pub same_number : number_in w.members ≡ number_in v.members
     pub has_seen : seen_in w.members ≡ history value
@@ -123,12 +126,13 @@ module _ {T E O : Type 0} {K : Ghosts T E O} where
     pub table : pass.seat.table_id ≡ lock.table.shared.table_id
     pub told : IsToldIn (seats lock) (root K.origin lock) pass.seat.me.0.members
 
-  -- the pass has its number and has seen and put what it had; what it knows of the words has only grown
+  -- the pass has its number and has seen and put what it had; what it knows of the words has only
+  -- grown
   abbrev pub IsSamePass : Pass T E O K → Pass T E O K → Type 0
   IsSamePass old new = IsSameView old.seat.me.0 new.seat.me.0
 
-  -- the new pass holds this value, which has the lock's origin, begins with all that the old one had seen, and in which the entries
-  -- that name the pass are those that it put
+  -- the new pass holds this value, which has the lock's origin, begins with all that the old one
+  -- had seen, and in which the entries that name the pass are those that it put
   abbrev pub IsTaken : TicketLock T E O → Pass T E O K → Pass T E O K → T → Type 0
   IsTaken lock old new value = IsTakenIn K.history K.origin (root K.origin lock) old.seat.me.0 new.seat.me.0 value
 
@@ -140,6 +144,7 @@ module _ {T E O : Type 0} {K : Ghosts T E O} where
   abbrev pub IsDue : TicketLock T E O → Pass T E O K → T → Type 0
   IsDue lock pass value = IsDueIn K.history K.origin (root K.origin lock) pass.seat.me.0 value
 
-  -- the new pass has seen just this value's history, and its own entries are those there that name it
+  -- the new pass has seen just this value's history, and its own entries are those there that name
+  -- it
   abbrev pub HasPut : Pass T E O K → Pass T E O K → T → Type 0
   HasPut old new value = HasPutIn K.history old.seat.me.0 new.seat.me.0 value

@@ -11,7 +11,8 @@ use Rattle.rd_lock.specs.Histories.{Every, named, numbers, NamesUpTo}
 use Rattle.rd_lock.specs.Locks.{number, seen, own, next_seen, served_seen, seats, root, IsOut, IsPassOf}
 
 module _ {T E O : Type 0} (history : T → List (ℕ × E)) (origin : T → O) where
-  -- what the value says of a pass that was handed in: it begins with what that had seen, and the entries that name it are its own
+  -- what the value says of a pass that was handed in: it begins with what that had seen, and the
+  -- entries that name it are its own
   abbrev pub IsToldOf : T → PassView E O → Type 0
   IsToldOf x p = IsPrefix p.seen (history x) × (p.own ≡ named p.pass 0 (history x))
 
@@ -34,18 +35,21 @@ module _ {T E O : Type 0} {K : Ghosts T E O} where
     pub next : next_seen pass ≡ first
     pub served : served_seen pass ≡ first
 
-  -- the lock has the value's origin and so many seats, and its passes are new and have the numbers from 1 on
+  -- the lock has the value's origin and this many seats, and its passes are new and have the
+  -- numbers from 1 on
   pub record IsOpened (value : T) (count first : ℕ) (lock : TicketLock T E O) (passes : List (Pass T E O K)) : Type 0 where
     pub counted : seats lock ≡ count
     pub rooted : root K.origin lock ≡ K.origin value
     pub are_new : Every (IsNewPass lock first) passes
     pub numbered : map number passes ≡ numbers 1 count
 
-  -- the value begins with what the pass had seen, and its entries that name the pass are those that it put
+  -- the value begins with what the pass had seen, and its entries that name the pass are those that
+  -- it put
   abbrev pub Tells : T → Pass T E O K → Type 0
   Tells value pass = IsPrefix (seen pass) (K.history value) × (own pass ≡ named (number pass) 0 (K.history value))
 
-  -- The value has the lock's origin, each of its entries names one of the lock's passes, and it tells of each pass that was handed in.
+  -- The value has the lock's origin, each of its entries names one of the lock's passes, and it
+  -- tells of each pass that was handed in.
   pub record IsClosedOver (lock : TicketLock T E O) (passes : List (Pass T E O K)) (value : T) : Type 0 where
     pub rooted : K.origin value ≡ root K.origin lock
     pub names : NamesUpTo (seats lock) (K.history value)

@@ -16,8 +16,8 @@ pub data Place (T : Type 0) : Type 0 where
   home : T → Place T
   away : ℕ → Place T
 
--- What no thread knows whole: the words, the history at home or found by the holder, the seat of each pass, the seat of each ticket
--- that is drawn and not done with, and where the value is.
+-- What no thread knows whole: the words, the history at home or found by the holder, the seat of
+-- each pass, the seat of each ticket that is drawn and not done with, and where the value is.
 pub record Facts (T E : Type 0) : Type 0 where
   pub next : ℕ
   pub served : ℕ
@@ -78,7 +78,7 @@ module _ {E O : Type 0} where
   abbrev pub newcomer : ℕ → O → ℕ → ℕ → PassView E O
   newcomer seats root first pass = record { pass = pass; seats = seats; origin = root; seen = []; own = []; next = first; served = first }
 
-  -- the passes from a number on, so many of them
+  -- the passes from a number on, this many of them
   abbrev pub newcomers : ℕ → O → ℕ → ℕ → ℕ → List (PassView E O)
   newcomers seats root first pass zero = []
   newcomers seats root first pass (suc n) = newcomer seats root first pass ∷ newcomers seats root first (suc pass) n

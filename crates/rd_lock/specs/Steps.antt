@@ -56,11 +56,13 @@ module _ {T E O : Type 0} where
   saw_served m n m' = IsNewestServed n m.0 × (m' ≡ (after_served n m.0.stage m.0, m.1)) × Pairwise AreInLine m.0.members
 
   module _ (history : T → List (ℕ × E)) (origin : T → O) where
-    -- the value has the origin that the pass knows, begins with what it has seen, and its own entries there are those that it put
+    -- the value has the origin that the pass knows, begins with what it has seen, and its own
+    -- entries there are those that it put
     abbrev pub IsFound : T → PassView E O → Type 0
     IsFound x p = (origin x ≡ p.origin) × IsPrefix p.seen (history x) × (p.own ≡ named p.pass 0 (history x))
 
-    -- a draw of the ticket that was served when it was loaded: if next was that number, the pass holds
+    -- a draw of the ticket that was served when it was loaded: if next was that number, the pass
+    -- holds
     abbrev pub tried : ℕ → Me (Option T) (View E O) → ℕ → Me (Option T) (View E O) → Type 0
     tried expected m n m' = IsNewestNext n m.0
         × (n ≡ expected → (x : T) × (m' ≡ (after_next (n + 1) (Holds n (history x)) m.0, (0, Some x) ∷ m.1)) × Every (IsFound x) m.0.members)

@@ -1,7 +1,9 @@
-//! The ticket lock: several passes share one value, and each has it alone between a take and the put back.
+//! The ticket lock: several passes share one value, and each has it alone between a take and the
+//! put back.
 //!
-//! What is guarded tells, for contracts alone, an origin that stays and a history that only grows. A contract says how the
-//! history that a pass finds stands to what it had seen before, whatever the other passes did in between.
+//! What is guarded tells, for contracts alone, an origin that stays and a history that only grows.
+//! A contract says how the history that a pass finds stands to what it had seen before, whatever
+//! the other passes did in between.
 #![tactic(auto)]
 
 mod joining;

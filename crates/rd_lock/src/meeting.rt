@@ -10,8 +10,8 @@ use super::rule::SERVED;
 use super::views::Recorded;
 
 impl<T: Recorded> TicketLock<T> {
-    /// Both passes look at the word `served` in one step, and learn that of what they have seen one begins the other. The number
-    /// is that word.
+    /// Both passes look at the word `served` in one step, and learn that of what they have seen one
+    /// begins the other. The number is that word.
     ///
     /// The two are joined, look, and are split again.
     pub fn meet(&self, one: Pass<T>, other: Pass<T>) -> (u64, Pass<T>, Pass<T>)

@@ -70,8 +70,9 @@ impl<T: Recorded> TicketLock<T> {
     ///
     /// # Errors
     ///
-    /// `Busy` with two words that differ, neither below what a pass that was handed in has seen: some ticket is drawn and not done with.
-    /// It never comes with all passes. The value is lost then.
+    /// `Busy` with two words that differ, neither below what a pass that was handed in has seen:
+    /// some ticket is drawn and not done with. It never comes with all passes. The value is lost
+    /// then.
     pub fn close(self, passes: Vec<Pass<T>>) -> Result<T, Busy>
         requires own { Every (IsPassOf self) passes.items }
         requires out { Every IsOut passes.items }

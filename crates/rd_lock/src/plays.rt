@@ -71,7 +71,7 @@ impl<E, O> Join<View<E, O>> for Joined {
     ghost spent = { view_of [] Out };
 }
 
-/// The first of the members gets a seat of its own.
+/// The first of the members gets its own seat.
 pub struct Parted;
 
 impl<E, O> Split<View<E, O>> for Parted {

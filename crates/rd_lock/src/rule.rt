@@ -1,7 +1,7 @@
 //! The rule of the table.
 //!
-//! Word 0 is `served`, the ticket whose pass may hold; word 1 is `next`, the ticket that is drawn next. Slot 0 has the value, or
-//! nothing while a pass holds.
+//! Word 0 is `served`, the ticket whose pass may hold; word 1 is `next`, the ticket that is drawn
+//! next. Slot 0 has the value, or nothing while a pass holds.
 use crate::views::{Opened, Recorded, View};
 use atomic_table::TableRule;
 

@@ -18,8 +18,9 @@ pub const TICKETS: u64 = 1 << 63;
 #[derive(Debug, Clone, Copy, PartialEq, Eq)]
 pub struct TicketsEnded;
 
-/// Two words of the lock that differ, so that some ticket is drawn and not done with. From `try_take` they are the greatest that the pass
-/// has seen; from `close` neither is below what a pass that was handed in has seen.
+/// Two words of the lock that differ, so that some ticket is drawn and not done with. From
+/// `try_take` they are the greatest that the pass has seen; from `close` neither is below what a
+/// pass that was handed in has seen.
 #[derive(Debug, Clone, Copy, PartialEq, Eq)]
 pub struct Busy {
     /// The ticket that is drawn next.
@@ -40,11 +41,13 @@ pub enum TryTakeError {
 impl<T: Recorded> TicketLock<T> {
     ghost use Rattle.rd_lock.specs.declared.tickets.TryTakeError.TheVariants as TryTakeError;
 
-    /// Takes the value if it is free, by one load and at most one compare-and-exchange. It waits for nobody.
+    /// Takes the value if it is free, by one load and at most one compare-and-exchange. It waits
+    /// for nobody.
     ///
     /// # Errors
     ///
-    /// `TicketsEnded` if all tickets are drawn, as this pass saw it. `Busy` if a ticket is drawn and not done with.
+    /// `TicketsEnded` if all tickets are drawn, as this pass saw it. `Busy` if a ticket is drawn
+    /// and not done with.
     pub fn try_take(&self, pass: &mut Pass<T>) -> Result<T, TryTakeError>
         requires own { IsPassOf self.now pass.old }
         requires out { IsOut pass.old }

@@ -1,10 +1,12 @@
-//! What the rule of the lock speaks of: passes as the seats at the table know them. No value of these types is made.
+//! What the rule of the lock speaks of: passes as the seats at the table know them. No value of
+//! these types is made.
 ghost use Rattle.std.specs.Prelude.{ℕ, List};
 
 use std::collections::LinkedList;
 use std::snapshot::Snapshot;
 
-/// What a lock can guard. Its origin stays, and its history only grows; each entry names the pass, from 1, that put it.
+/// What a lock can guard. Its origin stays, and its history only grows; each entry names the pass,
+/// from 1, that put it.
 pub trait Recorded: Drop {
     /// What the history has, beside the pass that put it.
     type Entry;
@@ -34,7 +36,7 @@ pub struct PassView<E, O> {
     pub served: u64,
 }
 
-/// Where a seat stands.
+/// Where a seat is.
 pub enum Stage<E> {
     /// It neither waits nor holds.
     Out,
@@ -44,7 +46,8 @@ pub enum Stage<E> {
     Holds(u64, LinkedList<(u64, E)>),
 }
 
-/// What a seat at the table knows: a pass's seat has one member, a joined seat has several, and a spent one none.
+/// What a seat at the table knows: a pass's seat has one member, a joined seat has several, and a
+/// spent one none.
 pub struct View<E, O> {
     pub members: LinkedList<PassView<E, O>>,
     pub stage: Stage<E>,

@@ -1,4 +1,5 @@
--- Along a run an actor that makes no other call is in its call or idle, and a cell into which nothing is put has its value or none.
+-- Along a run an actor that makes no other call is in its call or idle, and a cell into which
+-- nothing is put has its value or none.
 use Rattle.std.proofs.Common.{◌≡◌, ℕ, Bool, true, false, ◌==◌, ◌&&◌, inl, inr, sym, ◌∙◌, ap, subst, eqb-true, List, [], ◌∷◌, Option, Some, None, Ok}
 use Rattle.std.proofs.lemmas.Bool.{cond_both, and_parts, cond-true}
 use Rattle.rd_step.specs.Prelude.{Place, Actor, after, World, Stepped, step, Ran, run}

@@ -91,7 +91,7 @@ record Apart (xs : List Entry) (c p k : ℕ) : Type 0 where
   pub place : taken.place ≡ Some cell
   pub replies : taken.reply ≡ Some (Dequeued value)
 
--- an element behind the beginning has the number after its length
+-- an element after the beginning has the number after its length
 seam_number : (xs before behind : List Entry) (x : Entry) (j : ℕ) → xs ≡ before ++ x ∷ behind → suc (length before) ≡ j → numbered xs j ≡ Some x
 seam_number xs before behind x j whole e =
     subst (λ (n : ℕ). numbered xs n ≡ Some x) e (ap (λ (l : List Entry). numbered l (suc (length before))) whole ∙ at_seam before behind x)

@@ -34,7 +34,8 @@ putter A2 q did h = inr (inl refl)
 putter E12 q did h = inr (inr refl)
 putter _ q did h = cc
 
--- a cell that was won for an enqueue has its value: it is written where the values differ, and else was there
+-- a cell that was won for an enqueue has its value: it is written where the values differ, and else
+-- was there
 cell_filled : (v : ℕ) (s : SegName) (i : ℕ) (c new : Cell) (at : Contents) → operand at (CellAt s i) ≡ Some (CellIs c) → new.val ≡ Some v
     → HasOnly v (after_write_at (written (Some (CellAt s i)) (wrote_cell c new)) (share (CellAt s i) (Some (CellIs new))) at (ValAt s i))
 cell_filled v s i c new at found h =
@@ -128,7 +129,8 @@ putter_op pc a (inr (inr e)) h =
     let fits : words_fit_at E12 a ≡ true = subst (λ (x : Pc). words_fit_at x a ≡ true) e h in
     enqueue_puts a.op (and_parts (enqueues a.op) (a.pass == 0) fits).0
 
--- a put into the cell: its actor is in an enqueue, and the cell has the enqueue's value afterwards, or none
+-- a put into the cell: its actor is in an enqueue, and the cell has the enqueue's value afterwards,
+-- or none
 pub record Put (w : World) (e : Event) (s : Stepped) (q : Place) : Type 0 where
   pub a : Actor
   pub has : w.actor e.actor ≡ Some a

@@ -1,4 +1,5 @@
--- How an actor goes on at each row of the table: it keeps its call or ends it, and hands a value out where it may take one.
+-- How an actor goes on at each row of the table: it keeps its call or ends it, and hands a value
+-- out where it may take one.
 use Rattle.std.proofs.Common.{◌≡◌, ◌⊎◌, ℕ, ◌+◌, nat_le, inl, inr, refl, Option, Some, None}
 use Rattle.std.proofs.lemmas.Bool.{cond_both}
 use Rattle.rd_step.specs.Prelude.{ArrSlot, Empty as NobodyYet, Top, Held, Name, Number, TailIs, NextIs, Slot, Answer, Actor, OpReply}
@@ -19,14 +20,14 @@ abbrev pub value_in : Option OpReply → Option ℕ
 value_in (Some (Dequeued v)) = Some v
 value_in _ = None
 
--- the actor stands where it may take a value
+-- the actor is where it may take a value
 abbrev pub IsTaker : Pc → Type 0
 IsTaker pc = (pc ≡ Q5) ⊎ (pc ≡ B2)
 
 abbrev pub HandsOut : Pc → Actor × Option OpReply → Type 0
 HandsOut pc next = (value_in next.1 ≡ None) ⊎ IsTaker pc
 
--- an actor that stood here goes on so
+-- an actor that was here goes on so
 abbrev pub GoesOn : Pc → Actor → Actor × Option OpReply → Type 0
 GoesOn pc a next = IsStill a.op next.0.op × HandsOut pc next
 

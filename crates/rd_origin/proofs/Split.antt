@@ -3,7 +3,7 @@ use Rattle.std.proofs.Common.{sym, subst, ◌<◌, ◌≡◌, ℕ, zero, suc, �
 use Rattle.rd_step.specs.Dependence.{numbered}
 use Rattle.rd_origin.specs.Positions.{behind, last_position, IsGreatest}
 
--- the element behind the beginning
+-- the element after the beginning
 pub at_seam : {X : Type 0} (xs ys : List X) (x : X) → numbered (xs ++ x ∷ ys) (suc (length xs)) ≡ Some x
 at_seam {X} [] ys x = refl
 at_seam {X} (y ∷ xs) ys x = at_seam xs ys x

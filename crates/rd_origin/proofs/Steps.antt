@@ -20,7 +20,7 @@ use Rattle.rd_origin.proofs.Values.{HasOnly, HoldsOnly, LeavesOnly, AccessKeeps,
 
 -- The rows that put
 
--- the actor stands where it may put a value
+-- the actor is where it may put a value
 abbrev pub IsPutter : Pc → Type 0
 IsPutter pc = (pc ≡ E8) ⊎ (pc ≡ A2) ⊎ (pc ≡ E12)
 

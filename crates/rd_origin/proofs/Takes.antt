@@ -19,7 +19,7 @@ use Rattle.rd_origin.proofs.Values.{held, held_at}
 use Rattle.rd_cell.proofs.AccessLemmas.{halves_there}
 use Rattle.rd_origin.proofs.Steps.{AtNone}
 
--- if an access makes an actor that stands here reply this value, the cell of the access had it
+-- if an access makes an actor that is here reply this value, the cell of the access had it
 abbrev TakesFrom : ℕ → Contents → Actor → Place → ℕ → Pc → Performed → Type 0
 TakesFrom R at a cell u pc did = (after_at R pc a did.answer).1 ≡ Some (Dequeued u) → did.place ≡ Some cell → held_at at cell ≡ Some u
 

@@ -1,4 +1,5 @@
--- Where a value that a step took came from (the table of control points is Morrison and Afek's, 2013, in our profile).
+-- Where a value that a step took came from (the table of control points is Morrison and Afek's,
+-- 2013, in our profile).
 use Rattle.std.specs.Prelude.{ℕ, ◌-◌, ◌==◌, ◌&&◌, not, Bool, true, false, if◌then◌else◌, List, length, take, ok_or, Option, Some, None, Result, Ok, Err}
 use Rattle.rd_step.specs.Prelude.{Place, CellAt, WholeOf, is_name, is_place, is_nothing, Refusal, NoSuchStep, NotATake, Act, OpReply, Ran}
 use Rattle.rd_step.specs.Dependence.{numbered}
@@ -31,8 +32,9 @@ abbrev pub is_first_cell : Option Place → Place → Bool
 is_first_cell (Some (WholeOf s)) (CellAt t i) = is_name s t && (i == 0)
 is_first_cell _ _ = false
 
--- whether a step by an actor that stood here put a value into the cell: a compare-and-swap at E8 that won there, a swap at
--- A2 there, or at E12 the making of the segment that has the cell as its cell 0
+-- whether a step by an actor that was here put a value into the cell: a compare-and-swap at E8 that
+-- won there, a swap at A2 there, or at E12 the making of the segment that has the cell as its cell
+-- 0
 abbrev pub puts_at : Pc → Place → Entry → Bool
 puts_at E8 cell x = not (is_nothing x.wrote) && is_at x.place cell
 puts_at A2 cell x = is_at x.place cell

@@ -1,4 +1,5 @@
-//! The two queries of a session: the origin of a value that a step took, and the last writer of a place.
+//! The two queries of a session: the origin of a value that a step took, and the last writer of a
+//! place.
 
 ghost use Rattle.std.specs.Prelude.{◌≡◌};
 ghost use Rattle.rd_journal.specs.Sessions.{state};
@@ -12,16 +13,18 @@ use rd_actor::OpReply;
 use rd_cell::{Place, Refusal};
 use rd_journal::{LiveRecords, Session};
 
-/// The origin of the value that the live step of this number took, from 1: the last step before it that put a value into
-/// the same cell, and the call that this put was made in.
+/// The origin of the value that the live step of this number took, from 1: the last step before it
+/// that put a value into the same cell, and the call that this put was made in.
 ///
-/// A put is a compare-and-swap that won a cell for an enqueue, a swap by an enqueue on the array, or the making of a segment,
-/// which puts into its first cell. Marking a cell unsafe leaves its value, and is no put. It takes no memory, and makes one pass
-/// over the earlier steps at most, from the back.
+/// A put is a compare-and-swap that won a cell for an enqueue, a swap by an enqueue on the array,
+/// or the making of a segment, which puts into its first cell. Marking a cell unsafe leaves its
+/// value, and is no put. It takes no memory, and makes one pass over the earlier steps at most,
+/// from the back.
 ///
 /// # Errors
 ///
-/// `NoSuchStep`, with the number of live steps, if `k` is not from 1 to it; `NotATake` if the step took no value.
+/// `NoSuchStep`, with the number of live steps, if `k` is not from 1 to it; `NotATake` if the step
+/// took no value.
 pub fn origin<const R: usize>(session: &Session<R>, k: u64) -> Result<Origin, Refusal>
     ensures answer { result ≡ origin_in k (run_of R (state session.now)) }
 {
@@ -61,8 +64,9 @@ fn last_call(steps: &LiveRecords, number: Option<u64>) -> Option<u64>
     last_below(steps, number, StepKind::CallBy(step.event.actor))
 }
 
-/// The last live step that wrote this place, or one of the places that it names; none if no live step did. It takes no memory. The session
-/// finds it in its index, and scans from the back those live steps alone that the index does not reach for want of memory.
+/// The last live step that wrote this place, or one of the places that it names; none if no live
+/// step did. It takes no memory. The session finds it in its index, and scans from the back those
+/// live steps alone that the index does not reach for want of memory.
 ///
 /// # Errors
 ///

@@ -1,4 +1,5 @@
-//! The search that an origin is found by: back from a step to the last one before it of the kind that is looked for.
+//! The search that an origin is found by: back from a step to the last one before it of the kind
+//! that is looked for.
 
 ghost use Rattle.std.specs.Prelude.{◌≡◌, ◌-◌, take, Some, None, MatchOption};
 ghost use Rattle.rd_step.specs.Dependence.{numbered};

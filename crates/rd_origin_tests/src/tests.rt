@@ -19,9 +19,9 @@ use std::test::Fail;
 enum Line {
     /// This actor does this act.
     Act(u8, Act),
-    /// This actor goes on for so many steps, and the last one replies this.
+    /// This actor goes on for this many steps, and the last one replies this.
     Goes(u8, u64, Option<OpReply>),
-    /// So many steps are live.
+    /// This many steps are live.
     Len(u64),
     /// The step of this number took a value that this call put, by this step.
     Taken(u64, u64, u64),
@@ -31,7 +31,8 @@ enum Line {
     Writer(Place, Result<Option<u64>, Refusal>),
 }
 
-/// Plays a run, line by line. A line that is not so ends the test, with the run's name and the line's index.
+/// Plays a run, line by line. A line that is not so ends the test, with the run's name and the
+/// line's index.
 fn play<const R: usize>(rt: &impl Abort, session: &mut Session<R>, run: &str, lines: &[Line]) {
     for i in 0..lines.len() {
         match lines[i] {
@@ -74,7 +75,7 @@ fn replied<const R: usize>(
     Ok(entry.reply)
 }
 
-/// Lets an actor go on for so many steps, and answers what the last one replied.
+/// Lets an actor go on for this many steps, and answers what the last one replied.
 fn gone_on<const R: usize>(
     session: &mut Session<R>,
     actor: u8,
@@ -87,7 +88,7 @@ fn gone_on<const R: usize>(
     Ok(reply)
 }
 
-/// Plays each run from a fresh world of its own, with four actors and rings of `R` cells.
+/// Plays each run from its own fresh world, with four actors and rings of `R` cells.
 fn play_all<const R: usize>(
     rt: &impl Abort,
     alloc: Global,

@@ -30,7 +30,8 @@ reads_at seg p op c a done found answers notes = record {
   leaves = λ q h. refl;
 }
 
--- an operation of the segment's own at one of its places is done at that place, whatever the place names
+-- an operation of the segment's own at one of its places is done at that place, whatever the place
+-- names
 pub does_at : {R : ℕ} (old new : Segment R) (place : SegName → Place) (s : SegName) (p : Place) (op op' : Operation) (c d : Content) (answer : Answer) (wrote : Wrote) (done : Done)
     → ((q : Place) → is_of_same_segment (place s) q ≡ is_of s q) → p ≡ place s → op' ≡ op → operand (part old) p ≡ Some d → OperatesAt place op c answer wrote old new
     → (d ≡ c → done ≡ record { place = Some p; old = Some c; answer = answer; wrote = wrote })

@@ -1,5 +1,6 @@
--- The words of rd_cell that most definitions need, in one place for this crate and those above: types, variants by one name each,
--- limits, places, contents and accesses. (A crate passes on the generated names of the crates below it, and not its own.)
+-- The words of rd_cell that most definitions need, in one place for this crate and those above:
+-- types, variants by one name each, limits, places, contents and accesses. (A crate passes on the
+-- generated names of the crates below it, and not its own.)
 pub use Rattle.rd_cell.specs.declared.limits.TheConstants.{COUNTER_END, MOST_SEGMENTS, MOST_CELLS, SLOTS, MOST_ACTORS, MOST_STEPS}
 pub use Rattle.rd_cell.specs.declared.cells.Cell.{Cell}
 pub use Rattle.rd_cell.specs.declared.places.SegName.{SegName}

@@ -33,8 +33,8 @@ head_count s = s.head
 abbrev pub tail_count : {R : ℕ} → Segment R → ℕ
 tail_count s = s.tail
 
--- whatever the segment is named, an operation at this place of it found this content, answered this, wrote this of it, and
--- left every other place as it was
+-- whatever the segment is named, an operation at this place of it found this content, answered
+-- this, wrote this of it, and left every other place as it was
 pub record OperatesAt {R : ℕ} (place : SegName → Place) (op : Operation) (found : Content) (answer : Answer) (wrote : Wrote) (old new : Segment R) : Type 0 where
   pub named : (s : SegName)
       → Operates (is_of s) (place s) op (record { place = Some (place s); old = Some found; answer = answer; wrote = wrote }) (part old) (part new)
@@ -43,7 +43,8 @@ pub record OperatesAt {R : ℕ} (place : SegName → Place) (op : Operation) (fo
 abbrev pub RefusesAt : {R : ℕ} → (SegName → Place) → Operation → Segment R → Refusal → Type 0
 RefusesAt place op old refusal = (s : SegName) → operate (place s) op (operand (part old) (place s)) ≡ Err refusal
 
--- whatever the segment is named, this content was put back at this place of it, and every other place of it is as it was
+-- whatever the segment is named, this content was put back at this place of it, and every other
+-- place of it is as it was
 pub record RestoresAt {R : ℕ} (place : SegName → Place) (content : Content) (old new : Segment R) : Type 0 where
   pub named : (s : SegName) → Restores (is_of s) (place s) (Some content) (part old) (part new)
 

@@ -14,8 +14,9 @@ impl<const R: usize> Segment<R> {
     ///
     /// # Errors
     ///
-    /// `CounterEnd` for a fetch-and-add on a counter that is 2^62; `NoSuchPlace` if the segment has no such place,
-    /// or a content of another kind there, which no actor asks for. The segment is then as before.
+    /// `CounterEnd` for a fetch-and-add on a counter that is 2^62; `NoSuchPlace` if the segment has
+    /// no such place, or a content of another kind there, which no actor asks for. The segment is
+    /// then as before.
     pub fn operate(&mut self, place: Place, operation: Operation) -> Result<Done, Refusal>
         requires { IsTrue (suits_segments operation) }
         ensures ok { IfOk result (λ done. Operates (is_of_same_segment place) place operation done (part self.old) (part self.new)) }
@@ -58,7 +59,8 @@ impl<const R: usize> Segment<R> {
         }
     }
 
-    /// Puts the content from before back at one of the segment's places: the inverse of each operation that writes.
+    /// Puts the content from before back at one of the segment's places: the inverse of each
+    /// operation that writes.
     pub fn restore(&mut self, place: Place, content: Content)
         requires there { IsTrue (is_some (operand (part self.old) place)) }
         requires kind { IsTrue (can_hold place content) }

@@ -5,8 +5,9 @@ ghost use Rattle.rd_ring.specs.Prelude.{MOST_CELLS};
 
 use rd_cell::{Cell, SegName};
 
-/// The words of a segment that is to be put together. In a well-formed world the counters are at most 2^62, the cells'
-/// indexes at most 2^62 + `R`, and the next, if any, names a segment that is there; here nothing of this is known.
+/// The words of a segment that is to be put together. In a well-formed world the counters are at
+/// most 2^62, the cells' indexes at most 2^62 + `R`, and the next, if any, names a segment that is
+/// there; here nothing of this is known.
 #[derive(Clone, Copy, Debug)]
 pub struct SegmentParts<const R: usize> {
     /// The head counter.

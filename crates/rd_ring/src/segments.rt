@@ -24,7 +24,8 @@ pub struct Segment<const R: usize> {
 impl<const R: usize> Segment<R> {
     ghost use Rattle.rd_ring.specs.Segments.{part, part_from, counters_fit, head_count, tail_count, swap_answer, swap_wrote, OperatesAt, RefusesAt, RestoresAt};
 
-    /// A fresh segment: both counters are 0, it is open, no segment follows, and cell u is safe at index u and empty.
+    /// A fresh segment: both counters are 0, it is open, no segment follows, and cell u is safe at
+    /// index u and empty.
     pub fn fresh() -> Self
         requires { R ≤ MOST_CELLS }
         ensures { (q : Place) → part result q ≡ fresh R q }
@@ -52,7 +53,8 @@ impl<const R: usize> Segment<R> {
         self.head == 0 && self.tail == 0 && !self.closed && self.next.is_none()
     }
 
-    /// A new segment that holds a value already: the fresh one, but its tail is 1 and the value is in cell 0.
+    /// A new segment that holds a value already: the fresh one, but its tail is 1 and the value is
+    /// in cell 0.
     pub fn holding(value: u64) -> Self
         requires positive { 1 ≤ R }
         requires small { R ≤ MOST_CELLS }
@@ -97,8 +99,8 @@ impl<const R: usize> Segment<R> {
         }
     }
 
-    /// What is at a place of the segment, whatever the segment is named there, and of a cell what its halves have together; none
-    /// if the segment has no such place.
+    /// What is at a place of the segment, whatever the segment is named there, and of a cell what
+    /// its halves have together; none if the segment has no such place.
     pub fn content(&self, place: Place) -> Option<Content>
         ensures { result ≡ operand (part self.now) place }
     {
@@ -192,7 +194,8 @@ impl<const R: usize> Segment<R> {
         old
     }
 
-    /// Compare-and-swap of the tail, from open at one count to open at another: answers whether it won.
+    /// Compare-and-swap of the tail, from open at one count to open at another: answers whether it
+    /// won.
     pub fn cas_tail(&mut self, old: u64, new: u64) -> bool
         requires { new ≤ COUNTER_END }
         ensures { (c : Content) → part self.old (Tail root) ≡ Some c
@@ -269,7 +272,8 @@ impl<const R: usize> Segment<R> {
         self.cells[usize::from(i)].val = val;
     }
 
-    /// The inverse of what writes an index half: the safe bit and the index become those from before.
+    /// The inverse of what writes an index half: the safe bit and the index become those from
+    /// before.
     pub fn restore_index(&mut self, i: u8, safe: bool, idx: u64)
         requires { i < R }
         ensures { RestoresAt (λ s. IdxAt s i) (IdxIs safe idx) self.old self.new }

@@ -21,7 +21,8 @@ abbrev pub room_of_place : Option Place → ℕ → ℕ
 room_of_place (Some (WholeOf s)) m = room_used true s.maker m
 room_of_place _ m = 0
 
--- how much of m's room is given back if this old content, or none, is put back: one if a segment of m is taken away
+-- how much of m's room is given back if this old content, or none, is put back: one if a segment of
+-- m is taken away
 abbrev pub room_returned : Option Place → Option Content → ℕ → ℕ
 room_returned p (Some c) m = 0
 room_returned p None m = room_of_place p m

@@ -5,7 +5,8 @@ use Rattle.rd_segments.specs.declared.array.ArrayParts.{ArrayParts}
 use Rattle.rd_segments.specs.Lists.{ListOf, segments_of}
 use Rattle.rd_segments.specs.Array.{array_part, fresh_array}
 
--- what is at each place: the queue's ends name a segment, the segments have their places, and the array its own
+-- what is at each place: the queue's ends name a segment, the segments have their places, and the
+-- array its own
 abbrev pub contents_by : Contents → SegName → SegName → ArrayParts → Contents
 contents_by segments qhead qtail array QHead = Some (Name qhead)
 contents_by segments qhead qtail array QTail = Some (Name qtail)
@@ -18,8 +19,8 @@ contents_by segments qhead qtail array p = segments p
 abbrev pub contents_of : {R : ℕ} → List (ListOf R) → SegName → SegName → ArrayParts → Contents
 contents_of makers = contents_by (segments_of makers)
 
--- a fresh space of rings of R cells: the root alone is there, it is fresh, the queue's ends name it, and the array is
--- fresh
+-- a fresh space of rings of R cells: the root alone is there, it is fresh, the queue's ends name
+-- it, and the array is fresh
 abbrev pub fresh_space : ℕ → Contents
 fresh_space R QHead = Some (Name root)
 fresh_space R QTail = Some (Name root)

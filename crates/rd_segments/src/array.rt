@@ -1,5 +1,5 @@
-//! The array of the array queue (Morrison and Afek's queue over an infinite array, here of 64 slots): its two counters
-//! and its slots.
+//! The array of the array queue (Morrison and Afek's queue over an infinite array, here of 64
+//! slots): its two counters and its slots.
 
 ghost use Rattle.std.specs.Prelude.{◌≡◌, ◌↔◌, is_some, length, Some, Err, IsTrue, IfOk, IfErr, OnErr};
 ghost use Rattle.std.specs.List.{All};
@@ -68,8 +68,8 @@ impl ArrayParts {
     ///
     /// # Errors
     ///
-    /// `ArrayEnd` for a fetch-and-add on a counter that is 64; `NoSuchPlace` if there is no such place, or a content
-    /// of another kind, which no actor asks for. The array is then as before.
+    /// `ArrayEnd` for a fetch-and-add on a counter that is 64; `NoSuchPlace` if there is no such
+    /// place, or a content of another kind, which no actor asks for. The array is then as before.
     pub(crate) fn operate(&mut self, place: Place, operation: Operation) -> Result<Done, Refusal>
         requires { IsTrue (suits_array operation) }
         ensures ok { IfOk result (λ done. Operates everywhere place operation done (array_part self.old) (array_part self.new)) }
@@ -89,7 +89,8 @@ impl ArrayParts {
         }
     }
 
-    /// Puts the content from before back at a place of the array: the inverse of a fetch-and-add and of a swap.
+    /// Puts the content from before back at a place of the array: the inverse of a fetch-and-add
+    /// and of a swap.
     pub(crate) fn restore(&mut self, place: Place, content: Content)
         requires there { IsTrue (is_some (array_part self.old place)) }
         requires kind { IsTrue (can_hold place content) }

@@ -134,7 +134,7 @@ fn take_last<const R: usize>(list: &mut Vec<Segment<R>>)
     let _last = list.pop();
 }
 
-/// Gives the maker room for so many makings.
+/// Makes room for this many makings of the maker.
 ///
 /// # Errors
 ///
@@ -157,7 +157,7 @@ pub fn make_room_in<const R: usize>(
     reserve(&mut makers[usize::from(maker)], more)
 }
 
-/// Gives one maker's list room for so many segments.
+/// Gives one maker's list room for this many segments.
 fn reserve<const R: usize>(list: &mut Vec<Segment<R>>, more: usize) -> Result<(), AllocError>
     requires { R ≤ MOST_CELLS }
     ensures ok { OnOk result (more ≤ vec_capacity list.new - vec_len list.new) }

@@ -8,7 +8,8 @@ ghost use Rattle.rd_segments.specs.Lists.{IsFresh, IsFreshAlone};
 use rd_ring::Segment;
 use std::alloc::{AllocError, Global};
 
-/// A list for each maker from 0 to the number of actors: maker 0's has the root, fresh, and the others are empty.
+/// A list for each maker from 0 to the number of actors: maker 0's has the root, fresh, and the
+/// others are empty.
 ///
 /// # Errors
 ///

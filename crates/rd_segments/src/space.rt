@@ -19,7 +19,8 @@ use rd_cell::{Content, Done, Operation, Place, Refusal, SegName};
 use rd_ring::{Segment, SegmentParts};
 use std::alloc::{AllocError, Global};
 
-/// The places of both queues: the segments, by their makers, the names at the queue's two ends, and the array.
+/// The places of both queues: the segments, by their makers, the names at the queue's two ends, and
+/// the array.
 #[derive(Drop)]
 pub struct Space<const R: usize> {
     makers: Vec<Vec<Segment<R>>>,
@@ -33,8 +34,8 @@ pub struct Space<const R: usize> {
 impl<const R: usize> Space<R> {
     ghost use Rattle.rd_segments.specs.Space.{contents, lists, making_count, room, capacity, head_name, tail_name, array_words};
 
-    /// A fresh space for so many actors: the root is there, fresh, and the queue's two ends name it, and
-    /// the array is fresh.
+    /// A fresh space for this many actors: the root is there, fresh, and the queue's two ends name
+    /// it, and the array is fresh.
     ///
     /// # Errors
     ///
@@ -75,7 +76,8 @@ impl<const R: usize> Space<R> {
         self.array.is_fresh() && are_fresh(&self.makers)
     }
 
-    /// The space of these parts: element m of `segments` has maker m's segments, in the order of their making.
+    /// The space of these parts: element m of `segments` has maker m's segments, in the order of
+    /// their making.
     ///
     /// # Errors
     ///
@@ -102,8 +104,8 @@ impl<const R: usize> Space<R> {
         })
     }
 
-    /// The parts of the segments by their makers: the space is put together again from these, the names at the queue's
-    /// ends and the array.
+    /// The parts of the segments by their makers: the space is put together again from these, the
+    /// names at the queue's ends and the array.
     ///
     /// # Errors
     ///
@@ -136,8 +138,8 @@ impl<const R: usize> Space<R> {
         self.array
     }
 
-    /// What is at a place, or none if it is not there. A cell has what its halves have together, and the whole of a segment that
-    /// is there has `Whole`.
+    /// What is at a place, or none if it is not there. A cell has what its halves have together,
+    /// and the whole of a segment that is there has `Whole`.
     pub fn content(&self, place: Place) -> Option<Content>
         ensures { result ≡ content_at (contents self.now) place }
     {
@@ -165,9 +167,9 @@ impl<const R: usize> Space<R> {
     ///
     /// # Errors
     ///
-    /// `CounterEnd` for a fetch-and-add on a segment's counter that is 2^62, `ArrayEnd` for one on a counter of the array
-    /// that is 64; `NoSuchPlace` if there is no such place, or a content of another kind, which no actor asks for.
-    /// The space is then as before.
+    /// `CounterEnd` for a fetch-and-add on a segment's counter that is 2^62, `ArrayEnd` for one on
+    /// a counter of the array that is 64; `NoSuchPlace` if there is no such place, or a content of
+    /// another kind, which no actor asks for. The space is then as before.
     pub fn operate(&mut self, place: Place, operation: Operation) -> Result<Done, Refusal>
         requires { IsTrue (suits place operation) }
         ensures ok { IfOk result (λ done. Operates everywhere place operation done (contents self.old) (contents self.new)) }
@@ -197,8 +199,8 @@ impl<const R: usize> Space<R> {
     ///
     /// # Errors
     ///
-    /// `SegmentsEnd` exactly if the maker has made 65,535; else `NoMemory` if memory was refused, which happens only if
-    /// the maker has no room. The space is then as before.
+    /// `SegmentsEnd` exactly if the maker has made 65,535; else `NoMemory` if memory was refused,
+    /// which happens only if the maker has no room. The space is then as before.
     pub fn make(&mut self, maker: u8, value: u64) -> Result<SegName, Refusal>
         requires { maker < lists self.old }
         ensures name { IfOk result (λ name. name ≡ record { maker = maker; n = making_count self.old maker }) }
@@ -243,7 +245,7 @@ impl<const R: usize> Space<R> {
         }
     }
 
-    /// Gives a maker room for so many makings, which are then not refused for memory.
+    /// Gives a maker room for this many makings, which are then not refused for memory.
     ///
     /// # Errors
     ///

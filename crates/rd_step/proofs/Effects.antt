@@ -1,4 +1,5 @@
--- An operation that fits, on a content that fits its place, writes one that fits there, and answers what fits.
+-- An operation that fits, on a content that fits its place, writes one that fits there, and answers
+-- what fits.
 use Rattle.std.proofs.Common.{◌≡◌, ℕ, ◌+◌, ◌<◌, ◌≤◌, Bool, true, false, not, ◌==◌, ◌&&◌, nat_lt, nat_le, refl, arith, Option, Some, None, IfSome, Result, IfOk, lt-ltb, ltb-true, leb-true, le-leb}
 use Rattle.std.proofs.lemmas.Bool.{cond_both}
 use Rattle.rd_ring.specs.Prelude.{SLOTS, COUNTER_END, Cell, SegName, Place, QHead, QTail, Head, Tail, Next, CellAt, ValAt, IdxAt, ArrHead, ArrTail, ArrCell, ArrSlot, Content, Name, Number, TailIs, NextIs, CellIs, ValIs, IdxIs, Slot, Found, Won, Lost, Answer, Operation, Read, ReadValue, ReadSafeAndIndex, Add, AddArray, Close, CasName, CasNext, CasTail, Cas2, Swap, Refusal, CounterEnd, ArrayEnd, is_name, is_cell, Effect, effect}

@@ -1,4 +1,5 @@
--- A step that depends on no earlier one may go first in its run, and equivalent lists of events reach one world.
+-- A step that depends on no earlier one may go first in its run, and equivalent lists of events
+-- reach one world.
 use Rattle.std.proofs.Common.{◌≡◌, ℕ, false, refl, sym, ◌∙◌, ap, subst, List, [], ◌∷◌, ◌++◌, Result, Ok}
 use Rattle.std.specs.Prelude.{IsPermutation}
 use Rattle.rd_ring.specs.Prelude.{Refusal}
@@ -31,7 +32,8 @@ as_stepped-same s u h = cc
 
 -- The step of e after the run of `earlier`, and a run on from there, with e moved to the front
 
--- e steps from w with this entry, and the others run on from there to the last world, with their entries
+-- e steps from w with this entry, and the others run on from there to the last world, with their
+-- entries
 pub record GoesFirst (R : ℕ) (w : World) (e : Event) (x : Entry) (others : List Event) (rest : Ran) : Type 0 where
   pub after : World
   pub goes : step R w e ≡ Ok (record { world = after; entry = x })
@@ -112,8 +114,8 @@ ran_through R w (f ∷ fs) e later q h =
 
 -- The first list's first event in the run of the second
 
--- a list that may begin with e, in its run: e's entry, which depends on none of those before it, and the run of the others
--- after e
+-- a list that may begin with e, in its run: e's entry, which depends on none of those before it,
+-- and the run of the others after e
 pub record StandsIn (R : ℕ) (w : World) (e : Event) (earlier later : List Event) (q : Ran) : Type 0 where
   pub x : Entry
   pub of_event : x.event ≡ e

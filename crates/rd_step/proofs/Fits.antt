@@ -118,7 +118,8 @@ access_fits R there NoPlace = true
 access_fits R there (At p op) = op_fits R there p op
 access_fits R there (Make x) = true
 
--- whether an answer fits: the segments that it names are there, and its numbers are within their ends
+-- whether an answer fits: the segments that it names are there, and its numbers are within their
+-- ends
 abbrev pub answer_fits : ℕ → Presence → Answer → Bool
 answer_fits R there (Found (Name s)) = there s
 answer_fits R there (Found (Number g)) = nat_le g COUNTER_END

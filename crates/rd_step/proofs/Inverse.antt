@@ -1,5 +1,5 @@
--- The words that an entry keeps give the world before its step back, and a step on which no later one depends may
--- be taken out of a run.
+-- The words that an entry keeps give the world before its step back, and a step on which no later
+-- one depends may be taken out of a run.
 use Rattle.std.proofs.Common.{◌≡◌, ℕ, zero, suc, ◌+◌, ◌<◌, true, false, nat_lt, inl, inr, refl, sym, ◌∙◌, ap, subst, arith, List, ◌∷◌, Option, Some, None, Result, Ok, Err, IfOk, ltb-true}
 use Rattle.std.proofs.lemmas.Bool.{cases_eq, cases_Bool, cond-true, cond-false, cond_both, and_right}
 use Rattle.std.proofs.lemmas.Result.{IfOk-at_ok}

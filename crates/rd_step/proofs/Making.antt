@@ -1,5 +1,5 @@
--- A making keeps a world well-formed: the new segment is its maker's next one, and its places are just those that
--- belong there.
+-- A making keeps a world well-formed: the new segment is its maker's next one, and its places are
+-- just those that belong there.
 use Rattle.std.proofs.Common.{◌≡◌, ℕ, zero, suc, ◌+◌, ◌<◌, ◌≤◌, Bool, true, false, not, ◌==◌, ◌&&◌, nat_lt, inl, inr, refl, sym, ◌∙◌, ap, subst, arith, Option, Some, None, is_some, ltb-true, le-leb, eqb-true}
 use Rattle.std.proofs.lemmas.Bool.{cases_eq, cases_Bool, cond-true, cond-false, cond_both, and_parts, and_from, and_left}
 use Rattle.rd_ring.specs.Prelude.{MOST_SEGMENTS, COUNTER_END, SegName, Place, Head, Tail, Next, CellAt, ValAt, IdxAt, WholeOf, Content, Number, ValIs, IdxIs, root, is_name, is_of, Contents, is_there, after_write, holding}

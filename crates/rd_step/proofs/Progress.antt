@@ -1,4 +1,5 @@
--- Progress: what an actor of a well-formed world asks for suits what is there, and the answer leads it to another control point.
+-- Progress: what an actor of a well-formed world asks for suits what is there, and the answer leads
+-- it to another control point.
 use Rattle.std.proofs.Common.{◌≡◌, ◌≢◌, ℕ, ◌+◌, ◌%◌, ◌<◌, ◌≤◌, Bool, true, false, not, ◌==◌, ◌&&◌, ◌||◌, if◌then◌else◌, nat_lt, nat_le, refl, sym, ◌∙◌, ap, subst, arith, Option, Some, None, is_some, is_none, Result, Ok, Err, IfOk, lt-ltb}
 use Rattle.std.proofs.lemmas.Bool.{cond_both, and_parts, and_from}
 use Rattle.std.proofs.lemmas.Result.{IfOk-at_ok}

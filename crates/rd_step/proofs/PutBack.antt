@@ -1,4 +1,5 @@
--- A step takes nothing away, makes no segment of another actor, and what its entry keeps may be put back after it.
+-- A step takes nothing away, makes no segment of another actor, and what its entry keeps may be put
+-- back after it.
 use Rattle.std.proofs.Common.{◌≡◌, ◌≢◌, ℕ, zero, suc, ◌+◌, ◌<◌, ◌≤◌, Bool, true, false, not, ◌==◌, nat_lt, refl, sym, ◌∙◌, ap, subst, arith, Option, Some, None, is_some, Result, Ok, Err, IfOk, ltb-true}
 use Rattle.std.proofs.lemmas.Bool.{cond_both, cond-false, and_right, ne_eqb, eqb-false, both_ways, false_from_ne_true, not-true}
 use Rattle.std.proofs.lemmas.Result.{IfOk-at_ok}
@@ -65,7 +66,8 @@ others_stay R w e s n k h other =
 
 -- What may be put back
 
--- what is there after an access goes on to be there, what is there fits, and the actor makes no segment more
+-- what is there after an access goes on to be there, what is there fits, and the actor makes no
+-- segment more
 record GoesOn (R n : ℕ) (after at : Contents) : Type 0 where
   pub fits : (q : Place) → place_fits R (is_there at) q (at q) ≡ true
   pub stays : (q : Place) → is_some (after q) ≡ true → is_some (at q) ≡ true
@@ -121,8 +123,8 @@ can-perform R w n a at NoPlace formed has = λ on. tt
 can-perform R w n a at (At p op) formed has = can-operate R n w at p op (operand w.at p) formed refl
 can-perform R w n a at (Make x) formed has = can-make R w n a at x formed has
 
--- what a step's entry keeps may be put back wherever the places are there that were there after it, and its actor
--- has made no segment more
+-- what a step's entry keeps may be put back wherever the places are there that were there after it,
+-- and its actor has made no segment more
 pub entry_can : (R : ℕ) (w : World) (e : Event) (s : Stepped) (at : Contents) → IsWellFormed R w → step R w e ≡ Ok s
     → ((q : Place) → is_some (s.world.at q) ≡ true → is_some (at q) ≡ true)
     → ((k : ℕ) → is_there at (record { maker = s.entry.event.actor; n = k }) ≡ is_there s.world.at (record { maker = s.entry.event.actor; n = k }))

@@ -122,7 +122,8 @@ entry_actor R w e s h =
     subst (λ (x : Stepped). is_some (x.world.actor x.entry.event.actor) ≡ true) t.ends
     (ap is_some (with_actor-same e.actor next.0 w.actor))
 
--- what `revert` asks for holds if an entry's step may be undone, and what is left is the run of the later steps
+-- what `revert` asks for holds if an entry's step may be undone, and what is left is the run of the
+-- later steps
 pub record CanUndo (R : ℕ) (now : World) (x : Entry) : Type 0 where
   pub actor_there : is_some (now.actor x.event.actor) ≡ true
   pub place_there : CanPutBack now.at x.place x.old_content

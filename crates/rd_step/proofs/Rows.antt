@@ -1,4 +1,5 @@
--- An actor whose record fits goes on, with an answer that fits, to a record that fits: one clause a row of the table.
+-- An actor whose record fits goes on, with an answer that fits, to a record that fits: one clause a
+-- row of the table.
 use Rattle.std.proofs.Common.{◌≡◌, ◌≢◌, ℕ, ◌+◌, ◌<◌, ◌≤◌, Bool, true, false, not, ◌==◌, ◌&&◌, ◌||◌, if◌then◌else◌, nat_lt, nat_le, refl, subst, arith, Option, Some, None, is_some, is_none, Ok, ltb-false, leb-false, le-leb, lt-ltb}
 use Rattle.std.proofs.lemmas.Bool.{cond_both, and_parts, and_from, or_parts, not_from_false, eqb-false, eqb-true}
 use Rattle.rd_ring.specs.Prelude.{SLOTS, COUNTER_END, ArrHead, ArrTail, ArrSlot, Empty as NobodyYet, Top, Held, Name, Number, TailIs, NextIs, Slot, Access, At, AddArray, Answer, Found, Value, SafeAndIndex, Won, Lost, Made, root}
@@ -18,9 +19,10 @@ use Rattle.rd_actor.specs.Words.{dequeues, array_enqueues, array_dequeues, enque
 use Rattle.rd_step.specs.WellFormed.{Presence, record_fits}
 use Rattle.rd_step.proofs.Fits.{PartsFit, parts_of, words_of, together, answer_fits, drew_slot}
 
--- If an actor goes on to one of two control points, its words fit if they fit each in the case in which it is taken
+-- If an actor goes on to one of two control points, its words fit if they fit each in the case in
+-- which it is taken
 
--- a dequeue in its first or second pass stands at the end of it
+-- a dequeue in its first or second pass is at the end of it
 pass_done : (a : Actor) → pass_fits a ≡ true → words_fit_at (pc_after_empty_pass a) a ≡ true
 pass_done a w =
     let parts = and_parts (dequeues a.op) ((a.pass == 1) || (a.pass == 2)) w in
@@ -133,7 +135,8 @@ taken_fits R there a None h whole = whole
 left : (x y : Bool) → (x && y) ≡ true → x ≡ true
 left x y h = (and_parts x y h).0
 
--- on the array: an enqueue whose slot was taken draws again, and a dequeue that found no value looks at the tail
+-- on the array: an enqueue whose slot was taken draws again, and a dequeue that found no value
+-- looks at the tail
 swapped_in_fits : (R : ℕ) (there : Presence) (a : Actor) (slot : ArrSlot) → there root ≡ true → PartsFit R there a → words_fit_at A1 a ≡ true
     → record_fits R there (after_swap_in a slot).0 ≡ true
 swapped_in_fits R there a NobodyYet r f w = idle_record R there r
@@ -146,7 +149,7 @@ swapped_out_fits R there a (Held v) r f w = idle_record R there r
 swapped_out_fits R there a NobodyYet r f w = moved R there a B3 f w
 swapped_out_fits R there a Top r f w = moved R there a B3 f w
 
--- whether the position has a slot that an actor which stands here drew on the array
+-- whether the position has a slot that an actor which is here drew on the array
 abbrev drew_at : Pc → Answer → Bool
 drew_at A1 (Found (Number u)) = nat_lt u SLOTS
 drew_at B1 (Found (Number g)) = nat_lt g SLOTS
@@ -250,7 +253,7 @@ after_at_fits R there a B3 (Found (Number u)) r h whole f w d =
     (λ e. moved R there a B1 f (left (array_dequeues a.op && (a.pass == 0)) (nat_lt a.h SLOTS) w))
 after_at_fits R there a _ _ r h whole f w d = whole
 
--- a choice: the actor stands at a control point at which it may choose
+-- a choice: the actor is at a control point at which it may choose
 chosen_fits : (R : ℕ) (there : Presence) (a : Actor) (pc : Pc) (b : Bool) (x : Access) → need_choice pc ≡ Ok x → PartsFit R there a
     → words_fit_at pc a ≡ true → record_fits R there (with_pc (if b then E11 else E4) a) ≡ true
 chosen_fits R there a E10 true x h f w = moved R there a E11 f w

@@ -15,7 +15,7 @@ use Rattle.rd_step.specs.Fields.{actor_at, world_of_fields}
 use Rattle.rd_step.specs.Starts.{actors_by, fresh_world, poised_world}
 use Rattle.rd_step.specs.WellFormed.{Presence, belongs, place_fits, record_fits, actor_fits, is_actor, maker_fits, IsNumbered, AreMade, IsWellFormed}
 
--- a list of so many actors, each with the record that its number gives
+-- a list of this many actors, each with the record that its number gives
 pub list_actors : (xs : List Actor) (each : ℕ → Actor) (count : ℕ) → length xs ≡ count
     → ((n : ℕ) → n < count → slice_get xs n ≡ Some (each (suc n))) → actor_at xs ≡ actors_by each count
 list_actors xs each count len all = fun_ext same
@@ -119,7 +119,7 @@ within_few : (each : ℕ → Actor) (count : ℕ) → count ≤ MOST_ACTORS → 
 within_few each count few zero h = omega arith
 within_few each count few (suc n) h = let l = below_count each count n h in omega arith
 
--- so many actors are numbered from 1
+-- this many actors are numbered from 1
 numbered_by : (each : ℕ → Actor) (count : ℕ) → 1 ≤ count → count ≤ MOST_ACTORS → IsNumbered (is_actor (actors_by each count))
 numbered_by each count some few = record {
   first = ap is_some (cond-true (nat_lt 0 count) (Some (each 1)) None (lt-ltb 0 count (omega arith)));
@@ -137,7 +137,7 @@ fits_by R each count fits (suc n) =
     cond_both (nat_lt n count) (Some (each (suc n))) None (λ (o : Option Actor). actor_fits R (there_first R) o ≡ true)
     (λ h. fits (suc n)) (λ h. refl)
 
--- a world with a fresh space and so many actors whose records fit is well-formed
+-- a world with a fresh space and this many actors whose records fit is well-formed
 starts_well : (R : ℕ) (each : ℕ → Actor) (count : ℕ) → 1 ≤ count → count ≤ MOST_ACTORS → ((n : ℕ) → record_fits R (there_first R) (each n) ≡ true)
     → IsWellFormed R (record { at = fresh_space R; actor = actors_by each count })
 starts_well R each count some few fits = record {

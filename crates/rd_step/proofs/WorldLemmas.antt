@@ -179,8 +179,8 @@ need_suits R space xs e a x formed has needs =
     let fits : record_fits R there a ≡ true = subst (λ (o : Option Actor). actor_fits R there o ≡ true) has (formed.actors e.actor) in
     access_suited R there x (IfOk-at_ok (λ (y : Access). access_fits R there y ≡ true) needs (need_fits R there a e.act fits))
 
--- what an actor of a well-formed world asks for is representable: its head position has room for the ring's size behind it, and
--- its words fit its place
+-- what an actor of a well-formed world asks for is representable: its head position has room for
+-- the ring's size behind it, and its words fit its place
 pub representable_here : (R : ℕ) (space : Space R) (xs : List Actor) (e : Event) (a : Actor) → IsWellFormed R (world_of_fields space xs) → R ≤ MOST_CELLS
     → actor_at xs e.actor ≡ Some a → IsRepresentable R a e.act
 representable_here R space xs e a formed small has =

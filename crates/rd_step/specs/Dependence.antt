@@ -1,10 +1,12 @@
--- Which step depends on which (Danos and Krivine 2004: what must be undone first; the places and the symmetry are
--- our profile's), what is left if a step is taken out, and the causal closure of a step.
+-- Which step depends on which (Danos and Krivine 2004: what must be undone first; the places and
+-- the symmetry are our profile's), what is left if a step is taken out, and the causal closure of a
+-- step.
 use Rattle.std.specs.Prelude.{◌≡◌, ◌<◌, ◌≤◌, true, false, ℕ, zero, suc, ◌+◌, ◌-◌, Bool, nat_lt, ◌==◌, ◌||◌, if◌then◌else◌, List, [], ◌∷◌, ◌++◌, length, take, drop, Option, Some, None, slice_get}
 use Rattle.rd_ring.specs.Prelude.{interfere}
 use Rattle.rd_step.specs.declared.entries.Entry.{Entry}
 
--- whether two steps depend on each other: they have one actor, or there is a place that both touched and one of them wrote
+-- whether two steps depend on each other: they have one actor, or there is a place that both
+-- touched and one of them wrote
 abbrev pub depends : Entry → Entry → Bool
 depends x y = (x.event.actor == y.event.actor) || interfere x.place x.wrote y.place y.wrote
 
@@ -18,7 +20,8 @@ abbrev pub first_from : Entry → ℕ → List Entry → Option ℕ
 first_from x n [] = None
 first_from x n (y ∷ ys) = if depends x y then Some n else first_from x (n + 1) ys
 
--- the number of the first of these entries, which stand from n on, that depends on this one, if that is there
+-- the number of the first of these entries, which are from n on, that depends on this one, if that
+-- is there
 abbrev pub first_after : Option Entry → ℕ → List Entry → Option ℕ
 first_after None n ys = None
 first_after (Some x) n ys = first_from x n ys
@@ -37,8 +40,8 @@ abbrev pub numbered : {X : Type 0} → List X → ℕ → Option X
 numbered xs zero = None
 numbered xs (suc i) = slice_get xs i
 
--- the causal closure of position k: the least set of positions that holds k, and with each position every later one
--- whose entry depends on that one's
+-- the causal closure of position k: the least set of positions that holds k, and with each position
+-- every later one whose entry depends on that one's
 pub data IsInClosure (entries : List Entry) (k : ℕ) : ℕ → Type 0 where
   itself : IsInClosure entries k k
   dependant : (i j : ℕ) (x y : Entry) → IsInClosure entries k i → i < j → numbered entries i ≡ Some x → numbered entries j ≡ Some y
@@ -49,7 +52,8 @@ abbrev pub depends_on_one : List Entry → Entry → Bool
 depends_on_one [] y = false
 depends_on_one (x ∷ xs) y = depends x y || depends_on_one xs y
 
--- of each entry of the second list, whether it depends on one of the first, or on one before it of which this holds
+-- of each entry of the second list, whether it depends on one of the first, or on one before it of
+-- which this holds
 abbrev pub closure_from : List Entry → List Entry → List Bool
 closure_from xs [] = []
 closure_from xs (y ∷ ys) = depends_on_one xs y ∷ closure_from (if depends_on_one xs y then xs ++ y ∷ [] else xs) ys
@@ -83,8 +87,8 @@ closure_of entries k = marked (closure entries k) entries
 abbrev pub without_closure : List Entry → ℕ → List Entry
 without_closure entries k = unmarked (closure entries k) entries
 
--- lone undos of these numbers, one after another, none refused: each undoes an entry that is there, and on which none
--- of the later ones that are left depends
+-- lone undos of these numbers, one after another, none refused: each undoes an entry that is there,
+-- and on which none of the later ones that are left depends
 abbrev pub AreLoneUndos : List ℕ → List Entry → Type 0
 AreLoneUndos [] entries = Unit {0}
 AreLoneUndos (n ∷ ns) entries =

@@ -1,5 +1,5 @@
--- Causal equivalence of two lists of events: the lists are one up to the order of independent steps (Mazurkiewicz traces; for
--- steps that are undone, Danos and Krivine 2004).
+-- Causal equivalence of two lists of events: the lists are one up to the order of independent steps
+-- (Mazurkiewicz traces; for steps that are undone, Danos and Krivine 2004).
 use Rattle.std.specs.Prelude.{◌≡◌, ℕ, List, [], ◌∷◌, ◌++◌, IsPermutation, Ok}
 use Rattle.rd_step.specs.World.{World}
 use Rattle.rd_step.specs.declared.entries.Event.{Event}
@@ -15,8 +15,8 @@ pub record IsIndependentOf (R : ℕ) (w : World) (e : Event) (earlier : List Eve
   pub goes : step R ran.world e ≡ Ok stepped
   pub free : IsFree stepped.entry ran.entries
 
--- e steps from w and stands in the list at a position where its entry depends on no earlier one; and of the list without it
--- there, in the world after e, the last argument holds
+-- e steps from w and is in the list at a position where its entry depends on no earlier one; and of
+-- the list without it there, in the world after e, the last argument holds
 pub record MayBeginWith (R : ℕ) (w : World) (e : Event) (events : List Event) (Rest : World → List Event → Type 0) : Type 0 where
   pub earlier : List Event
   pub later : List Event
@@ -26,8 +26,8 @@ pub record MayBeginWith (R : ℕ) (w : World) (e : Event) (events : List Event) 
   pub goes : step R w e ≡ Ok stepped
   pub rest : Rest stepped.world (earlier ++ later)
 
--- two lists of events that run from w are equivalent: both are empty, or the second may begin with the first one's first event,
--- and without it there the rests are equivalent in the world after it
+-- two lists of events that run from w are equivalent: both are empty, or the second may begin with
+-- the first one's first event, and without it there the rests are equivalent in the world after it
 abbrev pub IsEquivalent : ℕ → World → List Event → List Event → Type 0
 IsEquivalent R w [] fs = fs ≡ []
 IsEquivalent R w (e ∷ es) fs = MayBeginWith R w e fs (λ v rest. IsEquivalent R v es rest)

@@ -25,8 +25,8 @@ world_of_parts p = record { at = contents_of_parts p.segments.items p.qhead p.qt
 abbrev pub has : {R : ℕ} → Parts R → Presence
 has p s = is_some (by_name p.segments.items s)
 
--- 1: there are 1 to 16 actors, and a list of segments for each maker from 0 to their number; that of maker 0 has one,
--- the root, and each other at most 65,535
+-- 1: there are 1 to 16 actors, and a list of segments for each maker from 0 to their number; that
+-- of maker 0 has one, the root, and each other at most 65,535
 abbrev pub makers_fit : {R : ℕ} → Parts R → Bool
 makers_fit p =
     nat_le 1 (length p.actors.items) && nat_le (length p.actors.items) MOST_ACTORS
@@ -73,7 +73,8 @@ flaw_number ArrayCounters = 6
 flaw_number ActorNumbers = 7
 flaw_number ActorWords = 8
 
--- no world is put together from these parts: they have this flaw first, or have none and memory was refused
+-- no world is put together from these parts: they have this flaw first, or have none and memory was
+-- refused
 abbrev pub Refuses : {R : ℕ} → Parts R → Unassembled → Type 0
 Refuses p (HasFlaw flaw) = first_flaw p ≡ Some flaw
 Refuses p NoMemory = first_flaw p ≡ None

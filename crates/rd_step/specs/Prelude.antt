@@ -1,5 +1,6 @@
--- The words that most definitions of the crates above need, in one place: those of rd_cell and rd_actor, the model's world, its
--- step, its runs and dependence. (A crate passes on the generated names of the crates below it, and not its own.)
+-- The words that most definitions of the crates above need, in one place: those of rd_cell and
+-- rd_actor, the model's world, its step, its runs and dependence. (A crate passes on the generated
+-- names of the crates below it, and not its own.)
 pub use Rattle.rd_ring.specs.Prelude.{COUNTER_END, MOST_SEGMENTS, MOST_CELLS, SLOTS, MOST_ACTORS, MOST_STEPS}
 pub use Rattle.rd_ring.specs.Prelude.{Cell, SegName, Place, Content, ArrSlot, Operation, Answer, Access, Done, Wrote, Refusal}
 pub use Rattle.rd_ring.specs.Prelude.{QHead, QTail, Head, Tail, Next, CellAt, ValAt, IdxAt, WholeOf, ArrHead, ArrTail, ArrCell}

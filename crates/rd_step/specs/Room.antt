@@ -31,6 +31,7 @@ makes_segment R w e = actor_makes R e.act (w.actor e.actor)
 abbrev pub FindsNoRoom : {X : Type 0} → Result X Refusal → Bool → ℕ → Type 0
 FindsNoRoom does makes room = IsOk does × IsTrue makes × (room ≡ 0)
 
--- what does this, or is refused, is refused so: as it is by itself, or for want of memory as a making that finds no room
+-- what does this, or is refused, is refused so: as it is by itself, or for want of memory as a
+-- making that finds no room
 abbrev pub IsRefused : {X : Type 0} → Result X Refusal → Bool → ℕ → Refusal → Type 0
 IsRefused does makes room refusal = (does ≡ Err refusal) ⊎ ((refusal ≡ NoMemory) × FindsNoRoom does makes room)

@@ -1,4 +1,5 @@
--- The plain step: one event in a world (Morrison and Afek 2013, in our profile of docs/MODEL.md), and its undoing.
+-- The plain step: one event in a world (Morrison and Afek 2013, in our profile of docs/MODEL.md),
+-- and its undoing.
 use Rattle.std.specs.Prelude.{◌≡◌, ℕ, ◌+◌, ◌≤◌, true, false, ◌==◌, if◌then◌else◌, Option, Some, None, is_some, IsTrue, Result, Ok, Err}
 use Rattle.rd_ring.specs.Prelude.{SegName, Place, WholeOf, Content, Access, Refusal, NoActor, Contents, operand, restore, is_there, can_hold, Performed, contents_after, perform}
 use Rattle.rd_actor.specs.declared.actors.Actor.{Actor}
@@ -17,7 +18,8 @@ pub record Stepped : Type 0 where
 abbrev pub with_actor : ℕ → Actor → (ℕ → Option Actor) → ℕ → Option Actor
 with_actor n a actors m = if m == n then Some a else actors m
 
--- the step of an actor with this record, whose access did this, and which goes on with this record and reply
+-- the step of an actor with this record, whose access did this, and which goes on with this record
+-- and reply
 abbrev pub step_outcome : World → Event → Actor → Performed → Actor × Option OpReply → Stepped
 step_outcome w e a did next = record {
   world = record { at = contents_after did w.at; actor = with_actor e.actor next.0 w.actor };
@@ -47,8 +49,8 @@ abbrev pub step_of_actor : ℕ → World → Event → Option Actor → Result S
 step_of_actor R w e None = Err NoActor
 step_of_actor R w e (Some a) = step_of_need R w e a (need R a e.act)
 
--- the step: the event's actor asks for its one access, which is done at its one place, and the actor goes on with
--- the answer. All other places and actors stay
+-- the step: the event's actor asks for its one access, which is done at its one place, and the
+-- actor goes on with the answer. All other places and actors stay
 abbrev pub step : ℕ → World → Event → Result Stepped Refusal
 step R w e = step_of_actor R w e (w.actor e.actor)
 
@@ -58,8 +60,8 @@ pub record IsLast (at : Contents) (s : SegName) : Type 0 where
   pub made : 1 ≤ s.maker
   pub last : is_there at (record { maker = s.maker; n = s.n + 1 }) ≡ false
 
--- whether a content may be put back: at no place none, at a place that is there one that it may have, and for the
--- whole of a segment, if that is its maker's last one, that it was not there
+-- whether a content may be put back: at no place none, at a place that is there one that it may
+-- have, and for the whole of a segment, if that is its maker's last one, that it was not there
 abbrev pub CanPutBack : Contents → Option Place → Option Content → Type 0
 CanPutBack at None None = Unit {0}
 CanPutBack at (Some p) (Some c) = IsTrue (is_some (operand at p)) × IsTrue (can_hold p c)

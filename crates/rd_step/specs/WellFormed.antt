@@ -9,8 +9,8 @@ use Rattle.rd_step.specs.World.{World}
 abbrev pub Presence : Type 0
 Presence = SegName → Bool
 
--- which places are there: the queue's ends, those of each segment that is there, and the array's. A cell and the whole of a
--- segment are names for several places, and no places of the map
+-- which places are there: the queue's ends, those of each segment that is there, and the array's. A
+-- cell and the whole of a segment are names for several places, and no places of the map
 abbrev pub belongs : ℕ → Presence → Place → Bool
 belongs R there QHead = true
 belongs R there QTail = true
@@ -29,8 +29,9 @@ abbrev pub next_fits : Presence → Option SegName → Bool
 next_fits there None = true
 next_fits there (Some m) = there m
 
--- whether a content fits its place: it is of the place's kind, the segments that it names are there, a segment's
--- counters are at most 2^62 and the array's at most 64, and a cell's index is at most 2^62 + R
+-- whether a content fits its place: it is of the place's kind, the segments that it names are
+-- there, a segment's counters are at most 2^62 and the array's at most 64, and a cell's index is at
+-- most 2^62 + R
 abbrev pub content_fits : ℕ → Presence → Place → Content → Bool
 content_fits R there QHead (Name s) = there s
 content_fits R there QTail (Name s) = there s
@@ -62,7 +63,8 @@ numbers_within end a = nat_le a.t COUNTER_END && nat_le a.h COUNTER_END && nat_l
 abbrev pub numbers_fit : ℕ → Actor → Bool
 numbers_fit R = numbers_within (COUNTER_END + R)
 
--- whether an actor's record fits: its names, its numbers, and its words as its control point wants them
+-- whether an actor's record fits: its names, its numbers, and its words as its control point wants
+-- them
 abbrev pub record_fits : ℕ → Presence → Actor → Bool
 record_fits R there a = names_fit there a && numbers_fit R a && words_fit a
 
@@ -78,12 +80,14 @@ pub record IsNumbered (is_actor : ℕ → Bool) : Type 0 where
   pub to_most : (n : ℕ) → IsTrue (is_actor n) → n ≤ MOST_ACTORS
   pub no_gap : (n : ℕ) → IsTrue (is_actor (suc (suc n))) → IsTrue (is_actor (suc n))
 
--- whether a segment of this maker and number may be there: the root alone has no maker, and a maker is an actor
+-- whether a segment of this maker and number may be there: the root alone has no maker, and a maker
+-- is an actor
 abbrev pub maker_fits : (ℕ → Bool) → ℕ → ℕ → Bool
 maker_fits is_actor zero n = n == 0
 maker_fits is_actor (suc m) n = is_actor (suc m) && nat_lt n MOST_SEGMENTS
 
--- the root is there, each other segment is one that an actor made, and a maker's segments are numbered without a gap
+-- the root is there, each other segment is one that an actor made, and a maker's segments are
+-- numbered without a gap
 pub record AreMade (is_actor : ℕ → Bool) (there : Presence) : Type 0 where
   pub rooted : IsTrue (there root)
   pub makers : (s : SegName) → IsTrue (there s) → IsTrue (maker_fits is_actor s.maker s.n)

@@ -1,4 +1,5 @@
-//! What may happen to a world, and what the journal keeps of it: a record, which says what its step touched.
+//! What may happen to a world, and what the journal keeps of it: a record, which says what its step
+//! touched.
 
 ghost use Rattle.std.specs.Prelude.{◌≡◌};
 ghost use Rattle.rd_cell.specs.Places.{written};
@@ -36,8 +37,8 @@ pub struct Entry {
 }
 
 impl Entry {
-    /// The place that names what the step wrote, or none if it only read or had no place. What the step touched is what its own
-    /// place names.
+    /// The place that names what the step wrote, or none if it only read or had no place. What the
+    /// step touched is what its own place names.
     pub fn written(&self) -> Option<Place>
         ensures { result ≡ written self.now.place self.now.wrote }
     {

@@ -1,4 +1,5 @@
-//! What a step and its undoing do to the fields of a world: an access, an actor's words, and what is put back.
+//! What a step and its undoing do to the fields of a world: an access, an actor's words, and what
+//! is put back.
 
 ghost use Rattle.std.specs.Prelude.{◌≡◌, ◌≢◌, ◌+◌, ◌<◌, ◌≤◌, ◌↔◌, ℕ, true, Some, None, Ok, Err, IsSome, IsTrue, IfOk, IfErr, OnErr, length, vec_capacity};
 ghost use Rattle.rd_ring.specs.Prelude.{MOST_CELLS, MOST_SEGMENTS, Make, Nothing, WroteNothing, perform, restore, everywhere, HasEffect};

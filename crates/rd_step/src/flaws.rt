@@ -1,4 +1,5 @@
-//! Why parts make no world: the eight conditions of a well-formed world, in the order in which they are tried.
+//! Why parts make no world: the eight conditions of a well-formed world, in the order in which they
+//! are tried.
 
 ghost use Rattle.std.specs.Prelude.{◌≡◌, ◌≤◌, nat_le, length};
 ghost use Rattle.std.specs.List.{list_all};
@@ -19,8 +20,8 @@ use rd_segments::ArrayParts;
 /// The first condition of a well-formed world that parts fail, by its number 1 to 8.
 #[derive(Clone, Copy, Debug, PartialEq, Eq)]
 pub enum Flaw {
-    /// 1: there are not 1 to 16 actors, or there is not a list of segments for each maker from 0 to their number, or
-    /// maker 0 has not just one segment, or another maker has more than 65,535.
+    /// 1: there are not 1 to 16 actors, or there is not a list of segments for each maker from 0 to
+    /// their number, or maker 0 has not just one segment, or another maker has more than 65,535.
     Makers,
     /// 2: one of the queue's ends, or a next, names a segment that is not there.
     PlaceNames,
@@ -94,7 +95,7 @@ pub(crate) fn first_flaw<const R: usize>(parts: &Parts<R>) -> Option<Flaw>
     }
 }
 
-/// Whether there are 1 to 16 actors, and a list of so many segments as may be for each maker.
+/// Whether there are 1 to 16 actors, and a list of as many segments as may be for each maker.
 fn makers_fit<const R: usize>(parts: &Parts<R>) -> bool
     requires { R ≤ MOST_CELLS }
     ensures { result ≡ makers_fit parts.now }
@@ -107,7 +108,7 @@ fn makers_fit<const R: usize>(parts: &Parts<R>) -> bool
         && lists_fit(&parts.segments)
 }
 
-/// Whether each list has so many segments as a maker may have made.
+/// Whether each list has as many segments as a maker may have made.
 fn lists_fit<const R: usize>(makers: &[Vec<SegmentParts<R>>]) -> bool
     requires { R ≤ MOST_CELLS }
     ensures { result ≡ list_all (λ list. nat_le (length list.items) MOST_SEGMENTS) makers.now }
@@ -119,7 +120,7 @@ fn lists_fit<const R: usize>(makers: &[Vec<SegmentParts<R>>]) -> bool
     )
 }
 
-/// Whether a list has so many segments as a maker may have made.
+/// Whether a list has as many segments as a maker may have made.
 fn few_segments<const R: usize>(list: &Vec<SegmentParts<R>>) -> bool
     ensures { result ≡ nat_le (length list.now.items) MOST_SEGMENTS }
 {

@@ -1,4 +1,5 @@
-//! The laws of the machine, for every world of the model: each is the contract of a function that does nothing.
+//! The laws of the machine, for every world of the model: each is the contract of a function that
+//! does nothing.
 
 ghost use Rattle.std.specs.Prelude.{◌≡◌, ◌≤◌, ◌↔◌, ℕ, suc, false, List, ◌∷◌, length, None, Some, Ok, Err};
 ghost use Rattle.rd_ring.specs.Prelude.{Place, Operation, At, Refusal};
@@ -16,8 +17,9 @@ ghost use Rattle.rd_step.specs.Parts.{world_of_parts, first_flaw};
 ghost use Rattle.rd_step.specs.Equivalence.{IsEquivalent, ReachesTheSame};
 ghost use Rattle.rd_step.specs.Laws.{CommutingSquare, IsRemovable, IsStepRefusal, SuitsContent, MovesOn, ChangesOnly, KeepsOldWords};
 
-/// A step that does not depend on the one before it may go first, with the same entries and the same world after
-/// both. It rests on the shape of the step alone (one actor, one place), and on no row of the table.
+/// A step that does not depend on the one before it may go first, with the same entries and the
+/// same world after both. It rests on the shape of the step alone (one actor, one place), and on no
+/// row of the table.
 pub fn independent_steps_commute()
     ensures { (R : ℕ) (w : Model) (e f : Event) (v u : Stepped) → step R w e ≡ Ok v → step R v.world f ≡ Ok u
         → depends v.entry u.entry ≡ false → CommutingSquare R w e f v u }
@@ -40,7 +42,8 @@ pub fn a_free_step_may_be_taken_out()
         → step R w e ≡ Ok s → run R s.world es ≡ Ok r → IsFree s.entry r.entries → IsRemovable R w e s es r }
 {}
 
-/// Lists of events that are causally equivalent reach one world, and leave the same entries in some order.
+/// Lists of events that are causally equivalent reach one world, and leave the same entries in some
+/// order.
 pub fn equivalent_schedules_reach_one_world()
     ensures { (R : ℕ) (w : Model) (es fs : List Event) (r q : Ran) → run R w es ≡ Ok r → run R w fs ≡ Ok q → IsEquivalent R w es fs
         → ReachesTheSame r q }
@@ -51,7 +54,8 @@ pub fn equivalence_is_reflexive()
     ensures { (R : ℕ) (w : Model) (es : List Event) (r : Ran) → run R w es ≡ Ok r → IsEquivalent R w es es }
 {}
 
-/// Two neighbours that do not depend on each other may change places: the lists are causally equivalent.
+/// Two neighbours that do not depend on each other may change places: the lists are causally
+/// equivalent.
 pub fn independent_neighbours_swapped_are_equivalent()
     ensures { (R : ℕ) (w : Model) (e f : Event) (es : List Event) (v u : Stepped) (r : Ran) → step R w e ≡ Ok v
         → step R v.world f ≡ Ok u → depends v.entry u.entry ≡ false → run R u.world es ≡ Ok r
@@ -64,8 +68,9 @@ pub fn steps_keep_worlds_well_formed()
         → IsWellFormed R s.world }
 {}
 
-/// A step in a well-formed world is refused only because there is no such actor, because its act is not one that the
-/// actor's control point takes, or at the end of a counter, of the array or of a maker's segments: never because a place is not there.
+/// A step in a well-formed world is refused only because there is no such actor, because its act is
+/// not one that the actor's control point takes, or at the end of a counter, of the array or of a
+/// maker's segments: never because a place is not there.
 pub fn steps_are_refused_in_their_cases_alone()
     ensures { (R : ℕ) (w : Model) (e : Event) (refusal : Refusal) → 1 ≤ R → IsWellFormed R w → step R w e ≡ Err refusal → IsStepRefusal refusal }
 {}
@@ -76,18 +81,21 @@ pub fn operations_suit_their_contents()
         → w.actor n ≡ Some a → need R a act ≡ Ok (At p op) → SuitsContent w.at p op }
 {}
 
-/// A step leaves its actor at another control point: each answer that comes has its row in the table, and no row goes to itself.
+/// A step leaves its actor at another control point: each answer that comes has its row in the
+/// table, and no row goes to itself.
 pub fn steps_move_their_actors()
     ensures { (R : ℕ) (w : Model) (e : Event) (s : Stepped) → 1 ≤ R → IsWellFormed R w → step R w e ≡ Ok s → MovesOn e w s.world }
 {}
 
-/// A step changes nothing but what its entry's place covers, and its event's actor; and no place at all if it only read.
+/// A step changes nothing but what its entry's place covers, and its event's actor; and no place at
+/// all if it only read.
 pub fn steps_change_one_place_and_one_actor()
     ensures { (R : ℕ) (w : Model) (e : Event) (s : Stepped) → step R w e ≡ Ok s → ChangesOnly e s.entry w s.world }
 {}
 
-/// `World::assemble` names a flaw of no well-formed world, and takes no other: parts have no flaw exactly if there is a list of
-/// segments for each maker from 0 to the number of actors, and their world is well-formed.
+/// `World::assemble` names a flaw of no well-formed world, and takes no other: parts have no flaw
+/// exactly if there is a list of segments for each maker from 0 to the number of actors, and their
+/// world is well-formed.
 pub fn parts_have_no_flaw_exactly_where_their_world_is_well_formed()
     ensures { (R : ℕ) (p : Parts R) → (first_flaw p ≡ None)
         ↔ ((length p.segments.items ≡ suc (length p.actors.items)) × IsWellFormed R (world_of_parts p)) }

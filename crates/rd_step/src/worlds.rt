@@ -31,8 +31,8 @@ pub struct World<const R: usize> {
     ghost well_formed: { IsWellFormed R (world_of_fields space actors.items) },
 }
 
-/// Written out and not derived, so that a proof of a function in which a world ends has one step for that, and not one for
-/// each list inside.
+/// Written out and not derived, so that a proof of a function in which a world ends has one step
+/// for that, and not one for each list inside.
 impl<const R: usize> Drop for World<R> {
     fn drop(self) {
         let World {
@@ -45,7 +45,7 @@ impl<const R: usize> Drop for World<R> {
 impl<const R: usize> World<R> {
     ghost use Rattle.rd_step.specs.Worlds.{model, room, list_capacity, actor_capacity};
 
-    /// The fresh world: the root alone is there, fresh, and so many actors are idle.
+    /// The fresh world: the root alone is there, fresh, and this many actors are idle.
     ///
     /// # Errors
     ///
@@ -69,14 +69,16 @@ impl<const R: usize> World<R> {
         })
     }
 
-    /// Whether the world is the fresh one of some number of actors, which is then the number of its own.
+    /// Whether the world is the fresh one of some number of actors, which is then the number of its
+    /// own.
     pub fn is_fresh(&self) -> bool
         ensures { IsTrue result ↔ ((count : ℕ) × (model self.now ≡ fresh_world R count)) }
     {
         self.space.is_fresh() && are_idle(&self.actors)
     }
 
-    /// The poised world: the fresh world, but each actor a is about to draw a position for the value a on the root.
+    /// The poised world: the fresh world, but each actor a is about to draw a position for the
+    /// value a on the root.
     ///
     /// # Errors
     ///
@@ -104,8 +106,8 @@ impl<const R: usize> World<R> {
     ///
     /// # Errors
     ///
-    /// `Flaw` exactly if the parts make no well-formed world, with the first condition that they fail; else `NoMemory` if
-    /// memory was refused.
+    /// `Flaw` exactly if the parts make no well-formed world, with the first condition that they
+    /// fail; else `NoMemory` if memory was refused.
     pub fn assemble(alloc: Global, parts: Parts<R>) -> Result<World<R>, Unassembled>
         requires positive { 1 ≤ R }
         requires small { R ≤ MOST_CELLS }
@@ -169,7 +171,8 @@ impl<const R: usize> World<R> {
         }
     }
 
-    /// What is at a place, or none if it is not there. The whole of a segment that is there has `Whole`.
+    /// What is at a place, or none if it is not there. The whole of a segment that is there has
+    /// `Whole`.
     pub fn content(&self, place: Place) -> Option<Content>
         ensures { result ≡ content_at (model self.now).at place }
     {
@@ -192,15 +195,16 @@ impl<const R: usize> World<R> {
         self.actors.len() as u8
     }
 
-    /// Makes one event happen: the plain step of its actor. Only a step that makes a segment takes memory, for its maker alone,
-    /// and none if the maker has room.
+    /// Makes one event happen: the plain step of its actor. Only a step that makes a segment takes
+    /// memory, for its maker alone, and none if the maker has room.
     ///
     /// # Errors
     ///
-    /// In this order: `NoActor`; `NotIdle`, `Idle`, `NeedsChoice`, `NoChoice`, by the actor's control point;
-    /// `CounterEnd` for a fetch-and-add on a segment's counter that is 2^62, `ArrayEnd` for one on a counter of the array
-    /// that is 64, `SegmentsEnd` for a making by an actor that has made 65,535 segments; `NoMemory` if memory was refused
-    /// for a making that nothing else refuses. The world is then as before.
+    /// In this order: `NoActor`; `NotIdle`, `Idle`, `NeedsChoice`, `NoChoice`, by the actor's
+    /// control point; `CounterEnd` for a fetch-and-add on a segment's counter that is 2^62,
+    /// `ArrayEnd` for one on a counter of the array that is 64, `SegmentsEnd` for a making by an
+    /// actor that has made 65,535 segments; `NoMemory` if memory was refused for a making that
+    /// nothing else refuses. The world is then as before.
     pub fn step(&mut self, event: Event) -> Result<Entry, Refusal>
         ensures ok { IfOk result (λ entry. step R (model self.old) event ≡ Ok (record { world = model self.new; entry = entry })) }
         ensures err { IfErr result (λ refusal. IsRefused (step R (model self.old) event) (makes_segment R (model self.old) event) (room self.old event.actor) refusal) }
@@ -231,9 +235,9 @@ impl<const R: usize> World<R> {
         })
     }
 
-    /// Makes the step of an entry again, which is known to leave this entry: its access, if that wrote anything, and the words
-    /// with which its actor goes on by the answer that the entry keeps. No entry is written. A making isn't refused, since its maker
-    /// must have room.
+    /// Makes the step of an entry again, which is known to leave this entry: its access, if that
+    /// wrote anything, and the words with which its actor goes on by the answer that the entry
+    /// keeps. No entry is written. A making isn't refused, since its maker must have room.
     pub fn step_again(&mut self, entry: &Entry)
         requires goes { (after : Model) × (step R (model self.old) entry.now.event ≡ Ok (record { world = after; entry = entry.now })) }
         requires room { IsTrue (makes_segment R (model self.old) entry.now.event) → 1 ≤ room self.old entry.now.event.actor }
@@ -257,7 +261,8 @@ impl<const R: usize> World<R> {
         }
     }
 
-    /// Sets the words of one actor and the content of one place, if one is named, and changes nothing else.
+    /// Sets the words of one actor and the content of one place, if one is named, and changes
+    /// nothing else.
     pub fn revert(
         &mut self,
         actor: u8,
@@ -283,8 +288,8 @@ impl<const R: usize> World<R> {
         );
     }
 
-    /// Gives an actor room for so many makings, which are then not refused for memory: a making uses the room of one, taking
-    /// one away gives it back, and no other call lessens it.
+    /// Gives an actor room for this many makings, which are then not refused for memory: a making
+    /// uses the room of one, taking one away gives it back, and no other call lessens it.
     ///
     /// # Errors
     ///

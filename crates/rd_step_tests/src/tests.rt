@@ -1,5 +1,5 @@
-//! The tests of the world, and what they share: an actor and a world of rings of four cells that are put together from
-//! data.
+//! The tests of the world, and what they share: an actor and a world of rings of four cells that
+//! are put together from data.
 
 ghost use Rattle.std.specs.Prelude.{◌≡◌, ◌≤◌, IsTrue, IfOk, Ok};
 ghost use Rattle.rd_step.specs.Prelude.{model, room, step};
@@ -60,7 +60,8 @@ enum Word {
     Pass(u8),
 }
 
-/// The record of an actor at this control point of this call, with these words, the others as in the idle record.
+/// The record of an actor at this control point of this call, with these words, the others as in
+/// the idle record.
 fn actor_at(pc: Pc, op: Option<Op>, words: &[Word]) -> Actor {
     let idle = Actor::idle();
     with_words(Actor { pc, op, ..idle }, words)
@@ -141,7 +142,8 @@ fn put(places: &mut Places, place: Place, content: Content) {
     }
 }
 
-/// The parts of a world with this one actor, the root and `FIRST`, and these contents; all else is fresh.
+/// The parts of a world with this one actor, the root and `FIRST`, and these contents; all else is
+/// fresh.
 fn parts(alloc: Global, actor: Actor, puts: &[Put]) -> Result<Parts<4>, AllocError> {
     let mut places = Places {
         root: ring(),

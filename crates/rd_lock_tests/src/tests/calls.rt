@@ -5,7 +5,7 @@ ghost use Rattle.rd_lock.specs.Locks.{number, IsHolding, IsOut, IsPassOf};
 ghost use Rattle.rd_lock.specs.Opening.{IsNewPass};
 
 use super::Numbers;
-use rd_lock::{Busy, TryTakeError, Pass, TicketLock};
+use rd_lock::{Busy, Pass, TicketLock, TryTakeError};
 use std::process::Abort;
 use std::sync::Wait;
 

@@ -4,7 +4,7 @@ ghost use Rattle.rd_lock.specs.Locks.{IsOut, IsPassOf};
 
 use super::Numbers;
 use super::calls::{has_all_in_order, last_pass, works};
-use rd_lock::{Busy, TryTakeError, Pass, TICKETS, TicketLock};
+use rd_lock::{Busy, Pass, TICKETS, TicketLock, TryTakeError};
 use std::alloc::Global;
 use std::process::Abort;
 use std::sync::Wait;
@@ -68,7 +68,9 @@ fn keeps<R: Abort + Wait>(
     };
     match missed {
         TryTakeError::Busy(words) => assert!(rt; answer == Err(words)),
-        TryTakeError::TicketsEnded => assert!(rt; matches!(answer, Err(Busy { next: TICKETS, .. }))),
+        TryTakeError::TicketsEnded => assert!(rt;
+            matches!(answer, Err(Busy { next: TICKETS, .. }))
+        ),
     }
 }
 

@@ -2,7 +2,7 @@
 
 use super::Numbers;
 use super::calls::{adds, finds, has_all_in_order, last_pass, puts, returns, stays_busy};
-use rd_lock::{Busy, TryTakeError, TICKETS, TicketLock, TicketsEnded};
+use rd_lock::{Busy, TICKETS, TicketLock, TicketsEnded, TryTakeError};
 use std::alloc::Global;
 use std::process::Abort;
 use std::sync::Wait;
@@ -66,7 +66,7 @@ fn a_pass_dropped_while_it_holds_keeps_the_lock_busy_for_good(rt: HostRuntime) {
     assert!(&rt; words == Busy { next: 1, served: 0 });
 }
 
-/// So many tickets are left in a lock that begins with this one, and no more.
+/// This many tickets are left in a lock that begins with this one, and no more.
 fn has_left<R: Abort + Wait>(rt: &R, alloc: Global, ticket: u64, left: u64) {
     assert!(rt; ticket <= TICKETS);
     let Ok((lock, mut passes)) = TicketLock::open_at(alloc, Numbers::new(alloc), 2, ticket) else {

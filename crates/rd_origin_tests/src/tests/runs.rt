@@ -31,7 +31,8 @@ const OVER_TWO: &[(&str, &[Line])] = &[
     ("a mark between put and take is no put", TAKES_MARKED),
 ];
 
-/// A dequeue finds the ring empty and repairs its tail; three enqueues later its second pass takes the first value.
+/// A dequeue finds the ring empty and repairs its tail; three enqueues later its second pass takes
+/// the first value.
 const TAKES_LATE: &[Line] = &[
     Line::Act(2, Act::Deq),
     Line::Goes(2, 10, None),
@@ -96,8 +97,8 @@ const OVER_FOUR: &[(&str, &[Line])] = &[
     ),
 ];
 
-/// A starving enqueue closes the ring and makes a segment, and a dequeue takes its value there. The making is the put, and
-/// the last writer of all places of the segment that nothing else wrote.
+/// A starving enqueue closes the ring and makes a segment, and a dequeue takes its value there. The
+/// making is the put, and the last writer of all places of the segment that nothing else wrote.
 const TAKES_FROM_MADE: &[Line] = &[
     Line::Act(1, Act::Enq(7)),
     Line::Goes(1, 3, None),

@@ -1,5 +1,5 @@
-//! Last writers, of all places, against a scan of the live steps, in a session in which steps are made, undone, taken out, rolled
-//! back and redone as it is drawn.
+//! Last writers, of all places, against a scan of the live steps, in a session in which steps are
+//! made, undone, taken out, rolled back and redone as it is drawn.
 
 use rd_actor::{Act, Pc};
 use rd_cell::{Place, Refusal, SegName, overlaps};
@@ -74,7 +74,7 @@ fn next(number: u64) -> u64 {
         .wrapping_add(1_442_695_040_888_963_407)
 }
 
-/// What an actor that stands here may do, as the number has it.
+/// What an actor that is here may do, as the number has it.
 fn choice(pc: Pc, number: u64) -> Act {
     match (pc, (number >> 40) % 5) {
         (Pc::Idle, 0 | 1) => Act::Enq(number >> 50),

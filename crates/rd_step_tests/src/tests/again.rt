@@ -7,7 +7,7 @@ use std::process::Abort;
 /// One step of the first actor, and what the table says of it.
 #[derive(Clone, Copy)]
 struct Row {
-    /// The control point at which the actor stands.
+    /// The control point at which the actor is.
     at: Pc,
     /// Its call; its words are those of the idle record.
     op: Option<Op>,
@@ -94,7 +94,8 @@ fn a_step_made_again_leaves_what_it_left_at_first(rt: HostRuntime) -> Result<(),
     Ok(())
 }
 
-/// Makes the step of a row, puts the words of its record back and makes it again, beside a copy that is stepped once.
+/// Makes the step of a row, puts the words of its record back and makes it again, beside a copy
+/// that is stepped once.
 fn make_again(rt: &impl Abort, alloc: Global, row: Row) -> Result<(), Fail> {
     let actor = actor_at(row.at, row.op, &[]);
     let mut world = World::assemble(alloc, parts(alloc, actor, row.puts)?)?;

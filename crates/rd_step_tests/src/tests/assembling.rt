@@ -1,4 +1,5 @@
-//! The tests of worlds that are put together from parts: what is found where it was put, and which flaw is named.
+//! The tests of worlds that are put together from parts: what is found where it was put, and which
+//! flaw is named.
 
 use super::Word::{Closed, Crq, H, Idx, New, Next, Pass, Safe, T, Val};
 use super::*;
@@ -271,7 +272,7 @@ fn the_words_fit_the_control_point(rt: HostRuntime) -> Result<(), Fail> {
     Ok(())
 }
 
-/// So many actors, root segments and makers' lists, and the flaw of the parts with them.
+/// This many actors, root segments and makers' lists, and the flaw of the parts with them.
 const SHAPES: &[(usize, usize, usize, Option<Flaw>)] = &[
     (1, 1, 2, None),
     (16, 1, 17, None),
@@ -298,7 +299,7 @@ fn there_are_1_to_16_actors_one_root_and_a_list_for_each_maker(
     Ok(())
 }
 
-/// The parts with so many idle actors, root segments and makers' lists.
+/// The parts with this many idle actors, root segments and makers' lists.
 fn shape(alloc: Global, actors: usize, roots: usize, lists: usize) -> Result<Parts<4>, AllocError> {
     let mut given = parts(alloc, Actor::idle(), &[])?;
     given.actors.clear();

@@ -1,4 +1,5 @@
-//! The limit of each condition of a well-formed world, over rings of 1, 4 and 64 cells: what lies at it is accepted, and the next is refused.
+//! The limit of each condition of a well-formed world, over rings of 1, 4 and 64 cells: what lies
+//! at it is accepted, and the next is refused.
 ghost use Rattle.std.specs.Prelude.{◌≤◌};
 ghost use Rattle.rd_ring.specs.Prelude.{MOST_CELLS};
 
@@ -8,7 +9,7 @@ use std::process::Abort;
 /// One part of a world that is otherwise fresh, with what it is changed to.
 #[derive(Clone, Copy, Debug)]
 enum Changed {
-    /// So many actors, each with a list of segments.
+    /// This many actors, each with a list of segments.
     Actors(u8),
     /// The queue's head is the root maker's segment of this number.
     QueueHead(u32),
@@ -20,7 +21,8 @@ enum Changed {
     Head(u64),
     /// The root's tail counter.
     Tail(u64),
-    /// The index of the root's last cell is so far above the end of the counters and the length of a ring.
+    /// The index of the root's last cell is so far above the end of the counters and the length of
+    /// a ring.
     CellIndex(u64),
     /// The array's head counter.
     ArrayHead(u64),
@@ -32,7 +34,8 @@ enum Changed {
     Position(u64),
     /// The actor is at E5 with this h.
     HeadPosition(u64),
-    /// The actor is at E5 with an idx so far above the end of the counters and the length of a ring.
+    /// The actor is at E5 with an idx so far above the end of the counters and the length of a
+    /// ring.
     ActorIndex(u64),
     /// The actor is at Q2 in this pass.
     Pass(u8),

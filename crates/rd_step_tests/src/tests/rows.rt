@@ -1,5 +1,6 @@
-//! Rows of the table, each stepped once from a world that is put together for it: for each branch of a row that a run
-//! seldom takes, the words before, what is at the place, and what the table says of the step.
+//! Rows of the table, each stepped once from a world that is put together for it: for each branch
+//! of a row that a run seldom takes, the words before, what is at the place, and what the table
+//! says of the step.
 
 use super::Word::{Closed, H, Idx, Next, Pass, Safe, T, Val};
 use super::*;
@@ -9,7 +10,7 @@ use std::process::Abort;
 /// One step, and what the table says of it.
 #[derive(Clone, Copy)]
 struct Row {
-    /// The control point at which the actor stands.
+    /// The control point at which the actor is.
     at: Pc,
     /// Its call.
     op: Option<Op>,
@@ -68,7 +69,8 @@ fn step_row(rt: &impl Abort, alloc: Global, i: usize, row: Row) -> Result<(), Fa
     Ok(())
 }
 
-/// What the row's access writes of its place: a double-word compare-and-swap that wins at Q6 or Q7 leaves the value as it was.
+/// What the row's access writes of its place: a double-word compare-and-swap that wins at Q6 or Q7
+/// leaves the value as it was.
 fn wrote(row: Row) -> Wrote {
     match (row.writes, row.at) {
         (None, _) => Wrote::Nothing,
@@ -594,7 +596,8 @@ fn a_choice_leads_to_the_closing_or_to_the_next_position(rt: HostRuntime) -> Res
     Ok(())
 }
 
-/// A step that is refused at its place: the control point, the actor's call and words, what is there, and the refusal.
+/// A step that is refused at its place: the control point, the actor's call and words, what is
+/// there, and the refusal.
 type AtAnEnd = (Pc, Option<Op>, &'static [Word], Place, Content, Refusal);
 
 /// The counters at their ends.

@@ -54,7 +54,8 @@ fn a_world_with_room_takes_as_many_makings(rt: HostRuntime) -> Result<(), Fail> 
     for makings in [0, 1, 2, 10, 40] {
         let mut world = World::<1>::fresh(rt.alloc(), 1)?;
         assert!(rt; world.is_fresh());
-        // The first enqueue fills the root's one cell; each later one closes a ring and makes the next.
+        // The first enqueue fills the root's one cell; each later one closes a ring and makes the
+        // next.
         assert_eq!(rt; enqueue(&mut world)?, Some(OpReply::Enqueued));
         assert!(rt; !world.is_fresh());
         assert_eq!(rt; world.make_room(1, usize::MAX), Err(Refusal::NoMemory));
@@ -73,7 +74,8 @@ fn a_world_with_room_takes_as_many_makings(rt: HostRuntime) -> Result<(), Fail> 
     Ok(())
 }
 
-/// The parts of a world of rings of one cell, whose one actor is to make a segment and has made so many.
+/// The parts of a world of rings of one cell, whose one actor is to make a segment and has made
+/// this many.
 fn makers(alloc: Global, made: u32) -> Result<Parts<1>, AllocError> {
     let ring = SegmentParts {
         head: 0,
