@@ -92,76 +92,68 @@ one_left e rest l k a b =
     let one = one_place e a.earlier a.later b.earlier b.later a.entry b.entry (sym a.stands ∙ b.stands) a.its_event b.its_event a.free b.free in
     a.leaves ∙ (λ i. one.before i ++ one.behind i) ∙ sym b.leaves
 
--- Taking out one record after another
+-- where the first event of a run may come first in another from the same world, the record is the same there, and what is left runs on
+-- from the world after it
+pub record RunsOn (R : ℕ) (v : World) (x entry : Entry) (left : List Entry) : Type 0 where
+  pub same : entry ≡ x
+  pub runs : IsRunFrom R v left
 
--- where this has come to: a world from which what is left of both lists runs, and the lists are equivalent exactly where
--- what is left of them is
-pub record Remains (R : ℕ) (w : World) (a b xs rest : List Entry) : Type 0 where
-  pub here : World
-  pub first_runs : IsRunFrom R here xs
-  pub second_runs : IsRunFrom R here rest
-  pub exactly : IsEquivalent R w (events a) (events b) ↔ IsEquivalent R here (events xs) (events rest)
-
--- so it is for each start of the two runs
-abbrev pub Compares : List Entry → List Entry → List Entry → List Entry → Type 0
-Compares a b xs rest = (R : ℕ) (w : World) → IsRunFrom R w a → IsRunFrom R w b → Remains R w a b xs rest
-
-pub compares_all : (a b : List Entry) → Compares a b a b
-compares_all a b R w runs_a runs_b = record { here = w; first_runs = runs_a; second_runs = runs_b; exactly = (λ h. h, λ h. h) }
-
-one_more : (R : ℕ) (w v : World) (a b xs rest left : List Entry) (x : Entry) → IsRunFrom R v (x ∷ xs) → IsRunFrom R v rest
-    → IsEquivalent R w (events a) (events b) ↔ IsEquivalent R v (events (x ∷ xs)) (events rest)
-    → MayComeFirst x.event rest left → Remains R w a b xs left
-one_more R w v a b xs rest left x runs_a runs_b exactly m =
-    let first = first_step R v x xs runs_a in
-    let to_front = front R v m.earlier m.entry m.later (subst (λ (l : List Entry). IsRunFrom R v l) m.stands runs_b) m.free in
+pub runs_on : (R : ℕ) (w : World) (x : Entry) (xs ys left : List Entry) (first : FirstStep R w x xs) → IsRunFrom R w ys → (m : MayComeFirst x.event ys left)
+    → RunsOn R first.after x m.entry left
+runs_on R w x xs ys left first runs m =
+    let to_front = front R w m.earlier m.entry m.later (subst (λ (l : List Entry). IsRunFrom R w l) m.stands runs) m.free in
     let same : record { world = to_front.after; entry = m.entry } ≡ record { world = first.after; entry = x } =
-    as_stepped-same _ _ (sym to_front.goes ∙ ap (step R v) m.its_event ∙ first.goes) in
+    as_stepped-same _ _ (sym to_front.goes ∙ ap (step R w) m.its_event ∙ first.goes) in
     record {
-      here = first.after;
-      first_runs = first.rest;
-      second_runs =
+      same = ap (λ (s : Stepped). s.entry) same;
+      runs =
           subst (λ (l : List Entry). IsRunFrom R first.after l) (sym m.leaves)
           (subst (λ (s : Stepped). IsRunFrom R s.world (m.earlier ++ m.later)) same to_front.rest);
-      exactly = (
-        λ h.
-            let c = comes_first R v x.event (events xs) rest runs_b (exactly.0 h) in
-            let there : c.stepped ≡ record { world = first.after; entry = x } = as_stepped-same _ _ (sym c.goes ∙ first.goes) in
-            subst (λ (s : Stepped). IsEquivalent R s.world (events xs) (events left)) there
-            (subst (λ (l : List Entry). IsEquivalent R c.stepped.world (events xs) (events l)) (one_left x.event rest c.left left c.may m) c.on),
-        λ h. exactly.1 (stands_first R v x first.after (events xs) rest left runs_b first.goes m h),
-      );
     }
 
--- a record found and taken out
-pub compares_more : (a b xs rest left : List Entry) (x : Entry) → Compares a b (x ∷ xs) rest → MayComeFirst x.event rest left → Compares a b xs left
-compares_more a b xs rest left x before m R w runs_a runs_b =
-    let r = before R w runs_a runs_b in
-    one_more R w r.here a b xs rest left x r.first_runs r.second_runs r.exactly m
+-- and the runs are equivalent exactly where what is left of them is
+pub equivalent_first : (R : ℕ) (w : World) (x : Entry) (xs ys left : List Entry) (first : FirstStep R w x xs) → IsRunFrom R w ys → MayComeFirst x.event ys left
+    → IsEquivalent R w (events (x ∷ xs)) (events ys) ↔ IsEquivalent R first.after (events xs) (events left)
+equivalent_first R w x xs ys left first runs m = (
+  λ h.
+      let c = comes_first R w x.event (events xs) ys runs h in
+      let there : c.stepped ≡ record { world = first.after; entry = x } = as_stepped-same _ _ (sym c.goes ∙ first.goes) in
+      subst (λ (s : Stepped). IsEquivalent R s.world (events xs) (events left)) there
+      (subst (λ (l : List Entry). IsEquivalent R c.stepped.world (events xs) (events l)) (one_left x.event ys c.left left c.may m) c.on),
+  λ h. stands_first R w x first.after (events xs) ys left runs first.goes m h,
+)
 
 pub no_events : (rest : List Entry) → events rest ≡ [] → rest ≡ []
 no_events [] h = refl
 no_events (x ∷ xs) h = cc
 
--- all records of the first list found: whether one of the second is left
-pub compares_end : (a b rest : List Entry) → Compares a b [] rest
-    → (R : ℕ) (w : World) → IsRunFrom R w a → IsRunFrom R w b → IsEquivalent R w (events a) (events b) ↔ (rest ≡ [])
-compares_end a b rest before R w runs_a runs_b =
-    let r = before R w runs_a runs_b in
-    (λ same. no_events rest (r.exactly.0 same), λ none. r.exactly.1 (ap events none))
-
 -- A common beginning
 
-at_front : (x y : Entry) (ys : List Entry) → y.event ≡ x.event → MayComeFirst x.event (y ∷ ys) ys
-at_front x y ys h = record { earlier = []; entry = y; later = ys; stands = refl; its_event = h; free = tt; leaves = refl }
+-- behind it: the world there, from which what is left of both lists runs, and they are equivalent exactly where this is
+record Behind (R : ℕ) (w : World) (a b xs ys : List Entry) : Type 0 where
+  here : World
+  first_runs : IsRunFrom R here xs
+  second_runs : IsRunFrom R here ys
+  exactly : IsEquivalent R w (events a) (events b) ↔ IsEquivalent R here (events xs) (events ys)
 
-compares_behind : (a b : List Entry) (n : ℕ) (xs ys : List Entry) → Compares a b xs ys → n ≤ length xs → n ≤ length ys
-    → events (take n xs) ≡ events (take n ys) → Compares a b (drop n xs) (drop n ys)
-compares_behind a b zero xs ys before in_x in_y h = before
-compares_behind a b (suc n) [] ys before in_x in_y h = absurd (omega arith)
-compares_behind a b (suc n) (x ∷ xs) [] before in_x in_y h = absurd (omega arith)
-compares_behind a b (suc n) (x ∷ xs) (y ∷ ys) before in_x in_y h =
-    compares_behind a b n xs ys (compares_more a b xs (y ∷ ys) ys x before (at_front x y ys cc)) (omega arith) (omega arith) cc
+behind : (R n : ℕ) (w : World) (a b : List Entry) → IsRunFrom R w a → IsRunFrom R w b → n ≤ length a → n ≤ length b
+    → events (take n a) ≡ events (take n b) → Behind R w a b (drop n a) (drop n b)
+behind R zero w a b runs_a runs_b in_a in_b h = record { here = w; first_runs = runs_a; second_runs = runs_b; exactly = (λ e. e, λ e. e) }
+behind R (suc n) w [] b runs_a runs_b in_a in_b h = absurd (omega arith)
+behind R (suc n) w (x ∷ xs) [] runs_a runs_b in_a in_b h = absurd (omega arith)
+behind R (suc n) w (x ∷ xs) (y ∷ ys) runs_a runs_b in_a in_b h =
+    let e : y.event ≡ x.event = cc in
+    let m : MayComeFirst x.event (y ∷ ys) ys =
+    record { earlier = []; entry = y; later = ys; stands = refl; its_event = e; free = tt; leaves = refl } in
+    let first = first_step R w x xs runs_a in
+    let one = equivalent_first R w x xs (y ∷ ys) ys first runs_b m in
+    let r = behind R n first.after xs ys first.rest (runs_on R w x xs (y ∷ ys) ys first runs_b m).runs (omega arith) (omega arith) cc in
+    record {
+      here = r.here;
+      first_runs = r.first_runs;
+      second_runs = r.second_runs;
+      exactly = (λ k. r.exactly.0 (one.0 k), λ k. one.1 (r.exactly.1 k));
+    }
 
 all_behind : (a : List Entry) (n : ℕ) → take (length a - n) (drop n a) ≡ drop n a
 all_behind a n = take_all (length a - n) (drop n a) (omega (arith, length-drop n a))
@@ -170,9 +162,9 @@ all_behind a n = take_all (length a - n) (drop n a) (omega (arith, length-drop n
 pub right_behind : (a b : List Entry) (n : ℕ) (same : Bool) → n ≤ length a → n ≤ length b → events (take n a) ≡ events (take n b)
     → DecidesEquivalence (take (length a - n) (drop n a)) (take (length b - n) (drop n b)) same → DecidesEquivalence a b same
 right_behind a b n same in_a in_b h right R w runs_a runs_b =
-    let r = compares_behind a b n a b (compares_all a b) in_a in_b h R w runs_a runs_b in
-    let right' : DecidesEquivalence (drop n a) (drop n b) same =
+    let r = behind R n w a b runs_a runs_b in_a in_b h in
+    let rest : DecidesEquivalence (drop n a) (drop n b) same =
     subst (λ (l : List Entry). DecidesEquivalence (drop n a) l same) (all_behind b n)
     (subst (λ (l : List Entry). DecidesEquivalence l (take (length b - n) (drop n b)) same) (all_behind a n) right) in
-    let there = right' R r.here r.first_runs r.second_runs in
+    let there = rest R r.here r.first_runs r.second_runs in
     (λ k. r.exactly.1 (there.0 k), λ k. there.1 (r.exactly.0 k))

@@ -1,15 +1,15 @@
 -- The calls of an index, from what they do to its lists.
-use Rattle.std.proofs.Common.{◌≡◌, ℕ, zero, suc, ◌+◌, ◌-◌, ◌<◌, ◌≤◌, Bool, true, false, not, ◌&&◌, ◌||◌, ◌==◌, if◌then◌else◌, List, [], ◌∷◌, ◌++◌, length, take, drop, Option, Some, None, slice_get, get_or, refl, sym, ap, subst, ◌∙◌, append_assoc, arith, length-append, eq-eqb, Result, Ok, Err, IsOk, OnOk, is_err}
+use Rattle.std.proofs.Common.{◌≡◌, ℕ, zero, suc, ◌+◌, ◌-◌, ◌<◌, ◌≤◌, Bool, true, false, ◌&&◌, ◌||◌, ◌==◌, if◌then◌else◌, List, [], ◌∷◌, ◌++◌, length, take, drop, Option, Some, None, slice_get, get_or, refl, sym, ap, subst, ◌∙◌, append_assoc, arith, length-append, eq-eqb, Result, Ok, Err, IsOk, OnOk, is_err}
 use Rattle.rd_step.specs.declared.entries.Entry.{Entry}
 use Rattle.rd_depend.specs.declared.index.DependIndex.{DependIndex}
+use Rattle.rd_depend.specs.declared.index.changing.Home.{Home}
+use Rattle.rd_depend.specs.declared.index.changing.Homes.{Homes}
 use Rattle.rd_depend.specs.declared.index.keys.Key.{Key}
 use Rattle.rd_depend.specs.declared.index.table.Table.{Table}
-use Rattle.rd_step.specs.Prelude.{is_nothing}
-use Rattle.rd_depend.specs.Keys.{is_that, is_under, place_key, value_key, segment_key}
 use Rattle.rd_depend.specs.Lists.{Lists, list_at, spare_at, one_if}
 use Rattle.rd_depend.specs.Tables.{kept_in, spare_in, counts, AreReady, KeepsLists, Puts, TakesLast, HasLast}
-use Rattle.rd_depend.specs.Index.{Touch, By, Under, touches, reached, is_value_written, positions, kept, spare, number_of, IsIndexOf, HasRoomFor, IsLast, Adds, Keeps, Drops, EndsWith}
-use Rattle.rd_depend.proofs.IndexKeys.{at_place, at_value, at_segment, at_one, under, place_not_value, not_segment}
+use Rattle.rd_depend.specs.Index.{Touch, By, Under, touches, homes_of, positions, kept, spare, number_of, IsIndexOf, HasRoomFor, IsLast, Adds, Keeps, Drops, EndsWith}
+use Rattle.rd_depend.proofs.IndexKeys.{is_home, is_in, under, AreSeparate, separate}
 use Rattle.rd_depend.proofs.IndexPositions.{positions-push, positions-pop, number-append}
 
 -- one change after another, where no list is changed by both
@@ -59,11 +59,11 @@ both_take a b old mid new apart first second = record {
   room = λ w q. let e = bits (a w q) (b w q) (apart w q) in omega (arith, e, first.room w q, second.room w q);
 }
 
-puts_where : (k : Option Key) (wrote : Bool) (p : ℕ) (old new : Table) → Puts k wrote p old new → PutsWhere (λ w q. counts w wrote && is_that q k) p old new
-puts_where k wrote p old new put = record { lists = put.lists; room = put.room }
+puts_where : (h : Home) (p : ℕ) (old new : Table) → Puts h.key h.wrote p old new → PutsWhere (is_home h) p old new
+puts_where h p old new put = record { lists = put.lists; room = put.room }
 
-takes_where : (k : Option Key) (wrote : Bool) (old new : Table) → TakesLast k wrote old new → TakesWhere (λ w q. counts w wrote && is_that q k) old new
-takes_where k wrote old new took = record { lists = took.lists; room = took.room }
+takes_where : (h : Home) (old new : Table) → TakesLast h.key h.wrote old new → TakesWhere (is_home h) old new
+takes_where h old new took = record { lists = took.lists; room = took.room }
 
 -- what is ready stays so where no list changes
 pub ready_kept : (t u : Table) (k : Option Key) (wrote : Bool) (slot : Option ℕ) → KeepsLists t u → AreReady t k wrote slot → AreReady u k wrote slot
@@ -78,71 +78,58 @@ ready_kept t u (Some q) wrote slot keeps ready = (
 )
 
 -- what is ready under one key stays so where another is put
-pub ready_after : (t u : Table) (s k : Option Key) (wrote other : Bool) (p : ℕ) (slot : Option ℕ) → ((q : Key) → s ≡ Some q → is_that q k ≡ false)
-    → AreReady t s wrote slot → Puts k other p t u → AreReady u s wrote slot
-ready_after t u None k wrote other p slot apart ready put = ready
-ready_after t u (Some q) k wrote other p slot apart ready put = (
+pub ready_after : (t u : Table) (s : Option Key) (wrote : Bool) (h : Home) (p : ℕ) (slot : Option ℕ)
+    → ((w : Bool) (q : Key) → s ≡ Some q → counts w wrote ≡ true → is_home h w q ≡ false)
+    → AreReady t s wrote slot → Puts h.key h.wrote p t u → AreReady u s wrote slot
+ready_after t u None wrote h p slot apart ready put = ready
+ready_after t u (Some q) wrote h p slot apart ready put = (
   ready.0,
   ready.1,
   record {
     at = put.slots q ∙ ready.2.at;
-    room = λ w c. let e : one_if (counts w other && is_that q k) ≡ 0 = ap (λ (b : Bool). one_if (counts w other && b)) (apart q refl) ∙ none (counts w other) in
-        omega (arith, ready.2.room w c, put.room w q, e);
+    room = λ w c. let e : one_if (is_home h w q) ≡ 0 = ap one_if (apart w q refl c) in omega (arith, ready.2.room w c, put.room w q, e);
   },
 )
-  where
-    none : (b : Bool) → one_if (b && false) ≡ 0
-    none true = refl
-    none false = refl
 
 -- and what has a last position keeps it where another key's is taken
-pub last_after : (t u : Table) (s k : Option Key) (wrote other : Bool) → ((q : Key) → s ≡ Some q → is_that q k ≡ false)
-    → HasLast t s wrote → TakesLast k other t u → HasLast u s wrote
-last_after t u s k wrote other apart has took = λ w q h c.
+pub last_after : (t u : Table) (s : Option Key) (wrote : Bool) (h : Home)
+    → ((w : Bool) (q : Key) → s ≡ Some q → counts w wrote ≡ true → is_home h w q ≡ false)
+    → HasLast t s wrote → TakesLast h.key h.wrote t u → HasLast u s wrote
+last_after t u s wrote h apart has took = λ w q e c.
     let f : List ℕ → List ℕ = λ l. take (length l - 1) l in
     let same : kept_in u w q ≡ kept_in t w q =
-    took.lists w q ∙ ap (λ (b : Bool). if counts w other && b then f (kept_in t w q) else kept_in t w q) (apart q h)
-    ∙ none (counts w other) (f (kept_in t w q)) (kept_in t w q) in
-    subst (λ (l : List ℕ). 1 ≤ length l) (sym same) (has w q h c)
-  where
-    none : (b : Bool) (l m : List ℕ) → (if b && false then l else m) ≡ m
-    none true l m = refl
-    none false l m = refl
+    took.lists w q ∙ ap (λ (b : Bool). if b then f (kept_in t w q) else kept_in t w q) (apart w q e c) in
+    subst (λ (l : List ℕ). 1 ≤ length l) (sym same) (has w q e c)
 
 -- the changes under a step's three keys
-all_put : (x : Entry) (p : ℕ) (old one two new : Table) → Puts (place_key x.place) (not (is_nothing x.wrote)) p old one
-    → Puts (value_key x.place) (is_value_written x.wrote) p one two → Puts (segment_key x.place) (not (is_nothing x.wrote)) p two new
-    → PutsWhere (λ w q. at_one w x.wrote x.place q) p old new
-all_put x p old one two new a b c =
-    both_put (λ w q. at_place w x.wrote x.place q || at_value w x.wrote x.place q) (λ w q. at_segment w x.wrote x.place q) p old two new
-    (not_segment x.wrote x.place)
-    (both_put (λ w q. at_place w x.wrote x.place q) (λ w q. at_value w x.wrote x.place q) p old one two (place_not_value x.wrote x.place)
-    (puts_where (place_key x.place) (not (is_nothing x.wrote)) p old one a) (puts_where (value_key x.place) (is_value_written x.wrote) p one two b))
-    (puts_where (segment_key x.place) (not (is_nothing x.wrote)) p two new c)
+all_put : (h : Homes) (p : ℕ) (old one two new : Table) → AreSeparate h → Puts h.place.key h.place.wrote p old one
+    → Puts h.value.key h.value.wrote p one two → Puts h.segment.key h.segment.wrote p two new → PutsWhere (is_in h) p old new
+all_put h p old one two new s a b c =
+    both_put (λ w q. is_home h.place w q || is_home h.value w q) (is_home h.segment) p old two new s.last
+    (both_put (is_home h.place) (is_home h.value) p old one two s.first (puts_where h.place p old one a) (puts_where h.value p one two b))
+    (puts_where h.segment p two new c)
 
-all_taken : (x : Entry) (old one two new : Table) → TakesLast (place_key x.place) (not (is_nothing x.wrote)) old one
-    → TakesLast (value_key x.place) (is_value_written x.wrote) one two → TakesLast (segment_key x.place) (not (is_nothing x.wrote)) two new
-    → TakesWhere (λ w q. at_one w x.wrote x.place q) old new
-all_taken x old one two new a b c =
-    both_take (λ w q. at_place w x.wrote x.place q || at_value w x.wrote x.place q) (λ w q. at_segment w x.wrote x.place q) old two new
-    (not_segment x.wrote x.place)
-    (both_take (λ w q. at_place w x.wrote x.place q) (λ w q. at_value w x.wrote x.place q) old one two (place_not_value x.wrote x.place)
-    (takes_where (place_key x.place) (not (is_nothing x.wrote)) old one a) (takes_where (value_key x.place) (is_value_written x.wrote) one two b))
-    (takes_where (segment_key x.place) (not (is_nothing x.wrote)) two new c)
+all_taken : (h : Homes) (old one two new : Table) → AreSeparate h → TakesLast h.place.key h.place.wrote old one
+    → TakesLast h.value.key h.value.wrote one two → TakesLast h.segment.key h.segment.wrote two new → TakesWhere (is_in h) old new
+all_taken h old one two new s a b c =
+    both_take (λ w q. is_home h.place w q || is_home h.value w q) (is_home h.segment) old two new s.last
+    (both_take (is_home h.place) (is_home h.value) old one two s.first (takes_where h.place old one a) (takes_where h.value one two b))
+    (takes_where h.segment two new c)
 
-pub adds : (old new : DependIndex) (x : Entry) (one two : Table) (p actor : ℕ) → actor ≡ x.event.actor → p ≡ old.len + 1 → new.len ≡ old.len + 1
+pub adds : (old new : DependIndex) (x : Entry) (h : Homes) (one two : Table) (p actor : ℕ) → h ≡ homes_of x → actor ≡ x.event.actor → p ≡ old.len + 1
+    → new.len ≡ old.len + 1
     → ((i : ℕ) → list_at new.by_actor.items i ≡ (if i == actor then list_at old.by_actor.items i ++ p ∷ [] else list_at old.by_actor.items i))
     → ((i : ℕ) → spare_at old.by_actor.items i ≤ spare_at new.by_actor.items i + one_if (i == actor))
-    → Puts (place_key x.place) (not (is_nothing x.wrote)) p old.by_key one → Puts (value_key x.place) (is_value_written x.wrote) p one two
-    → Puts (segment_key x.place) (not (is_nothing x.wrote)) p two new.by_key → Adds x old new
-adds old new x one two p actor same is len lists_by room_by a b c = record {
+    → Puts h.place.key h.place.wrote p old.by_key one → Puts h.value.key h.value.wrote p one two → Puts h.segment.key h.segment.wrote p two new.by_key
+    → Adds x old new
+adds old new x h one two p actor homes same is len lists_by room_by a b c = record {
   lists = λ t. lists t ∙ ap (λ (m : ℕ). if touches t x then kept old t ++ m ∷ [] else kept old t) is;
   room = room;
   len = len;
 }
   where
-    all : PutsWhere (λ w q. at_one w x.wrote x.place q) p old.by_key new.by_key
-    all = all_put x p old.by_key one two new.by_key a b c
+    all : PutsWhere (is_in (homes_of x)) p old.by_key new.by_key
+    all = subst (λ (g : Homes). PutsWhere (is_in g) p old.by_key new.by_key) homes (all_put h p old.by_key one two new.by_key (separate h x homes) a b c)
 
     lists : (t : Touch) → kept new t ≡ (if touches t x then kept old t ++ p ∷ [] else kept old t)
     lists (By n) = lists_by n ∙ ap (λ (m : ℕ). if n == m then list_at old.by_actor.items n ++ p ∷ [] else list_at old.by_actor.items n) same
@@ -153,15 +140,15 @@ adds old new x one two p actor same is len lists_by room_by a b c = record {
     room (By n) = subst (λ (m : ℕ). spare_at old.by_actor.items n ≤ spare_at new.by_actor.items n + one_if (n == m)) same (room_by n)
     room (Under w k) = let e = ap one_if (under w k x) in omega (arith, e, all.room w k)
 
-pub drops : (old new : DependIndex) (x : Entry) (one two : Table) (actor : ℕ) → actor ≡ x.event.actor → new.len + 1 ≡ old.len
+pub drops : (old new : DependIndex) (x : Entry) (h : Homes) (one two : Table) (actor : ℕ) → h ≡ homes_of x → actor ≡ x.event.actor → new.len + 1 ≡ old.len
     → ((i : ℕ) → list_at new.by_actor.items i ≡ (if i == actor then take (length (list_at old.by_actor.items i) - 1) (list_at old.by_actor.items i) else list_at old.by_actor.items i))
     → ((i : ℕ) → spare_at new.by_actor.items i ≡ spare_at old.by_actor.items i + one_if (i == actor))
-    → TakesLast (place_key x.place) (not (is_nothing x.wrote)) old.by_key one → TakesLast (value_key x.place) (is_value_written x.wrote) one two
-    → TakesLast (segment_key x.place) (not (is_nothing x.wrote)) two new.by_key → Drops x old new
-drops old new x one two actor same len lists_by room_by a b c = record { lists = lists; room = room; len = len }
+    → TakesLast h.place.key h.place.wrote old.by_key one → TakesLast h.value.key h.value.wrote one two
+    → TakesLast h.segment.key h.segment.wrote two new.by_key → Drops x old new
+drops old new x h one two actor homes same len lists_by room_by a b c = record { lists = lists; room = room; len = len }
   where
-    all : TakesWhere (λ w q. at_one w x.wrote x.place q) old.by_key new.by_key
-    all = all_taken x old.by_key one two new.by_key a b c
+    all : TakesWhere (is_in (homes_of x)) old.by_key new.by_key
+    all = subst (λ (g : Homes). TakesWhere (is_in g) old.by_key new.by_key) homes (all_taken h old.by_key one two new.by_key (separate h x homes) a b c)
 
     lists : (t : Touch) → kept new t ≡ (if touches t x then take (length (kept old t) - 1) (kept old t) else kept old t)
     lists (By n) =
@@ -222,14 +209,16 @@ last_touched old x last t h =
     ∙ ap (λ (b : Bool). if b then positions (touches t) last.before ++ (1 + length last.before) ∷ [] else positions (touches t) last.before) h in
     omega (arith, ap length e, length-append (positions (touches t) last.before) ((1 + length last.before) ∷ []))
 
-pub last_under : (old : DependIndex) (x : Entry) (wrote : Bool) → IsLast old x → (o : Option Key)
-    → ((w : Bool) (k : Key) → o ≡ Some k → counts w wrote ≡ true → is_under k (reached w x) ≡ true) → HasLast old.by_key o wrote
-last_under old x wrote last o held = λ w k h c. last_touched old x last (Under w k) (held w k h c)
+touched_in : (x : Entry) (h : Homes) → h ≡ homes_of x → (w : Bool) (q : Key) → is_in h w q ≡ true → touches (Under w q) x ≡ true
+touched_in x h homes w q e = under w q x ∙ ap (λ (g : Homes). is_in g w q) (sym homes) ∙ e
 
-pub spare_under : (old : DependIndex) (x : Entry) (wrote : Bool) → ((t : Touch) → touches t x ≡ true → 0 < spare old t) → (o : Option Key)
-    → ((w : Bool) (k : Key) → o ≡ Some k → counts w wrote ≡ true → is_under k (reached w x) ≡ true)
-    → (w : Bool) (k : Key) → o ≡ Some k → counts w wrote ≡ true → 0 < spare_in old.by_key w k
-spare_under old x wrote has o held w k h c = has (Under w k) (held w k h c)
+pub last_under : (old : DependIndex) (x : Entry) (h : Homes) → h ≡ homes_of x → IsLast old x → (w : Bool) (q : Key) → is_in h w q ≡ true
+    → 1 ≤ length (kept_in old.by_key w q)
+last_under old x h homes last w q e = last_touched old x last (Under w q) (touched_in x h homes w q e)
+
+pub spare_under : (old : DependIndex) (x : Entry) (h : Homes) → h ≡ homes_of x → ((t : Touch) → touches t x ≡ true → 0 < spare old t)
+    → (w : Bool) (q : Key) → is_in h w q ≡ true → 0 < spare_in old.by_key w q
+spare_under old x h homes has w q e = has (Under w q) (touched_in x h homes w q e)
 
 -- several entries
 
@@ -301,11 +290,6 @@ one_dropped start old new entries left n x next there was drop_x = record {
       ap (number_of (touches t)) (drop_one entries n x there) ∙ ap (λ (m : ℕ). one_if (touches t x) + number_of (touches t) (drop m entries)) (sym next) in
       omega (arith, e, was.room t, drop_x.room t);
 }
-
-pub there_at : (es : List Entry) (n : ℕ) (d : Entry) → n < length es → slice_get es n ≡ Some (get_or es n d)
-there_at [] n d h = absurd (omega arith)
-there_at (y ∷ ys) zero d h = refl
-there_at (y ∷ ys) (suc n) d h = there_at ys n d (omega arith)
 
 pub last_len : (old : DependIndex) (x : Entry) → IsLast old x → 1 ≤ old.len
 last_len old x last = omega (arith, last.is.len, length-append last.before (x ∷ []))

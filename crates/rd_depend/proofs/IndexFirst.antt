@@ -16,9 +16,10 @@ use Rattle.rd_step.proofs.Symmetry.{symmetric}
 use Rattle.rd_depend.specs.declared.index.DependIndex.{DependIndex}
 use Rattle.rd_depend.specs.declared.index.keys.Key.{Key}
 use Rattle.rd_depend.specs.declared.index.keys.Key.TheVariants.{At, In}
-use Rattle.rd_depend.specs.Keys.{is_kept_at, is_under}
+use Rattle.rd_depend.specs.Keys.{is_kept_at, is_under, is_under_some, own_key, value_of_place, whole_key}
 use Rattle.rd_depend.specs.Lists.{AscendsFrom, IsAscending, first_above, earlier}
 use Rattle.rd_depend.specs.Index.{Touch, By, Under, reached, is_value_written, touches, positions_from, positions, kept, IsIndexOf}
+use Rattle.rd_depend.proofs.IndexKeys.{or_false}
 use Rattle.rd_depend.proofs.IndexPositions.{positions-ascend, positions-number, number-within, ascending}
 
 -- the same test
@@ -170,17 +171,7 @@ not_cell p h t i e = false≢true (sym h ∙ ap is_cell_at e)
 -- a place is kept under its own key
 pub kept_itself : (p : Place) → is_cell_at p ≡ false → is_kept_at p p ≡ true
 kept_itself (Cell s i) h = cc
-kept_itself QHead h = refl
-kept_itself QTail h = refl
-kept_itself (Head s) h = is_place-refl (Head s)
-kept_itself (Tail s) h = is_place-refl (Tail s)
-kept_itself (Next s) h = is_place-refl (Next s)
-kept_itself (Val s i) h = is_place-refl (Val s i)
-kept_itself (Idx s i) h = is_place-refl (Idx s i)
-kept_itself (Whole s) h = is_place-refl (Whole s)
-kept_itself ArrHead h = refl
-kept_itself ArrTail h = refl
-kept_itself (ArrCell i) h = is_place-refl (ArrCell i)
+kept_itself p h = is_place-refl p
 
 cell-sym : (s t : SegName) (i j : ℕ) → (is_name t s && (j == i)) ≡ (is_name s t && (i == j))
 cell-sym s t i j = λ l. is_name-sym t s l && number-sym j i l
@@ -206,17 +197,7 @@ kept_covers p (Cell t j) h =
       | inl a ↦ subst (λ (r : Place). is_of_cell t j r ≡ true) (sym (is_place-true p (Idx t j) a)) (is_place-refl (Cell t j))
       | inr b ↦ subst (λ (r : Place). is_of_cell t j r ≡ true) (sym (is_place-true p (Val t j) b)) (is_place-refl (Cell t j))
     ]
-kept_covers p (Head t) h = at_own p (Head t) h
-kept_covers p (Tail t) h = at_own p (Tail t) h
-kept_covers p (Next t) h = at_own p (Next t) h
-kept_covers p (Val t j) h = at_own p (Val t j) h
-kept_covers p (Idx t j) h = at_own p (Idx t j) h
-kept_covers p (Whole t) h = at_own p (Whole t) h
-kept_covers p QHead h = at_own p QHead h
-kept_covers p QTail h = at_own p QTail h
-kept_covers p ArrHead h = at_own p ArrHead h
-kept_covers p ArrTail h = at_own p ArrTail h
-kept_covers p (ArrCell j) h = at_own p (ArrCell j) h
+kept_covers p q h = at_own p q h
 
 -- those that overlap a place of a segment are that place, the cell of which it is a half, and the whole of the segment
 pub overlaps-own : (p : Place) (s : SegName) → segment_of p ≡ Some s → is_cell_at p ≡ false → (o : Option Place)
@@ -304,6 +285,20 @@ overlaps-alone p h other (Some q) = both_ways (overlaps p q) (is_kept_at p q) fo
     forth : overlaps p q ≡ true → is_kept_at p q ≡ true
     forth g = elim (or_cases (covers p q) (covers q p) g) [ inl a ↦ by_p (covers_cases p q a) | inr b ↦ by_q (covers_cases q p b) ]
 
+-- those that overlap a place are kept under three keys at most: that of a cell's value half, its own, and that of the whole of its segment
+abbrev pub overlaps_under : Place → Option Place → Bool
+overlaps_under p o = is_under_some (value_of_place p) o || (is_under (own_key p) o || is_under_some (whole_key p) o)
+
+pub overlaps-keys : (p : Place) (o : Option Place) → some_overlap (Some p) o ≡ overlaps_under p o
+overlaps-keys (Whole s) o = overlaps-whole s o ∙ or_false (is_under (In s) o)
+overlaps-keys (Cell s i) o = overlaps-cell s i o
+overlaps-keys (Head s) o = overlaps-own (Head s) s refl refl o
+overlaps-keys (Tail s) o = overlaps-own (Tail s) s refl refl o
+overlaps-keys (Next s) o = overlaps-own (Next s) s refl refl o
+overlaps-keys (Val s i) o = overlaps-own (Val s i) s refl refl o
+overlaps-keys (Idx s i) o = overlaps-own (Idx s i) s refl refl o
+overlaps-keys p o = overlaps-alone p refl (λ t e. cc) o ∙ or_false (is_under (At p) o)
+
 -- the lists of an index
 
 pub kept-ascends : (index : DependIndex) (es : List Entry) → IsIndexOf index es → (t : Touch) → IsAscending (kept index t)
@@ -330,17 +325,7 @@ depends-none x y h = sym (ap (λ (o : Option Place). (x.event.actor == y.event.a
 half_kept : (q : Key) (p : Place) → is_under q (Some (index_half p)) ≡ true → is_under q (Some p) ≡ true
 half_kept (At r) (Cell s i) h = or_left (is_place r (Idx s i)) (is_place r (Val s i)) h
 half_kept (In t) (Cell s i) h = h
-half_kept q QHead h = h
-half_kept q QTail h = h
-half_kept q (Head s) h = h
-half_kept q (Tail s) h = h
-half_kept q (Next s) h = h
-half_kept q (Val s i) h = h
-half_kept q (Idx s i) h = h
-half_kept q (Whole s) h = h
-half_kept q ArrHead h = h
-half_kept q ArrTail h = h
-half_kept q (ArrCell i) h = h
+half_kept q _ h = h
 
 pub written_kept : (q : Key) (o : Option Place) (v : Wrote) → is_under q (written o v) ≡ true → is_under q o ≡ true
 written_kept q None v h = h
@@ -349,14 +334,25 @@ written_kept (In s) (Some p) WroteNothing h = cc
 written_kept q (Some p) WrotePlace h = h
 written_kept q (Some p) WroteIndex h = half_kept q p h
 
+some_written : (k : Option Key) (o : Option Place) (v : Wrote) → is_under_some k (written o v) ≡ true → is_under_some k o ≡ true
+some_written None o v h = h
+some_written (Some q) o v h = written_kept q o v h
+
 -- so looking at what is touched finds what is written too
-touched_alone : (q : Key) (o : Option Place) (v : Wrote) → (is_under q o || is_under q (written o v)) ≡ is_under q o
-touched_alone q o v = by (is_under q o) (is_under q (written o v)) (written_kept q o v)
+under_either : (p : Place) (o : Option Place) (v : Wrote) → (overlaps_under p o || overlaps_under p (written o v)) ≡ overlaps_under p o
+under_either p o v =
+    by (is_under_some (value_of_place p) o) (is_under (own_key p) o) (is_under_some (whole_key p) o) (is_under_some (value_of_place p) (written o v))
+    (is_under (own_key p) (written o v)) (is_under_some (whole_key p) (written o v)) (some_written (value_of_place p) o v) (written_kept (own_key p) o v)
+    (some_written (whole_key p) o v)
   where
-    by : (a b : Bool) → (b ≡ true → a ≡ true) → (a || b) ≡ a
-    by true b h = refl
-    by false true h = absurd (false≢true (h refl))
-    by false false h = refl
+    by : (a b c x y z : Bool) → (x ≡ true → a ≡ true) → (y ≡ true → b ≡ true) → (z ≡ true → c ≡ true) → ((a || (b || c)) || (x || (y || z))) ≡ (a || (b || c))
+    by true b c x y z f g h = refl
+    by false true c x y z f g h = refl
+    by false false true x y z f g h = refl
+    by false false false true y z f g h = absurd (false≢true (f refl))
+    by false false false false true z f g h = absurd (false≢true (g refl))
+    by false false false false false true f g h = absurd (false≢true (h refl))
+    by false false false false false false f g h = refl
 
 -- what the searches find
 
@@ -368,112 +364,46 @@ found_in index es is few t k r found = found (kept-ascends index es is t) (kept-
 abbrev pub meets : Place → Wrote → Entry → Bool
 meets p v y = interfere (Some p) v y.place y.wrote
 
--- whether one of these keys holds what a step touched, or what it wrote
-two_either : (a b : Key) (o : Option Place) (v : Wrote)
-    → ((is_under a o || is_under b o) || (is_under a (written o v) || is_under b (written o v))) ≡ (is_under a o || is_under b o)
-two_either a b o v = by (is_under a o) (is_under b o) (is_under a (written o v)) (is_under b (written o v)) (written_kept a o v) (written_kept b o v)
-  where
-    by : (x y z w : Bool) → (z ≡ true → x ≡ true) → (w ≡ true → y ≡ true) → ((x || y) || (z || w)) ≡ (x || y)
-    by true y z w h k = refl
-    by false true z w h k = refl
-    by false false true w h k = absurd (false≢true (h refl))
-    by false false false true h k = absurd (false≢true (k refl))
-    by false false false false h k = refl
+-- where the steps are kept that interfere with an access: at a cell its value half is touched, and written where it is not kept; all else is
+-- written wherever anything is
+abbrev pub looks : Place → Wrote → Entry → Bool
+looks p v y =
+    is_under_some (value_of_place p) (reached (not (is_value_written v)) y)
+    || (is_under (own_key p) (reached (is_nothing v) y) || is_under_some (whole_key p) (reached (is_nothing v) y))
 
--- the steps that interfere with an access at the whole of a segment
-meets-whole : (s : SegName) (v : Wrote) (y : Entry) → touches (Under (is_nothing v) (In s)) y ≡ meets (Whole s) v y
-meets-whole s WroteNothing y = sym (overlaps-whole s (written y.place y.wrote))
-meets-whole s WrotePlace y =
-    sym ((λ i. overlaps-whole s y.place i || overlaps-whole s (written y.place y.wrote) i) ∙ touched_alone (In s) y.place y.wrote)
-meets-whole s WroteIndex y =
-    sym ((λ i. overlaps-whole s y.place i || overlaps-whole s (written y.place y.wrote) i) ∙ touched_alone (In s) y.place y.wrote)
-
--- at a place of a segment that is no cell
-abbrev pub beside : Place → SegName → Bool → Entry → Bool
-beside p s w y = is_under (At p) (reached w y) || is_under (At (Whole s)) (reached w y)
-
-meets-own : (p : Place) (s : SegName) (v : Wrote) → segment_of p ≡ Some s → is_cell_at p ≡ false → (y : Entry) → beside p s (is_nothing v) y ≡ meets p v y
-meets-own p s WroteNothing h n y = sym (overlaps-own p s h n (written y.place y.wrote))
-meets-own p s WrotePlace h n y =
-    sym ((λ i. overlaps-own p s h n y.place i || overlaps-own p s h n (written y.place y.wrote) i) ∙ two_either (At p) (At (Whole s)) y.place y.wrote)
-meets-own p s WroteIndex h n y =
-    sym ((λ i. some_overlap (Some (no_half p n i)) y.place || some_overlap (Some p) (written y.place y.wrote))
-    ∙ (λ i. overlaps-own p s h n y.place i || overlaps-own p s h n (written y.place y.wrote) i) ∙ two_either (At p) (At (Whole s)) y.place y.wrote)
-  where
-    no_half : (r : Place) → is_cell_at r ≡ false → index_half r ≡ r
-    no_half (Cell t i) e = cc
-    no_half _ e = refl
-
--- at a place of no segment
-meets-alone : (p : Place) (v : Wrote) → segment_of p ≡ None → ((t : SegName) → p ≡ Whole t → ⊥) → (y : Entry)
-    → touches (Under (is_nothing v) (At p)) y ≡ meets p v y
-meets-alone p WroteNothing h other y = sym (overlaps-alone p h other (written y.place y.wrote))
-meets-alone p WrotePlace h other y =
-    sym ((λ i. overlaps-alone p h other y.place i || overlaps-alone p h other (written y.place y.wrote) i) ∙ touched_alone (At p) y.place y.wrote)
-meets-alone p WroteIndex h other y =
-    sym ((λ i. some_overlap (Some (no_half p h i)) y.place || some_overlap (Some p) (written y.place y.wrote))
-    ∙ (λ i. overlaps-alone p h other y.place i || overlaps-alone p h other (written y.place y.wrote) i) ∙ touched_alone (At p) y.place y.wrote)
-  where
-    no_half : (r : Place) → segment_of r ≡ None → index_half r ≡ r
-    no_half (Cell t i) e = cc
-    no_half _ e = refl
-
--- at a cell: its value half is touched, and written where it is not kept; its index half is written wherever anything is
-meets-cell : (s : SegName) (i : ℕ) (v : Wrote) (y : Entry)
-    → (is_under (At (Val s i)) (reached (not (is_value_written v)) y) || beside (Idx s i) s (is_nothing v) y) ≡ meets (Cell s i) v y
-meets-cell s i WroteNothing y = sym (overlaps-cell s i (written y.place y.wrote))
-meets-cell s i WrotePlace y =
-    sym ((λ l. overlaps-cell s i y.place l || overlaps-cell s i (written y.place y.wrote) l)
-    ∙ three (is_under (At (Val s i)) y.place) (is_under (At (Idx s i)) y.place || is_under (At (Whole s)) y.place)
-    (is_under (At (Val s i)) (written y.place y.wrote)) (is_under (At (Idx s i)) (written y.place y.wrote) || is_under (At (Whole s)) (written y.place y.wrote))
-    (touched_alone (At (Val s i)) y.place y.wrote) (two_either (At (Idx s i)) (At (Whole s)) y.place y.wrote))
-  where
-    three : (a b c d : Bool) → (a || c) ≡ a → (b || d) ≡ b → ((a || b) || (c || d)) ≡ (a || b)
-    three true b c d h k = refl
-    three false true c d h k = refl
-    three false false c d h k = λ l. h l || k l
-meets-cell s i WroteIndex y =
-    sym ((λ l. overlaps-own (Idx s i) s refl refl y.place l || overlaps-cell s i (written y.place y.wrote) l)
+looked : (p : Place) (v : Wrote) (y : Entry) → looks p v y ≡ meets p v y
+looked p WroteNothing y = sym (overlaps-keys p (written y.place y.wrote))
+looked p WrotePlace y =
+    sym ((λ i. overlaps-keys p y.place i || overlaps-keys p (written y.place y.wrote) i) ∙ under_either p y.place y.wrote)
+looked (Cell s i) WroteIndex y =
+    sym ((λ l. overlaps-keys (Idx s i) y.place l || overlaps-keys (Cell s i) (written y.place y.wrote) l)
     ∙ turn (is_under (At (Idx s i)) y.place || is_under (At (Whole s)) y.place) (is_under (At (Val s i)) (written y.place y.wrote))
     (is_under (At (Idx s i)) (written y.place y.wrote) || is_under (At (Whole s)) (written y.place y.wrote))
-    (two_either (At (Idx s i)) (At (Whole s)) y.place y.wrote))
+    (under_either (Idx s i) y.place y.wrote))
   where
     turn : (b c d : Bool) → (b || d) ≡ b → (b || (c || d)) ≡ (c || b)
     turn true true d h = refl
     turn true false d h = refl
     turn false true d h = refl
     turn false false d h = h
+looked p WroteIndex y =
+    sym ((λ i. overlaps-keys p y.place i || overlaps-keys p (written y.place y.wrote) i) ∙ under_either p y.place y.wrote)
 
-pub found_whole : (v : Wrote) (p : Place) (s : SegName) → p ≡ Whole s → (k : ℕ) (es : List Entry)
-    → first_above k (positions (touches (Under (is_nothing v) (In s))) es) ≡ first_above k (positions (meets p v) es)
-found_whole v p s h k es = ap (first_above k) (positions-same (touches (Under (is_nothing v) (In s))) (meets p v)
-    (λ y. meets-whole s v y ∙ ap (λ (q : Place). meets q v y) (sym h)) 1 es)
+-- nothing is found under no key
+pub none_found : (k n : ℕ) (es : List Entry) → first_above k (positions_from (λ y. false) n es) ≡ None
+none_found k n [] = refl
+none_found k n (x ∷ xs) = none_found k (n + 1) xs
 
-pub found_alone : (v : Wrote) (p : Place) → segment_of p ≡ None → ((t : SegName) → p ≡ Whole t → ⊥) → (k : ℕ) (es : List Entry)
-    → first_above k (positions (touches (Under (is_nothing v) (At p))) es) ≡ first_above k (positions (meets p v) es)
-found_alone v p none other k es =
-    ap (first_above k) (positions-same (touches (Under (is_nothing v) (At p))) (meets p v) (meets-alone p v none other) 1 es)
-
--- a place that is no cell
-pub no_cell_at : (p : Place) → ((t : SegName) (i : ℕ) → p ≡ Cell t i → ⊥) → is_cell_at p ≡ false
-no_cell_at (Cell t i) h = absurd (h t i refl)
-no_cell_at _ h = refl
-
-pub found_own : (v : Wrote) (p : Place) (s : SegName) → segment_of p ≡ Some s → ((t : SegName) (i : ℕ) → p ≡ Cell t i → ⊥) → (k : ℕ) (es : List Entry)
-    → first_above k (positions (beside p s (is_nothing v)) es) ≡ first_above k (positions (meets p v) es)
-found_own v p s own no_cell k es =
-    ap (first_above k) (positions-same (beside p s (is_nothing v)) (meets p v) (meets-own p s v own (no_cell_at p no_cell)) 1 es)
-
-pub found_cell : (v : Wrote) (p : Place) (s : SegName) (i : ℕ) → p ≡ Cell s i → (k : ℕ) (es : List Entry)
-    → earlier (first_above k (positions (touches (Under (not (is_value_written v)) (At (Val s i)))) es)) (first_above k (positions (beside (Idx s i) s (is_nothing v)) es))
-    ≡ first_above k (positions (meets p v) es)
-found_cell v p s i h k es = earlier-first (touches (Under (not (is_value_written v)) (At (Val s i)))) (beside (Idx s i) s (is_nothing v)) (meets p v)
-    (λ y. sym (meets-cell s i v y ∙ ap (λ (q : Place). meets q v y) (sym h))) k 1 es
-
-pub found_beside : (w : Bool) (p : Place) (s : SegName) (k : ℕ) (es : List Entry)
-    → earlier (first_above k (positions (touches (Under w (At p))) es)) (first_above k (positions (touches (Under w (At (Whole s)))) es))
-    ≡ first_above k (positions (beside p s w) es)
-found_beside w p s k es = earlier-first (touches (Under w (At p))) (touches (Under w (At (Whole s)))) (beside p s w) (λ y. refl) k 1 es
+-- what is found under the three keys
+pub found_at : (p : Place) (v : Wrote) (k : ℕ) (es : List Entry) (value own whole both all : Option ℕ)
+    → value ≡ first_above k (positions (λ y. is_under_some (value_of_place p) (reached (not (is_value_written v)) y)) es)
+    → own ≡ first_above k (positions (λ y. is_under (own_key p) (reached (is_nothing v) y)) es)
+    → whole ≡ first_above k (positions (λ y. is_under_some (whole_key p) (reached (is_nothing v) y)) es)
+    → both ≡ earlier own whole → all ≡ earlier value both → all ≡ first_above k (positions (meets p v) es)
+found_at p v k es value own whole both all a b c two three =
+    let rest = λ (y : Entry). is_under (own_key p) (reached (is_nothing v) y) || is_under_some (whole_key p) (reached (is_nothing v) y) in
+    let in_two : both ≡ first_above k (positions rest es) = two ∙ (λ i. earlier (b i) (c i)) ∙ earlier-first _ _ rest (λ y. refl) k 1 es in
+    three ∙ (λ i. earlier (a i) (in_two i)) ∙ earlier-first _ rest (meets p v) (λ y. sym (looked p v y)) k 1 es
 
 pub found_either : (x : Entry) (p : Place) → x.place ≡ Some p → (k : ℕ) (es : List Entry)
     → earlier (first_above k (positions (touches (By x.event.actor)) es)) (first_above k (positions (meets p x.wrote) es))

@@ -1,6 +1,7 @@
 -- Ascending positions: the search for the first that is greater than a number.
 use Rattle.std.proofs.Common.{◌≡◌, ℕ, zero, suc, ◌+◌, ◌-◌, ◌*◌, ◌/◌, ◌^◌, ◌<◌, ◌≤◌, Bool, true, false, nat_lt, if◌then◌else◌, List, [], ◌∷◌, ◌++◌, length, get_or, slice_get, Some, None, refl, sym, ap, ◌∙◌, arith}
 use Rattle.std.proofs.lemmas.Bool.Decides.{nat_tests}
+use Rattle.std.proofs.lemmas.Option.{slice_get-get_or, slice_get_past}
 use Rattle.std.proofs.Math.Nat.{pow-succ'}
 use Rattle.rd_depend.specs.Lists.{AscendsFrom, AreUpTo, number_up_to, first_above}
 
@@ -71,20 +72,10 @@ last_round round h = rw h refl
 
 pub first-there : (k : ℕ) (ps : List ℕ) (index look found : ℕ) → index ≡ number_up_to k ps → index < length ps → look ≡ get_or ps index look → found ≡ look → Some found ≡ first_above k ps
 first-there k ps index look found count within at is =
-    ap Some (is ∙ at) ∙ sym (there ps index look within) ∙ ap (λ (i : ℕ). slice_get ps i) count ∙ sym (first_above-at k ps)
-  where
-    there : (xs : List ℕ) (i d : ℕ) → i < length xs → slice_get xs i ≡ Some (get_or xs i d)
-    there [] i d h = absurd (omega arith)
-    there (x ∷ xs) zero d h = refl
-    there (x ∷ xs) (suc i) d h = there xs i d (omega arith)
+    ap Some (is ∙ at) ∙ sym (slice_get-get_or ps index look within) ∙ ap (λ (i : ℕ). slice_get ps i) count ∙ sym (first_above-at k ps)
 
 pub first-missing : (k : ℕ) (ps : List ℕ) (index : ℕ) → index ≡ number_up_to k ps → length ps ≤ index → None ≡ first_above k ps
-first-missing k ps index count past = sym (gone ps index past) ∙ ap (λ (i : ℕ). slice_get ps i) count ∙ sym (first_above-at k ps)
-  where
-    gone : (xs : List ℕ) (i : ℕ) → length xs ≤ i → slice_get xs i ≡ None
-    gone [] i h = refl
-    gone (x ∷ xs) zero h = absurd (omega arith)
-    gone (x ∷ xs) (suc i) h = gone xs i (omega arith)
+first-missing k ps index count past = sym (slice_get_past ps index past) ∙ ap (λ (i : ℕ). slice_get ps i) count ∙ sym (first_above-at k ps)
 
 -- lists in parts
 

@@ -7,10 +7,7 @@ use Rattle.std.specs.List.{list_any, position_or_len, IsDistinct}
 use Rattle.std.specs.Option.{option_map}
 use Rattle.std.specs.declared.alloc.Global.{Global}
 use Rattle.rd_cell.proofs.ListLemmas.{slice_get-push_same, slice_get-push_other}
-use Rattle.rd_cell.specs.declared.places.SegName.{SegName}
-use Rattle.rd_cell.specs.Places.{is_name}
 use Rattle.rd_depend.specs.declared.index.keys.Key.{Key}
-use Rattle.rd_depend.specs.declared.index.keys.Key.TheVariants.{In}
 use Rattle.rd_depend.specs.declared.index.table.Table.{Table}
 use Rattle.rd_depend.specs.Keys.{is_key, slot_in}
 use Rattle.rd_depend.specs.KeyLaws.{is_key-true, is_key-refl, is_key-sym}
@@ -63,12 +60,12 @@ stands-slot keys k i d distinct within at = ap (slot_in keys) at ∙ own keys i 
     own (q ∷ qs) (suc j) d s h =
         behind q (get_or qs j d) qs j (apart_from_distinct is_key (q ∷ qs) 0 (suc j) d s (omega arith) h) (own qs j d s.1 (omega arith))
 
--- the key of a segment that stands at an index has that index
-pub segment-slot : (keys read : List Key) (s found : SegName) (i : ℕ) (d : Key) → read ≡ keys → IsDistinct is_key keys → i < length read
-    → get_or read i d ≡ In found → is_name found s ≡ true → slot_in keys (In s) ≡ Some i
-segment-slot keys read s found i d same distinct within is name =
-    stands-slot keys (In s) i d distinct (omega (arith, within, ap length same))
-    (sym (is_key-true (In found) (In s) name) ∙ sym is ∙ ap (λ (ks : List Key). get_or ks i d) same)
+-- the same of a key that is equal to the one that stands there
+pub key-slot : (keys read : List Key) (k : Key) (i : ℕ) (d : Key) → read ≡ keys → IsDistinct is_key keys → i < length read → is_key (get_or read i d) k ≡ true
+    → slot_in keys k ≡ Some i
+key-slot keys read k i d same distinct within is =
+    stands-slot keys k i d distinct (omega (arith, within, ap length same))
+    (sym (is_key-true (get_or read i d) k is) ∙ ap (λ (ks : List Key). get_or ks i d) same)
 
 -- whether an index that may be there is this one
 abbrev pub is_slot : ℕ → Option ℕ → Bool
@@ -236,27 +233,6 @@ keeps_pushed old new k v u keys all writes none_v none_u in_all in_writes = reco
     room true q =
         let same : spare_in new true q ≡ room_left (old.writes.items ++ u ∷ []) (slot_in (old.keys.keys ++ k ∷ []) q) = λ i. room_left (writes i) (slot_in (keys i) q) in
         omega (arith, same, room_pushed old.keys.keys k q old.writes.items u in_writes)
-
--- a change that leaves keys and lists
-pub noted : (old mid new : Table) → new.keys.keys ≡ mid.keys.keys → new.all.items ≡ mid.all.items → new.writes.items ≡ mid.writes.items
-    → KeepsLists old mid → KeepsLists old new
-noted old mid new keys all writes h = record {
-  lists = lists;
-  room = room;
-  slots = λ q i e. ap (λ (ks : List Key). slot_in ks q) keys ∙ h.slots q i e;
-}
-  where
-    lists : (w : Bool) (q : Key) → kept_in new w q ≡ kept_in old w q
-    lists false q = (λ i. list_of (all i) (slot_in (keys i) q)) ∙ h.lists false q
-    lists true q = (λ i. list_of (writes i) (slot_in (keys i) q)) ∙ h.lists true q
-
-    room : (w : Bool) (q : Key) → spare_in old w q ≤ spare_in new w q
-    room false q =
-        let same : spare_in new false q ≡ spare_in mid false q = λ i. room_left (all i) (slot_in (keys i) q) in
-        omega (arith, same, h.room false q)
-    room true q =
-        let same : spare_in new true q ≡ spare_in mid true q = λ i. room_left (writes i) (slot_in (keys i) q) in
-        omega (arith, same, h.room true q)
 
 -- a key that was not there stands last
 pub key_last : (keys new : List Key) (k : Key) → slot_in keys k ≡ None → new ≡ (if list_any (is_key k) keys then keys else keys ++ k ∷ []) → new ≡ keys ++ k ∷ []

@@ -1,18 +1,16 @@
 -- The last writer of a place, from the last positions up to a number in a place's list and a segment's.
 use Rattle.std.proofs.Common.{◌≡◌, ℕ, zero, suc, ◌+◌, ◌-◌, ◌<◌, ◌≤◌, max, Bool, true, false, ◌||◌, if◌then◌else◌, nat_lt, List, [], ◌∷◌, length, get_or, take, Option, Some, None, refl, sym, ap, ◌∙◌, arith}
 use Rattle.std.proofs.Math.Bool.{or_comm}
-use Rattle.rd_cell.specs.declared.places.SegName.{SegName}
 use Rattle.rd_cell.specs.declared.places.Place.{Place}
-use Rattle.rd_cell.specs.declared.places.Place.TheVariants.{Cell, Val, Idx, Whole}
-use Rattle.rd_cell.specs.Places.{segment_of, covers, some_overlap}
+use Rattle.rd_cell.specs.Places.{covers, some_overlap}
 use Rattle.rd_step.specs.declared.entries.Entry.{Entry}
 use Rattle.rd_depend.specs.declared.index.DependIndex.{DependIndex}
-use Rattle.rd_depend.specs.declared.index.keys.Key.TheVariants.{At, In}
+use Rattle.rd_depend.specs.Keys.{is_under, is_under_some, own_key, value_of_place, whole_key}
 use Rattle.rd_depend.specs.Lists.{IsAscending, number_up_to, up_to, last_or, last_of, later}
-use Rattle.rd_depend.specs.Index.{Touch, Under, reached, touches, positions_from, positions, kept, IsIndexOf}
+use Rattle.rd_depend.specs.Index.{Touch, reached, touches, positions_from, positions, kept, IsIndexOf}
 use Rattle.rd_depend.specs.Writers.{behind, last_position, writes_to}
 use Rattle.rd_depend.proofs.IndexCuts.{positions-up_to}
-use Rattle.rd_depend.proofs.IndexFirst.{kept-ascends, kept-short, overlaps-whole, overlaps-own, overlaps-cell, overlaps-alone, no_cell_at, beside}
+use Rattle.rd_depend.proofs.IndexFirst.{kept-ascends, kept-short, overlaps-keys}
 
 -- the last of ascending positions up to a number stands before those that are greater
 
@@ -73,10 +71,6 @@ last-is test es = last-from test 0 1 es refl ∙ plain (last_position test es)
     plain None = refl
     plain (Some j) = let e : 0 + j ≡ j = omega arith in ap Some e
 
-last-same : (t u : Entry → Bool) → ((y : Entry) → t y ≡ u y) → (es : List Entry) → last_position t es ≡ last_position u es
-last-same t u h [] = refl
-last-same t u h (x ∷ xs) = λ i. behind (h x i) (last-same t u h xs i)
-
 later_behind : (b c : Bool) (o p : Option ℕ) → later (behind b o) (behind c p) ≡ behind (b || c) (later o p)
 later_behind b c (Some m) (Some n) = let e : max (suc m) (suc n) ≡ suc (max m n) = omega arith in ap Some e
 later_behind b true (Some m) None = let e : max (suc m) 1 ≡ suc m = omega arith in ap Some e
@@ -109,27 +103,17 @@ meet None (Some q) = refl
 meet (Some p) None = refl
 meet (Some p) (Some q) = or_comm (covers p q) (covers q p)
 
--- the steps that wrote a place, or one of the places that it names: by the keys under which what they wrote is kept
+-- nothing is found under no key
+pub none_last : (es : List Entry) → last_position (λ (y : Entry). false) es ≡ None
+none_last [] = refl
+none_last (x ∷ xs) = ap (behind false) (none_last xs)
 
-pub last_whole : (p : Place) (s : SegName) → p ≡ Whole s → (es : List Entry) → last_position (touches (Under true (In s))) es ≡ last_position (writes_to p) es
-last_whole p s h = last-same (touches (Under true (In s))) (writes_to p)
-    (λ y. sym (meet (reached true y) (Some p) ∙ ap (λ (q : Place). some_overlap (Some q) (reached true y)) h ∙ overlaps-whole s (reached true y)))
-
-pub last_alone : (p : Place) → segment_of p ≡ None → ((t : SegName) → p ≡ Whole t → ⊥) → (es : List Entry)
-    → last_position (touches (Under true (At p))) es ≡ last_position (writes_to p) es
-last_alone p none other = last-same (touches (Under true (At p))) (writes_to p)
-    (λ y. sym (meet (reached true y) (Some p) ∙ overlaps-alone p none other (reached true y)))
-
-pub last_own : (p : Place) (s : SegName) → segment_of p ≡ Some s → ((t : SegName) (i : ℕ) → p ≡ Cell t i → ⊥) → (es : List Entry)
-    → last_position (beside p s true) es ≡ last_position (writes_to p) es
-last_own p s own no_cell = last-same (beside p s true) (writes_to p)
-    (λ y. sym (meet (reached true y) (Some p) ∙ overlaps-own p s own (no_cell_at p no_cell) (reached true y)))
-
-pub last_cell : (p : Place) (s : SegName) (i : ℕ) → p ≡ Cell s i → (es : List Entry)
-    → later (last_position (touches (Under true (At (Val s i)))) es) (last_position (beside (Idx s i) s true) es) ≡ last_position (writes_to p) es
-last_cell p s i h = later-last (touches (Under true (At (Val s i)))) (beside (Idx s i) s true) (writes_to p)
-    (λ y. meet (reached true y) (Some p) ∙ ap (λ (q : Place). some_overlap (Some q) (reached true y)) h ∙ overlaps-cell s i (reached true y))
-
-pub last_beside : (p : Place) (s : SegName) (es : List Entry)
-    → later (last_position (touches (Under true (At p))) es) (last_position (touches (Under true (At (Whole s)))) es) ≡ last_position (beside p s true) es
-last_beside p s = later-last (touches (Under true (At p))) (touches (Under true (At (Whole s)))) (beside p s true) (λ y. refl)
+-- the steps that wrote a place, or one of the places that it names: by the three keys under which what they wrote is kept
+pub last_at : (p : Place) (es : List Entry) (value own whole both all : Option ℕ)
+    → value ≡ last_position (λ y. is_under_some (value_of_place p) (reached true y)) es → own ≡ last_position (λ y. is_under (own_key p) (reached true y)) es
+    → whole ≡ last_position (λ y. is_under_some (whole_key p) (reached true y)) es → both ≡ later own whole → all ≡ later value both
+    → all ≡ last_position (writes_to p) es
+last_at p es value own whole both all a b c two three =
+    let rest = λ (y : Entry). is_under (own_key p) (reached true y) || is_under_some (whole_key p) (reached true y) in
+    let in_two : both ≡ last_position rest es = two ∙ (λ i. later (b i) (c i)) ∙ later-last _ _ rest (λ y. refl) es in
+    three ∙ (λ i. later (a i) (in_two i)) ∙ later-last _ rest (writes_to p) (λ y. meet (reached true y) (Some p) ∙ overlaps-keys p (reached true y)) es

@@ -90,17 +90,7 @@ under_segment (Some p) q t h g = by (covers_cases p q h)
 
 half_whole : (p : Place) (t : SegName) → index_half p ≡ Whole t → p ≡ Whole t
 half_whole (Cell s i) t h = cc
-half_whole QHead t h = h
-half_whole QTail t h = h
-half_whole (Head s) t h = h
-half_whole (Tail s) t h = h
-half_whole (Next s) t h = h
-half_whole (Val s i) t h = h
-half_whole (Idx s i) t h = h
-half_whole (Whole s) t h = h
-half_whole ArrHead t h = h
-half_whole ArrTail t h = h
-half_whole (ArrCell i) t h = h
+half_whole _ t h = h
 
 some_place : (p q : Place) → Some p ≡ Some q → p ≡ q
 some_place p q h = cc

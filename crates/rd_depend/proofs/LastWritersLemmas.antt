@@ -23,7 +23,7 @@ use Rattle.rd_depend.specs.LastWriters.{wrote_under, is_making, bound, passed, m
 use Rattle.rd_depend.specs.ComparedSteps.{reached_or_nothing}
 use Rattle.rd_depend.specs.Lists.{list_at, items_of}
 use Rattle.rd_depend.proofs.IndexKeys.{kept_at, kept_half}
-use Rattle.rd_depend.proofs.TouchedKeys.{under_one, one_under}
+use Rattle.rd_depend.proofs.TouchedKeys.{that-true, under_one, one_under}
 
 -- The three keys of a place are different
 
@@ -83,12 +83,8 @@ moved_at o k w i s h = by (is_that k o) (ap (is_that k) h ∙ is_key-refl k)
     by true e = refl
     by false e = cc
 
-that_is : (o : Option Key) (k : Key) → is_that k o ≡ true → o ≡ Some k
-that_is None k h = cc
-that_is (Some q) k h = ap (λ (p : Key). Some p) (sym (is_key-true k q h))
-
 moved_elsewhere : (o : Option Key) (k : Key) (w : Bool) (i : ℕ) (s : Key → Reached) → (o ≡ Some k → ⊥) → moved_under o w i s k ≡ s k
-moved_elsewhere o k w i s h = by (is_that k o) (λ e. h (that_is o k e))
+moved_elsewhere o k w i s h = by (is_that k o) (λ e. h (that-true k o e))
   where
     by : (b : Bool) → (b ≡ true → ⊥) → (if b then passed (s k) w i else s k) ≡ s k
     by true never = absurd (never refl)

@@ -10,11 +10,10 @@ use Rattle.rd_step.specs.declared.entries.Entry.{Entry}
 use Rattle.rd_step.specs.Equivalence.{IsEquivalent}
 use Rattle.rd_step.specs.Run.{events, IsRunFrom}
 use Rattle.rd_step.proofs.RunParts.{first_step}
-use Rattle.rd_step.proofs.Equivalence.{as_stepped-same}
 use Rattle.rd_step.proofs.Steps.{took}
 use Rattle.rd_depend.specs.Equivalence.{DecidesEquivalence}
 use Rattle.rd_depend.proofs.FirstOfActor.{MayComeFirst}
-use Rattle.rd_depend.proofs.Exactness.{front, comes_first, Compares, compares_all, compares_more, compares_end, no_events}
+use Rattle.rd_depend.proofs.Exactness.{comes_first, runs_on, equivalent_first, no_events}
 use Rattle.rd_depend.proofs.TakingOut.{alike-same, IsApartFrom, Takes, TakesAll}
 use Rattle.rd_depend.proofs.KeysMeet.{MakingWrote, apart_of_free, free_of_apart}
 
@@ -91,29 +90,21 @@ equivalent_taken R w [] ys runs_x runs_y h = no_events ys h
 equivalent_taken R w (x ∷ xs) ys runs_x runs_y h =
     let c = comes_first R w x.event (events xs) ys runs_y h in
     let first = first_step R w x xs runs_x in
-    let runs : IsRunFrom R w (c.may.earlier ++ c.may.entry ∷ c.may.later) = subst (λ (l : List Entry). IsRunFrom R w l) c.may.stands runs_y in
-    let to_front = front R w c.may.earlier c.may.entry c.may.later runs c.may.free in
-    let same : record { world = to_front.after; entry = c.may.entry } ≡ record { world = first.after; entry = x } =
-    as_stepped-same _ _ (sym to_front.goes ∙ ap (step R w) c.may.its_event ∙ first.goes) in
-    let there : c.stepped ≡ record { world = first.after; entry = x } = as_stepped-same _ _ (sym c.goes ∙ first.goes) in
-    let makings = makings_wrote R w (c.may.earlier ++ c.may.entry ∷ c.may.later) runs in
-    let left_runs : IsRunFrom R first.after c.left =
-    subst (λ (l : List Entry). IsRunFrom R first.after l) (sym c.may.leaves)
-    (subst (λ (s : Stepped). IsRunFrom R s.world (c.may.earlier ++ c.may.later)) same to_front.rest) in (
+    let on = runs_on R w x xs ys c.left first runs_y c.may in
+    let makings = makings_wrote R w (c.may.earlier ++ c.may.entry ∷ c.may.later) (subst (λ (l : List Entry). IsRunFrom R w l) c.may.stands runs_y) in (
       c.left,
       record {
         earlier = c.may.earlier;
         entry = c.may.entry;
         later = c.may.later;
         stands = c.may.stands;
-        alike = alike-same x c.may.entry (sym (ap (λ (s : Stepped). s.entry) same));
+        alike = alike-same x c.may.entry (sym on.same);
         apart =
             all_apart c.may.entry c.may.earlier (making_at c.may.earlier c.may.entry c.may.later makings)
             (makings_before c.may.earlier (c.may.entry ∷ c.may.later) makings) c.may.free;
         leaves = c.may.leaves;
       },
-      equivalent_taken R first.after xs c.left first.rest left_runs
-          (subst (λ (s : Stepped). IsEquivalent R s.world (events xs) (events c.left)) there c.on),
+      equivalent_taken R first.after xs c.left first.rest on.runs ((equivalent_first R w x xs ys c.left first runs_y c.may).0 h),
     )
 
 -- and the way back
@@ -129,16 +120,18 @@ taken_first x ys left t = record {
   leaves = t.leaves;
 }
 
-compares_taken : (a b xs ys : List Entry) → Compares a b xs ys → TakesAll xs ys → Compares a b [] []
-compares_taken a b [] ys before h = subst (λ (l : List Entry). Compares a b [] l) h before
-compares_taken a b (x ∷ xs) ys before h = compares_taken a b xs h.0 (compares_more a b xs ys h.0 x before (taken_first x ys h.0 h.1)) h.2
+taken_same : (R : ℕ) (w : World) (xs ys : List Entry) → IsRunFrom R w xs → IsRunFrom R w ys → TakesAll xs ys → IsEquivalent R w (events xs) (events ys)
+taken_same R w [] ys runs_x runs_y h = ap events h
+taken_same R w (x ∷ xs) ys runs_x runs_y h =
+    let first = first_step R w x xs runs_x in
+    let m = taken_first x ys h.0 h.1 in
+    (equivalent_first R w x xs ys h.0 first runs_y m).1
+    (taken_same R first.after xs h.0 first.rest (runs_on R w x xs ys h.0 first runs_y m).runs h.2)
 
 -- the answers
 
 pub taken_equivalent : (a b : List Entry) → TakesAll a b → DecidesEquivalence a b true
-taken_equivalent a b h R w runs_a runs_b =
-    let same = compares_end a b [] (compares_taken a b a b (compares_all a b) h) R w runs_a runs_b in
-    (λ yes. same.1 refl, λ equivalent. refl)
+taken_equivalent a b h R w runs_a runs_b = (λ yes. taken_same R w a b runs_a runs_b h, λ equivalent. refl)
 
 pub untaken_different : (a b : List Entry) → (TakesAll a b → ⊥) → DecidesEquivalence a b false
 untaken_different a b h R w runs_a runs_b = (λ yes. cc, λ equivalent. absurd (h (equivalent_taken R w a b runs_a runs_b equivalent)))

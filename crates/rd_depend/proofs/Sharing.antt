@@ -20,21 +20,10 @@ part_of_map _ = refl
 -- what covers a place covers what it names
 covers_part : (p q : Place) → covers p q ≡ true → covers p (part q) ≡ true
 covers_part (WholeOf s) (CellAt t j) h = h
-covers_part (WholeOf s) (WholeOf t) h = h
 covers_part (WholeOf s) _ h = h
-covers_part (CellAt s i) (CellAt t j) h = h
 covers_part (CellAt s i) (WholeOf t) h = cc
 covers_part (CellAt s i) _ h = h
-covers_part QHead q h = subst (λ (x : Place). covers QHead (part x) ≡ true) (is_place-true QHead q h) refl
-covers_part QTail q h = subst (λ (x : Place). covers QTail (part x) ≡ true) (is_place-true QTail q h) refl
-covers_part (Head s) q h = subst (λ (x : Place). covers (Head s) (part x) ≡ true) (is_place-true (Head s) q h) (is_place-refl (Head s))
-covers_part (Tail s) q h = subst (λ (x : Place). covers (Tail s) (part x) ≡ true) (is_place-true (Tail s) q h) (is_place-refl (Tail s))
-covers_part (Next s) q h = subst (λ (x : Place). covers (Next s) (part x) ≡ true) (is_place-true (Next s) q h) (is_place-refl (Next s))
-covers_part (ValAt s i) q h = subst (λ (x : Place). covers (ValAt s i) (part x) ≡ true) (is_place-true (ValAt s i) q h) (is_place-refl (ValAt s i))
-covers_part (IdxAt s i) q h = subst (λ (x : Place). covers (IdxAt s i) (part x) ≡ true) (is_place-true (IdxAt s i) q h) (is_place-refl (IdxAt s i))
-covers_part ArrHead q h = subst (λ (x : Place). covers ArrHead (part x) ≡ true) (is_place-true ArrHead q h) refl
-covers_part ArrTail q h = subst (λ (x : Place). covers ArrTail (part x) ≡ true) (is_place-true ArrTail q h) refl
-covers_part (ArrCell i) q h = subst (λ (x : Place). covers (ArrCell i) (part x) ≡ true) (is_place-true (ArrCell i) q h) (is_place-refl (ArrCell i))
+covers_part p q h = subst (λ (x : Place). covers p (part x) ≡ true) (is_place-true p q h) (is_place-refl p)
 
 -- two places that overlap name one place of the map
 record Common (o p : Option Place) : Type 0 where

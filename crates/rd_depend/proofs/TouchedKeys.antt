@@ -13,7 +13,7 @@ use Rattle.rd_depend.specs.LastWriters.{wrote_under, is_whole_of}
 use Rattle.rd_depend.proofs.IndexKeys.{all_three, none_under}
 use Rattle.rd_depend.proofs.IndexFirst.{written_kept}
 
-that-true : (k : Key) (o : Option Key) → is_that k o ≡ true → o ≡ Some k
+pub that-true : (k : Key) (o : Option Key) → is_that k o ≡ true → o ≡ Some k
 that-true k None h = cc
 that-true k (Some q) h = ap (λ (p : Key). Some p) (sym (is_key-true k q h))
 

@@ -5,6 +5,7 @@ use Rattle.rd_step.specs.Prelude.{Place, Wrote, WrotePlace, is_nothing, written}
 use Rattle.rd_step.specs.declared.entries.Entry.{Entry}
 use Rattle.rd_step.specs.Dependence.{numbered}
 use Rattle.rd_depend.specs.declared.index.DependIndex.{DependIndex}
+use Rattle.rd_depend.specs.declared.index.changing.Homes.{Homes}
 use Rattle.rd_depend.specs.declared.index.changing.Slots.{Slots}
 use Rattle.rd_depend.specs.declared.index.keys.Key.{Key}
 use Rattle.rd_depend.specs.Keys.{is_under, place_key, value_key, segment_key}
@@ -92,12 +93,20 @@ pub record Keeps (old new : DependIndex) : Type 0 where
   pub room : (t : Touch) → spare old t ≤ spare new t
   pub len : new.len ≡ old.len
 
+-- the keys under which an entry is kept
+abbrev pub homes_of : Entry → Homes
+homes_of x = record {
+  place = record { key = place_key x.place; wrote = not (is_nothing x.wrote) };
+  value = record { key = value_key x.place; wrote = is_value_written x.wrote };
+  segment = record { key = segment_key x.place; wrote = not (is_nothing x.wrote) };
+}
+
 -- there is room for the entry's position wherever it is to be kept, and the keys have these indices
-pub record IsReadyFor (index : DependIndex) (x : Entry) (slots : Slots) : Type 0 where
+pub record IsReadyFor (index : DependIndex) (x : Entry) (homes : Homes) (slots : Slots) : Type 0 where
   pub actor : 0 < spare_at index.by_actor.items x.event.actor
-  pub place : AreReady index.by_key (place_key x.place) (not (is_nothing x.wrote)) slots.place
-  pub value : AreReady index.by_key (value_key x.place) (is_value_written x.wrote) slots.value
-  pub segment : AreReady index.by_key (segment_key x.place) (not (is_nothing x.wrote)) slots.segment
+  pub place : AreReady index.by_key homes.place.key homes.place.wrote slots.place
+  pub value : AreReady index.by_key homes.value.key homes.value.wrote slots.value
+  pub segment : AreReady index.by_key homes.segment.key homes.segment.wrote slots.segment
 
 -- the list is as before where the entry is not kept, and lost its last position where it is
 pub record Drops (x : Entry) (old new : DependIndex) : Type 0 where

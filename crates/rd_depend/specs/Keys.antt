@@ -4,7 +4,7 @@ use Rattle.std.specs.Option.{option_map}
 use Rattle.rd_cell.specs.declared.places.SegName.{SegName}
 use Rattle.rd_cell.specs.declared.places.Place.{Place}
 use Rattle.rd_cell.specs.declared.places.Place.TheVariants.{QHead, QTail, Head, Tail, Next, Cell, Val, Idx, Whole, ArrHead, ArrTail, ArrCell}
-use Rattle.rd_cell.specs.Places.{is_name, is_of, is_place, index_half, root}
+use Rattle.rd_cell.specs.Places.{is_name, is_of, is_place, index_half, root, segment_of}
 use Rattle.rd_depend.specs.declared.index.keys.Key.{Key}
 use Rattle.rd_depend.specs.declared.index.keys.Key.TheVariants.{At, In}
 
@@ -29,6 +29,11 @@ abbrev pub is_under : Key → Option Place → Bool
 is_under k None = false
 is_under (At p) (Some q) = is_kept_at p q
 is_under (In s) (Some q) = is_of s q
+
+-- the same of a key that may be there
+abbrev pub is_under_some : Option Key → Option Place → Bool
+is_under_some None o = false
+is_under_some (Some k) o = is_under k o
 
 -- the key of a place, if there is one: of a cell that of its index half
 abbrev pub place_key : Option Place → Option Key
@@ -60,6 +65,15 @@ segment_of_place _ = None
 abbrev pub segment_key : Option Place → Option Key
 segment_key None = None
 segment_key (Some p) = segment_of_place p
+
+-- the key of the places that a place names, but for the value half of a cell: of the whole of a segment the segment's
+abbrev pub own_key : Place → Key
+own_key (Whole s) = In s
+own_key p = At (index_half p)
+
+-- the key of the whole of the segment that has a place, if one has it
+abbrev pub whole_key : Place → Option Key
+whole_key p = option_map (λ s. At (Whole s)) (segment_of p)
 
 -- the index of the first of these keys that is equal to this one
 abbrev pub slot_in : List Key → Key → Option ℕ

@@ -4,7 +4,7 @@ ghost use Rattle.std.specs.Prelude.{◌≡◌, ◌+◌, ◌<◌, ◌≤◌, ◌+
 ghost use Rattle.rd_step.specs.declared.entries.Entry.{Entry as Record};
 ghost use Rattle.rd_cell.specs.Places.{is_nothing};
 ghost use Rattle.rd_depend.specs.Keys.{place_key, value_key, segment_key};
-ghost use Rattle.rd_depend.specs.Index.{Touch, Adds, Keeps, Drops, MovesAll, CutsAll, IsIndexOf, IsIndex, IsLast, IsReadyFor, HasRoomFor, EndsWith, number_of, touches, spare, is_value_written};
+ghost use Rattle.rd_depend.specs.Index.{Touch, Adds, Keeps, Drops, MovesAll, CutsAll, homes_of, IsIndexOf, IsIndex, IsLast, IsReadyFor, HasRoomFor, EndsWith, number_of, touches, spare, is_value_written};
 
 use super::DependIndex;
 use super::keys::Key;
@@ -14,7 +14,22 @@ use rd_cell::{Place, Wrote};
 use rd_step::Entry;
 use std::alloc::AllocError;
 
-/// Where an entry's positions are kept: the indices of its keys.
+/// A key under which an entry is kept, if there is one, and whether it is kept there among those that wrote.
+#[derive(Clone, Copy)]
+struct Home {
+    key: Option<Key>,
+    wrote: bool,
+}
+
+/// The keys under which an entry is kept: of its place, of a cell's value half, and of its segment.
+#[derive(Clone, Copy)]
+struct Homes {
+    place: Home,
+    value: Home,
+    segment: Home,
+}
+
+/// The indices of these keys.
 #[derive(Clone, Copy)]
 struct Slots {
     place: Option<usize>,
@@ -30,31 +45,31 @@ impl DependIndex {
         ensures err { OnErr result (Keeps self.old self.new) }
         ensures succeeds { ((t : Touch) → touches t entry.now ≡ true → 0 < spare self.old t) → IsOk result }
     {
-        let slots = self.reserve(entry)?;
-        self.put(entry, slots);
+        let homes = homes_of(entry);
+        let slots = self.reserve(entry, &homes)?;
+        self.put(entry, &homes, slots);
         Ok(())
     }
 
     /// Makes room for one more position wherever the entry's is to be kept, and finds its keys.
-    fn reserve(&mut self, entry: &Entry) -> Result<Slots, AllocError>
+    fn reserve(&mut self, entry: &Entry, homes: &Homes) -> Result<Slots, AllocError>
+        requires { homes.now ≡ homes_of entry.now }
         ensures same { Keeps self.old self.new }
-        ensures ready { IfOk result (λ slots. IsReadyFor self.new entry.now slots) }
+        ensures ready { IfOk result (IsReadyFor self.new entry.now homes.now) }
         ensures succeeds { ((t : Touch) → touches t entry.now ≡ true → 0 < spare self.old t) → IsOk result }
     {
         let actor = usize::from(entry.event.actor);
         grow(&mut self.by_actor, self.alloc, actor + 1)?;
         reserve_in(&mut self.by_actor, actor)?;
-        let wrote = is_written(entry.wrote);
-        let value_written = is_value_written(entry.wrote);
         let place = self
             .by_key
-            .reserve(self.alloc, place_key(entry.place), wrote)?;
+            .reserve(self.alloc, homes.place.key, homes.place.wrote)?;
         let value = self
             .by_key
-            .reserve(self.alloc, value_key(entry.place), value_written)?;
+            .reserve(self.alloc, homes.value.key, homes.value.wrote)?;
         let segment = self
             .by_key
-            .reserve(self.alloc, segment_key(entry.place), wrote)?;
+            .reserve(self.alloc, homes.segment.key, homes.segment.wrote)?;
         Ok(Slots {
             place,
             value,
@@ -63,20 +78,20 @@ impl DependIndex {
     }
 
     /// Puts the entry at the next position, for which there is room.
-    fn put(&mut self, entry: &Entry, slots: Slots)
+    fn put(&mut self, entry: &Entry, homes: &Homes, slots: Slots)
         requires few { self.old.len < MOST_STEPS }
-        requires ready { IsReadyFor self.old entry.now slots }
+        requires homes { homes.now ≡ homes_of entry.now }
+        requires ready { IsReadyFor self.old entry.now homes.now slots }
         ensures { Adds entry.now self.old self.new }
     {
         self.len += 1;
         let position = self.len as u32;
         let actor = usize::from(entry.event.actor);
         put_in(&mut self.by_actor, actor, position);
-        let wrote = is_written(entry.wrote);
-        let value_written = is_value_written(entry.wrote);
-        self.by_key.put(slots.place, position, wrote);
-        self.by_key.put(slots.value, position, value_written);
-        self.by_key.put(slots.segment, position, wrote);
+        self.by_key.put(slots.place, position, homes.place.wrote);
+        self.by_key.put(slots.value, position, homes.value.wrote);
+        self.by_key
+            .put(slots.segment, position, homes.segment.wrote);
     }
 
     /// Takes the last position away, which is the entry's.
@@ -86,11 +101,11 @@ impl DependIndex {
     {
         self.len -= 1;
         take_last_in(&mut self.by_actor, usize::from(entry.event.actor));
-        let wrote = is_written(entry.wrote);
-        let value_written = is_value_written(entry.wrote);
-        self.by_key.take_last(place_key(entry.place), wrote);
-        self.by_key.take_last(value_key(entry.place), value_written);
-        self.by_key.take_last(segment_key(entry.place), wrote);
+        let homes = homes_of(entry);
+        self.by_key.take_last(homes.place.key, homes.place.wrote);
+        self.by_key.take_last(homes.value.key, homes.value.wrote);
+        self.by_key
+            .take_last(homes.segment.key, homes.segment.wrote);
     }
 
     /// Moves a position behind those above it up to `n`, which are one less then.
@@ -161,6 +176,27 @@ impl DependIndex {
             left -= 1;
             self.drop_last(&entries[left]);
         }
+    }
+}
+
+/// Where the entry is kept.
+fn homes_of(entry: &Entry) -> Homes
+    ensures { result ≡ homes_of entry.now }
+{
+    let wrote = is_written(entry.wrote);
+    Homes {
+        place: Home {
+            key: place_key(entry.place),
+            wrote,
+        },
+        value: Home {
+            key: value_key(entry.place),
+            wrote: is_value_written(entry.wrote),
+        },
+        segment: Home {
+            key: segment_key(entry.place),
+            wrote,
+        },
     }
 }
 

@@ -1,25 +1,22 @@
 //! The first dependant by look-ups: the first later position of the actor, and for each place that the step touched the first one
 //! that touched it, or if the step only read it that wrote it.
 
-ghost use Rattle.std.specs.Prelude.{◌≡◌, ◌+◌, ◌<◌, ◌≤◌, ◌^◌, ◌||◌, List, Some, length};
+ghost use Rattle.std.specs.Prelude.{◌≡◌, ◌+◌, ◌<◌, ◌≤◌, ◌^◌, List, Some, length};
 ghost use Rattle.std.specs.Option.{is_some};
-ghost use Rattle.rd_cell.specs.declared.places.Place.TheVariants.{Whole};
 ghost use Rattle.rd_cell.specs.Places.{interfere};
 ghost use Rattle.rd_step.specs.declared.entries.Entry.{Entry as Record};
 ghost use Rattle.rd_step.specs.Prelude.{depends};
 ghost use Rattle.rd_depend.specs.Lists.{list_at, first_above, earlier, IsAscending};
-ghost use Rattle.rd_depend.specs.Tables.{kept_in};
 ghost use Rattle.rd_depend.specs.Index.{IsIndexOf, positions, reached};
-ghost use Rattle.rd_depend.specs.Keys.{is_under};
-ghost use Rattle.rd_depend.specs.declared.index.keys.Key.TheVariants.{At};
+ghost use Rattle.rd_depend.specs.Keys.{is_under_some};
 
 use super::DependIndex;
-use super::changing::is_value_written;
+use super::changing::{is_value_written, value_key};
 use super::keys::Key;
 use super::positions::Positions;
 use super::probes::Probes;
 use rd_cell::limits::MOST_STEPS;
-use rd_cell::{Place, SegName, Wrote};
+use rd_cell::{Place, Wrote};
 use rd_step::Entry;
 
 impl DependIndex {
@@ -57,54 +54,35 @@ impl DependIndex {
         ensures answer { (es : List Record) → IsIndexOf self.now es
             → result ≡ first_above k (positions (λ y. interfere (Some place) wrote y.place y.wrote) es) }
         ensures cost { probes.new.count ≤ probes.old.count + 57 }
-        ensures counts { probes.old.count < probes.new.count }
+        ensures counts { probes.old.count ≤ probes.new.count }
     {
         let reads = wrote.is_nothing();
-        match place {
-            Place::Whole(name) => self.first_under(k, Key::In(name), reads, probes),
-            Place::Cell(name, index) => {
-                let value = Key::At(Place::Val(name, index));
-                let by_value = self.first_under(k, value, !is_value_written(wrote), probes);
-                let half = Place::Idx(name, index);
-                earlier(by_value, self.first_beside(k, half, name, reads, probes))
-            }
-            _ => match place.segment() {
-                None => self.first_under(k, Key::At(place), reads, probes),
-                Some(name) => self.first_beside(k, place, name, reads, probes),
-            },
-        }
+        let keeps_value = !is_value_written(wrote);
+        let by_value = self.first_under(k, value_key(Some(place)), keeps_value, probes);
+        let own = self.first_under(k, Some(Key::of_place(place)), reads, probes);
+        let whole = self.first_under(k, Key::of_whole(place), reads, probes);
+        earlier(by_value, earlier(own, whole))
     }
 
-    /// The first position greater than `k` at a place of the segment or at the whole of it, of all steps that touched it or of those
-    /// that wrote it.
-    fn first_beside(
+    /// The first position greater than `k` of a step that is kept under the key, of all of these or of those that wrote; at most 19
+    /// probes.
+    fn first_under(
         &self,
         k: u32,
-        place: Place,
-        name: SegName,
+        key: Option<Key>,
         writes: bool,
         probes: &mut Probes,
     ) -> Option<u64>
         requires few { self.now.len ≤ MOST_STEPS }
-        requires counted { probes.old.count < 2 ^ 33 + 19 }
+        requires counted { probes.old.count < 2 ^ 34 }
         ensures answer { (es : List Record) → IsIndexOf self.now es
-            → result ≡ first_above k (positions (λ y. is_under (At place) (reached writes y) || is_under (At (Whole name)) (reached writes y)) es) }
-        ensures cost { probes.new.count ≤ probes.old.count + 38 }
-        ensures counts { probes.old.count < probes.new.count }
-    {
-        let own = self.first_under(k, Key::At(place), writes, probes);
-        let whole = Key::At(Place::Whole(name));
-        earlier(own, self.first_under(k, whole, writes, probes))
-    }
-
-    /// The first position greater than `k` that is kept under the key; at most 19 probes.
-    fn first_under(&self, k: u32, key: Key, writes: bool, probes: &mut Probes) -> Option<u64>
-        requires { probes.old.count < 2 ^ 34 }
-        ensures answer { IsAscending (kept_in self.now.by_key writes key) → length (kept_in self.now.by_key writes key) < 2 ^ 17
-            → result ≡ first_above k (kept_in self.now.by_key writes key) }
+            → result ≡ first_above k (positions (λ y. is_under_some key (reached writes y)) es) }
         ensures cost { probes.new.count ≤ probes.old.count + 19 }
-        ensures counts { probes.old.count < probes.new.count }
+        ensures counts { probes.old.count ≤ probes.new.count }
     {
+        let Some(key) = key else {
+            return None;
+        };
         Positions::found(self.by_key.list(key, writes), probes).first_above(k, probes)
     }
 

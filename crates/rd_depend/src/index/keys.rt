@@ -5,7 +5,7 @@
 ghost use Rattle.std.specs.Prelude.{◌≡◌, ◌+◌, ◌*◌, ◌<◌, Some, None};
 ghost use Rattle.std.specs.Hash as fed;
 ghost use Rattle.std.specs.Cmp.{partial_equiv_from_equiv};
-ghost use Rattle.rd_depend.specs.Keys.{is_key, key_number, place_number, packed, segment_of_place};
+ghost use Rattle.rd_depend.specs.Keys.{is_key, key_number, own_key, place_number, packed, segment_of_place, whole_key};
 ghost use Rattle.rd_depend.specs.KeyLaws.{key_equiv, key_number-same};
 
 use rd_cell::{Place, SegName};
@@ -38,8 +38,28 @@ impl Key {
         }
     }
 
+    /// The key of the places that a place names, but for the value half of a cell: of the whole of a segment the segment's.
+    pub(crate) fn of_place(place: Place) -> Key
+        ensures { result ≡ own_key place }
+    {
+        match place {
+            Place::Whole(name) => Key::In(name),
+            _ => Key::At(place.index_half()),
+        }
+    }
+
+    /// The key of the whole of the segment that has the place, if one has it.
+    pub(crate) fn of_whole(place: Place) -> Option<Key>
+        ensures { result ≡ whole_key place }
+    {
+        match place.segment() {
+            None => None,
+            Some(name) => Some(Key::At(Place::Whole(name))),
+        }
+    }
+
     /// The number that the key is hashed as.
-    fn number(&self) -> u64
+    pub(crate) fn number(&self) -> u64
         ensures { result ≡ key_number self.now }
     {
         match *self {

@@ -7,17 +7,16 @@ use super::lists::{
     cut_all, move_all, put_if, put_in, reserve_if, reserve_in, take_last_if, take_last_in,
 };
 use indexmap::IndexSet;
-use rd_cell::SegName;
 use std::alloc::{AllocError, Global};
 
-/// How many hints there are of where the key of a segment stands.
-const HINTS: usize = 64;
+/// How many hints there are of where a key stands.
+const HINTS: usize = 512;
 
 /// Keys with their lists, each by the index of its key. A key stays when its lists are empty.
 #[derive(Drop)]
 pub(crate) struct Table {
     keys: IndexSet<Key>,
-    /// Where the keys of segments were found of late. A hint is asked before the set is, and believed only if the key stands there.
+    /// Where keys were found of late. A hint is asked before the set is, and believed only if the key stands there.
     hints: [usize; HINTS],
     all: Vec<Vec<u32>>,
     writes: Vec<Vec<u32>>,
@@ -30,7 +29,6 @@ impl Table {
     ghost use Rattle.rd_depend.specs.Keys.{slot_in};
     ghost use Rattle.rd_depend.specs.Tables.{kept_in, spare_in, counts, IsReady, IsReadyAt, AreReady, AreReadyAt, KeepsLists, Puts, HasLast, TakesLast, Moves, Cuts};
     ghost use Rattle.rd_depend.specs.declared.index.keys.Key.{Key as Kept};
-    ghost use Rattle.rd_depend.specs.declared.index.keys.Key.TheVariants.{In};
 
     /// No key; it takes no memory.
     pub(crate) fn new(alloc: Global) -> Table
@@ -49,50 +47,22 @@ impl Table {
         ensures slot { result ≡ slot_in self.now.keys.keys key }
         ensures within { IfSome result (λ i. i < length self.now.keys.keys) }
     {
-        if let Some(slot) = self.hinted(key) {
-            return Some(slot);
+        let hinted = self.hints[hint_of(key)];
+        if self.is_at(hinted, key) {
+            return Some(hinted);
         }
         self.keys.get_index_of(&key)
     }
 
-    /// The index of the key of a segment, if a hint tells it.
-    fn hinted(&self, key: Key) -> Option<usize>
-        ensures { IfSome result (λ i. slot_in self.now.keys.keys key ≡ Some i) }
-    {
-        let Key::In(name) = key else {
-            return None;
-        };
-        let slot = self.hints[hint_of(name)];
-        if self.is_segment_at(slot, name) {
-            Some(slot)
-        } else {
-            None
-        }
-    }
-
-    /// Whether the key of the segment stands at this index.
-    fn is_segment_at(&self, slot: usize, name: SegName) -> bool
-        ensures { result ≡ true → slot_in self.now.keys.keys (In name) ≡ Some slot }
+    /// Whether the key stands at this index.
+    fn is_at(&self, slot: usize, key: Key) -> bool
+        ensures { result ≡ true → slot_in self.now.keys.keys key ≡ Some slot }
     {
         let keys = self.keys.as_slice();
         if slot >= keys.len() {
             return false;
         }
-        match keys[slot] {
-            Key::In(found) => found == name,
-            Key::At(_) => false,
-        }
-    }
-
-    /// Writes down where the key was found, if it is that of a segment.
-    fn note(&mut self, key: Key, slot: usize)
-        ensures keys { self.new.keys.keys ≡ self.old.keys.keys }
-        ensures all { self.new.all.items ≡ self.old.all.items }
-        ensures writes { self.new.writes.items ≡ self.old.writes.items }
-    {
-        if let Key::In(name) = key {
-            self.hints[hint_of(name)] = slot;
-        }
+        keys[slot] == key
     }
 
     /// The positions kept for the key: all of them, or those that wrote.
@@ -147,19 +117,25 @@ impl Table {
         Ok(slot)
     }
 
-    /// The index of the key, which is put there with empty lists if it isn't yet; it is noted for the next time.
+    /// The index of the key, which is put there with empty lists if it isn't yet. Where its hint doesn't tell it, it is noted for the
+    /// next time.
     fn slot_or_new(&mut self, alloc: Global, key: Key) -> Result<usize, AllocError>
         ensures same { KeepsLists self.old self.new }
         ensures slot { IfOk result (λ i. slot_in self.new.keys.keys key ≡ Some i) }
         ensures within { IfOk result (λ i. i < length self.new.keys.keys) }
         ensures succeeds { 0 < spare_in self.old false key → IsOk result }
     {
+        let hint = hint_of(key);
+        let hinted = self.hints[hint];
+        if self.is_at(hinted, key) {
+            return Ok(hinted);
+        }
         let slot = self.found_or_new(alloc, key)?;
-        self.note(key, slot);
+        self.hints[hint] = slot;
         Ok(slot)
     }
 
-    /// The index of the key, which is put there with empty lists if it isn't yet.
+    /// The same, without noting it.
     fn found_or_new(&mut self, alloc: Global, key: Key) -> Result<usize, AllocError>
         ensures same { KeepsLists self.old self.new }
         ensures slot { IfOk result (λ i. slot_in self.new.keys.keys key ≡ Some i) }
@@ -238,9 +214,10 @@ impl Table {
     }
 }
 
-/// Which hint may tell where the key of the segment stands.
-fn hint_of(name: SegName) -> usize
+/// Which hint may tell where the key stands.
+fn hint_of(key: Key) -> usize
     ensures { result < HINTS }
 {
-    name.n as usize % HINTS
+    let spread = key.number().wrapping_mul(0x9e37_79b9_7f4a_7c15);
+    (spread >> 55) as usize % HINTS
 }

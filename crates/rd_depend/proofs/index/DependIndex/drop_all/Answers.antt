@@ -1,5 +1,6 @@
 use Rattle.std.proofs.Common.{◌≡◌, ◌-◌, ◌<◌, suc, length, arith}
-use Rattle.rd_depend.proofs.IndexChanges.{last_left, one_dropped, there_at}
+use Rattle.std.proofs.lemmas.Option.{slice_get-get_or}
+use Rattle.rd_depend.proofs.IndexChanges.{last_left, one_dropped}
 use Rattle.rd_depend.proofs.index.DependIndex.drop_all.Goals as goal
 
 pub drop_last-requires : goal.drop_last-requires
@@ -7,7 +8,7 @@ drop_last-requires c =
     let n = c.loop-left.left - 1 in
     let next : c.loop-left.left ≡ suc n = omega arith in
     let within : n < length c.args.entries.now = omega (arith, c.loop-left.invariant.within) in
-    last_left c.args.self.now c.loop-left.self c.args.entries.now c.loop-left.left n _ next (there_at c.args.entries.now n _ within) c.requires c.loop-left.invariant.dropped
+    last_left c.args.self.now c.loop-left.self c.args.entries.now c.loop-left.left n _ next (slice_get-get_or c.args.entries.now n _ within) c.requires c.loop-left.invariant.dropped
 
 pub loop-left-preserved : goal.loop-left-preserved
 loop-left-preserved c =
@@ -17,5 +18,5 @@ loop-left-preserved c =
     record {
       within = omega (arith, within);
       dropped = one_dropped c.args.self.now c.loop-left.self c.drop_last.new.self c.args.entries.now c.loop-left.left n _ next
-          (there_at c.args.entries.now n _ within) c.loop-left.invariant.dropped c.drop_last.ensures;
+          (slice_get-get_or c.args.entries.now n _ within) c.loop-left.invariant.dropped c.drop_last.ensures;
     }

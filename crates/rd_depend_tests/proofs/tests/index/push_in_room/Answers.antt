@@ -3,7 +3,8 @@ use Rattle.std.proofs.lemmas.Bool.{false≢true}
 use Rattle.rd_step.specs.declared.entries.Entry.{Entry}
 use Rattle.rd_depend.specs.declared.index.DependIndex.{DependIndex}
 use Rattle.rd_depend.specs.Index.{HasRoomFor}
-use Rattle.rd_depend.proofs.IndexChanges.{drop_one, there_at}
+use Rattle.rd_depend.proofs.IndexChanges.{drop_one}
+use Rattle.std.proofs.lemmas.Option.{slice_get-get_or}
 use Rattle.rd_depend_tests.proofs.tests.index.push_in_room.Goals as goal
 
 -- room for the entries from one on, as room for that one and the rest
@@ -15,7 +16,7 @@ pub unreachable-requires : goal.unreachable-requires
 unreachable-requires c =
     let es = c.args.entries.now in
     false≢true (c.in-Err.ensures.succeeds (drop (suc c.loop-at.at) es)
-    (room_from c.loop-at.index es c.loop-at.at _ (there_at es c.loop-at.at _ c.loop-at-test.true) c.loop-at.invariant))
+    (room_from c.loop-at.index es c.loop-at.at _ (slice_get-get_or es c.loop-at.at _ c.loop-at-test.true) c.loop-at.invariant))
 
 pub loop-at-preserved : goal.loop-at-preserved
 loop-at-preserved c =
@@ -23,4 +24,4 @@ loop-at-preserved c =
     let next : c.loop-at.at + 1 ≡ suc c.loop-at.at = omega arith in
     subst (λ (n : ℕ). HasRoomFor c.push.new.self (drop n es)) (sym next)
     (c.in-Ok.ensures.room (drop (suc c.loop-at.at) es)
-    (room_from c.loop-at.index es c.loop-at.at _ (there_at es c.loop-at.at _ c.loop-at-test.true) c.loop-at.invariant))
+    (room_from c.loop-at.index es c.loop-at.at _ (slice_get-get_or es c.loop-at.at _ c.loop-at-test.true) c.loop-at.invariant))

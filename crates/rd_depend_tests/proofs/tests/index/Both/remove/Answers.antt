@@ -2,12 +2,12 @@ use Rattle.std.proofs.Common.{◌≡◌, ℕ, suc, ◌+◌, ◌-◌, ◌<◌, Li
 use Rattle.rd_step.specs.declared.entries.Entry.{Entry}
 use Rattle.rd_step.specs.Dependence.{numbered, without}
 use Rattle.rd_depend.specs.Index.{IsIndexOf}
-use Rattle.rd_depend.proofs.IndexChanges.{there_at}
+use Rattle.std.proofs.lemmas.Option.{slice_get-get_or}
 use Rattle.rd_depend_tests.proofs.tests.index.Both.remove.Goals as goal
 
 -- the entry of this index is held at the position after it
 held_at : (es : List Entry) (i k : ℕ) (x : Entry) → k ≡ suc i → i < length es → x ≡ get_or es i x → numbered es k ≡ Some x
-held_at es i k x next within at = ap (numbered es) next ∙ there_at es i x within ∙ ap Some (sym at)
+held_at es i k x next within at = ap (numbered es) next ∙ slice_get-get_or es i x within ∙ ap Some (sym at)
 
 -- and is taken out there
 out_at : (es : List Entry) (i k : ℕ) → k ≡ suc i → without es k ≡ take i es ++ drop (suc i) es

@@ -1,0 +1,19 @@
+use Rattle.std.proofs.Common.{◌≡◌, ◌<◌, ℕ, List, length, true, take, sym, ap, subst, ◌∙◌, Option}
+use Rattle.rd_depend.specs.declared.index.keys.Key.{Key}
+use Rattle.rd_depend.specs.Keys.{is_under_some}
+use Rattle.rd_depend.specs.Lists.{IsAscending, last_of, up_to}
+use Rattle.rd_depend.specs.Index.{Under, reached}
+use Rattle.rd_depend.specs.Writers.{last_position}
+use Rattle.rd_depend.proofs.IndexWriters.{last_in, none_last}
+use Rattle.rd_depend.proofs.index.DependIndex.last_under.Goals as goal
+
+pub returns-in_default-clause-answer : goal.returns-in_default-clause-answer
+returns-in_default-clause-answer c = λ es is.
+    sym (ap (λ (o : Option Key). last_position (λ y. is_under_some o (reached true y)) (take c.args.n es)) c.in_default.is ∙ none_last (take c.args.n es))
+
+pub returns-clause-answer : goal.returns-clause-answer
+returns-clause-answer c = λ es is.
+    last_in c.args.self.now es is c.requires.few (Under true c.in-Some.key) c.args.n c.last_up_to.result
+    (subst (λ (l : List ℕ). IsAscending l → length l < 131072 → c.last_up_to.result ≡ last_of (up_to c.args.n l)) (c.found.ensures.items ∙ c.list.ensures)
+    c.last_up_to.ensures.last)
+    ∙ sym (ap (λ (o : Option Key). last_position (λ y. is_under_some o (reached true y)) (take c.args.n es)) c.in-Some.is)
