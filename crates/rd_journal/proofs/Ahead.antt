@@ -11,12 +11,10 @@ use Rattle.rd_journal.specs.declared.sessions.Session.{Session}
 use Rattle.rd_journal.specs.Journal.{Journal, events, IsRun, IsRunFrom}
 use Rattle.rd_journal.specs.Kept.{with_undone, IsSession}
 use Rattle.rd_journal.specs.Moves.{IsMovedBack, IsMovedForward, IsTakenOutAt, IsSwitched}
-use Rattle.rd_journal.specs.Room.{room_returned_by}
 use Rattle.rd_journal.specs.Sessions.{journal}
 use Rattle.rd_journal.proofs.RecordLemmas.{take_over}
 use Rattle.rd_journal.proofs.Runs.{preceded_entries}
-use Rattle.rd_journal.proofs.Switching.{returned_joined}
-use Rattle.rd_journal.proofs.Walks.{BeginsUndone}
+use Rattle.rd_journal.proofs.Walks.{room_first}
 
 -- The first steps of a run
 
@@ -42,13 +40,7 @@ pub session_undone : (R n : ℕ) (j : Journal) (room : ℕ → ℕ) → IsSessio
 session_undone R n j room session = record {
   few = omega (arith, session.few, length-take n j.undone);
   runs = run_undone R n j session.runs;
-  has_room = record {
-    at = λ m.
-        let parts = returned_joined (take n j.undone) (drop n j.undone) m in
-        let all = ap (λ (xs : List Entry). room_returned_by xs m) (take-append-drop n j.undone) in
-        let has = session.has_room.at m in
-        omega arith;
-  };
+  has_room = room_first n j.undone room session.has_room;
 }
 
 pub is_session : {R : ℕ} (s : Session R) → IsSession R (journal s) (room s.world)
@@ -87,13 +79,6 @@ out_undone n k old new some within moved =
 pub none_taken : (n : ℕ) (xs : List Entry) → xs ≡ [] → take n xs ≡ []
 none_taken zero xs none = refl
 none_taken (suc n) xs none = ap (take (suc n)) none
-
--- the next step ahead is the first undone one
-pub first_undone : (n : ℕ) (j : Journal) (x : Entry) → 1 ≤ n → BeginsUndone j x → BeginsUndone (with_undone n j) x
-first_undone zero j x some first = absurd (omega arith)
-first_undone (suc n) j x some first =
-    let cut : take (suc n) j.undone ≡ x ∷ take n (drop 1 j.undone) = ap (take (suc n)) first in
-    cut ∙ ap (λ (xs : List Entry). x ∷ drop 1 xs) (sym cut)
 
 -- The next steps ahead, made again
 

@@ -50,16 +50,6 @@ full_records r h = record {
 
 -- a list cut behind its first m elements, and again u elements behind them
 
--- the last of the first part
-pub last_taken : {X : Type 0} (l : List X) (m : ℕ) (x : X) → 1 ≤ m → m ≤ length l → x ≡ get_or l (m - 1) x
-    → take m l ≡ take (length (take m l) - 1) (take m l) ++ x ∷ []
-last_taken {X} l m x some within here =
-    let before : m ≡ (m - 1) + 1 = omega arith in
-    let len : m - 1 ≡ length (take m l) - 1 = omega (arith, length-take-le m l within) in
-    ap (λ (n : ℕ). take n l) before ∙ take_more l (m - 1) x (omega arith)
-    ∙ (λ i. sym (take-take (m - 1) m l (omega arith)) i ++ sym here i ∷ [])
-    ∙ ap (λ (n : ℕ). take n (take m l) ++ x ∷ []) len
-
 -- some elements before others
 pub take_over : {X : Type 0} (xs ys : List X) (n u : ℕ) → length xs ≡ n → take (u + n) (xs ++ ys) ≡ xs ++ take u ys
 take_over {X} xs ys n u h =
@@ -67,21 +57,21 @@ take_over {X} xs ys n u h =
     ap (λ (m : ℕ). take m (xs ++ ys)) turn ∙ take-add n u (xs ++ ys)
     ∙ (λ i. take_at xs ys n h i ++ take u (drop_at xs ys n h i))
 
-pub cut_back : {X : Type 0} (l : List X) (m u : ℕ) → 1 ≤ m → m ≤ length l
-    → take (u + 1) (drop (m - 1) l) ≡ drop (length (take m l) - 1) (take m l) ++ take u (drop m l)
-cut_back {X} l m u some within =
-    let one : length (drop (length (take m l) - 1) (take m l)) ≡ 1 =
-    omega (arith, length-take-le m l within, length-drop (length (take m l) - 1) (take m l)) in
-    ap (λ (ys : List X). take (u + 1) ys) (drop_before l (m - 1) m 1 within (omega arith))
-    ∙ take_over (drop (length (take m l) - 1) (take m l)) (drop m l) 1 u one
+pub cut_back : {X : Type 0} (l : List X) (m u n : ℕ) → n ≤ m → m ≤ length l
+    → take (u + n) (drop (m - n) l) ≡ drop (length (take m l) - n) (take m l) ++ take u (drop m l)
+cut_back {X} l m u n enough within =
+    let many : length (drop (length (take m l) - n) (take m l)) ≡ n =
+    omega (arith, length-take-le m l within, length-drop (length (take m l) - n) (take m l)) in
+    ap (λ (ys : List X). take (u + n) ys) (drop_before l (m - n) m n within (omega arith))
+    ∙ take_over (drop (length (take m l) - n) (take m l)) (drop m l) n u many
 
-pub cut_on : {X : Type 0} (l : List X) (m u : ℕ) → 1 ≤ u → take (m + 1) l ≡ take m l ++ take 1 (take u (drop m l))
-cut_on {X} l m u some = take-add m 1 l ∙ ap (λ (ys : List X). take m l ++ ys) (sym (take-take 1 u (drop m l) some))
+pub cut_on : {X : Type 0} (l : List X) (m u n : ℕ) → n ≤ u → take (m + n) l ≡ take m l ++ take n (take u (drop m l))
+cut_on {X} l m u n enough = take-add m n l ∙ ap (λ (ys : List X). take m l ++ ys) (sym (take-take n u (drop m l) enough))
 
-pub cut_on_rest : {X : Type 0} (l : List X) (m u : ℕ) → 1 ≤ u → take (u - 1) (drop (m + 1) l) ≡ drop 1 (take u (drop m l))
-cut_on_rest {X} l m u some =
-    let more : u ≡ 1 + (u - 1) = omega arith in
-    sym (ap (λ (n : ℕ). drop 1 (take n (drop m l))) more ∙ drop-take 1 (u - 1) (drop m l) ∙ ap (λ (ys : List X). take (u - 1) ys) (drop-drop 1 m l))
+pub cut_on_rest : {X : Type 0} (l : List X) (m u n : ℕ) → n ≤ u → take (u - n) (drop (m + n) l) ≡ drop n (take u (drop m l))
+cut_on_rest {X} l m u n enough =
+    let more : u ≡ n + (u - n) = omega arith in
+    sym (ap (λ (k : ℕ). drop n (take k (drop m l))) more ∙ drop-take n (u - n) (drop m l) ∙ ap (λ (ys : List X). take (u - n) ys) (drop-drop n m l))
 
 -- the k-th of the first part goes to the front of the second
 pub taken_out : {X : Type 0} (l : List X) (k m u : ℕ) → 1 ≤ k → k ≤ m → m ≤ length l
@@ -105,10 +95,10 @@ put_last {X} l new m u x within is =
     ap (λ (ys : List X). take (u + 1) ys) behind ∙ ap (λ (n : ℕ). take n (take u (drop m l) ++ x ∷ rest)) turn
     ∙ take_over (take u (drop m l)) (x ∷ rest) u 1 short
 
-pub cut_short : {X : Type 0} (l : List X) (m : ℕ) → m ≤ length l → take (m - 1) l ≡ take (length (take m l) - 1) (take m l)
-cut_short {X} l m within =
-    let len : m - 1 ≡ length (take m l) - 1 = omega (arith, length-take-le m l within) in
-    sym (take-take (m - 1) m l (omega arith)) ∙ ap (λ (n : ℕ). take n (take m l)) len
+pub cut_short : {X : Type 0} (l : List X) (m n : ℕ) → m ≤ length l → take (m - n) l ≡ take (length (take m l) - n) (take m l)
+cut_short {X} l m n within =
+    let len : m - n ≡ length (take m l) - n = omega (arith, length-take-le m l within) in
+    sym (take-take (m - n) m l (omega arith)) ∙ ap (λ (k : ℕ). take k (take m l)) len
 
 -- the border moved, where the end stays
 pub border_moved : {X : Type 0} (l : List X) (m u n v : ℕ) → n + v ≡ m + u → take n l ++ take v (drop n l) ≡ take m l ++ take u (drop m l)

@@ -157,22 +157,6 @@ shrunk R w xs ys x runs =
           (may.runs (unstep w x) (taken_out R w x may.was));
     }
 
--- the first undone step of a journal: it goes, with its stored record, and the rest run on from there
-pub record MayRedo (R : ℕ) (w : World) (xs ys : List Entry) (y : Entry) : Type 0 where
-  pub after : World
-  pub goes : step R w y.event ≡ Ok (record { world = after; entry = y })
-  pub runs : IsRun R (record { world = after; live = xs ++ y ∷ []; undone = ys })
-
-pub may_redo : (R : ℕ) (w : World) (xs ys : List Entry) (y : Entry) → IsRun R (record { world = w; live = xs; undone = y ∷ ys })
-    → MayRedo R w xs ys y
-may_redo R w xs ys y runs =
-    let first = first_step R w y ys runs.undone_run_on in
-    record {
-      after = first.after;
-      goes = first.goes;
-      runs = grown R w first.after xs (y ∷ ys) ys y y.event runs first.goes first.rest;
-    }
-
 -- a step that was just made may be undone, which gives the world before it
 pub record WasJustStepped (R : ℕ) (w v : World) (x : Entry) : Type 0 where
   pub was : WasStepped R v x

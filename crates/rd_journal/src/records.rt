@@ -65,7 +65,23 @@ impl Records {
     pub(crate) fn live(&self) -> LiveRecords<'_>
         ensures { result ≡ live_records self.now }
     {
-        LiveRecords::new(&self.slots, &self.order[..self.live])
+        self.first(self.live)
+    }
+
+    /// The first `n` of those ahead.
+    pub(crate) fn ahead(&self, n: usize) -> LiveRecords<'_>
+        requires within { n ≤ length (ahead_records self.now) }
+        ensures { result ≡ take n (ahead_records self.now) }
+    {
+        self.first(self.live + n).behind(self.live)
+    }
+
+    /// The first `n` of all.
+    fn first(&self, n: usize) -> LiveRecords<'_>
+        requires within { n ≤ self.now.live + self.now.ahead }
+        ensures { result ≡ take n (all_records self.now) }
+    {
+        LiveRecords::new(&self.slots, &self.order[..n])
     }
 
     /// How many steps are live.
@@ -88,22 +104,6 @@ impl Records {
         ensures { result.now ≡ get_or (live_records self.now) position result.now }
     {
         self.at(position)
-    }
-
-    /// The record of the last live step.
-    pub(crate) fn last_live(&self) -> &Entry
-        requires some { 1 ≤ length (live_records self.now) }
-        ensures { live_records self.now ≡ take (length (live_records self.now) - 1) (live_records self.now) ++ result.now ∷ [] }
-    {
-        self.at(self.live - 1)
-    }
-
-    /// The record of the next step ahead.
-    pub(crate) fn first_ahead(&self) -> &Entry
-        requires some { 1 ≤ length (ahead_records self.now) }
-        ensures { ahead_records self.now ≡ result.now ∷ drop 1 (ahead_records self.now) }
-    {
-        self.at(self.live)
     }
 
     /// The record at this position, from 0, of the live ones and of those ahead of them.
@@ -130,29 +130,29 @@ impl Records {
         entry_at(&self.slots, &self.order, place)
     }
 
-    /// Makes the last live record the next one ahead.
-    pub(crate) fn step_back(&mut self)
-        requires some { 1 ≤ length (live_records self.old) }
-        ensures live { live_records self.new ≡ take (length (live_records self.old) - 1) (live_records self.old) }
+    /// Makes the last `n` live records the next ones ahead.
+    pub(crate) fn step_back(&mut self, n: usize)
+        requires enough { n ≤ length (live_records self.old) }
+        ensures live { live_records self.new ≡ take (length (live_records self.old) - n) (live_records self.old) }
         ensures ahead { ahead_records self.new
-            ≡ drop (length (live_records self.old) - 1) (live_records self.old) ++ ahead_records self.old }
+            ≡ drop (length (live_records self.old) - n) (live_records self.old) ++ ahead_records self.old }
         ensures kept { kept_records self.new ≡ kept_records self.old }
         ensures capacity { records_capacity self.new ≡ records_capacity self.old }
     {
-        self.live -= 1;
-        self.ahead += 1;
+        self.live -= n;
+        self.ahead += n;
     }
 
-    /// Makes the next record ahead the last live one.
-    pub(crate) fn step_forward(&mut self)
-        requires some { 1 ≤ length (ahead_records self.old) }
-        ensures live { live_records self.new ≡ live_records self.old ++ take 1 (ahead_records self.old) }
-        ensures ahead { ahead_records self.new ≡ drop 1 (ahead_records self.old) }
+    /// Makes the next `n` records ahead the last live ones.
+    pub(crate) fn step_forward(&mut self, n: usize)
+        requires enough { n ≤ length (ahead_records self.old) }
+        ensures live { live_records self.new ≡ live_records self.old ++ take n (ahead_records self.old) }
+        ensures ahead { ahead_records self.new ≡ drop n (ahead_records self.old) }
         ensures kept { kept_records self.new ≡ kept_records self.old }
         ensures capacity { records_capacity self.new ≡ records_capacity self.old }
     {
-        self.live += 1;
-        self.ahead -= 1;
+        self.live += n;
+        self.ahead -= n;
     }
 
     /// Makes the `k`-th live record the next one ahead. All others stay in their order.

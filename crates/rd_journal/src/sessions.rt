@@ -138,7 +138,7 @@ impl<const R: usize> Session<R> {
         if self.records.live_len() == 0 {
             return Err(Refusal::NothingToUndo(0));
         }
-        self.undo_last();
+        self.undo_many(1);
         Ok(())
     }
 
@@ -240,7 +240,7 @@ impl<const R: usize> Session<R> {
         if self.undone_len() == 0 {
             return Err(Refusal::NothingToRedo);
         }
-        self.redo_first();
+        self.redo_many(1);
         Ok(())
     }
 

@@ -1,6 +1,7 @@
 //! Undoing the last steps of a run in a world that it leads to, and making the steps of a run in the world that it starts from.
 
-ghost use Rattle.std.specs.Prelude.{◌≡◌, ◌+◌, ◌≤◌, ℕ, Ok, length, take, drop};
+ghost use Rattle.std.specs.Prelude.{◌≡◌, ◌++◌, ◌+◌, ◌≤◌, ℕ, List, Ok, length, take, drop};
+ghost use Rattle.rd_step.specs.declared.entries.Entry.{Entry as Record};
 ghost use Rattle.rd_step.specs.Prelude.{model, room, run, World as Model};
 ghost use Rattle.rd_journal.specs.Journal.{events, IsRunFrom, LeadsTo};
 ghost use Rattle.rd_journal.specs.Room.{HasRoom, room_returned_by};
@@ -22,11 +23,12 @@ pub(super) fn undo_behind<const R: usize>(world: &mut World<R>, steps: &LiveReco
     }
 }
 
-/// Makes the steps of a run from the world again, one after another. There is room for their makings.
+/// Makes the steps of a run from the world again, one after another. There is room for their makings, and that for others stays.
 pub(super) fn step_all<const R: usize>(world: &mut World<R>, steps: &LiveRecords)
     requires runs { IsRunFrom R (model world.old) steps.now }
     requires room { HasRoom steps.now (room world.old) }
-    ensures { run R (model world.old) (events steps.now) ≡ Ok (record { world = model world.new; entries = steps.now }) }
+    ensures ran { run R (model world.old) (events steps.now) ≡ Ok (record { world = model world.new; entries = steps.now }) }
+    ensures room { (rest : List Record) → HasRoom (steps.now ++ rest) (room world.old) → HasRoom rest (room world.new) }
 {
     for next in 0..steps.len() {
         world.step_again(steps.at(next));

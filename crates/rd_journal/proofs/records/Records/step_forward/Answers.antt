@@ -7,16 +7,16 @@ pub returns-clause-live : goal.returns-clause-live
 unfolding all_records
 returns-clause-live c =
     let self = c.args.self.now in
-    cut_on (all_records self) self.live self.ahead (omega (arith, ahead-length self))
+    cut_on (all_records self) self.live self.ahead c.args.n (omega (arith, ahead-length self, c.requires))
 
 pub returns-clause-ahead : goal.returns-clause-ahead
 unfolding all_records
 returns-clause-ahead c =
     let self = c.args.self.now in
-    cut_on_rest (all_records self) self.live self.ahead (omega (arith, ahead-length self))
+    cut_on_rest (all_records self) self.live self.ahead c.args.n (omega (arith, ahead-length self, c.requires))
 
 pub returns-clause-kept : goal.returns-clause-kept
 unfolding all_records
 returns-clause-kept c =
     let self = c.args.self.now in
-    border_moved (all_records self) self.live self.ahead (self.live + 1) (self.ahead - 1) (omega (arith, ahead-length self, c.requires))
+    border_moved (all_records self) self.live self.ahead (self.live + c.args.n) (self.ahead - c.args.n) (omega (arith, ahead-length self, c.requires))

@@ -68,7 +68,7 @@ invariant_of-self-2 g c =
     let given_is : c.behind.result ≡ given =
     c.behind.ensures ∙ ap (drop n) (c.live-2.ensures ∙ c.exchange.ensures.live) ∙ drop_at kept given n (length-take-le n j.live c.requires.within) in
     let goes : run g.row.R w (events given) ≡ Ok (record { world = new.world; entries = given }) =
-    subst (λ (xs : List Entry). run g.row.R w (events xs) ≡ Ok (record { world = new.world; entries = xs })) given_is c.step_all.ensures in
+    subst (λ (xs : List Entry). run g.row.R w (events xs) ≡ Ok (record { world = new.world; entries = xs })) given_is c.step_all.ensures.ran in
     let all : take n (live_records self.records ++ ahead_records self.records) ++ given ≡ live_records c.exchange.new.self ++ ahead_records c.exchange.new.self =
     ap (λ (xs : List Entry). xs ++ given) (take-append-le n (live_records self.records) (ahead_records self.records) c.requires.within)
     ∙ sym c.exchange.ensures.live ∙ sym (append-nil (live_records c.exchange.new.self)) ∙ ap (λ (xs : List Entry). live_records c.exchange.new.self ++ xs) (sym c.exchange.ensures.ahead) in
@@ -95,6 +95,6 @@ returns-clause-state g c =
     let given_is : c.behind.result ≡ given =
     c.behind.ensures ∙ ap (drop n) (c.live-2.ensures ∙ c.exchange.ensures.live) ∙ drop_at kept given n (length-take-le n j.live c.requires.within) in
     let goes : run g.row.R w (events given) ≡ Ok (record { world = new.world; entries = given }) =
-    subst (λ (xs : List Entry). run g.row.R w (events xs) ≡ Ok (record { world = new.world; entries = xs })) given_is c.step_all.ensures in
+    subst (λ (xs : List Entry). run g.row.R w (events xs) ≡ Ok (record { world = new.world; entries = xs })) given_is c.step_all.ensures.ran in
     let is : IsSwitched n given j new = record { live = c.exchange.ensures.live; undone = refl } in
     switched_state given n j new (exchanged g.row.R n j new given w (room c.step_all.new.world) c.requires.within c.requires.few leads goes is).start is

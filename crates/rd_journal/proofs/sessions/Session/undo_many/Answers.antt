@@ -1,44 +1,73 @@
-use Rattle.std.proofs.Common.{◌≡◌, ◌∙◌, refl, arith}
-use Rattle.rd_journal.specs.State.{back_one}
-use Rattle.rd_journal.specs.Sessions.{journal, state}
-use Rattle.rd_journal.proofs.Walks.{not_back, back_once_more, back_as_often, back_left, once_more, as_often}
+use Rattle.std.proofs.Common.{◌-◌, ◌+◌, ◌≤◌, List, length, take, drop, sym, ap, subst, arith, length-append, length-drop}
+use Rattle.rd_step.specs.Prelude.{model, room}
+use Rattle.rd_step.specs.declared.entries.Entry.{Entry}
+use Rattle.rd_depend.specs.Index.{IsIndexOf}
+use Rattle.rd_journal.specs.Journal.{start_of, LeadsTo}
+use Rattle.rd_journal.specs.Kept.{whole_journal, journal_of}
+use Rattle.rd_journal.specs.Moves.{IsMovedBack}
+use Rattle.rd_journal.specs.Room.{room_returned_by}
+use Rattle.rd_journal.specs.Sessions.{journal}
+use Rattle.rd_journal.proofs.Ahead.{back_undone, track_back}
+use Rattle.rd_journal.proofs.Starting.{live_lead}
+use Rattle.rd_journal.proofs.Walks.{led_back, moved_back, state_back}
 use Rattle.rd_journal.proofs.sessions.Session.undo_many.Goals as goal
 
-pub loop-init : goal.loop-init
-loop-init g c = record {
-  records = not_back (journal c.args.self.now);
-  state = refl;
-  room = λ m. omega arith;
-  track = refl;
-  capacity = refl;
-  index = refl;
-}
+pub undo_behind-requires : goal.undo_behind-requires
+undo_behind-requires g c =
+    let self = c.args.self.now in
+    let old = whole_journal (model self.world) self.records in (
+      omega (arith, self.world.small),
+      (
+        omega (arith, ap length c.live.ensures, c.live_len.ensures),
+        (
+          start_of old,
+          subst (λ (xs : List Entry). LeadsTo g.row.R (start_of old) old.world xs) (sym c.live.ensures) (live_lead g.row.R old self.kept.runs),
+        ),
+      ),
+    )
 
-pub undo_last-requires : goal.undo_last-requires
-undo_last-requires g c =
-    let left = back_left c.loop.counter (journal c.args.self.now) (journal c.loop.self) c.loop.invariant.records in
-    (omega arith, omega (arith, left, c.requires.enough, c.loop-test.true))
-
-pub loop-preserved : goal.loop-preserved
-loop-preserved g c = record {
-  records =
-      back_once_more c.loop.counter (journal c.args.self.now) (journal c.loop.self) (journal c.undo_last.new.self)
-      (omega (arith, c.requires.enough, c.loop-test.true)) c.loop.invariant.records c.undo_last.ensures.records;
-  state =
-      once_more c.loop.counter back_one (state c.args.self.now) (state c.loop.self) (state c.undo_last.new.self)
-      c.loop.invariant.state c.undo_last.ensures.state;
-  room = λ m. let a = c.loop.invariant.room m in let b = c.undo_last.ensures.room m in omega arith;
-  track = c.undo_last.ensures.track ∙ c.loop.invariant.track;
-  capacity = c.undo_last.ensures.capacity ∙ c.loop.invariant.capacity;
-  index = c.undo_last.ensures.index ∙ c.loop.invariant.index;
-}
+pub invariant_of-self : goal.invariant_of-self
+invariant_of-self g c =
+    let self = c.args.self.now in
+    let old = whole_journal (model self.world) self.records in
+    let new = whole_journal (model c.undo_behind.new.world) c.step_back.new.self in
+    let n = c.args.n in
+    let k = length old.live - n in
+    let moved : IsMovedBack n old new = record { live = c.step_back.ensures.live; undone = c.step_back.ensures.ahead } in
+    let leads : LeadsTo g.row.R (start_of old) new.world (take k old.live) =
+    subst (λ (xs : List Entry). LeadsTo g.row.R (start_of old) new.world xs) (λ i. take (c.live_len.ensures i - n) (c.live.ensures i))
+    (c.undo_behind.ensures.leads (start_of old)
+    (subst (λ (xs : List Entry). LeadsTo g.row.R (start_of old) old.world xs) (sym c.live.ensures) (live_lead g.row.R old self.kept.runs))) in
+    record {
+      kept =
+          moved_back g.row.R n old new (room self.world) (room c.undo_behind.new.world) c.requires.enough self.kept leads
+          (λ m. subst (λ (xs : List Entry). room self.world m + room_returned_by xs m ≤ room c.undo_behind.new.world m)
+          (λ i. drop (c.live_len.ensures i - n) (c.live.ensures i)) (c.undo_behind.ensures.room m)) moved;
+      within = omega (arith, self.within, ap length moved.undone, length-append (drop k old.live) old.undone, length-drop k old.live, c.requires.enough);
+      indexed = subst (λ (es : List Entry). IsIndexOf self.index es) (sym c.step_back.ensures.kept) self.indexed;
+    }
 
 pub returns-clause-records : goal.returns-clause-records
 returns-clause-records g c =
-    let all : c.loop.counter ≡ c.args.n = omega arith in
-    back_as_often c.loop.counter c.args.n (journal c.args.self.now) (journal c.loop.self) all c.loop.invariant.records
+    let self = c.args.self.now in
+    back_undone self.undone c.args.n (whole_journal (model self.world) self.records) (whole_journal (model c.undo_behind.new.world) c.step_back.new.self)
+    c.requires.enough (record { live = c.step_back.ensures.live; undone = c.step_back.ensures.ahead })
 
 pub returns-clause-state : goal.returns-clause-state
 returns-clause-state g c =
-    let all : c.loop.counter ≡ c.args.n = omega arith in
-    as_often c.loop.counter c.args.n back_one (state c.args.self.now) (state c.loop.self) all c.loop.invariant.state
+    let self = c.args.self.now in
+    let old = whole_journal (model self.world) self.records in
+    let new = whole_journal (model c.undo_behind.new.world) c.step_back.new.self in
+    let n = c.args.n in
+    let moved : IsMovedBack n old new = record { live = c.step_back.ensures.live; undone = c.step_back.ensures.ahead } in
+    let leads : LeadsTo g.row.R (start_of old) new.world (take (length old.live - n) old.live) =
+    subst (λ (xs : List Entry). LeadsTo g.row.R (start_of old) new.world xs) (λ i. take (c.live_len.ensures i - n) (c.live.ensures i))
+    (c.undo_behind.ensures.leads (start_of old)
+    (subst (λ (xs : List Entry). LeadsTo g.row.R (start_of old) old.world xs) (sym c.live.ensures) (live_lead g.row.R old self.kept.runs))) in
+    state_back n (journal self) (journal_of new.world c.step_back.new.self (self.undone + n)) c.requires.enough (led_back g.row.R n old new leads moved)
+    (back_undone self.undone n old new c.requires.enough moved)
+
+pub returns-clause-track : goal.returns-clause-track
+returns-clause-track g c =
+    track_back c.args.n (whole_journal (model c.args.self.now.world) c.args.self.now.records) (whole_journal (model c.undo_behind.new.world) c.step_back.new.self)
+    (record { live = c.step_back.ensures.live; undone = c.step_back.ensures.ahead })

@@ -1,5 +1,5 @@
 use Rattle.std.proofs.Common.{◌≡◌, ◌∙◌, ◌+◌, ◌<◌, ℕ, List, [], ◌∷◌, ◌++◌, Ok, take, drop, length, refl, sym, ap, subst, arith}
-use Rattle.std.proofs.lemmas.List.{map-append, take_all, take_more}
+use Rattle.std.proofs.lemmas.List.{drop_all, map-append, take_all, take_more}
 use Rattle.rd_step.specs.Prelude.{World, Stepped, model, room, run}
 use Rattle.rd_step.specs.declared.entries.Entry.{Entry}
 use Rattle.rd_step.proofs.RunParts.{first_step}
@@ -17,6 +17,9 @@ in_front xs n x here = here ∙ ap (λ (ys : List Entry). x ∷ drop 1 ys) (sym 
 
 behind_it : (xs : List Entry) (n : ℕ) (x : Entry) → drop n xs ≡ x ∷ drop (n + 1) xs → drop 1 (drop n xs) ≡ drop (n + 1) xs
 behind_it xs n x here = ap (λ (ys : List Entry). drop 1 ys) here
+
+pub loop-next-init : goal.loop-next-init
+loop-next-init g c = record { ran = refl; rest = c.requires.runs; more = λ rest has. has; room = c.requires.room }
 
 pub step_again-requires : goal.step_again-requires
 step_again-requires g c =
@@ -60,11 +63,21 @@ loop-next-preserved g c =
           subst (λ (ys : List Entry). HasRoom ys (room c.step_again.new.self)) (behind_it xs n x here)
           (redone_room g.row.R w v (drop n xs) x (room c.loop-next.world) (room c.step_again.new.self) (in_front xs n x here) c.step_again.ensures.done
           c.loop-next.invariant.room c.step_again.ensures.room);
+      more = λ rest has.
+          subst (λ (ys : List Entry). HasRoom ys (room c.step_again.new.self)) (ap (λ (ys : List Entry). drop 1 (ys ++ rest)) here)
+          (redone_room g.row.R w v (drop n xs ++ rest) x (room c.loop-next.world) (room c.step_again.new.self)
+          (ap (λ (ys : List Entry). ys ++ rest) here ∙ ap (λ (ys : List Entry). x ∷ drop 1 (ys ++ rest)) (sym here)) c.step_again.ensures.done
+          (c.loop-next.invariant.more rest has) c.step_again.ensures.room);
     }
 
-pub returns : goal.returns
-returns g c =
+pub returns-clause-ran : goal.returns-clause-ran
+returns-clause-ran g c =
     let xs = c.args.steps.now in
     let all : take c.loop-next.next xs ≡ xs = take_all c.loop-next.next xs (omega (arith, c.loop-next-test.false, c.len-next-end.ensures)) in
     ap (λ (ys : List Entry). run g.row.R (model c.args.world.now) (events ys)) (sym all) ∙ c.loop-next.invariant.ran
     ∙ ap (λ (ys : List Entry). Ok (record { world = model c.loop-next.world; entries = ys })) all
+
+pub returns-clause-room : goal.returns-clause-room
+returns-clause-room g c = λ rest has.
+    let none : drop c.loop-next.next c.args.steps.now ≡ [] = drop_all c.loop-next.next c.args.steps.now (omega (arith, c.loop-next-test.false, c.len-next-end.ensures)) in
+    subst (λ (ys : List Entry). HasRoom (ys ++ rest) (room c.loop-next.world)) none (c.loop-next.invariant.more rest has)

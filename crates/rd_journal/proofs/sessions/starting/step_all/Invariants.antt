@@ -1,5 +1,6 @@
-use Rattle.std.proofs.Common.{◌≡◌, Ok, take, drop}
+use Rattle.std.proofs.Common.{◌≡◌, ◌++◌, List, Ok, take, drop}
 use Rattle.rd_step.specs.Prelude.{model, room, run}
+use Rattle.rd_step.specs.declared.entries.Entry.{Entry}
 use Rattle.rd_journal.specs.Journal.{events, IsRunFrom}
 use Rattle.rd_journal.specs.Room.{HasRoom}
 use Rattle.rd_journal.proofs.sessions.starting.step_all.Given as goal
@@ -8,5 +9,6 @@ abbrev pub invariant-loop-next : goal.invariant-loop-next
 invariant-loop-next g l = record {
   ran : run g.row.R (model l.fn.world) (events (take l.next l.steps)) ≡ Ok (record { world = model l.world; entries = take l.next l.steps });
   rest : IsRunFrom g.row.R (model l.world) (drop l.next l.steps);
+  more : (rest : List Entry) → HasRoom (l.steps ++ rest) (room l.fn.world) → HasRoom (drop l.next l.steps ++ rest) (room l.world);
   room : HasRoom (drop l.next l.steps) (room l.world);
 }
