@@ -5,7 +5,8 @@ use Rattle.std.proofs.lemmas.List.{take_all, length-take-le, take-append-drop}
 use Rattle.rd_step.specs.declared.entries.Entry.{Entry}
 use Rattle.rd_depend.specs.declared.index.DependIndex.{DependIndex}
 use Rattle.rd_depend.specs.Lists.{AscendsFrom, up_to}
-use Rattle.rd_depend.specs.Index.{Touch, positions_from, number_of, touches, capacity, IsIndexOf, HasRoomFor, CutsAll}
+use Rattle.rd_depend.specs.Index.{Touch, positions_from, number_of, touches, capacity, IsIndexOf, HasRoomFor}
+use Rattle.rd_depend.specs.Changes.{CutsAll}
 use Rattle.rd_depend.proofs.IndexPositions.{positions-ascend, number-append}
 use Rattle.rd_depend.proofs.IndexLists.{ascends-at}
 use Rattle.rd_depend.proofs.IndexFirst.{kept-ascends}

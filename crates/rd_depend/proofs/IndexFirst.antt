@@ -6,7 +6,7 @@ use Rattle.std.specs.Cmp.{both_ways}
 use Rattle.std.specs.Option.{is_some}
 use Rattle.rd_cell.specs.declared.places.SegName.{SegName}
 use Rattle.rd_cell.specs.declared.places.Place.{Place}
-use Rattle.rd_cell.specs.declared.places.Place.TheVariants.{QHead, QTail, Head, Tail, Next, Cell, Val, Idx, Whole, ArrHead, ArrTail, ArrCell}
+use Rattle.rd_cell.specs.declared.places.Place.TheVariants.{Head, Tail, Next, Cell, Val, Idx, Whole}
 use Rattle.rd_cell.specs.Places.{is_name, is_of, is_of_cell, is_place, segment_of, covers, overlaps, some_overlap, index_half, is_nothing, written, interfere}
 use Rattle.rd_cell.proofs.PlaceLemmas.{is_name-true, is_name-refl, is_place-true, is_place-refl, is_of-name, is_of_cell-of, Covering, itself, as_cell, as_whole, covers_cases, covers_at}
 use Rattle.rd_step.specs.declared.entries.Entry.{Entry}
@@ -18,7 +18,7 @@ use Rattle.rd_depend.specs.declared.index.keys.Key.{Key}
 use Rattle.rd_depend.specs.declared.index.keys.Key.TheVariants.{At, In}
 use Rattle.rd_depend.specs.Keys.{is_kept_at, is_under, is_under_some, own_key, value_of_place, whole_key}
 use Rattle.rd_depend.specs.Lists.{AscendsFrom, IsAscending, first_above, earlier}
-use Rattle.rd_depend.specs.Index.{Touch, By, Under, reached, is_value_written, touches, positions_from, positions, kept, IsIndexOf}
+use Rattle.rd_depend.specs.Index.{Touch, By, reached, is_value_written, touches, positions_from, positions, kept, IsIndexOf}
 use Rattle.rd_depend.proofs.IndexKeys.{or_false}
 use Rattle.rd_depend.proofs.IndexPositions.{positions-ascend, positions-number, number-within, ascending}
 

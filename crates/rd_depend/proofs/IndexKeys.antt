@@ -3,7 +3,7 @@ use Rattle.std.proofs.Common.{◌≡◌, ℕ, Bool, true, false, not, ◌==◌, 
 use Rattle.std.proofs.lemmas.Bool.{and_from, both_ways, or_left, or_parts, or_right}
 use Rattle.rd_cell.specs.declared.places.SegName.{SegName}
 use Rattle.rd_cell.specs.declared.places.Place.{Place}
-use Rattle.rd_cell.specs.declared.places.Place.TheVariants.{QHead, QTail, Head, Tail, Next, Cell, Val, Idx, Whole, ArrHead, ArrTail, ArrCell}
+use Rattle.rd_cell.specs.declared.places.Place.TheVariants.{Cell, Val, Idx}
 use Rattle.rd_cell.specs.Places.{is_name, is_of, is_place, index_half, is_nothing, written}
 use Rattle.rd_step.specs.declared.entries.Entry.{Entry}
 use Rattle.rd_step.specs.Prelude.{Wrote, WroteNothing, WrotePlace, WroteIndex}
@@ -13,7 +13,8 @@ use Rattle.rd_depend.specs.declared.index.keys.Key.{Key}
 use Rattle.rd_depend.specs.declared.index.keys.Key.TheVariants.{At, In}
 use Rattle.rd_depend.specs.Keys.{is_that, is_kept_at, is_under, place_key, value_of_place, value_key, segment_of_place, segment_key}
 use Rattle.rd_depend.specs.Tables.{counts}
-use Rattle.rd_depend.specs.Index.{reached, is_value_written, homes_of}
+use Rattle.rd_depend.specs.Index.{reached, is_value_written}
+use Rattle.rd_depend.specs.Changes.{homes_of}
 use Rattle.rd_depend.specs.KeyLaws.{is_key-refl}
 
 no_segment : (p r : Place) → is_that (At p) (segment_of_place r) ≡ false

@@ -7,7 +7,8 @@ use Rattle.rd_step.specs.Dependence.{numbered, without}
 use Rattle.rd_depend.specs.declared.index.DependIndex.{DependIndex}
 use Rattle.rd_depend.specs.Lists.{IsMoved, with_first}
 use Rattle.rd_depend.specs.Moved.{moved_behind}
-use Rattle.rd_depend.specs.Index.{positions_from, positions, number_of, touches, kept, IsIndexOf, HasRoomFor, MovesAll}
+use Rattle.rd_depend.specs.Index.{positions_from, positions, number_of, touches, kept, IsIndexOf, HasRoomFor}
+use Rattle.rd_depend.specs.Changes.{MovesAll}
 use Rattle.rd_depend.proofs.IndexPositions.{positions-ascend, ascending, positions-within, positions-append, positions-lower, number-append}
 use Rattle.rd_depend.proofs.IndexChanges.{drop_one}
 use Rattle.rd_depend.proofs.IndexLists.{ascends_lower}

@@ -3,7 +3,7 @@ use Rattle.std.proofs.Common.{◌≡◌, ◌⊎◌, Bool, true, false, ◌==◌,
 use Rattle.std.proofs.lemmas.Bool.{or_cases, or_left, or_right, or_parts, false≢true, eqb-false}
 use Rattle.rd_cell.specs.declared.places.SegName.{SegName}
 use Rattle.rd_cell.specs.declared.places.Place.{Place}
-use Rattle.rd_cell.specs.declared.places.Place.TheVariants.{QHead, QTail, Head, Tail, Next, Cell, Val, Idx, Whole, ArrHead, ArrTail, ArrCell}
+use Rattle.rd_cell.specs.declared.places.Place.TheVariants.{Cell, Whole}
 use Rattle.rd_cell.specs.Places.{is_of, some_covers, some_overlap, index_half, is_nothing, written, interfere}
 use Rattle.rd_cell.proofs.PlaceLemmas.{is_name-true, is_name-refl, is_of-name, is_of_cell-of, Covering, itself, as_cell, as_whole, covers_cases, both_cover, some_overlap-sym}
 use Rattle.rd_step.specs.declared.entries.Entry.{Entry}

@@ -2,7 +2,7 @@
 use Rattle.std.proofs.Common.{◌≡◌, ◌↔◌, ◌⊎◌, Bool, true, false, not, ◌==◌, inl, inr, refl, subst, Option, Some, None, eqb-true, eq-eqb}
 use Rattle.std.proofs.lemmas.Bool.{or_cases, or_left, or_right}
 use Rattle.rd_cell.proofs.PlaceLemmas.{is_place-true, is_place-refl, covers-refl, both_cover, written-covers}
-use Rattle.rd_step.specs.Prelude.{Place, QHead, QTail, Head, Tail, Next, CellAt, ValAt, IdxAt, WholeOf, ArrHead, ArrTail, ArrCell, covers, overlaps, some_covers, some_overlap, written, interfere, depends, Wrote, WroteNothing, WrotePlace, WroteIndex, is_nothing}
+use Rattle.rd_step.specs.Prelude.{Place, Head, CellAt, ValAt, WholeOf, covers, overlaps, some_covers, some_overlap, written, interfere, depends, Wrote, WroteNothing, WrotePlace, WroteIndex, is_nothing}
 use Rattle.rd_step.specs.declared.entries.Entry.{Entry}
 use Rattle.rd_depend.specs.Sharing.{is_of_map, wrote, SharesPlace, one_wrote}
 

@@ -1,16 +1,14 @@
 -- What an index keeps: of the entries of a list, the positions of those that touch an actor, a place or a segment, and of those
 -- that wrote a place or one of a segment.
-use Rattle.std.specs.Prelude.{◌≡◌, ℕ, ◌+◌, ◌-◌, ◌≤◌, Bool, true, false, ◌==◌, not, if◌then◌else◌, List, [], ◌∷◌, ◌++◌, length, take, Option, Some, ◌<◌}
-use Rattle.rd_step.specs.Prelude.{Place, Wrote, WrotePlace, is_nothing, written}
+use Rattle.std.specs.Prelude.{◌≡◌, ℕ, ◌+◌, ◌≤◌, Bool, true, false, ◌==◌, if◌then◌else◌, List, [], ◌∷◌, ◌++◌, length, Option, Some}
+use Rattle.rd_step.specs.Prelude.{Place, Wrote, WrotePlace, written}
 use Rattle.rd_step.specs.declared.entries.Entry.{Entry}
 use Rattle.rd_step.specs.Dependence.{numbered}
 use Rattle.rd_depend.specs.declared.index.DependIndex.{DependIndex}
-use Rattle.rd_depend.specs.declared.index.changing.Homes.{Homes}
-use Rattle.rd_depend.specs.declared.index.changing.Slots.{Slots}
 use Rattle.rd_depend.specs.declared.index.keys.Key.{Key}
-use Rattle.rd_depend.specs.Keys.{is_under, place_key, value_key, segment_key}
-use Rattle.rd_depend.specs.Lists.{list_at, capacity_at, one_if, spare_at, up_to, IsAscending, IsMoved}
-use Rattle.rd_depend.specs.Tables.{kept_in, capacity_in, spare_in, AreReady}
+use Rattle.rd_depend.specs.Keys.{is_under}
+use Rattle.rd_depend.specs.Lists.{list_at, capacity_at, one_if, spare_at}
+use Rattle.rd_depend.specs.Tables.{kept_in, capacity_in, spare_in}
 
 -- what a list of positions is kept for: an actor, or a place or a segment, of all steps that touched it or of those that wrote it
 pub data Touch : Type 0 where
@@ -81,57 +79,7 @@ pub record IsIndex (index : DependIndex) : Type 0 where
   pub entries : List Entry
   pub is : IsIndexOf index entries
 
--- the list is as before where the entry is not to be kept, and has one more position at its end where it is
-pub record Adds (x : Entry) (old new : DependIndex) : Type 0 where
-  pub lists : (t : Touch) → kept new t ≡ (if touches t x then kept old t ++ (old.len + 1) ∷ [] else kept old t)
-  pub room : (t : Touch) → spare old t ≤ spare new t + one_if (touches t x)
-  pub len : new.len ≡ old.len + 1
-
--- nothing changed except that there may be more room
-pub record Keeps (old new : DependIndex) : Type 0 where
-  pub lists : (t : Touch) → kept new t ≡ kept old t
-  pub room : (t : Touch) → spare old t ≤ spare new t
-  pub len : new.len ≡ old.len
-
--- the keys under which an entry is kept
-abbrev pub homes_of : Entry → Homes
-homes_of x = record {
-  place = record { key = place_key x.place; wrote = not (is_nothing x.wrote) };
-  value = record { key = value_key x.place; wrote = is_value_written x.wrote };
-  segment = record { key = segment_key x.place; wrote = not (is_nothing x.wrote) };
-}
-
--- there is room for the entry's position wherever it is to be kept, and the keys have these indices
-pub record IsReadyFor (index : DependIndex) (x : Entry) (homes : Homes) (slots : Slots) : Type 0 where
-  pub actor : 0 < spare_at index.by_actor.items x.event.actor
-  pub place : AreReady index.by_key homes.place.key homes.place.wrote slots.place
-  pub value : AreReady index.by_key homes.value.key homes.value.wrote slots.value
-  pub segment : AreReady index.by_key homes.segment.key homes.segment.wrote slots.segment
-
--- the list is as before where the entry is not kept, and lost its last position where it is
-pub record Drops (x : Entry) (old new : DependIndex) : Type 0 where
-  pub lists : (t : Touch) → kept new t ≡ (if touches t x then take (length (kept old t) - 1) (kept old t) else kept old t)
-  pub room : (t : Touch) → spare new t ≡ spare old t + one_if (touches t x)
-  pub len : new.len + 1 ≡ old.len
-
 -- how many positions it can have there before it has to grow
 abbrev pub capacity : DependIndex → Touch → ℕ
 capacity index (By a) = capacity_at index.by_actor.items a
 capacity index (Under w k) = capacity_in index.by_key w k
-
--- in each list position k, if it was there, stands behind those up to n, and these are one less
-pub record MovesAll (k n : ℕ) (old new : DependIndex) : Type 0 where
-  pub lists : (t : Touch) → IsMoved k n (kept old t) (kept new t)
-  pub capacity_stays : (t : Touch) → capacity new t ≡ capacity old t
-  pub len : new.len ≡ old.len
-
--- the index is that of some entries, which end with these
-pub record EndsWith (index : DependIndex) (last : List Entry) : Type 0 where
-  pub before : List Entry
-  pub is : IsIndexOf index (before ++ last)
-
--- the positions above n are gone from each list
-pub record CutsAll (n : ℕ) (old new : DependIndex) : Type 0 where
-  pub lists : (t : Touch) → IsAscending (kept old t) → kept new t ≡ up_to n (kept old t)
-  pub capacity_stays : (t : Touch) → capacity new t ≡ capacity old t
-  pub len : new.len ≡ n

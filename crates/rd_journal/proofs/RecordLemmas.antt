@@ -1,7 +1,7 @@
 -- The records of a session as one list that is cut twice: how long its parts are, and how they change.
-use Rattle.std.proofs.Common.{◌≡◌, ℕ, ◌+◌, ◌-◌, ◌<◌, ◌≤◌, List, [], ◌∷◌, ◌++◌, length, get_or, take, drop, refl, sym, ◌∙◌, ap, arith, length-append, length-drop}
+use Rattle.std.proofs.Common.{◌≡◌, ℕ, ◌+◌, ◌-◌, ◌<◌, ◌≤◌, List, [], ◌∷◌, ◌++◌, length, take, drop, refl, sym, ◌∙◌, ap, arith, length-append, length-drop}
 use Rattle.std.proofs.Math.Seq.{take-add}
-use Rattle.std.proofs.lemmas.List.{length-take-le, take-take, drop-take, drop-drop, take_more, take_at, drop_at, drop-append-le}
+use Rattle.std.proofs.lemmas.List.{length-take-le, take-take, drop-take, drop-drop, take_at, drop_at, drop-append-le}
 use Rattle.rd_journal.specs.declared.records.Records.{Records}
 use Rattle.rd_depend.specs.Moved.{moved_behind}
 use Rattle.rd_step.specs.declared.entries.Entry.{Entry}

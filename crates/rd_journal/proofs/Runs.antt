@@ -10,7 +10,7 @@ use Rattle.rd_step.proofs.Steps.{took}
 use Rattle.rd_step.proofs.Inverse.{undoes, ran_on, run-cons}
 use Rattle.rd_step.proofs.Keeps.{keeps}
 use Rattle.rd_step.proofs.Removal.{run_keeps, taken_out}
-use Rattle.rd_step.proofs.RunParts.{beginning, Middle, middle, first_step}
+use Rattle.rd_step.proofs.RunParts.{beginning, Middle, middle}
 use Rattle.rd_journal.specs.Journal.{Journal, events, world_before, start_of, run_entries, IsRun}
 
 -- an answer that is no refusal

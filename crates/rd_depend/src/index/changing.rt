@@ -4,7 +4,8 @@ ghost use Rattle.std.specs.Prelude.{◌≡◌, ◌+◌, ◌<◌, ◌≤◌, ◌+
 ghost use Rattle.rd_step.specs.declared.entries.Entry.{Entry as Record};
 ghost use Rattle.rd_cell.specs.Places.{is_nothing};
 ghost use Rattle.rd_depend.specs.Keys.{place_key, value_key, segment_key};
-ghost use Rattle.rd_depend.specs.Index.{Touch, Adds, Keeps, Drops, MovesAll, CutsAll, homes_of, IsIndexOf, IsIndex, IsLast, IsReadyFor, HasRoomFor, EndsWith, number_of, touches, spare, is_value_written};
+ghost use Rattle.rd_depend.specs.Index.{Touch, IsIndexOf, IsIndex, IsLast, HasRoomFor, number_of, touches, spare, is_value_written};
+ghost use Rattle.rd_depend.specs.Changes.{Adds, Keeps, Drops, MovesAll, CutsAll, homes_of, IsReadyFor, EndsWith};
 
 use super::DependIndex;
 use super::keys::Key;

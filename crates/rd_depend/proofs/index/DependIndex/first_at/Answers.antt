@@ -1,5 +1,5 @@
 use Rattle.std.proofs.Common.{not, ◌∙◌}
-use Rattle.rd_depend.specs.Keys.{is_under, is_under_some, value_of_place}
+use Rattle.rd_depend.specs.Keys.{is_under, is_under_some}
 use Rattle.rd_depend.specs.Lists.{first_above}
 use Rattle.rd_depend.specs.Index.{positions, reached}
 use Rattle.rd_depend.proofs.IndexFirst.{found_at}
