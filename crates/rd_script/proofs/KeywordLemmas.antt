@@ -1,56 +1,62 @@
--- The keywords and the kinds of places, one by one.
-use Rattle.std.proofs.Common.{◌≢◌, ℕ, ◌<◌, lit<, List, [], ◌∷◌, slice_index_or}
+-- The keywords and the kinds of places: each has a text of its own, by which it is found among all of them.
+use Rattle.std.proofs.Common.{◌≡◌, ◌≢◌, ◌∙◌, ℕ, suc, ◌<◌, lit<, Bool, true, false, true≢false, List, [], ◌∷◌, length, Option, Some, None, if◌then◌else◌, nat_eq, slice_index_or, refl, sym, ap, arith}
+use Rattle.std.specs.Cmp.Lexicographic.{pointwise, same_text}
+use Rattle.std.specs.Option.{unwrap_or, is_some}
 use Rattle.rd_script.specs.declared.reading.keywords.Keyword.{Keyword}
 use Rattle.rd_script.specs.declared.reading.keywords.Keyword.TheVariants.{Go, Len, Enq, Deq, Undo, Redo, Back, Forward, Roll, Step, Show, Actor, Starve, Mark, Goto, Drop, Same, Origin, Writer, Marks, MarkAt, ArrayEnq, ArrayDeq}
 use Rattle.rd_script.specs.declared.reading.places.PlaceKind.{PlaceKind}
 use Rattle.rd_script.specs.declared.reading.places.PlaceKind.TheVariants.{QHead as QHeadWord, QTail as QTailWord, Head as HeadOf, Tail as TailOf, Next as NextOf, Cell as CellWord, Value as ValueWord, Index as IndexWord, Whole as WholeWord, ArrHead as ArrHeadWord, ArrTail as ArrTailWord, ArrCell as ArrCellWord}
-use Rattle.rd_script.specs.Words.{keyword_text, kind_text}
+use Rattle.rd_script.specs.Grammar.{keyword_text, kind_text}
 
 -- all keywords, in the order in which they are tried
 abbrev pub keywords : List Keyword
 keywords = Go ∷ Len ∷ Enq ∷ Deq ∷ Undo ∷ Redo ∷ Back ∷ Forward ∷ Roll ∷ Step ∷ Show ∷ Actor ∷ Starve ∷ Mark ∷ Goto ∷ Drop ∷ Same ∷ Origin ∷ Writer ∷ Marks ∷ MarkAt ∷ ArrayEnq ∷ ArrayDeq ∷ []
 
--- a word that is none of them is no keyword
-pub none_of_all : (word : List ℕ) → ((k : ℕ) → k < 23 → word ≢ keyword_text (slice_index_or keywords k Go)) → (keyword : Keyword) → word ≢ keyword_text keyword
-none_of_all word none Go = none 0 (lit< tt)
-none_of_all word none Len = none 1 (lit< tt)
-none_of_all word none Enq = none 2 (lit< tt)
-none_of_all word none Deq = none 3 (lit< tt)
-none_of_all word none Undo = none 4 (lit< tt)
-none_of_all word none Redo = none 5 (lit< tt)
-none_of_all word none Back = none 6 (lit< tt)
-none_of_all word none Forward = none 7 (lit< tt)
-none_of_all word none Roll = none 8 (lit< tt)
-none_of_all word none Step = none 9 (lit< tt)
-none_of_all word none Show = none 10 (lit< tt)
-none_of_all word none Actor = none 11 (lit< tt)
-none_of_all word none Starve = none 12 (lit< tt)
-none_of_all word none Mark = none 13 (lit< tt)
-none_of_all word none Goto = none 14 (lit< tt)
-none_of_all word none Drop = none 15 (lit< tt)
-none_of_all word none Same = none 16 (lit< tt)
-none_of_all word none Origin = none 17 (lit< tt)
-none_of_all word none Writer = none 18 (lit< tt)
-none_of_all word none Marks = none 19 (lit< tt)
-none_of_all word none MarkAt = none 20 (lit< tt)
-none_of_all word none ArrayEnq = none 21 (lit< tt)
-none_of_all word none ArrayDeq = none 22 (lit< tt)
-
 -- all kinds of places, in the order in which they are tried
 abbrev pub kinds : List PlaceKind
 kinds = QHeadWord ∷ QTailWord ∷ HeadOf ∷ TailOf ∷ NextOf ∷ CellWord ∷ ValueWord ∷ IndexWord ∷ WholeWord ∷ ArrHeadWord ∷ ArrTailWord ∷ ArrCellWord ∷ []
 
--- a word that is none of them is no kind
+-- the first of these that has the text
+abbrev first_with : {K : Type 0} → (K → List ℕ) → List ℕ → List K → Option K
+first_with text word [] = None
+first_with text word (k ∷ ks) = if pointwise nat_eq word (text k) then Some k else first_with text word ks
+
+-- there is none if no text is the word
+none_first : {K : Type 0} (text : K → List ℕ) (word : List ℕ) (d : K) (ks : List K) → ((i : ℕ) → i < length ks → word ≢ text (slice_index_or ks i d)) → first_with text word ks ≡ None
+none_first text word d [] none = refl
+none_first text word d (k ∷ ks) none = go (pointwise nat_eq word (text k)) refl (none_first text word d ks (λ i below. none (suc i) (omega (arith, below)))) where
+  go : (b : Bool) → pointwise nat_eq word (text k) ≡ b → first_with text word ks ≡ None → (if b then Some k else first_with text word ks) ≡ None
+  go true e rest = absurd (none 0 (omega arith) (same_text word (text k) (sym e)))
+  go false e rest = rest
+
+-- of things that are each found by their text
+module _ {K : Type 0} (text : K → List ℕ) (all : List K) (found : (k : K) → first_with text (text k) all ≡ Some k) where
+  -- two of one text are one
+  one_of_text : (k m : K) → text k ≡ text m → k ≡ m
+  one_of_text k m e = ap (λ o. unwrap_or o k) (sym (found k) ∙ ap (λ word. first_with text word all) e ∙ found m)
+
+  -- a word that is the text of none in the list is the text of none
+  none_of_text : (word : List ℕ) (d : K) → ((i : ℕ) → i < length all → word ≢ text (slice_index_or all i d)) → (k : K) → word ≢ text k
+  none_of_text word d none k e = true≢false (sym (ap is_some (ap (λ w. first_with text w all) e ∙ found k)) ∙ ap is_some (none_first text word d all none))
+
+keyword_is_found : (k : Keyword) → first_with keyword_text (keyword_text k) keywords ≡ Some k
+keyword_is_found Go = refl
+keyword_is_found _ = refl
+
+kind_is_found : (k : PlaceKind) → first_with kind_text (kind_text k) kinds ≡ Some k
+kind_is_found QHeadWord = refl
+kind_is_found _ = refl
+
+-- so two keywords of one text are one, and a word that is none of them is none
+pub one_keyword : (k m : Keyword) → keyword_text k ≡ keyword_text m → k ≡ m
+one_keyword k m e = one_of_text keyword_text keywords keyword_is_found k m e
+
+pub none_of_all : (word : List ℕ) → ((k : ℕ) → k < 23 → word ≢ keyword_text (slice_index_or keywords k Go)) → (keyword : Keyword) → word ≢ keyword_text keyword
+none_of_all word none keyword = none_of_text keyword_text keywords keyword_is_found word Go none keyword
+
+-- and kinds of places
+pub one_kind : (k m : PlaceKind) → kind_text k ≡ kind_text m → k ≡ m
+one_kind k m e = one_of_text kind_text kinds kind_is_found k m e
+
 pub none_of_kinds : (word : List ℕ) → ((k : ℕ) → k < 12 → word ≢ kind_text (slice_index_or kinds k QHeadWord)) → (kind : PlaceKind) → word ≢ kind_text kind
-none_of_kinds word none QHeadWord = none 0 (lit< tt)
-none_of_kinds word none QTailWord = none 1 (lit< tt)
-none_of_kinds word none HeadOf = none 2 (lit< tt)
-none_of_kinds word none TailOf = none 3 (lit< tt)
-none_of_kinds word none NextOf = none 4 (lit< tt)
-none_of_kinds word none CellWord = none 5 (lit< tt)
-none_of_kinds word none ValueWord = none 6 (lit< tt)
-none_of_kinds word none IndexWord = none 7 (lit< tt)
-none_of_kinds word none WholeWord = none 8 (lit< tt)
-none_of_kinds word none ArrHeadWord = none 9 (lit< tt)
-none_of_kinds word none ArrTailWord = none 10 (lit< tt)
-none_of_kinds word none ArrCellWord = none 11 (lit< tt)
+none_of_kinds word none kind = none_of_text kind_text kinds kind_is_found word QHeadWord none kind

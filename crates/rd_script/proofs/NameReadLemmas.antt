@@ -1,127 +1,61 @@
 -- The names behind a keyword, and what is said where they are missing or bad.
-use Rattle.std.proofs.Common.{◌≡◌, ℕ, true, true≢false, List, [], ◌∷◌, Err, refl, sym, ◌∙◌, subst}
+use Rattle.std.proofs.Common.{◌≡◌, ℕ, ◌<◌, true, false, true≢false, List, [], ◌∷◌, length, Err, refl, sym, ◌∙◌, ap, subst, arith}
+use Rattle.std.specs.List.{list_all}
+use Rattle.std.proofs.lemmas.Bool.{and_parts}
 use Rattle.rd_marks.specs.NameBytes.{is_mark_name}
 use Rattle.rd_marks.specs.Names.{bytes_of}
 use Rattle.rd_marks.specs.declared.commands.Command.{Command}
-use Rattle.rd_marks.specs.declared.commands.Command.TheVariants.{Enq, Deq, ArrayEnq, ArrayDeq, Go, Starve, Undo, UndoAt, Roll, Back, Redo, Forward, Mark, DropMark, GotoMark, Marks, MarkAt, Same, Origin, Writer, Show, Actor, Step, Len}
+use Rattle.rd_marks.specs.declared.commands.Command.TheVariants.{Undo, Redo, Mark, DropMark, GotoMark, Marks, Same, Len}
 use Rattle.rd_script.specs.declared.faults.LineFault.{LineFault}
 use Rattle.rd_script.specs.declared.faults.LineFault.TheVariants.{BadLine, LineTooLong, BadName}
 use Rattle.rd_script.specs.declared.reading.keywords.Keyword.{Keyword}
-use Rattle.rd_script.specs.declared.reading.keywords.Keyword.TheVariants.{Enq as EnqWord, Deq as DeqWord, ArrayEnq as ArrayEnqWord, ArrayDeq as ArrayDeqWord, Go as GoWord, Starve as StarveWord, Undo as UndoWord, Roll as RollWord, Back as BackWord, Redo as RedoWord, Forward as ForwardWord, Mark as MarkWord, Drop as DropWord, Goto as GotoWord, Marks as MarksWord, MarkAt as MarkAtWord, Same as SameWord, Origin as OriginWord, Writer as WriterWord, Show as ShowWord, Actor as ActorWord, Step as StepWord, Len as LenWord}
-use Rattle.rd_script.specs.Spelling.{IsInRange}
-use Rattle.rd_script.specs.Words.{keyword_of, arguments_of, IsBadName, AreBadNames, NamesBadly, NamesAlone, NamesTwo, ReadsCommand}
+use Rattle.rd_script.specs.Grammar.{keyword_of, arguments_of, words_of, names_after}
+use Rattle.rd_script.specs.Spelling.{IsInRange, NamesBadly, is_word}
+use Rattle.rd_script.specs.Reading.{AreNoNames, ReadsCommand}
 use Rattle.rd_script.proofs.SpellingLemmas.{is_word_of_name}
 
--- the names that a command has behind this keyword, if any
-abbrev pub NamesIn : Keyword → List (List ℕ) → Type 0
-NamesIn MarkWord words = (name : List ℕ) × (is_mark_name name ≡ true) × (words ≡ name ∷ [])
-NamesIn DropWord words = (name : List ℕ) × (is_mark_name name ≡ true) × (words ≡ name ∷ [])
-NamesIn GotoWord words = (name : List ℕ) × (is_mark_name name ≡ true) × (words ≡ name ∷ [])
-NamesIn SameWord words = (one : List ℕ) × (other : List ℕ) × (is_mark_name one ≡ true) × (is_mark_name other ≡ true) × (words ≡ one ∷ other ∷ [])
-NamesIn _ words = Unit {0}
+-- names are words
+are_words : (words : List (List ℕ)) → list_all is_mark_name words ≡ true → list_all is_word words ≡ true
+are_words [] e = refl
+are_words (x ∷ xs) e = let here = and_parts (is_mark_name x) (list_all is_mark_name xs) e in rw (is_word_of_name x here.0, are_words xs here.1) refl
 
--- a command's names are names
-pub names_of : (c : Command) → IsInRange c → NamesIn (keyword_of c) (arguments_of c)
-names_of (Enq actor x) small = tt
-names_of (Deq actor) small = tt
-names_of (ArrayEnq actor x) small = tt
-names_of (ArrayDeq actor) small = tt
-names_of (Go actor) small = tt
-names_of (Starve actor choice) small = tt
-names_of Undo small = tt
-names_of (UndoAt k) small = tt
-names_of (Roll k) small = tt
-names_of (Back n) small = tt
-names_of Redo small = tt
-names_of (Forward n) small = tt
-names_of (Mark name) small = (bytes_of name, small, refl)
-names_of (DropMark name) small = (bytes_of name, small, refl)
-names_of (GotoMark name) small = (bytes_of name, small, refl)
-names_of Marks small = tt
-names_of (MarkAt i) small = tt
-names_of (Same one other) small = (bytes_of one, bytes_of other, small.0, small.1, refl)
-names_of (Origin k) small = tt
-names_of (Writer place) small = tt
-names_of (Show place) small = tt
-names_of (Actor actor) small = tt
-names_of (Step k) small = tt
-names_of Len small = tt
+-- a command of a keyword with names has as many arguments as names
+counted : (c : Command) → 0 < names_after (keyword_of c) → length (words_of (arguments_of c)) ≡ names_after (keyword_of c)
+counted (Mark name) some = refl
+counted (DropMark name) some = refl
+counted (GotoMark name) some = refl
+counted (Same one other) some = refl
+counted _ some = absurd (omega (arith, some))
 
--- the names behind the keyword of a command
-names_behind : (k : Keyword) (c : Command) → IsInRange c → keyword_of c ≡ k → NamesIn k (arguments_of c)
-names_behind k c small e = subst (λ word. NamesIn word (arguments_of c)) e (names_of c small)
-
--- words that are not one word are neither a name nor a bad one
-no_name : (words : List (List ℕ)) → NamesAlone words (Err BadLine) → (name : List ℕ) × (is_mark_name name ≡ true) × (words ≡ name ∷ []) → ⊥
-no_name words none n = none n.0 (is_word_of_name n.0 n.1) n.2
-
-no_bad_name : (words : List (List ℕ)) → NamesAlone words (Err BadLine) → IsBadName words → ⊥
-no_bad_name [] none bad = bad
-no_bad_name (name ∷ []) none bad = none name bad.0 refl
-no_bad_name (one ∷ other ∷ words) none bad = bad
-
--- words that are not two words are neither two names nor bad ones
-no_names : (words : List (List ℕ)) → NamesTwo words (Err BadLine) → (one : List ℕ) × (other : List ℕ) × (is_mark_name one ≡ true) × (is_mark_name other ≡ true) × (words ≡ one ∷ other ∷ []) → ⊥
-no_names words none n = none n.0 n.1 (is_word_of_name n.0 n.2) (is_word_of_name n.1 n.3) n.4
-
-no_bad_names : (words : List (List ℕ)) → NamesTwo words (Err BadLine) → AreBadNames words → ⊥
-no_bad_names [] none bad = bad
-no_bad_names (one ∷ []) none bad = bad
-no_bad_names (one ∷ other ∷ []) none bad = none one other bad.0 bad.1 refl
-no_bad_names (one ∷ other ∷ next ∷ words) none bad = bad
-
--- a fault of the names is the command's
-pub mark_refused : (words : List (List ℕ)) (fault : LineFault) → NamesAlone words (Err fault) → ReadsCommand MarkWord words (Err fault)
-mark_refused words BadLine none = (λ c small k e. no_name words none (let n = names_behind MarkWord c small k in (n.0, n.1, e ∙ n.2)), no_bad_name words none)
-mark_refused words BadName bad = bad
-mark_refused words LineTooLong never = never
-
-pub drop_refused : (words : List (List ℕ)) (fault : LineFault) → NamesAlone words (Err fault) → ReadsCommand DropWord words (Err fault)
-drop_refused words BadLine none = (λ c small k e. no_name words none (let n = names_behind DropWord c small k in (n.0, n.1, e ∙ n.2)), no_bad_name words none)
-drop_refused words BadName bad = bad
-drop_refused words LineTooLong never = never
-
-pub goto_refused : (words : List (List ℕ)) (fault : LineFault) → NamesAlone words (Err fault) → ReadsCommand GotoWord words (Err fault)
-goto_refused words BadLine none = (λ c small k e. no_name words none (let n = names_behind GotoWord c small k in (n.0, n.1, e ∙ n.2)), no_bad_name words none)
-goto_refused words BadName bad = bad
-goto_refused words LineTooLong never = never
-
-pub same_refused : (words : List (List ℕ)) (fault : LineFault) → NamesTwo words (Err fault) → ReadsCommand SameWord words (Err fault)
-same_refused words BadLine none = (λ c small k e. no_names words none (let n = names_behind SameWord c small k in (n.0, n.1, n.2, n.3, e ∙ n.4)), no_bad_names words none)
-same_refused words BadName bad = bad
-same_refused words LineTooLong never = never
+-- and where there are as many, they are names
+are_names : (c : Command) → IsInRange c → length (words_of (arguments_of c)) ≡ names_after (keyword_of c) → list_all is_mark_name (words_of (arguments_of c)) ≡ true
+are_names Undo small count = refl
+are_names Redo small count = refl
+are_names Marks small count = refl
+are_names Len small count = refl
+are_names (Mark name) small count = rw small.0 refl
+are_names (DropMark name) small count = rw small.0 refl
+are_names (GotoMark name) small count = rw small.0 refl
+are_names (Same one other) small count = rw (small.0, small.1.0) refl
+are_names _ small count = absurd (omega (arith, count))
 
 -- no command has bad names
-bad_and_good : (words : List (List ℕ)) → IsBadName words → (name : List ℕ) × (is_mark_name name ≡ true) × (words ≡ name ∷ []) → ⊥
-bad_and_good words bad n = let b = subst IsBadName n.2 bad in true≢false (sym n.1 ∙ b.1)
+pub not_badly_named : (k : Keyword) (words : List (List ℕ)) → NamesBadly k words → (c : Command) → IsInRange c → keyword_of c ≡ k → words ≡ words_of (arguments_of c) → ⊥
+not_badly_named k words bad c small is same =
+    true≢false (sym (are_names c small (sym (ap length same) ∙ bad.0 ∙ ap names_after (sym is))) ∙ ap (list_all is_mark_name) (sym same) ∙ bad.2)
 
-bads_and_goods : (words : List (List ℕ)) → AreBadNames words → (one : List ℕ) × (other : List ℕ) × (is_mark_name one ≡ true) × (is_mark_name other ≡ true) × (words ≡ one ∷ other ∷ []) → ⊥
-bads_and_goods words bad n = let b = subst AreBadNames n.4 bad in true≢false (sym (rw (n.2, n.3) refl) ∙ b.2)
+-- behind a keyword without names nothing is a bad name
+pub none_named : (k : Keyword) (words : List (List ℕ)) → names_after k ≡ 0 → NamesBadly k words → ⊥
+none_named k [] none bad = true≢false bad.2
+none_named k (x ∷ xs) none bad = absurd (omega (arith, none, bad.0))
 
-names_are_good : (k : Keyword) (words : List (List ℕ)) → NamesBadly k words → NamesIn k words → ⊥
-names_are_good MarkWord words bad names = bad_and_good words bad names
-names_are_good DropWord words bad names = bad_and_good words bad names
-names_are_good GotoWord words bad names = bad_and_good words bad names
-names_are_good SameWord words bad names = bads_and_goods words bad names
-names_are_good EnqWord words bad names = bad
-names_are_good DeqWord words bad names = bad
-names_are_good ArrayEnqWord words bad names = bad
-names_are_good ArrayDeqWord words bad names = bad
-names_are_good GoWord words bad names = bad
-names_are_good StarveWord words bad names = bad
-names_are_good UndoWord words bad names = bad
-names_are_good RollWord words bad names = bad
-names_are_good BackWord words bad names = bad
-names_are_good RedoWord words bad names = bad
-names_are_good ForwardWord words bad names = bad
-names_are_good MarksWord words bad names = bad
-names_are_good MarkAtWord words bad names = bad
-names_are_good OriginWord words bad names = bad
-names_are_good WriterWord words bad names = bad
-names_are_good ShowWord words bad names = bad
-names_are_good ActorWord words bad names = bad
-names_are_good StepWord words bad names = bad
-names_are_good LenWord words bad names = bad
-
-pub not_badly_named : (k : Keyword) (words : List (List ℕ)) → NamesBadly k words → (c : Command) → IsInRange c → keyword_of c ≡ k → words ≡ arguments_of c → ⊥
-not_badly_named k words bad c small e same = names_are_good k words bad (subst (NamesIn k) (sym same) (names_behind k c small e))
+-- a fault of the names is the command's
+pub names_refused : (k : Keyword) (words : List (List ℕ)) (fault : LineFault) → 0 < names_after k → AreNoNames (names_after k) words fault → ReadsCommand k words (Err fault)
+names_refused k words BadLine some none = (
+  λ c small is e. none (ap length e ∙ counted c (subst (λ word. 0 < names_after word) (sym is) some) ∙ ap names_after is)
+      (subst (λ ws. list_all is_word ws ≡ true) (sym e)
+      (are_words (words_of (arguments_of c)) (are_names c small (counted c (subst (λ word. 0 < names_after word) (sym is) some))))),
+  λ bad. none bad.0 bad.1,
+)
+names_refused k words BadName some bad = bad
+names_refused k words LineTooLong some never = never

@@ -7,7 +7,7 @@ use Rattle.std.proofs.lemmas.Str.{IsUtf8-from_ascii}
 use Rattle.std.proofs.lemmas.Fmt.{IsAscii-decimal}
 use Rattle.rd_step.specs.Prelude.{SegName}
 use Rattle.rd_script.specs.Contents.{name_words}
-use Rattle.rd_script.specs.Spelling.{IsSegmentInRange}
+use Rattle.rd_script.specs.Grammar.{IsSegmentInRange}
 use Rattle.rd_script.proofs.SplitLemmas.{parts_of_join, join_of_parts, is_free_decimal}
 
 -- the digits of a number are UTF-8

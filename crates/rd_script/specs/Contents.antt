@@ -1,8 +1,7 @@
--- The words that spell segments' names, places, and what places have in them.
+-- The words that spell segments' names, and what places have in them.
 use Rattle.std.specs.Prelude.{ℕ, Bool, true, false, List, ◌++◌, codes, Option, Some, None}
 use Rattle.std.specs.Fmt.{decimal}
-use Rattle.rd_step.specs.Prelude.{SegName, Place, Content, Cell, ArrSlot}
-use Rattle.rd_step.specs.Prelude.{QHead, QTail, Head, Tail, Next, CellAt, ValAt, IdxAt, WholeOf, ArrHead, ArrTail, ArrCell}
+use Rattle.rd_step.specs.Prelude.{SegName, Content, Cell, ArrSlot}
 use Rattle.rd_step.specs.Prelude.{Name, Number, TailIs, NextIs, CellIs, ValIs, IdxIs, Whole, Slot, Empty, Top, Held}
 use Rattle.rd_script.specs.Texts.{spaced_number, bit_number}
 
@@ -50,18 +49,3 @@ content_words (ValIs val) = value_words val
 content_words (IdxIs safe idx) = index_words safe idx
 content_words Whole = codes "exists"
 content_words (Slot slot) = slot_words slot
-
--- a place
-abbrev pub place_words : Place → List ℕ
-place_words QHead = codes "qhead"
-place_words QTail = codes "qtail"
-place_words (Head s) = codes "head " ++ name_words s
-place_words (Tail s) = codes "tail " ++ name_words s
-place_words (Next s) = codes "next " ++ name_words s
-place_words (CellAt s i) = codes "cell " ++ name_words s ++ spaced_number i
-place_words (ValAt s i) = codes "value " ++ name_words s ++ spaced_number i
-place_words (IdxAt s i) = codes "index " ++ name_words s ++ spaced_number i
-place_words (WholeOf s) = codes "whole " ++ name_words s
-place_words ArrHead = codes "ahead"
-place_words ArrTail = codes "atail"
-place_words (ArrCell i) = codes "acell" ++ spaced_number i

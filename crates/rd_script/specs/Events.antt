@@ -1,19 +1,21 @@
 -- The words that spell an event.
-use Rattle.std.specs.Prelude.{ℕ, List, ◌++◌, codes}
-use Rattle.rd_actor.specs.declared.actors.Act.TheVariants.{Enq, Deq, AEnq, ADeq, Go, Starve}
+use Rattle.std.specs.Prelude.{ℕ, List}
+use Rattle.rd_actor.specs.declared.actors.Act.TheVariants as act
 use Rattle.rd_step.specs.Prelude.{Act}
 use Rattle.rd_step.specs.declared.entries.Event.{Event}
-use Rattle.rd_script.specs.Texts.{spaced_number, yes_or_no}
+use Rattle.rd_marks.specs.declared.commands.Command.{Command}
+use Rattle.rd_marks.specs.declared.commands.Command.TheVariants.{Enq, Deq, ArrayEnq, ArrayDeq, Go, Starve}
+use Rattle.rd_script.specs.Spelling.{spelling}
 
--- the act of an actor
-abbrev pub act_words : ℕ → Act → List ℕ
-act_words actor (Enq x) = codes "enq" ++ spaced_number actor ++ spaced_number x
-act_words actor Deq = codes "deq" ++ spaced_number actor
-act_words actor (AEnq x) = codes "aenq" ++ spaced_number actor ++ spaced_number x
-act_words actor ADeq = codes "adeq" ++ spaced_number actor
-act_words actor Go = codes "go" ++ spaced_number actor
-act_words actor (Starve choice) = codes "starve" ++ spaced_number actor ++ codes " " ++ yes_or_no choice
+-- the command that has an actor act
+abbrev pub command_of : ℕ → Act → Command
+command_of actor (act.Enq x) = Enq actor x
+command_of actor act.Deq = Deq actor
+command_of actor (act.AEnq x) = ArrayEnq actor x
+command_of actor act.ADeq = ArrayDeq actor
+command_of actor act.Go = Go actor
+command_of actor (act.Starve choice) = Starve actor choice
 
 -- an event: the line that makes it happen
 abbrev pub event_words : Event → List ℕ
-event_words e = act_words e.actor e.act
+event_words e = spelling (command_of e.actor e.act)

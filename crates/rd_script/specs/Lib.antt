@@ -3,14 +3,15 @@ pub mod Portions
 pub mod Puts
 pub mod Texts
 pub mod Contents
+pub mod Grammar
+pub mod Spelling
+pub mod Reading
 pub mod Events
 pub mod Actors
 pub mod Steps
 pub mod Refusals
 pub mod Replies
 pub mod Headings
-pub mod Spelling
-pub mod Words
 pub mod Lines
 pub mod Answers
 pub mod Script

@@ -6,7 +6,8 @@ use Rattle.rd_step.specs.Prelude.{Answer, OpReply, Place, Wrote, WroteNothing, W
 use Rattle.rd_step.specs.declared.entries.Entry.{Entry}
 use Rattle.rd_script.specs.Texts.{spaced_number}
 use Rattle.rd_script.specs.Events.{event_words}
-use Rattle.rd_script.specs.Contents.{name_words, value_words, tail_word, index_words, content_words, place_words}
+use Rattle.rd_script.specs.Contents.{name_words, value_words, tail_word, index_words, content_words}
+use Rattle.rd_script.specs.Spelling.{place_words}
 
 -- the place of a step, if it has one
 abbrev pub step_place : Option Place → List ℕ

@@ -1,12 +1,14 @@
 //! The words behind a keyword, read as what the command needs there.
 
-ghost use Rattle.std.specs.Prelude.{◌≡◌, ◌≢◌, ℕ, Bool, ◌^◌, ◌<◌, [], ◌∷◌, map, IfSome, IfNone};
+ghost use Rattle.std.specs.Prelude.{◌≡◌, ◌≢◌, ℕ, Bool, true, ◌^◌, ◌<◌, [], ◌∷◌, map, IfSome, IfNone, IfOk, IfErr};
 ghost use Rattle.std.specs.Char.{is_ascii_graphic};
 ghost use Rattle.std.specs.Fmt.{decimal};
 ghost use Rattle.std.specs.List.{list_all};
+ghost use Rattle.rd_marks.specs.NameBytes.{is_mark_name};
+ghost use Rattle.rd_marks.specs.Names.{bytes_of};
 ghost use Rattle.rd_script.specs.Texts.{yes_or_no};
 ghost use Rattle.rd_script.specs.Spelling.{is_word};
-ghost use Rattle.rd_script.specs.Words.{NamesAlone, NamesTwo, ReadsName};
+ghost use Rattle.rd_script.specs.Reading.{AreNoNames, ReadsName};
 
 use super::numbers::{byte_in, number_in};
 use crate::faults::LineFault;
@@ -76,7 +78,8 @@ fn choice_in(word: &[u8]) -> Option<bool>
 ///
 /// `BadLine` if there is not one word alone; else `BadName` if it is no bookmark's name.
 pub fn name_alone(words: &[&[u8]]) -> Result<MarkName, LineFault>
-    ensures { NamesAlone (map (λ word. word.now) words.now) result }
+    ensures ok { IfOk result (λ name. (is_mark_name (bytes_of name) ≡ true) × (map (λ word. word.now) words.now ≡ bytes_of name ∷ [])) }
+    ensures err { IfErr result (AreNoNames 1 (map (λ word. word.now) words.now)) }
 {
     let [name] = words else {
         return Err(LineFault::BadLine);
@@ -90,7 +93,9 @@ pub fn name_alone(words: &[&[u8]]) -> Result<MarkName, LineFault>
 ///
 /// `BadLine` if there are not two words; else `BadName` if one of them is no bookmark's name.
 pub fn two_names(words: &[&[u8]]) -> Result<(MarkName, MarkName), LineFault>
-    ensures { NamesTwo (map (λ word. word.now) words.now) result }
+    ensures ok { IfOk result (λ r. ((is_mark_name (bytes_of r.0) ≡ true) × (is_mark_name (bytes_of r.1) ≡ true))
+        × (map (λ word. word.now) words.now ≡ bytes_of r.0 ∷ bytes_of r.1 ∷ [])) }
+    ensures err { IfErr result (AreNoNames 2 (map (λ word. word.now) words.now)) }
 {
     let [one, other] = words else {
         return Err(LineFault::BadLine);

@@ -7,7 +7,7 @@ ghost use Rattle.std.specs.Prelude.{◌≡◌, ◌≢◌, ◌≤◌, [], length,
 ghost use Rattle.std.specs.Result.{IsOkAnd};
 ghost use Rattle.rd_marks.specs.declared.commands.Command.{Command as SomeCommand};
 ghost use Rattle.rd_script.specs.Spelling.{spelling, IsInRange, AreOne, Says, most_line_bytes};
-ghost use Rattle.rd_script.specs.Words.{ReadsCommand, ReadsNameless};
+ghost use Rattle.rd_script.specs.Reading.{ReadsCommand, ReadsNameless};
 
 use super::arguments::{
     actor_and_choice, actor_and_value, byte_alone, name_alone, number_alone, two_names,
@@ -47,6 +47,7 @@ pub fn command_in(line: &[u8]) -> Result<Command, LineFault>
 }
 
 /// The command of a keyword and the words behind it.
+#[tactic(auto, using(crate::proofs::NameReadLemmas::none_named))]
 fn command_of(keyword: Keyword, words: &[&[u8]]) -> Result<Command, LineFault>
     ensures { ReadsCommand keyword (map (λ word. word.now) words.now) result }
 {

@@ -2,7 +2,7 @@
 
 ghost use Rattle.std.specs.Prelude.{◌≡◌, ◌≢◌, IfSome, IfNone};
 ghost use Rattle.rd_script.specs.declared.reading.keywords.Keyword.{Keyword as Word};
-ghost use Rattle.rd_script.specs.Words.{keyword_text};
+ghost use Rattle.rd_script.specs.Grammar.{keyword_text};
 
 /// A line's first word.
 #[derive(Clone, Copy, Debug, PartialEq, Eq)]

@@ -6,7 +6,7 @@ ghost use Rattle.std.specs.Prelude.{◌≡◌, ◌≢◌, ℕ, ◌^◌, ◌<◌,
 ghost use Rattle.std.specs.Fmt.{decimal};
 ghost use Rattle.rd_step.specs.Prelude.{SegName as Segment};
 ghost use Rattle.rd_script.specs.Contents.{name_words};
-ghost use Rattle.rd_script.specs.Spelling.{IsSegmentInRange};
+ghost use Rattle.rd_script.specs.Grammar.{IsSegmentInRange};
 
 use super::words::parts_of;
 use itoa::Buffer;

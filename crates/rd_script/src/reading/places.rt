@@ -2,7 +2,8 @@
 
 ghost use Rattle.std.specs.Prelude.{◌≡◌, ◌≢◌, ◌<◌, [], map, IfSome, IfNone};
 ghost use Rattle.rd_script.specs.declared.reading.places.PlaceKind.{PlaceKind as Kind};
-ghost use Rattle.rd_script.specs.Words.{kind_text, ReadsPlace, ReadsKind};
+ghost use Rattle.rd_script.specs.Grammar.{kind_text};
+ghost use Rattle.rd_script.specs.Reading.{ReadsPlace, ReadsKind};
 
 use super::numbers::{byte_in, segment_in};
 use rd_cell::Place;

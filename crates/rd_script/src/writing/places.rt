@@ -2,7 +2,8 @@
 
 ghost use Rattle.std.specs.Prelude.{◌≤◌, ◌++◌, length};
 ghost use Rattle.rd_script.specs.Puts.{Puts};
-ghost use Rattle.rd_script.specs.Contents.{name_words, place_words};
+ghost use Rattle.rd_script.specs.Contents.{name_words};
+ghost use Rattle.rd_script.specs.Spelling.{place_words};
 
 use super::contents::put_name;
 use super::numbers::{put_counted, put_spaced};

@@ -1,6 +1,6 @@
 use Rattle.std.proofs.Common.{◌∷◌, map, drop, Err, sym, ◌∙◌, ap, subst}
 use Rattle.std.proofs.lemmas.List.{take_rest}
-use Rattle.rd_script.specs.Words.{ReadsCommand}
+use Rattle.rd_script.specs.Reading.{ReadsCommand}
 use Rattle.rd_script.specs.declared.faults.LineFault.TheVariants.{BadLine}
 use Rattle.rd_script.proofs.PartLemmas.{first_and_others}
 use Rattle.rd_script.proofs.SayLemmas.{too_many_words, no_keyword, says_words, one_said}
