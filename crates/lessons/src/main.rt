@@ -6,7 +6,7 @@
 #![tactic(auto)]
 
 use anyhow::Result;
-use rd_program::{end, play, resume, view};
+use rd_program::{Setup, end, play, resume, view};
 use rd_script::{ReadSource, WriteSink};
 use rd_trace::Ring;
 use std::alloc::{Alloc, Global};
@@ -305,13 +305,8 @@ fn answer_to(alloc: Global, trace: &str) -> Result<String> {
         &mut ReadSource::new("".as_bytes()),
         &mut WriteSink::new(&mut replies),
     );
-    let mut output = Vec::new(alloc);
     let mut errors = Vec::new(alloc);
-    end(
-        &outcome,
-        &mut WriteSink::new(&mut output),
-        &mut WriteSink::new(&mut errors),
-    );
+    end(&outcome, &mut WriteSink::new(&mut errors));
     Ok(String::from_utf8(errors)?)
 }
 
@@ -334,8 +329,10 @@ fn report_from_start(alloc: Global, ring: Ring, script: &str, traced: bool) -> R
         alloc,
         &mut ReadSource::new(script.as_bytes()),
         &mut WriteSink::new(&mut written),
-        ACTORS,
-        ring,
+        Setup {
+            actors: ACTORS,
+            ring,
+        },
         traced,
     )?;
     Ok(String::from_utf8(written)?)
@@ -371,8 +368,10 @@ fn table_of_viewers<R: Files + Alloc<A = Global> + Threads + Wait + Sync>(
         alloc,
         scripts.as_slice(),
         &mut WriteSink::new(&mut written),
-        ACTORS,
-        Ring::Four,
+        Setup {
+            actors: ACTORS,
+            ring: Ring::Four,
+        },
     )?;
     let mut replies = String::new(alloc);
     for reply in String::from_utf8(written)?.lines() {

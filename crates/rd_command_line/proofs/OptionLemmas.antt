@@ -23,23 +23,10 @@ program_is_free names = refl
 
 -- an error of a kind that clap has for the words, by the kind
 EndsFor-fault_by : (words : List Text) (k : ErrorKind) (e : Error) → kind_of e ≡ k → HasFault words k → EndsFor words (fault_by k e)
-EndsFor-fault_by words kind.InvalidValue e is fault = (ap is_request is, inl (subst (HasFault words) (sym is) fault))
-EndsFor-fault_by words kind.UnknownArgument e is fault = (ap is_request is, inl (subst (HasFault words) (sym is) fault))
-EndsFor-fault_by words kind.InvalidSubcommand e is fault = (ap is_request is, inl (subst (HasFault words) (sym is) fault))
-EndsFor-fault_by words kind.NoEquals e is fault = (ap is_request is, inl (subst (HasFault words) (sym is) fault))
-EndsFor-fault_by words kind.ValueValidation e is fault = (ap is_request is, inl (subst (HasFault words) (sym is) fault))
-EndsFor-fault_by words kind.TooManyValues e is fault = (ap is_request is, inl (subst (HasFault words) (sym is) fault))
-EndsFor-fault_by words kind.TooFewValues e is fault = (ap is_request is, inl (subst (HasFault words) (sym is) fault))
-EndsFor-fault_by words kind.WrongNumberOfValues e is fault = (ap is_request is, inl (subst (HasFault words) (sym is) fault))
-EndsFor-fault_by words kind.ArgumentConflict e is fault = (ap is_request is, inl (subst (HasFault words) (sym is) fault))
-EndsFor-fault_by words kind.MissingRequiredArgument e is fault = (ap is_request is, inl (subst (HasFault words) (sym is) fault))
-EndsFor-fault_by words kind.MissingSubcommand e is fault = (ap is_request is, inl (subst (HasFault words) (sym is) fault))
 EndsFor-fault_by words kind.DisplayHelp e is fault = (ap is_request is, subst (HasFault words) (sym is) fault)
-EndsFor-fault_by words kind.DisplayHelpOnMissingArgumentOrSubcommand e is fault = (ap is_request is, inl (subst (HasFault words) (sym is) fault))
 EndsFor-fault_by words kind.DisplayVersion e is fault = (ap is_request is, subst (HasFault words) (sym is) fault)
-EndsFor-fault_by words kind.Io e is fault = (ap is_request is, inl (subst (HasFault words) (sym is) fault))
-EndsFor-fault_by words kind.Format e is fault = (ap is_request is, inl (subst (HasFault words) (sym is) fault))
 EndsFor-fault_by words kind.OutOfMemory e is fault = tt
+EndsFor-fault_by words _ e is fault = (ap is_request is, inl (subst (HasFault words) (sym is) fault))
 
 -- the program's fault at an error of clap's: memory ran out, or the kind is one that clap has for the words
 pub EndsFor-options_fault : (words : List Text) (names : BothNames) (e : Error) → AreRings names → HasKind (fault_of (program_app names) words) e → EndsFor words (options_fault e)

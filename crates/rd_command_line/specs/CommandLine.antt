@@ -14,6 +14,7 @@ use Rattle.rd_command_line.specs.declared.requests.Options.{Options}
 use Rattle.rd_command_line.specs.declared.requests.Options.TheVariants.{Run, View, Load}
 use Rattle.rd_command_line.specs.declared.requests.OptionsFault.{OptionsFault}
 use Rattle.rd_command_line.specs.declared.requests.OptionsFault.TheVariants.{Shown, Refused, TooManyFiles, NoMemory}
+use Rattle.rd_cell.specs.declared.limits.TheConstants.{MOST_ACTORS}
 use Rattle.rd_trace.specs.declared.rings.Ring.{Ring}
 use Rattle.rd_command_line.specs.Options.{HasManyFiles, ring_text, flag_text}
 
@@ -38,7 +39,7 @@ abbrev pub actors_rule : Rule
 actors_rule = record (new_rule (codes "actors")) {
   long = Some (codes "actors");
   value_names = 1;
-  parser = Some (Signed (pos 1) (pos 16));
+  parser = Some (Signed (pos 1) (pos MOST_ACTORS));
   defaults = codes "4" ∷ [];
 }
 
@@ -97,7 +98,7 @@ IsNumber text n = IsNumeral 10 (without_leading_plus text) × (digits_value 10 (
 pub record TellsWorld (rows : List Row) (actors : ℕ) (ring : Ring) : Type 0 where
   pub counted : (text : Text) × (one_of (codes "actors") rows ≡ Some text) × IsNumber text actors
   pub some : 1 ≤ actors
-  pub few : actors ≤ 16
+  pub few : actors ≤ MOST_ACTORS
   pub spelled : first_of (codes "ring") rows ≡ Some (ring_text ring)
 
 -- what was found for the arguments of `run` tells these options

@@ -1,3 +1,4 @@
 pub mod Options
 pub mod CommandLine
+pub mod Outcomes
 pub mod Answering

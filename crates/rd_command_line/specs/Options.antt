@@ -4,6 +4,8 @@ use Rattle.clap.specs.Words.{kind_of}
 use Rattle.clap.specs.declared.error.Error.{Error}
 use Rattle.clap.specs.declared.error.kind.ErrorKind.{ErrorKind}
 use Rattle.clap.specs.declared.error.kind.ErrorKind.TheVariants.{DisplayHelp, DisplayVersion, OutOfMemory}
+use Rattle.rd_cell.specs.declared.limits.TheConstants.{MOST_ACTORS}
+use Rattle.rd_desk.specs.declared.desks.TheConstants.{MOST_VIEWERS}
 use Rattle.rd_trace.specs.declared.rings.Ring.{Ring}
 use Rattle.rd_trace.specs.declared.rings.Ring.TheVariants.{Two, Four, Eight}
 use Rattle.rd_command_line.specs.declared.requests.Options.{Options}
@@ -22,26 +24,22 @@ abbrev pub flag_text : Bool → List ℕ
 flag_text true = codes "true"
 flag_text false = codes "false"
 
--- how many viewers there may be
-abbrev pub MOST_FILES : ℕ
-MOST_FILES = 64
-
 -- the number of actors that is asked for is one that a world may have, and that of the files one that there may be viewers
 abbrev pub AreInRange : Options → Type 0
-AreInRange (Run file actors ring trace) = (1 ≤ actors) × (actors ≤ 16)
-AreInRange (View files actors ring) = ((1 ≤ actors) × (actors ≤ 16)) × ((1 ≤ length files.items) × (length files.items ≤ MOST_FILES))
+AreInRange (Run file actors ring trace) = (1 ≤ actors) × (actors ≤ MOST_ACTORS)
+AreInRange (View files actors ring) = ((1 ≤ actors) × (actors ≤ MOST_ACTORS)) × ((1 ≤ length files.items) × (length files.items ≤ MOST_VIEWERS))
 AreInRange (Load file) = ⊤
 
 -- more files are named than there may be viewers
 abbrev pub HasManyFiles : Options → Type 0
 HasManyFiles (Run file actors ring trace) = ⊥
-HasManyFiles (View files actors ring) = MOST_FILES < length files.items
+HasManyFiles (View files actors ring) = MOST_VIEWERS < length files.items
 HasManyFiles (Load file) = ⊥
 
 -- and not more
 abbrev pub HasFewFiles : Options → Type 0
 HasFewFiles (Run file actors ring trace) = ⊤
-HasFewFiles (View files actors ring) = length files.items ≤ MOST_FILES
+HasFewFiles (View files actors ring) = length files.items ≤ MOST_VIEWERS
 HasFewFiles (Load file) = ⊤
 
 -- the fault of a command line at which clap fails by an error of this kind

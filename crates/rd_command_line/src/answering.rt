@@ -3,22 +3,20 @@
 ghost use Rattle.std.specs.Prelude.{◌≡◌, ◌≤◌, IfOk, IfErr, length, map, vec_len, true, false};
 ghost use Rattle.std.specs.Process.{exit_status};
 ghost use Rattle.clap.specs.declared.error.kind.ErrorKind.TheVariants.{InvalidValue};
+ghost use Rattle.rd_desk.specs.declared.desks.TheConstants.{MOST_VIEWERS};
 ghost use Rattle.rd_trace.specs.Traces.{ring_length};
 ghost use Rattle.rd_trace.specs.Devices.{devices};
 ghost use Rattle.rd_program.specs.declared.faults.ProgramFault.TheVariants.{Read};
-ghost use Rattle.rd_program.specs.Endings.{asks_for_output};
 ghost use Rattle.rd_program.specs.Program.{IsUnread};
-ghost use Rattle.rd_program.specs.Viewers.{by_ring};
-ghost use Rattle.rd_command_line.specs.Options.{AreInRange, IsMistake, MOST_FILES};
-ghost use Rattle.rd_command_line.specs.Answering.{Answers, DoesOptions, HasOutcome, IsFaultOf, LoadsFile, Performs, PlaysFile, PlaysNamed, ViewsFiles};
+ghost use Rattle.rd_command_line.specs.Options.{AreInRange, IsMistake};
+ghost use Rattle.rd_command_line.specs.Outcomes.{IsOutcomeOf, is_shown};
+ghost use Rattle.rd_command_line.specs.Answering.{Answers, DoesOptions, HasOutcome, LoadsFile, Performs, PlaysFile, PlaysNamed, ViewsFiles};
 
 use super::command_line::{not_text, options};
+use super::outcomes::Outcome;
 use super::requests::{Options, OptionsFault};
-use rd_desk::BookWithHistory;
-use rd_lock::Recorded;
-use rd_program::{ProgramFault, end, play, resume, view, whole_text};
+use rd_program::{ProgramFault, Setup, play, resume, view, whole_text};
 use rd_script::{ReadSource, Sink, Source};
-use rd_trace::Ring;
 use std::alloc::{Alloc, Global};
 use std::convert::AsStr;
 use std::env::{self, Env};
@@ -29,11 +27,11 @@ use std::sync::Wait;
 use std::thread::Threads;
 
 /// Does what the words of a command line ask for over the files and the three streams, writes the messages of the end, and
-/// answers its status. For words that could not be taken there is the fault.
+/// answers its status. Words that could not be taken come to an outcome of their own.
 pub fn perform<R: Files + Threads + Wait + Sync, S: AsStr + Drop, I: Source, O: Sink, E: Sink>(
     rt: &R,
     alloc: Global,
-    words: Result<Vec<S>, ProgramFault>,
+    words: Result<Vec<S>, Outcome>,
     input: &mut I,
     output: &mut O,
     errors: &mut E,
@@ -41,62 +39,55 @@ pub fn perform<R: Files + Threads + Wait + Sync, S: AsStr + Drop, I: Source, O: 
     requires input_works { I.has_failed input.old ≡ false }
     requires output_works { O.has_failed output.old ≡ false }
     requires errors_work { E.has_failed errors.old ≡ false }
-    ensures performs { Performs (by_ring ⟦<BookWithHistory<2> as Recorded>⟧ ⟦<BookWithHistory<4> as Recorded>⟧ ⟦<BookWithHistory<8> as Recorded>⟧)
-        S.text words (exit_status result)
+    ensures performs { Performs S.text words (exit_status result)
         (devices I.Source O.Sink input.old input.new output.old output.new)
         (E.contents errors.old) (E.contents errors.new) (E.has_failed errors.new) }
 {
     let outcome = outcome_of(rt, alloc, words, input, output);
-    end(&outcome, output, errors)
+    outcome.end(output, errors)
 }
 
 /// Does what the words ask for.
 fn outcome_of<R: Files + Threads + Wait + Sync, S: AsStr + Drop, I: Source, O: Sink>(
     rt: &R,
     alloc: Global,
-    words: Result<Vec<S>, ProgramFault>,
+    words: Result<Vec<S>, Outcome>,
     input: &mut I,
     output: &mut O,
-) -> Result<u64, ProgramFault>
+) -> Outcome
     requires input_works { I.has_failed input.old ≡ false }
     requires output_works { O.has_failed output.old ≡ false }
-    ensures answers { HasOutcome (by_ring ⟦<BookWithHistory<2> as Recorded>⟧ ⟦<BookWithHistory<4> as Recorded>⟧ ⟦<BookWithHistory<8> as Recorded>⟧)
-        S.text words
+    ensures answers { HasOutcome S.text words
         (devices I.Source O.Sink input.old input.new output.old output.new) result }
-    ensures shown { asks_for_output result ≡ true → O.has_failed output.new ≡ false }
+    ensures shown { is_shown result ≡ true → O.has_failed output.new ≡ false }
 {
-    let words = words?;
-    answer(rt, alloc, words.as_slice(), input, output)
+    match words {
+        Ok(words) => answer(rt, alloc, words.as_slice(), input, output),
+        Err(outcome) => outcome,
+    }
 }
 
-/// Does what the words of a command line ask for, of which the first is the program's name. Answers the number of the script's
-/// lines, or for `view` that of the recorded calls. It may wait, in `view`.
-///
-/// # Errors
-///
-/// `Shown`, `Refused`, `TooManyFiles` and `NoMemory` if the words give no options; `Read` if a file can't be opened; and as `play`,
-/// `resume`, `view` and `whole_text`.
+/// Does what the words of a command line ask for, of which the first is the program's name. It may wait, in `view`.
 pub fn answer<R: Files + Threads + Wait + Sync, S: AsStr, I: Source, O: Sink>(
     rt: &R,
     alloc: Global,
     words: &[S],
     input: &mut I,
     output: &mut O,
-) -> Result<u64, ProgramFault>
+) -> Outcome
     requires input_works { I.has_failed input.old ≡ false }
     requires output_works { O.has_failed output.old ≡ false }
-    ensures answers { Answers (by_ring ⟦<BookWithHistory<2> as Recorded>⟧ ⟦<BookWithHistory<4> as Recorded>⟧ ⟦<BookWithHistory<8> as Recorded>⟧)
-        (map S.text words.now)
+    ensures answers { Answers (map S.text words.now)
         (devices I.Source O.Sink input.old input.new output.old output.new) result }
-    ensures shown { asks_for_output result ≡ true → O.has_failed output.new ≡ false }
+    ensures shown { is_shown result ≡ true → O.has_failed output.new ≡ false }
 {
     match options(alloc, words) {
-        Ok(asked) => do_options(rt, alloc, asked, input, output),
-        Err(fault) => Err(fault_of(alloc, fault)),
+        Ok(asked) => Outcome::Done(do_options(rt, alloc, asked, input, output)),
+        Err(fault) => Outcome::of(alloc, fault),
     }
 }
 
-/// Does what the options ask for.
+/// Does what the options ask for. Answers the number of the script's lines, or for `view` that of the recorded calls.
 fn do_options<R: Files + Threads + Wait + Sync, I: Source, O: Sink>(
     rt: &R,
     alloc: Global,
@@ -107,8 +98,8 @@ fn do_options<R: Files + Threads + Wait + Sync, I: Source, O: Sink>(
     requires input_works { I.has_failed input.old ≡ false }
     requires output_works { O.has_failed output.old ≡ false }
     requires actors { AreInRange asked }
-    ensures { DoesOptions (by_ring ⟦<BookWithHistory<2> as Recorded>⟧ ⟦<BookWithHistory<4> as Recorded>⟧ ⟦<BookWithHistory<8> as Recorded>⟧)
-        asked.entry (devices I.Source O.Sink input.old input.new output.old output.new) result }
+    ensures { DoesOptions asked.entry
+        (devices I.Source O.Sink input.old input.new output.old output.new) result }
 {
     match asked {
         Options::Run {
@@ -116,12 +107,20 @@ fn do_options<R: Files + Threads + Wait + Sync, I: Source, O: Sink>(
             actors,
             ring,
             trace,
-        } => play_named(rt, alloc, file, input, output, actors, ring, trace),
+        } => play_named(
+            rt,
+            alloc,
+            file,
+            input,
+            output,
+            Setup { actors, ring },
+            trace,
+        ),
         Options::View {
             files,
             actors,
             ring,
-        } => view_files(rt, alloc, files.as_slice(), output, actors, ring),
+        } => view_files(rt, alloc, files.as_slice(), output, Setup { actors, ring }),
         Options::Load { file } => load_file(rt, alloc, file, input, output),
     }
 }
@@ -133,20 +132,17 @@ fn play_named<R: Files, I: Source, O: Sink>(
     name: &str,
     input: &mut I,
     output: &mut O,
-    actors: u8,
-    ring: Ring,
+    setup: Setup,
     trace: bool,
 ) -> Result<u64, ProgramFault>
     requires input_works { I.has_failed input.old ≡ false }
     requires output_works { O.has_failed output.old ≡ false }
-    requires some { 1 ≤ actors }
-    requires few { actors ≤ 16 }
-    ensures { PlaysNamed name.now (ring_length ring) actors trace
+    ensures { PlaysNamed name.now (ring_length setup.ring) setup.actors trace
         (devices I.Source O.Sink input.old input.new output.old output.new) result }
 {
     match name {
-        "-" => play(alloc, input, output, actors, ring, trace),
-        _ => play_file(rt, alloc, name, output, actors, ring, trace),
+        "-" => play(alloc, input, output, setup, trace),
+        _ => play_file(rt, alloc, name, output, setup, trace),
     }
 }
 
@@ -156,24 +152,14 @@ fn play_file<R: Files, O: Sink>(
     alloc: Global,
     name: &str,
     output: &mut O,
-    actors: u8,
-    ring: Ring,
+    setup: Setup,
     trace: bool,
 ) -> Result<u64, ProgramFault>
     requires output_works { O.has_failed output.old ≡ false }
-    requires some { 1 ≤ actors }
-    requires few { actors ≤ 16 }
-    ensures { PlaysFile (ring_length ring) actors trace (O.contents output.old) (O.contents output.new) (O.has_failed output.new) result }
+    ensures { PlaysFile (ring_length setup.ring) setup.actors trace (O.contents output.old) (O.contents output.new) (O.has_failed output.new) result }
 {
     let file = opened(rt, name)?;
-    play(
-        alloc,
-        &mut ReadSource::new(file),
-        output,
-        actors,
-        ring,
-        trace,
-    )
+    play(alloc, &mut ReadSource::new(file), output, setup, trace)
 }
 
 /// Runs the scripts in the files of these names, each by a viewer of its own. All are read before the first command.
@@ -182,19 +168,16 @@ fn view_files<R: Files + Threads + Wait + Sync, O: Sink>(
     alloc: Global,
     names: &[&str],
     output: &mut O,
-    actors: u8,
-    ring: Ring,
+    setup: Setup,
 ) -> Result<u64, ProgramFault>
     requires output_works { O.has_failed output.old ≡ false }
     requires some_files { 1 ≤ length names.now }
-    requires few_files { length names.now ≤ MOST_FILES }
-    requires some { 1 ≤ actors }
-    requires few { actors ≤ 16 }
-    ensures { ViewsFiles (by_ring ⟦<BookWithHistory<2> as Recorded>⟧ ⟦<BookWithHistory<4> as Recorded>⟧ ⟦<BookWithHistory<8> as Recorded>⟧)
-        (length names.now) ring actors (O.contents output.old) (O.contents output.new) (O.has_failed output.new) result }
+    requires few_files { length names.now ≤ MOST_VIEWERS }
+    ensures { ViewsFiles (length names.now) (ring_length setup.ring) setup.actors
+        (O.contents output.old) (O.contents output.new) (O.has_failed output.new) result }
 {
     let scripts = whole_files(rt, alloc, names)?;
-    view(rt, alloc, scripts.as_slice(), output, actors, ring)
+    view(rt, alloc, scripts.as_slice(), output, setup)
 }
 
 /// The whole texts of the files of these names, in order.
@@ -248,32 +231,18 @@ fn opened<R: Files>(rt: &R, name: &str) -> Result<R::File, ProgramFault>
 ///
 /// # Errors
 ///
-/// `NoMemory` if memory was refused; else `Refused`, since a word is no text.
-pub fn words_of<R: Env + Alloc<A = Global>>(rt: &R) -> Result<Vec<String>, ProgramFault>
-    ensures err { IfErr result (λ fault. (reason : OptionsFault) × IsMistake InvalidValue reason × IsFaultOf reason fault) }
+/// That memory was refused; else `Refused`, since a word is no text.
+pub fn words_of<R: Env + Alloc<A = Global>>(rt: &R) -> Result<Vec<String>, Outcome>
+    ensures err { IfErr result (λ outcome. (reason : OptionsFault) × IsMistake InvalidValue reason × IsOutcomeOf reason outcome) }
 {
     let alloc = rt.alloc();
     match env::args(rt) {
-        Ok(words) => words.collect(alloc).map_err(|_| ProgramFault::NoMemory),
-        Err(error) if error.kind() == ErrorKind::OutOfMemory => Err(ProgramFault::NoMemory),
-        Err(_) => Err(fault_of(alloc, not_text(alloc))),
-    }
-}
-
-/// The program's fault at a command line that gives no options.
-pub fn fault_of(alloc: Global, fault: OptionsFault) -> ProgramFault
-    ensures { IsFaultOf fault result }
-{
-    match fault {
-        OptionsFault::Shown(error) => match error.to_string(alloc) {
-            Ok(text) => ProgramFault::Shown(text),
-            Err(_) => ProgramFault::NoMemory,
-        },
-        OptionsFault::Refused(error) => match error.to_string(alloc) {
-            Ok(text) => ProgramFault::Refused(text),
-            Err(_) => ProgramFault::NoMemory,
-        },
-        OptionsFault::TooManyFiles => ProgramFault::TooManyFiles,
-        OptionsFault::NoMemory => ProgramFault::NoMemory,
+        Ok(words) => words
+            .collect(alloc)
+            .map_err(|_| Outcome::Done(Err(ProgramFault::NoMemory))),
+        Err(error) if error.kind() == ErrorKind::OutOfMemory => {
+            Err(Outcome::Done(Err(ProgramFault::NoMemory)))
+        }
+        Err(_) => Err(Outcome::of(alloc, not_text(alloc))),
     }
 }

@@ -14,6 +14,7 @@ ghost use Rattle.rd_command_line.specs.CommandLine.{file_rule, files_rule, actor
 use super::requests::{Options, OptionsFault, ring_of};
 use clap::error::ErrorKind;
 use clap::{Arg, ArgAction, ArgMatches, Command, Error, value_parser};
+use rd_cell::limits::MOST_ACTORS;
 use rd_trace::Ring;
 use std::alloc::{AllocError, Global};
 use std::convert::AsStr;
@@ -138,7 +139,7 @@ fn world_from<'a>(matches: &ArgMatches<'a>) -> Option<(u8, Ring)>
 {
     let actors = matches.get_one::<u8>("actors")?;
     let ring = ring_of(matches.get_str("ring")?)?;
-    if 1 <= actors && actors <= 16 {
+    if 1 <= actors && usize::from(actors) <= MOST_ACTORS {
         Some((actors, ring))
     } else {
         None
@@ -258,7 +259,7 @@ fn actors<'a>(alloc: Global) -> Arg<'a>
     Arg::new(alloc, "actors")
         .long("actors")
         .value_name("COUNT")
-        .value_parser(value_parser!(u8).range(1..=16))
+        .value_parser(value_parser!(u8).range(1..=MOST_ACTORS as i64))
         .default_value("4")
         .help("How many actors the world has, 1 to 16")
 }

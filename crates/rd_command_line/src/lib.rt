@@ -6,8 +6,10 @@
 
 mod answering;
 mod command_line;
+mod outcomes;
 mod requests;
 
-pub use answering::{answer, fault_of, perform, words_of};
+pub use answering::{answer, perform, words_of};
 pub use command_line::{not_text, options};
+pub use outcomes::Outcome;
 pub use requests::{Options, OptionsFault};

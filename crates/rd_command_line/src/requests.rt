@@ -6,11 +6,9 @@ ghost use Rattle.rd_command_line.specs.Options.{HasFewFiles, HasManyFiles, ring_
 
 use clap::Error;
 use clap::error::ErrorKind;
+use rd_desk::MOST_VIEWERS;
 use rd_trace::Ring;
 use std::alloc::AllocError;
-
-/// How many viewers there may be.
-const MOST_FILES: usize = 64;
 
 /// The ring that a text of the command line spells.
 pub fn ring_of(text: &str) -> Option<Ring>
@@ -62,7 +60,7 @@ impl<'a> Options<'a> {
         ensures few { result ≡ false → HasFewFiles self.now }
     {
         match self {
-            Options::View { files, .. } => files.len() > MOST_FILES,
+            Options::View { files, .. } => files.len() as u64 > MOST_VIEWERS,
             _ => false,
         }
     }

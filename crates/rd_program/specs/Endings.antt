@@ -1,79 +1,59 @@
 -- How the program ends after each outcome, and what its end leaves.
-use Rattle.std.specs.Prelude.{◌≡◌, ℕ, Bool, true, false, List, [], ◌++◌, codes, string_bytes, Option, Result, Ok, Err}
+use Rattle.std.specs.Prelude.{◌≡◌, ℕ, Bool, true, false, List, ◌++◌, codes, Option, Result, Ok, Err}
 use Rattle.std.specs.Io.KnownBytes.{Appends}
 use Rattle.rd_cell.specs.declared.refusal.Refusal.TheVariants.{NoMemory as OutOfMemory}
-use Rattle.rd_script.specs.declared.answers.LineAnswer.{LineAnswer}
-use Rattle.rd_script.specs.declared.answers.LineAnswer.TheVariants as line
+use Rattle.rd_script.specs.declared.answers.AnyRefusal.{AnyRefusal}
+use Rattle.rd_script.specs.declared.answers.AnyRefusal.TheVariants as refused
 use Rattle.rd_script.specs.declared.faults.ScriptFault.TheVariants as script
 use Rattle.rd_script.specs.Device.{TakesBeginning}
 use Rattle.rd_script.specs.Replies.{text_of}
+use Rattle.rd_trace.specs.declared.faults.LoadTraceFault.{LoadTraceFault}
+use Rattle.rd_trace.specs.declared.faults.LoadTraceFault.TheVariants as load
+use Rattle.rd_trace.specs.declared.faults.WriteTraceFault.{WriteTraceFault}
+use Rattle.rd_trace.specs.declared.faults.WriteTraceFault.TheVariants as trace
+use Rattle.rd_view.specs.declared.faults.ViewFault.{ViewFault}
+use Rattle.rd_view.specs.declared.faults.ViewFault.TheVariants as view
 use Rattle.rd_program.specs.declared.faults.ProgramFault.{ProgramFault}
-use Rattle.rd_program.specs.declared.faults.ProgramFault.TheVariants.{NoMemory, Read, Write, BadTrace, Flawed, TraceMark, TraceStep, Busy, TooManyFiles, Shown, Refused}
-use Rattle.rd_program.specs.declared.endings.Message.{Message}
-use Rattle.rd_program.specs.declared.endings.Message.TheVariants.{Nothing, Line, Text}
-use Rattle.rd_program.specs.declared.endings.Ending.{Ending}
+use Rattle.rd_program.specs.declared.faults.ProgramFault.TheVariants.{NoMemory, Read, Script, Load, Trace, View}
+
+-- the refusal of a trace that was not loaded
+abbrev pub load_refusal : LoadTraceFault → AnyRefusal
+load_refusal load.NoMemory = refused.Refused OutOfMemory
+load_refusal load.BadTrace = refused.BadTrace
+load_refusal (load.Flawed flaw) = refused.Flawed flaw
+load_refusal (load.TraceMark mark step cause) = refused.TraceMark mark step cause
+load_refusal (load.TraceStep step cause) = refused.TraceStep step cause
+
+-- of a trace that was not written
+abbrev pub trace_refusal : WriteTraceFault → AnyRefusal
+trace_refusal trace.NoMemory = refused.Refused OutOfMemory
+trace_refusal trace.Write = refused.Stopped script.Write
+
+-- of a view that was not written
+abbrev pub view_refusal : ViewFault → AnyRefusal
+view_refusal view.NoMemory = refused.Refused OutOfMemory
+view_refusal view.Write = refused.Stopped script.Write
+view_refusal (view.Busy words) = refused.Busy words.next words.served
+
+-- the refusal that the program shows for a fault
+abbrev pub refusal_of : ProgramFault → AnyRefusal
+refusal_of NoMemory = refused.Refused OutOfMemory
+refusal_of Read = refused.Stopped script.Read
+refusal_of (Script fault) = refused.Stopped fault
+refusal_of (Load fault) = load_refusal fault
+refusal_of (Trace fault) = trace_refusal fault
+refusal_of (View fault) = view_refusal fault
 
 -- the line of a refusal behind the program's name
-abbrev pub error_line : LineAnswer → List ℕ
-error_line answer = codes "lcrqdb: " ++ text_of answer
-
--- the bytes of a message
-abbrev pub message_text : Message → List ℕ
-message_text Nothing = []
-message_text (Line answer) = error_line answer
-message_text (Text text) = text.now
-
--- the message is just this text
-abbrev pub IsText : List ℕ → Message → Type 0
-IsText text (Text shown) = shown.now ≡ text
-IsText text _ = ⊥
-
--- status 0, and nothing is written
-abbrev pub IsQuiet : Ending → Type 0
-IsQuiet ending = (ending.status ≡ 0) × (ending.output ≡ Nothing) × (ending.errors ≡ Nothing)
-
--- status 1, and the line of this refusal alone on standard error
-abbrev pub FailsBy : LineAnswer → Ending → Type 0
-FailsBy answer ending = (ending.status ≡ 1) × (ending.output ≡ Nothing) × (ending.errors ≡ Line answer)
-
--- status 0, and this text alone on standard output
-abbrev pub IsShown : List ℕ → Ending → Type 0
-IsShown text ending = (ending.status ≡ 0) × IsText text ending.output × (ending.errors ≡ Nothing)
-
--- status 2, and this text alone on standard error
-abbrev pub IsRefused : List ℕ → Ending → Type 0
-IsRefused text ending = (ending.status ≡ 2) × (ending.output ≡ Nothing) × IsText text ending.errors
-
--- status, standard output and standard error after each outcome
-abbrev pub EndsAs : Result ℕ ProgramFault → Ending → Type 0
-EndsAs (Ok lines) ending = IsQuiet ending
-EndsAs (Err NoMemory) ending = FailsBy (line.Refused OutOfMemory) ending
-EndsAs (Err Read) ending = FailsBy (line.Stopped script.Read) ending
-EndsAs (Err Write) ending = FailsBy (line.Stopped script.Write) ending
-EndsAs (Err BadTrace) ending = FailsBy line.BadTrace ending
-EndsAs (Err (Flawed flaw)) ending = FailsBy (line.Flawed flaw) ending
-EndsAs (Err (TraceMark mark step cause)) ending = FailsBy (line.TraceMark mark step cause) ending
-EndsAs (Err (TraceStep step cause)) ending = FailsBy (line.TraceStep step cause) ending
-EndsAs (Err (Busy next served)) ending = FailsBy (line.Busy next served) ending
-EndsAs (Err TooManyFiles) ending = IsRefused (codes "lcrqdb: 1 to 64 files\n") ending
-EndsAs (Err (Shown text)) ending = IsShown (string_bytes text) ending
-EndsAs (Err (Refused text)) ending = IsRefused (string_bytes text) ending
-
--- whether the end has a message for standard output
-abbrev pub asks_for_output : Result ℕ ProgramFault → Bool
-asks_for_output (Err (Shown text)) = true
-asks_for_output _ = false
+abbrev pub error_line : AnyRefusal → List ℕ
+error_line refusal = codes "lcrqdb: " ++ text_of (Err refusal)
 
 -- what a stream has behind what it had: just the text, or, if it has failed, a beginning of it
 abbrev pub Takes : Bool → Option (List ℕ) → Option (List ℕ) → List ℕ → Type 0
 Takes false old new text = Appends old new text
 Takes true old new text = TakesBeginning old new text
 
--- the program left this status, on each stream just the text of the message for it, unless the stream failed, and nothing on a
--- stream that its end has no message for
-pub record Leaves (ending : Ending) (status : ℕ) (output output' : Option (List ℕ)) (output_failed : Bool) (errors errors' : Option (List ℕ)) (errors_failed : Bool) : Type 0 where
-  pub status_is : status ≡ ending.status
-  pub output_takes : Takes output_failed output output' (message_text ending.output)
-  pub errors_take : Takes errors_failed errors errors' (message_text ending.errors)
-  pub output_is : ending.output ≡ Nothing → output' ≡ output
-  pub errors_are : ending.errors ≡ Nothing → errors' ≡ errors
+-- the status after an outcome, and what standard error has then: nothing more after status 0, and the line of the refusal after 1
+abbrev pub EndsAs : Result ℕ ProgramFault → ℕ → Bool → Option (List ℕ) → Option (List ℕ) → Type 0
+EndsAs (Ok lines) status failed errors errors' = (status ≡ 0) × (errors' ≡ errors)
+EndsAs (Err fault) status failed errors errors' = (status ≡ 1) × Takes failed errors errors' (error_line (refusal_of fault))

@@ -1,42 +1,39 @@
 //! What the program does over the devices that it is given: a script's run over a fresh world, with the trace of it behind
 //! the report if one is asked for, and a script's run over the run of a trace.
 
-ghost use Rattle.std.specs.Prelude.{◌≡◌, ◌≤◌, ℕ, false, IfOk, IfErr, IfSome};
+ghost use Rattle.std.specs.Prelude.{◌≡◌, ℕ, false, IfOk, IfErr, IfSome};
 ghost use Rattle.rd_trace.specs.Traces.{ring_length};
-ghost use Rattle.rd_trace.specs.Writing.{IsTextOf};
 ghost use Rattle.rd_trace.specs.Loading.{any_ring, any_state, fresh_state};
 ghost use Rattle.rd_trace.specs.Devices.{devices};
-ghost use Rattle.rd_program.specs.Program.{IsUnread, PlaysScript, ResumesTrace, RunsOver, WritesIf};
+ghost use Rattle.rd_program.specs.Program.{IsUnread, PlaysScript, ResumesTrace, WritesIf};
 
 use super::faults::ProgramFault;
+use super::setups::Setup;
 use rd_script::{Sink, Source};
-use rd_trace::{AnyBook, Ring, load_trace};
+use rd_trace::{AnyBook, WriteTraceFault, load_trace};
 use std::alloc::Global;
 use std::io::{ErrorKind, Read};
 
-/// Runs a script over the fresh world of so many actors, 1 to 16, and rings of this length, and writes its report. If the
-/// trace is asked for, it follows the report of a run that came to its end. Answers the number of the script's lines.
+/// Runs a script over a fresh world and writes its report. If the trace is asked for, it follows the report of a run that came to
+/// its end. Answers the number of the script's lines.
 ///
 /// # Errors
 ///
-/// `NoMemory` if the world was refused its memory: neither device was touched; or if the trace was: the report was written,
-/// and nothing behind it. `Read` and `Write` as the run of a script; `Write` also if the writer failed in the trace.
+/// `NoMemory` if the world was refused its memory: neither device was touched. `Script` as the run of a script. `Trace` if the trace
+/// was refused its memory: the report was written, and nothing behind it; or if the writer failed in the trace.
 pub fn play<S: Source, K: Sink>(
     alloc: Global,
     reader: &mut S,
     writer: &mut K,
-    actors: u8,
-    ring: Ring,
+    setup: Setup,
     trace: bool,
 ) -> Result<u64, ProgramFault>
     requires reader_works { S.has_failed reader.old ≡ false }
     requires writer_works { K.has_failed writer.old ≡ false }
-    requires some { 1 ≤ actors }
-    requires few { actors ≤ 16 }
-    ensures plays { PlaysScript (ring_length ring) actors trace
+    ensures plays { PlaysScript (ring_length setup.ring) setup.actors trace
         (devices S.Source K.Sink reader.old reader.new writer.old writer.new) result }
 {
-    let Ok(mut book) = AnyBook::fresh(alloc, ring, actors) else {
+    let Ok(mut book) = AnyBook::fresh(alloc, setup.ring, setup.actors) else {
         return Err(ProgramFault::NoMemory);
     };
     play_over(alloc, reader, writer, &mut book, trace)
@@ -66,13 +63,13 @@ fn write_if<K: Sink>(
     writer: &mut K,
     book: &AnyBook,
     trace: bool,
-) -> Result<(), ProgramFault>
+) -> Result<(), WriteTraceFault>
     requires { K.has_failed writer.old ≡ false }
-    ensures { WritesIf trace (IsTextOf (any_ring book.now) (any_state book.now))
+    ensures { WritesIf trace (any_ring book.now) (any_state book.now)
         (K.contents writer.old) (K.contents writer.new) (K.has_failed writer.new) result }
 {
     if trace {
-        book.write_trace(alloc, writer)?;
+        return book.write_trace(alloc, writer);
     }
     Ok(())
 }
@@ -82,8 +79,7 @@ fn write_if<K: Sink>(
 ///
 /// # Errors
 ///
-/// `BadTrace`, `Flawed`, `TraceMark`, `TraceStep` and `NoMemory` as the loading of a trace: neither device was touched.
-/// `Read` and `Write` as the run of a script.
+/// `Load` as the loading of a trace: neither device was touched. `Script` as the run of a script.
 pub fn resume<S: Source, K: Sink>(
     alloc: Global,
     text: &[u8],
@@ -96,20 +92,6 @@ pub fn resume<S: Source, K: Sink>(
         (devices S.Source K.Sink reader.old reader.new writer.old writer.new) result }
 {
     let mut book = load_trace(alloc, text)?;
-    run_over(reader, writer, &mut book)
-}
-
-/// Runs a script over a book, and writes its report. Answers the number of the script's lines.
-fn run_over<S: Source, K: Sink>(
-    reader: &mut S,
-    writer: &mut K,
-    book: &mut AnyBook,
-) -> Result<u64, ProgramFault>
-    requires reader_works { S.has_failed reader.old ≡ false }
-    requires writer_works { K.has_failed writer.old ≡ false }
-    ensures { RunsOver (any_ring book.old) (any_state book.old)
-        (devices S.Source K.Sink reader.old reader.new writer.old writer.new) result }
-{
     let lines = book.run(reader, writer)?;
     Ok(lines)
 }

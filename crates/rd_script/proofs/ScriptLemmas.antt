@@ -8,8 +8,7 @@ use Rattle.rd_script.specs.declared.reading.lines.Line.{Line}
 use Rattle.rd_script.specs.declared.faults.ScriptFault.{ScriptFault}
 use Rattle.std.specs.Result.{OnOk, OnErr, IsErrAnd}
 use Rattle.rd_script.specs.declared.devices.sinks.WriteFault.{WriteFault}
-use Rattle.rd_script.specs.declared.answers.LineAnswer.{LineAnswer}
-use Rattle.rd_script.specs.Replies.{text_of}
+use Rattle.rd_script.specs.Replies.{LineAnswer, text_of}
 use Rattle.rd_script.specs.Device.{TakesBeginning}
 use Rattle.rd_script.specs.Lines.{with_first_byte, lines_of, ended_lines_of, IsOneLine, ReadsLine, ReadsLast, ReadsPart}
 use Rattle.rd_script.specs.Answers.{Answered, AnswersLine}

@@ -1,10 +1,13 @@
 -- The number, the name and the data of each refusal.
 use Rattle.std.specs.Prelude.{ℕ, List, [], ◌++◌, codes}
 use Rattle.rd_step.specs.Prelude.{Refusal, NoActor, NotIdle, ActorIdle as Idle, NeedsChoice, NoChoice, CounterEnd, SegmentsEnd, ArrayEnd, TooLong, NothingToUndo, NothingToRedo, NoSuchStep, Depended, NoMark, MarkTaken, TooManyMarks, BadName, NotATake, NoSuchPlace, NoMemory}
+use Rattle.rd_step.specs.Parts.{flaw_number}
 use Rattle.rd_script.specs.declared.faults.LineFault.{LineFault}
 use Rattle.rd_script.specs.declared.faults.LineFault.TheVariants.{BadLine, LineTooLong, BadName as LineBadName}
 use Rattle.rd_script.specs.declared.faults.ScriptFault.{ScriptFault}
 use Rattle.rd_script.specs.declared.faults.ScriptFault.TheVariants.{Read, Write}
+use Rattle.rd_script.specs.declared.answers.AnyRefusal.{AnyRefusal}
+use Rattle.rd_script.specs.declared.answers.AnyRefusal.TheVariants.{Refused, Unread, Stopped, Flawed, HistoryFull, BadTrace, TraceStep, TicketsEnded, Busy, NotRecorded, TraceMark}
 use Rattle.rd_script.specs.Texts.{spaced_number}
 
 -- the number and the name of a refusal
@@ -51,3 +54,29 @@ fault_name LineBadName = codes "17 BadName"
 abbrev pub stop_name : ScriptFault → List ℕ
 stop_name Read = codes "24 Read"
 stop_name Write = codes "25 Write"
+
+-- which event of a trace was refused, and why
+abbrev pub trace_step_words : ℕ → Refusal → List ℕ
+trace_step_words step cause = codes "28 TraceStep" ++ spaced_number step ++ codes " cause " ++ refusal_words cause
+
+-- which event of which bookmark of a trace was refused, and why
+abbrev pub trace_mark_words : ℕ → ℕ → Refusal → List ℕ
+trace_mark_words mark step cause = codes "32 TraceMark" ++ spaced_number mark ++ spaced_number step ++ codes " cause " ++ refusal_words cause
+
+-- the ticket that is drawn next, and the one that is served
+abbrev pub busy_words : ℕ → ℕ → List ℕ
+busy_words next served = codes " next" ++ spaced_number next ++ codes " served" ++ spaced_number served
+
+-- the number, the name and the data of any refusal
+abbrev pub any_words : AnyRefusal → List ℕ
+any_words (Refused refusal) = refusal_words refusal
+any_words (Unread fault) = fault_name fault
+any_words (Stopped fault) = stop_name fault
+any_words (Flawed flaw) = codes "26 Flaw" ++ spaced_number (flaw_number flaw)
+any_words HistoryFull = codes "21 HistoryFull"
+any_words BadTrace = codes "27 BadTrace"
+any_words (TraceStep step cause) = trace_step_words step cause
+any_words TicketsEnded = codes "29 TicketsEnded"
+any_words (Busy next served) = codes "30 Busy" ++ busy_words next served
+any_words NotRecorded = codes "31 NotRecorded"
+any_words (TraceMark mark step cause) = trace_mark_words mark step cause

@@ -1,19 +1,17 @@
 -- The text of each answer: one line, ended by a line feed.
-use Rattle.std.specs.Prelude.{ℕ, List, [], ◌∷◌, ◌++◌, codes, Option, Some, None}
+use Rattle.std.specs.Prelude.{ℕ, List, [], ◌∷◌, ◌++◌, codes, Option, Some, None, Result, Ok, Err}
 use Rattle.std.specs.Fmt.{decimal}
-use Rattle.rd_step.specs.Prelude.{OpReply, Refusal}
-use Rattle.rd_step.specs.Parts.{flaw_number}
+use Rattle.rd_step.specs.Prelude.{OpReply}
 use Rattle.rd_origin.specs.declared.origins.Origin.{Origin as OriginOf}
 use Rattle.rd_marks.specs.Names.{bytes_of}
 use Rattle.rd_marks.specs.declared.replies.Reply.{Reply}
 use Rattle.rd_marks.specs.declared.replies.Reply.TheVariants.{Applied, At, Marked, Dropped, Marks, Mark, Same, Origin, Writer, Content, Actor, Step}
-use Rattle.rd_script.specs.declared.answers.LineAnswer.{LineAnswer}
-use Rattle.rd_script.specs.declared.answers.LineAnswer.TheVariants.{Reply as Replied, Refused, Unread, Stopped, Flawed, HistoryFull, BadTrace, TraceStep, TicketsEnded, Busy, NotRecorded, TraceMark}
+use Rattle.rd_script.specs.declared.answers.AnyRefusal.{AnyRefusal}
 use Rattle.rd_script.specs.Texts.{spaced_number, yes_or_no}
 use Rattle.rd_script.specs.Contents.{content_words}
 use Rattle.rd_script.specs.Actors.{actor_words}
 use Rattle.rd_script.specs.Steps.{reply_word, step_words}
-use Rattle.rd_script.specs.Refusals.{refusal_words, fault_name, stop_name}
+use Rattle.rd_script.specs.Refusals.{any_words}
 
 -- what the call replied that an event ended, behind a space, if it ended one
 abbrev pub event_reply : Option OpReply → List ℕ
@@ -50,37 +48,14 @@ reply_words (Content content) = codes "is " ++ content_words content
 reply_words (Actor actor) = actor_words actor
 reply_words (Step number entry) = step_words number entry
 
--- which event of a trace was refused, and why
-abbrev pub trace_step_words : ℕ → Refusal → List ℕ
-trace_step_words step cause = codes "28 TraceStep" ++ spaced_number step ++ codes " cause " ++ refusal_words cause
-
--- which event of which bookmark of a trace was refused, and why
-abbrev pub trace_mark_words : ℕ → ℕ → Refusal → List ℕ
-trace_mark_words mark step cause = codes "32 TraceMark" ++ spaced_number mark ++ spaced_number step ++ codes " cause " ++ refusal_words cause
-
--- the ticket that is drawn next, and the one that is served
-abbrev pub busy_words : ℕ → ℕ → List ℕ
-busy_words next served = codes " next" ++ spaced_number next ++ codes " served" ++ spaced_number served
-
--- the number, the name and the data of a refusal; a reply has none
-abbrev pub fault_words : LineAnswer → List ℕ
-fault_words (Refused refusal) = refusal_words refusal
-fault_words (Unread fault) = fault_name fault
-fault_words (Stopped fault) = stop_name fault
-fault_words (Flawed flaw) = codes "26 Flaw" ++ spaced_number (flaw_number flaw)
-fault_words HistoryFull = codes "21 HistoryFull"
-fault_words BadTrace = codes "27 BadTrace"
-fault_words (TraceStep step cause) = trace_step_words step cause
-fault_words TicketsEnded = codes "29 TicketsEnded"
-fault_words (Busy next served) = codes "30 Busy" ++ busy_words next served
-fault_words NotRecorded = codes "31 NotRecorded"
-fault_words (TraceMark mark step cause) = trace_mark_words mark step cause
-fault_words (Replied reply) = []
+-- the answer to one line: a reply, or a refusal
+abbrev pub LineAnswer : Type 0
+LineAnswer = Result Reply AnyRefusal
 
 -- the words of an answer
 abbrev pub words_of : LineAnswer → List ℕ
-words_of (Replied reply) = reply_words reply
-words_of answer = codes "refused " ++ fault_words answer
+words_of (Ok reply) = reply_words reply
+words_of (Err refusal) = codes "refused " ++ any_words refusal
 
 -- the line of an answer
 abbrev pub text_of : LineAnswer → List ℕ

@@ -3,13 +3,12 @@ use Rattle.std.specs.Prelude.{◌≡◌, ℕ, ◌+◌, ◌^◌, ◌≤◌, ◌�
 use Rattle.std.specs.Io.KnownBytes.{Consumes, Appends, IsAtEnd}
 use Rattle.rd_marks.specs.Books.{BookState}
 use Rattle.rd_script.specs.declared.devices.sinks.WriteFault.{WriteFault}
-use Rattle.rd_script.specs.declared.answers.LineAnswer.{LineAnswer}
 use Rattle.rd_script.specs.declared.faults.ScriptFault.{ScriptFault}
 use Rattle.rd_script.specs.declared.faults.ScriptFault.TheVariants.{Read, Write}
 use Rattle.rd_script.specs.Device.{IsBeginning, TakesBeginning}
 use Rattle.rd_script.specs.Lines.{lines_of, ended_lines_of}
 use Rattle.rd_script.specs.Answers.{Answered, AnswersLine}
-use Rattle.rd_script.specs.Replies.{text_of}
+use Rattle.rd_script.specs.Replies.{LineAnswer, text_of}
 
 -- an answer was written, or a beginning of it if the writer failed
 abbrev pub WritesAnswer : Option (List ℕ) → Option (List ℕ) → LineAnswer → Result (Unit {0}) WriteFault → Type 0

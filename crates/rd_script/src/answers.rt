@@ -1,20 +1,21 @@
-//! The answer to one line.
+//! The answer to one line, and any refusal that there is.
 
 use super::faults::{LineFault, ScriptFault};
 use rd_cell::Refusal;
 use rd_marks::Reply;
 use rd_step::Flaw;
 
-/// The answer to one line: a reply, or any refusal that there is.
+/// The answer to one line: a reply, or a refusal.
+pub type LineAnswer = Result<Reply, AnyRefusal>;
+
+/// Any refusal that there is: what has a number and a line of text.
 #[derive(Clone, Copy, Debug, PartialEq, Eq)]
-pub enum LineAnswer {
-    /// The command was obeyed.
-    Reply(Reply),
-    /// 1 to 20: the command was refused.
+pub enum AnyRefusal {
+    /// 1 to 20: a command was refused.
     Refused(Refusal),
-    /// 17, 22 or 23: the line spells no command.
+    /// 17, 22 or 23: a line spells no command.
     Unread(LineFault),
-    /// 24 or 25: a device failed, and the run stopped.
+    /// 24 or 25: a device failed, and a run stopped.
     Stopped(ScriptFault),
     /// 26: parts make no world.
     Flawed(Flaw),

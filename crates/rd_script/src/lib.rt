@@ -13,7 +13,7 @@ mod reading;
 mod script;
 mod writing;
 
-pub use answers::LineAnswer;
+pub use answers::{AnyRefusal, LineAnswer};
 pub use devices::sinks::{Sink, WriteFault, WriteSink, hand_over};
 pub use devices::sources::{ReadFault, ReadSource, Source};
 pub use faults::{LineFault, ScriptFault};

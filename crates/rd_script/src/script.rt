@@ -9,12 +9,12 @@ ghost use Rattle.rd_script.specs.Replies.{text_of};
 ghost use Rattle.rd_script.specs.Answers.{Answered, AnswersLine};
 ghost use Rattle.rd_script.specs.Script.{WritesAnswer, RunsScript};
 
-use super::answers::LineAnswer;
+use super::answers::{AnyRefusal, LineAnswer};
 use super::devices::sinks::{Sink, WriteFault, hand_over};
 use super::devices::sources::Source;
 use super::faults::ScriptFault;
 use super::reading::lines::{Line, Reading, next_line};
-use super::writing::lines::{set_refused, set_reply, set_text, set_unread};
+use super::writing::lines::{set_refused, set_reply, set_text};
 use super::writing::texts::Text;
 use rd_marks::Book;
 
@@ -84,9 +84,9 @@ fn answer_line<const R: usize>(book: &mut Book<R>, line: &Line, text: &mut Text)
     ensures start { (book_state book.new).session.start ≡ (book_state book.old).session.start }
 {
     match line.command() {
-        Err(fault) => set_unread(text, fault),
+        Err(fault) => set_refused(text, &AnyRefusal::Unread(fault)),
         Ok(command) => match book.obey(command) {
-            Err(refusal) => set_refused(text, refusal),
+            Err(refusal) => set_refused(text, &AnyRefusal::Refused(refusal)),
             Ok(reply) => set_reply(text, &reply),
         },
     }

@@ -39,7 +39,7 @@ fn line_is(rt: &impl Abort, answer: &LineAnswer, line: &str) {
 
 /// Compares the line of a reply with its text.
 fn reply_is(rt: &impl Abort, reply: Reply, line: &str) {
-    line_is(rt, &LineAnswer::Reply(reply), line);
+    line_is(rt, &Ok(reply), line);
 }
 
 /// Compares the line that shows each content with its text.

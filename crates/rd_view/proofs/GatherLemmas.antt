@@ -9,9 +9,8 @@ use Rattle.rd_view.specs.Viewing.{passes_of}
 -- one pair more
 pub one_pair_more : {A B : Type 0} (P : A → B → Type 0) (xs : List A) (ys : List B) (x : A) (y : B) → Pairs P xs ys → P x y → Pairs P (xs ++ x ∷ []) (ys ++ y ∷ [])
 one_pair_more P [] [] x y pairs p = (p, tt)
-one_pair_more P [] (b ∷ ys) x y pairs p = absurd pairs
-one_pair_more P (a ∷ xs) [] x y pairs p = absurd pairs
 one_pair_more P (a ∷ xs) (b ∷ ys) x y pairs p = (pairs.0, one_pair_more P xs ys x y pairs.1 p)
+one_pair_more P _ _ x y pairs p = absurd pairs
 
 -- the passes of one viewer more
 pub one_ran_more : {P : Type 0} (rans : List (Ran P)) (ran : Ran P) → passes_of (rans ++ ran ∷ []) ≡ passes_of rans ++ passes_of (ran ∷ [])
@@ -26,6 +25,5 @@ taken_with xs i x within is = ap (λ y. take i xs ++ y ∷ []) is ∙ sym (take-
 -- lists whose elements are in pairs are as long
 pub pairs_length : {A B : Type 0} (P : A → B → Type 0) (xs : List A) (ys : List B) → Pairs P xs ys → length xs ≡ length ys
 pairs_length P [] [] pairs = refl
-pairs_length P [] (y ∷ ys) pairs = absurd pairs
-pairs_length P (x ∷ xs) [] pairs = absurd pairs
 pairs_length P (x ∷ xs) (y ∷ ys) pairs = ap suc (pairs_length P xs ys pairs.1)
+pairs_length P _ _ pairs = absurd pairs

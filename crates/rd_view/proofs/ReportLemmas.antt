@@ -16,7 +16,7 @@ use Rattle.rd_marks.specs.declared.commands.Command.{Command}
 use Rattle.rd_marks.specs.declared.replies.Reply.{Reply}
 use Rattle.rd_desk.specs.declared.gates.DeskRefusal.{DeskRefusal}
 use Rattle.rd_script.specs.declared.faults.LineFault.{LineFault}
-use Rattle.rd_script.specs.declared.answers.LineAnswer.TheVariants.{Unread}
+use Rattle.rd_script.specs.declared.answers.AnyRefusal.TheVariants.{Unread}
 use Rattle.rd_script.specs.Replies.{text_of}
 use Rattle.rd_view.specs.Views.{WritesText, line_answer, report_text, viewer_text, view_text}
 
@@ -91,7 +91,7 @@ line_at xs i x within is = drop-cons xs i x within ∙ ap (λ y. y ∷ drop (suc
 
 module _ (said : List (Result Command LineFault)) (answers : List (Result (Result Reply Refusal) DeskRefusal)) (i asked : ℕ) (line : Result Command LineFault) (within : i < length said) (is : line ≡ get_or said i line) where
   -- the next line is at fault
-  pub fault_next : (fault : LineFault) → line ≡ Err fault → report_text (drop i said) (drop asked answers) ≡ text_of (Unread fault) ++ report_text (drop (i + 1) said) (drop asked answers)
+  pub fault_next : (fault : LineFault) → line ≡ Err fault → report_text (drop i said) (drop asked answers) ≡ text_of (Err (Unread fault)) ++ report_text (drop (i + 1) said) (drop asked answers)
   fault_next fault at = ap (λ xs. report_text xs (drop asked answers)) (line_at said i line within is ∙ ap (λ x. x ∷ drop (i + 1) said) at)
 
   -- the next line is a command, and there is an answer

@@ -6,7 +6,7 @@ use Rattle.rd_step.specs.Prelude.{Refusal}
 use Rattle.rd_lock.specs.declared.views.Recorded.{Ghosts}
 use Rattle.rd_lock.specs.declared.passes.Pass.{Pass}
 use Rattle.rd_lock.specs.Histories.{Every, named, numbers}
-use Rattle.rd_lock.specs.Locks.{number, own}
+use Rattle.rd_lock.specs.Locks.{number, own, seen}
 use Rattle.rd_marks.specs.Books.{BookState}
 use Rattle.rd_marks.specs.declared.books.Book.{Book}
 use Rattle.rd_marks.specs.declared.commands.Command.{Command}
@@ -21,10 +21,10 @@ use Rattle.rd_desk.specs.declared.viewers.Ran.{Ran}
 use Rattle.rd_desk.specs.declared.viewers.Ran.TheVariants.{Answered, NoMemory as NotStarted}
 use Rattle.rd_desk.specs.Asking.{IsTold, IsRefused}
 use Rattle.rd_desk.specs.Desks.{IsViewerOf, IsNewViewer, Tells, opened_state}
-use Rattle.rd_desk.specs.Histories.{entries}
+use Rattle.rd_desk.specs.Histories.{entries, entry}
 use Rattle.rd_desk.specs.Viewers.{Pairs, IsChain, IsRan}
 use Rattle.rd_script.specs.declared.faults.LineFault.{LineFault}
-use Rattle.rd_view.specs.Viewing.{commands_of, calls_of, passes_of, told_of, WasAnswered, AreAnswered}
+use Rattle.rd_view.specs.Viewing.{commands_of, calls_of, passes_of, told_of, IsSeen, WasAnswered, AreAnswered}
 
 -- no list is one with an element before it
 no_cons : {A : Type 0} (x : A) (xs : List A) → [] ≡ x ∷ xs → ⊥
@@ -52,16 +52,12 @@ module _ (R : ℕ) (K : Ghosts (BookWithHistory R) Call (Book R)) (opened : Book
   -- a refusal leaves number and own entries
   refused_same : (p q : ViewPass) (r : DeskRefusal) → IsRefused R opened p q r → (number q ≡ number p) × (own q ≡ own p)
   refused_same p q HistoryFull is = (is.0.same_number, is.0.same_own)
-  refused_same p q NotRecorded is = (is.0.same_number, is.0.same_own)
-  refused_same p q TicketsEnded is = (is.0.same_number, is.0.same_own)
-  refused_same p q (Busy words) is = (is.0.same_number, is.0.same_own)
+  refused_same p q _ is = (is.0.same_number, is.0.same_own)
 
   -- after a chain the pass has its number, and its own calls grew by those that were recorded
   pub chain_grew : (commands : List Command) (answers : List Answer) (p q : ViewPass) → IsChain told p commands answers q
       → (number q ≡ number p) × (map (λ e. e.1) (own q) ≡ map (λ e. e.1) (own p) ++ calls_of commands answers)
   chain_grew [] [] p q is = (ap number is, ap (λ x. map (λ e. e.1) (own x)) is ∙ sym (append-nil (map (λ e. e.1) (own p))))
-  chain_grew [] (answer ∷ answers) p q is = absurd is
-  chain_grew (c ∷ commands) [] p q is = absurd is
   chain_grew (c ∷ commands) (Ok answer ∷ answers) p q is =
       let more = chain_grew commands answers is.0 q is.2 in (
         more.0 ∙ is.1.same_number,
@@ -73,6 +69,36 @@ module _ (R : ℕ) (K : Ghosts (BookWithHistory R) Call (Book R)) (opened : Book
   chain_grew (c ∷ commands) (Err refusal ∷ answers) p q is =
       let more = chain_grew commands answers is.0 q is.2 in
       let same = refused_same p is.0 refusal is.1.0 in (more.0 ∙ same.0, more.1 ∙ ap (λ es. map (λ e. e.1) es ++ calls_of commands answers) same.1)
+  chain_grew _ _ p q is = absurd is
+
+  -- what a pass has seen after a call
+  is_seen : (viewer : ℕ) (command : Command) (answer : Answer) (p q : ViewPass) → number p ≡ viewer → told p command answer q → IsSeen R opened viewer (seen p) command answer (seen q)
+  is_seen viewer command (Ok answer) p q is asked = (
+    asked.between,
+    subst (λ n. seen q ≡ (seen p ++ asked.between) ++ entry n command answer ∷ []) is asked.has_seen,
+    asked.room,
+    asked.legal,
+  )
+  is_seen viewer command (Err HistoryFull) p q is found = (found.0.0.extends, found.0.0.legal, found.0.1)
+  is_seen viewer command (Err NotRecorded) p q is found = (found.0.0.extends, found.0.0.legal, found.0.1)
+  is_seen viewer command (Err TicketsEnded) p q is found = found.0.0.same_seen
+  is_seen viewer command (Err (Busy words)) p q is found = found.1
+
+  -- a call leaves the number of its pass
+  same_number : (command : Command) (answer : Answer) (p q : ViewPass) → told p command answer q → number q ≡ number p
+  same_number command (Ok answer) p q asked = asked.same_number
+  same_number command (Err refusal) p q found = (refused_same p q refusal found.0).0
+
+  -- and after a chain of calls
+  pub are_seen : (viewer : ℕ) (commands : List Command) (answers : List Answer) (p q : ViewPass) → number p ≡ viewer → IsChain told p commands answers q
+      → IsChain (IsSeen R opened viewer) (seen p) commands answers (seen q)
+  are_seen viewer [] [] p q is chain = ap seen chain
+  are_seen viewer (c ∷ commands) (answer ∷ answers) p q is chain = (
+    seen chain.0,
+    is_seen viewer c answer p chain.0 is chain.1,
+    are_seen viewer commands answers chain.0 q (same_number c answer p chain.0 chain.1 ∙ is) chain.2,
+  )
+  are_seen viewer _ _ p q is chain = absurd chain
 
 module _ (R : ℕ) (K : Ghosts (BookWithHistory R) Call (Book R)) (desk : Desk R) where
   -- the gate's relations of this desk
@@ -86,10 +112,9 @@ module _ (R : ℕ) (K : Ghosts (BookWithHistory R) Call (Book R)) (desk : Desk R
   pub own_passes : (work : List (Pass (BookWithHistory R) Call (Book R) K × Vec Command Global)) (rans : List (Ran (Pass (BookWithHistory R) Call (Book R) K)))
       → Pairs (IsRan takes tells) work rans → Every takes (passes_of rans)
   own_passes [] [] pairs = tt
-  own_passes [] (ran ∷ rans) pairs = absurd pairs
-  own_passes (viewer ∷ work) [] pairs = absurd pairs
   own_passes (viewer ∷ work) (Answered pass answers ∷ rans) pairs = (pairs.0.0, own_passes work rans pairs.1)
   own_passes (viewer ∷ work) (NotStarted ∷ rans) pairs = own_passes work rans pairs.1
+  own_passes _ _ pairs = absurd pairs
 
   -- new viewers may ask
   pub new_may_ask : (work : List (Pass (BookWithHistory R) Call (Book R) K × Vec Command Global)) → Every (IsNewViewer desk) (map (λ viewer. viewer.0) work) → Every (λ viewer. takes viewer.0) work
@@ -99,15 +124,14 @@ module _ (R : ℕ) (K : Ghosts (BookWithHistory R) Call (Book R)) (desk : Desk R
   -- what a started viewer was answered
   was_answered : (history : History) (n : ℕ) (first last : Pass (BookWithHistory R) Call (Book R) K) (commands : List Command) (answers : List Answer)
       → IsNewViewer desk first → number first ≡ n → IsChain tells first commands answers last → Tells history last
-      → WasAnswered R K (opened_state desk) (entries history) n commands answers
+      → WasAnswered R (opened_state desk) (entries history) n commands answers
   was_answered history n first last commands answers new is chain knows =
       let grew = chain_grew R K (opened_state desk) commands answers first last chain in
       record {
-        first = first;
-        last = last;
-        numbered = is;
-        is_new = (new.has_seen, new.has_own);
-        chain = chain;
+        seen = seen last;
+        chain =
+            subst (λ before. IsChain (IsSeen R (opened_state desk) n) before commands answers (seen last)) new.has_seen
+            (are_seen R K (opened_state desk) n commands answers first last is chain);
         extends = knows.0;
         calls =
             ap (λ k. map (λ e. e.1) (named k 0 (entries history))) (sym (grew.0 ∙ is)) ∙ ap (λ es. map (λ e. e.1) es) (sym knows.1) ∙ grew.1
@@ -118,14 +142,14 @@ module _ (R : ℕ) (K : Ghosts (BookWithHistory R) Call (Book R)) (desk : Desk R
   pub all_answered : (history : History) (n : ℕ) (work : List (Pass (BookWithHistory R) Call (Book R) K × Vec Command Global)) (rans : List (Ran (Pass (BookWithHistory R) Call (Book R) K)))
       (said : List (Vec (Result Command LineFault) Global)) → Pairs (IsRan takes tells) work rans → Every (IsNewViewer desk) (map (λ viewer. viewer.0) work)
       → map number (map (λ viewer. viewer.0) work) ≡ numbers n (length work) → map (λ viewer. viewer.1.items) work ≡ map (λ lines. commands_of lines.items) said
-      → Every (Tells history) (passes_of rans) → AreAnswered R K (opened_state desk) (entries history) n said (map told_of rans)
+      → Every (Tells history) (passes_of rans) → AreAnswered R (opened_state desk) (entries history) n said (map told_of rans)
   all_answered history n [] [] [] pairs new is read knows = tt
   all_answered history n [] [] (lines ∷ said) pairs new is read knows = absurd (no_cons _ _ read)
   all_answered history n [] (ran ∷ rans) said pairs new is read knows = absurd pairs
   all_answered history n (viewer ∷ work) [] said pairs new is read knows = absurd pairs
   all_answered history n (viewer ∷ work) (ran ∷ rans) [] pairs new is read knows = absurd (no_cons _ _ (sym read))
   all_answered history n (viewer ∷ work) (Answered pass answers ∷ rans) (lines ∷ said) pairs new is read knows = (
-    subst (λ commands. WasAnswered R K (opened_state desk) (entries history) n commands answers.items) (head_same _ _ _ _ read)
+    subst (λ commands. WasAnswered R (opened_state desk) (entries history) n commands answers.items) (head_same _ _ _ _ read)
         (was_answered history n viewer.0 pass viewer.1.items answers.items new.0 (head_same _ _ _ _ is) pairs.0.1 knows.0),
     all_answered history (suc n) work rans said pairs.1 new.1 (tail_same _ _ _ _ is) (tail_same _ _ _ _ read) knows.1,
   )

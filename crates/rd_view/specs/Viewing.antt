@@ -1,5 +1,5 @@
 -- A view: what each viewer was told, and how that stands to the history that all of them made.
-use Rattle.std.specs.Prelude.{◌≡◌, ℕ, suc, ◌<◌, Bool, true, false, List, [], ◌∷◌, Option, Some, None, Result, Ok, Err, Vec, length, map}
+use Rattle.std.specs.Prelude.{◌≡◌, ℕ, suc, ◌<◌, Bool, true, false, List, [], ◌∷◌, ◌++◌, Option, Some, None, Result, Ok, Err, Vec, length, map}
 use Rattle.std.specs.Global.{Global}
 use Rattle.std.specs.Io.KnownBytes.{Appends}
 use Rattle.rd_step.specs.Prelude.{Refusal}
@@ -7,19 +7,15 @@ use Rattle.rd_marks.specs.Books.{BookState}
 use Rattle.rd_marks.specs.declared.commands.Command.{Command}
 use Rattle.rd_marks.specs.declared.replies.Reply.{Reply}
 use mathlib.Core.List.{IsPrefix}
-use Rattle.rd_lock.specs.declared.views.Recorded.{Ghosts}
-use Rattle.rd_lock.specs.declared.passes.Pass.{Pass}
 use Rattle.rd_lock.specs.Histories.{named, NamesUpTo}
-use Rattle.rd_lock.specs.Locks.{number, seen, own}
-use Rattle.rd_marks.specs.declared.books.Book.{Book}
 use Rattle.rd_desk.specs.declared.gates.DeskRefusal.{DeskRefusal}
-use Rattle.rd_desk.specs.declared.recording.BookWithHistory.{BookWithHistory}
+use Rattle.rd_desk.specs.declared.gates.DeskRefusal.TheVariants.{HistoryFull, NotRecorded, TicketsEnded, Busy}
 use Rattle.rd_desk.specs.declared.histories.Call.{Call}
 use Rattle.rd_desk.specs.declared.histories.History.{History}
 use Rattle.rd_desk.specs.declared.viewers.Ran.{Ran}
 use Rattle.rd_desk.specs.declared.viewers.Ran.TheVariants.{Answered, NoMemory as NotStarted}
-use Rattle.rd_desk.specs.Histories.{entries, IsLegal}
-use Rattle.rd_desk.specs.Asking.{IsTold}
+use Rattle.rd_desk.specs.declared.histories.TheConstants.{MOST_CALLS}
+use Rattle.rd_desk.specs.Histories.{entries, entry, IsLegal, IsUnrecorded}
 use Rattle.rd_desk.specs.Viewers.{Pairs, IsChain}
 use Rattle.rd_script.specs.declared.faults.LineFault.{LineFault}
 use Rattle.rd_script.specs.Device.{TakesBeginning}
@@ -62,16 +58,25 @@ abbrev pub told_of : {P : Type 0} → Ran P → Option (Vec (Result (Result Repl
 told_of (Answered pass answers) = Some answers
 told_of NotStarted = None
 
-module _ (R : ℕ) (K : Ghosts (BookWithHistory R) Call (Book R)) (opened : BookState) (history : List (ℕ × Call)) where
-  -- The viewer of this number was asked these commands, one after another, each with the pass as the one before left it, and was
-  -- answered so. The history begins with all that it has seen then, and has as its calls, in order, just those that were recorded.
+module _ (R : ℕ) (opened : BookState) (viewer : ℕ) where
+  -- The viewer of this number, which had seen the old history, is answered this, and has seen the new one then: it begins with the old
+  -- one and is a legal history of the book that was opened. It ends with just this call; or the call is not recorded, since the history
+  -- that was found is full or was refused its memory; or no more tickets can be drawn, and nothing was found.
+  abbrev pub IsSeen : List (ℕ × Call) → Command → Result (Result Reply Refusal) DeskRefusal → List (ℕ × Call) → Type 0
+  IsSeen old command (Ok answer) new =
+      (between : List (ℕ × Call)) × (new ≡ (old ++ between) ++ entry viewer command answer ∷ []) × (length (old ++ between) < MOST_CALLS) × IsLegal R opened new
+  IsSeen old command (Err HistoryFull) new = IsPrefix old new × IsLegal R opened new × IsUnrecorded new HistoryFull
+  IsSeen old command (Err NotRecorded) new = IsPrefix old new × IsLegal R opened new × IsUnrecorded new NotRecorded
+  IsSeen old command (Err TicketsEnded) new = new ≡ old
+  IsSeen old command (Err (Busy words)) new = ⊥
+
+module _ (R : ℕ) (opened : BookState) (history : List (ℕ × Call)) where
+  -- The viewer of this number was asked these commands, one after another, and was answered so. The history begins with all that it
+  -- has seen then, and has as its calls, in order, just those that were recorded.
   pub record WasAnswered (viewer : ℕ) (commands : List Command) (answers : List (Result (Result Reply Refusal) DeskRefusal)) : Type 0 where
-    pub first : Pass (BookWithHistory R) Call (Book R) K
-    pub last : Pass (BookWithHistory R) Call (Book R) K
-    pub numbered : number first ≡ viewer
-    pub is_new : (seen first ≡ []) × (own first ≡ [])
-    pub chain : IsChain (λ pass command answer after. IsTold R opened pass after command answer) first commands answers last
-    pub extends : IsPrefix (seen last) history
+    pub seen : List (ℕ × Call)
+    pub chain : IsChain (IsSeen R opened viewer) [] commands answers seen
+    pub extends : IsPrefix seen history
     pub calls : map (λ e. e.1) (named viewer 0 history) ≡ calls_of commands answers
 
   -- a viewer was answered so, or it was not started
@@ -86,11 +91,11 @@ module _ (R : ℕ) (K : Ghosts (BookWithHistory R) Call (Book R)) (opened : Book
   AreAnswered viewer [] (told ∷ more) = ⊥
   AreAnswered viewer (said ∷ others) [] = ⊥
 
-module _ (R : ℕ) (K : Ghosts (BookWithHistory R) Call (Book R)) (opened : BookState) where
+module _ (R : ℕ) (opened : BookState) where
   -- The history is legal from the book that was opened, each of its entries names one of the viewers of these lines, and these were
   -- told so.
   abbrev pub IsViewed : List (Vec (Result Command LineFault) Global) → List (Option (Vec (Result (Result Reply Refusal) DeskRefusal) Global)) → List (ℕ × Call) → Type 0
-  IsViewed said told history = IsLegal R opened history × NamesUpTo (length said) history × AreAnswered R K opened history 1 said told
+  IsViewed said told history = IsLegal R opened history × NamesUpTo (length said) history × AreAnswered R opened history 1 said told
 
   -- what the lines of the scripts say, what the viewers were told, and the history
   pub record Views (scripts : List (Vec ℕ Global)) (history : List (ℕ × Call)) : Type 0 where

@@ -7,14 +7,13 @@ use Rattle.rd_marks.specs.declared.commands.Command.{Command}
 use Rattle.rd_marks.specs.declared.replies.Reply.{Reply}
 use Rattle.rd_desk.specs.declared.gates.DeskRefusal.{DeskRefusal}
 use Rattle.rd_desk.specs.declared.gates.DeskRefusal.TheVariants as desk
-use Rattle.rd_script.specs.declared.answers.LineAnswer.{LineAnswer}
-use Rattle.rd_script.specs.declared.answers.LineAnswer.TheVariants.{Reply as Replied, Refused, Unread, HistoryFull, TicketsEnded, Busy, NotRecorded}
+use Rattle.rd_script.specs.declared.answers.AnyRefusal.TheVariants.{Refused, Unread, HistoryFull, TicketsEnded, Busy, NotRecorded}
 use Rattle.rd_script.specs.declared.devices.sinks.WriteFault.{WriteFault}
 use Rattle.rd_script.specs.declared.faults.LineFault.{LineFault}
 use Rattle.rd_script.specs.declared.writing.headings.Heading.TheVariants.{Viewer, History}
 use Rattle.rd_script.specs.Device.{TakesBeginning}
 use Rattle.rd_script.specs.Headings.{heading_text}
-use Rattle.rd_script.specs.Replies.{text_of}
+use Rattle.rd_script.specs.Replies.{LineAnswer, text_of}
 
 -- a sink took the whole of a text and works, or it took a beginning of it and has failed
 abbrev pub WritesText : Option (List ℕ) → Option (List ℕ) → Bool → List ℕ → Result (Unit {0}) WriteFault → Type 0
@@ -23,24 +22,24 @@ WritesText old new failed text (Err _) = TakesBeginning old new text × (failed 
 
 -- what the desk answered, as the answer to a line
 abbrev pub line_answer : Result (Result Reply Refusal) DeskRefusal → LineAnswer
-line_answer (Ok (Ok reply)) = Replied reply
-line_answer (Ok (Err refusal)) = Refused refusal
-line_answer (Err desk.HistoryFull) = HistoryFull
-line_answer (Err desk.NotRecorded) = NotRecorded
-line_answer (Err desk.TicketsEnded) = TicketsEnded
-line_answer (Err (desk.Busy words)) = Busy words.next words.served
+line_answer (Ok (Ok reply)) = Ok reply
+line_answer (Ok (Err refusal)) = Err (Refused refusal)
+line_answer (Err desk.HistoryFull) = Err HistoryFull
+line_answer (Err desk.NotRecorded) = Err NotRecorded
+line_answer (Err desk.TicketsEnded) = Err TicketsEnded
+line_answer (Err (desk.Busy words)) = Err (Busy words.next words.served)
 
 -- what the lines of a script were answered, line by line: a fault by itself, each command by the next answer
 abbrev pub report_text : List (Result Command LineFault) → List (Result (Result Reply Refusal) DeskRefusal) → List ℕ
 report_text [] answers = []
-report_text (Err fault ∷ said) answers = text_of (Unread fault) ++ report_text said answers
+report_text (Err fault ∷ said) answers = text_of (Err (Unread fault)) ++ report_text said answers
 report_text (Ok command ∷ said) (answer ∷ answers) = text_of (line_answer answer) ++ report_text said answers
 report_text (Ok command ∷ said) [] = []
 
 -- the lines of a viewer: it was asked, or it was not started for want of memory
 abbrev pub replies_text : List (Result Command LineFault) → Option (Vec (Result (Result Reply Refusal) DeskRefusal) Global) → List ℕ
 replies_text said (Some answers) = report_text said answers.items
-replies_text said None = text_of (Refused NoMemory)
+replies_text said None = text_of (Err (Refused NoMemory))
 
 -- a viewer's heading and its lines
 abbrev pub viewer_text : ℕ → List (Result Command LineFault) → Option (Vec (Result (Result Reply Refusal) DeskRefusal) Global) → List ℕ

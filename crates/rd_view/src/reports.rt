@@ -6,7 +6,9 @@ ghost use Rattle.rd_view.specs.Views.{WritesText, line_answer, report_text, view
 use rd_cell::Refusal;
 use rd_desk::{Answer, DeskRefusal};
 use rd_marks::Command;
-use rd_script::{Heading, LineAnswer, LineFault, Sink, WriteFault, write_answer, write_heading};
+use rd_script::{
+    AnyRefusal, Heading, LineAnswer, LineFault, Sink, WriteFault, write_answer, write_heading,
+};
 
 /// What a line of a script says: a command, or a fault.
 pub type Said = Result<Command, LineFault>;
@@ -48,7 +50,7 @@ fn write_viewer<K: Sink>(
     write_heading(writer, Heading::Viewer(number))?;
     match told {
         Some(answers) => write_report(writer, said, answers.as_slice()),
-        None => write_answer(writer, &LineAnswer::Refused(Refusal::NoMemory)),
+        None => write_answer(writer, &Err(AnyRefusal::Refused(Refusal::NoMemory))),
     }
 }
 
@@ -65,7 +67,7 @@ fn write_report<K: Sink>(
     let mut asked = 0;
     for line in said {
         let answer = match line {
-            Err(fault) => LineAnswer::Unread(*fault),
+            Err(fault) => Err(AnyRefusal::Unread(*fault)),
             Ok(_) => {
                 let Some(answer) = answers.get(asked) else {
                     return Ok(());
@@ -84,14 +86,14 @@ fn line_answer(answer: &Answer) -> LineAnswer
     ensures { result ≡ line_answer answer.now }
 {
     match *answer {
-        Ok(Ok(reply)) => LineAnswer::Reply(reply),
-        Ok(Err(refusal)) => LineAnswer::Refused(refusal),
-        Err(DeskRefusal::HistoryFull) => LineAnswer::HistoryFull,
-        Err(DeskRefusal::NotRecorded) => LineAnswer::NotRecorded,
-        Err(DeskRefusal::TicketsEnded) => LineAnswer::TicketsEnded,
-        Err(DeskRefusal::Busy(words)) => LineAnswer::Busy {
+        Ok(Ok(reply)) => Ok(reply),
+        Ok(Err(refusal)) => Err(AnyRefusal::Refused(refusal)),
+        Err(DeskRefusal::HistoryFull) => Err(AnyRefusal::HistoryFull),
+        Err(DeskRefusal::NotRecorded) => Err(AnyRefusal::NotRecorded),
+        Err(DeskRefusal::TicketsEnded) => Err(AnyRefusal::TicketsEnded),
+        Err(DeskRefusal::Busy(words)) => Err(AnyRefusal::Busy {
             next: words.next,
             served: words.served,
-        },
+        }),
     }
 }

@@ -5,14 +5,14 @@
 
 ghost use Rattle.std.specs.Prelude.{◌≡◌, ◌≤◌, false, length, map, IfOk, IfErr};
 ghost use Rattle.rd_marks.specs.BookViews.{book_state};
+ghost use Rattle.rd_desk.specs.declared.desks.TheConstants.{MOST_VIEWERS};
 ghost use Rattle.rd_desk.specs.Histories.{entries};
 ghost use Rattle.rd_view.specs.Viewing.{AreRead, IsUnviewed, IsViewed, ViewsScripts, commands_of, passes_of, told_of};
 
 use super::faults::ViewFault;
 use super::reports::Said;
 use super::texts::text_of_view;
-use rd_desk::{Answer, BookWithHistory, Desk, DeskPass, History, Ran, run_viewers};
-use rd_lock::Recorded;
+use rd_desk::{Answer, Desk, DeskPass, History, Ran, run_viewers};
 use rd_marks::{Book, Command};
 use rd_script::{Sink, hand_over, lines};
 use std::alloc::{AllocError, Global};
@@ -37,9 +37,9 @@ pub fn view_scripts<R: Threads + Wait + Sync, K: Sink, const N: usize>(
     book: Book<N>,
 ) -> Result<History, ViewFault>
     requires some { 1 ≤ length scripts.now }
-    requires few { length scripts.now ≤ 64 }
+    requires few { length scripts.now ≤ MOST_VIEWERS }
     requires works { K.has_failed writer.old ≡ false }
-    ensures views { ViewsScripts N ⟦<BookWithHistory<N> as Recorded>⟧ (book_state book.entry) scripts.now
+    ensures views { ViewsScripts N (book_state book.entry) scripts.now
         (K.contents writer.old) (K.contents writer.new) (K.has_failed writer.new) result }
 {
     let said = lines_of_all(alloc, scripts)?;
@@ -71,8 +71,8 @@ fn viewed<R: Threads + Wait + Sync, const N: usize>(
     book: Book<N>,
 ) -> Result<(Told, History), ViewFault>
     requires some { 1 ≤ length said.now }
-    requires few { length said.now ≤ 64 }
-    ensures ok { IfOk result (λ done. IsViewed N ⟦<BookWithHistory<N> as Recorded>⟧ (book_state book.entry) said.now done.0.items (entries done.1)) }
+    requires few { length said.now ≤ MOST_VIEWERS }
+    ensures ok { IfOk result (λ done. IsViewed N (book_state book.entry) said.now done.0.items (entries done.1)) }
     ensures err { IfErr result IsUnviewed }
 {
     let Ok((desk, passes)) = Desk::open(alloc, book, said.len() as u64) else {

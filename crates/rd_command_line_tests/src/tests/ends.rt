@@ -1,10 +1,10 @@
 //! How the program ends where its words give no options.
 
-use rd_command_line::{OptionsFault, fault_of, not_text, perform};
-use rd_program::ProgramFault;
+use rd_command_line::{OptionsFault, Outcome, not_text, perform};
 use rd_script::{ReadSource, WriteSink};
 use std::alloc::Global;
 use std::fs::Files;
+use std::io;
 use std::process::ExitCode;
 use std::sync::Wait;
 use std::test::Fail;
@@ -25,11 +25,11 @@ struct Left {
 fn left_after<R: Files + Threads + Wait + Sync>(
     rt: &R,
     alloc: Global,
-    words: Result<&[&str], ProgramFault>,
+    words: Result<&[&str], Outcome>,
 ) -> Result<Left, Fail> {
     let words = match words {
         Ok(words) => Ok(Vec::from_slice(alloc, words)?),
-        Err(fault) => Err(fault),
+        Err(outcome) => Err(outcome),
     };
     let mut output = Vec::new(alloc);
     let mut errors = Vec::new(alloc);
@@ -88,8 +88,8 @@ fn a_mistake_goes_to_standard_error_with_status_2(rt: HostRuntime) -> Result<(),
 
 #[test]
 fn a_word_that_is_no_text_is_a_mistake(rt: HostRuntime) -> Result<(), Fail> {
-    let fault = fault_of(rt.alloc(), not_text(rt.alloc()));
-    let left = left_after(&rt, rt.alloc(), Err(fault))?;
+    let outcome = Outcome::of(rt.alloc(), not_text(rt.alloc()));
+    let left = left_after(&rt, rt.alloc(), Err(outcome))?;
     let text = "error: invalid UTF-8 was detected in one or more arguments\n";
     assert_eq!(rt; left.status, ExitCode::from(2));
     assert!(rt; left.output.is_empty());
@@ -99,8 +99,8 @@ fn a_word_that_is_no_text_is_a_mistake(rt: HostRuntime) -> Result<(), Fail> {
 
 #[test]
 fn a_command_line_that_is_refused_memory_ends_with_status_1(rt: HostRuntime) -> Result<(), Fail> {
-    let fault = fault_of(rt.alloc(), OptionsFault::NoMemory);
-    let left = left_after(&rt, rt.alloc(), Err(fault))?;
+    let outcome = Outcome::of(rt.alloc(), OptionsFault::NoMemory);
+    let left = left_after(&rt, rt.alloc(), Err(outcome))?;
     assert_eq!(rt; left.status, ExitCode::FAILURE);
     assert_eq!(rt;
         left.errors.as_slice(),
@@ -126,6 +126,37 @@ fn a_view_of_missing_files_leaves_the_output(rt: HostRuntime) -> Result<(), Fail
         assert_eq!(rt; left.status, ExitCode::from(status), "{files}");
         assert!(rt; left.output.is_empty(), "{files}");
         assert_eq!(rt; left.errors.as_slice(), errors.as_bytes(), "{files}");
+    }
+    Ok(())
+}
+
+/// Fails at each write.
+#[derive(Drop)]
+struct BrokenWriter;
+
+impl io::Write for BrokenWriter {
+    fn write(&mut self, _buf: &[u8]) -> io::Result<usize> {
+        Err(io::Error::from(io::ErrorKind::BrokenPipe))
+    }
+
+    fn flush(&mut self) -> io::Result<()> {
+        Err(io::Error::from(io::ErrorKind::BrokenPipe))
+    }
+}
+
+#[test]
+fn a_stream_that_fails_leaves_the_status(rt: HostRuntime) -> Result<(), Fail> {
+    for (words, status) in [(["lcrqdb", "--help"], 0), (["lcrqdb", "walk"], 2)] {
+        let words = Vec::from_slice(rt.alloc(), &words)?;
+        let left = perform(
+            &rt,
+            rt.alloc(),
+            Ok(words),
+            &mut ReadSource::new(b"".as_slice()),
+            &mut WriteSink::new(BrokenWriter),
+            &mut WriteSink::new(BrokenWriter),
+        );
+        assert_eq!(rt; left, ExitCode::from(status));
     }
     Ok(())
 }

@@ -4,6 +4,7 @@ use rd_cell::Refusal;
 use rd_program::{ProgramFault, resume, whole_text};
 use rd_script::{ReadSource, WriteSink};
 use rd_step::Flaw;
+use rd_trace::LoadTraceFault;
 use std::alloc::Global;
 use std::io;
 use std::process::Abort;
@@ -59,7 +60,7 @@ fn the_ring_and_the_actors_are_those_of_the_trace(rt: HostRuntime) {
 #[test]
 fn a_text_that_is_no_trace_runs_no_script(rt: HostRuntime) {
     let lines = loaded(&rt, rt.alloc(), "{\"actors\":4,\"ev", "len\n", "");
-    assert!(rt; matches!(lines, Err(ProgramFault::BadTrace)));
+    assert!(rt; matches!(lines, Err(ProgramFault::Load(LoadTraceFault::BadTrace))));
 }
 
 #[test]
@@ -70,10 +71,10 @@ fn a_trace_with_a_refused_event_runs_no_script(rt: HostRuntime) {
     assert!(rt;
         matches!(
             lines,
-            Err(ProgramFault::TraceStep {
+            Err(ProgramFault::Load(LoadTraceFault::TraceStep {
                 step: 3,
                 cause: Refusal::NoChoice
-            })
+            }))
         )
     );
 }
@@ -135,11 +136,11 @@ fn a_trace_with_a_refused_event_of_a_bookmark_runs_no_script(rt: HostRuntime) ->
     assert!(rt;
         matches!(
             lines,
-            Err(ProgramFault::TraceMark {
+            Err(ProgramFault::Load(LoadTraceFault::TraceMark {
                 mark: 1,
                 step: 1,
                 cause: Refusal::Idle
-            })
+            }))
         )
     );
     Ok(())
@@ -151,6 +152,11 @@ fn a_trace_with_a_flawed_start_runs_no_script(rt: HostRuntime) -> Result<(), Fai
         "{\"actors\":[],\"array\":{\"cells\":[],\"head\":0,\"tail\":0},\"qhead\":[0,0],\"qtail\":[0,0],\"segments\":[]}";
     let trace = second_trace(rt.alloc(), "", start)?;
     let lines = loaded(&rt, rt.alloc(), &trace, "len\n", "");
-    assert!(rt; matches!(lines, Err(ProgramFault::Flawed(Flaw::Makers))));
+    assert!(rt;
+        matches!(
+            lines,
+            Err(ProgramFault::Load(LoadTraceFault::Flawed(Flaw::Makers)))
+        )
+    );
     Ok(())
 }

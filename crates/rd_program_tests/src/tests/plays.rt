@@ -1,6 +1,6 @@
 //! Scripts as the program runs them: over the fresh world of the options' actors and ring.
 
-use rd_program::play;
+use rd_program::{Setup, play};
 use rd_script::{ReadSource, WriteSink};
 use rd_trace::Ring;
 use std::alloc::Global;
@@ -26,8 +26,10 @@ fn reports_are(rt: &impl Abort, alloc: Global, plays: &[Play]) {
             alloc,
             &mut ReadSource::new(shown.script.as_bytes()),
             &mut WriteSink::new(&mut written),
-            actors,
-            shown.ring,
+            Setup {
+                actors,
+                ring: shown.ring,
+            },
             shown.trace,
         );
         let script = shown.script;

@@ -1,8 +1,9 @@
 //! Views: several scripts over one fresh world, of the options' actors and ring.
 
-use rd_program::{ProgramFault, view};
+use rd_program::{ProgramFault, Setup, view};
 use rd_script::WriteSink;
 use rd_trace::Ring;
+use rd_view::ViewFault;
 use std::alloc::{AllocError, Global};
 use std::io;
 use std::process::Abort;
@@ -41,7 +42,11 @@ fn view_is<R: Threads + Wait + Abort + Sync>(
     assert!(rt; 1 <= scripts.len() && scripts.len() <= 64);
     let mut written = Vec::new(alloc);
     let sink = &mut WriteSink::new(&mut written);
-    let viewed = view(rt, alloc, scripts.as_slice(), sink, actors, shown.ring);
+    let setup = Setup {
+        actors,
+        ring: shown.ring,
+    };
+    let viewed = view(rt, alloc, scripts.as_slice(), sink, setup);
     assert_eq!(rt; written.as_slice(), shown.text.as_bytes());
     assert!(rt; matches!(viewed, Ok(n) if n == shown.calls));
     Ok(())
@@ -110,7 +115,11 @@ fn there_may_be_64_viewers(rt: HostRuntime) -> Result<(), Fail> {
     assert!(rt; scripts.len() == 64);
     let mut written = Vec::new(rt.alloc());
     let sink = &mut WriteSink::new(&mut written);
-    let viewed = view(&rt, rt.alloc(), scripts.as_slice(), sink, 1, Ring::Two);
+    let setup = Setup {
+        actors: 1,
+        ring: Ring::Two,
+    };
+    let viewed = view(&rt, rt.alloc(), scripts.as_slice(), sink, setup);
     assert!(rt; matches!(viewed, Ok(64)));
     assert!(rt; written.starts_with(b"viewer 1\nat 0 0\nviewer 2\n"));
     assert!(rt;
@@ -140,7 +149,11 @@ fn a_view_that_cannot_be_written_is_a_failed_write(rt: HostRuntime) -> Result<()
     let scripts = bytes_of(rt.alloc(), &["len"])?;
     assert!(rt; scripts.len() == 1);
     let sink = &mut WriteSink::new(BrokenWriter);
-    let viewed = view(&rt, rt.alloc(), scripts.as_slice(), sink, 4, Ring::Four);
-    assert!(rt; matches!(viewed, Err(ProgramFault::Write)));
+    let setup = Setup {
+        actors: 4,
+        ring: Ring::Four,
+    };
+    let viewed = view(&rt, rt.alloc(), scripts.as_slice(), sink, setup);
+    assert!(rt; matches!(viewed, Err(ProgramFault::View(ViewFault::Write))));
     Ok(())
 }

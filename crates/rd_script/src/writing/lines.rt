@@ -1,19 +1,18 @@
 //! The line that an answer is written as.
 //!
-//! A run puts all of its answers together in one buffer, so that none is made anew for each. It makes the line of a reply, a
-//! refusal or a fault from just that, since a whole `LineAnswer`, which has room for a step's record, takes time to copy.
+//! A run puts all of its answers together in one buffer, so that none is made anew for each. It makes the line of a reply or of a
+//! refusal from just that, since a whole `LineAnswer`, which has room for a step's record, takes time to copy.
 
-ghost use Rattle.std.specs.Prelude.{◌≡◌, ◌≤◌, [], ◌∷◌, length};
-ghost use Rattle.rd_script.specs.declared.answers.LineAnswer.TheVariants.{Reply as Replied, Refused, Unread};
+ghost use Rattle.std.specs.Prelude.{◌≡◌, ◌≤◌, [], ◌∷◌, length, Ok, Err};
 ghost use Rattle.rd_script.specs.Puts.{Puts};
-ghost use Rattle.rd_script.specs.Replies.{trace_step_words, trace_mark_words, busy_words, fault_words, words_of, text_of};
+ghost use Rattle.rd_script.specs.Refusals.{trace_step_words, trace_mark_words, busy_words, any_words};
+ghost use Rattle.rd_script.specs.Replies.{words_of, text_of};
 
 use super::numbers::{put_counted, put_spaced};
 use super::refusals::{name_of_fault, name_of_stop, put_refusal};
 use super::replies::put_reply;
 use super::texts::{Text, put};
-use crate::answers::LineAnswer;
-use crate::faults::LineFault;
+use crate::answers::{AnyRefusal, LineAnswer};
 use rd_cell::Refusal;
 use rd_marks::Reply;
 
@@ -21,37 +20,28 @@ use rd_marks::Reply;
 pub fn set_text(text: &mut Text, answer: &LineAnswer)
     ensures { text.new.items ≡ text_of answer.now }
 {
-    text.clear();
-    put_answer(text, answer);
-    end_line(text);
+    match answer {
+        Ok(reply) => set_reply(text, reply),
+        Err(refusal) => set_refused(text, refusal),
+    }
 }
 
 /// Makes the text the line of a reply, with its line feed, whatever it was before.
 pub fn set_reply(text: &mut Text, reply: &Reply)
-    ensures { text.new.items ≡ text_of (Replied reply.now) }
+    ensures { text.new.items ≡ text_of (Ok reply.now) }
 {
     text.clear();
     put_reply(text, reply);
     end_line(text);
 }
 
-/// Makes the text the line of a command's refusal, with its line feed, whatever it was before.
-pub fn set_refused(text: &mut Text, refusal: Refusal)
-    ensures { text.new.items ≡ text_of (Refused refusal) }
+/// Makes the text the line of a refusal, with its line feed, whatever it was before.
+pub fn set_refused(text: &mut Text, refusal: &AnyRefusal)
+    ensures { text.new.items ≡ text_of (Err refusal.now) }
 {
     text.clear();
     put(text, b"refused ");
-    put_refusal(text, refusal);
-    end_line(text);
-}
-
-/// Makes the text the line of a line's fault, with its line feed, whatever it was before.
-pub fn set_unread(text: &mut Text, fault: LineFault)
-    ensures { text.new.items ≡ text_of (Unread fault) }
-{
-    text.clear();
-    put(text, b"refused ");
-    put(text, name_of_fault(fault));
+    put_any(text, refusal);
     end_line(text);
 }
 
@@ -62,41 +52,26 @@ pub fn end_line(text: &mut Text)
     put(text, b"\n");
 }
 
-/// Puts the words of an answer behind the text.
-fn put_answer(text: &mut Text, answer: &LineAnswer)
-    ensures words { Puts text.old.items text.new.items (words_of answer.now) }
-    ensures len { length (words_of answer.now) ≤ 500 }
+/// Puts the number, the name and the data of any refusal behind the text.
+fn put_any(text: &mut Text, refusal: &AnyRefusal)
+    ensures words { Puts text.old.items text.new.items (any_words refusal.now) }
+    ensures len { length (any_words refusal.now) ≤ 100 }
 {
-    match answer {
-        LineAnswer::Reply(reply) => put_reply(text, reply),
-        refused => {
-            put(text, b"refused ");
-            put_fault(text, refused);
-        }
-    }
-}
-
-/// Puts the number, the name and the data of a refusal behind the text; a reply has none.
-fn put_fault(text: &mut Text, answer: &LineAnswer)
-    ensures words { Puts text.old.items text.new.items (fault_words answer.now) }
-    ensures len { length (fault_words answer.now) ≤ 100 }
-{
-    match *answer {
-        LineAnswer::Reply(_) => {}
-        LineAnswer::Refused(refusal) => put_refusal(text, refusal),
-        LineAnswer::Unread(fault) => put(text, name_of_fault(fault)),
-        LineAnswer::Stopped(fault) => put(text, name_of_stop(fault)),
-        LineAnswer::Flawed(flaw) => put_counted(text, b"26 Flaw", u64::from(flaw.number())),
-        LineAnswer::HistoryFull => put(text, b"21 HistoryFull"),
-        LineAnswer::BadTrace => put(text, b"27 BadTrace"),
-        LineAnswer::TraceStep { step, cause } => put_trace_step(text, step, cause),
-        LineAnswer::TicketsEnded => put(text, b"29 TicketsEnded"),
-        LineAnswer::Busy { next, served } => {
+    match *refusal {
+        AnyRefusal::Refused(refusal) => put_refusal(text, refusal),
+        AnyRefusal::Unread(fault) => put(text, name_of_fault(fault)),
+        AnyRefusal::Stopped(fault) => put(text, name_of_stop(fault)),
+        AnyRefusal::Flawed(flaw) => put_counted(text, b"26 Flaw", u64::from(flaw.number())),
+        AnyRefusal::HistoryFull => put(text, b"21 HistoryFull"),
+        AnyRefusal::BadTrace => put(text, b"27 BadTrace"),
+        AnyRefusal::TraceStep { step, cause } => put_trace_step(text, step, cause),
+        AnyRefusal::TicketsEnded => put(text, b"29 TicketsEnded"),
+        AnyRefusal::Busy { next, served } => {
             put(text, b"30 Busy");
             put_busy(text, next, served);
         }
-        LineAnswer::NotRecorded => put(text, b"31 NotRecorded"),
-        LineAnswer::TraceMark { mark, step, cause } => put_trace_mark(text, mark, step, cause),
+        AnyRefusal::NotRecorded => put(text, b"31 NotRecorded"),
+        AnyRefusal::TraceMark { mark, step, cause } => put_trace_mark(text, mark, step, cause),
     }
 }
 

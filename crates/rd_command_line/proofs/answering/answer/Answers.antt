@@ -4,6 +4,8 @@ use Rattle.rd_command_line.proofs.answering.answer.Goals as goal
 
 pub returns-in-Err-clause-answers : goal.returns-in-Err-clause-answers
 returns-in-Err-clause-answers g c = inr (
-  (c.in-Err.fault, c.in-Err.ensures.err, (c.fault_of.result, refl, c.fault_of.ensures)),
+  c.in-Err.fault,
+  c.in-Err.ensures.err,
+  c.of.ensures,
   record { gave_nothing = Keeps-refl _; took_nothing = Keeps-refl _; in_works = c.requires.input_works; out_works = c.requires.output_works },
 )

@@ -10,7 +10,7 @@ pub returns-in_err-file : goal.returns-in_err-file
 returns-in_err-file g c =
     let output = g.O.Sink.contents c.args.output.now in
     let failed = g.O.Sink.has_failed c.args.output.now in
-    fault_passed_up (λ r. PlaysFile (ring_length c.args.ring) c.args.actors c.args.trace output output failed r) c.in_err-file.field-0.0
+    fault_passed_up (λ r. PlaysFile (ring_length c.args.setup.ring) c.args.setup.actors c.args.trace output output failed r) c.in_err-file.field-0.0
     c.from_residual.result c.from_residual.ensures.1 (inl (ap Err c.in_err-file.ensures, Keeps-refl output, c.requires.output_works))
 
 pub returns : goal.returns

@@ -1,6 +1,6 @@
 use Rattle.std.proofs.Common.{rules, arith, ◌∙◌, ap, Some}
 use Rattle.rd_command_line.proofs.ToldLemmas.{no_ring, no_spelling, no_number, out_of_range, actors_read, first_value_is}
-use Rattle.rd_command_line.proofs.command_line.world_from.Goals.{else-actors-ge1-via-then-actors-ge1+else-actors-le16, else-actors-ge1-via-else-actors-ge1}
+use Rattle.rd_command_line.proofs.command_line.world_from.Goals.{else-actors-ge1-via-then-actors-ge1+else-from-le-MOST_ACTORS, else-actors-ge1-via-else-actors-ge1}
 use Rattle.rd_command_line.proofs.command_line.world_from.Goals as goal
 
 pub returns-in_err-actors-clause-none : goal.returns-in_err-actors-clause-none
@@ -12,17 +12,17 @@ returns-in_err-get_str-clause-none c = λ _. no_ring c.args.matches.now c.in_err
 pub returns-in_err-ring-clause-none : goal.returns-in_err-ring-clause-none
 returns-in_err-ring-clause-none c = λ _. no_spelling c.args.matches.now c.in_ok-get_str.field-0.now c.in_ok-get_str.ensures (c.in_err-ring.ensures.none (search rules))
 
-pub returns-then-actors-le16-clause-some : goal.returns-then-actors-le16-clause-some
-returns-then-actors-le16-clause-some c = record {
+pub returns-then-from-le-MOST_ACTORS-clause-some : goal.returns-then-from-le-MOST_ACTORS-clause-some
+returns-then-from-le-MOST_ACTORS-clause-some c = record {
   counted = actors_read c.args.matches.now c.in_ok-actors.actors c.in_ok-actors.ensures.none (λ t is. (c.in_ok-actors.ensures.value t is).0);
   some = search rules;
-  few = search rules;
+  few = omega (arith, c.if-from-le-MOST_ACTORS.true, c.from.ensures);
   spelled = first_value_is c.args.matches.now _ _ c.in_ok-get_str.ensures ∙ ap Some c.in_ok-ring.ensures.some;
 }
 
 pub returns-else-actors-ge1-clause-none : goal.returns-else-actors-ge1-clause-none
 returns-else-actors-ge1-clause-none c = λ _. out_of_range c.args.matches.now c.in_ok-actors.actors (λ t is. (c.in_ok-actors.ensures.value t is).0.1)
     (λ few many. elim c.else-actors-ge1.branch [
-      | else-actors-ge1-via-then-actors-ge1+else-actors-le16 w ↦ absurd (omega (arith, w.if-actors-le16.false, many))
+      | else-actors-ge1-via-then-actors-ge1+else-from-le-MOST_ACTORS w ↦ absurd (omega (arith, w.if-from-le-MOST_ACTORS.false, w.from.ensures, many))
       | else-actors-ge1-via-else-actors-ge1 w ↦ absurd (omega (arith, w.if-actors-ge1.false, few))
     ])

@@ -1,4 +1,4 @@
-use Rattle.std.proofs.Common.{◌∙◌, ◌++◌, codes, subst}
+use Rattle.std.proofs.Common.{◌∙◌, ◌++◌, codes, subst, Err}
 use Rattle.rd_script.specs.Replies.{text_of}
 use Rattle.rd_program.specs.Endings.{Takes}
 use Rattle.rd_program.proofs.EndingLemmas.{takes_both, takes_front}
@@ -6,7 +6,7 @@ use Rattle.rd_program.proofs.endings.write_line.Goals as goal
 
 pub returns-in_err-hand_over : goal.returns-in_err-hand_over
 returns-in_err-hand_over g c =
-    takes_front (g.K.Sink.has_failed c.hand_over.new.writer) (g.K.Sink.contents c.args.stream.now) (g.K.Sink.contents c.hand_over.new.writer) (codes "lcrqdb: ") (text_of c.args.answer.now)
+    takes_front (g.K.Sink.has_failed c.hand_over.new.writer) (g.K.Sink.contents c.args.stream.now) (g.K.Sink.contents c.hand_over.new.writer) (codes "lcrqdb: ") (text_of (Err c.args.refusal))
     c.in_err-hand_over.ensures.fails c.in_err-hand_over.ensures.err
 
 pub returns : goal.returns

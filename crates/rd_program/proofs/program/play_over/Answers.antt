@@ -2,8 +2,9 @@ use Rattle.std.proofs.Common.{Ok, Err, subst}
 use Rattle.rd_script.specs.Script.{RunsScript}
 use Rattle.rd_trace.specs.Loading.{any_ring, any_state}
 use Rattle.rd_trace.specs.Devices.{devices}
-use Rattle.rd_program.specs.Program.{PlaysScript, program_fault}
-use Rattle.rd_program.proofs.ProgramLemmas.{fault_passed_up, plays_to_fault, plays_to_trace_fault, ran_to_trace}
+use Rattle.rd_program.specs.declared.faults.ProgramFault.TheVariants.{Script, Trace}
+use Rattle.rd_program.specs.Program.{PlaysScript}
+use Rattle.rd_program.proofs.ProgramLemmas.{fault_passed_up, ran_to_trace}
 use Rattle.rd_program.proofs.program.play_over.Goals as goal
 
 pub returns-in_err-lines : goal.returns-in_err-lines
@@ -12,8 +13,7 @@ returns-in_err-lines g c actors first =
     let d = devices g.S.Source g.K.Sink c.args.reader.now c.run.new.reader c.args.writer.now c.run.new.writer in
     let fault = c.in_err-lines.field-0.0 in
     let runs = subst (λ state. RunsScript R state (any_state c.run.new.self) d (Err fault)) first c.in_err-lines.ensures.runs in
-    fault_passed_up (λ r. PlaysScript R actors c.args.trace d r) (program_fault fault) c.from_residual.result c.from_residual.ensures.1
-    (plays_to_fault R actors c.args.trace d (any_state c.run.new.self) fault runs)
+    fault_passed_up (λ r. PlaysScript R actors c.args.trace d r) (Script fault) c.from_residual.result c.from_residual.ensures.1 (any_state c.run.new.self, runs)
 
 pub returns-in_err-write_if : goal.returns-in_err-write_if
 returns-in_err-write_if g c actors first =
@@ -24,8 +24,8 @@ returns-in_err-write_if g c actors first =
     let ran = ran_to_trace R (any_ring c.run.new.self) actors c.args.trace d (any_state c.args.book.now) (any_state c.run.new.self)
     (g.K.Sink.contents c.run.new.writer) (g.K.Sink.has_failed c.run.new.writer) c.in_ok-lines.lines (Err fault) ring first
     c.in_ok-lines.ensures.runs c.in_err-write_if.ensures in
-    fault_passed_up (λ r. PlaysScript R actors c.args.trace d r) fault c.from_residual-in_err-write_if.result c.from_residual-in_err-write_if.ensures.1
-    (plays_to_trace_fault R actors c.args.trace d c.in_ok-lines.lines fault ran)
+    fault_passed_up (λ r. PlaysScript R actors c.args.trace d r) (Trace fault) c.from_residual-in_err-write_if.result c.from_residual-in_err-write_if.ensures.1
+    (c.in_ok-lines.lines, ran)
 
 pub returns : goal.returns
 returns g c actors first =

@@ -2,23 +2,26 @@ use Rattle.std.proofs.Common.{Err, refl, subst}
 use Rattle.rd_trace.specs.Loading.{IsBookIn, fresh_state}
 use Rattle.rd_trace.specs.Traces.{ring_length}
 use Rattle.rd_view.specs.declared.faults.ViewFault.TheVariants as fault
-use Rattle.rd_program.proofs.ViewerLemmas.{fresh_two, fresh_four, fresh_eight}
+use Rattle.rd_program.proofs.ViewerLemmas.{same_view}
 use Rattle.rd_program.proofs.viewers.view.Goals as goal
 
 pub returns-in-Ok-Two : goal.returns-in-Ok-Two
 returns-in-Ok-Two g c =
-    let made = subst (IsBookIn (ring_length c.args.ring) (fresh_state (ring_length c.args.ring) c.args.actors)) c.in-Ok-Two.field-0-is c.in-Ok-Two.ensures in
-    record { views = fresh_two _ _ _ _ _ _ _ _ _ _ c.args.ring made.0 made.1 c.view_over.ensures }
+    let R = ring_length c.args.setup.ring in
+    let made = subst (IsBookIn R (fresh_state R c.args.setup.actors)) c.in-Ok-Two.field-0-is c.in-Ok-Two.ensures in
+    record { views = same_view _ _ _ _ _ _ _ _ _ made.0 made.1 c.view_over.ensures }
 
 pub returns-in-Ok-Four : goal.returns-in-Ok-Four
 returns-in-Ok-Four g c =
-    let made = subst (IsBookIn (ring_length c.args.ring) (fresh_state (ring_length c.args.ring) c.args.actors)) c.in-Ok-Four.field-0-is c.in-Ok-Four.ensures in
-    record { views = fresh_four _ _ _ _ _ _ _ _ _ _ c.args.ring made.0 made.1 c.view_over-in-Ok-Four.ensures }
+    let R = ring_length c.args.setup.ring in
+    let made = subst (IsBookIn R (fresh_state R c.args.setup.actors)) c.in-Ok-Four.field-0-is c.in-Ok-Four.ensures in
+    record { views = same_view _ _ _ _ _ _ _ _ _ made.0 made.1 c.view_over-in-Ok-Four.ensures }
 
 pub returns-in-Ok-Eight : goal.returns-in-Ok-Eight
 returns-in-Ok-Eight g c =
-    let made = subst (IsBookIn (ring_length c.args.ring) (fresh_state (ring_length c.args.ring) c.args.actors)) c.in-Ok-Eight.field-0-is c.in-Ok-Eight.ensures in
-    record { views = fresh_eight _ _ _ _ _ _ _ _ _ _ c.args.ring made.0 made.1 c.view_over-in-Ok-Eight.ensures }
+    let R = ring_length c.args.setup.ring in
+    let made = subst (IsBookIn R (fresh_state R c.args.setup.actors)) c.in-Ok-Eight.field-0-is c.in-Ok-Eight.ensures in
+    record { views = same_view _ _ _ _ _ _ _ _ _ made.0 made.1 c.view_over-in-Ok-Eight.ensures }
 
 pub returns-in-Err : goal.returns-in-Err
 returns-in-Err g c = record { views = (Err fault.NoMemory, refl, (refl, c.requires.writer_works)) }

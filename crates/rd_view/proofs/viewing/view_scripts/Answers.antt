@@ -1,8 +1,6 @@
 use Rattle.std.proofs.Common.{◌≡◌, ◌∙◌, arith, sym, ap, length, subst}
-use denote.Param.{number as number_of}
 use Rattle.std.specs.Io.KnownBytes.{Appends}
 use Rattle.rd_marks.specs.BookViews.{book_state}
-use Rattle.rd_desk.specs.contracts.recording.BookWithHistoryRecorded.TheImpl as Recorded
 use Rattle.rd_script.specs.Device.{TakesBeginning}
 use Rattle.rd_view.specs.Viewing.{IsViewed, Views}
 use Rattle.rd_view.proofs.GatherLemmas.{pairs_length}
@@ -17,12 +15,12 @@ viewed-requires-after_bounds g c κs within =
 
 pub returns-in_err-told : goal.returns-in_err-told
 returns-in_err-told g c = record {
-  views = not_viewed _ _ _ _ _ _ c.from_residual-in_err-told.result c.in_err-told.field-0.0 c.from_residual-in_err-told.ensures.1 c.in_err-told.ensures.err c.requires.works;
+  views = not_viewed _ _ _ _ _ c.from_residual-in_err-told.result c.in_err-told.field-0.0 c.from_residual-in_err-told.ensures.1 c.in_err-told.ensures.err c.requires.works;
 }
 
 pub text_of_view-requires : goal.text_of_view-requires
 text_of_view-requires g c =
-    ap length c.as_slice-2.ensures.value ∙ ap length (sym c.as_slice.ensures.value) ∙ told_length _ _ _ _ 1 c.as_slice.result.now c.in_ok-told.told.items c.in_ok-told.ensures.ok.2
+    ap length c.as_slice-2.ensures.value ∙ ap length (sym c.as_slice.ensures.value) ∙ told_length _ _ _ 1 c.as_slice.result.now c.in_ok-told.told.items c.in_ok-told.ensures.ok.2
     ∙ ap length (sym c.as_slice-3.ensures.value)
 
 pub returns-in_err-hand_over : goal.returns-in_err-hand_over
@@ -31,11 +29,11 @@ returns-in_err-hand_over g c =
     let said = c.in_ok-said.said.items in
     let told = c.in_ok-told.told.items in
     let same = c.as_slice-4.ensures.value ∙ (c.in_ok-text.ensures ∙ same_text _ said _ told _ (length history) c.as_slice-2.ensures.value c.as_slice-3.ensures.value c.len.ensures) in
-    let views : Views g.row.N (Recorded.ghosts (number_of g.row.N)) (book_state c.args.book) c.args.scripts.now history =
-    record { said = said; told = told; are_read = c.in_ok-said.ensures; is_viewed = subst (λ xs. IsViewed g.row.N (Recorded.ghosts (number_of g.row.N)) (book_state c.args.book) xs told history) c.as_slice.ensures.value c.in_ok-told.ensures.ok } in
+    let views : Views g.row.N (book_state c.args.book) c.args.scripts.now history =
+    record { said = said; told = told; are_read = c.in_ok-said.ensures; is_viewed = subst (λ xs. IsViewed g.row.N (book_state c.args.book) xs told history) c.as_slice.ensures.value c.in_ok-told.ensures.ok } in
     record {
       views =
-          not_written _ _ _ c.args.scripts.now (g.K.Sink.contents c.args.writer.now) (g.K.Sink.contents c.hand_over.new.writer) (g.K.Sink.has_failed c.hand_over.new.writer)
+          not_written _ _ c.args.scripts.now (g.K.Sink.contents c.args.writer.now) (g.K.Sink.contents c.hand_over.new.writer) (g.K.Sink.has_failed c.hand_over.new.writer)
           c.from_residual-in_err-hand_over.result history views c.from_residual-in_err-hand_over.ensures.1
           (subst (λ t. TakesBeginning (g.K.Sink.contents c.args.writer.now) (g.K.Sink.contents c.hand_over.new.writer) t) same c.in_err-hand_over.ensures.err) c.in_err-hand_over.ensures.fails;
     }
@@ -48,7 +46,7 @@ returns g c =
     let same = c.as_slice-4.ensures.value ∙ (c.in_ok-text.ensures ∙ same_text _ said _ told _ (length history) c.as_slice-2.ensures.value c.as_slice-3.ensures.value c.len.ensures) in
     record {
       views = (
-        record { said = said; told = told; are_read = c.in_ok-said.ensures; is_viewed = subst (λ xs. IsViewed g.row.N (Recorded.ghosts (number_of g.row.N)) (book_state c.args.book) xs told history) c.as_slice.ensures.value c.in_ok-told.ensures.ok },
+        record { said = said; told = told; are_read = c.in_ok-said.ensures; is_viewed = subst (λ xs. IsViewed g.row.N (book_state c.args.book) xs told history) c.as_slice.ensures.value c.in_ok-told.ensures.ok },
         subst (λ t. Appends (g.K.Sink.contents c.args.writer.now) (g.K.Sink.contents c.hand_over.new.writer) t) same c.in_ok-hand_over.ensures.ok,
         c.in_ok-hand_over.ensures.works,
       );

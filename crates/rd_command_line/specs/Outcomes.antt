@@ -1,0 +1,31 @@
+-- What a command line comes to that gives no options, and how the program ends after each outcome.
+use Rattle.std.specs.Prelude.{◌≡◌, ◌⊎◌, ℕ, Bool, true, false, List, codes, string_bytes, Option, Err, String}
+use Rattle.std.specs.Global.{Global}
+use Rattle.rd_program.specs.declared.faults.ProgramFault.TheVariants as program
+use Rattle.rd_program.specs.Endings.{EndsAs, Takes}
+use Rattle.rd_command_line.specs.declared.requests.OptionsFault.{OptionsFault}
+use Rattle.rd_command_line.specs.declared.requests.OptionsFault.TheVariants as options
+use Rattle.rd_command_line.specs.declared.outcomes.Outcome.{Outcome}
+use Rattle.rd_command_line.specs.declared.outcomes.Outcome.TheVariants.{Done, Shown, Refused, TooManyFiles}
+
+-- what a command line comes to that gives no options: a text for standard output or for standard error, unless memory for it was refused
+abbrev pub IsOutcomeOf : OptionsFault → Outcome → Type 0
+IsOutcomeOf options.NoMemory outcome = outcome ≡ Done (Err program.NoMemory)
+IsOutcomeOf options.TooManyFiles outcome = outcome ≡ TooManyFiles
+IsOutcomeOf (options.Shown error) outcome = (outcome ≡ Done (Err program.NoMemory)) ⊎ ((text : String Global) × (outcome ≡ Shown text))
+IsOutcomeOf (options.Refused error) outcome = (outcome ≡ Done (Err program.NoMemory)) ⊎ ((text : String Global) × (outcome ≡ Refused text))
+
+-- whether the end has a text for standard output
+abbrev pub is_shown : Outcome → Bool
+is_shown (Shown text) = true
+is_shown _ = false
+
+-- the status after an outcome, and what standard output and standard error have then: a text is on one of them alone
+abbrev pub Ends : Outcome → ℕ → Bool → Option (List ℕ) → Option (List ℕ) → Bool → Option (List ℕ) → Option (List ℕ) → Type 0
+Ends (Done done) status output_failed output output' errors_failed errors errors' = EndsAs done status errors_failed errors errors' × (output' ≡ output)
+Ends (Shown text) status output_failed output output' errors_failed errors errors' =
+    (status ≡ 0) × Takes output_failed output output' (string_bytes text) × (errors' ≡ errors)
+Ends (Refused text) status output_failed output output' errors_failed errors errors' =
+    (status ≡ 2) × Takes errors_failed errors errors' (string_bytes text) × (output' ≡ output)
+Ends TooManyFiles status output_failed output output' errors_failed errors errors' =
+    (status ≡ 2) × Takes errors_failed errors errors' (codes "lcrqdb: 1 to 64 files\n") × (output' ≡ output)
