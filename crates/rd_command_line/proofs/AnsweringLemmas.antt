@@ -1,5 +1,5 @@
 -- What was done with the scripts in files, and for words.
-use Rattle.std.proofs.Common.{◌≡◌, Bool, ℕ, List, map, Result, Ok, Err, Vec, inr, refl, subst, sym}
+use Rattle.std.proofs.Common.{◌≡◌, Bool, ℕ, List, map, Result, Ok, Vec, inr, refl, subst, sym}
 use Rattle.std.specs.Global.{Global}
 use Rattle.clap.specs.Walk.{Text}
 use Rattle.rd_script.specs.Script.{Devices}

@@ -53,13 +53,15 @@ DoesOptions (Run file actors ring trace) d result = PlaysNamed file.now (ring_le
 DoesOptions (View files actors ring) d result = LeavesInput d × ViewsFiles (length files.items) (ring_length ring) actors d.out_before d.out_after d.out_failed result
 DoesOptions (Load file) d result = LoadsFile d result
 
--- what the words come to: what the options ask for that they give was done; or they give none, and nothing was
+-- what the words come to: what the options ask for that they give was done; or they give none, and
+-- nothing was
 abbrev pub Answers : List Text → Devices → Outcome → Type 0
 Answers words d outcome =
     ((options : Options) × (done : Result ℕ ProgramFault) × Reads words options × DoesOptions options d done × (outcome ≡ Done done))
     ⊎ ((reason : OptionsFault) × EndsFor words reason × IsOutcomeOf reason outcome × TouchesNothing d)
 
--- the outcome of a command line: what its words come to; or, if they could not be taken, what that comes to, and neither stream was touched
+-- the outcome of a command line: what its words come to; or, if they could not be taken, what that
+-- comes to, and neither stream was touched
 abbrev pub HasOutcome : {S : Type 0} → (S → Text) → Result (Vec S Global) Outcome → Devices → Outcome → Type 0
 HasOutcome text (Ok words) d outcome = Answers (map text words.items) d outcome
 HasOutcome text (Err taken) d outcome = (outcome ≡ taken) × TouchesNothing d

@@ -8,7 +8,8 @@ use Rattle.rd_command_line.specs.declared.requests.OptionsFault.TheVariants as o
 use Rattle.rd_command_line.specs.declared.outcomes.Outcome.{Outcome}
 use Rattle.rd_command_line.specs.declared.outcomes.Outcome.TheVariants.{Done, Shown, Refused, TooManyFiles}
 
--- what a command line comes to that gives no options: a text for standard output or for standard error, unless memory for it was refused
+-- what a command line comes to that gives no options: a text for standard output or for standard
+-- error, unless memory for it was refused
 abbrev pub IsOutcomeOf : OptionsFault → Outcome → Type 0
 IsOutcomeOf options.NoMemory outcome = outcome ≡ Done (Err program.NoMemory)
 IsOutcomeOf options.TooManyFiles outcome = outcome ≡ TooManyFiles
@@ -20,7 +21,8 @@ abbrev pub is_shown : Outcome → Bool
 is_shown (Shown text) = true
 is_shown _ = false
 
--- the status after an outcome, and what standard output and standard error have then: a text is on one of them alone
+-- the status after an outcome, and what standard output and standard error have then: a text is on
+-- one of them alone
 abbrev pub Ends : Outcome → ℕ → Bool → Option (List ℕ) → Option (List ℕ) → Bool → Option (List ℕ) → Option (List ℕ) → Type 0
 Ends (Done done) status output_failed output output' errors_failed errors errors' = EndsAs done status errors_failed errors errors' × (output' ≡ output)
 Ends (Shown text) status output_failed output output' errors_failed errors errors' =

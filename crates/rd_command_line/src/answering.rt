@@ -67,7 +67,8 @@ fn outcome_of<R: Files + Threads + Wait + Sync, S: AsStr + Drop, I: Source, O: S
     }
 }
 
-/// Does what the words of a command line ask for, of which the first is the program's name. It may wait, in `view`.
+/// Does what the words of a command line ask for, of which the first is the program's name. It may
+/// wait, in `view`.
 pub fn answer<R: Files + Threads + Wait + Sync, S: AsStr, I: Source, O: Sink>(
     rt: &R,
     alloc: Global,
@@ -87,7 +88,8 @@ pub fn answer<R: Files + Threads + Wait + Sync, S: AsStr, I: Source, O: Sink>(
     }
 }
 
-/// Does what the options ask for. Answers the number of the script's lines, or for `view` that of the recorded calls.
+/// Does what the options ask for. Answers the number of the script's lines, or for `view` that of
+/// the recorded calls.
 fn do_options<R: Files + Threads + Wait + Sync, I: Source, O: Sink>(
     rt: &R,
     alloc: Global,

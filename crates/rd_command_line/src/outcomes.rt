@@ -17,7 +17,8 @@ const TOO_MANY_FILES: &str = "lcrqdb: 1 to 64 files\n";
 /// What a command line comes to.
 #[derive(Debug, Drop)]
 pub enum Outcome {
-    /// What it asks for was done: the number of the script's lines, or for `view` that of the recorded calls. Or it was not all done.
+    /// What it asks for was done: the number of the script's lines, or for `view` that of the
+    /// recorded calls. Or it was not all done.
     Done(Result<u64, ProgramFault>),
     /// It asks for help or for the version: the text of it.
     Shown(String),
@@ -46,8 +47,8 @@ impl Outcome {
         }
     }
 
-    /// Ends the program: writes what is to be written for the outcome, and answers the status, which a stream that fails leaves. A
-    /// stream for which there is nothing is not called.
+    /// Ends the program: writes what is to be written for the outcome, and answers the status,
+    /// which a stream that fails leaves. A stream for which there is nothing is not called.
     pub fn end<O: Sink, E: Sink>(&self, output: &mut O, errors: &mut E) -> ExitCode
         requires output_works { is_shown self.now ≡ true → O.has_failed output.old ≡ false }
         requires errors_work { E.has_failed errors.old ≡ false }

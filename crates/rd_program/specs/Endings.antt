@@ -53,7 +53,8 @@ abbrev pub Takes : Bool → Option (List ℕ) → Option (List ℕ) → List ℕ
 Takes false old new text = Appends old new text
 Takes true old new text = TakesBeginning old new text
 
--- the status after an outcome, and what standard error has then: nothing more after status 0, and the line of the refusal after 1
+-- the status after an outcome, and what standard error has then: nothing more after status 0, and
+-- the line of the refusal after 1
 abbrev pub EndsAs : Result ℕ ProgramFault → ℕ → Bool → Option (List ℕ) → Option (List ℕ) → Type 0
 EndsAs (Ok lines) status failed errors errors' = (status ≡ 0) × (errors' ≡ errors)
 EndsAs (Err fault) status failed errors errors' = (status ≡ 1) × Takes failed errors errors' (error_line (refusal_of fault))

@@ -27,7 +27,8 @@ pub record TouchesNothing (d : Devices) : Type 0 where
 abbrev pub RunsOver : ℕ → BookState → Devices → Result ℕ ScriptFault → Type 0
 RunsOver R before d result = (after : BookState) × RunsScript R before after d result
 
--- what became of the trace of a book in this state: it was written, as far as it was, or it was not asked for
+-- what became of the trace of a book in this state: it was written, as far as it was, or it was not
+-- asked for
 abbrev pub WritesIf : Bool → ℕ → BookState → Option (List ℕ) → Option (List ℕ) → Bool → Result (Unit {0}) WriteTraceFault → Type 0
 WritesIf true R b old new failed result = WritesTrace R b old new result × (failed ≡ is_write_fault result)
 WritesIf false R b old new failed result = (result ≡ Ok tt) × (new ≡ old) × (failed ≡ false)

@@ -8,8 +8,8 @@ use super::faults::ProgramFault;
 use rd_script::{AnyRefusal, Sink, Text, WriteFault, hand_over, set_text};
 use std::process::ExitCode;
 
-/// Ends the program after an outcome: with status 0; or with 1, and the line of its fault on standard error, which leaves the
-/// status if it fails.
+/// Ends the program after an outcome: with status 0; or with 1, and the line of its fault on
+/// standard error, which leaves the status if it fails.
 pub fn end<E: Sink>(outcome: &Result<u64, ProgramFault>, errors: &mut E) -> ExitCode
     requires { E.has_failed errors.old ≡ false }
     ensures { EndsAs outcome.now (exit_status result) (E.has_failed errors.new) (E.contents errors.old) (E.contents errors.new) }

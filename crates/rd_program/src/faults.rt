@@ -1,4 +1,5 @@
-//! Why the program ends without having done all that it was asked, and the refusal that it then shows.
+//! Why the program ends without having done all that it was asked, and the refusal that it then
+//! shows.
 
 ghost use Rattle.std.specs.Prelude.{◌≡◌};
 ghost use Rattle.rd_program.specs.declared.faults.ProgramFault.TheVariants.{Script, Load, Trace, View};

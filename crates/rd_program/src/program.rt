@@ -14,13 +14,14 @@ use rd_trace::{AnyBook, WriteTraceFault, load_trace};
 use std::alloc::Global;
 use std::io::{ErrorKind, Read};
 
-/// Runs a script over a fresh world and writes its report. If the trace is asked for, it follows the report of a run that came to
-/// its end. Answers the number of the script's lines.
+/// Runs a script over a fresh world and writes its report. If the trace is asked for, it follows
+/// the report of a run that came to its end. Answers the number of the script's lines.
 ///
 /// # Errors
 ///
-/// `NoMemory` if the world was refused its memory: neither device was touched. `Script` as the run of a script. `Trace` if the trace
-/// was refused its memory: the report was written, and nothing behind it; or if the writer failed in the trace.
+/// `NoMemory` if the world was refused its memory: neither device was touched. `Script` as the run
+/// of a script. `Trace` if the trace was refused its memory: the report was written, and nothing
+/// behind it; or if the writer failed in the trace.
 pub fn play<S: Source, K: Sink>(
     alloc: Global,
     reader: &mut S,

@@ -17,8 +17,9 @@ use std::alloc::Global;
 use std::sync::Wait;
 use std::thread::Threads;
 
-/// Runs 1 to 64 scripts over a fresh world, each by a viewer in a thread of its own, and writes for each viewer what its lines were
-/// answered, and last how many calls were recorded. Answers this number.
+/// Runs 1 to 64 scripts over a fresh world, each by a viewer in a thread of its own, and writes for
+/// each viewer what its lines were answered, and last how many calls were recorded. Answers this
+/// number.
 ///
 /// # Errors
 ///

@@ -1,9 +1,8 @@
--- The names behind a keyword, and what is said where they are missing or bad.
+-- The names after a keyword, and what is said where they are missing or bad.
 use Rattle.std.proofs.Common.{◌≡◌, ℕ, ◌<◌, true, false, true≢false, List, [], ◌∷◌, length, Err, refl, sym, ◌∙◌, ap, subst, arith}
 use Rattle.std.specs.List.{list_all}
 use Rattle.std.proofs.lemmas.Bool.{and_parts}
 use Rattle.rd_marks.specs.NameBytes.{is_mark_name}
-use Rattle.rd_marks.specs.Names.{bytes_of}
 use Rattle.rd_marks.specs.declared.commands.Command.{Command}
 use Rattle.rd_marks.specs.declared.commands.Command.TheVariants.{Undo, Redo, Mark, DropMark, GotoMark, Marks, Same, Len}
 use Rattle.rd_script.specs.declared.faults.LineFault.{LineFault}
@@ -44,7 +43,7 @@ pub not_badly_named : (k : Keyword) (words : List (List ℕ)) → NamesBadly k w
 not_badly_named k words bad c small is same =
     true≢false (sym (are_names c small (sym (ap length same) ∙ bad.0 ∙ ap names_after (sym is))) ∙ ap (list_all is_mark_name) (sym same) ∙ bad.2)
 
--- behind a keyword without names nothing is a bad name
+-- after a keyword without names nothing is a bad name
 pub none_named : (k : Keyword) (words : List (List ℕ)) → names_after k ≡ 0 → NamesBadly k words → ⊥
 none_named k [] none bad = true≢false bad.2
 none_named k (x ∷ xs) none bad = absurd (omega (arith, none, bad.0))

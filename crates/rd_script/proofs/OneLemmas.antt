@@ -1,7 +1,6 @@
--- Two commands of the same words are one: behind a keyword the arguments are of known shapes, and an argument is known by its shape and
--- its word.
-use Rattle.std.proofs.Common.{◌≡◌, ℕ, ◌<◌, ◌^◌, Bool, true, false, true≢false, ◌==◌, ◌&&◌, List, [], ◌∷◌, length, refl, sym, ◌∙◌, ap, subst, arith, drop, slice_index_or}
-use Rattle.std.specs.Fmt.{decimal}
+-- Two commands of the same words are one: after a keyword the arguments are of known shapes, and an
+-- argument is known by its shape and its word.
+use Rattle.std.proofs.Common.{◌≡◌, ℕ, Bool, true, false, true≢false, ◌==◌, ◌&&◌, List, [], ◌∷◌, length, refl, sym, ◌∙◌, ap, subst, arith, drop, slice_index_or}
 use Rattle.std.specs.List.{slice_split}
 use Rattle.std.proofs.lemmas.Bool.{and_parts, eqb-true}
 use Rattle.std.proofs.lemmas.Fmt.{decimal_injective}
@@ -28,7 +27,7 @@ shape (Choice choice) = 3
 shape (Name name) = 4
 shape (Kind k) = 5
 
--- the shapes behind a kind of place
+-- the shapes after a kind of place
 abbrev place_shapes : PlaceKind → List ℕ
 place_shapes kind.QHead = []
 place_shapes kind.QTail = []
@@ -37,7 +36,8 @@ place_shapes kind.ArrTail = []
 place_shapes kind.ArrCell = 0 ∷ []
 place_shapes _ = 2 ∷ 0 ∷ []
 
--- the shapes behind a keyword, and whether the arguments have them, as far as there are arguments; behind a kind of place stand its own
+-- the shapes after a keyword, and whether the arguments have them, as far as there are arguments;
+-- after a kind of place stand its own
 abbrev shapes : Keyword → List ℕ
 shapes keyword.Enq = 0 ∷ 1 ∷ []
 shapes keyword.Deq = 0 ∷ []

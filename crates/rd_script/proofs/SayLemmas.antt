@@ -24,7 +24,7 @@ cut line = slice_split (λ byte. byte == 32) line
 abbrev first_word : List (List ℕ) → List ℕ
 first_word words = slice_index_or words 0 []
 
--- a keyword, and words behind it that name badly
+-- a keyword, and words after it that name badly
 pub record MisnamedWords (words : List (List ℕ)) : Type 0 where
   pub keyword : Keyword
   pub behind : List (List ℕ)
@@ -59,7 +59,7 @@ pub no_keyword : (line word : List ℕ) (words : List (List ℕ)) → length lin
 no_keyword line word words few is none =
     bad_line line few (λ c small e. none (keyword_of c) (ap first_word (is ∙ e))) (λ bad. none bad.keyword (ap first_word (is ∙ bad.whole)))
 
--- what the words behind the keyword say, the line says
+-- what the words after the keyword say, the line says
 pub says_words : (line : List ℕ) (k : Keyword) (words : List (List ℕ)) (r : Result Command LineFault) → length line ≤ most_line_bytes → keyword_text k ∷ words ≡ slice_split (λ byte. byte == 32) line → ReadsCommand k words r → Says line r
 says_words line k words (Ok c) few is reads =
     (few, reads.0, join_of_parts 32 line _ (ap (λ word. keyword_text word ∷ words_of (arguments_of c)) reads.1 ∙ ap (λ ws. keyword_text k ∷ ws) (sym reads.2) ∙ is))

@@ -1,4 +1,5 @@
--- No word of a command has a space, and there are four at most: so the line that spells a command is cut into just its words.
+-- No word of a command has a space, and there are four at most: so the line that spells a command
+-- is cut into just its words.
 use Rattle.std.proofs.Common.{◌≡◌, ℕ, ◌≤◌, ◌==◌, ◌&&◌, nat_lt, Bool, true, false, not, List, [], ◌∷◌, ◌++◌, length, codes, refl, ◌∙◌, ap, arith, tests}
 use Rattle.std.proofs.lemmas.Bool.{and_parts}
 use Rattle.std.specs.Char.{is_ascii_graphic}
@@ -16,7 +17,7 @@ use Rattle.rd_script.specs.Contents.{name_words}
 use Rattle.rd_script.specs.Texts.{yes_or_no}
 use Rattle.rd_script.specs.Grammar.{Argument, Byte, Long, Segment, Choice, Name, Kind, keyword_text, keyword_of, kind_text, word_of, words_of, place_arguments, arguments_of, IsSegmentInRange, IsArgumentInRange, AreInRange}
 use Rattle.rd_script.specs.Spelling.{spelling, IsInRange, is_word}
-use Rattle.rd_script.proofs.SplitLemmas.{is_free, AreFree, parts_of_join, join_of_parts, is_free_decimal, is_free_both}
+use Rattle.rd_script.proofs.SplitLemmas.{is_free, AreFree, parts_of_join, is_free_decimal, is_free_both}
 
 -- a word has no space
 graphic_is_no_space : (byte : ℕ) → is_ascii_graphic byte ≡ true → not (byte == 32) ≡ true

@@ -1,4 +1,5 @@
--- The grammar of lines: the keyword of each command, and the arguments that follow it, one word each.
+-- The grammar of lines: the keyword of each command, and the arguments that follow it, one word
+-- each.
 use Rattle.std.specs.Prelude.{◌≡◌, ℕ, ◌<◌, ◌^◌, Bool, true, List, [], ◌∷◌, codes, map}
 use Rattle.std.specs.Fmt.{decimal}
 use Rattle.rd_step.specs.Prelude.{SegName, Place, QHead, QTail, Head, Tail, Next, CellAt, ValAt, IdxAt, WholeOf, ArrHead, ArrTail, ArrCell}
@@ -96,7 +97,8 @@ kind_of ArrHead = ArrHeadWord
 kind_of ArrTail = ArrTailWord
 kind_of (ArrCell i) = ArrCellWord
 
--- an argument: an actor's or a cell's number, any other number, a segment, a choice, the bytes of a bookmark's name, or a kind of place
+-- an argument: an actor's or a cell's number, any other number, a segment, a choice, the bytes of a
+-- bookmark's name, or a kind of place
 pub data Argument : Type 0 where
   Byte : ℕ → Argument
   Long : ℕ → Argument
@@ -114,7 +116,7 @@ word_of (Choice choice) = yes_or_no choice
 word_of (Name name) = name
 word_of (Kind kind) = kind_text kind
 
--- the arguments of a place behind its kind
+-- the arguments of a place after its kind
 abbrev pub place_arguments : Place → List Argument
 place_arguments (Head s) = Segment s ∷ []
 place_arguments (Tail s) = Segment s ∷ []
@@ -158,7 +160,8 @@ words_of arguments = map word_of arguments
 abbrev pub IsSegmentInRange : SegName → Type 0
 IsSegmentInRange s = (s.maker < 256) × (s.n < 2 ^ 32)
 
--- a number is in its range, an actor's and a cell's 0 to 255 and any other 0 to 2^64 - 1, and a name is a name
+-- a number is in its range, an actor's and a cell's 0 to 255 and any other 0 to 2^64 - 1, and a
+-- name is a name
 abbrev pub IsArgumentInRange : Argument → Type 0
 IsArgumentInRange (Byte n) = n < 256
 IsArgumentInRange (Long n) = n < 2 ^ 64

@@ -1,5 +1,5 @@
--- What is read of the words of a line. No public clause cites this: it stands between the code, which reads word by word, and what a
--- whole line says.
+-- What is read of the words of a line. No public clause cites this: it stands between the code,
+-- which reads word by word, and what a whole line says.
 use Rattle.std.specs.Prelude.{◌≡◌, ◌≢◌, ℕ, true, false, List, ◌∷◌, length, Option, Some, None, Result, Ok, Err}
 use Rattle.std.specs.List.{list_all}
 use Rattle.rd_step.specs.Prelude.{Place}
@@ -32,12 +32,12 @@ abbrev pub ReadsPlace : List (List ℕ) → Option Place → Type 0
 ReadsPlace words (Some place) = AreInRange (place_arguments place) × (words ≡ kind_text (kind_of place) ∷ words_of (place_arguments place))
 ReadsPlace words None = (place : Place) → AreInRange (place_arguments place) → words ≢ kind_text (kind_of place) ∷ words_of (place_arguments place)
 
--- what is read of the words behind a kind of place
+-- what is read of the words after a kind of place
 abbrev pub ReadsKind : PlaceKind → List (List ℕ) → Option Place → Type 0
 ReadsKind kind words (Some place) = AreInRange (place_arguments place) × (kind_of place ≡ kind) × (words ≡ words_of (place_arguments place))
 ReadsKind kind words None = (place : Place) → AreInRange (place_arguments place) → kind_of place ≡ kind → words ≢ words_of (place_arguments place)
 
--- what is read of the words behind a keyword
+-- what is read of the words after a keyword
 abbrev pub ReadsCommand : Keyword → List (List ℕ) → Result Command LineFault → Type 0
 ReadsCommand keyword words (Ok command) = IsInRange command × (keyword_of command ≡ keyword) × (words ≡ words_of (arguments_of command))
 ReadsCommand keyword words (Err BadLine) =
@@ -45,7 +45,7 @@ ReadsCommand keyword words (Err BadLine) =
 ReadsCommand keyword words (Err BadName) = NamesBadly keyword words
 ReadsCommand keyword words (Err LineTooLong) = ⊥
 
--- what is read of the words behind a keyword that no name stands behind; behind one that has a name nothing is read
+-- what is read of the words after a keyword without names; after one with names nothing is read
 abbrev pub ReadsNameless : Keyword → List (List ℕ) → Option Command → Type 0
 ReadsNameless keyword words (Some command) = IsInRange command × (keyword_of command ≡ keyword) × (words ≡ words_of (arguments_of command))
 ReadsNameless keyword words None = names_after keyword ≡ 0 → (command : Command) → IsInRange command → keyword_of command ≡ keyword → words ≢ words_of (arguments_of command)

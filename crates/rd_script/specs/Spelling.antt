@@ -26,7 +26,8 @@ place_words place = line_of (kind_text (kind_of place) ∷ words_of (place_argum
 abbrev pub IsInRange : Command → Type 0
 IsInRange command = AreInRange (arguments_of command)
 
--- two commands are one: their keywords and their arguments are equal, and so their names have the same bytes
+-- two commands are one: their keywords and their arguments are equal, and so their names have the
+-- same bytes
 abbrev pub AreOne : Command → Command → Type 0
 AreOne a b = (keyword_of a ≡ keyword_of b) × (arguments_of a ≡ arguments_of b)
 
@@ -34,7 +35,8 @@ AreOne a b = (keyword_of a ≡ keyword_of b) × (arguments_of a ≡ arguments_of
 abbrev pub is_word : List ℕ → Bool
 is_word text = not (length text == 0) && list_all is_ascii_graphic text
 
--- these words are as many as names follow the keyword, but one of them at least is no bookmark's name
+-- these words are as many as names follow the keyword, but one of them at least is no bookmark's
+-- name
 abbrev pub NamesBadly : Keyword → List (List ℕ) → Type 0
 NamesBadly keyword words = (length words ≡ names_after keyword) × (list_all is_word words ≡ true) × (list_all is_mark_name words ≡ false)
 

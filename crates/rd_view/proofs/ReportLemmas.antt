@@ -1,16 +1,9 @@
--- A text that is written part by part: what a sink has after each part, and after a part that it did not take whole.
+-- The next part of a report, and of a view.
 use Rattle.std.specs.Global.{Global}
-use Rattle.std.proofs.Common.{Vec, ◌≡◌, ◌∙◌, ℕ, Bool, true, false, List, [], ◌++◌, Option, Some, None, Result, Ok, Err, refl, sym, ap, subst, append_assoc, ◌∷◌, ◌+◌, ◌<◌, ◌≤◌, suc, length, drop, get_or, add-one}
+use Rattle.std.proofs.Common.{Vec, ◌≡◌, ◌∙◌, ℕ, List, [], ◌∷◌, ◌++◌, ◌+◌, ◌<◌, ◌≤◌, suc, Option, Result, Ok, Err, sym, ap, append_assoc, length, drop, get_or, add-one}
+use Rattle.std.specs.Prelude.{OnOk}
 use Rattle.std.proofs.Math.Seq.{drop-cons}
 use Rattle.std.proofs.Math.ListN.{drop_of_length-le}
-use Rattle.std.proofs.lemmas.List.{append-nil}
-use Rattle.std.proofs.lemmas.Bool.{false≢true}
-use Rattle.std.specs.Prelude.{OnOk, OnErr}
-use Rattle.std.specs.Result.{IsErr}
-use Rattle.std.specs.Io.KnownBytes.{Appends}
-use Rattle.std.proofs.KnownBytes.{Appends-trans}
-use Rattle.rd_script.specs.declared.devices.sinks.WriteFault.{WriteFault}
-use Rattle.rd_script.specs.Device.{TakesBeginning}
 use Rattle.rd_step.specs.Prelude.{Refusal}
 use Rattle.rd_marks.specs.declared.commands.Command.{Command}
 use Rattle.rd_marks.specs.declared.replies.Reply.{Reply}
@@ -18,72 +11,16 @@ use Rattle.rd_desk.specs.declared.gates.DeskRefusal.{DeskRefusal}
 use Rattle.rd_script.specs.declared.faults.LineFault.{LineFault}
 use Rattle.rd_script.specs.declared.answers.AnyRefusal.TheVariants.{Unread}
 use Rattle.rd_script.specs.Replies.{text_of}
-use Rattle.rd_view.specs.Views.{WritesText, line_answer, report_text, viewer_text, view_text}
+use Rattle.rd_view.specs.Views.{line_answer, report_text, viewer_text, view_text}
 
--- a part of the whole text was written, and this rest of it was not
-pub record GoesOn (whole rest : List ℕ) (old now : Option (List ℕ)) (failed : Bool) : Type 0 where
-  pub works : failed ≡ false
-  pub part : List ℕ
-  pub took : Appends old now part
-  pub splits : whole ≡ part ++ rest
+-- a part that was left was put behind the text
+pub one_part_more : (old new part left rest whole : List ℕ) → new ≡ old ++ part → left ≡ part ++ rest → old ++ left ≡ whole → new ++ rest ≡ whole
+one_part_more old new part left rest whole put is all = ap (λ t. t ++ rest) put ∙ append_assoc old part rest ∙ ap (λ t. old ++ t) (sym is) ∙ all
 
--- what a call that writes a text says in four clauses
-pub writes_text : (old new : Option (List ℕ)) (failed : Bool) (text : List ℕ) (r : Result (Unit {0}) WriteFault)
-    → OnOk r (Appends old new text) → OnErr r (TakesBeginning old new text) → OnOk r (failed ≡ false) → OnErr r (failed ≡ true) → WritesText old new failed text r
-writes_text old new failed text (Ok _) ok err works fails = (ok, works)
-writes_text old new failed text (Err _) ok err works fails = (err, fails)
-
-module _ (whole rest : List ℕ) (old now : Option (List ℕ)) (failed : Bool) where
-  -- the next part was written
-  pub goes_on : (text : List ℕ) (new : Option (List ℕ)) (failed' : Bool) → GoesOn whole (text ++ rest) old now failed → Appends now new text → failed' ≡ false → GoesOn whole rest old new failed'
-  goes_on text new failed' g took works = record {
-    works = works;
-    part = g.part ++ text;
-    took = Appends-trans old now new g.part text g.took took;
-    splits = g.splits ∙ sym (append_assoc g.part text rest);
-  }
-
-  -- a beginning of the next part was written
-  pub stops : (text : List ℕ) (new : Option (List ℕ)) (failed' : Bool) (r : Result (Unit {0}) WriteFault) → IsErr r
-      → GoesOn whole (text ++ rest) old now failed → TakesBeginning now new text → failed' ≡ true → WritesText old new failed' whole r
-  stops text new failed' (Ok _) never g took fails = absurd (false≢true never)
-  stops text new failed' (Err _) is g took fails = (
-    record {
-      part = g.part ++ took.part;
-      took = Appends-trans old now new g.part took.part g.took took.took;
-      begins = (
-        took.begins.0 ++ rest,
-        g.splits ∙ ap (λ t. g.part ++ (t ++ rest)) took.begins.1 ∙ ap (λ t. g.part ++ t) (append_assoc took.part took.begins.0 rest)
-            ∙ sym (append_assoc g.part took.part (took.begins.0 ++ rest)),
-      );
-    },
-    fails,
-  )
-
-  -- the last part was written, or a beginning of it
-  pub ends : (new : Option (List ℕ)) (failed' : Bool) (r : Result (Unit {0}) WriteFault) → GoesOn whole rest old now failed → WritesText now new failed' rest r → WritesText old new failed' whole r
-  ends new failed' (Ok _) g wrote = (subst (Appends old new) (sym g.splits) (Appends-trans old now new g.part rest g.took wrote.0), wrote.1)
-  ends new failed' (Err _) g wrote = (
-    record {
-      part = g.part ++ wrote.0.part;
-      took = Appends-trans old now new g.part wrote.0.part g.took wrote.0.took;
-      begins = (wrote.0.begins.0, g.splits ∙ ap (λ t. g.part ++ t) wrote.0.begins.1 ∙ sym (append_assoc g.part wrote.0.part wrote.0.begins.0));
-    },
-    wrote.1,
-  )
-
-  -- nothing was left to write
-  pub is_whole : rest ≡ [] → GoesOn whole rest old now failed → WritesText old now failed whole (Ok tt)
-  is_whole none g = (subst (Appends old now) (sym (g.splits ∙ ap (λ t. g.part ++ t) none ∙ append-nil g.part)) g.took, g.works)
-
--- a sink that took nothing has what it had
-took_nothing : (now : Option (List ℕ)) → Appends now now []
-took_nothing None = tt
-took_nothing (Some bytes) = sym (append-nil bytes)
-
--- nothing is written yet
-pub begins : (whole : List ℕ) (now : Option (List ℕ)) (failed : Bool) → failed ≡ false → GoesOn whole whole now now failed
-begins whole now failed works = record { works = works; part = []; took = took_nothing now; splits = refl }
+-- a part was put behind the text, and then, if memory was not refused, another
+pub both_parts : {E : Type 0} (r : Result (Unit {0}) E) (old mid new front back : List ℕ) → mid ≡ old ++ front → OnOk r (new ≡ mid ++ back) → OnOk r (new ≡ old ++ (front ++ back))
+both_parts (Ok x) old mid new front back one other = other ∙ ap (λ t. t ++ back) one ∙ append_assoc old front back
+both_parts (Err e) old mid new front back one other = tt
 
 -- an element and those behind it
 line_at : {A : Type 0} (xs : List A) (i : ℕ) (x : A) → i < length xs → x ≡ get_or xs i x → drop i xs ≡ x ∷ drop (i + 1) xs

@@ -59,9 +59,10 @@ told_of (Answered pass answers) = Some answers
 told_of NotStarted = None
 
 module _ (R : ℕ) (opened : BookState) (viewer : ℕ) where
-  -- The viewer of this number, which had seen the old history, is answered this, and has seen the new one then: it begins with the old
-  -- one and is a legal history of the book that was opened. It ends with just this call; or the call is not recorded, since the history
-  -- that was found is full or was refused its memory; or no more tickets can be drawn, and nothing was found.
+  -- The viewer of this number, which had seen the old history, is answered this, and has seen the
+  -- new one then: it begins with the old one and is a legal history of the book that was opened. It
+  -- ends with just this call; or the call is not recorded, since the history that was found is full
+  -- or was refused its memory; or no more tickets can be drawn, and nothing was found.
   abbrev pub IsSeen : List (ℕ × Call) → Command → Result (Result Reply Refusal) DeskRefusal → List (ℕ × Call) → Type 0
   IsSeen old command (Ok answer) new =
       (between : List (ℕ × Call)) × (new ≡ (old ++ between) ++ entry viewer command answer ∷ []) × (length (old ++ between) < MOST_CALLS) × IsLegal R opened new
@@ -71,8 +72,9 @@ module _ (R : ℕ) (opened : BookState) (viewer : ℕ) where
   IsSeen old command (Err (Busy words)) new = ⊥
 
 module _ (R : ℕ) (opened : BookState) (history : List (ℕ × Call)) where
-  -- The viewer of this number was asked these commands, one after another, and was answered so. The history begins with all that it
-  -- has seen then, and has as its calls, in order, just those that were recorded.
+  -- The viewer of this number was asked these commands, one after another, and was answered so. The
+  -- history begins with all that it has seen then, and has as its calls, in order, just those that
+  -- were recorded.
   pub record WasAnswered (viewer : ℕ) (commands : List Command) (answers : List (Result (Result Reply Refusal) DeskRefusal)) : Type 0 where
     pub seen : List (ℕ × Call)
     pub chain : IsChain (IsSeen R opened viewer) [] commands answers seen

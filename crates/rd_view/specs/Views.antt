@@ -1,6 +1,5 @@
 -- The text of a view: for each viewer a heading and what its lines were answered, and last how many calls were recorded.
-use Rattle.std.specs.Prelude.{◌≡◌, ℕ, ◌+◌, Bool, true, false, List, [], ◌∷◌, ◌++◌, Option, Some, None, Result, Ok, Err, Vec}
-use Rattle.std.specs.Io.KnownBytes.{Appends}
+use Rattle.std.specs.Prelude.{ℕ, ◌+◌, List, [], ◌∷◌, ◌++◌, Option, Some, None, Result, Ok, Err, Vec}
 use Rattle.std.specs.Global.{Global}
 use Rattle.rd_step.specs.Prelude.{Refusal, NoMemory}
 use Rattle.rd_marks.specs.declared.commands.Command.{Command}
@@ -8,17 +7,10 @@ use Rattle.rd_marks.specs.declared.replies.Reply.{Reply}
 use Rattle.rd_desk.specs.declared.gates.DeskRefusal.{DeskRefusal}
 use Rattle.rd_desk.specs.declared.gates.DeskRefusal.TheVariants as desk
 use Rattle.rd_script.specs.declared.answers.AnyRefusal.TheVariants.{Refused, Unread, HistoryFull, TicketsEnded, Busy, NotRecorded}
-use Rattle.rd_script.specs.declared.devices.sinks.WriteFault.{WriteFault}
 use Rattle.rd_script.specs.declared.faults.LineFault.{LineFault}
 use Rattle.rd_script.specs.declared.writing.headings.Heading.TheVariants.{Viewer, History}
-use Rattle.rd_script.specs.Device.{TakesBeginning}
 use Rattle.rd_script.specs.Headings.{heading_text}
 use Rattle.rd_script.specs.Replies.{LineAnswer, text_of}
-
--- a sink took the whole of a text and works, or it took a beginning of it and has failed
-abbrev pub WritesText : Option (List ℕ) → Option (List ℕ) → Bool → List ℕ → Result (Unit {0}) WriteFault → Type 0
-WritesText old new failed text (Ok _) = Appends old new text × (failed ≡ false)
-WritesText old new failed text (Err _) = TakesBeginning old new text × (failed ≡ true)
 
 -- what the desk answered, as the answer to a line
 abbrev pub line_answer : Result (Result Reply Refusal) DeskRefusal → LineAnswer

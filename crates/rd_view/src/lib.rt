@@ -3,9 +3,8 @@
 
 mod faults;
 mod reports;
-mod texts;
 mod viewing;
 
 pub use faults::ViewFault;
-pub use reports::{Said, write_view};
+pub use reports::{Said, text_of_view};
 pub use viewing::view_scripts;

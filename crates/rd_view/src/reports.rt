@@ -1,72 +1,80 @@
 //! The text of a view: for each viewer a heading and what its lines were answered, and last how many calls were recorded.
+//!
+//! It is put together in memory before any of it is handed to a writer. Each line is made in one
+//! buffer, and put behind the others.
 
-ghost use Rattle.std.specs.Prelude.{◌≡◌, false, length};
-ghost use Rattle.rd_view.specs.Views.{WritesText, line_answer, report_text, viewer_text, view_text};
+ghost use Rattle.std.specs.Prelude.{◌≡◌, ◌++◌, length, IfOk, OnOk};
+ghost use Rattle.rd_script.specs.Replies.{text_of};
+ghost use Rattle.rd_view.specs.Views.{line_answer, report_text, viewer_text, view_text};
 
 use rd_cell::Refusal;
 use rd_desk::{Answer, DeskRefusal};
 use rd_marks::Command;
-use rd_script::{
-    AnyRefusal, Heading, LineAnswer, LineFault, Sink, WriteFault, write_answer, write_heading,
-};
+use rd_script::{AnyRefusal, Heading, LineAnswer, LineFault, Text, set_heading, set_text};
+use std::alloc::{AllocError, Global};
 
 /// What a line of a script says: a command, or a fault.
 pub type Said = Result<Command, LineFault>;
 
-/// Writes the text of a view: for each viewer in order its heading and the answers to its lines, and last how many calls were
-/// recorded. A viewer that was not started, which has no answers, has one line that says that memory was refused.
-///
-/// # Errors
-///
-/// If the writer failed or took nothing: it took a beginning of the text.
-pub fn write_view<K: Sink>(
-    writer: &mut K,
+/// The text of a view: for each viewer in order its heading and the answers to its lines, and last
+/// how many calls were recorded. A viewer that was not started, which has no answers, has one line
+/// that says that memory was refused.
+pub fn text_of_view(
+    alloc: Global,
     said: &[Vec<Said>],
     told: &[Option<Vec<Answer>>],
     calls: u64,
-) -> Result<(), WriteFault>
-    requires works { K.has_failed writer.old ≡ false }
-    requires each { length said.now ≡ length told.now }
-    ensures { WritesText (K.contents writer.old) (K.contents writer.new) (K.has_failed writer.new)
-        (view_text 1 said.now told.now calls) result }
+) -> Result<Vec<u8>, AllocError>
+    requires { length said.now ≡ length told.now }
+    ensures { IfOk result (λ text. text.items ≡ view_text 1 said.now told.now calls) }
 {
+    let mut text = Vec::new(alloc);
+    let mut line = Text::new();
     for i in 0..said.len() {
-        write_viewer(writer, i as u64 + 1, said[i].as_slice(), &told[i])?;
+        put_viewer(
+            &mut text,
+            &mut line,
+            i as u64 + 1,
+            said[i].as_slice(),
+            &told[i],
+        )?;
     }
-    write_heading(writer, Heading::History(calls))
+    set_heading(&mut line, Heading::History(calls));
+    text.extend_from_slice(line.as_slice())?;
+    Ok(text)
 }
 
-/// Writes the heading of a viewer, and the answers to its lines.
-fn write_viewer<K: Sink>(
-    writer: &mut K,
+/// Puts the heading of a viewer behind the text, and the answers to its lines.
+fn put_viewer(
+    text: &mut Vec<u8>,
+    line: &mut Text,
     number: u64,
     said: &[Said],
     told: &Option<Vec<Answer>>,
-) -> Result<(), WriteFault>
-    requires { K.has_failed writer.old ≡ false }
-    ensures { WritesText (K.contents writer.old) (K.contents writer.new) (K.has_failed writer.new)
-        (viewer_text number said.now told.now) result }
+) -> Result<(), AllocError>
+    ensures { OnOk result (text.new.items ≡ text.old.items ++ viewer_text number said.now told.now) }
 {
-    write_heading(writer, Heading::Viewer(number))?;
+    set_heading(line, Heading::Viewer(number));
+    text.extend_from_slice(line.as_slice())?;
     match told {
-        Some(answers) => write_report(writer, said, answers.as_slice()),
-        None => write_answer(writer, &Err(AnyRefusal::Refused(Refusal::NoMemory))),
+        Some(answers) => put_report(text, line, said, answers.as_slice()),
+        None => put_answer(text, line, &Err(AnyRefusal::Refused(Refusal::NoMemory))),
     }
 }
 
-/// Writes the answers to the lines of a script: a line that spells no command has its fault, each other one the next answer.
-fn write_report<K: Sink>(
-    writer: &mut K,
+/// Puts the answers to the lines of a script behind the text: a line that spells no command has its
+/// fault, each other one the next answer.
+fn put_report(
+    text: &mut Vec<u8>,
+    line: &mut Text,
     said: &[Said],
     answers: &[Answer],
-) -> Result<(), WriteFault>
-    requires { K.has_failed writer.old ≡ false }
-    ensures { WritesText (K.contents writer.old) (K.contents writer.new) (K.has_failed writer.new)
-        (report_text said.now answers.now) result }
+) -> Result<(), AllocError>
+    ensures { OnOk result (text.new.items ≡ text.old.items ++ report_text said.now answers.now) }
 {
     let mut asked = 0;
-    for line in said {
-        let answer = match line {
+    for command in said {
+        let answer = match command {
             Err(fault) => Err(AnyRefusal::Unread(*fault)),
             Ok(_) => {
                 let Some(answer) = answers.get(asked) else {
@@ -76,9 +84,17 @@ fn write_report<K: Sink>(
                 line_answer(answer)
             }
         };
-        write_answer(writer, &answer)?;
+        put_answer(text, line, &answer)?;
     }
     Ok(())
+}
+
+/// Puts the line of an answer behind the text.
+fn put_answer(text: &mut Vec<u8>, line: &mut Text, answer: &LineAnswer) -> Result<(), AllocError>
+    ensures { OnOk result (text.new.items ≡ text.old.items ++ text_of answer.now) }
+{
+    set_text(line, answer);
+    text.extend_from_slice(line.as_slice())
 }
 
 /// What the desk answered, as the answer to a line.

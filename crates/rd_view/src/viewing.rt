@@ -10,8 +10,7 @@ ghost use Rattle.rd_desk.specs.Histories.{entries};
 ghost use Rattle.rd_view.specs.Viewing.{AreRead, IsUnviewed, IsViewed, ViewsScripts, commands_of, passes_of, told_of};
 
 use super::faults::ViewFault;
-use super::reports::Said;
-use super::texts::text_of_view;
+use super::reports::{Said, text_of_view};
 use rd_desk::{Answer, Desk, DeskPass, History, Ran, run_viewers};
 use rd_marks::{Book, Command};
 use rd_script::{Sink, hand_over, lines};

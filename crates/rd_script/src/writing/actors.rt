@@ -1,7 +1,6 @@
 //! The words of an actor, as a reply says them.
 
-ghost use Rattle.std.specs.Prelude.{◌≤◌, length};
-ghost use Rattle.rd_script.specs.Puts.{Puts};
+ghost use Rattle.rd_script.specs.Puts.{PutsUpTo};
 ghost use Rattle.rd_script.specs.Actors.{op_words, call_words, segment_words, position_words, read_words, actor_words};
 
 use super::contents::{put_name, put_value};
@@ -12,8 +11,7 @@ use rd_actor::{Actor, Op};
 
 /// Puts all words of an actor behind the text.
 pub fn put_actor(text: &mut Text, actor: &Actor)
-    ensures words { Puts text.old.items text.new.items (actor_words actor.now) }
-    ensures len { length (actor_words actor.now) ≤ 400 }
+    ensures { PutsUpTo 355 text.old.items text.new.items (actor_words actor.now) }
 {
     put_call(text, actor);
     put_segments(text, actor);
@@ -23,8 +21,7 @@ pub fn put_actor(text: &mut Text, actor: &Actor)
 
 /// Puts the control point and the call of an actor behind the text.
 fn put_call(text: &mut Text, actor: &Actor)
-    ensures words { Puts text.old.items text.new.items (call_words actor.now) }
-    ensures len { length (call_words actor.now) ≤ 40 }
+    ensures { PutsUpTo 40 text.old.items text.new.items (call_words actor.now) }
 {
     put(text, b"actor ");
     put(text, label_of(actor.pc));
@@ -34,8 +31,7 @@ fn put_call(text: &mut Text, actor: &Actor)
 
 /// Puts the segments that an actor knows behind the text.
 fn put_segments(text: &mut Text, actor: &Actor)
-    ensures words { Puts text.old.items text.new.items (segment_words actor.now) }
-    ensures len { length (segment_words actor.now) ≤ 139 }
+    ensures { PutsUpTo 139 text.old.items text.new.items (segment_words actor.now) }
 {
     put(text, b" crq ");
     put_name(text, actor.crq);
@@ -47,8 +43,7 @@ fn put_segments(text: &mut Text, actor: &Actor)
 
 /// Puts the positions that an actor knows, and the closed bit, behind the text.
 fn put_positions(text: &mut Text, actor: &Actor)
-    ensures words { Puts text.old.items text.new.items (position_words actor.now) }
-    ensures len { length (position_words actor.now) ≤ 74 }
+    ensures { PutsUpTo 74 text.old.items text.new.items (position_words actor.now) }
 {
     put_counted(text, b" t", actor.t);
     put_counted(text, b" h", actor.h);
@@ -57,8 +52,7 @@ fn put_positions(text: &mut Text, actor: &Actor)
 
 /// Puts what an actor read from a cell, and its pass, behind the text.
 fn put_read(text: &mut Text, actor: &Actor)
-    ensures words { Puts text.old.items text.new.items (read_words actor.now) }
-    ensures len { length (read_words actor.now) ≤ 102 }
+    ensures { PutsUpTo 102 text.old.items text.new.items (read_words actor.now) }
 {
     put(text, b" val ");
     put_value(text, actor.val);
@@ -69,8 +63,7 @@ fn put_read(text: &mut Text, actor: &Actor)
 
 /// Puts the call that an actor is in, if any, behind the text.
 fn put_op(text: &mut Text, op: Option<Op>)
-    ensures words { Puts text.old.items text.new.items (op_words op) }
-    ensures len { length (op_words op) ≤ 25 }
+    ensures { PutsUpTo 25 text.old.items text.new.items (op_words op) }
 {
     match op {
         None => put(text, b"none"),

@@ -1,7 +1,7 @@
 //! The words that spell a segment's name, and what a place has in it.
 
 ghost use Rattle.std.specs.Prelude.{◌≡◌, ◌≤◌, length};
-ghost use Rattle.rd_script.specs.Puts.{Puts};
+ghost use Rattle.rd_script.specs.Puts.{PutsUpTo};
 ghost use Rattle.rd_script.specs.Contents.{name_words, value_words, next_words, tail_word, cell_words, index_words, slot_words, content_words};
 
 use super::numbers::{bit_number, put_counted, put_number, put_spaced};
@@ -10,8 +10,7 @@ use rd_cell::{ArrSlot, Cell, Content, SegName};
 
 /// Puts what a place has in it behind the text.
 pub fn put_content(text: &mut Text, content: Content)
-    ensures words { Puts text.old.items text.new.items (content_words content) }
-    ensures len { length (content_words content) ≤ 62 }
+    ensures { PutsUpTo 62 text.old.items text.new.items (content_words content) }
 {
     match content {
         Content::Name(name) => put_name(text, name),
@@ -28,8 +27,7 @@ pub fn put_content(text: &mut Text, content: Content)
 
 /// Puts a segment's name behind the text.
 pub fn put_name(text: &mut Text, name: SegName)
-    ensures words { Puts text.old.items text.new.items (name_words name) }
-    ensures len { length (name_words name) ≤ 41 }
+    ensures { PutsUpTo 41 text.old.items text.new.items (name_words name) }
 {
     put_number(text, u64::from(name.maker));
     put(text, b".");
@@ -38,8 +36,7 @@ pub fn put_name(text: &mut Text, name: SegName)
 
 /// Puts a value, if any, behind the text.
 pub fn put_value(text: &mut Text, value: Option<u64>)
-    ensures words { Puts text.old.items text.new.items (value_words value) }
-    ensures len { length (value_words value) ≤ 20 }
+    ensures { PutsUpTo 20 text.old.items text.new.items (value_words value) }
 {
     match value {
         None => put(text, b"none"),
@@ -57,8 +54,7 @@ pub fn tail_word(closed: bool) -> &'static [u8]
 
 /// Puts the name of the segment that follows, if any, behind the text.
 fn put_next(text: &mut Text, next: Option<SegName>)
-    ensures words { Puts text.old.items text.new.items (next_words next) }
-    ensures len { length (next_words next) ≤ 41 }
+    ensures { PutsUpTo 41 text.old.items text.new.items (next_words next) }
 {
     match next {
         None => put(text, b"none"),
@@ -68,8 +64,7 @@ fn put_next(text: &mut Text, next: Option<SegName>)
 
 /// Puts a cell's safe bit, index and value behind the text.
 fn put_cell(text: &mut Text, cell: Cell)
-    ensures words { Puts text.old.items text.new.items (cell_words cell) }
-    ensures len { length (cell_words cell) ≤ 62 }
+    ensures { PutsUpTo 62 text.old.items text.new.items (cell_words cell) }
 {
     put_number(text, bit_number(cell.safe));
     put_spaced(text, cell.idx);
@@ -79,8 +74,7 @@ fn put_cell(text: &mut Text, cell: Cell)
 
 /// Puts a safe bit and an index behind the text.
 pub fn put_index(text: &mut Text, safe: bool, idx: u64)
-    ensures words { Puts text.old.items text.new.items (index_words safe idx) }
-    ensures len { length (index_words safe idx) ≤ 41 }
+    ensures { PutsUpTo 41 text.old.items text.new.items (index_words safe idx) }
 {
     put_number(text, bit_number(safe));
     put_spaced(text, idx);
@@ -88,8 +82,7 @@ pub fn put_index(text: &mut Text, safe: bool, idx: u64)
 
 /// Puts what a slot of the array has behind the text.
 fn put_slot(text: &mut Text, slot: ArrSlot)
-    ensures words { Puts text.old.items text.new.items (slot_words slot) }
-    ensures len { length (slot_words slot) ≤ 26 }
+    ensures { PutsUpTo 26 text.old.items text.new.items (slot_words slot) }
 {
     match slot {
         ArrSlot::Empty => put(text, b"empty"),

@@ -1,7 +1,6 @@
 //! The words that spell an event.
 
-ghost use Rattle.std.specs.Prelude.{◌≤◌, length};
-ghost use Rattle.rd_script.specs.Puts.{Puts};
+ghost use Rattle.rd_script.specs.Puts.{PutsUpTo};
 ghost use Rattle.rd_script.specs.Events.{event_words};
 
 use super::numbers::{put_counted, put_spaced, yes_or_no};
@@ -11,8 +10,7 @@ use rd_step::Event;
 
 /// Puts the line that makes an event happen behind the text.
 pub fn put_event(text: &mut Text, event: Event)
-    ensures words { Puts text.old.items text.new.items (event_words event) }
-    ensures len { length (event_words event) ≤ 46 }
+    ensures { PutsUpTo 46 text.old.items text.new.items (event_words event) }
 {
     let actor = u64::from(event.actor);
     match event.act {

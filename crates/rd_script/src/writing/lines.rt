@@ -1,12 +1,13 @@
 //! The line that an answer is written as.
 //!
-//! A run puts all of its answers together in one buffer, so that none is made anew for each. It makes the line of a reply or of a
-//! refusal from just that, since a whole `LineAnswer`, which has room for a step's record, takes time to copy.
+//! A run puts all of its answers together in one buffer, so that none is made anew for each. It
+//! makes the line of a reply or of a refusal from just that, since a whole `LineAnswer`, which has
+//! room for a step's record, takes time to copy.
 
-ghost use Rattle.std.specs.Prelude.{◌≡◌, ◌≤◌, [], ◌∷◌, length, Ok, Err};
-ghost use Rattle.rd_script.specs.Puts.{Puts};
+ghost use Rattle.std.specs.Prelude.{◌≡◌, [], ◌∷◌, Ok, Err};
+ghost use Rattle.rd_script.specs.Puts.{Puts, PutsUpTo};
 ghost use Rattle.rd_script.specs.Refusals.{trace_step_words, trace_mark_words, busy_words, any_words};
-ghost use Rattle.rd_script.specs.Replies.{words_of, text_of};
+ghost use Rattle.rd_script.specs.Replies.{text_of};
 
 use super::numbers::{put_counted, put_spaced};
 use super::refusals::{name_of_fault, name_of_stop, put_refusal};
@@ -54,8 +55,7 @@ pub fn end_line(text: &mut Text)
 
 /// Puts the number, the name and the data of any refusal behind the text.
 fn put_any(text: &mut Text, refusal: &AnyRefusal)
-    ensures words { Puts text.old.items text.new.items (any_words refusal.now) }
-    ensures len { length (any_words refusal.now) ≤ 100 }
+    ensures { PutsUpTo 100 text.old.items text.new.items (any_words refusal.now) }
 {
     match *refusal {
         AnyRefusal::Refused(refusal) => put_refusal(text, refusal),
@@ -77,8 +77,7 @@ fn put_any(text: &mut Text, refusal: &AnyRefusal)
 
 /// Puts which event of a trace was refused, and why, behind the text.
 fn put_trace_step(text: &mut Text, step: u64, cause: Refusal)
-    ensures words { Puts text.old.items text.new.items (trace_step_words step cause) }
-    ensures len { length (trace_step_words step cause) ≤ 78 }
+    ensures { PutsUpTo 78 text.old.items text.new.items (trace_step_words step cause) }
 {
     put_counted(text, b"28 TraceStep", step);
     put(text, b" cause ");
@@ -87,8 +86,7 @@ fn put_trace_step(text: &mut Text, step: u64, cause: Refusal)
 
 /// Puts which event of which bookmark of a trace was refused, and why, behind the text.
 fn put_trace_mark(text: &mut Text, mark: u64, step: u64, cause: Refusal)
-    ensures words { Puts text.old.items text.new.items (trace_mark_words mark step cause) }
-    ensures len { length (trace_mark_words mark step cause) ≤ 99 }
+    ensures { PutsUpTo 99 text.old.items text.new.items (trace_mark_words mark step cause) }
 {
     put_counted(text, b"32 TraceMark", mark);
     put_spaced(text, step);
@@ -98,8 +96,7 @@ fn put_trace_mark(text: &mut Text, mark: u64, step: u64, cause: Refusal)
 
 /// Puts the ticket that is drawn next and the one that is served behind the text.
 fn put_busy(text: &mut Text, next: u64, served: u64)
-    ensures words { Puts text.old.items text.new.items (busy_words next served) }
-    ensures len { length (busy_words next served) ≤ 54 }
+    ensures { PutsUpTo 54 text.old.items text.new.items (busy_words next served) }
 {
     put_counted(text, b" next", next);
     put_counted(text, b" served", served);

@@ -2,7 +2,7 @@
 
 ghost use Rattle.std.specs.Prelude.{◌≡◌, ◌≤◌, ◌++◌, length};
 ghost use Rattle.std.specs.Fmt.{decimal};
-ghost use Rattle.rd_script.specs.Puts.{Puts};
+ghost use Rattle.rd_script.specs.Puts.{Puts, PutsUpTo};
 ghost use Rattle.rd_script.specs.Texts.{spaced_number, bit_number, yes_or_no};
 
 use super::texts::{Text, put};
@@ -10,8 +10,7 @@ use itoa::Buffer;
 
 /// Puts the digits of a number behind the text, the higher ones first.
 pub fn put_number(text: &mut Text, number: u64)
-    ensures words { Puts text.old.items text.new.items (decimal number) }
-    ensures len { length (decimal number) ≤ 20 }
+    ensures { PutsUpTo 20 text.old.items text.new.items (decimal number) }
 {
     let mut digits = Buffer::new();
     put(text, digits.format(number).as_bytes());
@@ -19,8 +18,7 @@ pub fn put_number(text: &mut Text, number: u64)
 
 /// Puts a space and a number behind the text.
 pub fn put_spaced(text: &mut Text, number: u64)
-    ensures words { Puts text.old.items text.new.items (spaced_number number) }
-    ensures len { length (spaced_number number) ≤ 21 }
+    ensures { PutsUpTo 21 text.old.items text.new.items (spaced_number number) }
 {
     put(text, b" ");
     put_number(text, number);

@@ -1,7 +1,7 @@
 //! The words that spell a place.
 
 ghost use Rattle.std.specs.Prelude.{◌≤◌, ◌++◌, length};
-ghost use Rattle.rd_script.specs.Puts.{Puts};
+ghost use Rattle.rd_script.specs.Puts.{Puts, PutsUpTo};
 ghost use Rattle.rd_script.specs.Contents.{name_words};
 ghost use Rattle.rd_script.specs.Spelling.{place_words};
 
@@ -12,8 +12,7 @@ use rd_cell::{Place, SegName};
 
 /// Puts a place behind the text.
 pub fn put_place(text: &mut Text, place: Place)
-    ensures words { Puts text.old.items text.new.items (place_words place) }
-    ensures len { length (place_words place) ≤ 68 }
+    ensures { PutsUpTo 68 text.old.items text.new.items (place_words place) }
 {
     match place {
         Place::QHead => put(text, b"qhead"),

@@ -1,7 +1,7 @@
 //! The number, the name and the data of each refusal.
 
 ghost use Rattle.std.specs.Prelude.{◌≡◌, ◌≤◌, length};
-ghost use Rattle.rd_script.specs.Puts.{Puts};
+ghost use Rattle.rd_script.specs.Puts.{PutsUpTo};
 ghost use Rattle.rd_script.specs.Refusals.{refusal_name, refusal_words, fault_name, stop_name};
 
 use super::numbers::put_spaced;
@@ -11,8 +11,7 @@ use rd_cell::Refusal;
 
 /// Puts the number, the name and the data of a refusal behind the text.
 pub fn put_refusal(text: &mut Text, refusal: Refusal)
-    ensures words { Puts text.old.items text.new.items (refusal_words refusal) }
-    ensures len { length (refusal_words refusal) ≤ 38 }
+    ensures { PutsUpTo 38 text.old.items text.new.items (refusal_words refusal) }
 {
     put(text, name_of(refusal));
     match refusal {

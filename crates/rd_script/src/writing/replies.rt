@@ -1,8 +1,7 @@
 //! The words of what a book replies.
 
-ghost use Rattle.std.specs.Prelude.{◌≤◌, length};
 ghost use Rattle.rd_marks.specs.Names.{bytes_of};
-ghost use Rattle.rd_script.specs.Puts.{Puts};
+ghost use Rattle.rd_script.specs.Puts.{PutsUpTo};
 ghost use Rattle.rd_script.specs.Replies.{event_reply, step_number, origin_words, writer_words, reply_words};
 
 use super::actors::put_actor;
@@ -16,8 +15,7 @@ use rd_origin::Origin;
 
 /// Puts the words of a reply behind the text.
 pub fn put_reply(text: &mut Text, reply: &Reply)
-    ensures words { Puts text.old.items text.new.items (reply_words reply.now) }
-    ensures len { length (reply_words reply.now) ≤ 400 }
+    ensures { PutsUpTo 400 text.old.items text.new.items (reply_words reply.now) }
 {
     match *reply {
         Reply::Applied { step, reply } => {
@@ -53,8 +51,7 @@ pub fn put_reply(text: &mut Text, reply: &Reply)
 
 /// Puts what the call replied that an event ended, if it ended one, behind the text.
 fn put_event_reply(text: &mut Text, reply: Option<OpReply>)
-    ensures words { Puts text.old.items text.new.items (event_reply reply) }
-    ensures len { length (event_reply reply) ≤ 27 }
+    ensures { PutsUpTo 27 text.old.items text.new.items (event_reply reply) }
 {
     match reply {
         None => {}
@@ -67,8 +64,7 @@ fn put_event_reply(text: &mut Text, reply: Option<OpReply>)
 
 /// Puts the steps of an origin behind the text.
 fn put_origin(text: &mut Text, origin: Origin)
-    ensures words { Puts text.old.items text.new.items (origin_words origin) }
-    ensures len { length (origin_words origin) ≤ 90 }
+    ensures { PutsUpTo 90 text.old.items text.new.items (origin_words origin) }
 {
     put(text, b"origin call ");
     put_step_number(text, origin.call);
@@ -79,8 +75,7 @@ fn put_origin(text: &mut Text, origin: Origin)
 
 /// Puts the number of a step, or a hyphen for none, behind the text.
 fn put_step_number(text: &mut Text, step: Option<u64>)
-    ensures words { Puts text.old.items text.new.items (step_number step) }
-    ensures len { length (step_number step) ≤ 20 }
+    ensures { PutsUpTo 20 text.old.items text.new.items (step_number step) }
 {
     match step {
         None => put(text, b"-"),
@@ -90,8 +85,7 @@ fn put_step_number(text: &mut Text, step: Option<u64>)
 
 /// Puts the last writer of a place behind the text.
 fn put_writer(text: &mut Text, writer: Option<u64>)
-    ensures words { Puts text.old.items text.new.items (writer_words writer) }
-    ensures len { length (writer_words writer) ≤ 27 }
+    ensures { PutsUpTo 27 text.old.items text.new.items (writer_words writer) }
 {
     match writer {
         None => put(text, b"writer none"),
@@ -102,8 +96,7 @@ fn put_writer(text: &mut Text, writer: Option<u64>)
 /// Puts a bookmark's name behind the text.
 #[tactic(auto, using(crate::proofs::NameLemmas::length_mark_name))]
 fn put_mark_name(text: &mut Text, name: MarkName)
-    ensures words { Puts text.old.items text.new.items (bytes_of name) }
-    ensures len { length (bytes_of name) ≤ 16 }
+    ensures { PutsUpTo 16 text.old.items text.new.items (bytes_of name) }
 {
     put(text, name.as_str().as_bytes());
 }

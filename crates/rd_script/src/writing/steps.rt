@@ -1,7 +1,7 @@
 //! The words of a step, as a reply says them: parts between semicolons.
 
 ghost use Rattle.std.specs.Prelude.{◌≡◌, ◌≤◌, length};
-ghost use Rattle.rd_script.specs.Puts.{Puts};
+ghost use Rattle.rd_script.specs.Puts.{PutsUpTo};
 ghost use Rattle.rd_script.specs.Steps.{step_place, access_word, access_answer, reply_word, step_reply, done_words, step_words};
 
 use super::contents::{put_content, put_index, put_name, put_value, tail_word};
@@ -15,8 +15,7 @@ use rd_step::Entry;
 
 /// Puts all words of a step behind the text.
 pub fn put_step(text: &mut Text, number: u64, entry: &Entry)
-    ensures words { Puts text.old.items text.new.items (step_words number entry.now) }
-    ensures len { length (step_words number entry.now) ≤ 300 }
+    ensures { PutsUpTo 300 text.old.items text.new.items (step_words number entry.now) }
 {
     put_counted(text, b"step", number);
     put(text, b"; ");
@@ -29,8 +28,7 @@ pub fn put_step(text: &mut Text, number: u64, entry: &Entry)
 
 /// Puts what a call replied behind the text.
 pub fn put_call_reply(text: &mut Text, reply: OpReply)
-    ensures words { Puts text.old.items text.new.items (reply_word reply) }
-    ensures len { length (reply_word reply) ≤ 26 }
+    ensures { PutsUpTo 26 text.old.items text.new.items (reply_word reply) }
 {
     match reply {
         OpReply::Enqueued => put(text, b"enqueued"),
@@ -41,8 +39,7 @@ pub fn put_call_reply(text: &mut Text, reply: OpReply)
 
 /// Puts what the access of a step did behind the text.
 fn put_done(text: &mut Text, entry: &Entry)
-    ensures words { Puts text.old.items text.new.items (done_words entry.now) }
-    ensures len { length (done_words entry.now) ≤ 145 }
+    ensures { PutsUpTo 145 text.old.items text.new.items (done_words entry.now) }
 {
     put_step_place(text, entry.place);
     put(text, b"; ");
@@ -53,8 +50,7 @@ fn put_done(text: &mut Text, entry: &Entry)
 
 /// Puts the place of a step, if it has one, behind the text.
 fn put_step_place(text: &mut Text, place: Option<Place>)
-    ensures words { Puts text.old.items text.new.items (step_place place) }
-    ensures len { length (step_place place) ≤ 68 }
+    ensures { PutsUpTo 68 text.old.items text.new.items (step_place place) }
 {
     match place {
         None => put(text, b"-"),
@@ -77,8 +73,7 @@ fn access_word(place: Option<Place>, wrote: Wrote) -> &'static [u8]
 
 /// Puts what an access answered behind the text.
 fn put_access_answer(text: &mut Text, answer: Answer)
-    ensures words { Puts text.old.items text.new.items (access_answer answer) }
-    ensures len { length (access_answer answer) ≤ 62 }
+    ensures { PutsUpTo 62 text.old.items text.new.items (access_answer answer) }
 {
     match answer {
         Answer::Nothing => put(text, b"-"),
@@ -100,8 +95,7 @@ fn put_access_answer(text: &mut Text, answer: Answer)
 
 /// Puts what the call replied that a step ended, if it ended one, behind the text.
 fn put_step_reply(text: &mut Text, reply: Option<OpReply>)
-    ensures words { Puts text.old.items text.new.items (step_reply reply) }
-    ensures len { length (step_reply reply) ≤ 26 }
+    ensures { PutsUpTo 26 text.old.items text.new.items (step_reply reply) }
 {
     match reply {
         None => put(text, b"-"),

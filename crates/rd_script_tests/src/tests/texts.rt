@@ -2,7 +2,7 @@
 
 use super::runs::{poised, report_is};
 use rd_marks::Command;
-use rd_script::{Heading, LineFault, WriteSink, lines, write_heading};
+use rd_script::{Heading, LineFault, Text, lines, set_heading};
 use std::alloc::{AllocError, Global};
 use std::process::Abort;
 use std::test::Fail;
@@ -119,15 +119,12 @@ fn a_long_line_of_a_whole_text_is_too_long(rt: HostRuntime) -> Result<(), Fail> 
     )
 }
 
-/// Compares what a writer is given of each heading with its line.
-fn headings_are(rt: &impl Abort, alloc: Global, rows: &[(Heading, &str)]) {
+/// Compares the text of each heading with its line.
+fn headings_are(rt: &impl Abort, rows: &[(Heading, &str)]) {
+    let mut text = Text::new();
     for (heading, line) in rows {
-        let mut written = Vec::new(alloc);
-        let said = write_heading(&mut WriteSink::new(&mut written), *heading);
-        assert!(rt;
-            said.is_ok() && written.as_slice() == line.as_bytes(),
-            "line {line}"
-        );
+        set_heading(&mut text, *heading);
+        assert!(rt; text.as_slice() == line.as_bytes(), "line {line}");
     }
 }
 
@@ -135,7 +132,6 @@ fn headings_are(rt: &impl Abort, alloc: Global, rows: &[(Heading, &str)]) {
 fn each_heading_has_its_line(rt: HostRuntime) {
     headings_are(
         &rt,
-        rt.alloc(),
         &[
             (Heading::Viewer(1), "viewer 1\n"),
             (Heading::Viewer(64), "viewer 64\n"),

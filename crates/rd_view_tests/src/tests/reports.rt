@@ -3,8 +3,8 @@
 use rd_cell::Refusal;
 use rd_desk::Answer;
 use rd_marks::{Command, Reply};
-use rd_script::{LineFault, WriteSink};
-use rd_view::{Said, write_view};
+use rd_script::LineFault;
+use rd_view::{Said, text_of_view};
 use std::alloc::{AllocError, Global};
 use std::process::Abort;
 use std::test::Fail;
@@ -30,9 +30,7 @@ fn view_of(
     }
     let (said, told) = (said.as_slice(), told.as_slice());
     assert!(rt; said.len() == told.len());
-    let mut text = Vec::new(alloc);
-    let _ = write_view(&mut WriteSink::new(&mut text), said, told, calls);
-    Ok(text)
+    text_of_view(alloc, said, told, calls)
 }
 
 #[test]

@@ -1,4 +1,4 @@
-use Rattle.std.proofs.Common.{inr, refl}
+use Rattle.std.proofs.Common.{inr}
 use Rattle.std.proofs.KnownBytes.{Keeps-refl}
 use Rattle.rd_command_line.proofs.answering.answer.Goals as goal
 

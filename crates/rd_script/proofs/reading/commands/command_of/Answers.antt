@@ -9,7 +9,7 @@ use Rattle.rd_script.proofs.ResultLemmas.{Err-from_error}
 use Rattle.rd_script.proofs.NameReadLemmas.{names_refused}
 use Rattle.rd_script.proofs.reading.commands.command_of.Goals as goal
 
--- a fault that is passed up behind a keyword
+-- a fault that is passed up after a keyword
 passed_up : (k m : Keyword) (words : List (List ℕ)) (fault : LineFault) (r : Result Command LineFault) → k ≡ m → IsErrAnd r (λ e. e ≡ fault) → ReadsCommand m words (Err fault) → ReadsCommand k words r
 passed_up k m words fault r is passed reads =
     subst (λ x. ReadsCommand k words x) (sym (Err-from_error fault r passed)) (subst (λ x. ReadsCommand x words (Err fault)) (sym is) reads)
