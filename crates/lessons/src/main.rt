@@ -1,8 +1,10 @@
-//! The lessons for teachers and the guide: runs the scripts of each as the program does, and compares the replies with those on its page.
+//! The lessons for teachers and the guide: runs the scripts of each as the program does, and
+//! compares the replies with those on its page.
 //!
-//! A lesson's page has its script beside the replies in a table of its own. The guide, and a lesson over two starts, have several tables and
-//! traces, and no other ones than those that their scripts give, in this order. The sessions of the README and the manual have a report beside
-//! each script. One line for each page or report says whether they are the same.
+//! A lesson's page has its script beside the replies in its own table. The guide, and a lesson over
+//! two starts, have several tables and traces, and no other ones than those that their scripts
+//! give, in this order. The sessions of the README and the manual have a report beside each script.
+//! One line for each page or report says whether they are the same.
 #![tactic(auto)]
 
 use anyhow::Result;
@@ -36,7 +38,8 @@ const LESSONS: [&str; 14] = [
 /// The guide's page.
 const GUIDE: &str = "guide";
 
-/// The session of README.md and the examples of docs/MANUAL.md: each has a script and a report of this name, and may run over the trace of it.
+/// The session of README.md and the examples of docs/MANUAL.md: each has a script and a report of
+/// this name, and may run over the trace of it.
 const SESSIONS: [(&str, bool); 6] = [
     ("session", false),
     ("manual-1", false),
@@ -68,10 +71,12 @@ const RING_OF_TWO: &str = "\nRun with: --ring 2\n";
 /// The beginning of the line of a page whose lesson runs over the trace of its name.
 const TRACE: &str = "\nRun over: `";
 
-/// The line of a page whose lesson is run by two viewers. Its scripts are those of its name with `-1` and `-2` behind.
+/// The line of a page whose lesson is run by two viewers. Its scripts are those of its name with
+/// `-1` and `-2` at the end.
 const TWO_VIEWERS: &str = "\nRun by two viewers.\n";
 
-/// The line of a page whose lesson is run over two starts. Its traces and its scripts are those of its name with `-1` and `-2` behind.
+/// The line of a page whose lesson is run over two starts. Its traces and its scripts are those of
+/// its name with `-1` and `-2` at the end.
 const TWO_STARTS: &str = "\nRun over two starts.\n";
 
 /// The head of the table with the script and the replies.
@@ -83,7 +88,7 @@ const MISTAKES_HEAD: &str = "\n| In place of | Somebody writes | `load` answers 
 /// The line before a trace.
 const TRACE_HEAD: &str = "```json\n";
 
-/// The line behind a trace.
+/// The line after a trace.
 const TRACE_END: &str = "```\n";
 
 fn main(rt: HostRuntime) -> Result<ExitCode> {
@@ -151,7 +156,8 @@ fn is_as_its_page_says<R: Files + Alloc<A = Global> + Threads + Wait + Sync>(
     Ok(page.contains(table.as_str()))
 }
 
-/// Whether the replies to a session's script are those of its report, over the fresh world or over the run of the trace of its name.
+/// Whether the replies to a session's script are those of its report, over the fresh world or over
+/// the run of the trace of its name.
 fn is_as_its_report_says<R: Files + Alloc<A = Global>>(
     rt: &R,
     alloc: Global,
@@ -185,7 +191,8 @@ fn blocks_of_starts<R: Files + Alloc<A = Global>>(
     Ok(blocks)
 }
 
-/// Whether the tables and the traces of the guide are those that its scripts give, in order, and whether it has no other ones.
+/// Whether the tables and the traces of the guide are those that its scripts give, in order, and
+/// whether it has no other ones.
 fn is_guide_as_it_says<R: Files + Alloc<A = Global> + Threads + Wait + Sync>(
     rt: &R,
     alloc: Global,
@@ -226,7 +233,7 @@ fn guide_blocks<R: Files + Alloc<A = Global> + Threads + Wait + Sync>(
     Ok(blocks)
 }
 
-/// What a text has behind a block, if it has the block, and no other block before it.
+/// What a text has after a block, if it has the block, and no other block before it.
 fn text_behind<'a>(text: &'a str, block: &str) -> Option<&'a str> {
     let (before, behind) = text.split_once(block)?;
     if has_block(before) {
@@ -240,7 +247,8 @@ fn has_block(text: &str) -> bool {
     text.contains(TABLE_HEAD) || text.contains(MISTAKES_HEAD) || text.contains(TRACE_HEAD)
 }
 
-/// Runs a script over the fresh world, pushes its table and the trace of its run, and gives the trace.
+/// Runs a script over the fresh world, pushes its table and the trace of its run, and gives the
+/// trace.
 fn push_run<R: Files + Alloc<A = Global>>(
     rt: &R,
     alloc: Global,
@@ -277,7 +285,7 @@ fn block_of(alloc: Global, trace: &str) -> Result<String> {
     Ok(format!(in alloc; "{TRACE_HEAD}{trace}{TRACE_END}")?)
 }
 
-/// The table of mistakes in a trace, and the empty line behind it.
+/// The table of mistakes in a trace, and the empty line after it.
 fn table_of_mistakes(alloc: Global, trace: &str) -> Result<String> {
     let mut table = String::from_str(alloc, MISTAKES_HEAD)?;
     for (right, wrong) in MISTAKES {
@@ -322,7 +330,7 @@ fn replies_over(alloc: Global, trace: &str, script: &str) -> Result<String> {
     Ok(String::from_utf8(written)?)
 }
 
-/// The report of a script over a fresh world, with the trace of the run behind it or without.
+/// The report of a script over a fresh world, with the trace of the run after it or without.
 fn report_from_start(alloc: Global, ring: Ring, script: &str, traced: bool) -> Result<String> {
     let mut written = Vec::new(alloc);
     play(
@@ -338,7 +346,7 @@ fn report_from_start(alloc: Global, ring: Ring, script: &str, traced: bool) -> R
     Ok(String::from_utf8(written)?)
 }
 
-/// The table of a script's lines and the replies to them, and the empty line behind it.
+/// The table of a script's lines and the replies to them, and the empty line after it.
 fn table_of(alloc: Global, script: &str, replies: &str) -> Result<String> {
     let mut table = String::from_str(alloc, TABLE_HEAD)?;
     for (line, reply) in script.lines().zip(replies.lines()) {
@@ -348,8 +356,8 @@ fn table_of(alloc: Global, script: &str, replies: &str) -> Result<String> {
     Ok(table)
 }
 
-/// The table of two viewers: for each the file, its heading, and its lines with what is certain of the replies; and
-/// last how many calls were recorded.
+/// The table of two viewers: for each the file, its heading, and its lines with what is certain of
+/// the replies; and last how many calls were recorded.
 fn table_of_viewers<R: Files + Alloc<A = Global> + Threads + Wait + Sync>(
     rt: &R,
     alloc: Global,
@@ -380,8 +388,8 @@ fn table_of_viewers<R: Files + Alloc<A = Global> + Threads + Wait + Sync>(
     table_of(alloc, &lines, &replies)
 }
 
-/// Writes a reply with letters in the place of the numbers that another order of the viewers' calls would change: those of
-/// steps, how many are live, and a tail's counter.
+/// Writes a reply with letters in the place of the numbers that another order of the viewers' calls
+/// would change: those of steps, how many are live, and a tail's counter.
 fn write_certain(text: &mut String, reply: &str) -> Result<()> {
     if let Some(rest) = reply.strip_prefix("ok ") {
         match rest.split_once(' ') {

@@ -1,4 +1,5 @@
--- What clap's errors are to the program, and that the program's command is one of which clap's clauses are exact.
+-- What clap's errors are to the program, and that the program's command is one of which clap's
+-- clauses are exact.
 use Rattle.std.proofs.Common.{◌≡◌, ◌∙◌, inl, inr, refl, sym, subst, ap, true, List, []}
 use Rattle.clap.specs.Simple.{App, HasMatchesOf, is_simple, subcommand_rows_of, with_subcommand}
 use Rattle.clap.specs.Kinds.{HasKind}
@@ -28,7 +29,8 @@ EndsFor-fault_by words kind.DisplayVersion e is fault = (ap is_request is, subst
 EndsFor-fault_by words kind.OutOfMemory e is fault = tt
 EndsFor-fault_by words _ e is fault = (ap is_request is, inl (subst (HasFault words) (sym is) fault))
 
--- the program's fault at an error of clap's: memory ran out, or the kind is one that clap has for the words
+-- the program's fault at an error of clap's: memory ran out, or the kind is one that clap has for
+-- the words
 pub EndsFor-options_fault : (words : List Text) (names : BothNames) (e : Error) → AreRings names → HasKind (fault_of (program_app names) words) e → EndsFor words (options_fault e)
 EndsFor-options_fault words names e rings (inl memory) = subst (λ k. EndsFor words (fault_by k e)) (sym memory) tt
 EndsFor-options_fault words names e rings (inr among) =

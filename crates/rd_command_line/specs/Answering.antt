@@ -18,20 +18,22 @@ use Rattle.rd_command_line.specs.declared.outcomes.Outcome.TheVariants.{Done}
 use Rattle.rd_command_line.specs.Outcomes.{Ends, IsOutcomeOf}
 use Rattle.rd_command_line.specs.CommandLine.{EndsFor, Reads}
 
--- a file could not be opened, and the output is as it was; or the script in it was played, whatever the file gave
+-- a file could not be opened, and the output is as it was; or the script in it was played, whatever
+-- the file gave
 abbrev pub PlaysFile : ℕ → ℕ → Bool → Option (List ℕ) → Option (List ℕ) → Bool → Result ℕ ProgramFault → Type 0
 PlaysFile R actors traced output output' failed result =
     ((result ≡ Err program.Read) × Keeps output output' × (failed ≡ false))
     ⊎ ((d : Devices) × (d.out_before ≡ output) × (d.out_after ≡ output') × (d.out_failed ≡ failed) × PlaysScript R actors traced d result)
 
--- a file could not be opened or read, and neither stream was touched; or some text was loaded, whatever the file gave, and the script
--- on the input was run over its trace
+-- a file could not be opened or read, and neither stream was touched; or some text was loaded,
+-- whatever the file gave, and the script on the input was run over its trace
 abbrev pub LoadsFile : Devices → Result ℕ ProgramFault → Type 0
 LoadsFile d result =
     (((fault : ProgramFault) × (result ≡ Err fault) × IsUnread fault) × TouchesNothing d)
     ⊎ ((text : List ℕ) × ResumesTrace text d result)
 
--- a file could not be opened or read, and the output is as it was; or the scripts in so many files were viewed, whatever the files gave
+-- a file could not be opened or read, and the output is as it was; or the scripts in this many
+-- files were viewed, whatever the files gave
 abbrev pub ViewsFiles : ℕ → ℕ → ℕ → Option (List ℕ) → Option (List ℕ) → Bool → Result ℕ ProgramFault → Type 0
 ViewsFiles count R actors output output' failed result =
     (((fault : ProgramFault) × (result ≡ Err fault) × IsUnread fault) × Keeps output output' × (failed ≡ false))
@@ -41,7 +43,8 @@ ViewsFiles count R actors output output' failed result =
 abbrev pub LeavesInput : Devices → Type 0
 LeavesInput d = Keeps d.in_before d.in_after × (d.in_failed ≡ false)
 
--- the script on the input was played if the name is `-`, else the one in the file of this name, with the input left alone
+-- the script on the input was played if the name is `-`, else the one in the file of this name,
+-- with the input left alone
 abbrev pub PlaysNamed : Text → ℕ → ℕ → Bool → Devices → Result ℕ ProgramFault → Type 0
 PlaysNamed name R actors traced d result =
     ((name ≡ codes "-") × PlaysScript R actors traced d result)
@@ -66,7 +69,8 @@ abbrev pub HasOutcome : {S : Type 0} → (S → Text) → Result (Vec S Global) 
 HasOutcome text (Ok words) d outcome = Answers (map text words.items) d outcome
 HasOutcome text (Err taken) d outcome = (outcome ≡ taken) × TouchesNothing d
 
--- what the program did from its words to its end: an outcome, with what it left on the output, and then the end of that outcome
+-- what the program did from its words to its end: an outcome, with what it left on the output, and
+-- then the end of that outcome
 pub record Performs {S : Type 0} (text : S → Text) (words : Result (Vec S Global) Outcome) (status : ℕ) (d : Devices)
     (errors errors' : Option (List ℕ)) (errors_failed : Bool) : Type 0 where
   pub outcome : Outcome

@@ -24,7 +24,8 @@ abbrev pub flag_text : Bool → List ℕ
 flag_text true = codes "true"
 flag_text false = codes "false"
 
--- the number of actors that is asked for is one that a world may have, and that of the files one that there may be viewers
+-- the number of actors that is asked for is one that a world may have, and that of the files one
+-- that there may be viewers
 abbrev pub AreInRange : Options → Type 0
 AreInRange (Run file actors ring trace) = (1 ≤ actors) × (actors ≤ MOST_ACTORS)
 AreInRange (View files actors ring) = ((1 ≤ actors) × (actors ≤ MOST_ACTORS)) × ((1 ≤ length files.items) × (length files.items ≤ MOST_VIEWERS))

@@ -1,4 +1,5 @@
-//! What the program does for the words of a command line: which files it opens, which streams it uses, and how it ends.
+//! What the program does for the words of a command line: which files it opens, which streams it
+//! uses, and how it ends.
 
 ghost use Rattle.std.specs.Prelude.{◌≡◌, ◌≤◌, IfOk, IfErr, length, map, vec_len, true, false};
 ghost use Rattle.std.specs.Process.{exit_status};
@@ -26,8 +27,9 @@ use std::process::ExitCode;
 use std::sync::Wait;
 use std::thread::Threads;
 
-/// Does what the words of a command line ask for over the files and the three streams, writes the messages of the end, and
-/// answers its status. Words that could not be taken come to an outcome of their own.
+/// Does what the words of a command line ask for over the files and the three streams, writes the
+/// messages of the end, and answers its status. Words that could not be taken come to an outcome of
+/// their own.
 pub fn perform<R: Files + Threads + Wait + Sync, S: AsStr + Drop, I: Source, O: Sink, E: Sink>(
     rt: &R,
     alloc: Global,
@@ -88,7 +90,7 @@ pub fn answer<R: Files + Threads + Wait + Sync, S: AsStr, I: Source, O: Sink>(
     }
 }
 
-/// Does what the options ask for. Answers the number of the script's lines, or for `view` that of
+/// Does what the options ask for. Returns the number of the script's lines, or for `view` that of
 /// the recorded calls.
 fn do_options<R: Files + Threads + Wait + Sync, I: Source, O: Sink>(
     rt: &R,
@@ -164,7 +166,8 @@ fn play_file<R: Files, O: Sink>(
     play(alloc, &mut ReadSource::new(file), output, setup, trace)
 }
 
-/// Runs the scripts in the files of these names, each by a viewer of its own. All are read before the first command.
+/// Runs the scripts in the files of these names, each by its own viewer. All are read before the
+/// first command.
 fn view_files<R: Files + Threads + Wait + Sync, O: Sink>(
     rt: &R,
     alloc: Global,

@@ -1,7 +1,8 @@
 //! The command line of the program, read by `clap`.
 //!
-//! The contracts speak of the command that `clap` is told as a value of its specification (`program_app`), and of what
-//! `clap` makes of that command and the words: the rows of matches, or the kinds of fault that it may name.
+//! The contracts speak of the command that `clap` is told as a value of its specification
+//! (`program_app`), and of what `clap` makes of that command and the words: the rows of matches, or
+//! the kinds of fault that it may name.
 
 ghost use Rattle.std.specs.Prelude.{◌≡◌, ◌≢◌, ℕ, IfOk, IfErr, IfSome, IsNone, Bool, map, false};
 ghost use Rattle.clap.specs.Words.{app_of, found_of, kind_of, rows_of, rule_of, subcommand_rows_of};
@@ -25,7 +26,8 @@ const VERSION: &str = "0.1.0";
 /// The numbers of cells that a ring may have, as the command line spells them.
 static RINGS: [&str; 3] = ["2", "4", "8"];
 
-/// What the help of `run` and `load` ends with: the lines of a script in six rows, and where the manual is.
+/// What the help of `run` and `load` ends with: the lines of a script in six rows, and where the
+/// manual is.
 const LINES: &str = "Lines of a script:\n  \
     calls      enq A X, deq A, aenq A X, adeq A\n  \
     steps      go A, starve A yes, starve A no\n  \

@@ -37,7 +37,7 @@ pub enum Options<'a> {
         /// `--trace`: whether the trace of the run follows its report.
         trace: bool,
     },
-    /// `view FILE..`: runs several scripts over one world, each by a viewer of its own.
+    /// `view FILE..`: runs several scripts over one world, each by its own viewer.
     View {
         /// The scripts' files, 1 to 64, in the order of their viewers.
         files: Vec<&'a str>,

@@ -18,7 +18,7 @@ differ_there (x ∷ xs) [] n c d within_a within_b other h = omega arith
 differ_there (x ∷ xs) (y ∷ ys) zero c d within_a within_b other h = other cc
 differ_there (x ∷ xs) (y ∷ ys) (suc n) c d within_a within_b other h = differ_there xs ys n c d (omega arith) (omega arith) other cc
 
--- where both lists go on behind what they have in common at most, neither begins the other
+-- where both lists go on after what they have in common at most, neither begins the other
 pub neither_begins : (a b : List Entry) (n : ℕ) → (Begins (events a) (events b) → n ≡ length a) → (Begins (events b) (events a) → n ≡ length b)
     → 1 ≤ length (take (length a - n) (drop n a)) → 1 ≤ length (take (length b - n) (drop n b)) → IsBegunByNeither (events a) (events b)
 neither_begins a b n first second more_a more_b = (

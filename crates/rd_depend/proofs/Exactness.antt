@@ -1,4 +1,5 @@
--- Taking a record that may come first out of one list, and the first one out of the other, keeps whether the lists are equivalent.
+-- Taking a record that may come first out of one list, and the first one out of the other, keeps
+-- whether the lists are equivalent.
 use Rattle.std.proofs.Common.{◌≡◌, ◌↔◌, ℕ, zero, suc, ◌-◌, ◌≤◌, Bool, refl, sym, ◌∙◌, ap, subst, arith, List, [], ◌∷◌, ◌++◌, length, take, drop, length-drop, Ok}
 use Rattle.std.proofs.lemmas.List.{map-append, take_all}
 use Rattle.rd_step.specs.Prelude.{World, Stepped, step, Ran, run, IsFree}
@@ -24,10 +25,10 @@ front R w xs x ys h free =
       rest = ap run_entries (ap (run R first.after) (map-append (λ (y : Entry). y.event) xs ys) ∙ first.runs);
     }
 
--- Where the first event of the one list may stand in the other
+-- Where the first event of the one list may be in the other
 
--- equivalent lists have it at a record that depends on no earlier one; without it there and in the world after it the rests
--- are equivalent
+-- equivalent lists have it at a record that depends on no earlier one; without it there and in the
+-- world after it the rests are equivalent
 pub record ComesFirst (R : ℕ) (w : World) (e : Event) (es : List Event) (rest : List Entry) : Type 0 where
   pub left : List Entry
   pub may : MayComeFirst e rest left
@@ -92,8 +93,8 @@ one_left e rest l k a b =
     let one = one_place e a.earlier a.later b.earlier b.later a.entry b.entry (sym a.stands ∙ b.stands) a.its_event b.its_event a.free b.free in
     a.leaves ∙ (λ i. one.before i ++ one.behind i) ∙ sym b.leaves
 
--- where the first event of a run may come first in another from the same world, the record is the same there, and what is left runs on
--- from the world after it
+-- where the first event of a run may come first in another from the same world, the record is the
+-- same there, and what is left runs on from the world after it
 pub record RunsOn (R : ℕ) (v : World) (x entry : Entry) (left : List Entry) : Type 0 where
   pub same : entry ≡ x
   pub runs : IsRunFrom R v left
@@ -129,7 +130,8 @@ no_events (x ∷ xs) h = cc
 
 -- A common beginning
 
--- behind it: the world there, from which what is left of both lists runs, and they are equivalent exactly where this is
+-- after it: the world there, from which what is left of both lists runs, and they are equivalent
+-- exactly where this is
 record Behind (R : ℕ) (w : World) (a b xs ys : List Entry) : Type 0 where
   here : World
   first_runs : IsRunFrom R here xs
@@ -158,7 +160,7 @@ behind R (suc n) w (x ∷ xs) (y ∷ ys) runs_a runs_b in_a in_b h =
 all_behind : (a : List Entry) (n : ℕ) → take (length a - n) (drop n a) ≡ drop n a
 all_behind a n = take_all (length a - n) (drop n a) (omega (arith, length-drop n a))
 
--- an answer for what is behind the common beginning is one for the lists
+-- an answer for what is after the common beginning is one for the lists
 pub right_behind : (a b : List Entry) (n : ℕ) (same : Bool) → n ≤ length a → n ≤ length b → events (take n a) ≡ events (take n b)
     → DecidesEquivalence (take (length a - n) (drop n a)) (take (length b - n) (drop n b)) same → DecidesEquivalence a b same
 right_behind a b n same in_a in_b h right R w runs_a runs_b =

@@ -1,4 +1,5 @@
--- A record of an event that depends on no earlier one is the first of its actor, so there is one such place at most.
+-- A record of an event that depends on no earlier one is the first of its actor, so there is one
+-- such place at most.
 use Rattle.std.proofs.Common.{◌≡◌, ℕ, ◌==◌, refl, sym, ◌∙◌, ap, subst, List, [], ◌∷◌, ◌++◌}
 use Rattle.std.proofs.lemmas.Bool.{eqb-false, or_parts}
 use Rattle.rd_step.specs.Prelude.{interfere, IsFree}
@@ -10,7 +11,8 @@ abbrev pub HasNoneBy : ℕ → List Entry → Type 0
 HasNoneBy n [] = Unit {0}
 HasNoneBy n (x ∷ xs) = (n ≡ x.event.actor → ⊥) × HasNoneBy n xs
 
--- a record of this event is at a place where it depends on no earlier one, and without it there these are left
+-- a record of this event is at a place where it depends on no earlier one, and without it there
+-- these are left
 pub record MayComeFirst (e : Event) (entries left : List Entry) : Type 0 where
   pub earlier : List Entry
   pub entry : Entry

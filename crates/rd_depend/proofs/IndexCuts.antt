@@ -60,7 +60,8 @@ cut_index old new n cuts less es is = record {
   len = cuts.len ∙ sym (length-take-le n es (omega (arith, is.len, less)));
 }
 
--- where the first entries are left, in lists that can have as many as before, there is room for the others
+-- where the first entries are left, in lists that can have as many as before, there is room for the
+-- others
 pub cut_room : (old new : DependIndex) (n : ℕ) (es rest : List Entry) → IsIndexOf old es → IsIndexOf new (take n es) → ((t : Touch) → capacity new t ≡ capacity old t)
     → HasRoomFor old rest → HasRoomFor new (drop n es ++ rest)
 cut_room old new n es rest was is stays has = record {

@@ -1,4 +1,5 @@
--- The first dependant, from the first later positions in an actor's list, a place's and a segment's.
+-- The first dependant, from the first later positions in an actor's list, a place's and a
+-- segment's.
 use Rattle.std.proofs.Common.{◌≡◌, ℕ, zero, suc, ◌+◌, ◌<◌, ◌≤◌, min, Bool, true, false, not, ◌&&◌, ◌||◌, ◌==◌, inl, inr, if◌then◌else◌, nat_lt, List, [], ◌∷◌, length, drop, Option, Some, None, refl, sym, ap, subst, ◌∙◌, arith, eqb-true, eq-eqb}
 use Rattle.std.proofs.lemmas.Bool.{or_cases, or_left, or_right, false≢true}
 use Rattle.std.proofs.lemmas.Bool.Decides.{nat_tests}
@@ -112,7 +113,7 @@ first-is es (suc i) x h =
     ∙ scanned x (suc i) (suc (suc i)) (drop (suc i) es) (omega arith)
     ∙ sym (ap (λ (o : Option Entry). first_after o (suc (suc i)) (drop (suc i) es)) h)
 
--- what is found behind the first k tells whether the step depends on one of those
+-- what is found after the first k tells whether the step depends on one of those
 pub found-behind : (x : Entry) (k : ℕ) (es : List Entry) → is_some (first_above k (positions (depends x) es)) ≡ depends_on_one (drop k es) x
 found-behind x k es =
     ap is_some (skipped (depends x) k 1 k es (omega arith) ∙ scanned x k (1 + k) (drop k es) (omega arith)) ∙ some (1 + k) (drop k es)
@@ -199,7 +200,8 @@ kept_covers p (Cell t j) h =
     ]
 kept_covers p q h = at_own p q h
 
--- those that overlap a place of a segment are that place, the cell of which it is a half, and the whole of the segment
+-- those that overlap a place of a segment are that place, the cell of which it is a half, and the
+-- whole of the segment
 pub overlaps-own : (p : Place) (s : SegName) → segment_of p ≡ Some s → is_cell_at p ≡ false → (o : Option Place)
     → some_overlap (Some p) o ≡ (is_under (At p) o || is_under (At (Whole s)) o)
 overlaps-own p s h n None = refl
@@ -285,7 +287,8 @@ overlaps-alone p h other (Some q) = both_ways (overlaps p q) (is_kept_at p q) fo
     forth : overlaps p q ≡ true → is_kept_at p q ≡ true
     forth g = elim (or_cases (covers p q) (covers q p) g) [ inl a ↦ by_p (covers_cases p q a) | inr b ↦ by_q (covers_cases q p b) ]
 
--- those that overlap a place are kept under three keys at most: that of a cell's value half, its own, and that of the whole of its segment
+-- those that overlap a place are kept under three keys at most: that of a cell's value half, its
+-- own, and that of the whole of its segment
 abbrev pub overlaps_under : Place → Option Place → Bool
 overlaps_under p o = is_under_some (value_of_place p) o || (is_under (own_key p) o || is_under_some (whole_key p) o)
 
@@ -364,8 +367,8 @@ found_in index es is few t k r found = found (kept-ascends index es is t) (kept-
 abbrev pub meets : Place → Wrote → Entry → Bool
 meets p v y = interfere (Some p) v y.place y.wrote
 
--- where the steps are kept that interfere with an access: at a cell its value half is touched, and written where it is not kept; all else is
--- written wherever anything is
+-- where the steps are kept that interfere with an access: at a cell its value half is touched, and
+-- written where it is not kept; all else is written wherever anything is
 abbrev pub looks : Place → Wrote → Entry → Bool
 looks p v y =
     is_under_some (value_of_place p) (reached (not (is_value_written v)) y)

@@ -1,4 +1,5 @@
--- What is kept under a key, and the three keys of a place: its own, that of a cell's value half, and its segment's.
+-- What is kept under a key, and the three keys of a place: its own, that of a cell's value half,
+-- and its segment's.
 use Rattle.std.proofs.Common.{◌≡◌, ℕ, Bool, true, false, not, ◌==◌, ◌&&◌, ◌||◌, Option, Some, None, refl, sym, ap, subst, ◌∙◌}
 use Rattle.std.proofs.lemmas.Bool.{and_from, both_ways, or_left, or_parts, or_right}
 use Rattle.rd_cell.specs.declared.places.SegName.{SegName}

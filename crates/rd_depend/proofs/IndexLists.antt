@@ -45,7 +45,7 @@ number-below k (p ∷ ps) zero d within gt = omega (arith, number_up_to_none k p
 number-below k (p ∷ ps) (suc i) d within gt =
     let rest : number_up_to k ps ≤ i = number-below k ps i d (omega arith) gt in grind (arith, nat_tests)
 
--- the first that is greater stands behind them
+-- the first that is greater is after them
 pub first_above-at : (k : ℕ) (ps : List ℕ) → first_above k ps ≡ slice_get ps (number_up_to k ps)
 first_above-at k [] = refl
 first_above-at k (p ∷ ps) = by (nat_lt k p) (first_above-at k ps)

@@ -1,4 +1,5 @@
--- A position moved behind others in all lists: the index is then that of the entries with that one moved, and has the same room.
+-- A position moved after others in all lists: the index is then that of the entries with that one
+-- moved, and has the same room.
 use Rattle.std.proofs.Common.{◌≡◌, ℕ, zero, suc, ◌+◌, ◌-◌, ◌≤◌, Bool, List, [], ◌∷◌, ◌++◌, length, take, drop, Some, refl, sym, ap, subst, ◌∙◌, append_assoc, arith, length-append, length-drop}
 use Rattle.std.proofs.Math.ListN.{drop_of_length-le}
 use Rattle.std.proofs.lemmas.List.{length-take-le, take_all, take-append-drop, drop-drop}
@@ -14,7 +15,7 @@ use Rattle.rd_depend.proofs.IndexChanges.{drop_one}
 use Rattle.rd_depend.proofs.IndexLists.{ascends_lower}
 use Rattle.rd_depend.proofs.IndexRoom.{room_stays}
 
--- a list cut before its k-th element, behind it, and behind the n-th
+-- a list cut before its k-th element, after it, and after the n-th
 record Cut {X : Type 0} (es : List X) (k n : ℕ) : Type 0 where
   low : List X
   x : X
@@ -115,7 +116,7 @@ moved_room old new k n some order within moves es is rest has = record {
       );
 }
 
--- moved behind all others
+-- moved after all others
 pub moved_last : (es : List Entry) (k n : ℕ) (x : Entry) → n ≡ length es → numbered es k ≡ Some x → moved_behind es k n ≡ without es k ++ x ∷ []
 moved_last es zero n x all h = absurd cc
 moved_last es (suc i) n x all h =

@@ -1,4 +1,5 @@
--- Positions of the entries that pass a test: of a list with one more entry, of two lists one behind the other.
+-- Positions of the entries that pass a test: of a list with one more entry, of two lists one after
+-- the other.
 use Rattle.std.proofs.Common.{◌≡◌, ℕ, suc, ◌+◌, ◌-◌, ◌≤◌, Bool, true, false, if◌then◌else◌, List, [], ◌∷◌, ◌++◌, length, map, take, refl, ap, ◌∙◌, arith, length-append}
 use Rattle.std.proofs.Math.Seq.{take-append_seam}
 use Rattle.std.proofs.lemmas.List.{append-nil}
@@ -51,7 +52,7 @@ positions-within test n m (x ∷ xs) h = by (test x) (positions-within test (n +
     by true rest = (omega arith, rest)
     by false rest = rest
 
--- of one list behind another
+-- of one list after another
 pub positions-append : (test : Entry → Bool) (n m : ℕ) (xs ys : List Entry) → m ≡ n + length xs
     → positions_from test n (xs ++ ys) ≡ positions_from test n xs ++ positions_from test m ys
 positions-append test n m [] ys e = let same : n ≡ m = omega arith in ap (λ (i : ℕ). positions_from test i ys) same

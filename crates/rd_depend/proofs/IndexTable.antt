@@ -1,4 +1,5 @@
--- The table of keys: which key has which index, and what a change of the lists by index is for the keys.
+-- The table of keys: which key has which index, and what a change of the lists by index is for the
+-- keys.
 use Rattle.std.proofs.Common.{◌≡◌, ℕ, zero, suc, ◌+◌, ◌-◌, ◌<◌, ◌≤◌, Bool, true, false, ◌&&◌, ◌||◌, ◌==◌, if◌then◌else◌, nat_lt, cond, not, List, [], ◌∷◌, ◌++◌, length, get_or, take, Option, Some, None, slice_get, position, Vec, refl, sym, ap, subst, ◌∙◌, arith, eqb-true, eq-eqb}
 use Rattle.std.proofs.lemmas.Bool.Decides.{nat_tests}
 use Rattle.std.proofs.lemmas.Map.Keys.{apart_from_distinct}
@@ -24,7 +25,7 @@ suc_none : (o : Option ℕ) → option_map (λ n. suc n) o ≡ None → o ≡ No
 suc_none None h = refl
 suc_none (Some j) h = absurd cc
 
--- at its index stands the key
+-- at its index is the key
 pub slot-there : (keys : List Key) (k : Key) (i : ℕ) → slot_in keys k ≡ Some i → slice_get keys i ≡ Some k
 slot-there [] k i h = absurd cc
 slot-there (q ∷ qs) k i h = by (is_key k q) refl (slot-there qs k) h
@@ -41,7 +42,7 @@ slot-within (q ∷ qs) k i h = by (is_key k q) (slot-within qs k) h
     by true rest g = let z : 0 ≡ i = cc in omega (arith, z)
     by false rest g = let s = suc_some (slot_in qs k) i g in omega (arith, s.2, rest s.0 s.1)
 
--- a key that stands at an index has that index, since no key stands twice
+-- a key that is at an index has that index, since no key occurs twice
 stands-slot : (keys : List Key) (k : Key) (i : ℕ) (d : Key) → IsDistinct is_key keys → i < length keys → k ≡ get_or keys i d → slot_in keys k ≡ Some i
 unfolding IsDistinct
 stands-slot keys k i d distinct within at = ap (slot_in keys) at ∙ own keys i d distinct within
@@ -60,7 +61,7 @@ stands-slot keys k i d distinct within at = ap (slot_in keys) at ∙ own keys i 
     own (q ∷ qs) (suc j) d s h =
         behind q (get_or qs j d) qs j (apart_from_distinct is_key (q ∷ qs) 0 (suc j) d s (omega arith) h) (own qs j d s.1 (omega arith))
 
--- the same of a key that is equal to the one that stands there
+-- the same of a key that is equal to the one that is there
 pub key-slot : (keys read : List Key) (k : Key) (i : ℕ) (d : Key) → read ≡ keys → IsDistinct is_key keys → i < length read → is_key (get_or read i d) k ≡ true
     → slot_in keys k ≡ Some i
 key-slot keys read k i d same distinct within is =
@@ -234,7 +235,7 @@ keeps_pushed old new k v u keys all writes none_v none_u in_all in_writes = reco
         let same : spare_in new true q ≡ room_left (old.writes.items ++ u ∷ []) (slot_in (old.keys.keys ++ k ∷ []) q) = λ i. room_left (writes i) (slot_in (keys i) q) in
         omega (arith, same, room_pushed old.keys.keys k q old.writes.items u in_writes)
 
--- a key that was not there stands last
+-- a key that was not there is last
 pub key_last : (keys new : List Key) (k : Key) → slot_in keys k ≡ None → new ≡ (if list_any (is_key k) keys then keys else keys ++ k ∷ []) → new ≡ keys ++ k ∷ []
 key_last keys new k none h = h ∙ ap (λ (b : Bool). if b then keys else keys ++ k ∷ []) (absent keys k none)
 

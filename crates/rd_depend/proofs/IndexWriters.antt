@@ -1,4 +1,5 @@
--- The last writer of a place, from the last positions up to a number in a place's list and a segment's.
+-- The last writer of a place, from the last positions up to a number in a place's list and a
+-- segment's.
 use Rattle.std.proofs.Common.{◌≡◌, ℕ, zero, suc, ◌+◌, ◌-◌, ◌<◌, ◌≤◌, max, Bool, true, false, ◌||◌, if◌then◌else◌, nat_lt, List, [], ◌∷◌, length, get_or, take, Option, Some, None, refl, sym, ap, ◌∙◌, arith}
 use Rattle.std.proofs.Math.Bool.{or_comm}
 use Rattle.rd_cell.specs.declared.places.Place.{Place}
@@ -12,7 +13,7 @@ use Rattle.rd_depend.specs.Writers.{behind, last_position, writes_to}
 use Rattle.rd_depend.proofs.IndexCuts.{positions-up_to}
 use Rattle.rd_depend.proofs.IndexFirst.{kept-ascends, kept-short, overlaps-keys}
 
--- the last of ascending positions up to a number stands before those that are greater
+-- the last of ascending positions up to a number is before those that are greater
 
 last-none : (k : ℕ) (ps : List ℕ) → number_up_to k ps ≡ 0 → last_of (up_to k ps) ≡ None
 last-none k [] h = refl
@@ -108,7 +109,8 @@ pub none_last : (es : List Entry) → last_position (λ (y : Entry). false) es �
 none_last [] = refl
 none_last (x ∷ xs) = ap (behind false) (none_last xs)
 
--- the steps that wrote a place, or one of the places that it names: by the three keys under which what they wrote is kept
+-- the steps that wrote a place, or one of the places that it names: by the three keys under which
+-- what they wrote is kept
 pub last_at : (p : Place) (es : List Entry) (value own whole both all : Option ℕ)
     → value ≡ last_position (λ y. is_under_some (value_of_place p) (reached true y)) es → own ≡ last_position (λ y. is_under (own_key p) (reached true y)) es
     → whole ≡ last_position (λ y. is_under_some (whole_key p) (reached true y)) es → both ≡ later own whole → all ≡ later value both

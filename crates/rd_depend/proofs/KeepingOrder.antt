@@ -1,5 +1,5 @@
--- Steps keep the order of dependent ones at the places where they stand in another list exactly where they may be taken out of it one
--- after another.
+-- Steps keep the order of dependent ones at the places where they are in another list exactly where
+-- they may be taken out of it one after another.
 use Rattle.std.proofs.Common.{◌≡◌, ◌≢◌, ℕ, suc, ◌<◌, ◌≤◌, Bool, true, false, ◌==◌, if◌then◌else◌, List, [], ◌∷◌, ◌++◌, map, refl, sym, ap, subst, ◌∙◌, arith, eqb-true, eq-eqb}
 use Rattle.std.proofs.lemmas.Bool.{eqb-false}
 use Rattle.std.proofs.lemmas.List.{map-append}
@@ -35,7 +35,7 @@ unseen true false true r i j h quiet never = absurd (never refl refl)
 unseen true false false r i j h quiet never = h
 unseen false w v r i j h quiet never = h
 
--- and where one did the second is behind the first
+-- and where one did the second is after the first
 seen_touching : (b w v : Bool) (r : Reached) (i j : ℕ) → bound (if b then passed r w i else r) v < j → b ≡ true → w ≡ true → i < j
 seen_touching true true true r i j h e f = omega arith
 seen_touching true true false r i j h e f = omega arith
@@ -112,12 +112,12 @@ each-both : (P Q : Placed → Type 0) (ps : List Placed) → Each P ps → Each 
 each-both P Q [] h g = tt
 each-both P Q (p ∷ ps) h g = ((h.0, g.0), each-both P Q ps h.1 g.1)
 
--- each stands behind the one before it
+-- each is after the one before it
 abbrev Ascends : List Placed → Type 0
 Ascends [] = Unit {0}
 Ascends (p ∷ ps) = Each (λ q. p.0 < q.0) ps × Ascends ps
 
--- those before a step and those behind it
+-- those before a step and those after it
 record Around (ps : List Placed) (p : Placed) (qs : List Placed) : Type 0 where
   before : Each (λ q. q.0 < p.0) ps
   behind : Each (λ q. p.0 < q.0) qs
@@ -162,7 +162,7 @@ other n p ps h = by (n == p.1.event.actor) (λ e. h (eqb-true n p.1.event.actor 
     by true never = absurd (never refl)
     by false never = refl
 
--- the first step of an actor, with those before it and behind it
+-- the first step of an actor, with those before it and after it
 record FirstBy (n : ℕ) (ps : List Placed) (p : Placed) (rest : List Placed) : Type 0 where
   earlier : List Placed
   later : List Placed
@@ -230,7 +230,7 @@ no_entries (p ∷ ps) h = cc
 
 -- Where they keep the order they may be taken out
 
--- each stands in order
+-- each is in order
 abbrev AreInOrder : (Key → Reached) → List Placed → Type 0
 AreInOrder s ps = Each (λ p. IsInOrder s p.1 p.0) ps
 

@@ -1,4 +1,5 @@
--- Two steps of a run depend on each other exactly where they are of one actor, or one of them wrote under a key where the other touched.
+-- Two steps of a run depend on each other exactly where they are of one actor, or one of them wrote
+-- under a key where the other touched.
 use Rattle.std.proofs.Common.{◌≡◌, ◌⊎◌, Bool, true, false, ◌==◌, inl, inr, Option, Some, None, refl, sym, ap, subst, ◌∙◌}
 use Rattle.std.proofs.lemmas.Bool.{or_cases, or_left, or_right, or_parts, false≢true, eqb-false}
 use Rattle.rd_cell.specs.declared.places.SegName.{SegName}
@@ -104,7 +105,8 @@ written_whole (Some p) WroteIndex t h = ap (λ (r : Place). Some r) (half_whole 
 whole_own : (t : SegName) (o : Option Place) → o ≡ Some (Whole t) → is_whole_of t o ≡ true
 whole_own t o e = subst (λ (p : Option Place). is_whole_of t p ≡ true) (sym e) (is_name-refl t)
 
--- a place of the map that one wrote and the other touched: under some key one of them wrote and the other touched
+-- a place of the map that one wrote and the other touched: under some key one of them wrote and the
+-- other touched
 never_shared : (x y : Entry) (q : Place) → AreApart x y → is_of_map q ≡ true → wrote x q ≡ true → touched x q ≡ true → touched y q ≡ true → ⊥
 never_shared x y q apart m wrote_x touched_x touched_y =
     by (covered (written x.place x.wrote) q m wrote_x) (covered y.place q m touched_y)

@@ -1,4 +1,5 @@
--- Of two runs from one world the events are equivalent exactly where the records of the one may be taken out of the other.
+-- Of two runs from one world the events are equivalent exactly where the records of the one may be
+-- taken out of the other.
 use Rattle.std.proofs.Common.{◌≡◌, ℕ, Bool, true, false, if◌then◌else◌, nat_lt, refl, sym, ◌∙◌, ap, subst, List, [], ◌∷◌, ◌++◌, Option, Some, None, Result, Ok, Err}
 use Rattle.rd_step.specs.Prelude.{SegName, Place, WholeOf, Content, Contents, operand, Operation, Access, Refusal, SegmentsEnd, Performed, Effect, effect, perform, is_nothing, WrotePlace, MOST_SEGMENTS}
 use Rattle.rd_cell.specs.declared.operations.Answer.TheVariants.{Made}

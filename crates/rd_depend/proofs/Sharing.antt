@@ -1,4 +1,5 @@
--- Two records depend on each other exactly where they have one actor, or share a place of the map that one of them wrote.
+-- Two records depend on each other exactly where they have one actor, or share a place of the map
+-- that one of them wrote.
 use Rattle.std.proofs.Common.{◌≡◌, ◌↔◌, ◌⊎◌, Bool, true, false, not, ◌==◌, inl, inr, refl, subst, Option, Some, None, eqb-true, eq-eqb}
 use Rattle.std.proofs.lemmas.Bool.{or_cases, or_left, or_right}
 use Rattle.rd_cell.proofs.PlaceLemmas.{is_place-true, is_place-refl, covers-refl, both_cover, written-covers}

@@ -1,4 +1,5 @@
--- Where one list may be had from another by taking out one step after another, each free of those before it, so may the other from the one.
+-- Where one list may be had from another by taking out one step after another, each free of those
+-- before it, so may the other from the one.
 use Rattle.std.proofs.Common.{◌≡◌, ◌≢◌, true, List, [], ◌∷◌, ◌++◌, refl, sym, ap, subst, ◌∙◌}
 use Rattle.rd_step.specs.declared.entries.Entry.{Entry}
 use Rattle.rd_depend.specs.declared.index.keys.Key.{Key}
@@ -62,7 +63,8 @@ abbrev pub TakesAll : List Entry → List Entry → Type 0
 TakesAll [] entries = entries ≡ []
 TakesAll (x ∷ xs) entries = (left : List Entry) × Takes x entries left × TakesAll xs left
 
--- a step put back where it is apart from those before it, and one like it in front of the other list
+-- a step put back where it is apart from those before it, and one like it in front of the other
+-- list
 put_back : (xs ys zs : List Entry) (x y : Entry) → AreAlike x y → IsApartFrom y xs → TakesAll (xs ++ ys) zs → TakesAll (xs ++ y ∷ ys) (x ∷ zs)
 put_back [] ys zs x y alike apart h = (
   zs,

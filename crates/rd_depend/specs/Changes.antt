@@ -10,7 +10,8 @@ use Rattle.rd_depend.specs.Keys.{place_key, value_key, segment_key}
 use Rattle.rd_depend.specs.Lists.{spare_at, one_if, up_to, IsAscending, IsMoved}
 use Rattle.rd_depend.specs.Tables.{AreReady}
 
--- the list is as before where the entry is not to be kept, and has one more position at its end where it is
+-- the list is as before where the entry is not to be kept, and has one more position at its end
+-- where it is
 pub record Adds (x : Entry) (old new : DependIndex) : Type 0 where
   pub lists : (t : Touch) → kept new t ≡ (if touches t x then kept old t ++ (old.len + 1) ∷ [] else kept old t)
   pub room : (t : Touch) → spare old t ≤ spare new t + one_if (touches t x)
@@ -43,7 +44,7 @@ pub record Drops (x : Entry) (old new : DependIndex) : Type 0 where
   pub room : (t : Touch) → spare new t ≡ spare old t + one_if (touches t x)
   pub len : new.len + 1 ≡ old.len
 
--- in each list position k, if it was there, stands behind those up to n, and these are one less
+-- in each list position k, if it was there, is after those up to n, and these are one less
 pub record MovesAll (k n : ℕ) (old new : DependIndex) : Type 0 where
   pub lists : (t : Touch) → IsMoved k n (kept old t) (kept new t)
   pub capacity_stays : (t : Touch) → capacity new t ≡ capacity old t

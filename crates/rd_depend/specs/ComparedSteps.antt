@@ -1,4 +1,5 @@
--- What the code keeps while two runs are compared: how far the steps of the one reached in the other, and the steps that are left of that.
+-- What the code keeps while two runs are compared: how far the steps of the one reached in the
+-- other, and the steps that are left of that.
 use Rattle.std.specs.Prelude.{◌≡◌, ℕ, List, Option, Some, None, map, reverse}
 use Rattle.indexmap.specs.IndexMap.{get}
 use Rattle.rd_step.specs.declared.entries.Entry.{Entry}

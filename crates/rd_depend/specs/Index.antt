@@ -1,5 +1,5 @@
--- What an index keeps: of the entries of a list, the positions of those that touch an actor, a place or a segment, and of those
--- that wrote a place or one of a segment.
+-- What an index keeps: of the entries of a list, the positions of those that touch an actor, a
+-- place or a segment, and of those that wrote a place or one of a segment.
 use Rattle.std.specs.Prelude.{◌≡◌, ℕ, ◌+◌, ◌≤◌, Bool, true, false, ◌==◌, if◌then◌else◌, List, [], ◌∷◌, ◌++◌, length, Option, Some}
 use Rattle.rd_step.specs.Prelude.{Place, Wrote, WrotePlace, written}
 use Rattle.rd_step.specs.declared.entries.Entry.{Entry}
@@ -10,7 +10,8 @@ use Rattle.rd_depend.specs.Keys.{is_under}
 use Rattle.rd_depend.specs.Lists.{list_at, capacity_at, one_if, spare_at}
 use Rattle.rd_depend.specs.Tables.{kept_in, capacity_in, spare_in}
 
--- what a list of positions is kept for: an actor, or a place or a segment, of all steps that touched it or of those that wrote it
+-- what a list of positions is kept for: an actor, or a place or a segment, of all steps that
+-- touched it or of those that wrote it
 pub data Touch : Type 0 where
   By : ℕ → Touch
   Under : Bool → Key → Touch
@@ -54,7 +55,8 @@ abbrev pub spare : DependIndex → Touch → ℕ
 spare index (By a) = spare_at index.by_actor.items a
 spare index (Under w k) = spare_in index.by_key w k
 
--- the index is that of these entries: it keeps just the positions of those that are to be kept at each list
+-- the index is that of these entries: it keeps just the positions of those that are to be kept at
+-- each list
 pub record IsIndexOf (index : DependIndex) (entries : List Entry) : Type 0 where
   pub lists : (t : Touch) → kept index t ≡ positions (touches t) entries
   pub len : index.len ≡ length entries

@@ -1,4 +1,5 @@
--- Keys: their equality is that of values, and what is kept under a key is what is kept under a step's own keys.
+-- Keys: their equality is that of values, and what is kept under a key is what is kept under a
+-- step's own keys.
 use Rattle.std.proofs.Common.{◌≡◌, true, ap, subst}
 use Rattle.std.specs.Cmp.{IsEquivalence, both_ways}
 use Rattle.std.specs.Hash as fed

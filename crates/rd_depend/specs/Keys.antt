@@ -1,4 +1,5 @@
--- Keys: what a list of positions is kept for, apart from the actors. A cell is kept under its two halves.
+-- Keys: what a list of positions is kept for, apart from the actors. A cell is kept under its two
+-- halves.
 use Rattle.std.specs.Prelude.{ℕ, ◌+◌, ◌*◌, Bool, false, ◌||◌, List, [], ◌∷◌, Option, Some, None, suc, if◌then◌else◌}
 use Rattle.std.specs.Option.{option_map}
 use Rattle.rd_cell.specs.declared.places.SegName.{SegName}
@@ -19,7 +20,8 @@ abbrev pub is_that : Key → Option Key → Bool
 is_that q None = false
 is_that q (Some k) = is_key q k
 
--- whether a place is kept under the key of another: it is that place, or the cell of which that is a half
+-- whether a place is kept under the key of another: it is that place, or the cell of which that is
+-- a half
 abbrev pub is_kept_at : Place → Place → Bool
 is_kept_at p (Cell s i) = is_place p (Idx s i) || is_place p (Val s i)
 is_kept_at p q = is_place p q
@@ -66,7 +68,8 @@ abbrev pub segment_key : Option Place → Option Key
 segment_key None = None
 segment_key (Some p) = segment_of_place p
 
--- the key of the places that a place names, but for the value half of a cell: of the whole of a segment the segment's
+-- the key of the places that a place names, but for the value half of a cell: of the whole of a
+-- segment the segment's
 abbrev pub own_key : Place → Key
 own_key (Whole s) = In s
 own_key p = At (index_half p)

@@ -1,4 +1,5 @@
--- Whether the steps of one run keep the order of dependent steps at the places where they stand in another run.
+-- Whether the steps of one run keep the order of dependent steps at the places where they are in
+-- another run.
 use Rattle.std.specs.Prelude.{◌≡◌, ◌<◌, ℕ, suc, max, Bool, true, false, ◌==◌, if◌then◌else◌, List, [], ◌∷◌, Option, Some, None}
 use Rattle.rd_cell.specs.declared.places.SegName.{SegName}
 use Rattle.rd_cell.specs.declared.places.Place.{Place}
@@ -16,8 +17,9 @@ abbrev pub is_whole_of : SegName → Option Place → Bool
 is_whole_of s (Some (Whole t)) = is_name s t
 is_whole_of s _ = false
 
--- whether a step at this place that wrote this wrote under the key: a place by a write of it, a segment by its making. So a making
--- is a write of its segment, and each step at a place of the segment a read of it
+-- whether a step at this place that wrote this wrote under the key: a place by a write of it, a
+-- segment by its making. So a making is a write of its segment, and each step at a place of the
+-- segment a read of it
 abbrev pub wrote_under : Key → Option Place → Wrote → Bool
 wrote_under (At p) place wrote = is_under (At p) (written place wrote)
 wrote_under (In s) place wrote = is_whole_of s place
@@ -27,7 +29,8 @@ abbrev pub is_making : Option Place → Bool
 is_making (Some (Whole t)) = true
 is_making _ = false
 
--- the last place that a step under a key has to stand behind: of those that touched it if the step writes, else of those that wrote it
+-- the last place that a step under a key has to be after: of those that touched it if the step
+-- writes, else of those that wrote it
 abbrev pub bound : Reached → Bool → ℕ
 bound r wrote = if wrote then r.touched else r.wrote
 
@@ -43,7 +46,7 @@ nothing_reached k = record { touched = 0; wrote = 0 }
 abbrev pub moved : (Key → Reached) → Entry → ℕ → Key → Reached
 moved s x i k = if is_under k x.place then passed (s k) (wrote_under k x.place x.wrote) i else s k
 
--- a step at this place stands behind those before it on which it depends
+-- a step at this place is after those before it on which it depends
 abbrev pub IsInOrder : (Key → Reached) → Entry → ℕ → Type 0
 IsInOrder s x i = (k : Key) → is_under k x.place ≡ true → bound (s k) (wrote_under k x.place x.wrote) < i
 
@@ -84,13 +87,14 @@ with_steps left n rest m = if m == n then rest else left m
 abbrev pub with_first : (ℕ → List Placed) → ℕ → Placed → ℕ → List Placed
 with_first left n p m = if m == n then p ∷ left m else left m
 
--- of the steps that are left of each actor, the first one of the actor of x is p; it is like x, and stands in order
+-- of the steps that are left of each actor, the first one of the actor of x is p; it is like x, and
+-- is in order
 pub record IsNext (s : Key → Reached) (x : Entry) (left : ℕ → List Placed) (p : Placed) (rest : List Placed) : Type 0 where
   pub first : left x.event.actor ≡ p ∷ rest
   pub alike : AreAlike x p.1
   pub order : IsInOrder s x p.0
 
--- these steps are the ones that are left, each actor's in the same order, and each stands in order
+-- these steps are the ones that are left, each actor's in the same order, and each is in order
 abbrev pub KeepsOrder : (Key → Reached) → List Entry → (ℕ → List Placed) → Type 0
 KeepsOrder s [] left = (n : ℕ) → left n ≡ []
 KeepsOrder s (x ∷ xs) left =

@@ -64,7 +64,8 @@ AreUpTo n (p ∷ ps) = (p ≤ n) × AreUpTo n ps
 abbrev pub with_first : Bool → ℕ → List ℕ → List ℕ
 with_first there p ps = if there then p ∷ ps else ps
 
--- of ascending positions k, if it was there, stands behind those up to n, and is n; these are one less, and all others as they were
+-- of ascending positions k, if it was there, is after those up to n, and is n; these are one less,
+-- and all others as they were
 abbrev pub IsMoved : ℕ → ℕ → List ℕ → List ℕ → Type 0
 IsMoved k n old new =
     (low mid high : List ℕ) (held : Bool) → IsAscending old → AreUpTo (k - 1) low → AscendsFrom (suc k) mid → AreUpTo n mid → AscendsFrom (suc n) high

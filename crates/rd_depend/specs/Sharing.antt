@@ -1,4 +1,5 @@
--- Dependence in the words of the map from places to contents: what two records touched of it, and what they wrote.
+-- Dependence in the words of the map from places to contents: what two records touched of it, and
+-- what they wrote.
 use Rattle.std.specs.Prelude.{◌≡◌, Bool, true, false, not, ◌||◌}
 use Rattle.rd_step.specs.Prelude.{Place, CellAt, WholeOf, some_covers, written, is_nothing}
 use Rattle.rd_step.specs.declared.entries.Entry.{Entry}

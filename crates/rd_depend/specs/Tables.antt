@@ -27,7 +27,8 @@ abbrev pub counts : Bool → Bool → Bool
 counts false wrote = true
 counts true wrote = wrote
 
--- the key has this index, and room for one more step in each of its lists that such a step is kept in
+-- the key has this index, and room for one more step in each of its lists that such a step is kept
+-- in
 pub record IsReady (t : Table) (k : Key) (wrote : Bool) (i : ℕ) : Type 0 where
   pub at : slot_in t.keys.keys k ≡ Some i
   pub room : (w : Bool) → counts w wrote ≡ true → 0 < spare_in t w k
@@ -57,18 +58,19 @@ pub record KeepsLists (old new : Table) : Type 0 where
   pub room : (w : Bool) (k : Key) → spare_in old w k ≤ spare_in new w k
   pub slots : (k : Key) (i : ℕ) → slot_in old.keys.keys k ≡ Some i → slot_in new.keys.keys k ≡ Some i
 
--- the position stands at the end of the key's lists that the step is kept in; other lists are as before
+-- the position is at the end of the key's lists that the step is kept in; other lists are as before
 pub record Puts (k : Option Key) (wrote : Bool) (position : ℕ) (old new : Table) : Type 0 where
   pub lists : (w : Bool) (q : Key) → kept_in new w q ≡ (if counts w wrote && is_that q k then kept_in old w q ++ position ∷ [] else kept_in old w q)
   pub room : (w : Bool) (q : Key) → spare_in old w q ≤ spare_in new w q + one_if (counts w wrote && is_that q k)
   pub slots : (q : Key) → slot_in new.keys.keys q ≡ slot_in old.keys.keys q
 
--- the last position is gone from the key's lists that the step is kept in; other lists are as before
+-- the last position is gone from the key's lists that the step is kept in; other lists are as
+-- before
 pub record TakesLast (k : Option Key) (wrote : Bool) (old new : Table) : Type 0 where
   pub lists : (w : Bool) (q : Key) → kept_in new w q ≡ (if counts w wrote && is_that q k then take (length (kept_in old w q) - 1) (kept_in old w q) else kept_in old w q)
   pub room : (w : Bool) (q : Key) → spare_in new w q ≡ spare_in old w q + one_if (counts w wrote && is_that q k)
 
--- in each list k, if it was there, stands behind those up to n, and these are one less
+-- in each list k, if it was there, is after those up to n, and these are one less
 pub record Moves (k n : ℕ) (old new : Table) : Type 0 where
   pub lists : (w : Bool) (q : Key) → IsMoved k n (kept_in old w q) (kept_in new w q)
   pub capacity : (w : Bool) (q : Key) → capacity_in new w q ≡ capacity_in old w q

@@ -7,9 +7,10 @@ ghost use Rattle.rd_depend.specs.Sharing.{one_wrote};
 use rd_cell::{Place, overlaps};
 use rd_step::Entry;
 
-/// Whether two steps depend on each other: they have one actor, or there is a place that both touched and one of them wrote. It
-/// is the same either way round, so a write depends on a read before it as a read on a write. Who wrote is asked before the
-/// places are compared, and what was written of them last: most steps that a scan meets only read, or were made elsewhere.
+/// Whether two steps depend on each other: they have one actor, or there is a place that both
+/// touched and one of them wrote. It is the same either way round, so a write depends on a read
+/// before it as a read on a write. Who wrote is asked before the places are compared, and what was
+/// written of them last: most steps that a scan meets only read, or were made elsewhere.
 #[inline(always)]
 pub fn depends(a: &Entry, b: &Entry) -> bool
     ensures { result ≡ depends a.now b.now }

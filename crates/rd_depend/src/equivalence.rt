@@ -1,7 +1,8 @@
 //! Whether two lists of records are of causally equivalent events.
 //!
-//! Behind the events that they have in common at their beginning, one pass over each list compares them: they are equivalent exactly
-//! where each actor makes the same steps in the same order, and steps that depend on each other stand in the same order (`last_writers`).
+//! After the events that they have in common at their beginning, one pass over each list compares
+//! them: they are equivalent exactly where each actor makes the same steps in the same order, and
+//! steps that depend on each other are in the same order (`last_writers`).
 
 ghost use Rattle.std.specs.Prelude.{◌≡◌, ◌≤◌, length, true, false, IfOk, OnErr};
 ghost use Rattle.rd_step.specs.Run.{events};
@@ -14,9 +15,10 @@ use super::last_writers::{ReachedByKey, StepsByActor, is_alike};
 use rd_step::Entry;
 use std::alloc::{AllocError, Global};
 
-/// Whether the events of two runs from one start are causally equivalent: one list is the other up to the order of steps that
-/// do not depend on each other. A common beginning takes no memory. Its time grows with the length of the lists, behind the common
-/// beginning by a few look-ups of keys for each step.
+/// Whether the events of two runs from one start are causally equivalent: one list is the other up
+/// to the order of steps that do not depend on each other. A common beginning takes no memory. Its
+/// time grows with the length of the lists, after the common beginning by a few look-ups of keys
+/// for each step.
 ///
 /// # Errors
 ///
@@ -50,7 +52,8 @@ fn compare(alloc: Global, a: &[Entry], b: &[Entry]) -> Result<bool, AllocError>
     Ok(left.is_empty())
 }
 
-/// Whether the next step of the other run by the actor of this one is like it, and stands there in order; both go on over it then.
+/// Whether the next step of the other run by the actor of this one is like it, and is there in
+/// order; both go on over it then.
 fn goes_on(
     left: &mut StepsByActor,
     reached: &mut ReachedByKey,

@@ -1,7 +1,9 @@
-//! An index of the entries of a list: it finds the first dependant of a step by look-ups in place of a scan.
+//! An index of the entries of a list: it finds the first dependant of a step by look-ups in place
+//! of a scan.
 //!
-//! For each actor, each place and each segment it keeps the positions of the entries that touch it, from 1 and ascending, and
-//! apart from these the positions that wrote. It holds no entries, so who calls it gives those that it speaks of.
+//! For each actor, each place and each segment it keeps the positions of the entries that touch it,
+//! from 1 and ascending, and apart from these the positions that wrote. It holds no entries, so who
+//! calls it gives those that it speaks of.
 
 ghost use Rattle.std.specs.Prelude.{◌≡◌, ◌+◌, ◌-◌, ◌<◌, ◌≤◌, ◌^◌, ◌++◌, ◌∷◌, [], length, take, drop, List, Some, IsOk, OnOk, OnErr};
 ghost use Rattle.rd_step.specs.declared.entries.Entry.{Entry as Record};
@@ -60,8 +62,8 @@ impl DependIndex {
         self.len as u64
     }
 
-    /// Puts the entry at the next position. It costs one access by the actor's number and one look-up of the place and of its
-    /// segment.
+    /// Puts the entry at the next position. It costs one access by the actor's number and one
+    /// look-up of the place and of its segment.
     ///
     /// # Errors
     ///
@@ -77,7 +79,8 @@ impl DependIndex {
         self.add(entry)
     }
 
-    /// Takes the last position away, which is the entry's. It makes room for that entry again, and takes no memory.
+    /// Takes the last position away, which is the entry's. It makes room for that entry again, and
+    /// takes no memory.
     pub fn pop(&mut self, entry: &Entry)
         requires { IsLast self.old entry.now }
         ensures left { (es : List Record) → IsIndexOf self.old (es ++ entry.now ∷ []) → IsIndexOf self.new es }
@@ -86,8 +89,8 @@ impl DependIndex {
         self.drop_last(entry);
     }
 
-    /// Takes position k away, which is the entry's; later positions are one less. It goes over all lists, makes room for
-    /// that entry again, and takes no memory.
+    /// Takes position k away, which is the entry's; later positions are one less. It goes over all
+    /// lists, makes room for that entry again, and takes no memory.
     pub fn remove(&mut self, k: u64, entry: &Entry)
         requires held { IsHeld self.old k entry.now }
         requires few { self.old.len ≤ MOST_STEPS }
@@ -98,7 +101,8 @@ impl DependIndex {
         self.drop_last(entry);
     }
 
-    /// Moves position k behind the later ones up to `n`, which are one less then. It goes over all lists, and takes no memory.
+    /// Moves position k after the later ones up to `n`, which are one less then. It goes over all
+    /// lists, and takes no memory.
     pub fn move_behind(&mut self, k: u64, n: u64)
         requires index { IsIndex self.old }
         requires some { 1 ≤ k }
@@ -111,7 +115,8 @@ impl DependIndex {
         self.move_position(k as u32, n as u32);
     }
 
-    /// Takes all positions above the `n`-th away. It goes over all lists, makes room for the entries that were there, and takes no memory.
+    /// Takes all positions above the `n`-th away. It goes over all lists, makes room for the
+    /// entries that were there, and takes no memory.
     pub fn truncate(&mut self, n: u64)
         requires few { self.old.len ≤ MOST_STEPS }
         ensures left { (es : List Record) → IsIndexOf self.old es → IsIndexOf self.new (take n es) }
@@ -122,12 +127,13 @@ impl DependIndex {
         }
     }
 
-    /// Makes room for these entries: pushing them in order, at once or after positions were taken away, is not refused. Room
-    /// that there was stays.
+    /// Makes room for these entries: pushing them in order, at once or after positions were taken
+    /// away, is not refused. Room that there was stays.
     ///
     /// # Errors
     ///
-    /// If memory was refused, which is not asked for where the room is there. No position has changed then.
+    /// If memory was refused, which is not asked for where the room is there. No position has
+    /// changed then.
     pub fn make_room(&mut self, entries: &[Entry]) -> Result<(), AllocError>
         requires index { IsIndex self.old }
         requires few { self.old.len + length entries.now ≤ MOST_STEPS }
@@ -145,7 +151,8 @@ impl DependIndex {
     ///
     /// # Errors
     ///
-    /// If memory was refused, which is not asked for where the room is there. No position has changed then, and room that there was stays.
+    /// If memory was refused, which is not asked for where the room is there. No position has
+    /// changed then, and room that there was stays.
     pub fn push_all(&mut self, entries: &[Entry]) -> Result<(), AllocError>
         requires index { IsIndex self.old }
         requires few { self.old.len + length entries.now ≤ MOST_STEPS }
@@ -158,7 +165,7 @@ impl DependIndex {
         self.add_all(entries)
     }
 
-    /// Whether an entry depends on one of those behind the first `n`. It takes no memory.
+    /// Whether an entry depends on one of those after the first `n`. It takes no memory.
     pub fn depends_behind(&self, n: u64, entry: &Entry) -> bool
         requires few { self.now.len ≤ MOST_STEPS }
         requires within { n ≤ self.now.len }
@@ -168,8 +175,8 @@ impl DependIndex {
         self.is_one_above(n as u32, entry, &mut probes)
     }
 
-    /// The first position after k whose entry depends on that at k, which is the entry given, or none. It makes at least
-    /// one probe and at most 96, and takes no memory.
+    /// The first position after k whose entry depends on that at k, which is the entry given, or
+    /// none. It makes at least one probe and at most 96, and takes no memory.
     pub fn first(&self, k: u64, entry: &Entry, probes: &mut Probes) -> Option<u64>
         requires held { IsHeld self.now k entry.now }
         requires few { self.now.len ≤ MOST_STEPS }
@@ -181,8 +188,9 @@ impl DependIndex {
         self.first_above(k as u32, entry, probes)
     }
 
-    /// The last position up to `n` whose entry wrote this place, or one of the places that it names; none if there is none. It
-    /// makes at least one probe and at most 57, and takes no memory.
+    /// The last position up to `n` whose entry wrote this place, or one of the places that it
+    /// names; none if there is none. It makes at least one probe and at most 57, and takes no
+    /// memory.
     pub fn last_writer(&self, n: u64, place: Place, probes: &mut Probes) -> Option<u64>
         requires within { n ≤ self.now.len }
         requires few { self.now.len ≤ MOST_STEPS }

@@ -1,9 +1,12 @@
-//! The last steps that touched and that wrote what each step touches, by their places in another run of the same steps.
+//! The last steps that touched and that wrote what each step touches, by their places in another
+//! run of the same steps.
 //!
-//! Two runs are causally equivalent exactly where each actor makes the same steps in the same order, and any two steps that depend on each
-//! other stand in the same order in both. So the steps of the one run are gone over, and for each key it is kept how far in the other run
-//! those reached that touched it and those that wrote it: a step that writes has to stand behind both there, and one that only reads behind
-//! those that wrote. A making counts as a write of its segment, and each step at a place of the segment as a read of it.
+//! Two runs are causally equivalent exactly where each actor makes the same steps in the same
+//! order, and any two steps that depend on each other are in the same order in both. So the steps
+//! of the one run are gone over, and for each key it is kept how far in the other run those reached
+//! that touched it and those that wrote it: a step that writes has to be after both there, and one
+//! that only reads after those that wrote. A making counts as a write of its segment, and each step
+//! at a place of the segment as a read of it.
 
 ghost use Rattle.std.specs.Prelude.{◌≡◌, ◌↔◌, ◌<◌, [], ℕ, length, Some, None, IsTrue, IfOk, OnOk, MatchOption};
 ghost use Rattle.rd_depend.specs.declared.index.keys.Key.{Key as KeyOf};
@@ -21,7 +24,8 @@ use std::alloc::{AllocError, Global};
 /// How many numbers an actor may have.
 const ACTORS: usize = 256;
 
-/// How far steps reached in the other run under one key: the last place of one there, counted from 1, or 0 for none.
+/// How far steps reached in the other run under one key: the last place of one there, counted from
+/// 1, or 0 for none.
 #[derive(Clone, Copy, Debug)]
 pub(crate) struct Reached {
     /// Of those that touched it.
@@ -31,7 +35,8 @@ pub(crate) struct Reached {
 }
 
 impl Reached {
-    /// Goes on over a step at this place of the other run, and gives whether it stands behind those before it on which it depends.
+    /// Goes on over a step at this place of the other run, and gives whether it is after those
+    /// before it on which it depends.
     fn pass(&mut self, wrote: bool, at: usize) -> bool
         ensures order { IsTrue result ↔ (bound self.old wrote < at) }
         ensures reached { self.new ≡ passed self.old wrote at }
@@ -61,7 +66,8 @@ impl ReachedByKey {
         }
     }
 
-    /// Goes on over a step at this place of the other run, and gives whether it stands behind those before it on which it depends.
+    /// Goes on over a step at this place of the other run, and gives whether it is after those
+    /// before it on which it depends.
     ///
     /// # Errors
     ///

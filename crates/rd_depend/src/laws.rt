@@ -7,8 +7,8 @@ ghost use Rattle.rd_step.specs.Prelude.{World, Ran, run, depends};
 ghost use Rattle.rd_step.specs.Equivalence.{IsEquivalent};
 ghost use Rattle.rd_depend.specs.Sharing.{SharesPlace};
 
-/// Two records depend on each other exactly where they have one actor, or there is a place of the map that both touched and at
-/// least one of them wrote.
+/// Two records depend on each other exactly where they have one actor, or there is a place of the
+/// map that both touched and at least one of them wrote.
 pub fn records_depend_where_they_share_an_actor_or_a_place()
     ensures { (x y : Record) → (depends x y ≡ true) ↔ ((x.event.actor ≡ y.event.actor) ⊎ SharesPlace x y) }
 {}

@@ -1,4 +1,5 @@
-//! Tests of dependence by examples: which accesses clash, and the first later step that depends on a given one.
+//! Tests of dependence by examples: which accesses clash, and the first later step that depends on
+//! a given one.
 
 mod equivalence;
 mod index;
@@ -92,7 +93,8 @@ const READS_VALUE: Access = (1, Some(Place::Val(MADE, 3)), Wrote::Nothing);
 
 const READS_INDEX: Access = (1, Some(Place::Idx(MADE, 3)), Wrote::Nothing);
 
-/// A double-word swap that wins and keeps the value, one that wins and puts another there, and one that loses.
+/// A double-word swap that wins and keeps the value, one that wins and puts another there, and one
+/// that loses.
 const MARKS: Access = (3, Some(Place::Cell(MADE, 3)), Wrote::Index);
 
 const FILLS: Access = (4, Some(Place::Cell(MADE, 3)), Wrote::Place);

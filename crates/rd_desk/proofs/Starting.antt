@@ -42,7 +42,8 @@ module _ {G P T E : Type 0} where
   is_started gate viewer asked (Err e) handle to who what same is = subst (IsStarted gate viewer) (sym is) tt
 
 module _ {G P T A : Type 0} (takes : P → Type 0) (gate : G) where
-  -- the viewers that aren't started yet have passes that the gate takes, and room; the others are started, the first of them last
+  -- the viewers that aren't started yet have passes that the gate takes, and room; the others are
+  -- started, the first of them last
   pub record IsStarting (all work : List (P × Vec Command Global)) (answers : List (Vec A Global)) (started : List (Option (PromisedHandle T (Asked G P)))) : Type 0 where
     pub gone : List (P × Vec Command Global)
     pub parts : work ++ gone ≡ all
@@ -84,7 +85,8 @@ module _ {G P T A : Type 0} (takes : P → Type 0) (gate : G) where
   }
 
 module _ {G P T : Type 0} (takes : G → P → Type 0) (told : G → P → Command → Result (Result Reply Refusal) DeskRefusal → P → Type 0) where
-  -- whichever viewers were started, what became of the first of them is known, and the others are still waited for
+  -- whichever viewers were started, what became of the first of them is known, and the others are
+  -- still waited for
   pub record IsJoining (all started : List (Option (PromisedHandle T (Asked G P)))) (rans : List (Ran P)) : Type 0 where
     pub each : (gate : G) (work : List (P × Vec Command Global)) → Pairs (IsStarted gate) work (reverse all)
         → (done : List (P × Vec Command Global)) × (left : List (P × Vec Command Global)) × (done ++ left ≡ work) × Pairs (IsRan (takes gate) (told gate)) done rans × Pairs (IsStarted gate) left (reverse started)

@@ -20,8 +20,9 @@ IsNotBusy (Busy words) = ⊥
 IsNotBusy _ = Unit {0}
 
 module _ {T O : Type 0} {K : Ghosts T Call O} (R : ℕ) (opened : BookState) (old new : Pass T Call O K) where
-  -- What the viewer has seen begins with all that it had seen, ends with just this call, and is a legal history of the book that was
-  -- opened. The viewer's own entries are those there that name it: the ones that it had, and this one.
+  -- What the viewer has seen begins with all that it had seen, ends with just this call, and is a
+  -- legal history of the book that was opened. The viewer's own entries are those there that name
+  -- it: the ones that it had, and this one.
   pub record HasAsked (command : Command) (answer : Result Reply Refusal) : Type 0 where
     pub same_number : number new ≡ number old
     pub between : List (ℕ × Call)
@@ -32,8 +33,9 @@ module _ {T O : Type 0} {K : Ghosts T Call O} (R : ℕ) (opened : BookState) (ol
     pub has_grown : own new ≡ own old ++ (length (seen old ++ between), (entry (number old) command answer).1) ∷ []
     pub words : (next_seen old ≤ next_seen new) × (served_seen old ≤ served_seen new)
 
-  -- The viewer has seen the history that it found, which begins with all that it had seen and is a legal history of the book that was
-  -- opened. Its own entries are as before, and those there that name it.
+  -- The viewer has seen the history that it found, which begins with all that it had seen and is a
+  -- legal history of the book that was opened. Its own entries are as before, and those there that
+  -- name it.
   pub record HasFound : Type 0 where
     pub same_number : number new ≡ number old
     pub extends : IsPrefix (seen old) (seen new)
@@ -42,7 +44,8 @@ module _ {T O : Type 0} {K : Ghosts T Call O} (R : ℕ) (opened : BookState) (ol
     pub same_own : own new ≡ own old
     pub words : (next_seen old ≤ next_seen new) × (served_seen old ≤ served_seen new)
 
-  -- what a viewer knows that was refused: the history found, with its length, or, if the lock gave nothing, what it had seen
+  -- what a viewer knows that was refused: the history found, with its length, or, if the lock gave
+  -- nothing, what it had seen
   abbrev pub IsRefused : DeskRefusal → Type 0
   IsRefused HistoryFull = HasFound × IsUnrecorded (seen new) HistoryFull
   IsRefused NotRecorded = HasFound × IsUnrecorded (seen new) NotRecorded

@@ -1,4 +1,5 @@
--- What contracts say of a desk and of its passes. A pass is the lock's: what it has seen and asked are `seen` and `own` of the lock.
+-- What contracts say of a desk and of its passes. A pass is the lock's: what it has seen and asked
+-- are `seen` and `own` of the lock.
 use Rattle.std.specs.Prelude.{◌≡◌, ℕ, List, [], map}
 use mathlib.Core.List.{IsPrefix}
 use Rattle.rd_lock.specs.declared.views.Recorded.{Ghosts}
@@ -36,19 +37,21 @@ module _ {R : ℕ} where
       pub next : next_seen pass ≡ 0
       pub served : served_seen pass ≡ 0
 
-    -- the desk has this book and so many viewers, and its passes are new and have the numbers from 1 on
+    -- the desk has this book and this many viewers, and its passes are new and have the numbers
+    -- from 1 on
     pub record IsOpened (book : Book R) (count : ℕ) (desk : Desk R) (passes : List (Pass (BookWithHistory R) Call (Book R) K)) : Type 0 where
       pub counted : viewers desk ≡ count
       pub state : opened_state desk ≡ book_state book
       pub are_new : Every (IsNewViewer desk) passes
       pub numbered : map number passes ≡ numbers 1 count
 
-    -- the history begins with what the pass had seen, and its entries that name the pass are its own
+    -- the history begins with what the pass had seen, and its entries that name the pass are its
+    -- own
     abbrev pub Tells : History → Pass (BookWithHistory R) Call (Book R) K → Type 0
     Tells history pass = IsPrefix (seen pass) (entries history) × (own pass ≡ named (number pass) 0 (entries history))
 
-    -- The history is legal from the book that was opened and leaves this book; each entry names a viewer of the desk; and it tells of
-    -- each pass that was handed in.
+    -- The history is legal from the book that was opened and leaves this book; each entry names a
+    -- viewer of the desk; and it tells of each pass that was handed in.
     pub record IsClosedOver (desk : Desk R) (passes : List (Pass (BookWithHistory R) Call (Book R) K)) (book : Book R) (history : History) : Type 0 where
       pub leaves : IsLeftBy R (opened_state desk) (entries history) (book_state book)
       pub names : NamesUpTo (viewers desk) (entries history)

@@ -24,12 +24,13 @@ abbrev pub entry_at : List (ℕ × Call) → ℕ → Option (ℕ × Call)
 entry_at es zero = None
 entry_at es (suc k) = slice_get es k
 
--- what the entries leave of a book of this state: one after another, each command is answered as its entry says
+-- what the entries leave of a book of this state: one after another, each command is answered as
+-- its entry says
 abbrev pub Leaves : ℕ → BookState → List (ℕ × Call) → BookState → Type 0
 Leaves R b es last = AreObeyed R b (map (λ e. e.1.command) es) (map (λ e. e.1.answer) es) last
 
--- The entries are a legal history of a book of this state: they leave something. The bars say that the states between the commands
--- are there, and not which.
+-- The entries are a legal history of a book of this state: they leave something. The bars say that
+-- the states between the commands are there, and not which.
 abbrev pub IsLegal : ℕ → BookState → List (ℕ × Call) → Type 0
 IsLegal R b es = ∥ ((last : BookState) × Leaves R b es last) ∥₁
 
@@ -37,7 +38,8 @@ IsLegal R b es = ∥ ((last : BookState) × Leaves R b es last) ∥₁
 abbrev pub IsLeftBy : ℕ → BookState → List (ℕ × Call) → BookState → Type 0
 IsLeftBy R b es last = ∥ Leaves R b es last ∥₁
 
--- why a call is not recorded in this history: it is full; or it is not, and the room for one more was refused
+-- why a call is not recorded in this history: it is full; or it is not, and the room for one more
+-- was refused
 abbrev pub IsUnrecorded : List (ℕ × Call) → DeskRefusal → Type 0
 IsUnrecorded es HistoryFull = length es ≡ MOST_CALLS
 IsUnrecorded es NotRecorded = length es < MOST_CALLS

@@ -1,7 +1,7 @@
 //! The calls of a desk: a viewer asks one command.
 //!
-//! A call takes the lock, has the book obey the command and record the call, and puts the book back. The call happens as it is put
-//! back, at the one add to the word `served`.
+//! A call takes the lock, has the book obey the command and record the call, and puts the book
+//! back. The call happens as it is put back, at the one add to the word `served`.
 
 ghost use Rattle.std.specs.Prelude.{◌≡◌, ◌^◌, Err, IfOk, IfErr};
 ghost use Rattle.rd_lock.specs.Locks.{next_seen, IsPassOf, IsTaken};
@@ -23,8 +23,9 @@ impl<const R: usize> Desk<R> {
     ///
     /// # Errors
     ///
-    /// `TicketsEnded` if all tickets of the lock are drawn, as this pass saw it. Under the lock, in this order: `HistoryFull` if the
-    /// history has `MOST_CALLS` calls; `NotRecorded` if the room for one more was refused. The book has not changed then.
+    /// `TicketsEnded` if all tickets of the lock are drawn, as this pass saw it. Under the lock, in
+    /// this order: `HistoryFull` if the history has `MOST_CALLS` calls; `NotRecorded` if the room
+    /// for one more was refused. The book has not changed then.
     pub fn ask<W: Wait>(
         &self,
         rt: &W,
@@ -68,7 +69,8 @@ impl<const R: usize> Desk<R> {
         }
     }
 
-    /// Has the book that the pass took obey a command, records the call if there is room, and puts the book back.
+    /// Has the book that the pass took obey a command, records the call if there is room, and puts
+    /// the book back.
     fn record_and_put_back(
         &self,
         pass: &mut DeskPass<R>,

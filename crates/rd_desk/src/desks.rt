@@ -1,4 +1,5 @@
-//! The desk: a book with its history under the ticket lock. Opening, meeting and closing; the calls are in `asking`.
+//! The desk: a book with its history under the ticket lock. Opening, meeting and closing; the calls
+//! are in `asking`.
 
 ghost use Rattle.std.specs.Prelude.{◌≡◌, ◌<◌, ◌≤◌, ◌^◌, map, IfOk, IfErr, IsOk};
 ghost use Rattle.rd_lock.specs.Histories.{AreAll, Every};
@@ -53,8 +54,8 @@ impl<const R: usize> Desk<R> {
         }
     }
 
-    /// Two passes learn that of what they have seen one begins the other. The number is that of the ticket that is served
-    /// then, at least each that either of the two had seen served.
+    /// Two passes learn that of what they have seen one begins the other. The number is that of the
+    /// ticket that is served then, at least each that either of the two had seen served.
     pub fn meet(&self, one: DeskPass<R>, other: DeskPass<R>) -> (u64, DeskPass<R>, DeskPass<R>)
         requires own { IsViewerOf self.now one × IsViewerOf self.now other }
         ensures own { IsViewerOf self.now result.1 × IsViewerOf self.now result.2 }
@@ -70,8 +71,9 @@ impl<const R: usize> Desk<R> {
     ///
     /// # Errors
     ///
-    /// `Busy` with two words of the lock that differ, neither below what a pass that was handed in has seen: a pass that wasn't handed in
-    /// waits, or was lost inside a call. It never comes with all passes. Book and history are lost then.
+    /// `Busy` with two words of the lock that differ, neither below what a pass that was handed in
+    /// has seen: a pass that wasn't handed in waits, or was lost inside a call. It never comes with
+    /// all passes. Book and history are lost then.
     pub fn close(self, passes: Vec<DeskPass<R>>) -> Result<(Book<R>, History), Busy>
         requires own { Every (IsViewerOf self) passes.items }
         ensures ok { IfOk result (λ closed. IsClosedOver self.entry passes.entry.items closed.0 closed.1) }

@@ -1,4 +1,4 @@
-//! What viewers ask: a desk, or what stands in its place.
+//! What viewers ask: a desk, or what is in its place.
 
 ghost use Rattle.std.specs.Prelude.{Result};
 ghost use Rattle.rd_cell.specs.declared.refusal.Refusal.{Refusal};
@@ -28,7 +28,7 @@ pub enum DeskRefusal {
 /// What a viewer is answered: by the book, or that the desk refused.
 pub type Answer = Result<Result<Reply, Refusal>, DeskRefusal>;
 
-/// What viewers can ask, each with a pass of its own.
+/// What viewers can ask, each with its own pass.
 pub trait Gate {
     /// What a viewer asks with.
     type Pass: Send + Drop;

@@ -18,7 +18,8 @@ pub struct Call {
     pub answer: Result<Reply, Refusal>,
 }
 
-/// The calls of all viewers, in the order in which the book obeyed them, each with the number of its viewer.
+/// The calls of all viewers, in the order in which the book obeyed them, each with the number of
+/// its viewer.
 #[derive(Drop)]
 pub struct History {
     pub(crate) entries: Vec<(u64, Call)>,
@@ -35,7 +36,8 @@ impl History {
         self.entries.len() as u64
     }
 
-    /// The call of this number, from 1, with its viewer. None if the number is 0 or above the number of calls.
+    /// The call of this number, from 1, with its viewer. None if the number is 0 or above the
+    /// number of calls.
     pub fn entry(&self, number: u64) -> Option<(u64, Call)>
         ensures { result ≡ entry_at (entries self.now) number }
     {

@@ -1,8 +1,9 @@
 //! What the lock guards: a book, and the history that leaves it.
 //!
-//! That the history is legal from the book that was opened, and leaves the book that is there, is a fact of the type, so it
-//! holds whenever the lock is taken. A command is obeyed only where there is room to record it. The book lies in a box, so that a call
-//! moves a few words into the lock and out of it, and not the book.
+//! That the history is legal from the book that was opened, and leaves the book that is there, is a
+//! fact of the type, so it holds whenever the lock is taken. A command is obeyed only where there
+//! is room to record it. The book lies in a box, so that a call moves a few words into the lock and
+//! out of it, and not the book.
 
 ghost use Rattle.std.specs.Prelude.{◌≡◌, ◌<◌, ◌≤◌, ◌++◌, ◌∷◌, [], length, IfOk, IfErr, OnOk, OnErr};
 ghost use Rattle.rd_marks.specs.BookViews.{book_state};
@@ -64,8 +65,8 @@ impl<const R: usize> BookWithHistory<R> {
     ///
     /// # Errors
     ///
-    /// In this order: `HistoryFull` if there are `MOST_CALLS` calls; `NotRecorded` if the room for one more was refused. Book and
-    /// history have not changed then.
+    /// In this order: `HistoryFull` if there are `MOST_CALLS` calls; `NotRecorded` if the room for
+    /// one more was refused. Book and history have not changed then.
     pub(crate) fn record(
         &mut self,
         viewer: u64,

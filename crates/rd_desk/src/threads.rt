@@ -1,6 +1,7 @@
 //! The threads of a run of viewers.
 //!
-//! What a thread gives back is known by the promise that its handle carries: which pass it was given, and which commands.
+//! What a thread gives back is known by the promise that its handle carries: which pass it was
+//! given, and which commands.
 
 ghost use Rattle.std.specs.Prelude.{◌≡◌, ◌≤◌, List, [], length, reverse, vec_capacity};
 ghost use Rattle.rd_lock.specs.Histories.{Every};
@@ -60,7 +61,8 @@ fn ask_all<R: Wait, G: Gate>(
     (pass, answers)
 }
 
-/// Starts a thread for each viewer, from the last one to the first. One whose thread is refused is asked nothing.
+/// Starts a thread for each viewer, from the last one to the first. One whose thread is refused is
+/// asked nothing.
 fn start_all<'s, E: 's, R: Threads + Wait + Sync, G: Gate + Sync>(
     scope: &'s Scope<'s, E>,
     rt: &'s R,
@@ -96,7 +98,8 @@ fn start_all<'s, E: 's, R: Threads + Wait + Sync, G: Gate + Sync>(
     started
 }
 
-/// Waits for each thread, from the last one that was started to the first, and gives what became of the viewers.
+/// Waits for each thread, from the last one that was started to the first, and gives what became of
+/// the viewers.
 fn join_all<R: Threads, G: Gate>(
     rt: &R,
     mut started: Vec<Started<G>>,

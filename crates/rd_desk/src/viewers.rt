@@ -1,7 +1,8 @@
-//! Viewers that each ask a list of commands, in threads of their own.
+//! Viewers that each ask a list of commands, in their own threads.
 //!
-//! All room for answers is made before the first command is asked. Then each viewer gets a thread in one scope, from the last
-//! viewer to the first, so that the threads' handles, a stack, come back in the viewers' order.
+//! All room for answers is made before the first command is asked. Then each viewer gets a thread
+//! in one scope, from the last viewer to the first, so that the threads' handles, a stack, come
+//! back in the viewers' order.
 
 ghost use Rattle.std.specs.Prelude.{◌≡◌, IfOk, IfErr};
 ghost use Rattle.rd_lock.specs.Histories.{Every};
@@ -31,7 +32,7 @@ pub enum Ran<P> {
     NoMemory,
 }
 
-/// Asks each viewer's commands in order, each viewer in a thread of its own, and waits for all of them.
+/// Asks each viewer's commands in order, each viewer in its own thread, and waits for all of them.
 ///
 /// # Errors
 ///

@@ -1,5 +1,5 @@
--- The causal closure is the least set that holds its step and what depends on its members, and lone undos that take
--- the step out take all of it out.
+-- The causal closure is the least set that holds its step and what depends on its members, and lone
+-- undos that take the step out take all of it out.
 use Rattle.std.proofs.Common.{◌≡◌, ◌≢◌, ℕ, zero, suc, ◌+◌, ◌-◌, ◌<◌, ◌≤◌, ◌==◌, ◌||◌, inl, inr, Bool, true, false, nat_lt, if◌then◌else◌, refl, sym, ◌∙◌, ap, subst, arith, List, [], ◌∷◌, ◌++◌, length, get_or, take, drop, slice_get, Option, Some, None, eq-eqb, ne_eqb}
 use Rattle.std.proofs.lemmas.Bool.{cases_Bool, cases_eq, cond-true, cond-false, lt-ltb, le-ltb, ltb-true, ltb-false}
 use Rattle.rd_step.specs.Prelude.{depends, IsFree, first_dependant, depends_on_one, closure, closure_of, without_closure, marked, unmarked}
@@ -48,7 +48,7 @@ still_covers false xs x y c z h = c z h
 some_same : {X : Type 0} (x y : X) → Some x ≡ Some y → x ≡ y
 some_same x y h = cc
 
--- what depends on x is marked behind a block that covers x
+-- what depends on x is marked after a block that covers x
 covered_is_marked : (xs ys : List Entry) (j : ℕ) (x y : Entry) → Covers x xs → slice_get ys j ≡ Some y → depends x y ≡ true
     → slice_get (closure_from xs ys) j ≡ Some true
 covered_is_marked xs [] j x y c at h = cc
@@ -107,7 +107,7 @@ members_are_marked es k j some within (dependant i _ x y h low at_i at_j d) =
 
 -- Only members are marked
 
--- each of these entries stands at a number up to p that is in the closure
+-- each of these entries is at a number up to p that is in the closure
 abbrev AreMembers : List Entry → ℕ → ℕ → List Entry → Type 0
 AreMembers es k p [] = Unit {0}
 AreMembers es k p (x ∷ xs) = ((i : ℕ) × (i ≤ p) × (numbered es i ≡ Some x) × IsInClosure es k i) × AreMembers es k p xs
@@ -135,7 +135,7 @@ dependant_is_member es k p (x ∷ xs) y ms at h =
           dependant_is_member es k p xs y ms.1 at rest
     ]
 
--- the entries ys stand from the number p + 1 on
+-- the entries ys are from the number p + 1 on
 abbrev StandFrom : List Entry → ℕ → List Entry → Type 0
 StandFrom es p ys = (j : ℕ) (y : Entry) → slice_get ys j ≡ Some y → numbered es (suc (p + j)) ≡ Some y
 

@@ -1,4 +1,5 @@
--- What the index of the live records and those behind them finds, and where the records before a closure stand.
+-- What the index of the live records and those after them finds, and where the records before a
+-- closure are.
 use Rattle.std.proofs.Common.{◌≡◌, ℕ, zero, suc, ◌+◌, ◌-◌, ◌<◌, ◌≤◌, Bool, true, false, nat_lt, if◌then◌else◌, List, [], ◌∷◌, ◌++◌, length, get_or, take, drop, Option, Some, None, refl, sym, ◌∙◌, ap, arith, length-append, length-drop}
 use Rattle.std.proofs.lemmas.Bool.{lt-ltb, le-ltb}
 use Rattle.std.proofs.lemmas.List.{append_assoc, length-take-le, take_at, take-append-le, drop-append-le, get_or_append_left}
@@ -16,12 +17,12 @@ numbered_in xs (suc i) x some within here =
     let same : suc i - 1 ≡ i = omega arith in
     slice_get-get_or xs i x (omega arith) ∙ ap (λ (y : Entry). Some y) (ap (λ (n : ℕ). get_or xs n x) (sym same) ∙ sym here)
 
--- the same with others behind them
+-- the same with others after them
 pub numbered_before : (live others : List Entry) (k : ℕ) (x : Entry) → 1 ≤ k → k ≤ length live → x ≡ get_or live (k - 1) x → numbered (live ++ others) k ≡ Some x
 numbered_before live others k x some within here =
     numbered_in (live ++ others) k x some (omega (arith, length-append live others)) (here ∙ sym (get_or_append_left live others x (k - 1) (omega arith)))
 
--- those before the k-th stand where they stood when its closure is gathered last
+-- those before the k-th are where they were when its closure is gathered last
 pub outside_begins : (l : List Entry) (k : ℕ) → 1 ≤ k → k ≤ length l → (rest : List Entry) × (without_closure l k ≡ take (k - 1) l ++ rest)
 outside_begins l zero some within = absurd (omega arith)
 outside_begins l (suc i) some within =
@@ -30,7 +31,7 @@ outside_begins l (suc i) some within =
     let rest = unmarked (closure_from (x.0 ∷ []) (drop (suc i) l)) (drop (suc i) l) in
     (rest, (cut_at l i x.0 (omega arith) x.1).outside ∙ ap (λ (n : ℕ). take n l ++ rest) same)
 
--- the list cut before the k-th, with its closure behind the others and these behind it
+-- the list cut before the k-th, with its closure after the others and these after it
 pub record IsCutBefore (l others : List Entry) (k : ℕ) : Type 0 where
   pub long : k - 1 ≤ length (without_closure l k)
   pub before : take (k - 1) ((without_closure l k ++ closure_of l k) ++ others) ≡ take (k - 1) l

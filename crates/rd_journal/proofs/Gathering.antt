@@ -1,4 +1,5 @@
--- The causal closure of a step gathered behind the other records: the list cut in parts, and the run that it stays.
+-- The causal closure of a step gathered after the other records: the list cut in parts, and the run
+-- that it stays.
 use Rattle.std.proofs.Common.{◌≡◌, ℕ, zero, suc, ◌-◌, ◌<◌, ◌≤◌, Bool, true, false, if◌then◌else◌, sym, ◌∙◌, ap, subst, arith, inl, inr, List, [], ◌∷◌, ◌++◌, length, take, drop, get_or, Ok}
 use Rattle.std.proofs.lemmas.Bool.{cases_Bool, or_parts}
 use Rattle.std.proofs.lemmas.List.{append-nil, append_assoc}
@@ -92,7 +93,7 @@ moved_before R u w (x ∷ b) y zs h free =
     (run-cons R sw.first.world x.event (events (b ++ zs)) sw.second (record { world = w; entries = b ++ zs }) sw.goes_second rest)
     ∙ (λ i. Ok (record { world = w; entries = sw.same_entry i ∷ (sw.entry_unchanged i ∷ (b ++ zs)) }))
 
--- gathering the closure of a block behind the others leaves a run to the same world
+-- gathering the closure of a block after the others leaves a run to the same world
 pub gathered_run : (R : ℕ) (u w : World) (b ys : List Entry) → run R u (events (b ++ ys)) ≡ Ok (record { world = w; entries = b ++ ys })
     → let zs = unmarked (closure_from b ys) ys ++ (b ++ marked (closure_from b ys) ys) in run R u (events zs) ≡ Ok (record { world = w; entries = zs })
 gathered_run R u w b [] h = h

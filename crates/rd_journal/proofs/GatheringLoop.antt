@@ -1,4 +1,5 @@
--- The loop that gathers the closure of a step: what it has done so far, and what it has done at the end.
+-- The loop that gathers the closure of a step: what it has done so far, and what it has done at the
+-- end.
 use Rattle.std.proofs.Common.{◌≡◌, ℕ, ◌+◌, ◌-◌, ◌<◌, ◌≤◌, Bool, true, false, zero, suc, cond, refl, sym, ◌∙◌, ap, subst, arith, List, [], ◌∷◌, ◌++◌, length, take, drop, set, get_or, length-append, length-drop}
 use Rattle.std.specs.List.{count_by}
 use Rattle.std.proofs.lemmas.List.{append_assoc, take-append-drop, take-take, length-take-le, length-set, get_or-take, drop_at, drop-append-le, drop-set-lt, drop_all, take_at, take_more_set}
@@ -17,8 +18,9 @@ use Rattle.rd_journal.proofs.Numbers.{one, at-append, at-length, at-take, at-dro
 abbrev pub live_of : List Entry → List ℕ → ℕ → List Entry
 live_of es ns live = take live (at_numbers es ns)
 
--- of the live records those before the next are looked at: the numbers of those that stay are the first ones now, those of the others
--- are gathered, and the index is that of the records before the k-th and of these
+-- of the live records those before the next are looked at: the numbers of those that stay are the
+-- first ones now, those of the others are gathered, and the index is that of the records before the
+-- k-th and of these
 pub record UnderWay (es : List Entry) (ns now gathered : List ℕ) (old index : DependIndex) (k live front next : ℕ) : Type 0 where
   pub from : k - 1 ≤ front
   pub number : front + length gathered ≡ next
@@ -177,7 +179,7 @@ joined es ns now gathered old index new k live front next v x u low n e depends 
           (before_next es ns now gathered old index k live front next v x u n e rest has));
     }
 
--- and if it stays, put behind those that stay
+-- and if it stays, put after those that stay
 pub stayed : (es : List Entry) (ns now gathered : List ℕ) (old index : DependIndex) (k live front next v : ℕ) (x : Entry)
     → UnderWay es ns now gathered old index k live front next → next < live → live ≤ length ns → Next es ns live next v → x ≡ get_or es v x
     → depends_on_one (at_numbers es gathered) x ≡ false → drop (next + 1) now ≡ drop (next + 1) ns
@@ -210,7 +212,7 @@ stayed es ns now gathered old index k live front next v x u low within n e depen
           (before_next es ns now gathered old index k live front next v x u n e rest has);
     }
 
--- at the end the numbers that were gathered stand behind the others
+-- at the end the numbers that were gathered are after the others
 pub record IsGathered (es : List Entry) (ns new : List ℕ) (old index : DependIndex) (k live front : ℕ) : Type 0 where
   pub ordered : IsOrder (length es) new
   pub count : live - front ≡ length (closure_of (live_of es ns live) k)

@@ -1,4 +1,5 @@
--- Room in the index of dependants: it is counted for each actor, place and segment, so it does not ask in which order entries stand.
+-- Room in the index of dependants: it is counted for each actor, place and segment, so it does not
+-- ask in which order entries are.
 use Rattle.std.proofs.Common.{List, [], ◌∷◌, ◌++◌, arith}
 use Rattle.rd_step.specs.declared.entries.Entry.{Entry}
 use Rattle.rd_depend.specs.declared.index.DependIndex.{DependIndex}
@@ -21,7 +22,7 @@ fits_last index xs ys has = record { lists = λ t. omega (arith, number-append (
 pub fits_one : (index : DependIndex) (x : Entry) (rest : List Entry) → HasRoomFor index (x ∷ rest) → HasRoomFor index (x ∷ [])
 fits_one index x rest has = record { lists = λ t. omega (arith, has.lists t) }
 
--- one that stood between others in front of them
+-- one that was between others in front of them
 pub fits_between : (index : DependIndex) (xs ys : List Entry) (x : Entry) → HasRoomFor index (xs ++ x ∷ ys) → HasRoomFor index (x ∷ (xs ++ ys))
 fits_between index xs ys x has = record {
   lists = λ t. omega (arith, number-append (touches t) xs (x ∷ ys), number-append (touches t) xs ys, has.lists t);

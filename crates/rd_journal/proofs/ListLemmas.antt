@@ -1,4 +1,4 @@
--- Lists cut in two, the last element of a list, and one moved behind others.
+-- Lists cut in two, the last element of a list, and one moved after others.
 use Rattle.std.proofs.Common.{◌≡◌, ℕ, zero, suc, ◌+◌, ◌-◌, ◌<◌, ◌≤◌, List, [], ◌∷◌, ◌++◌, length, get_or, take, drop, refl, sym, ◌∙◌, ap, arith, length-append, length-drop}
 use borrow.Rule.Slice.PartMut.{put_mid, mid_of}
 use Rattle.std.proofs.Math.Seq.{drop-cons, take-append_seam, drop-append_seam}
@@ -18,19 +18,19 @@ last_of {X} l x =
     let e : length (l ++ x ∷ []) - 1 ≡ length l = omega (arith, length-append l (x ∷ [])) in
     ap (λ (k : ℕ). drop k (l ++ x ∷ [])) e ∙ drop-append_seam l (x ∷ [])
 
--- an element that stands there
+-- an element that is there
 pub nth : {X : Type 0} (l : List X) (k : ℕ) → k < length l → (x : X) × (x ≡ get_or l k x)
 nth [] k h = absurd (omega arith)
 nth (x ∷ l) zero h = (x, refl)
 nth (x ∷ l) (suc k) h = nth l k (omega arith)
 
--- what stands behind the cut
+-- what is after the cut
 pub drop_one_less : {X : Type 0} (l : List X) (k : ℕ) (x : X) → k < length l → x ≡ get_or l k x → drop k l ≡ x ∷ drop (k + 1) l
 drop_one_less {X} l k x h e =
     let n : suc k ≡ k + 1 = omega arith in
     drop-cons l k x h ∙ (λ i. sym e i ∷ drop (n i) l)
 
--- a cut moved back within what stands before it
+-- a cut moved back within what is before it
 pub drop_before : {X : Type 0} (l : List X) (k m n : ℕ) → m ≤ length l → k + n ≡ m
     → drop k l ≡ drop (length (take m l) - n) (take m l) ++ drop m l
 drop_before {X} l k m n h e =
@@ -44,7 +44,7 @@ pub overwritten : {X : Type 0} (n : ℕ) (es ys : List X) → n ≡ length es �
 overwritten {X} n es ys e h =
     ap (λ (zs : List X). take n (ys ++ zs)) (drop_of_length-le es (omega arith)) ∙ ap (take n) (append-nil ys) ∙ take_all n ys (omega arith)
 
--- The k-th of the first l elements moved behind the others of them
+-- The k-th of the first l elements moved after the others of them
 
 others_length : {X : Type 0} (es : List X) (k l : ℕ) → 1 ≤ k → k ≤ l → l ≤ length es
     → length (take (k - 1) (take l es) ++ drop k (take l es)) ≡ l - 1

@@ -67,7 +67,8 @@ taken_out_few k old new x at moved few =
     let left = ap length moved.live ∙ length-append (take (k - 1) old.live) (drop k old.live) in
     omega (arith, all, left, ap length (taken_out_front k old new x at moved))
 
--- the k-th live step of a journal may be undone alone, and each journal that this leaves is a run of the same start
+-- the k-th live step of a journal may be undone alone, and each journal that this leaves is a run
+-- of the same start
 pub record MayUndoAt (R : ℕ) (old : Journal) (k : ℕ) (x : Entry) : Type 0 where
   pub was : WasStepped R old.world x
   pub start : (new : Journal) → IsTakenOut R old.world new.world x was → IsTakenOutAt k old new → start_of new ≡ start_of old

@@ -1,4 +1,5 @@
--- Entries at numbers: parts of them, one more and one written over; and orders of slots, as their numbers move.
+-- Entries at numbers: parts of them, one more and one written over; and orders of slots, as their
+-- numbers move.
 use Rattle.std.proofs.Common.{◌≡◌, ℕ, zero, suc, ◌+◌, ◌-◌, ◌<◌, ◌≤◌, ◌==◌, nat_lt, Bool, true, false, cond, if◌then◌else◌, List, [], ◌∷◌, ◌++◌, length, get_or, take, drop, set, refl, sym, ◌∙◌, ap, subst, arith, length-append, length-drop}
 use Rattle.std.specs.List.{All, count_by}
 use Rattle.std.proofs.lemmas.Bool.Decides.{nat_tests}
@@ -74,7 +75,7 @@ apart (y ∷ es) zero (suc v) x h = refl
 apart (y ∷ es) (suc n) zero x h = refl
 apart (y ∷ es) (suc n) (suc v) x h = apart es n v x (λ e. h (ap (λ (m : ℕ). suc m) e))
 
--- a number that is there stands once at least
+-- a number that is there occurs once at least
 count-same : (v : ℕ) → 1 ≤ cond (v == v) 1 0
 count-same v = grind (arith, nat_tests)
 

@@ -1,4 +1,5 @@
--- The records of a session as one list that is cut twice: how long its parts are, and how they change.
+-- The records of a session as one list that is cut twice: how long its parts are, and how they
+-- change.
 use Rattle.std.proofs.Common.{◌≡◌, ℕ, ◌+◌, ◌-◌, ◌<◌, ◌≤◌, List, [], ◌∷◌, ◌++◌, length, take, drop, refl, sym, ◌∙◌, ap, arith, length-append, length-drop}
 use Rattle.std.proofs.Math.Seq.{take-add}
 use Rattle.std.proofs.lemmas.List.{length-take-le, take-take, drop-take, drop-drop, take_at, drop_at, drop-append-le}
@@ -48,7 +49,7 @@ full_records r h = record {
     empty [] e = refl
     empty (x ∷ xs) e = absurd (omega arith)
 
--- a list cut behind its first m elements, and again u elements behind them
+-- a list cut after its first m elements, and again u elements after them
 
 -- some elements before others
 pub take_over : {X : Type 0} (xs ys : List X) (n u : ℕ) → length xs ≡ n → take (u + n) (xs ++ ys) ≡ xs ++ take u ys
@@ -82,7 +83,7 @@ taken_out {X} l k m u some position within =
     ap (λ (ys : List X). take (u + 1) ys) (behind_from l k m some position within)
     ∙ take_over (take 1 (drop (k - 1) (take m l))) (drop m l) 1 u one
 
--- one more is put behind both parts
+-- one more is put after both parts
 pub put_last : {X : Type 0} (l new : List X) (m u : ℕ) (x : X) → m + u ≤ length l → new ≡ take (m + u) l ++ x ∷ drop (m + u + 1) l
     → take (u + 1) (drop m new) ≡ take u (drop m l) ++ x ∷ []
 put_last {X} l new m u x within is =
@@ -104,7 +105,7 @@ cut_short {X} l m n within =
 pub border_moved : {X : Type 0} (l : List X) (m u n v : ℕ) → n + v ≡ m + u → take n l ++ take v (drop n l) ≡ take m l ++ take u (drop m l)
 border_moved {X} l m u n v same = sym (take-add n v l) ∙ ap (λ (k : ℕ). take k l) same ∙ take-add m u l
 
--- the k-th of the first elements moved behind them, whatever else is there
+-- the k-th of the first elements moved after them, whatever else is there
 pub moved_among : {X : Type 0} (xs ys : List X) (k : ℕ)
     → (take (k - 1) xs ++ drop k xs) ++ (take 1 (drop (k - 1) xs) ++ ys) ≡ moved_behind (xs ++ ys) k (length xs)
 moved_among {X} xs ys k =

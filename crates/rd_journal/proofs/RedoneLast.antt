@@ -1,4 +1,5 @@
--- Live followed by undone is one run, and what is undone alone and redone is the last step of the same world.
+-- Live followed by undone is one run, and what is undone alone and redone is the last step of the
+-- same world.
 use Rattle.std.proofs.Common.{◌≡◌, ℕ, zero, suc, ◌-◌, ◌<◌, ◌≤◌, ◌==◌, nat_lt, inl, inr, refl, sym, ◌∙◌, ap, arith, List, [], ◌∷◌, ◌++◌, length, take, drop, Option, Some, None, Result, Ok, Err}
 use Rattle.std.proofs.lemmas.Bool.{cases_Bool, cond-true, cond-false, ltb-true}
 use Rattle.std.proofs.lemmas.List.{map-append, length-map}

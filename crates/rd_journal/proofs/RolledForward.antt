@@ -12,7 +12,7 @@ use Rattle.rd_journal.proofs.RolledBack.{closure_last, reordered, marked-map, un
 use Rattle.rd_journal.proofs.Runs.{as_ok, as_ok-same}
 use Rattle.rd_journal.proofs.There.{times_first, one_journal}
 
--- redoing so many steps puts them last
+-- redoing this many steps puts them last
 forward_all : (w : World) (xs ys zs : List Event)
     → times (length ys) forward_one (record { start = w; live = xs; undone = ys ++ zs }) ≡ record { start = w; live = xs ++ ys; undone = zs }
 forward_all w xs [] zs = λ i. record { start = w; live = sym (append-nil xs) i; undone = zs }

@@ -1,4 +1,5 @@
--- Runs and their records: two runs joined, the last step of a run, and a journal that gains or loses a step.
+-- Runs and their records: two runs joined, the last step of a run, and a journal that gains or
+-- loses a step.
 use Rattle.std.proofs.Common.{◌≡◌, ℕ, refl, sym, ◌∙◌, ap, subst, List, [], ◌∷◌, ◌++◌, Result, Ok, Err}
 use Rattle.std.proofs.lemmas.List.{append-nil, map-append}
 use Rattle.rd_step.specs.Prelude.{Refusal, World, Stepped, step, unstep, Ran, run, IsFree, IsWellFormed}
@@ -38,7 +39,8 @@ run_joined R s (e ∷ es) fs r q h k =
     run-cons R s e (es ++ fs) ran.one (record { world = q.world; entries = ran.rest.entries ++ q.entries }) ran.goes joined
     ∙ ap (λ (x : Ran). Ok (record { world = q.world; entries = x.entries ++ q.entries })) ran.joins
 
--- the loop lemma for runs: putting back the old words of a run's records gives the world that it began in
+-- the loop lemma for runs: putting back the old words of a run's records gives the world that it
+-- began in
 pub goes_back : (R : ℕ) (s w : World) (xs : List Entry) → IsWellFormed R s → run R s (events xs) ≡ Ok (record { world = w; entries = xs })
     → world_before w xs ≡ s
 goes_back R s w [] formed h =
@@ -65,7 +67,8 @@ start_stays R w v xs x e formed h =
 pub now_formed : (R : ℕ) (j : Journal) → IsRun R j → IsWellFormed R j.world
 now_formed R j runs = run_keeps R (start_of j) (events j.live) (record { world = j.world; entries = j.live }) runs.well_formed runs.live_ran
 
--- a step from a journal's world, with its record put last, makes a journal, whatever runs on from there being undone
+-- a step from a journal's world, with its record put last, makes a journal, whatever runs on from
+-- there being undone
 pub grown : (R : ℕ) (w v : World) (xs zs ys : List Entry) (x : Entry) (e : Event) → IsRun R (record { world = w; live = xs; undone = zs })
     → step R w e ≡ Ok (record { world = v; entry = x }) → run_entries (run R v (events ys)) ≡ Ok ys
     → IsRun R (record { world = v; live = xs ++ x ∷ []; undone = ys })
@@ -91,8 +94,8 @@ pub preceded_entries : (x : Entry) (r : Result Ran Refusal) (ys : List Entry) �
 preceded_entries x (Err refusal) ys h = cc
 preceded_entries x (Ok r) ys h = let e : r.entries ≡ ys = cc in ap (λ (zs : List Entry). Ok (x ∷ zs)) e
 
--- where a live step on which no later one depends is taken out of a run, what is left is a run of the same start, with
--- the step's record in front of the undone ones
+-- where a live step on which no later one depends is taken out of a run, what is left is a run of
+-- the same start, with the step's record in front of the undone ones
 pub record MayTakeOut (R : ℕ) (w : World) (xs ys zs : List Entry) (x : Entry) : Type 0 where
   pub was : WasStepped R w x
   pub start : (v : World) → IsTakenOut R w v x was → world_before v (xs ++ ys) ≡ world_before w (xs ++ x ∷ ys)
@@ -140,8 +143,8 @@ may_take_out R w xs ys zs x runs free = record { was = was; start = start; runs 
           ∙ preceded_entries x (run R w (events zs)) zs runs.undone_run_on;
     }
 
--- the last live step of a journal may be undone, and the journal that is left, with its record in front of the undone
--- ones, is one of the same start
+-- the last live step of a journal may be undone, and the journal that is left, with its record in
+-- front of the undone ones, is one of the same start
 pub record MayUndo (R : ℕ) (w : World) (xs ys : List Entry) (x : Entry) : Type 0 where
   pub was : WasStepped R w x
   pub runs : IsRun R (record { world = unstep w x; live = xs; undone = x ∷ ys })

@@ -10,7 +10,8 @@ use Rattle.rd_journal.specs.State.{event_at}
 use Rattle.rd_journal.proofs.ListLemmas.{drop_one_less}
 use Rattle.rd_journal.proofs.Runs.{as_ok, as_ok-same, goes_back, world_before-last, shrunk}
 
--- the last of the steps that lead to a world may be undone, and then the others lead to what is left
+-- the last of the steps that lead to a world may be undone, and then the others lead to what is
+-- left
 pub record MayStepBack (R : ℕ) (start w : World) (xs : List Entry) (x : Entry) : Type 0 where
   pub was : WasStepped R w x
   pub left : LeadsTo R start (unstep w x) xs

@@ -1,4 +1,4 @@
--- Records of a run put behind the first live ones, and the room that their makings ask for.
+-- Records of a run put after the first live ones, and the room that their makings ask for.
 use Rattle.std.proofs.Common.{◌≡◌, ◌≢◌, ℕ, zero, suc, ◌+◌, ◌-◌, ◌<◌, ◌≤◌, ◌==◌, Bool, true, false, refl, sym, ◌∙◌, ap, subst, arith, inl, inr, List, [], ◌∷◌, ◌++◌, length, take, set, get_or, if◌then◌else◌, Option, Some, None, is_some, IsSome, Ok, eq-eqb, ne_eqb, length-append}
 use Rattle.std.proofs.Math.Seq.{take-suc}
 use Rattle.std.proofs.lemmas.Bool.{cases_Bool, cases_eq, cond-true, cond-false}
@@ -104,7 +104,7 @@ runs_on R s w (x ∷ xs) ys h k =
     let there : first.after ≡ known.after = ap (λ (t : Stepped). t.world) both in
     runs_on R known.after w xs ys known.rest (subst (λ (v : World). IsRunFrom R v (xs ++ ys)) there first.rest)
 
--- The session with these records behind the border
+-- The session with these records after the border
 
 -- there is room for every maker where there is for those that are actors after the live steps
 pub room_for_all : (R : ℕ) (w : World) (xs ys : List Entry) (room : ℕ → ℕ) → run R (world_before w xs) (events xs) ≡ Ok (record { world = w; entries = xs })

@@ -4,7 +4,8 @@ use Rattle.rd_step.specs.Prelude.{Refusal, NoSuchStep, World, unstep, run, IsWel
 pub use Rattle.rd_step.specs.Run.{events, run_entries, IsRunFrom}
 use Rattle.rd_step.specs.declared.entries.Entry.{Entry}
 
--- the world, the records of the live steps in their order, and those of the undone steps, the one undone last in front
+-- the world, the records of the live steps in their order, and those of the undone steps, the one
+-- undone last in front
 pub record Journal : Type 0 where
   pub world : World
   pub live : List Entry
@@ -15,7 +16,8 @@ abbrev pub world_before : World → List Entry → World
 world_before w [] = w
 world_before w (x ∷ xs) = unstep (world_before w xs) x
 
--- the world that the live steps began in: it is stored nowhere, and is what putting back their old words gives
+-- the world that the live steps began in: it is stored nowhere, and is what putting back their old
+-- words gives
 abbrev pub start_of : Journal → World
 start_of j = world_before j.world j.live
 
@@ -24,8 +26,8 @@ pub record LeadsTo (R : ℕ) (start w : World) (xs : List Entry) : Type 0 where
   pub well_formed : IsWellFormed R start
   pub ran : run R start (events xs) ≡ Ok (record { world = w; entries = xs })
 
--- the journal is a run: the live events run from a well-formed start to its world and leave its live records, and the
--- undone events run on from there and leave its undone records
+-- the journal is a run: the live events run from a well-formed start to its world and leave its
+-- live records, and the undone events run on from there and leave its undone records
 pub record IsRun (R : ℕ) (j : Journal) : Type 0 where
   pub well_formed : IsWellFormed R (start_of j)
   pub live_ran : run R (start_of j) (events j.live) ≡ Ok (record { world = j.world; entries = j.live })

@@ -18,8 +18,8 @@ with_undone n j = record { world = j.world; live = j.live; undone = take n j.und
 abbrev pub journal_of : World → Records → ℕ → Journal
 journal_of w r n = with_undone n (whole_journal w r)
 
--- a session's journal is one run that leads through its world, with no more records than may be live, and there is room for all
--- that is undone
+-- a session's journal is one run that leads through its world, with no more records than may be
+-- live, and there is room for all that is undone
 pub record IsSession (R : ℕ) (j : Journal) (room : ℕ → ℕ) : Type 0 where
   pub few : length j.live + length j.undone ≤ MOST_STEPS
   pub runs : IsRun R j

@@ -24,7 +24,8 @@ abbrev pub IsBeforeLast : ℕ → ℕ → Journal → Journal → Type 0
 IsBeforeLast R n old new =
     run R (start_of old) (take (length old.live - n) (events old.live)) ≡ Ok (record { world = new.world; entries = new.live })
 
--- the k-th live record is the front of the undone ones, all others are as they were, and no record changed
+-- the k-th live record is the front of the undone ones, all others are as they were, and no record
+-- changed
 pub record IsTakenOutAt (k : ℕ) (old new : Journal) : Type 0 where
   pub live : new.live ≡ take (k - 1) old.live ++ drop k old.live
   pub undone : new.undone ≡ take 1 (drop (k - 1) old.live) ++ old.undone
@@ -38,19 +39,19 @@ abbrev pub answer_unless : Option ℕ → Result Unit Refusal
 answer_unless None = Ok tt
 answer_unless (Some j) = Err (Depended j)
 
--- what undoing the k-th live step alone answers: that there is none, or that the first live step that depends on it is
--- this, or that it is done
+-- what undoing the k-th live step alone answers: that there is none, or that the first live step
+-- that depends on it is this, or that it is done
 abbrev pub answer_at : Journal → ℕ → Result Unit Refusal
 answer_at j zero = Err (NoSuchStep (length j.live))
 answer_at j (suc i) = if nat_lt i (length j.live) then answer_unless (first_dependant j.live (suc i)) else Err (NoSuchStep (length j.live))
 
--- the first n live records stay, these stand behind them, and none is undone
+-- the first n live records stay, these are after them, and none is undone
 pub record IsSwitched (n : ℕ) (given : List Entry) (old new : Journal) : Type 0 where
   pub live : new.live ≡ take n old.live ++ given
   pub undone : new.undone ≡ []
 
--- the records of the causal closure of k are the front of the undone ones, in their order, all others are as they were,
--- and no record changed
+-- the records of the causal closure of k are the front of the undone ones, in their order, all
+-- others are as they were, and no record changed
 pub record IsRolledBack (k : ℕ) (old new : Journal) : Type 0 where
   pub live : new.live ≡ without_closure old.live k
   pub undone : new.undone ≡ closure_of old.live k ++ old.undone

@@ -6,7 +6,7 @@ use Rattle.std.specs.List.{flat_map, count_by}
 abbrev pub at_numbers : {X : Type 0} → List X → List ℕ → List X
 at_numbers entries numbers = flat_map (λ n. take 1 (drop n entries)) numbers
 
--- the list orders so many slots: each slot's number stands in it once, and no other number does
+-- the list orders this many slots: each slot's number is in it once, and no other number does
 pub record IsOrder (slots : ℕ) (order : List ℕ) : Type 0 where
   pub once : (n : ℕ) → count_by (λ m. m == n) order ≡ (if nat_lt n slots then 1 else 0)
   pub all : length order ≡ slots

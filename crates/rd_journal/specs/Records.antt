@@ -4,7 +4,8 @@ use Rattle.rd_step.specs.declared.entries.Entry.{Entry}
 use Rattle.rd_journal.specs.declared.records.Records.{Records}
 use Rattle.rd_journal.specs.Numbers.{at_numbers}
 
--- the records in the order of their slots' numbers: those of the live steps, of those ahead of them, and those that were discarded
+-- the records in the order of their slots' numbers: those of the live steps, of those ahead of
+-- them, and those that were discarded
 unfoldable pub all_records : Records → List Entry
 all_records r = at_numbers r.slots.items r.order.items
 
@@ -12,11 +13,12 @@ all_records r = at_numbers r.slots.items r.order.items
 abbrev pub live_records : Records → List Entry
 live_records r = take r.live (all_records r)
 
--- those of the steps ahead of them: the undone ones, the one undone last in front, and behind them those that the live ones went back over
+-- those of the steps ahead of them: the undone ones, the one undone last in front, and after them
+-- those that the live ones went back over
 abbrev pub ahead_records : Records → List Entry
 ahead_records r = take r.ahead (drop r.live (all_records r))
 
--- the live ones, and behind them those ahead
+-- the live ones, and after them those ahead
 abbrev pub kept_records : Records → List Entry
 kept_records r = live_records r ++ ahead_records r
 

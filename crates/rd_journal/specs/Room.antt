@@ -1,4 +1,5 @@
--- The room that redoing asks for, which is what undoing gave back, and when an event may be out of memory.
+-- The room that redoing asks for, which is what undoing gave back, and when an event may be out of
+-- memory.
 use Rattle.std.specs.Prelude.{◌≡◌, ℕ, ◌+◌, ◌≤◌, ◌<◌, ◌⊎◌, IsSome, List, [], ◌∷◌, length, drop, Result, Ok}
 use Rattle.rd_step.specs.Prelude.{Refusal, TooLong, NoMemory, World, Stepped, step, MOST_STEPS}
 use Rattle.rd_step.specs.declared.entries.Event.{Event}
@@ -21,7 +22,7 @@ pub record HasRoom (undone : List Entry) (room : ℕ → ℕ) : Type 0 where
 pub record HasRoomForAll (w : World) (given : List Entry) (room : ℕ → ℕ) : Type 0 where
   pub at : (m : ℕ) → IsSome (w.actor m) → room_returned_by given m ≤ room m
 
--- the index has no room for all of these, put behind those that it is of
+-- the index has no room for all of these, put after those that it is of
 abbrev pub LacksIndexRoom : DependIndex → List Entry → Type 0
 LacksIndexRoom index given = HasRoomFor index given → ⊥
 
@@ -31,8 +32,9 @@ pub record IsNotIndexed (stepped : Result Stepped Refusal) (index : DependIndex)
   pub goes : stepped ≡ Ok after
   pub lacks : LacksIndexRoom index (after.entry ∷ [])
 
--- memory was refused to the event, while fewer steps are live than may be: for one more record, where none is undone and the live ones
--- fill the room that there is; for a segment that nothing else refuses, where the maker has no room; or for the index of dependants
+-- memory was refused to the event, while fewer steps are live than may be: for one more record,
+-- where none is undone and the live ones fill the room that there is; for a segment that nothing
+-- else refuses, where the maker has no room; or for the index of dependants
 pub record IsOutOfMemory (R : ℕ) (j : Journal) (capacity : ℕ) (room : ℕ → ℕ) (index : DependIndex) (e : Event) : Type 0 where
   pub not_full : length j.live < MOST_STEPS
   pub asked : ((j.undone ≡ []) × (capacity ≡ length j.live)) ⊎ FindsNoRoom (step R j.world e) (makes_segment R j.world e) (room e.actor)
@@ -50,8 +52,8 @@ room_without dropped room m = room m + room_returned_by dropped m
 abbrev pub LacksRoomForMakings : List Entry → (ℕ → ℕ) → Type 0
 LacksRoomForMakings given room = (m : ℕ) × (room m < room_returned_by given m)
 
--- behind the first n records there is no room for these, or some maker has none for the makings among them, once the others are undone,
--- or the index has none
+-- after the first n records there is no room for these, or some maker has none for the makings
+-- among them, once the others are undone, or the index has none
 abbrev pub LacksRoom : ℕ → List Entry → List Entry → ℕ → (ℕ → ℕ) → DependIndex → Type 0
 LacksRoom n live given capacity room index =
     (capacity < n + length given) ⊎ LacksRoomForMakings given (room_without (drop n live) room) ⊎ LacksIndexRoom index given

@@ -1,4 +1,5 @@
--- The code's session, as its journal, as its state, and with its track, its room and its index: what public clauses cite.
+-- The code's session, as its journal, as its state, and with its track, its room and its index:
+-- what public clauses cite.
 use Rattle.std.specs.Prelude.{ℕ, List, ◌++◌}
 use Rattle.rd_step.specs.Prelude.{model, room as world_room}
 use Rattle.rd_depend.specs.declared.index.DependIndex.{DependIndex}
@@ -17,8 +18,9 @@ journal s = journal_of (model s.world) s.records s.undone
 abbrev pub state : {R : ℕ} → Session R → State
 state s = state_of (journal s)
 
--- the events of the session's track, along which it goes back and forth: those of the live steps, and of the ones ahead of them, which
--- are kept to be made again as they are: the undone ones, and behind these those that it went back over
+-- the events of the session's track, along which it goes back and forth: those of the live steps,
+-- and of the ones ahead of them, which are kept to be made again as they are: the undone ones, and
+-- after these those that it went back over
 abbrev pub track : {R : ℕ} → Session R → List Event
 track s = (state s).live ++ events (ahead_records s.records)
 
@@ -30,6 +32,6 @@ room s m = world_room s.world m
 abbrev pub capacity : {R : ℕ} → Session R → ℕ
 capacity s = records_capacity s.records
 
--- the index of dependants: that of the live steps and, behind them, of those ahead
+-- the index of dependants: that of the live steps and, after them, of those ahead
 abbrev pub index : {R : ℕ} → Session R → DependIndex
 index s = s.index

@@ -1,5 +1,5 @@
--- What a session is to its callers: a start world, the live events and the undone events. No record, no old word and no
--- place in a run is in it: it knows only the run of a list.
+-- What a session is to its callers: a start world, the live events and the undone events. No
+-- record, no old word and no place in a run is in it: it knows only the run of a list.
 use Rattle.std.specs.Prelude.{ℕ, zero, suc, Bool, ◌-◌, ◌==◌, nat_lt, if◌then◌else◌, List, [], ◌∷◌, ◌++◌, length, take, drop, slice_get, Option, Some, None, Result, Ok, Err}
 use Rattle.rd_step.specs.Prelude.{Refusal, TooLong, NothingToUndo, NothingToRedo, NoSuchStep, Depended, OpReply, World, Stepped, step, Ran, run, first_dependant, without, closure, marked, unmarked, MOST_STEPS}
 use Rattle.rd_step.specs.declared.entries.Event.{Event}
@@ -43,8 +43,8 @@ abbrev pub with_event : State → Event → Result Stepped Refusal → Result St
 with_event s e (Err refusal) = Err refusal
 with_event s e (Ok stepped) = Ok (record { start = s.start; live = s.live ++ e ∷ []; undone = [] })
 
--- an event: refused if as many steps are live as may be, and else as its step is refused in the last world of the live
--- events
+-- an event: refused if as many steps are live as may be, and else as its step is refused in the
+-- last world of the live events
 abbrev pub apply : ℕ → State → Event → Result State Refusal
 apply R s e = if length s.live == MOST_STEPS then Err TooLong else with_event s e (step_after R (run_of R s) e)
 
@@ -60,7 +60,7 @@ back_one s = record {
 abbrev pub forward_one : State → State
 forward_one s = record { start = s.start; live = s.live ++ take 1 s.undone; undone = drop 1 s.undone }
 
--- so many times
+-- this many times
 abbrev pub times : ℕ → (State → State) → State → State
 times zero f s = s
 times (suc n) f s = f (times n f s)
@@ -95,8 +95,8 @@ abbrev pub one_out_unless : State → ℕ → Option ℕ → Result State Refusa
 one_out_unless s k (Some j) = Err (Depended j)
 one_out_unless s k None = Ok (one_out s k)
 
--- undoing the k-th live step alone: refused if there is none, and with the number of the first live step that depends on
--- it, if there is one
+-- undoing the k-th live step alone: refused if there is none, and with the number of the first live
+-- step that depends on it, if there is one
 abbrev pub undo_at : ℕ → State → ℕ → Result State Refusal
 undo_at R s zero = Err (NoSuchStep (length s.live))
 undo_at R s (suc i) =
@@ -107,12 +107,13 @@ abbrev pub closure_in : ℕ → Result Ran Refusal → List Bool
 closure_in k (Err refusal) = []
 closure_in k (Ok r) = closure r.entries k
 
--- the marked live events become the front of undone, in their order, and all others stay in their order
+-- the marked live events become the front of undone, in their order, and all others stay in their
+-- order
 abbrev pub marked_out : State → List Bool → State
 marked_out s marks = record { start = s.start; live = unmarked marks s.live; undone = marked marks s.live ++ s.undone }
 
--- rolling back the k-th live step: it and just the later ones that depend on it, directly or through others, become the
--- front of undone; refused if there is none
+-- rolling back the k-th live step: it and just the later ones that depend on it, directly or
+-- through others, become the front of undone; refused if there is none
 abbrev pub roll : ℕ → State → ℕ → Result State Refusal
 roll R s zero = Err (NoSuchStep (length s.live))
 roll R s (suc i) =

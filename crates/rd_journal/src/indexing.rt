@@ -1,8 +1,9 @@
-//! The index of dependants beside a session's records: that of the live ones and, behind them, of those ahead.
+//! The index of dependants beside a session's records: that of the live ones and, after them, of
+//! those ahead.
 //!
-//! A step that is undone or redone last changes nothing of that list. What takes records out of it, or puts others in, takes the
-//! positions behind the first ones that stay away and puts the new ones in. Room that positions had is kept, so those that were taken
-//! away can always be put back.
+//! A step that is undone or redone last changes nothing of that list. What takes records out of it,
+//! or puts others in, takes the positions after the first ones that stay away and puts the new ones
+//! in. Room that positions had is kept, so those that were taken away can always be put back.
 
 ghost use Rattle.std.specs.Prelude.{◌++◌, ◌+◌, ◌<◌, ◌≤◌, [], List, ◌∷◌, OnOk, OnErr, length, take, drop};
 ghost use Rattle.rd_step.specs.declared.entries.Entry.{Entry as Record};
@@ -18,11 +19,13 @@ use std::alloc::AllocError;
 /// How many positions are taken out of the index one by one at most.
 const FEW: usize = 1_000;
 
-/// Has the index of the records be that of the first `n` of them and, behind these, of the given ones.
+/// Has the index of the records be that of the first `n` of them and, after these, of the given
+/// ones.
 ///
 /// # Errors
 ///
-/// If memory was refused, which is asked for only where the room is missing behind the first `n`. The index is as before then.
+/// If memory was refused, which is asked for only where the room is missing after the first `n`.
+/// The index is as before then.
 pub(crate) fn index_instead(
     index: &mut DependIndex,
     records: &Records,
@@ -44,8 +47,8 @@ pub(crate) fn index_instead(
     put
 }
 
-/// Takes the positions behind the first `n` out of the index: a few one by one, and many by one pass over all its lists. The room
-/// that they had is kept.
+/// Takes the positions after the first `n` out of the index: a few one by one, and many by one pass
+/// over all its lists. The room that they had is kept.
 pub(crate) fn cut_index(index: &mut DependIndex, records: &Records, n: usize)
     requires indexed { IsIndexOf index.old (kept_records records.now) }
     requires within { n ≤ length (kept_records records.now) }
@@ -59,7 +62,7 @@ pub(crate) fn cut_index(index: &mut DependIndex, records: &Records, n: usize)
     }
 }
 
-/// Takes the positions behind the first `n` out of the index, one by one.
+/// Takes the positions after the first `n` out of the index, one by one.
 fn pop_behind(index: &mut DependIndex, records: &Records, n: usize)
     requires indexed { IsIndexOf index.old (kept_records records.now) }
     requires within { n ≤ length (kept_records records.now) }
@@ -71,7 +74,7 @@ fn pop_behind(index: &mut DependIndex, records: &Records, n: usize)
     }
 }
 
-/// Puts the records behind those that the index is of into it. There is room for them.
+/// Puts the records after those that the index is of into it. There is room for them.
 pub(crate) fn fill_index(index: &mut DependIndex, records: &Records)
     requires indexed { IsIndexOf index.old (take index.old.len (kept_records records.now)) }
     requires room { HasRoomFor index.old (drop index.old.len (kept_records records.now)) }

@@ -1,4 +1,5 @@
-//! The laws of the journal, for every list of steps: each is the contract of a function that does nothing.
+//! The laws of the journal, for every list of steps: each is the contract of a function that does
+//! nothing.
 
 ghost use Rattle.std.specs.Prelude.{◌≡◌, ◌≤◌, ◌↔◌, ℕ, true, List, length, None, Some, Ok};
 ghost use Rattle.rd_step.specs.declared.entries.Entry.{Entry as Record};
@@ -8,20 +9,21 @@ ghost use Rattle.rd_journal.specs.Journal.{Journal, IsRun};
 ghost use Rattle.rd_journal.specs.Laws.{IsMovedLast, IsClosureLast, IsOneRun};
 ghost use Rattle.rd_journal.specs.State.{State, state_of, undo_at, back, redo, forward, roll};
 
-/// The loop lemma for states: going back and then forward as far gives the start, the live events and the undone events
-/// from before.
+/// The loop lemma for states: going back and then forward as far gives the start, the live events
+/// and the undone events from before.
 pub fn forward_after_back_gives_the_state_back()
     ensures { (s t : State) (n : ℕ) → back s n ≡ Ok t → forward t n ≡ Ok s }
 {}
 
-/// A start, live events and undone events determine the world and every record: what a call does to the state says
-/// what it does to the whole session.
+/// A start, live events and undone events determine the world and every record: what a call does to
+/// the state says what it does to the whole session.
 pub fn a_state_has_one_journal()
     ensures { (R : ℕ) (i j : Journal) → IsRun R i → IsRun R j → state_of i ≡ state_of j → i ≡ j }
 {}
 
-/// The loop lemma: going back and then forward as far gives the world and every record, live and undone, from before.
-/// Of the words of one step it stands in the laws of rd_step, as `entries_undo_their_steps`.
+/// The loop lemma: going back and then forward as far gives the world and every record, live and
+/// undone, from before. Of the words of one step it is in the laws of rd_step, as
+/// `entries_undo_their_steps`.
 pub fn forward_after_back_gives_the_journal_back()
     ensures { (R : ℕ) (i j k : Journal) (n : ℕ) → IsRun R i → IsRun R k → back (state_of i) n ≡ Ok (state_of j)
         → forward (state_of j) n ≡ Ok (state_of k) → k ≡ i }
@@ -32,35 +34,37 @@ pub fn live_and_undone_are_one_run()
     ensures { (R : ℕ) (j : Journal) → IsRun R j → IsOneRun R j }
 {}
 
-/// A step that is undone alone, from anywhere among the live ones, and then redone is the last one, with the record that
-/// it had; the world and all other records are those from before.
+/// A step that is undone alone, from anywhere among the live ones, and then redone is the last one,
+/// with the record that it had; the world and all other records are those from before.
 ///
-/// With the removal that `Session::undo_at` promises (its clause `run`) this is causal consistency for a step: it may be
-/// undone exactly if no remaining one depends on it, and what is left is as if it had never been made. It rests on the
-/// square property, that independent steps commute: `independent_steps_commute` and `a_free_step_may_be_taken_out` in the
-/// laws of rd_step, over all rows and all well-formed worlds, which reach the journal as the contract of `unstep` in
+/// With the removal that `Session::undo_at` promises (its clause `run`) this is causal consistency
+/// for a step: it may be undone exactly if no remaining one depends on it, and what is left is as
+/// if it had never been made. It rests on the square property, that independent steps commute:
+/// `independent_steps_commute` and `a_free_step_may_be_taken_out` in the laws of rd_step, over all
+/// rows and all well-formed worlds, which reach the journal as the contract of `unstep` in
 /// rd_inverse.
 pub fn a_step_undone_alone_and_redone_is_the_last()
     ensures { (R : ℕ) (i j k : Journal) (n : ℕ) → IsRun R i → IsRun R k → undo_at R (state_of i) n ≡ Ok (state_of j)
         → redo (state_of j) ≡ Ok (state_of k) → IsMovedLast n i k }
 {}
 
-/// The closure of a step among records, whose marks `Session::roll` takes out, is just the least set of positions that holds
-/// the step's and, with each position, every later one whose record depends on that one's.
+/// The closure of a step among records, whose marks `Session::roll` takes out, is just the least
+/// set of positions that holds the step's and, with each position, every later one whose record
+/// depends on that one's.
 pub fn the_closure_is_the_least_set()
     ensures { (entries : List Record) (k j : ℕ) → 1 ≤ k → k ≤ length entries
         → ((numbered (closure entries k) j ≡ Some true) ↔ IsInClosure entries k j) }
 {}
 
-/// Whichever lone undos, none refused, take a step out of a run, they take all of its closure out: `Session::roll` takes no
-/// step out that could stay.
+/// Whichever lone undos, none refused, take a step out of a run, they take all of its closure out:
+/// `Session::roll` takes no step out that could stay.
 pub fn lone_undos_that_take_a_step_out_take_its_closure_out()
     ensures { (entries : List Record) (ns : List ℕ) (k j : ℕ) → AreLoneUndos ns entries → number_after ns k ≡ None
         → IsInClosure entries k j → number_after ns j ≡ None }
 {}
 
-/// If all that a rollback undid is redone, the world is that from before it, no record has changed, and what was redone
-/// stands last, in its order.
+/// If all that a rollback undid is redone, the world is that from before it, no record has changed,
+/// and what was redone is last, in its order.
 pub fn a_closure_rolled_back_and_redone_is_last()
     ensures { (R : ℕ) (i j k : Journal) (n : ℕ) → IsRun R i → IsRun R k → roll R (state_of i) n ≡ Ok (state_of j)
         → forward (state_of j) (length (closure_of i.live n)) ≡ Ok (state_of k) → IsClosureLast n i k }

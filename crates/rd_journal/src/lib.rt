@@ -1,9 +1,10 @@
-//! The journal: what was done and what was undone, walking up and down the run, undoing any step on which no later one
-//! depends, or a step together with all that depends on it, and going over to another run with the same beginning.
+//! The journal: what was done and what was undone, walking up and down the run, undoing any step on
+//! which no later one depends, or a step together with all that depends on it, and going over to
+//! another run with the same beginning.
 //!
-//! A session is seen as a start world, the live events and the undone events. It keeps each record where it was put, orders
-//! their numbers, with a border in that order, and undoes from the old words of the records; the start is never stored and
-//! never replayed from.
+//! A session is seen as a start world, the live events and the undone events. It keeps each record
+//! where it was put, orders their numbers, with a border in that order, and undoes from the old
+//! words of the records; the start is never stored and never replayed from.
 #![tactic(auto)]
 
 mod indexing;

@@ -7,7 +7,8 @@ ghost use Rattle.rd_journal.specs.Numbers.{at_numbers};
 use rd_step::Entry;
 use std::marker::Model;
 
-/// Records of live steps, in their order: a list that is read where the records are kept, by the numbers of their slots.
+/// Records of live steps, in their order: a list that is read where the records are kept, by the
+/// numbers of their slots.
 #[derive(Drop)]
 pub struct LiveRecords<'a> {
     slots: &'a [Entry],
@@ -62,7 +63,7 @@ impl<'a> LiveRecords<'a> {
         }
     }
 
-    /// Those behind the first `n`.
+    /// Those after the first `n`.
     pub fn behind(&self, n: usize) -> LiveRecords<'a>
         requires { n ≤ length self.now }
         ensures { result ≡ drop n self.now }
@@ -71,7 +72,7 @@ impl<'a> LiveRecords<'a> {
     }
 }
 
-/// The entry in the slot whose number stands at this position.
+/// The entry in the slot whose number is at this position.
 pub(crate) fn entry_at<'a>(slots: &'a [Entry], numbers: &[u32], position: usize) -> &'a Entry
     requires within { position < length numbers.now }
     requires below { All (λ n. n < length slots.now) numbers.now }
@@ -80,7 +81,7 @@ pub(crate) fn entry_at<'a>(slots: &'a [Entry], numbers: &[u32], position: usize)
     &slots[numbers[position] as usize]
 }
 
-/// The numbers behind the first `n`.
+/// The numbers after the first `n`.
 fn numbers_behind(numbers: &[u32], n: usize) -> &[u32]
     requires { n ≤ length numbers.now }
     ensures { result.now ≡ drop n numbers.now }

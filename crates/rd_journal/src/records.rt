@@ -1,9 +1,12 @@
-//! The records of a session. A record stays in the slot that it was put in; their order is a list of the slots' numbers: those of the
-//! live steps, then of those ahead of them, the next one in front, then of those whose records were discarded. The steps ahead run on from
-//! the live ones and can be made again as they are: the undone ones, and behind these the ones that the live ones went back over.
+//! The records of a session. A record stays in the slot that it was put in; their order is a list
+//! of the slots' numbers: those of the live steps, then of those ahead of them, the next one in
+//! front, then of those whose records were discarded. The steps ahead run on from the live ones and
+//! can be made again as they are: the undone ones, and after these the ones that the live ones went
+//! back over.
 //!
-//! Only the border between the first two moves when a step is undone or redone last. A record that leaves the middle first has its
-//! number moved behind those of the other live ones. So the room that an undo needs was made by the step that it undoes.
+//! Only the border between the first two moves when a step is undone or redone last. A record that
+//! leaves the middle first has its number moved after those of the other live ones. So the room
+//! that an undo needs was made by the step that it undoes.
 
 #![tactic(auto, unfolding(crate::specs::Records::all_records))]
 
@@ -23,7 +26,8 @@ use rd_step::Entry;
 use slots::{make_room_in, move_behind, put_at};
 use std::alloc::{AllocError, Global};
 
-/// The records of the live steps, in their order, and those of the steps ahead of them, the next one in front.
+/// The records of the live steps, in their order, and those of the steps ahead of them, the next
+/// one in front.
 #[derive(Drop)]
 pub(crate) struct Records {
     /// The records, each where it was put, and those that were discarded and not yet written over.
@@ -122,7 +126,7 @@ impl Records {
         self.at(self.live + position)
     }
 
-    /// The record whose slot's number stands at this place of the order.
+    /// The record whose slot's number is at this place of the order.
     fn at(&self, place: usize) -> &Entry
         requires { place < length (all_records self.now) }
         ensures { result.now ≡ get_or (all_records self.now) place result.now }
@@ -169,11 +173,11 @@ impl Records {
         self.ahead += 1;
     }
 
-    /// Puts the `k`-th live record and those that depend on it, directly or through others, behind the other live ones, all in
-    /// their order. Answers how many these are.
+    /// Puts the `k`-th live record and those that depend on it, directly or through others, after
+    /// the other live ones, all in their order. Returns how many these are.
     ///
-    /// The index is that of the records before the `k`-th, with room for those behind them; then it is that of these records and the
-    /// ones that were moved, with room for the others.
+    /// The index is that of the records before the `k`-th, with room for those after them; then it
+    /// is that of these records and the ones that were moved, with room for the others.
     pub(crate) fn gather_closure(&mut self, k: usize, index: &mut DependIndex) -> usize
         requires some { 1 ≤ k }
         requires position { k ≤ length (live_records self.old) }
@@ -197,7 +201,7 @@ impl Records {
         )
     }
 
-    /// Makes room for so many records. Room that is there is not asked for.
+    /// Makes room for this many records. Room that is there is not asked for.
     pub(crate) fn make_room_for(&mut self, needed: usize) -> Result<(), AllocError>
         ensures live { live_records self.new ≡ live_records self.old }
         ensures ahead { ahead_records self.new ≡ ahead_records self.old }
@@ -210,8 +214,8 @@ impl Records {
         make_room_in(&mut self.gathered, needed)
     }
 
-    /// Keeps the first `n` live records, and puts these behind them, inside the room that there is; all of them are live then, and none
-    /// is ahead.
+    /// Keeps the first `n` live records, and puts these after them, inside the room that there is;
+    /// all of them are live then, and none is ahead.
     pub(crate) fn exchange(&mut self, n: usize, given: &[Entry])
         requires within { n ≤ length (live_records self.old) }
         requires room { n + length given.now ≤ records_capacity self.old }
@@ -227,7 +231,8 @@ impl Records {
         }
     }
 
-    /// Puts a record last among the live ones, where none is ahead: over the first discarded one, or where none is, into a new slot.
+    /// Puts a record last among the live ones, where none is ahead: over the first discarded one,
+    /// or where none is, into a new slot.
     fn push(&mut self, entry: &Entry)
         requires none_ahead { ahead_records self.old ≡ [] }
         requires room { length (live_records self.old) < records_capacity self.old }

@@ -1,16 +1,19 @@
 //! The session: the world and the records of its live and undone steps.
 //!
-//! Undoing puts the old words of a live record back, and the record goes to the front of the undone ones: the last one, or any
-//! other on which no later one depends, or a record with all that depend on it. Redoing steps again. So the room that an undo
-//! needs was made by the step that it undoes. A switch undoes the steps behind the first ones and makes others again.
+//! Undoing puts the old words of a live record back, and the record goes to the front of the undone
+//! ones: the last one, or any other on which no later one depends, or a record with all that depend
+//! on it. Redoing steps again. So the room that an undo needs was made by the step that it undoes.
+//! A switch undoes the steps after the first ones and makes others again.
 //!
-//! Beside the records stands their index of dependants, at every moment that of the live ones and, behind them, of those ahead: a dependant
-//! that it finds behind the live ones is none.
+//! Beside the records is their index of dependants, at every moment that of the live ones and,
+//! after them, of those ahead: a dependant that it finds after the live ones is none.
 //!
-//! The live steps with those ahead of them are the session's track. Who knows what lies on it goes along it: what that leaves ahead stays
-//! there, though it is not undone for any caller, and can be made again with no record copied and the index as it is.
+//! The live steps with those ahead of them are the session's track. Who knows what lies on it goes
+//! along it: what that leaves ahead stays there, though it is not undone for any caller, and can be
+//! made again with no record copied and the index as it is.
 //!
-//! The calls that change a session are here, and how they move its steps in the other files of `sessions/`; `queries` has what it tells.
+//! The calls that change a session are here, and how they move its steps in the other files of
+//! `sessions/`; `queries` has what it tells.
 
 mod moving;
 mod queries;
@@ -41,9 +44,10 @@ use std::slice::from_ref;
 /// A world of rings of `R` cells, with the steps that led to it and those that were undone.
 pub struct Session<const R: usize> {
     world: World<R>,
-    /// Of the live steps and of those ahead of them: these are the undone ones, and behind them those that the live ones went back over.
+    /// Of the live steps and of those ahead of them: these are the undone ones, and after them
+    /// those that the live ones went back over.
     records: Records,
-    /// Of the live records and, behind them, of those ahead.
+    /// Of the live records and, after them, of those ahead.
     index: DependIndex,
     /// How many of the steps ahead are undone.
     undone: usize,
@@ -52,8 +56,8 @@ pub struct Session<const R: usize> {
     ghost indexed: { IsIndexOf index (kept_records records) },
 }
 
-/// Written out and not derived, so that a proof of a function in which a session ends has one step for that, and not one for
-/// each list inside.
+/// Written out and not derived, so that a proof of a function in which a session ends has one step
+/// for that, and not one for each list inside.
 impl<const R: usize> Drop for Session<R> {
     fn drop(self) {
         let Session {
@@ -82,14 +86,16 @@ impl<const R: usize> Session<R> {
         }
     }
 
-    /// Makes an event happen as the last live step, and discards what was undone. Answers the step's number and its
-    /// record.
+    /// Makes an event happen as the last live step, and discards what was undone. Returns the
+    /// step's number and its record.
     ///
     /// # Errors
     ///
-    /// In this order: `TooLong` if `MOST_STEPS` steps are live; `NoMemory` if the room for one more record was refused,
-    /// which is asked for only if no step is undone and the records fill their room; what the step is refused for, `NoMemory` for a making whose
-    /// maker has no room; `NoMemory` if the index of dependants has no room for the step and was refused it. Nothing has changed then.
+    /// In this order: `TooLong` if `MOST_STEPS` steps are live; `NoMemory` if the room for one more
+    /// record was refused, which is asked for only if no step is undone and the records fill their
+    /// room; what the step is refused for, `NoMemory` for a making whose maker has no room;
+    /// `NoMemory` if the index of dependants has no room for the step and was refused it. Nothing
+    /// has changed then.
     pub fn apply(&mut self, event: Event) -> Result<(u64, Entry), Refusal>
         ensures ok { OnOk result (apply R (state self.old) event ≡ Ok (state self.new)) }
         ensures step { IfOk result (λ done. step R (journal self.old).world event
@@ -142,14 +148,16 @@ impl<const R: usize> Session<R> {
         Ok(())
     }
 
-    /// Undoes the `k`-th live step alone, counted from 1, if no later live step depends on it. It becomes the front of the
-    /// undone steps, and all other steps stay as they are. It takes no memory and makes no step again; it looks for the
-    /// first later step that depends on it, and moves the records behind it.
+    /// Undoes the `k`-th live step alone, counted from 1, if no later live step depends on it. It
+    /// becomes the front of the undone steps, and all other steps stay as they are. It takes no
+    /// memory and makes no step again; it looks for the first later step that depends on it, and
+    /// moves the records after it.
     ///
     /// # Errors
     ///
-    /// `NoSuchStep`, with the number of live steps, if `k` is not from 1 to it; `Depended`, with the number of the first
-    /// live step that depends on the `k`-th, if there is one. Nothing has changed then.
+    /// `NoSuchStep`, with the number of live steps, if `k` is not from 1 to it; `Depended`, with
+    /// the number of the first live step that depends on the `k`-th, if there is one. Nothing has
+    /// changed then.
     pub fn undo_at(&mut self, k: u64) -> Result<(), Refusal>
         ensures ok { OnOk result (undo_at R (state self.old) k ≡ Ok (state self.new)) }
         ensures records { OnOk result (IsTakenOutAt k (journal self.old) (journal self.new)) }
@@ -171,16 +179,17 @@ impl<const R: usize> Session<R> {
         Ok(())
     }
 
-    /// Undoes the `k`-th live step, counted from 1, and just the later ones that depend on it, directly or through others.
-    /// In their order they become the front of the undone steps, and all other steps stay as they are. It takes no memory
-    /// and makes no step again.
+    /// Undoes the `k`-th live step, counted from 1, and just the later ones that depend on it,
+    /// directly or through others. In their order they become the front of the undone steps, and
+    /// all other steps stay as they are. It takes no memory and makes no step again.
     ///
-    /// Its time is one pass over the later live steps: whether one depends on a step that is undone is told by a few look-ups, and the
-    /// index of dependants is put together again behind the step.
+    /// Its time is one pass over the later live steps: whether one depends on a step that is undone
+    /// is told by a few look-ups, and the index of dependants is put together again after the step.
     ///
     /// # Errors
     ///
-    /// `NoSuchStep`, with the number of live steps, if `k` is not from 1 to it. Nothing has changed then.
+    /// `NoSuchStep`, with the number of live steps, if `k` is not from 1 to it. Nothing has changed
+    /// then.
     pub fn roll(&mut self, k: u64) -> Result<(), Refusal>
         ensures ok { OnOk result (roll R (state self.old) k ≡ Ok (state self.new)) }
         ensures records { OnOk result (IsRolledBack k (journal self.old) (journal self.new)) }
@@ -199,11 +208,13 @@ impl<const R: usize> Session<R> {
         Ok(())
     }
 
-    /// Undoes the last `n` live steps, all or none. It takes no memory, and time that grows with `n` alone.
+    /// Undoes the last `n` live steps, all or none. It takes no memory, and time that grows with
+    /// `n` alone.
     ///
     /// # Errors
     ///
-    /// `NothingToUndo`, with the number of live steps, if `n` is above it. Nothing has changed then.
+    /// `NothingToUndo`, with the number of live steps, if `n` is above it. Nothing has changed
+    /// then.
     pub fn back(&mut self, n: u64) -> Result<(), Refusal>
         ensures ok { OnOk result (back (state self.old) n ≡ Ok (state self.new)) }
         ensures records { OnOk result (IsMovedBack n (journal self.old) (journal self.new)) }
@@ -223,7 +234,8 @@ impl<const R: usize> Session<R> {
         Ok(())
     }
 
-    /// Steps the event again that was undone last. It leaves the record that it left before. It takes no memory.
+    /// Steps the event again that was undone last. It leaves the record that it left before. It
+    /// takes no memory.
     ///
     /// # Errors
     ///
@@ -244,7 +256,8 @@ impl<const R: usize> Session<R> {
         Ok(())
     }
 
-    /// Redoes the `n` steps that were undone last, all or none. It takes no memory, and time that grows with `n` alone.
+    /// Redoes the `n` steps that were undone last, all or none. It takes no memory, and time that
+    /// grows with `n` alone.
     ///
     /// # Errors
     ///
@@ -265,14 +278,15 @@ impl<const R: usize> Session<R> {
         Ok(())
     }
 
-    /// Keeps the first `n` live steps, undoes the others, discards what was undone, and makes the steps of the given records
-    /// again, which become the last live ones. Room for the records, in the index of dependants, and for each maker for the makings among
-    /// them is asked for before the first undo.
+    /// Keeps the first `n` live steps, undoes the others, discards what was undone, and makes the
+    /// steps of the given records again, which become the last live ones. Room for the records, in
+    /// the index of dependants, and for each maker for the makings among them is asked for before
+    /// the first undo.
     ///
     /// # Errors
     ///
-    /// `NoMemory` if room was refused, which is asked for only where it is missing once the others are undone; so not if no record is
-    /// given. Nothing has changed then.
+    /// `NoMemory` if room was refused, which is asked for only where it is missing once the others
+    /// are undone; so not if no record is given. Nothing has changed then.
     pub fn switch(&mut self, n: u64, entries: &[Entry]) -> Result<(), Refusal>
         requires within { n ≤ length (journal self.old).live }
         requires few { n + length entries.now ≤ MOST_STEPS }
@@ -290,9 +304,10 @@ impl<const R: usize> Session<R> {
         self.exchange(n as usize, entries)
     }
 
-    /// Goes along the session's track, which is the live steps with those ahead of them: its first `n` steps are live then, and none is
-    /// undone. The track stays as it is. It copies no record and takes no memory, and its time grows with the number of steps that it
-    /// undoes or makes again alone.
+    /// Goes along the session's track, which is the live steps with those ahead of them: its first
+    /// `n` steps are live then, and none is undone. The track stays as it is. It copies no record
+    /// and takes no memory, and its time grows with the number of steps that it undoes or makes
+    /// again alone.
     pub fn go_along(&mut self, n: u64)
         requires within { n ≤ length (track self.old) }
         ensures state { state self.new ≡ record { start = (state self.old).start; live = take n (track self.old); undone = [] } }

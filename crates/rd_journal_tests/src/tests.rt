@@ -1,7 +1,7 @@
 //! The tests of the journal: runs as data, and the small helper that plays them.
 //!
-//! A run is a list of lines. Most do something to a session that must be accepted, or refused as the line says; the
-//! others say what must be so then.
+//! A run is a list of lines. Most do something to a session that must be accepted, or refused as
+//! the line says; the others say what must be so then.
 
 mod agreement;
 mod closures;
@@ -26,14 +26,14 @@ enum Line {
     Act(u8, Act),
     /// This actor is refused this act.
     Refused(u8, Act, Refusal),
-    /// This actor steps along these control points, each of which it stands at before its step there; the last step
-    /// replies this, the others nothing.
+    /// This actor steps along these control points, each of which it is at before its step there;
+    /// the last step replies this, the others nothing.
     Walk(u8, &'static [Pc], Option<OpReply>),
     /// This move through the run is made.
     Moves(Move),
     /// This move through the run is refused.
     Stays(Move, Refusal),
-    /// So many steps are live, and so many undone.
+    /// This many steps are live, and this many undone.
     At(u64, u64),
     /// This is at the place.
     Is(Place, Content),
@@ -41,9 +41,10 @@ enum Line {
     Gone(Place),
     /// This actor's words are these.
     Actor(u8, Actor),
-    /// This actor stands at this control point.
+    /// This actor is at this control point.
     Stands(u8, Pc),
-    /// The live step of this number was made by this actor at this place; it wrote this of it, and was answered this.
+    /// The live step of this number was made by this actor at this place; it wrote this of it, and
+    /// was answered this.
     Step(u64, u8, Place, Wrote, Answer),
     /// There is no live step of this number, and the refusal says so.
     NoStep(u64, Refusal),
@@ -58,7 +59,8 @@ enum Move {
     Forward(u64),
 }
 
-/// Plays a run, line by line. A line that is not so ends the test, with the run's name and the line's index.
+/// Plays a run, line by line. A line that is not so ends the test, with the run's name and the
+/// line's index.
 fn play<const R: usize>(rt: &impl Abort, session: &mut Session<R>, run: &str, lines: &[Line]) {
     for i in 0..lines.len() {
         play_line(rt, session, run, i, lines[i]);
@@ -155,8 +157,8 @@ fn applied<const R: usize>(
     Ok((number, entry.reply))
 }
 
-/// Lets an actor step along these control points. Answers what the last step replied; none if the actor stood at
-/// another control point, was refused, or had a reply before the last step.
+/// Lets an actor step along these control points. Returns what the last step replied; none if the
+/// actor was at another control point, was refused, or had a reply before the last step.
 fn walk<const R: usize>(
     session: &mut Session<R>,
     actor: u8,
@@ -182,7 +184,7 @@ fn moved<const R: usize>(session: &mut Session<R>, to: Move) -> Result<(), Refus
     }
 }
 
-/// The control point where an actor stands.
+/// The control point where an actor is.
 fn stands<const R: usize>(session: &Session<R>, actor: u8) -> Option<Pc> {
     Some(session.world().actor(actor)?.pc)
 }

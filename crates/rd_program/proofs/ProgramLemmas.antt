@@ -1,4 +1,4 @@
--- A script's run from the program's first state, and the trace behind its report.
+-- A script's run from the program's first state, and the trace after its report.
 use Rattle.std.proofs.Common.{◌≡◌, ℕ, Bool, false, List, Option, Result, Ok, Err, sym, subst}
 use Rattle.std.specs.Prelude.{IsErrAnd}
 use Rattle.rd_marks.specs.Books.{BookState}

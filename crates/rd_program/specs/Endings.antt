@@ -44,11 +44,11 @@ refusal_of (Load fault) = load_refusal fault
 refusal_of (Trace fault) = trace_refusal fault
 refusal_of (View fault) = view_refusal fault
 
--- the line of a refusal behind the program's name
+-- the line of a refusal after the program's name
 abbrev pub error_line : AnyRefusal → List ℕ
 error_line refusal = codes "lcrqdb: " ++ text_of (Err refusal)
 
--- what a stream has behind what it had: just the text, or, if it has failed, a beginning of it
+-- what a stream has after what it had: just the text, or, if it has failed, a beginning of it
 abbrev pub Takes : Bool → Option (List ℕ) → Option (List ℕ) → List ℕ → Type 0
 Takes false old new text = Appends old new text
 Takes true old new text = TakesBeginning old new text

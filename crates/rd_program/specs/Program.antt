@@ -1,5 +1,5 @@
--- What the program does: a script's run over a fresh world, with the trace of it behind the report if one is asked for, and a
--- script's run over the run of a trace.
+-- What the program does: a script's run over a fresh world, with the trace of it after the report
+-- if one is asked for, and a script's run over the run of a trace.
 use Rattle.std.specs.Prelude.{◌≡◌, ◌⊎◌, ℕ, Bool, true, false, List, Option, Result, Ok, Err}
 use Rattle.std.specs.Io.KnownBytes.{Keeps}
 use Rattle.rd_marks.specs.Books.{BookState}
@@ -55,7 +55,8 @@ pub record RunsOverTrace (text : List ℕ) (d : Devices) (result : Result ℕ Sc
   pub loads : LoadsTrace text (Ok book)
   pub runs : RunsOver (any_ring book) (any_state book) d result
 
--- what `load` did with the text of a file: neither device is touched unless the text is loaded as a book
+-- what `load` did with the text of a file: neither device is touched unless the text is loaded as a
+-- book
 abbrev pub ResumesTrace : List ℕ → Devices → Result ℕ ProgramFault → Type 0
 ResumesTrace text d (Ok n) = RunsOverTrace text d (Ok n)
 ResumesTrace text d (Err (Script fault)) = RunsOverTrace text d (Err fault)

@@ -1,5 +1,6 @@
-//! What the program does over the devices that it is given: a script's run over a fresh world, with the trace of it behind
-//! the report if one is asked for, and a script's run over the run of a trace.
+//! What the program does over the devices that it is given: a script's run over a fresh world, with
+//! the trace of it after the report if one is asked for, and a script's run over the run of a
+//! trace.
 
 ghost use Rattle.std.specs.Prelude.{◌≡◌, ℕ, false, IfOk, IfErr, IfSome};
 ghost use Rattle.rd_trace.specs.Traces.{ring_length};
@@ -15,13 +16,13 @@ use std::alloc::Global;
 use std::io::{ErrorKind, Read};
 
 /// Runs a script over a fresh world and writes its report. If the trace is asked for, it follows
-/// the report of a run that came to its end. Answers the number of the script's lines.
+/// the report of a run that came to its end. Returns the number of the script's lines.
 ///
 /// # Errors
 ///
 /// `NoMemory` if the world was refused its memory: neither device was touched. `Script` as the run
 /// of a script. `Trace` if the trace was refused its memory: the report was written, and nothing
-/// behind it; or if the writer failed in the trace.
+/// after it; or if the writer failed in the trace.
 pub fn play<S: Source, K: Sink>(
     alloc: Global,
     reader: &mut S,
@@ -40,7 +41,8 @@ pub fn play<S: Source, K: Sink>(
     play_over(alloc, reader, writer, &mut book, trace)
 }
 
-/// Runs a script over a book in which nothing was done yet, and writes its report, and the trace behind it if it is asked for.
+/// Runs a script over a book in which nothing was done yet, and writes its report, and the trace
+/// after it if it is asked for.
 fn play_over<S: Source, K: Sink>(
     alloc: Global,
     reader: &mut S,
@@ -75,8 +77,8 @@ fn write_if<K: Sink>(
     Ok(())
 }
 
-/// Loads the trace that a text is, runs a script over its book, and writes the script's report. Answers the number of the
-/// script's lines.
+/// Loads the trace that a text is, runs a script over its book, and writes the script's report.
+/// Returns the number of the script's lines.
 ///
 /// # Errors
 ///

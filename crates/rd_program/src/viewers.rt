@@ -1,4 +1,4 @@
-//! Several scripts over one fresh world, each by a viewer in a thread of its own.
+//! Several scripts over one fresh world, each by a viewer in its own thread.
 
 ghost use Rattle.std.specs.Prelude.{◌≡◌, ◌≤◌, false, length};
 ghost use Rattle.rd_desk.specs.declared.desks.TheConstants.{MOST_VIEWERS};
@@ -17,8 +17,8 @@ use std::alloc::Global;
 use std::sync::Wait;
 use std::thread::Threads;
 
-/// Runs 1 to 64 scripts over a fresh world, each by a viewer in a thread of its own, and writes for
-/// each viewer what its lines were answered, and last how many calls were recorded. Answers this
+/// Runs 1 to 64 scripts over a fresh world, each by a viewer in its own thread, and writes for
+/// each viewer what its lines were answered, and last how many calls were recorded. Returns this
 /// number.
 ///
 /// # Errors

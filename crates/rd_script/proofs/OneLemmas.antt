@@ -37,7 +37,7 @@ place_shapes kind.ArrCell = 0 ∷ []
 place_shapes _ = 2 ∷ 0 ∷ []
 
 -- the shapes after a keyword, and whether the arguments have them, as far as there are arguments;
--- after a kind of place stand its own
+-- after a kind of place are its own
 abbrev shapes : Keyword → List ℕ
 shapes keyword.Enq = 0 ∷ 1 ∷ []
 shapes keyword.Deq = 0 ∷ []

@@ -1,4 +1,5 @@
--- A loop over the parts of a text: the chain proof comes last, since its closure is known from the loop alone.
+-- A loop over the parts of a text: the chain proof comes last, since its closure is known from the
+-- loop alone.
 use Rattle.std.proofs.Common.{◌≡◌, ◌<◌, ◌≤◌, ℕ, List, [], ◌∷◌, map, length, drop, get_or, Bor, Option, Some, None, ◌∙◌, ap, arith}
 use Rattle.std.specs.Iterator.{Yields}
 use Rattle.std.proofs.lemmas.Iterator.{YieldsList}

@@ -1,8 +1,8 @@
--- Words behind words.
+-- Words after words.
 use Rattle.std.proofs.Common.{ℕ, ◌+◌, List, ◌∙◌, ◌++◌, length, arith, ap, length-append, append_assoc}
 use Rattle.rd_script.specs.Puts.{Puts, PutsUpTo}
 
--- what is put behind what was put stands behind both
+-- what is put after what was put is after both
 puts_both : (old mid new one other : List ℕ) → Puts old mid one → Puts mid new other → Puts old new (one ++ other)
 puts_both old mid new one other p q room =
     let whole = length-append one other in
@@ -11,6 +11,6 @@ puts_both old mid new one other p q room =
     let size = ap length first in
     q (omega (arith, whole, parts, size)) ∙ ap (λ front. front ++ other) first ∙ append_assoc old one other
 
--- and has at most so many bytes as both
+-- and has at most as many bytes as both
 pub few_of_both : (m n : ℕ) (old mid new one other : List ℕ) → PutsUpTo m old mid one → PutsUpTo n mid new other → PutsUpTo (m + n) old new (one ++ other)
 few_of_both m n old mid new one other p q = (puts_both old mid new one other p.0 q.0, omega (arith, p.1, q.1, length-append one other))

@@ -85,7 +85,7 @@ HasReport-more R s (x ∷ xs) report mid line a h k = (
   HasReport-more R h.0.state xs h.1 mid line a h.4 k,
 )
 
--- so many lines were read, obeyed and reported, and both devices work
+-- this many lines were read, obeyed and reported, and both devices work
 pub record IsGoingOn (R : ℕ) (before now : BookState) (in_before in_now : Option (List ℕ)) (in_failed : Bool) (out_before out_now : Option (List ℕ)) (out_failed : Bool) (n : ℕ) : Type 0 where
   pub in_works : in_failed ≡ false
   pub out_works : out_failed ≡ false

@@ -17,7 +17,7 @@ one-more : (ends : Bool) (x : ℕ) (parts lines : List (List ℕ)) → parts ≡
 one-more true x parts lines same = ap (λ ls. [] ∷ ls) same
 one-more false x parts lines same = ap (onto_first x) same ∙ first-same x lines
 
--- the parts of a text are the lines of it with a line feed behind it
+-- the parts of a text are the lines of it with a line feed after it
 pub parts-of_ended : (text : List ℕ) → slice_split (λ byte. byte == 10) text ≡ lines_of (text ++ 10 ∷ [])
 parts-of_ended [] = refl
 parts-of_ended (x ∷ xs) = one-more (x == 10) x (slice_split (λ byte. byte == 10) xs) (lines_of (xs ++ 10 ∷ [])) (parts-of_ended xs)

@@ -1,4 +1,5 @@
--- What a line is answered, and what it leaves: the answer to the command that it spells, or its fault.
+-- What a line is answered, and what it leaves: the answer to the command that it spells, or its
+-- fault.
 use Rattle.std.specs.Prelude.{◌≡◌, ℕ, List, Result, Ok, Err}
 use Rattle.rd_step.specs.Prelude.{Refusal}
 use Rattle.rd_marks.specs.declared.commands.Command.{Command}
@@ -20,7 +21,8 @@ abbrev pub line_answer : Result Reply Refusal → LineAnswer
 line_answer (Ok reply) = Ok reply
 line_answer (Err refusal) = Err (Refused refusal)
 
--- what a line that says this may be answered, and what it may leave: a fault leaves everything as it is
+-- what a line that says this may be answered, and what it may leave: a fault leaves everything as
+-- it is
 abbrev pub Answers : ℕ → BookState → Result Command LineFault → Answered → Type 0
 Answers R s (Err fault) answered = answered ≡ record { answer = Err (Unread fault); state = s }
 Answers R s (Ok command) answered =

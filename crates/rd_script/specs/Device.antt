@@ -2,7 +2,8 @@
 use Rattle.std.specs.Prelude.{◌≡◌, ℕ, List, [], ◌∷◌, ◌++◌, Option, Some, None}
 use Rattle.std.specs.Io.KnownBytes.{Consumes, Appends, IsAtEnd}
 
--- a source that had the old bytes left gave this byte, or the end, and has the new ones left: none at the end
+-- a source that had the old bytes left gave this byte, or the end, and has the new ones left: none
+-- at the end
 abbrev pub Gives : Option (List ℕ) → Option (List ℕ) → Option ℕ → Type 0
 Gives old new (Some byte) = Consumes old new (byte ∷ [])
 Gives old new None = Consumes old new [] × IsAtEnd new

@@ -1,4 +1,5 @@
--- The lines of a text and what they say, and the reading of one line: which bytes the source gave for it.
+-- The lines of a text and what they say, and the reading of one line: which bytes the source gave
+-- for it.
 use Rattle.std.specs.Prelude.{◌≡◌, ◌≢◌, ℕ, ◌+◌, ◌^◌, ◌<◌, ◌≤◌, ◌⊎◌, ◌==◌, if◌then◌else◌, Bool, true, List, [], ◌∷◌, ◌++◌, length, Option, Result, Ok, Err, MatchBool}
 use Rattle.std.specs.Io.KnownBytes.{Consumes, IsAtEnd}
 use Rattle.rd_script.specs.declared.reading.lines.Line.{Line}
@@ -41,7 +42,8 @@ abbrev pub IsOneLine : List ℕ → Type 0
 IsOneLine [] = Unit {0}
 IsOneLine (byte ∷ bytes) = (byte ≢ 10) × IsOneLine bytes
 
--- the line was made of this text: it keeps all of it, or knows that there are more bytes than a line may have
+-- the line was made of this text: it keeps all of it, or knows that there are more bytes than a
+-- line may have
 abbrev pub Holds : Line → List ℕ → Type 0
 Holds line text = MatchBool line.is_too_long (most_line_bytes < length text) (line.kept.items ≡ text)
 
@@ -67,8 +69,8 @@ pub record ReadsPart (old new : Option (List ℕ)) (failed : Bool) : Type 0 wher
   pub took : Consumes old new text
   pub cause : (failed ≡ true) ⊎ (2 ^ 64 ≤ length text + 1)
 
--- what the reading of a line says of the bytes that were left before and are left after, of the source's failing, and of
--- the line that was read
+-- what the reading of a line says of the bytes that were left before and are left after, of the
+-- source's failing, and of the line that was read
 abbrev pub Reads : Option (List ℕ) → Option (List ℕ) → Bool → Line → Result Reading ReadFault → Type 0
 Reads old new failed line (Ok Ended) = ReadsLine old new line (10 ∷ [])
 Reads old new failed line (Ok Last) = ReadsLast old new line

@@ -1,4 +1,4 @@
--- What is read of the words of a line. No public clause cites this: it stands between the code,
+-- What is read of the words of a line. No public clause cites this: it is between the code,
 -- which reads word by word, and what a whole line says.
 use Rattle.std.specs.Prelude.{◌≡◌, ◌≢◌, ℕ, true, false, List, ◌∷◌, length, Option, Some, None, Result, Ok, Err}
 use Rattle.std.specs.List.{list_all}
@@ -21,7 +21,7 @@ ReadsName word (Err BadLine) = is_word word ≡ false
 ReadsName word (Err BadName) = (is_word word ≡ true) × (is_mark_name word ≡ false)
 ReadsName word (Err LineTooLong) = ⊥
 
--- why these words are not so many names: they are not so many words, or one of them is no name
+-- why these words are not this many names: they are not this many words, or one of them is no name
 abbrev pub AreNoNames : ℕ → List (List ℕ) → LineFault → Type 0
 AreNoNames count words BadLine = length words ≡ count → list_all is_word words ≡ true → ⊥
 AreNoNames count words BadName = (length words ≡ count) × (list_all is_word words ≡ true) × (list_all is_mark_name words ≡ false)

@@ -33,7 +33,7 @@ refusal_name NotATake = codes "18 NotATake"
 refusal_name NoSuchPlace = codes "19 NoSuchPlace"
 refusal_name NoMemory = codes "20 NoMemory"
 
--- the data of a refusal, behind its name: the number of live steps, or of a step
+-- the data of a refusal, after its name: the number of live steps, or of a step
 abbrev pub refusal_data : Refusal → List ℕ
 refusal_data (NothingToUndo live) = spaced_number live
 refusal_data (NoSuchStep live) = spaced_number live

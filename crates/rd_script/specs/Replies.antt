@@ -13,7 +13,7 @@ use Rattle.rd_script.specs.Actors.{actor_words}
 use Rattle.rd_script.specs.Steps.{reply_word, step_words}
 use Rattle.rd_script.specs.Refusals.{any_words}
 
--- what the call replied that an event ended, behind a space, if it ended one
+-- what the call replied that an event ended, after a space, if it ended one
 abbrev pub event_reply : Option OpReply → List ℕ
 event_reply None = []
 event_reply (Some reply) = codes " " ++ reply_word reply

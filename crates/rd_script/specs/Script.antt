@@ -22,7 +22,8 @@ HasReport R s (line ∷ lines) report after =
     (answered : Answered) × (rest : List ℕ) × AnswersLine R s line answered
     × (report ≡ text_of answered.answer ++ rest) × HasReport R answered.state lines rest after
 
--- what a reader has left and a writer has, before a run and after it, and whether each has failed then
+-- what a reader has left and a writer has, before a run and after it, and whether each has failed
+-- then
 pub record Devices : Type 0 where
   pub in_before : Option (List ℕ)
   pub in_after : Option (List ℕ)
@@ -31,7 +32,8 @@ pub record Devices : Type 0 where
   pub out_after : Option (List ℕ)
   pub out_failed : Bool
 
--- the run came to the end: the reader gave n lines and then the end, and their report was written; neither device failed
+-- the run came to the end: the reader gave n lines and then the end, and their report was written;
+-- neither device failed
 pub record RanToEnd (R : ℕ) (before after : BookState) (d : Devices) (n : ℕ) : Type 0 where
   pub in_works : d.in_failed ≡ false
   pub out_works : d.out_failed ≡ false
@@ -43,8 +45,8 @@ pub record RanToEnd (R : ℕ) (before after : BookState) (d : Devices) (n : ℕ)
   pub wrote : Appends d.out_before d.out_after report
   pub reports : HasReport R before (lines_of given) report after
 
--- the reader failed, or gave 2^64 - 1 bytes without an end, and the writer has not failed: the lines that a line feed
--- ended were obeyed, and their report was written
+-- the reader failed, or gave 2^64 - 1 bytes without an end, and the writer has not failed: the
+-- lines that a line feed ended were obeyed, and their report was written
 pub record StoppedAtRead (R : ℕ) (before after : BookState) (d : Devices) : Type 0 where
   pub out_works : d.out_failed ≡ false
   pub given : List ℕ
@@ -54,8 +56,9 @@ pub record StoppedAtRead (R : ℕ) (before after : BookState) (d : Devices) : Ty
   pub wrote : Appends d.out_before d.out_after report
   pub reports : HasReport R before (ended_lines_of given) report after
 
--- the writer failed at the answer to the last line that was read, and the reader has not failed: all lines were obeyed,
--- and the report of those before the last was written, and a beginning of its answer
+-- the writer failed at the answer to the last line that was read, and the reader has not failed:
+-- all lines were obeyed, and the report of those before the last was written, and a beginning of
+-- its answer
 pub record StoppedAtWrite (R : ℕ) (before after : BookState) (d : Devices) : Type 0 where
   pub in_works : d.in_failed ≡ false
   pub out_failed : d.out_failed ≡ true

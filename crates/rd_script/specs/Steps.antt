@@ -1,4 +1,5 @@
--- The words of a step: its event, the place of its access, what it wrote of it, what it answered, and what its call replied.
+-- The words of a step: its event, the place of its access, what it wrote of it, what it answered,
+-- and what its call replied.
 use Rattle.std.specs.Prelude.{ℕ, List, ◌++◌, codes, Option, Some, None}
 use Rattle.rd_cell.specs.declared.operations.Answer.TheVariants.{Nothing, Found, Value as ValueRead, SafeAndIndex, WasClosed, Won, Lost, Made}
 use Rattle.rd_actor.specs.declared.actors.OpReply.TheVariants.{Enqueued, Value, Empty}

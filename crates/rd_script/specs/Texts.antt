@@ -2,7 +2,7 @@
 use Rattle.std.specs.Prelude.{ℕ, Bool, true, false, List, ◌∷◌, codes}
 use Rattle.std.specs.Fmt.{decimal}
 
--- a number behind a space
+-- a number after a space
 abbrev pub spaced_number : ℕ → List ℕ
 spaced_number n = 32 ∷ decimal n
 

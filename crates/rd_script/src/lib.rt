@@ -1,9 +1,12 @@
-//! Scripts: the lines that spell commands, the lines that say what each was answered, and the run of a script over a book.
+//! Scripts: the lines that spell commands, the lines that say what each was answered, and the run
+//! of a script over a book.
 //!
-//! There are three rooms: `devices` gives the bytes of a script and takes those of its report, `reading` finds the command that a line
-//! spells, and `writing` puts the line of an answer together. `script` runs a script with them: each line is obeyed when it is complete,
-//! and its reply is written at once. Lines and replies are kept in buffers of fixed capacity, so no memory is taken except by the commands
-//! themselves. What the lines of a whole text say is given as a list, which takes memory.
+//! There are three rooms: `devices` gives the bytes of a script and takes those of its report,
+//! `reading` finds the command that a line spells, and `writing` puts the line of an answer
+//! together. `script` runs a script with them: each line is obeyed when it is complete, and its
+//! reply is written at once. Lines and replies are kept in buffers of fixed capacity, so no memory
+//! is taken except by the commands themselves. What the lines of a whole text say is given as a
+//! list, which takes memory.
 #![tactic(auto)]
 
 mod answers;

@@ -18,13 +18,14 @@ use super::writing::lines::{set_refused, set_reply, set_text};
 use super::writing::texts::Text;
 use rd_marks::Book;
 
-/// Runs a script over a book: reads its lines to the end, obeys each when it is complete and writes its answer at once.
-/// Answers the number of lines.
+/// Runs a script over a book: reads its lines to the end, obeys each when it is complete and writes
+/// its answer at once. Returns the number of lines.
 ///
 /// # Errors
 ///
-/// `Read` if the reader failed, or gave 2^64 - 1 bytes without an end: the whole lines that it gave are obeyed and answered.
-/// `Write` if the writer failed or took nothing: the line whose answer it was to take is obeyed.
+/// `Read` if the reader failed, or gave 2^64 - 1 bytes without an end: the whole lines that it gave
+/// are obeyed and answered. `Write` if the writer failed or took nothing: the line whose answer it
+/// was to take is obeyed.
 pub fn run<S: Source, K: Sink, const R: usize>(
     reader: &mut S,
     writer: &mut K,

@@ -1,6 +1,8 @@
-//! The line of each kind of answer, and of the longest ones: rows of an answer and its text. And scripts beside their reports.
+//! The line of each kind of answer, and of the longest ones: rows of an answer and its text. And
+//! scripts beside their reports.
 //!
-//! Rows are borrowed, and one helper walks those of a kind, with one assertion: so their proof is cheap.
+//! Rows are borrowed, and one helper walks those of a kind, with one assertion: so their proof is
+//! cheap.
 
 mod devices;
 mod going;

@@ -1,4 +1,4 @@
--- Lists that a loop makes, one element behind another.
+-- Lists that a loop makes, one element after another.
 use Rattle.std.proofs.Common.{◌≡◌, ◌∙◌, ℕ, suc, ◌+◌, ◌<◌, List, [], ◌∷◌, ◌++◌, take, length, get_or, refl, sym, ap, add-one}
 use Rattle.std.proofs.Math.Seq.{take-suc}
 use Rattle.rd_desk.specs.declared.viewers.Ran.{Ran}

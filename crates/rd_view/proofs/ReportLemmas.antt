@@ -13,16 +13,16 @@ use Rattle.rd_script.specs.declared.answers.AnyRefusal.TheVariants.{Unread}
 use Rattle.rd_script.specs.Replies.{text_of}
 use Rattle.rd_view.specs.Views.{line_answer, report_text, viewer_text, view_text}
 
--- a part that was left was put behind the text
+-- a part that was left was put after the text
 pub one_part_more : (old new part left rest whole : List ℕ) → new ≡ old ++ part → left ≡ part ++ rest → old ++ left ≡ whole → new ++ rest ≡ whole
 one_part_more old new part left rest whole put is all = ap (λ t. t ++ rest) put ∙ append_assoc old part rest ∙ ap (λ t. old ++ t) (sym is) ∙ all
 
--- a part was put behind the text, and then, if memory was not refused, another
+-- a part was put after the text, and then, if memory was not refused, another
 pub both_parts : {E : Type 0} (r : Result (Unit {0}) E) (old mid new front back : List ℕ) → mid ≡ old ++ front → OnOk r (new ≡ mid ++ back) → OnOk r (new ≡ old ++ (front ++ back))
 both_parts (Ok x) old mid new front back one other = other ∙ ap (λ t. t ++ back) one ∙ append_assoc old front back
 both_parts (Err e) old mid new front back one other = tt
 
--- an element and those behind it
+-- an element and those after it
 line_at : {A : Type 0} (xs : List A) (i : ℕ) (x : A) → i < length xs → x ≡ get_or xs i x → drop i xs ≡ x ∷ drop (i + 1) xs
 line_at xs i x within is = drop-cons xs i x within ∙ ap (λ y. y ∷ drop (suc i) xs) (sym is) ∙ ap (λ n. x ∷ drop n xs) (sym (add-one i))
 

@@ -34,7 +34,7 @@ no_cons x xs e = omega (arith, ap length e)
 head_same : {A : Type 0} (x y : A) (xs ys : List A) → x ∷ xs ≡ y ∷ ys → x ≡ y
 head_same x y xs ys e = ap (λ zs. slice_index_or zs 0 x) e
 
--- what is behind the first elements of equal lists
+-- what is after the first elements of equal lists
 tail_same : {A : Type 0} (x y : A) (xs ys : List A) → x ∷ xs ≡ y ∷ ys → xs ≡ ys
 tail_same x y xs ys e = ap (drop 1) e
 
@@ -156,7 +156,7 @@ module _ (R : ℕ) (K : Ghosts (BookWithHistory R) Call (Book R)) (desk : Desk R
   all_answered history n (viewer ∷ work) (NotStarted ∷ rans) (lines ∷ said) pairs new is read knows =
       (tt, all_answered history (suc n) work rans said pairs.1 new.1 (tail_same _ _ _ _ is) (tail_same _ _ _ _ read) knows)
 
--- so many numbers there are
+-- this many numbers there are
 pub length-numbers : (k n : ℕ) → length (numbers k n) ≡ n
 length-numbers k zero = refl
 length-numbers k (suc n) = ap suc (length-numbers (suc k) n)

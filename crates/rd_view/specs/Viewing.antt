@@ -94,8 +94,8 @@ module _ (R : ℕ) (opened : BookState) (history : List (ℕ × Call)) where
   AreAnswered viewer (said ∷ others) [] = ⊥
 
 module _ (R : ℕ) (opened : BookState) where
-  -- The history is legal from the book that was opened, each of its entries names one of the viewers of these lines, and these were
-  -- told so.
+  -- The history is legal from the book that was opened, each of its entries names one of the
+  -- viewers of these lines, and these were told so.
   abbrev pub IsViewed : List (Vec (Result Command LineFault) Global) → List (Option (Vec (Result (Result Reply Refusal) DeskRefusal) Global)) → List (ℕ × Call) → Type 0
   IsViewed said told history = IsLegal R opened history × NamesUpTo (length said) history × AreAnswered R opened history 1 said told
 
@@ -110,7 +110,8 @@ module _ (R : ℕ) (opened : BookState) where
   abbrev pub text_of_views : {scripts : List (Vec ℕ Global)} {history : List (ℕ × Call)} → Views scripts history → List ℕ
   text_of_views {history = history} views = view_text 1 views.said views.told (length history)
 
-  -- what became of a view of these scripts: its text was written whole, or a beginning of it, or nothing was
+  -- what became of a view of these scripts: its text was written whole, or a beginning of it, or
+  -- nothing was
   abbrev pub ViewsScripts : List (Vec ℕ Global) → Option (List ℕ) → Option (List ℕ) → Bool → Result History ViewFault → Type 0
   ViewsScripts scripts old new failed (Ok history) = (views : Views scripts (entries history)) × Appends old new (text_of_views views) × (failed ≡ false)
   ViewsScripts scripts old new failed (Err Write) = (history : List (ℕ × Call)) × (views : Views scripts history) × TakesBeginning old new (text_of_views views) × (failed ≡ true)

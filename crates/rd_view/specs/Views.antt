@@ -1,4 +1,5 @@
--- The text of a view: for each viewer a heading and what its lines were answered, and last how many calls were recorded.
+-- The text of a view: for each viewer a heading and what its lines were answered, and last how many
+-- calls were recorded.
 use Rattle.std.specs.Prelude.{ℕ, ◌+◌, List, [], ◌∷◌, ◌++◌, Option, Some, None, Result, Ok, Err, Vec}
 use Rattle.std.specs.Global.{Global}
 use Rattle.rd_step.specs.Prelude.{Refusal, NoMemory}
@@ -21,7 +22,8 @@ line_answer (Err desk.NotRecorded) = Err NotRecorded
 line_answer (Err desk.TicketsEnded) = Err TicketsEnded
 line_answer (Err (desk.Busy words)) = Err (Busy words.next words.served)
 
--- what the lines of a script were answered, line by line: a fault by itself, each command by the next answer
+-- what the lines of a script were answered, line by line: a fault by itself, each command by the
+-- next answer
 abbrev pub report_text : List (Result Command LineFault) → List (Result (Result Reply Refusal) DeskRefusal) → List ℕ
 report_text [] answers = []
 report_text (Err fault ∷ said) answers = text_of (Err (Unread fault)) ++ report_text said answers

@@ -14,7 +14,8 @@ pub enum ViewFault {
     NoMemory,
     /// 25: the writer failed or took nothing. A beginning of the text was written.
     Write,
-    /// 30: the desk could not be closed, with two words of the lock that differ. Nothing was written.
+    /// 30: the desk could not be closed, with two words of the lock that differ. Nothing was
+    /// written.
     Busy(Busy),
 }
 

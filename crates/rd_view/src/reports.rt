@@ -1,7 +1,8 @@
-//! The text of a view: for each viewer a heading and what its lines were answered, and last how many calls were recorded.
+//! The text of a view: for each viewer a heading and what its lines were answered, and last how
+//! many calls were recorded.
 //!
 //! It is put together in memory before any of it is handed to a writer. Each line is made in one
-//! buffer, and put behind the others.
+//! buffer, and put after the others.
 
 ghost use Rattle.std.specs.Prelude.{◌≡◌, ◌++◌, length, IfOk, OnOk};
 ghost use Rattle.rd_script.specs.Replies.{text_of};
@@ -44,7 +45,7 @@ pub fn text_of_view(
     Ok(text)
 }
 
-/// Puts the heading of a viewer behind the text, and the answers to its lines.
+/// Appends the heading of a viewer to the text, and the answers to its lines.
 fn put_viewer(
     text: &mut Vec<u8>,
     line: &mut Text,
@@ -62,7 +63,7 @@ fn put_viewer(
     }
 }
 
-/// Puts the answers to the lines of a script behind the text: a line that spells no command has its
+/// Appends the answers to the lines of a script to the text: a line that spells no command has its
 /// fault, each other one the next answer.
 fn put_report(
     text: &mut Vec<u8>,
@@ -89,7 +90,7 @@ fn put_report(
     Ok(())
 }
 
-/// Puts the line of an answer behind the text.
+/// Appends the line of an answer to the text.
 fn put_answer(text: &mut Vec<u8>, line: &mut Text, answer: &LineAnswer) -> Result<(), AllocError>
     ensures { OnOk result (text.new.items ≡ text.old.items ++ text_of answer.now) }
 {

@@ -1,7 +1,9 @@
-//! A view: several scripts run over one desk, each by a viewer in a thread of its own, and the text of it.
+//! A view: several scripts run over one desk, each by a viewer in its own thread, and the text of
+//! it.
 //!
-//! All scripts are read before the first command is asked, and nothing is written before the desk is closed. Then the whole text is put
-//! together, and handed over in as few calls as the writer takes.
+//! All scripts are read before the first command is asked, and nothing is written before the desk
+//! is closed. Then the whole text is put together, and handed over in as few calls as the writer
+//! takes.
 
 ghost use Rattle.std.specs.Prelude.{◌≡◌, ◌≤◌, false, length, map, IfOk, IfErr};
 ghost use Rattle.rd_marks.specs.BookViews.{book_state};
@@ -21,13 +23,13 @@ use std::thread::Threads;
 /// What each viewer was told: its answers, or none if it was not started.
 type Told = Vec<Option<Vec<Answer>>>;
 
-/// Runs 1 to 64 scripts over the book, each by a viewer in a thread of its own, and writes what their lines were answered. Answers
-/// the history of all calls. The book is lost.
+/// Runs 1 to 64 scripts over the book, each by a viewer in its own thread, and writes what their
+/// lines were answered. Returns the history of all calls. The book is lost.
 ///
 /// # Errors
 ///
-/// `NoMemory` if memory was refused, `Busy` if the desk could not be closed: nothing was written. `Write` if the writer failed or took
-/// nothing: a beginning of the text was written.
+/// `NoMemory` if memory was refused, `Busy` if the desk could not be closed: nothing was written.
+/// `Write` if the writer failed or took nothing: a beginning of the text was written.
 pub fn view_scripts<R: Threads + Wait + Sync, K: Sink, const N: usize>(
     rt: &R,
     alloc: Global,
@@ -62,7 +64,8 @@ fn lines_of_all(alloc: Global, scripts: &[Vec<u8>]) -> Result<Vec<Vec<Said>>, Al
     Ok(said)
 }
 
-/// Asks the commands of each viewer's lines over one desk, and closes it: what each viewer was told, and the history.
+/// Asks the commands of each viewer's lines over one desk, and closes it: what each viewer was
+/// told, and the history.
 fn viewed<R: Threads + Wait + Sync, const N: usize>(
     rt: &R,
     alloc: Global,

@@ -1,7 +1,9 @@
-//! Rehearsals of the program: command lines that are done as `main` of lcrqdb does them, over an input, an output and errors in memory.
+//! Rehearsals of the program: command lines that are done as `main` of lcrqdb does them, over an
+//! input, an output and errors in memory.
 //!
-//! For each command line one reads which status it ends with and what is on the two streams then. Files are those of `data/`. What is
-//! written was checked by hand, and the gate compares it with the stored `stdout`.
+//! For each command line one reads which status it ends with and what is on the two streams then.
+//! Files are those of `data/`. What is written was checked by hand, and the gate compares it with
+//! the stored `stdout`.
 #![tactic(auto)]
 
 use rd_command_line::perform;
@@ -15,7 +17,7 @@ use std::thread::Threads;
 
 /// One run of the program.
 struct Rehearsal {
-    /// The words of the command line behind the program's name.
+    /// The words of the command line after the program's name.
     words: &'static [&'static str],
     /// What is on standard input.
     input: &'static str,
@@ -26,7 +28,8 @@ struct Rehearsal {
 /// The room of an output that doesn't fail.
 const AMPLE: usize = 1_000_000;
 
-/// The command lines, in order. The script on the input of those that open a file differs from that file's.
+/// The command lines, in order. The script on the input of those that open a file differs from that
+/// file's.
 const REHEARSALS: [Rehearsal; 27] = [
     Rehearsal {
         words: &[
@@ -181,7 +184,7 @@ const REHEARSALS: [Rehearsal; 27] = [
     },
 ];
 
-/// A stream in memory, which takes so many bytes and then fails.
+/// A stream in memory, which takes this many bytes and then fails.
 #[derive(Drop)]
 struct Stream<'a> {
     taken: &'a mut Vec<u8>,
@@ -204,7 +207,7 @@ impl<'a> io::Write for Stream<'a> {
     }
 }
 
-/// So many viewers are the most that there may be, and one more is one too many.
+/// This many viewers are the most that there may be, and one more is one too many.
 const CROWDS: [usize; 2] = [64, 65];
 
 fn main(rt: HostRuntime) -> io::Result<()> {
@@ -266,7 +269,7 @@ fn name_of(status: ExitCode) -> &'static str {
     }
 }
 
-/// Prints what a stream has taken, each line behind the stream's name.
+/// Prints what a stream has taken, each line after the stream's name.
 fn print_stream<R: Print>(rt: &R, name: &str, taken: &[u8]) -> io::Result<()> {
     if taken.is_empty() {
         return println!(rt; "  {name}: nothing");

@@ -15,7 +15,8 @@ use rd_cell::{Place, Wrote};
 use rd_step::Entry;
 use std::alloc::AllocError;
 
-/// A key under which an entry is kept, if there is one, and whether it is kept there among those that wrote.
+/// A key under which an entry is kept, if there is one, and whether it is kept there among those
+/// that wrote.
 #[derive(Clone, Copy)]
 struct Home {
     key: Option<Key>,

@@ -1,5 +1,5 @@
-//! The first dependant by look-ups: the first later position of the actor, and for each place that the step touched the first one
-//! that touched it, or if the step only read it that wrote it.
+//! The first dependant by look-ups: the first later position of the actor, and for each place that
+//! the step touched the first one that touched it, or if the step only read it that wrote it.
 
 ghost use Rattle.std.specs.Prelude.{◌≡◌, ◌+◌, ◌<◌, ◌≤◌, ◌^◌, List, Some, length};
 ghost use Rattle.std.specs.Option.{is_some};
@@ -35,7 +35,8 @@ impl DependIndex {
         }
     }
 
-    /// Whether there is a position greater than `k` that depends on the entry. The actor is asked first, which mostly tells.
+    /// Whether there is a position greater than `k` that depends on the entry. The actor is asked
+    /// first, which mostly tells.
     pub(super) fn is_one_above(&self, k: u32, entry: &Entry, probes: &mut Probes) -> bool
         requires few { self.now.len ≤ MOST_STEPS }
         requires counted { probes.old.count < 2 ^ 31 }
@@ -47,7 +48,8 @@ impl DependIndex {
         self.first_above(k, entry, probes).is_some()
     }
 
-    /// The first position greater than `k` of a step that interferes with an access that wrote this of its place.
+    /// The first position greater than `k` of a step that interferes with an access that wrote this
+    /// of its place.
     fn first_at(&self, k: u32, place: Place, wrote: Wrote, probes: &mut Probes) -> Option<u64>
         requires few { self.now.len ≤ MOST_STEPS }
         requires counted { probes.old.count < 2 ^ 33 }
@@ -64,8 +66,8 @@ impl DependIndex {
         earlier(by_value, earlier(own, whole))
     }
 
-    /// The first position greater than `k` of a step that is kept under the key, of all of these or of those that wrote; at most 19
-    /// probes.
+    /// The first position greater than `k` of a step that is kept under the key, of all of these or
+    /// of those that wrote; at most 19 probes.
     fn first_under(
         &self,
         k: u32,

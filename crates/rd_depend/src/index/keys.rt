@@ -1,4 +1,5 @@
-//! What a list of positions is kept for, apart from the actors: a place or a segment. A cell is kept under its two halves.
+//! What a list of positions is kept for, apart from the actors: a place or a segment. A cell is
+//! kept under its two halves.
 //!
 //! Keys are hashed as one number, since all of them are looked up at each step.
 
@@ -38,7 +39,8 @@ impl Key {
         }
     }
 
-    /// The key of the places that a place names, but for the value half of a cell: of the whole of a segment the segment's.
+    /// The key of the places that a place names, but for the value half of a cell: of the whole of
+    /// a segment the segment's.
     pub(crate) fn of_place(place: Place) -> Key
         ensures { result ≡ own_key place }
     {

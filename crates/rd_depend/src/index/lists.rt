@@ -5,7 +5,7 @@ ghost use Rattle.rd_depend.specs.Lists.{one_if, list_at, capacity_at, spare_at, 
 
 use std::alloc::{AllocError, Global};
 
-/// Makes lists with no position until there are so many.
+/// Makes lists with no position until there are this many.
 ///
 /// # Errors
 ///
@@ -123,7 +123,8 @@ pub(crate) fn take_last_if(lists: &mut Vec<Vec<u32>>, wanted: bool, index: usize
     }
 }
 
-/// Moves a position behind those above it up to `n` in each list that has it, and takes 1 off these in each list.
+/// Moves a position behind those above it up to `n` in each list that has it, and takes 1 off these
+/// in each list.
 pub(crate) fn move_all(lists: &mut Vec<Vec<u32>>, k: u32, n: u32)
     requires some { 1 ≤ k }
     requires order { k ≤ n }
@@ -146,7 +147,7 @@ fn move_in(list: &mut Vec<u32>, k: u32, n: u32)
     move_among(list, k, n);
 }
 
-/// Moves a position, if it is there, behind those above it up to `n`, and takes 1 off these.
+/// Moves a position, if it is there, after those above it up to `n`, and takes 1 off these.
 fn move_among(positions: &mut [u32], k: u32, n: u32)
     requires some { 1 ≤ k }
     requires order { k ≤ n }
@@ -195,7 +196,7 @@ fn lower(positions: &mut [u32])
     }
 }
 
-/// How many positions stand before the first that is greater than `k`, by halving.
+/// How many positions are before the first that is greater than `k`, by halving.
 fn number_up_to(k: u32, list: &[u32]) -> usize
     ensures within { result ≤ length list.now }
     ensures number { IsAscending list.now → result ≡ number_up_to k list.now }

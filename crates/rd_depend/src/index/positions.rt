@@ -4,7 +4,8 @@ ghost use Rattle.std.specs.Prelude.{◌≡◌, ◌+◌, ◌<◌, ◌^◌, length
 
 use super::probes::Probes;
 
-/// The positions that one list keeps. Outside this file they are read by `look` alone, which counts.
+/// The positions that one list keeps. Outside this file they are read by `look` alone, which
+/// counts.
 #[derive(Clone, Copy)]
 pub(crate) struct Positions<'a> {
     items: &'a [u32],

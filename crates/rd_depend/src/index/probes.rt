@@ -2,8 +2,8 @@
 
 ghost use Rattle.std.specs.Prelude.{◌≡◌, ◌+◌, ◌<◌, ◌^◌};
 
-/// How many probes were made. A probe is one look-up of an actor, a place or a segment, or one look at a position in a list. A count is
-/// not copied.
+/// How many probes were made. A probe is one look-up of an actor, a place or a segment, or one look
+/// at a position in a list. A count is not copied.
 #[derive(Debug, Drop, PartialEq, Eq)]
 pub struct Probes {
     count: u64,

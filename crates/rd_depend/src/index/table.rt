@@ -1,4 +1,5 @@
-//! The lists of places and of segments: of each, the positions that touch it, and apart from these those that wrote it.
+//! The lists of places and of segments: of each, the positions that touch it, and apart from these
+//! those that wrote it.
 
 ghost use Rattle.std.specs.Prelude.{◌≡◌, ◌<◌, length};
 
@@ -9,14 +10,15 @@ use super::lists::{
 use indexmap::IndexSet;
 use std::alloc::{AllocError, Global};
 
-/// How many hints there are of where a key stands.
+/// How many hints there are of where a key is.
 const HINTS: usize = 512;
 
 /// Keys with their lists, each by the index of its key. A key stays when its lists are empty.
 #[derive(Drop)]
 pub(crate) struct Table {
     keys: IndexSet<Key>,
-    /// Where keys were found of late. A hint is asked before the set is, and believed only if the key stands there.
+    /// Where keys were found lately. A hint is asked before the set is, and believed only if the
+    /// key is there.
     hints: [usize; HINTS],
     all: Vec<Vec<u32>>,
     writes: Vec<Vec<u32>>,
@@ -54,7 +56,7 @@ impl Table {
         self.keys.get_index_of(&key)
     }
 
-    /// Whether the key stands at this index.
+    /// Whether the key is at this index.
     fn is_at(&self, slot: usize, key: Key) -> bool
         ensures { result ≡ true → slot_in self.now.keys.keys key ≡ Some slot }
     {
@@ -100,8 +102,8 @@ impl Table {
         }
     }
 
-    /// The index of the key, which is put there if it isn't yet, with room for one more position in its list, and in that of
-    /// its writes if the step wrote.
+    /// The index of the key, which is put there if it isn't yet, with room for one more position in
+    /// its list, and in that of its writes if the step wrote.
     ///
     /// # Errors
     ///
@@ -117,8 +119,8 @@ impl Table {
         Ok(slot)
     }
 
-    /// The index of the key, which is put there with empty lists if it isn't yet. Where its hint doesn't tell it, it is noted for the
-    /// next time.
+    /// The index of the key, which is put there with empty lists if it isn't yet. Where its hint
+    /// doesn't tell it, it is noted for the next time.
     fn slot_or_new(&mut self, alloc: Global, key: Key) -> Result<usize, AllocError>
         ensures same { KeepsLists self.old self.new }
         ensures slot { IfOk result (λ i. slot_in self.new.keys.keys key ≡ Some i) }
@@ -154,8 +156,8 @@ impl Table {
         Ok(slot)
     }
 
-    /// Puts a position at the end of the list of the key of this index, if there is one, and of that of its writes if the step
-    /// wrote.
+    /// Puts a position at the end of the list of the key of this index, if there is one, and of
+    /// that of its writes if the step wrote.
     pub(crate) fn put(&mut self, slot: Option<usize>, position: u32, wrote: bool)
         requires { AreReadyAt self.old wrote slot }
         ensures { (k : Option Kept) → AreReady self.old k wrote slot → Puts k wrote position self.old self.new }
@@ -174,7 +176,8 @@ impl Table {
         put_if(&mut self.writes, wrote, slot, position);
     }
 
-    /// Takes the last position out of the list of the key, if there is one, and out of that of its writes if the step wrote.
+    /// Takes the last position out of the list of the key, if there is one, and out of that of its
+    /// writes if the step wrote.
     pub(crate) fn take_last(&mut self, key: Option<Key>, wrote: bool)
         requires { HasLast self.old key wrote }
         ensures { TakesLast key wrote self.old self.new }
@@ -195,7 +198,8 @@ impl Table {
         }
     }
 
-    /// Moves a position behind those above it up to `n` in each list that has it, and takes 1 off these in each list.
+    /// Moves a position behind those above it up to `n` in each list that has it, and takes 1 off
+    /// these in each list.
     pub(crate) fn move_behind(&mut self, k: u32, n: u32)
         requires some { 1 ≤ k }
         requires order { k ≤ n }
@@ -214,7 +218,7 @@ impl Table {
     }
 }
 
-/// Which hint may tell where the key stands.
+/// Which hint may tell where the key is.
 fn hint_of(key: Key) -> usize
     ensures { result < HINTS }
 {

@@ -1,5 +1,5 @@
-//! The last writer of a place by look-ups: of the positions that wrote there, of a cell at either half, or at the whole of its
-//! segment, the last one.
+//! The last writer of a place by look-ups: of the positions that wrote there, of a cell at either
+//! half, or at the whole of its segment, the last one.
 
 ghost use Rattle.std.specs.Prelude.{◌≡◌, ◌+◌, ◌<◌, ◌≤◌, ◌^◌, true, IsSome, List, take};
 ghost use Rattle.rd_step.specs.declared.entries.Entry.{Entry as Record};

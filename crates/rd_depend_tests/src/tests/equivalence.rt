@@ -1,4 +1,5 @@
-//! Tests of equivalence: two lists of events, both from the fresh world, and whether they are equivalent, by examples and as the definition has it.
+//! Tests of equivalence: two lists of events, both from the fresh world, and whether they are
+//! equivalent, by examples and as the definition has it.
 
 use super::index::Draws;
 use rd_actor::{Act, Pc};
@@ -29,7 +30,8 @@ const ANOTHER_ACTOR: Schedule = &[(1, Act::Enq(7)), (3, Act::Deq), (1, Act::Go),
 /// The last read is missing.
 const ONE_READ: Schedule = &[(1, Act::Enq(7)), (2, Act::Deq), (1, Act::Go)];
 
-/// Two enqueues: both read the queue's tail and the root's next, then both fetch and add on the root's tail.
+/// Two enqueues: both read the queue's tail and the root's next, then both fetch and add on the
+/// root's tail.
 const TWO_ADDS: Schedule = &[
     (1, Act::Enq(7)),
     (2, Act::Enq(8)),
@@ -65,7 +67,8 @@ const ADDS_SWAPPED: Schedule = &[
     (1, Act::Go),
 ];
 
-/// An enqueue draws cell 0 of the root. A dequeue moves the cell on to its next round, and then the enqueue reads its value.
+/// An enqueue draws cell 0 of the root. A dequeue moves the cell on to its next round, and then the
+/// enqueue reads its value.
 const MOVED_THEN_VALUE_READ: Schedule = &[
     (1, Act::Enq(7)),
     (1, Act::Go),
@@ -80,7 +83,8 @@ const MOVED_THEN_VALUE_READ: Schedule = &[
     (1, Act::Go),
 ];
 
-/// The same, but the enqueue reads the value just before the cell is moved on, which leaves the value as it is.
+/// The same, but the enqueue reads the value just before the cell is moved on, which leaves the
+/// value as it is.
 const VALUE_READ_THEN_MOVED: Schedule = &[
     (1, Act::Enq(7)),
     (1, Act::Go),
@@ -137,7 +141,7 @@ const THREE_CALLS: Schedule = &[
     (3, Act::Go),
 ];
 
-/// The same in another order: what is looked for first stands behind what is looked for last.
+/// The same in another order: what is looked for first is after what is looked for last.
 const LAST_CALL_FIRST: Schedule = &[
     (3, Act::Deq),
     (2, Act::Deq),
@@ -219,7 +223,8 @@ fn two_schedules_are_equivalent_or_not(rt: HostRuntime) -> Result<(), Fail> {
     Ok(())
 }
 
-/// The records of so many steps of array enqueues, by four actors in turn, the first four in this order.
+/// The records of this many steps of array enqueues, by four actors in turn, the first four in this
+/// order.
 fn turns(alloc: Global, steps: usize, first: [u8; 4]) -> Result<Vec<Entry>, Refusal> {
     let mut world = World::<4>::fresh(alloc, 4)?;
     let mut entries = Vec::new(alloc);

@@ -1,5 +1,5 @@
-//! Tests of the index: whatever is pushed, taken from the end, taken out or moved, the first dependants and the last writers that
-//! it finds are those of a scan.
+//! Tests of the index: whatever is pushed, taken from the end, taken out or moved, the first
+//! dependants and the last writers that it finds are those of a scan.
 
 ghost use Rattle.std.specs.Prelude.{◌≡◌, ◌≤◌, length, List};
 ghost use Rattle.rd_step.specs.declared.entries.Entry.{Entry as Record};
@@ -61,7 +61,7 @@ impl Both {
         }
     }
 
-    /// Moves the `k`-th entry, from 1, behind the later ones up to the `n`-th, if they are there.
+    /// Moves the `k`-th entry, from 1, after the later ones up to the `n`-th, if they are there.
     fn move_behind(&mut self, k: usize, n: usize) {
         let len = self.entries.len();
         if 1 <= k && k <= n && n <= len && len <= MOST_STEPS {
@@ -85,7 +85,8 @@ impl Both {
         Ok(Both { index, entries })
     }
 
-    /// Compares whether this entry depends on one of those behind the first `n` with what a scan finds.
+    /// Compares whether this entry depends on one of those after the first `n` with what a scan
+    /// finds.
     fn compare_behind(&self, rt: &impl Abort, n: usize, entry: &Entry) {
         if n <= self.entries.len()
             && self.entries.len() <= MOST_STEPS
@@ -112,7 +113,8 @@ impl Both {
         Ok(())
     }
 
-    /// Makes room for these entries, takes so many others from the end, and pushes these. Gives how many positions there are then.
+    /// Makes room for these entries, takes this many others from the end, and pushes these. Gives
+    /// how many positions there are then.
     fn push_after_pops(self, entries: &[Entry], pops: usize) -> Result<u64, Fail> {
         let mut both = self;
         both.make_room(entries)?;
@@ -127,7 +129,8 @@ impl Both {
         Ok(index.len())
     }
 
-    /// Compares the first dependant of the entry of this index with what the scan finds; gives the probes.
+    /// Compares the first dependant of the entry of this index with what the scan finds; gives the
+    /// probes.
     fn compare(&self, rt: &impl Abort, at: usize) -> u64 {
         let mut probes = Probes::new();
         if at < self.entries.len() && self.entries.len() <= MOST_STEPS {
@@ -175,7 +178,7 @@ impl Both {
     }
 }
 
-/// Moves the `k`-th entry, from 1, behind the later ones up to the `n`-th.
+/// Moves the `k`-th entry, from 1, after the later ones up to the `n`-th.
 fn move_entry(entries: &mut [Entry], k: usize, n: usize)
     requires some { 1 ≤ k }
     requires order { k ≤ n }
@@ -195,8 +198,9 @@ fn depends_on_one(entries: &[Entry], entry: &Entry) -> bool {
     false
 }
 
-/// Pushes these entries, for which there is room. None is refused, whatever memory there is: it is proved that the arm of a refusal
-/// can't be reached. It stops where the index has as many positions as there may be.
+/// Pushes these entries, for which there is room. None is refused, whatever memory there is: it is
+/// proved that the arm of a refusal can't be reached. It stops where the index has as many
+/// positions as there may be.
 fn push_in_room(index: &mut DependIndex, entries: &[Entry])
     requires { HasRoomFor index.old entries.now }
 {

@@ -9,10 +9,11 @@ use rd_marks::{Command, Reply};
 use std::sync::Wait;
 use std::sync::atomic::{AtomicBool, Ordering};
 
-/// A viewer gives up after so many calls.
+/// A viewer gives up after this many calls.
 const MOST_CALLS: u64 = 100_000_000;
 
-/// A gate whose first viewer asks a desk again and again, until the desk was busy for the second one, which only tries.
+/// A gate whose first viewer asks a desk again and again, until the desk was busy for the second
+/// one, which only tries.
 #[derive(Clone, Copy)]
 struct Tried<'a> {
     /// The desk.

@@ -1,4 +1,5 @@
-//! Viewers have threads of their own: a gate that holds one viewer's call until the other's is answered lets both go.
+//! Viewers have threads of their own: a gate that holds one viewer's call until the other's is
+//! answered lets both go.
 use rd_cell::Refusal;
 use rd_desk::{DeskRefusal, Gate, Ran, run_viewers};
 use rd_marks::{Command, Reply};
@@ -8,7 +9,7 @@ use std::sync::Wait;
 use std::sync::atomic::{AtomicBool, Ordering};
 use std::thread::Threads;
 
-/// A gate gives up after so many turns, a turn being one load of its flag.
+/// A gate gives up after this many turns, a turn being one load of its flag.
 const MOST_TURNS: u64 = 1_000_000_000;
 
 /// A gate that holds the calls of one viewer until another viewer's call is answered.

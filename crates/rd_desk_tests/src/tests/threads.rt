@@ -1,4 +1,5 @@
-//! Many viewers at once. The history that they made is replayed over a fresh book, to the same answers.
+//! Many viewers at once. The history that they made is replayed over a fresh book, to the same
+//! answers.
 ghost use Rattle.rd_lock.specs.Histories.{Every};
 ghost use Rattle.rd_desk.specs.Desks.{IsNewViewer, IsViewerOf};
 
@@ -10,7 +11,8 @@ use std::process::Abort;
 use std::sync::Wait;
 use std::thread::Threads;
 
-/// The command that a viewer asks as its call of this number. The viewers share the actors and the steps.
+/// The command that a viewer asks as its call of this number. The viewers share the actors and the
+/// steps.
 fn command(viewer: u64, call: u64) -> Command {
     let actor = (viewer % 4) as u8 + 1;
     match call % 8 {
@@ -78,7 +80,8 @@ fn replays(rt: &impl Abort, alloc: Global, history: &History) {
     }
 }
 
-/// The calls of a viewer stand in the history in its order, with the answers that it was given, and no others of it.
+/// The calls of a viewer are in the history in its order, with the answers that it was given, and
+/// no others of it.
 fn has_in_order(rt: &impl Abort, history: &History, viewer: u64, answers: &[Answer]) {
     let mut call = 0;
     for number in 1..history.len() + 1 {
@@ -95,7 +98,7 @@ fn has_in_order(rt: &impl Abort, history: &History, viewer: u64, answers: &[Answ
     assert_eq!(rt; call, answers.len());
 }
 
-/// So many viewers ask so many commands each, in threads of their own.
+/// This many viewers ask this many commands each, in their own threads.
 fn runs<R: Abort + Threads + Wait + Sync>(rt: &R, alloc: Global, viewers: u64, calls: u64) {
     assert!(rt; 1 <= viewers && viewers <= 64);
     let Ok((desk, passes)) = Desk::open(alloc, fresh(rt, alloc), viewers) else {

@@ -1,7 +1,8 @@
-//! The causal closure of a step, gathered behind the other live records in one pass.
+//! The causal closure of a step, gathered after the other live records in one pass.
 //!
-//! A record that is gathered is put into the index of dependants behind those before the step. So the next one depends on one that was
-//! gathered exactly where the index says that it depends on one behind them.
+//! A record that is gathered is put into the index of dependants after those before the step. So
+//! the next one depends on one that was gathered exactly where the index says that it depends on
+//! one after them.
 
 ghost use Rattle.std.specs.Prelude.{◌≡◌, ◌++◌, ◌-◌, ◌<◌, ◌≤◌, [], List, length, take, drop, slice_index_or, vec_capacity};
 ghost use Rattle.rd_step.specs.declared.entries.Entry.{Entry as Record};
@@ -13,8 +14,9 @@ use crate::indexing::put_back;
 use rd_depend::DependIndex;
 use rd_step::Entry;
 
-/// Moves the number of the `k`-th of the first `live` records and those of the records among them that depend on it, directly or
-/// through others, behind those of the others, all in their order. Answers how many these are.
+/// Moves the number of the `k`-th of the first `live` records and those of the records among them
+/// that depend on it, directly or through others, after those of the others, all in their order.
+/// Returns how many these are.
 pub(crate) fn gather(
     slots: &[Entry],
     order: &mut Vec<u32>,

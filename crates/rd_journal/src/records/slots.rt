@@ -8,7 +8,8 @@ ghost use Rattle.rd_journal.specs.Numbers.{at_numbers, IsOrder};
 use rd_step::Entry;
 use std::alloc::AllocError;
 
-/// Puts an entry at this place of the order: into the slot whose number stands there, or into a new one at the end.
+/// Puts an entry at this place of the order: into the slot whose number is there, or into a new one
+/// at the end.
 pub(crate) fn put_at(slots: &mut Vec<Entry>, order: &mut Vec<u32>, place: usize, entry: &Entry)
     requires ordered { IsOrder (length slots.old.items) order.old.items }
     requires within { place ≤ length order.old.items }
@@ -31,7 +32,7 @@ pub(crate) fn put_at(slots: &mut Vec<Entry>, order: &mut Vec<u32>, place: usize,
     }
 }
 
-/// Makes room for so many elements. Room that is there is not asked for.
+/// Makes room for this many elements. Room that is there is not asked for.
 pub(crate) fn make_room_in<T>(items: &mut Vec<T>, needed: usize) -> Result<(), AllocError>
     ensures items { items.new.items ≡ items.old.items }
     ensures ok { OnOk result (needed ≤ vec_capacity items.new) }
@@ -45,7 +46,7 @@ pub(crate) fn make_room_in<T>(items: &mut Vec<T>, needed: usize) -> Result<(), A
     items.reserve(needed - items.len())
 }
 
-/// Moves the `k`-th of the first `live` numbers behind the others of them, which keep their order.
+/// Moves the `k`-th of the first `live` numbers after the others of them, which keep their order.
 pub(crate) fn move_behind(order: &mut Vec<u32>, k: usize, live: usize)
     requires some { 1 ≤ k }
     requires position { k ≤ live }

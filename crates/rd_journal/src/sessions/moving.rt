@@ -25,8 +25,9 @@ impl<const R: usize> Session<R> {
         self.undone += n as usize;
     }
 
-    /// Steps the `n` events again that were undone last, one after another. The undone records are those of the run of their events from
-    /// here, so it is never refused, and leaves the records that are there.
+    /// Steps the `n` events again that were undone last, one after another. The undone records are
+    /// those of the run of their events from here, so it is never refused, and leaves the records
+    /// that are there.
     pub(super) fn redo_many(&mut self, n: u64)
         requires enough { n ≤ length (journal self.old).undone }
         ensures records { IsMovedForward n (journal self.old) (journal self.new) }

@@ -61,8 +61,8 @@ impl<const R: usize> Session<R> {
         Ok(*self.records.live_at(k as usize - 1))
     }
 
-    /// The number of the last live step that wrote this place, or one of the places that it names; none if no live step did. It asks the
-    /// index of dependants, and takes no memory.
+    /// The number of the last live step that wrote this place, or one of the places that it names;
+    /// none if no live step did. It asks the index of dependants, and takes no memory.
     pub fn last_writer(&self, place: Place) -> Option<u64>
         ensures { result ≡ last_position (writes_to place) (journal self.now).live }
     {
@@ -70,7 +70,7 @@ impl<const R: usize> Session<R> {
         self.index.last_writer(self.len(), place, &mut probes)
     }
 
-    /// The number of the first live step behind the `k`-th that depends on it, or none.
+    /// The number of the first live step after the `k`-th that depends on it, or none.
     pub(super) fn first_dependant(&self, k: u64) -> Option<u64>
         requires some { 1 ≤ k }
         requires within { k ≤ length (journal self.now).live }
@@ -90,7 +90,8 @@ impl<const R: usize> Session<R> {
         }
     }
 
-    /// The event of the undone step of this number, from 1, if there is one: the first is the one undone last.
+    /// The event of the undone step of this number, from 1, if there is one: the first is the one
+    /// undone last.
     pub fn undone_event(&self, i: u64) -> Option<Event>
         ensures { result ≡ event_at (state self.now).undone i }
     {
@@ -100,7 +101,8 @@ impl<const R: usize> Session<R> {
         Some(self.records.ahead_at(i as usize - 1).event)
     }
 
-    /// The world that the session was opened in: a copy of the world, in which all live steps are undone.
+    /// The world that the session was opened in: a copy of the world, in which all live steps are
+    /// undone.
     ///
     /// # Errors
     ///

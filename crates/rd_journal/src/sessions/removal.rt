@@ -1,4 +1,5 @@
-//! Undoing steps in the middle of the live ones: one on which no later one depends, or one together with all that depend on it.
+//! Undoing steps in the middle of the live ones: one on which no later one depends, or one together
+//! with all that depend on it.
 
 ghost use Rattle.std.specs.Prelude.{◌≡◌, ◌≤◌, length, None};
 ghost use Rattle.rd_step.specs.Prelude.{first_dependant};
@@ -13,7 +14,8 @@ use rd_inverse::unstep;
 impl<const R: usize> Session<R> {
     ghost use Rattle.rd_journal.specs.Sessions.{journal, state, capacity};
 
-    /// Undoes the `k`-th live step alone, on which no later one depends: its old words are put back.
+    /// Undoes the `k`-th live step alone, on which no later one depends: its old words are put
+    /// back.
     pub(super) fn undo_alone(&mut self, k: u64)
         requires some { 1 ≤ k }
         requires position { k ≤ length (journal self.old).live }
@@ -28,8 +30,8 @@ impl<const R: usize> Session<R> {
         self.undone += 1;
     }
 
-    /// Undoes the `k`-th live step and all later ones that depend on it, directly or through others. If none depends on it directly,
-    /// none does.
+    /// Undoes the `k`-th live step and all later ones that depend on it, directly or through
+    /// others. If none depends on it directly, none does.
     pub(super) fn undo_closure(&mut self, k: u64)
         requires some { 1 ≤ k }
         requires position { k ≤ length (journal self.old).live }
@@ -43,9 +45,10 @@ impl<const R: usize> Session<R> {
         }
     }
 
-    /// The same, whether or not one does: the records of these steps are first put behind the other live ones, none of which
-    /// depends on them. Meanwhile the index is that of the records before the `k`-th and of those that go, so it tells which later one depends
-    /// on one of these; then the positions of all that stands behind the `k`-th are put in again, in their new order.
+    /// The same, whether or not one does: the records of these steps are first put after the other
+    /// live ones, none of which depends on them. Meanwhile the index is that of the records before
+    /// the `k`-th and of those that go, so it tells which later one depends on one of these; then
+    /// the positions of all that is after the `k`-th are put in again, in their new order.
     fn undo_block(&mut self, k: u64)
         requires some { 1 ≤ k }
         requires position { k ≤ length (journal self.old).live }

@@ -1,5 +1,5 @@
-//! Exchanging the records behind the first live ones: room for records, makings and positions in the index first, then the undoing, then
-//! the steps of the given ones.
+//! Exchanging the records after the first live ones: room for records, makings and positions in the
+//! index first, then the undoing, then the steps of the given ones.
 
 ghost use Rattle.std.specs.Prelude.{◌≡◌, ◌++◌, ◌+◌, ◌-◌, ◌<◌, ◌≤◌, [], ℕ, length, take, drop, get_or, IsOk, OnOk, OnErr, IfErr};
 ghost use Rattle.rd_step.specs.Prelude.{model, room as world_room};
@@ -23,8 +23,8 @@ const ACTOR_NUMBERS: usize = 256;
 impl<const R: usize> Session<R> {
     ghost use Rattle.rd_journal.specs.Sessions.{journal, state, track, room, capacity, index};
 
-    /// Makes room for the given records behind the first `kept` ones, and for the makings that they are of. Room that is there is
-    /// not asked for.
+    /// Makes room for the given records after the first `kept` ones, and for the makings that they
+    /// are of. Room that is there is not asked for.
     ///
     /// # Errors
     ///
@@ -51,8 +51,9 @@ impl<const R: usize> Session<R> {
         )
     }
 
-    /// Has the index be that of the first `n` live records and, behind them, of the given ones, undoes the live steps behind the first
-    /// `n`, and makes the given ones again, which stand in place of all others then.
+    /// Has the index be that of the first `n` live records and, after them, of the given ones,
+    /// undoes the live steps after the first `n`, and makes the given ones again, which are in
+    /// place of all others then.
     ///
     /// # Errors
     ///
@@ -92,7 +93,8 @@ impl<const R: usize> Session<R> {
     }
 }
 
-/// Makes room for each actor's makings among the given records, as far as undoing the dropped ones does not give it back.
+/// Makes room for each actor's makings among the given records, as far as undoing the dropped ones
+/// does not give it back.
 ///
 /// # Errors
 ///
@@ -129,7 +131,7 @@ fn makings_of(entries: &[Entry]) -> [usize; ACTOR_NUMBERS]
     counts
 }
 
-/// How many makings by each actor, of so many, are more than those among the dropped records.
+/// Of this many makings by each actor, how many are more than those among the dropped records.
 fn makings_missing(dropped: &LiveRecords, given: [usize; ACTOR_NUMBERS]) -> [usize; ACTOR_NUMBERS]
     ensures { (m : ℕ) → m < ACTOR_NUMBERS → get_or result m 0 ≡ get_or given m 0 - room_returned_by dropped.now m }
 {

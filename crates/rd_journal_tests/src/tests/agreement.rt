@@ -1,4 +1,5 @@
-//! A lone undo answers what the plain scan over the records finds, all along runs of calls that are chosen at random.
+//! A lone undo answers what the plain scan over the records finds, all along runs of calls that are
+//! chosen at random.
 
 use super::lone_undo::{STEPS, mixed_run, next};
 use super::long_runs::call;

@@ -1,4 +1,5 @@
-//! A rollback takes just the steps that the plain definition takes, all along runs of calls that are chosen at random.
+//! A rollback takes just the steps that the plain definition takes, all along runs of calls that
+//! are chosen at random.
 
 ghost use Rattle.std.specs.Prelude.{◌≤◌};
 ghost use Rattle.rd_step.specs.Prelude.{MOST_CELLS};
@@ -26,7 +27,8 @@ fn depends_on_marked(records: &[Entry], marks: &[bool], entry: &Entry) -> bool {
     false
 }
 
-/// Of each of these records, whether it is the `k`-th or depends on an earlier one of which this holds.
+/// Of each of these records, whether it is the `k`-th or depends on an earlier one of which this
+/// holds.
 fn closure(alloc: Global, records: &[Entry], k: u64) -> Result<Vec<bool>, AllocError> {
     let mut marks = Vec::new(alloc);
     for entry in records {
@@ -44,7 +46,8 @@ fn is_of(entry: Option<&Entry>, event: Event) -> bool {
     }
 }
 
-/// Whether the marked ones of these records are the first undone steps, and the others the live ones, all in their order.
+/// Whether the marked ones of these records are the first undone steps, and the others the live
+/// ones, all in their order.
 fn is_parted<const R: usize>(session: &Session<R>, records: &[Entry], marks: &[bool]) -> bool {
     let live = session.live();
     let mut stay = 0usize;
@@ -82,7 +85,8 @@ fn agrees<const R: usize>(
     Ok(is_parted(session, &records, &marks))
 }
 
-/// Whether a run of calls over a fresh world of so many actors agrees with the definition all along.
+/// Whether a run of calls over a fresh world of this many actors agrees with the definition all
+/// along.
 fn agrees_all_along<const R: usize>(alloc: Global, actors: u8, seed: u64) -> Result<bool, Refusal>
     requires some { 1 ≤ actors }
     requires few { actors ≤ 16 }

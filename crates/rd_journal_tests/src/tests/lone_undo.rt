@@ -1,5 +1,5 @@
-//! Undoing single steps in the middle of worked runs, line by line; and a long run of which every step is undone that
-//! can be, in several orders, against the run of what remains, stepped afresh.
+//! Undoing single steps in the middle of worked runs, line by line; and a long run of which every
+//! step is undone that can be, in several orders, against the run of what remains, stepped afresh.
 
 use rd_actor::{Act, Actor, Op, OpReply, Pc};
 use rd_cell::{Answer, Cell, Content, Place, Refusal, SegName, Wrote};
@@ -17,7 +17,7 @@ const ROOT: SegName = SegName::ROOT;
 pub(super) enum Line {
     /// An actor does this.
     Act(u8, Act),
-    /// An actor steps so many times where it stands.
+    /// An actor steps this many times where it is.
     Go(u8, u64),
     Undo,
     UndoAt(u64),
@@ -30,7 +30,7 @@ pub(super) enum Line {
 /// How many steps are then live and how many undone, or the refusal.
 pub(super) type Reply = Result<(u64, u64), Refusal>;
 
-/// Lets an actor step so many times.
+/// Lets an actor step this many times.
 fn go<const R: usize>(session: &mut Session<R>, actor: u8, times: u64) -> Result<(), Refusal> {
     for _ in 0..times {
         session.apply(Event {
@@ -69,7 +69,8 @@ pub(super) fn walk<const R: usize>(
     }
 }
 
-/// A record without its old words: its event, its place, what it wrote of it, and what it answered and replied.
+/// A record without its old words: its event, its place, what it wrote of it, and what it answered
+/// and replied.
 pub(super) fn shown(entry: Entry) -> (Event, Option<Place>, Wrote, Answer, Option<OpReply>) {
     (
         entry.event,
@@ -142,7 +143,8 @@ fn of_two_adds_the_second_is_undone_first(rt: HostRuntime) -> Result<(), Fail> {
     Ok(())
 }
 
-/// An actor reads that nothing is linked behind the root; much later another one links a segment there.
+/// An actor reads that nothing is linked after the root; much later another one links a segment
+/// there.
 const READ_AND_LATER_WRITE: &[(Line, Reply)] = &[
     (Line::Act(3, Act::Enq(5)), Ok((1, 0))),
     (Line::Go(3, 2), Ok((3, 0))),
@@ -165,8 +167,8 @@ fn a_read_is_kept_by_a_later_write(rt: HostRuntime) -> Result<(), Fail> {
     Ok(())
 }
 
-/// A dequeue draws the position of a value, and waits. Another one draws a position behind it, finds the older value, and marks
-/// its cell unsafe, which leaves the value.
+/// A dequeue draws the position of a value, and waits. Another one draws a position behind it,
+/// finds the older value, and marks its cell unsafe, which leaves the value.
 const MARKED: [(Line, Reply); 8] = [
     (Line::Act(1, Act::Enq(7)), Ok((1, 0))),
     (Line::Go(1, 6), Ok((7, 0))),
@@ -178,7 +180,8 @@ const MARKED: [(Line, Reply); 8] = [
     (Line::Go(3, 5), Ok((28, 0))),
 ];
 
-/// The first dequeue reads the value, and the marking is undone alone; what is read next is the safe bit and the index.
+/// The first dequeue reads the value, and the marking is undone alone; what is read next is the
+/// safe bit and the index.
 const MARKING_UNDONE: [(Line, Reply); 2] = [
     (Line::Go(2, 1), Ok((29, 0))),
     (Line::UndoAt(28), Ok((28, 1))),
@@ -367,7 +370,7 @@ pub(super) fn next(number: u64) -> u64 {
         .wrapping_add(1_442_695_040_888_963_407)
 }
 
-/// What an actor that stands here may do, as the number has it.
+/// What an actor that is here may do, as the number has it.
 pub(super) fn choice(pc: Pc, number: u64) -> Act {
     match (pc, (number >> 40) % 5) {
         (Pc::Idle, 0 | 1) => Act::Enq(number >> 50),
@@ -379,7 +382,8 @@ pub(super) fn choice(pc: Pc, number: u64) -> Act {
     }
 }
 
-/// Lets the four actors of a fresh world take turns for so many steps, in an order that looks like chance.
+/// Lets the four actors of a fresh world take turns for this many steps, in an order that looks
+/// like chance.
 pub(super) fn mixed_run(alloc: Global, steps: u64, seed: u64) -> Result<Session<2>, Refusal> {
     let mut session = Session::open(alloc, World::<2>::fresh(alloc, 4)?);
     let mut number = seed;
@@ -416,7 +420,8 @@ fn same_segment(a: &World<2>, b: &World<2>, name: SegName) -> bool {
     true
 }
 
-/// Whether two worlds have the same words for an actor and the same segments that it made, of the first hundred.
+/// Whether two worlds have the same words for an actor and the same segments that it made, of the
+/// first hundred.
 fn same_maker(a: &World<2>, b: &World<2>, maker: u8) -> bool {
     for n in 0..100 {
         if !same_segment(a, b, SegName { maker, n }) {
@@ -441,8 +446,8 @@ pub(super) fn same_world(a: &World<2>, b: &World<2>) -> bool {
     (0..=4).all(|maker| same_maker(a, b, maker)) && (0..64).all(|i| same_slot(a, b, i))
 }
 
-/// Whether the session is what its live events give if they are stepped afresh: number by number and record by
-/// record, and the world at the end.
+/// Whether the session is what its live events give if they are stepped afresh: number by number
+/// and record by record, and the world at the end.
 pub(super) fn is_stepped_afresh(alloc: Global, session: &Session<2>) -> Result<bool, Refusal> {
     let mut again = Session::open(alloc, World::<2>::fresh(alloc, 4)?);
     for k in 0..session.len() {
@@ -454,8 +459,8 @@ pub(super) fn is_stepped_afresh(alloc: Global, session: &Session<2>) -> Result<b
     Ok(same_world(session.world(), again.world()))
 }
 
-/// Undoes the step of this number alone, if no later one depends on it, and answers whether it did. What is left is
-/// compared with the run of what remains, stepped afresh.
+/// Undoes the step of this number alone, if no later one depends on it, and answers whether it did.
+/// What is left is compared with the run of what remains, stepped afresh.
 fn undo_and_compare(
     rt: &impl Abort,
     alloc: Global,
@@ -476,7 +481,8 @@ fn undo_and_compare(
     }
 }
 
-/// Undoes the step of this number alone, if no later one depends on it, and redoes it: its record is then the last.
+/// Undoes the step of this number alone, if no later one depends on it, and redoes it: its record
+/// is then the last.
 fn undo_and_redo(
     rt: &impl Abort,
     alloc: Global,
@@ -494,8 +500,8 @@ fn undo_and_redo(
 /// How many steps the long runs have.
 pub(super) const STEPS: u64 = 300;
 
-/// Long runs, each by the number that it begins with, and how far on the next step to be undone stands: front to back,
-/// back to front, and by leaps.
+/// Long runs, each by the number that it begins with, and how far on the next step to be undone is:
+/// front to back, back to front, and by leaps.
 const ORDERS: [(u64, u64); 3] = [(1, 1), (2, 299), (3, 77)];
 
 #[test]
@@ -511,8 +517,8 @@ fn each_step_that_can_be_is_undone_alone_and_redone(rt: HostRuntime) -> Result<(
     Ok(())
 }
 
-/// Undoes steps alone, as many times as there are steps and more, each among so many last ones; answers how many it
-/// undid.
+/// Undoes steps alone, as many times as there are steps and more, each among this many last ones;
+/// returns how many it undid.
 fn take_apart(
     rt: &impl Abort,
     alloc: Global,

@@ -25,7 +25,8 @@ fn act<const R: usize>(session: &mut Session<R>, actors: u8, number: u64) -> Res
     Ok(())
 }
 
-/// Makes the call that the number chooses: mostly an event, and else an undo or a redo of some kind.
+/// Makes the call that the number chooses: mostly an event, and else an undo or a redo of some
+/// kind.
 pub(super) fn call<const R: usize>(
     session: &mut Session<R>,
     actors: u8,
@@ -45,7 +46,7 @@ pub(super) fn call<const R: usize>(
     }
 }
 
-/// Whether a run of calls over a fresh world of so many actors is refused memory anywhere.
+/// Whether a run of calls over a fresh world of this many actors is refused memory anywhere.
 fn is_refused_memory<const R: usize>(alloc: Global, actors: u8) -> Result<bool, Refusal>
     requires some { 1 ≤ actors }
     requires few { actors ≤ 16 }

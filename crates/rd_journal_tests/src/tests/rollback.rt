@@ -1,5 +1,5 @@
-//! A step undone together with what depends on it: a worked run, line by line, and long runs against the run of what
-//! remains, stepped afresh.
+//! A step undone together with what depends on it: a worked run, line by line, and long runs
+//! against the run of what remains, stepped afresh.
 
 use super::lone_undo::{
     FIRST_MAKING_UNDONE, Line, MADE_AGAIN_AND_LINKED, Reply, TWO_MAKINGS, is_stepped_afresh,
@@ -13,7 +13,8 @@ use std::alloc::Global;
 use std::process::Abort;
 use std::test::Fail;
 
-/// One making is rolled back, with the link to its segment and the link that it made fail; the other making stays.
+/// One making is rolled back, with the link to its segment and the link that it made fail; the
+/// other making stays.
 const MAKING_ROLLED_BACK: &[(Line, Reply)] = &[(Line::RollBack(27), Ok((27, 3)))];
 
 /// All of it is redone; then two numbers that no step has.
@@ -53,8 +54,8 @@ fn a_making_is_rolled_back_with_its_link(rt: HostRuntime) -> Result<(), Fail> {
     Ok(())
 }
 
-/// Rolls a step of a run back, compares what is left with the run of what remains, redoes all that went, and compares
-/// the world with that from before. Answers how many steps went.
+/// Rolls a step of a run back, compares what is left with the run of what remains, redoes all that
+/// went, and compares the world with that from before. Returns how many steps went.
 fn roll_and_redo(
     rt: &impl Abort,
     alloc: Global,
@@ -76,7 +77,7 @@ fn roll_and_redo(
 /// How many steps a run has.
 const STEPS: u64 = 100;
 
-/// Runs, each by the number that it begins with, and how far on the next step to be rolled back stands.
+/// Runs, each by the number that it begins with, and how far on the next step to be rolled back is.
 const ORDERS: [(u64, u64); 3] = [(1, 1), (2, 99), (3, 77)];
 
 #[test]

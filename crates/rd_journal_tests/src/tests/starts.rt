@@ -1,4 +1,5 @@
-//! The world that a session was opened in, found from where the session stands, and the events of undone steps by their numbers.
+//! The world that a session was opened in, found from where the session is, and the events of
+//! undone steps by their numbers.
 
 use super::lone_undo::{Line, Reply, STEPS, is_stepped_afresh, mixed_run, same_world, walk};
 use rd_actor::Act;

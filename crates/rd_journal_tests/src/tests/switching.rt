@@ -1,4 +1,5 @@
-//! Going over to the records that a session has, all of them stepped again, and to none; and going back and forth along them.
+//! Going over to the records that a session has, all of them stepped again, and to none; and going
+//! back and forth along them.
 
 ghost use Rattle.std.specs.Prelude.{◌≡◌, IfOk};
 ghost use Rattle.rd_journal.specs.Sessions.{journal};

@@ -1,4 +1,5 @@
-//! Whole runs of both queues from the fresh world of four actors, control point by control point and reply by reply.
+//! Whole runs of both queues from the fresh world of four actors, control point by control point
+//! and reply by reply.
 
 ghost use Rattle.std.specs.Prelude.{◌≤◌};
 
@@ -18,7 +19,7 @@ struct Run {
     parts: &'static [&'static [Line]],
 }
 
-/// Plays each run from a fresh world of its own, with four actors and rings of `R` cells.
+/// Plays each run from its own fresh world, with four actors and rings of `R` cells.
 fn play_all<const R: usize>(rt: &impl Abort, alloc: Global, runs: &[Run]) -> Result<(), Fail>
     requires positive { 1 ≤ R }
     requires small { R ≤ 64 }
@@ -152,7 +153,8 @@ const LINKS: &[Pc] = &[Pc::E11, Pc::E12, Pc::E13, Pc::E14];
 /// A dequeue that finds its value at once.
 const TAKES: &[Pc] = &[Pc::Q1, Pc::Q2, Pc::Q3, Pc::Q4, Pc::Q5];
 
-/// A pass of a dequeue that finds its segment empty, up to the look at the tail, and the repair's reads.
+/// A pass of a dequeue that finds its segment empty, up to the look at the tail, and the repair's
+/// reads.
 const PASSES: &[Pc] = &[Pc::Q2, Pc::Q3, Pc::Q4, Pc::Q7, Pc::Q8];
 
 const REPAIRS: &[Pc] = &[Pc::Q9, Pc::Q10, Pc::Q11];
@@ -358,7 +360,8 @@ const BOTH_MAKE: &[Line] = &[
     Line::Is(Place::Whole(FIRST), Content::Whole),
 ];
 
-/// The enqueue that lost helps the queue's tail on, so that the other's own try loses and it is over all the same.
+/// The enqueue that lost helps the queue's tail on, so that the other's own try loses and it is
+/// over all the same.
 const LOSER_HELPS: &[Line] = &[
     Line::Walk(1, &[Pc::E1, Pc::E2, Pc::E3], None),
     Line::Step(33, 1, Place::QTail, Wrote::Place, Answer::Won),
@@ -462,7 +465,7 @@ const TOO_FAR: &[Line] = &[
     Line::Stays(Move::Redo, Refusal::NothingToRedo),
 ];
 
-/// Lets the first actor dequeue from an empty queue over and over, for so many steps.
+/// Lets the first actor dequeue from an empty queue over and over, for this many steps.
 fn dequeue_for(session: &mut Session<4>, steps: u64) -> Result<(), Refusal> {
     for _ in 0..steps {
         let next = match stands(session, 1) {

@@ -1,4 +1,5 @@
-//! Traces that the program loads, each with a script over it and its report, or with the fault that it comes to.
+//! Traces that the program loads, each with a script over it and its report, or with the fault that
+//! it comes to.
 
 use rd_cell::Refusal;
 use rd_program::{ProgramFault, resume, whole_text};
@@ -14,7 +15,8 @@ use std::test::Fail;
 const BEGUN: &str =
     "{\"actors\":4,\"events\":[[\"enq\",1,7],[\"go\",1]],\"ring\":4,\"version\":1}\n";
 
-/// Loads the trace, runs the script over it, and answers how it ended; the report must be the wanted.
+/// Loads the trace, runs the script over it, and answers how it ended; the report must be the
+/// wanted.
 fn loaded(
     rt: &impl Abort,
     alloc: Global,
@@ -109,7 +111,8 @@ fn a_file_that_finds_no_memory_is_no_failed_read(rt: HostRuntime) {
     assert!(rt; matches!(unread, Err(ProgramFault::NoMemory)));
 }
 
-/// A trace of version 2 over one actor and rings of two cells, with such a list of bookmarks and such a start.
+/// A trace of version 2 over one actor and rings of two cells, with such a list of bookmarks and
+/// such a start.
 fn second_trace(alloc: Global, marks: &str, start: &str) -> Result<String, Fail> {
     Ok(format!(in alloc;
         "{{\"events\":[],\"marks\":[{marks}],\"ring\":2,\"start\":{start},\"undone\":[],\"version\":2}}\n"

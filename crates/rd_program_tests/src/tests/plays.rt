@@ -7,7 +7,8 @@ use std::alloc::Global;
 use std::process::Abort;
 use std::test::Fail;
 
-/// A script and its report, over the fresh world of so many actors and this ring, with the trace or without.
+/// A script and its report, over the fresh world of this many actors and this ring, with the trace
+/// or without.
 struct Play {
     actors: u8,
     ring: Ring,

@@ -54,7 +54,8 @@ impl Portion {
         Some(byte)
     }
 
-    /// Forgets the bytes that it had and takes others: the next ones of the reader, of which there are none at the end alone.
+    /// Forgets the bytes that it had and takes others: the next ones of the reader, of which there
+    /// are none at the end alone.
     pub fn fill<R: Read>(&mut self, reader: &mut R) -> Result<(), ReadFault>
         ensures ok { OnOk result (Consumes (R.remaining reader.old) (R.remaining reader.new) (left self.new)) }
         ensures end { OnOk result (left self.new ≡ [] → IsAtEnd (R.remaining reader.new)) }
@@ -68,8 +69,8 @@ impl Portion {
     }
 }
 
-/// Reads the next bytes of a reader, none at the end alone, and says how many. A read that a signal interrupts is made
-/// again, up to 2^64 - 1 times.
+/// Reads the next bytes of a reader, none at the end alone, and says how many. A read that a signal
+/// interrupts is made again, up to 2^64 - 1 times.
 fn read_some<R: Read>(reader: &mut R, bytes: &mut [u8]) -> Result<usize, ReadFault>
     requires room { 0 < length bytes.old }
     ensures len { length bytes.new ≡ length bytes.old }

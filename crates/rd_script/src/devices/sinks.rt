@@ -18,8 +18,8 @@ pub trait Sink {
     // Whether a call failed.
     ghost has_failed: { Self → Bool };
 
-    /// Takes the first bytes of a slice, one at least, and says how many: to take none is a fault. After a fault there
-    /// is no further call.
+    /// Takes the first bytes of a slice, one at least, and says how many: to take none is a fault.
+    /// After a fault there is no further call.
     fn take(&mut self, given: &[u8]) -> Result<usize, WriteFault>
         requires working { has_failed self.old ≡ false }
         requires some { 0 < length given.now }
@@ -77,8 +77,8 @@ impl<W: Write> Sink for WriteSink<W> {
     }
 }
 
-/// Hands the writer the bytes once, and says how many of the first ones it took: to take none is a fault. A write that
-/// a signal interrupts is made again, up to 2^64 - 1 times.
+/// Hands the writer the bytes once, and says how many of the first ones it took: to take none is a
+/// fault. A write that a signal interrupts is made again, up to 2^64 - 1 times.
 fn some_bytes<W: Write>(writer: &mut W, given: &[u8]) -> Result<usize, WriteFault>
     requires some { 0 < length given.now }
     ensures count { IfOk result (λ n. (0 < n) × (n ≤ length given.now)) }

@@ -1,4 +1,4 @@
-//! The words behind a keyword, read as what the command needs there.
+//! The words after a keyword, read as what the command needs there.
 
 ghost use Rattle.std.specs.Prelude.{◌≡◌, ◌≢◌, ℕ, Bool, true, ◌^◌, ◌<◌, [], ◌∷◌, map, IfSome, IfNone, IfOk, IfErr};
 ghost use Rattle.std.specs.Char.{is_ascii_graphic};
@@ -14,7 +14,7 @@ use super::numbers::{byte_in, number_in};
 use crate::faults::LineFault;
 use rd_marks::MarkName;
 
-/// The number from 0 to 255 that stands alone.
+/// The number from 0 to 255 that is the only word.
 pub fn byte_alone(words: &[&[u8]]) -> Option<u8>
     ensures some { IfSome result (λ n. map (λ word. word.now) words.now ≡ decimal n ∷ []) }
     ensures none { IfNone result ((n : ℕ) → n < 256 → map (λ word. word.now) words.now ≢ decimal n ∷ []) }
@@ -25,7 +25,7 @@ pub fn byte_alone(words: &[&[u8]]) -> Option<u8>
     byte_in(number)
 }
 
-/// The number that stands alone.
+/// The number that is the only word.
 pub fn number_alone(words: &[&[u8]]) -> Option<u64>
     ensures some { IfSome result (λ n. map (λ word. word.now) words.now ≡ decimal n ∷ []) }
     ensures none { IfNone result ((n : ℕ) → n < 2 ^ 64 → map (λ word. word.now) words.now ≢ decimal n ∷ []) }
@@ -72,7 +72,7 @@ fn choice_in(word: &[u8]) -> Option<bool>
     None
 }
 
-/// The bookmark's name that stands alone.
+/// The bookmark's name that is the only word.
 ///
 /// # Errors
 ///

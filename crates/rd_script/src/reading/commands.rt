@@ -1,7 +1,7 @@
 //! Commands, and the one line that spells each.
 //!
-//! A line is cut into words once. Its first word says what kind of command it spells, and the others are read as that
-//! kind of command needs them.
+//! A line is cut into words once. Its first word says what kind of command it spells, and the
+//! others are read as that kind of command needs them.
 
 ghost use Rattle.std.specs.Prelude.{◌≡◌, ◌≢◌, ◌≤◌, [], length, map, IfSome, IfNone};
 ghost use Rattle.std.specs.Result.{IsOkAnd};
@@ -25,8 +25,9 @@ pub const MOST_LINE_BYTES: usize = 256;
 ///
 /// # Errors
 ///
-/// `LineTooLong` if the line has more than 256 bytes; else `BadLine` if it is not of the grammar, in which a bookmark's
-/// name may be any word; else `BadName` if a name in it is no bookmark's name.
+/// `LineTooLong` if the line has more than 256 bytes; else `BadLine` if it is not of the grammar,
+/// in which a bookmark's name may be any word; else `BadName` if a name in it is no bookmark's
+/// name.
 pub fn command_in(line: &[u8]) -> Result<Command, LineFault>
     ensures says { Says line.now result }
     ensures one { (c : SomeCommand) → length line.now ≤ most_line_bytes → IsInRange c → line.now ≡ spelling c → IsOkAnd result (λ d. AreOne c d) }
@@ -46,7 +47,7 @@ pub fn command_in(line: &[u8]) -> Result<Command, LineFault>
     command_of(keyword, others)
 }
 
-/// The command of a keyword and the words behind it.
+/// The command of a keyword and the words after it.
 #[tactic(auto, using(crate::proofs::NameReadLemmas::none_named))]
 fn command_of(keyword: Keyword, words: &[&[u8]]) -> Result<Command, LineFault>
     ensures { ReadsCommand keyword (map (λ word. word.now) words.now) result }
@@ -63,7 +64,7 @@ fn command_of(keyword: Keyword, words: &[&[u8]]) -> Result<Command, LineFault>
     }
 }
 
-/// The command of a keyword that no name stands behind, and the words behind it.
+/// The command of a keyword that has no name, and the words after it.
 fn nameless(keyword: Keyword, words: &[&[u8]]) -> Option<Command>
     ensures { ReadsNameless keyword (map (λ word. word.now) words.now) result }
 {

@@ -1,7 +1,7 @@
 //! Lines of a script, read byte by byte into a buffer of fixed capacity.
 //!
-//! A run reads all of its lines into one buffer, so that none is made anew for each. The rest of a line that is too long is
-//! read and discarded, so that the next one begins where it should.
+//! A run reads all of its lines into one buffer, so that none is made anew for each. The rest of a
+//! line that is too long is read and discarded, so that the next one begins where it should.
 
 ghost use Rattle.std.specs.Prelude.{◌≡◌, ℕ, List, [], ◌∷◌, ◌++◌, OnOk, false};
 ghost use Rattle.rd_script.specs.Spelling.{Says};

@@ -1,4 +1,4 @@
-//! The first word of a place, and the place that the words behind it make.
+//! The first word of a place, and the place that the words after it make.
 
 ghost use Rattle.std.specs.Prelude.{◌≡◌, ◌≢◌, ◌<◌, [], map, IfSome, IfNone};
 ghost use Rattle.rd_script.specs.declared.reading.places.PlaceKind.{PlaceKind as Kind};
@@ -87,7 +87,7 @@ impl PlaceKind {
         }
     }
 
-    /// The place of this kind that the words behind it name.
+    /// The place of this kind that the words after it name.
     fn place(self, words: &[&[u8]]) -> Option<Place>
         ensures { ReadsKind self (map (λ word. word.now) words.now) result }
     {

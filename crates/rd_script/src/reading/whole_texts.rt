@@ -11,7 +11,8 @@ use rd_cell::Refusal;
 use rd_marks::Command;
 use std::alloc::Global;
 
-/// The commands and the faults of the lines of a text, one by one. The last line may lack its line feed.
+/// The commands and the faults of the lines of a text, one by one. The last line may lack its line
+/// feed.
 ///
 /// # Errors
 ///
@@ -32,7 +33,8 @@ pub fn lines(alloc: Global, text: &[u8]) -> Result<Vec<Result<Command, LineFault
     Ok(said)
 }
 
-/// The text without the line feed at its end, if it has one there: its lines are the parts between line feeds then.
+/// The text without the line feed at its end, if it has one there: its lines are the parts between
+/// line feeds then.
 fn without_last_feed(text: &[u8]) -> &[u8]
     requires { text.now ≢ [] }
     ensures { slice_split (λ byte. byte == 10) result.now ≡ lines_of text.now }

@@ -1,7 +1,7 @@
-//! The words of a line: what stands between its spaces, and the parts of a name between its full stops.
+//! The words of a line: what is between its spaces, and the parts of a name between its full stops.
 //!
-//! A line has one space between two words and none before or after, so that an empty word is a word too, which spells
-//! nothing. No command has more than four words.
+//! A line has one space between two words and none before or after, so that an empty word is a word
+//! too, which spells nothing. No command has more than four words.
 
 ghost use Rattle.std.specs.Prelude.{◌≡◌, ◌==◌, ◌<◌, length, map, IfSome, IfNone};
 ghost use Rattle.std.specs.List.{slice_split};

@@ -9,7 +9,7 @@ use super::numbers::{bit_number, put_counted};
 use super::texts::{Text, put};
 use rd_actor::{Actor, Op};
 
-/// Puts all words of an actor behind the text.
+/// Appends all words of an actor to the text.
 pub fn put_actor(text: &mut Text, actor: &Actor)
     ensures { PutsUpTo 355 text.old.items text.new.items (actor_words actor.now) }
 {
@@ -19,7 +19,7 @@ pub fn put_actor(text: &mut Text, actor: &Actor)
     put_read(text, actor);
 }
 
-/// Puts the control point and the call of an actor behind the text.
+/// Appends the control point and the call of an actor to the text.
 fn put_call(text: &mut Text, actor: &Actor)
     ensures { PutsUpTo 40 text.old.items text.new.items (call_words actor.now) }
 {
@@ -29,7 +29,7 @@ fn put_call(text: &mut Text, actor: &Actor)
     put_op(text, actor.op);
 }
 
-/// Puts the segments that an actor knows behind the text.
+/// Appends the segments that an actor knows to the text.
 fn put_segments(text: &mut Text, actor: &Actor)
     ensures { PutsUpTo 139 text.old.items text.new.items (segment_words actor.now) }
 {
@@ -41,7 +41,7 @@ fn put_segments(text: &mut Text, actor: &Actor)
     put_name(text, actor.next);
 }
 
-/// Puts the positions that an actor knows, and the closed bit, behind the text.
+/// Appends the positions that an actor knows, and the closed bit, to the text.
 fn put_positions(text: &mut Text, actor: &Actor)
     ensures { PutsUpTo 74 text.old.items text.new.items (position_words actor.now) }
 {
@@ -50,7 +50,7 @@ fn put_positions(text: &mut Text, actor: &Actor)
     put_counted(text, b" closed", bit_number(actor.closed));
 }
 
-/// Puts what an actor read from a cell, and its pass, behind the text.
+/// Appends what an actor read from a cell, and its pass, to the text.
 fn put_read(text: &mut Text, actor: &Actor)
     ensures { PutsUpTo 102 text.old.items text.new.items (read_words actor.now) }
 {
@@ -61,7 +61,7 @@ fn put_read(text: &mut Text, actor: &Actor)
     put_counted(text, b" pass", u64::from(actor.pass));
 }
 
-/// Puts the call that an actor is in, if any, behind the text.
+/// Appends the call that an actor is in, if any, to the text.
 fn put_op(text: &mut Text, op: Option<Op>)
     ensures { PutsUpTo 25 text.old.items text.new.items (op_words op) }
 {

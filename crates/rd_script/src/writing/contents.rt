@@ -8,7 +8,7 @@ use super::numbers::{bit_number, put_counted, put_number, put_spaced};
 use super::texts::{Text, put};
 use rd_cell::{ArrSlot, Cell, Content, SegName};
 
-/// Puts what a place has in it behind the text.
+/// Appends what a place has in it to the text.
 pub fn put_content(text: &mut Text, content: Content)
     ensures { PutsUpTo 62 text.old.items text.new.items (content_words content) }
 {
@@ -25,7 +25,7 @@ pub fn put_content(text: &mut Text, content: Content)
     }
 }
 
-/// Puts a segment's name behind the text.
+/// Appends a segment's name to the text.
 pub fn put_name(text: &mut Text, name: SegName)
     ensures { PutsUpTo 41 text.old.items text.new.items (name_words name) }
 {
@@ -34,7 +34,7 @@ pub fn put_name(text: &mut Text, name: SegName)
     put_number(text, u64::from(name.n));
 }
 
-/// Puts a value, if any, behind the text.
+/// Appends a value, if any, to the text.
 pub fn put_value(text: &mut Text, value: Option<u64>)
     ensures { PutsUpTo 20 text.old.items text.new.items (value_words value) }
 {
@@ -52,7 +52,7 @@ pub fn tail_word(closed: bool) -> &'static [u8]
     if closed { b"closed" } else { b"open" }
 }
 
-/// Puts the name of the segment that follows, if any, behind the text.
+/// Appends the name of the segment that follows, if any, to the text.
 fn put_next(text: &mut Text, next: Option<SegName>)
     ensures { PutsUpTo 41 text.old.items text.new.items (next_words next) }
 {
@@ -62,7 +62,7 @@ fn put_next(text: &mut Text, next: Option<SegName>)
     }
 }
 
-/// Puts a cell's safe bit, index and value behind the text.
+/// Appends a cell's safe bit, index and value to the text.
 fn put_cell(text: &mut Text, cell: Cell)
     ensures { PutsUpTo 62 text.old.items text.new.items (cell_words cell) }
 {
@@ -72,7 +72,7 @@ fn put_cell(text: &mut Text, cell: Cell)
     put_value(text, cell.val);
 }
 
-/// Puts a safe bit and an index behind the text.
+/// Appends a safe bit and an index to the text.
 pub fn put_index(text: &mut Text, safe: bool, idx: u64)
     ensures { PutsUpTo 41 text.old.items text.new.items (index_words safe idx) }
 {
@@ -80,7 +80,7 @@ pub fn put_index(text: &mut Text, safe: bool, idx: u64)
     put_spaced(text, idx);
 }
 
-/// Puts what a slot of the array has behind the text.
+/// Appends what a slot of the array has to the text.
 fn put_slot(text: &mut Text, slot: ArrSlot)
     ensures { PutsUpTo 26 text.old.items text.new.items (slot_words slot) }
 {

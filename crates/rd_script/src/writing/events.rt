@@ -8,7 +8,7 @@ use super::texts::{Text, put};
 use rd_actor::Act;
 use rd_step::Event;
 
-/// Puts the line that makes an event happen behind the text.
+/// Appends the line that makes an event happen to the text.
 pub fn put_event(text: &mut Text, event: Event)
     ensures { PutsUpTo 46 text.old.items text.new.items (event_words event) }
 {

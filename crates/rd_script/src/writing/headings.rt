@@ -12,7 +12,7 @@ use super::texts::Text;
 pub enum Heading {
     /// The replies to the lines of this viewer follow, the first viewer being 1.
     Viewer(u64),
-    /// So many calls were recorded.
+    /// This many calls were recorded.
     History(u64),
 }
 

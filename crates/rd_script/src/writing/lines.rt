@@ -46,14 +46,14 @@ pub fn set_refused(text: &mut Text, refusal: &AnyRefusal)
     end_line(text);
 }
 
-/// Puts the line feed behind the text.
+/// Appends the line feed to the text.
 pub fn end_line(text: &mut Text)
     ensures { Puts text.old.items text.new.items (10 ∷ []) }
 {
     put(text, b"\n");
 }
 
-/// Puts the number, the name and the data of any refusal behind the text.
+/// Appends the number, the name and the data of any refusal to the text.
 fn put_any(text: &mut Text, refusal: &AnyRefusal)
     ensures { PutsUpTo 100 text.old.items text.new.items (any_words refusal.now) }
 {
@@ -75,7 +75,7 @@ fn put_any(text: &mut Text, refusal: &AnyRefusal)
     }
 }
 
-/// Puts which event of a trace was refused, and why, behind the text.
+/// Appends which event of a trace was refused, and why, to the text.
 fn put_trace_step(text: &mut Text, step: u64, cause: Refusal)
     ensures { PutsUpTo 78 text.old.items text.new.items (trace_step_words step cause) }
 {
@@ -84,7 +84,7 @@ fn put_trace_step(text: &mut Text, step: u64, cause: Refusal)
     put_refusal(text, cause);
 }
 
-/// Puts which event of which bookmark of a trace was refused, and why, behind the text.
+/// Appends which event of which bookmark of a trace was refused, and why, to the text.
 fn put_trace_mark(text: &mut Text, mark: u64, step: u64, cause: Refusal)
     ensures { PutsUpTo 99 text.old.items text.new.items (trace_mark_words mark step cause) }
 {
@@ -94,7 +94,7 @@ fn put_trace_mark(text: &mut Text, mark: u64, step: u64, cause: Refusal)
     put_refusal(text, cause);
 }
 
-/// Puts the ticket that is drawn next and the one that is served behind the text.
+/// Appends the ticket that is drawn next and the one that is served to the text.
 fn put_busy(text: &mut Text, next: u64, served: u64)
     ensures { PutsUpTo 54 text.old.items text.new.items (busy_words next served) }
 {

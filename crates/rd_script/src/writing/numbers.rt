@@ -1,4 +1,4 @@
-//! Numbers and bits behind a text. A number is written as decimal digits without leading zeros.
+//! Numbers and bits after a text. A number is written as decimal digits without leading zeros.
 
 ghost use Rattle.std.specs.Prelude.{◌≡◌, ◌≤◌, ◌++◌, length};
 ghost use Rattle.std.specs.Fmt.{decimal};
@@ -8,7 +8,7 @@ ghost use Rattle.rd_script.specs.Texts.{spaced_number, bit_number, yes_or_no};
 use super::texts::{Text, put};
 use itoa::Buffer;
 
-/// Puts the digits of a number behind the text, the higher ones first.
+/// Appends the digits of a number to the text, the higher ones first.
 pub fn put_number(text: &mut Text, number: u64)
     ensures { PutsUpTo 20 text.old.items text.new.items (decimal number) }
 {
@@ -16,7 +16,7 @@ pub fn put_number(text: &mut Text, number: u64)
     put(text, digits.format(number).as_bytes());
 }
 
-/// Puts a space and a number behind the text.
+/// Appends a space and a number to the text.
 pub fn put_spaced(text: &mut Text, number: u64)
     ensures { PutsUpTo 21 text.old.items text.new.items (spaced_number number) }
 {
@@ -24,7 +24,7 @@ pub fn put_spaced(text: &mut Text, number: u64)
     put_number(text, number);
 }
 
-/// Puts words behind the text, and a number behind them.
+/// Appends words to the text, and a number after them.
 pub fn put_counted(text: &mut Text, words: &[u8], number: u64)
     ensures words { Puts text.old.items text.new.items (words.now ++ spaced_number number) }
     ensures len { length (spaced_number number) ≤ 21 }

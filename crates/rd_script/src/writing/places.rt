@@ -10,7 +10,7 @@ use super::numbers::{put_counted, put_spaced};
 use super::texts::{Text, put};
 use rd_cell::{Place, SegName};
 
-/// Puts a place behind the text.
+/// Appends a place to the text.
 pub fn put_place(text: &mut Text, place: Place)
     ensures { PutsUpTo 68 text.old.items text.new.items (place_words place) }
 {
@@ -39,7 +39,7 @@ pub fn put_place(text: &mut Text, place: Place)
     }
 }
 
-/// Puts words behind the text, and a segment's name behind them.
+/// Appends words to the text, and a segment's name after them.
 fn put_named(text: &mut Text, words: &[u8], name: SegName)
     ensures words { Puts text.old.items text.new.items (words.now ++ name_words name) }
     ensures len { length (name_words name) ≤ 41 }

@@ -9,7 +9,7 @@ use super::texts::{Text, put};
 use crate::faults::{LineFault, ScriptFault};
 use rd_cell::Refusal;
 
-/// Puts the number, the name and the data of a refusal behind the text.
+/// Appends the number, the name and the data of a refusal to the text.
 pub fn put_refusal(text: &mut Text, refusal: Refusal)
     ensures { PutsUpTo 38 text.old.items text.new.items (refusal_words refusal) }
 {

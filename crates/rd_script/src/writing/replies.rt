@@ -13,7 +13,7 @@ use rd_actor::OpReply;
 use rd_marks::{MarkName, Reply};
 use rd_origin::Origin;
 
-/// Puts the words of a reply behind the text.
+/// Appends the words of a reply to the text.
 pub fn put_reply(text: &mut Text, reply: &Reply)
     ensures { PutsUpTo 400 text.old.items text.new.items (reply_words reply.now) }
 {
@@ -49,7 +49,7 @@ pub fn put_reply(text: &mut Text, reply: &Reply)
     }
 }
 
-/// Puts what the call replied that an event ended, if it ended one, behind the text.
+/// Appends what the call replied that an event ended, if it ended one, to the text.
 fn put_event_reply(text: &mut Text, reply: Option<OpReply>)
     ensures { PutsUpTo 27 text.old.items text.new.items (event_reply reply) }
 {
@@ -62,7 +62,7 @@ fn put_event_reply(text: &mut Text, reply: Option<OpReply>)
     }
 }
 
-/// Puts the steps of an origin behind the text.
+/// Appends the steps of an origin to the text.
 fn put_origin(text: &mut Text, origin: Origin)
     ensures { PutsUpTo 90 text.old.items text.new.items (origin_words origin) }
 {
@@ -73,7 +73,7 @@ fn put_origin(text: &mut Text, origin: Origin)
     put_counted(text, b" take", origin.take);
 }
 
-/// Puts the number of a step, or a hyphen for none, behind the text.
+/// Appends the number of a step, or a hyphen for none, to the text.
 fn put_step_number(text: &mut Text, step: Option<u64>)
     ensures { PutsUpTo 20 text.old.items text.new.items (step_number step) }
 {
@@ -83,7 +83,7 @@ fn put_step_number(text: &mut Text, step: Option<u64>)
     }
 }
 
-/// Puts the last writer of a place behind the text.
+/// Appends the last writer of a place to the text.
 fn put_writer(text: &mut Text, writer: Option<u64>)
     ensures { PutsUpTo 27 text.old.items text.new.items (writer_words writer) }
 {
@@ -93,7 +93,7 @@ fn put_writer(text: &mut Text, writer: Option<u64>)
     }
 }
 
-/// Puts a bookmark's name behind the text.
+/// Appends a bookmark's name to the text.
 #[tactic(auto, using(crate::proofs::NameLemmas::length_mark_name))]
 fn put_mark_name(text: &mut Text, name: MarkName)
     ensures { PutsUpTo 16 text.old.items text.new.items (bytes_of name) }

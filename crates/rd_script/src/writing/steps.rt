@@ -13,7 +13,7 @@ use rd_actor::OpReply;
 use rd_cell::{Answer, Place, Wrote};
 use rd_step::Entry;
 
-/// Puts all words of a step behind the text.
+/// Appends all words of a step to the text.
 pub fn put_step(text: &mut Text, number: u64, entry: &Entry)
     ensures { PutsUpTo 300 text.old.items text.new.items (step_words number entry.now) }
 {
@@ -26,7 +26,7 @@ pub fn put_step(text: &mut Text, number: u64, entry: &Entry)
     put_step_reply(text, entry.reply);
 }
 
-/// Puts what a call replied behind the text.
+/// Appends what a call replied to the text.
 pub fn put_call_reply(text: &mut Text, reply: OpReply)
     ensures { PutsUpTo 26 text.old.items text.new.items (reply_word reply) }
 {
@@ -37,7 +37,7 @@ pub fn put_call_reply(text: &mut Text, reply: OpReply)
     }
 }
 
-/// Puts what the access of a step did behind the text.
+/// Appends what the access of a step did to the text.
 fn put_done(text: &mut Text, entry: &Entry)
     ensures { PutsUpTo 145 text.old.items text.new.items (done_words entry.now) }
 {
@@ -48,7 +48,7 @@ fn put_done(text: &mut Text, entry: &Entry)
     put_access_answer(text, entry.answer);
 }
 
-/// Puts the place of a step, if it has one, behind the text.
+/// Appends the place of a step, if it has one, to the text.
 fn put_step_place(text: &mut Text, place: Option<Place>)
     ensures { PutsUpTo 68 text.old.items text.new.items (step_place place) }
 {
@@ -71,7 +71,7 @@ fn access_word(place: Option<Place>, wrote: Wrote) -> &'static [u8]
     }
 }
 
-/// Puts what an access answered behind the text.
+/// Appends what an access answered to the text.
 fn put_access_answer(text: &mut Text, answer: Answer)
     ensures { PutsUpTo 62 text.old.items text.new.items (access_answer answer) }
 {
@@ -93,7 +93,7 @@ fn put_access_answer(text: &mut Text, answer: Answer)
     }
 }
 
-/// Puts what the call replied that a step ended, if it ended one, behind the text.
+/// Appends what the call replied that a step ended, if it ended one, to the text.
 fn put_step_reply(text: &mut Text, reply: Option<OpReply>)
     ensures { PutsUpTo 26 text.old.items text.new.items (step_reply reply) }
 {

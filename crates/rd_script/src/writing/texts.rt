@@ -1,4 +1,4 @@
-//! A text in a buffer of fixed capacity, and words behind it.
+//! A text in a buffer of fixed capacity, and words after it.
 
 ghost use Rattle.rd_script.specs.Puts.{Puts};
 
@@ -10,7 +10,7 @@ pub const MOST_BYTES: usize = 512;
 /// Up to 512 bytes.
 pub type Text = ArrayVec<u8, MOST_BYTES>;
 
-/// Puts words behind the text, if there is room for them.
+/// Appends words to the text, if there is room for them.
 pub fn put(text: &mut Text, words: &[u8])
     ensures { Puts text.old.items text.new.items words.now }
 {

@@ -11,9 +11,9 @@ use std::test::Fail;
 /// How the devices of a run work.
 #[derive(Clone, Copy)]
 struct Devices {
-    /// How many reads give bytes or the end; those behind them fail.
+    /// How many reads give bytes or the end; those after them fail.
     good_reads: usize,
-    /// How many writes take bytes; those behind them fail.
+    /// How many writes take bytes; those after them fail.
     good_writes: usize,
     /// The most bytes that a read gives.
     most_given: usize,
@@ -187,7 +187,7 @@ fn a_failed_read_leaves_whole_lines_done(rt: HostRuntime) -> Result<(), Fail> {
     )
 }
 
-/// Runs two scripts over devices whose reads give so many bytes.
+/// Runs two scripts over devices whose reads give this many bytes.
 fn portions_are_read(rt: &impl Abort, alloc: Global, rows: &[usize]) -> Result<(), Fail> {
     for most_given in rows {
         let devices = Devices {
@@ -212,7 +212,8 @@ fn a_read_may_give_any_number_of_bytes(rt: HostRuntime) -> Result<(), Fail> {
     portions_are_read(&rt, rt.alloc(), &[1, 2, 3, 7, 4096, 100_000])
 }
 
-/// Runs 3000 lines over a reader of so many good reads, and compares how many were answered and what the run answers.
+/// Runs 3000 lines over a reader of this many good reads, and compares how many were answered and
+/// what the run answers.
 fn long_reads_are(
     rt: &impl Abort,
     alloc: Global,

@@ -1,10 +1,11 @@
-//! Scripts that go to bookmarks and on from there: what lies behind a bookmark is not undone then, although going on to the next one makes
-//! the same steps again.
+//! Scripts that go to bookmarks and on from there: what lies after a bookmark is not undone then,
+//! although going on to the next one makes the same steps again.
 
 use super::runs::over_fresh;
 use std::test::Fail;
 
-/// An enqueue and a dequeue of two steps each, with a bookmark behind the enqueue and one at the end.
+/// An enqueue and a dequeue of two steps each, with a bookmark after the enqueue and one at the
+/// end.
 const TWO_MARKS: [(&str, &str); 3] = [
     ("enq 1 7\ngo 1\nmark a\n", "ok 1\nok 2\nmarked 2\n"),
     ("deq 2\ngo 2\nmark b\n", "ok 3\nok 4\nmarked 4\n"),

@@ -1,10 +1,12 @@
-//! Rows in which a cell is two places: what each step touches of it, who wrote which half, and a lone undo that the halves allow.
+//! Rows in which a cell is two places: what each step touches of it, who wrote which half, and a
+//! lone undo that the halves allow.
 
 use super::runs::over_fresh;
 use std::test::Fail;
 
-/// An enqueue of 7 over rings of two cells. A dequeue draws its position and waits; another one finds the ring empty, and then, at
-/// the next position of the same cell, the older value, whose cell it marks unsafe by step 28.
+/// An enqueue of 7 over rings of two cells. A dequeue draws its position and waits; another one
+/// finds the ring empty, and then, at the next position of the same cell, the older value, whose
+/// cell it marks unsafe by step 28.
 const MARKED: [(&str, &str); 4] = [
     (
         "enq 1 7\ngo 1\ngo 1\ngo 1\ngo 1\ngo 1\ngo 1\n",

@@ -6,7 +6,8 @@ use std::alloc::Global;
 use std::process::Abort;
 use std::test::Fail;
 
-/// Runs a script of a line and of another one behind it, which is done, over a poised world, and compares its report.
+/// Runs a script of a line and of another one after it, which is done, over a poised world, and
+/// compares its report.
 fn line_is(rt: &impl Abort, alloc: Global, line: &[u8], report: &str) -> Result<(), Fail> {
     let mut script = Vec::from_slice(alloc, line)?;
     script.extend_from_slice(b"\ngo 3\n")?;

@@ -1,4 +1,5 @@
-//! Devices that fail once and then work: a fault ends the run and the device is not asked again, but after an interruption it is.
+//! Devices that fail once and then work: a fault ends the run and the device is not asked again,
+//! but after an interruption it is.
 
 use super::runs::poised;
 use rd_script::{ReadSource, ScriptFault, WriteSink, run};
@@ -70,10 +71,12 @@ impl Write for TestWriter {
 /// Two lines of five bytes.
 const SCRIPT: &str = "go 1\ngo 2\n";
 
-/// How a call fails and its number, what the run answers and writes, and how many calls the device then had.
+/// How a call fails and its number, what the run answers and writes, and how many calls the device
+/// then had.
 type Row = (ErrorKind, u64, Result<u64, ScriptFault>, &'static str, u64);
 
-/// Runs the script over a reader that fails at one call, and compares what it answers and writes, and the number of calls.
+/// Runs the script over a reader that fails at one call, and compares what it answers and writes,
+/// and the number of calls.
 fn reads_are(rt: &impl Abort, alloc: Global, rows: &[Row]) -> Result<(), Fail> {
     for (kind, failing, answer, report, made) in rows {
         let mut reader = TestReader {
@@ -137,7 +140,8 @@ fn a_reader_that_was_interrupted_is_asked_again(rt: HostRuntime) -> Result<(), F
     )
 }
 
-/// Runs the script over a writer that fails at one call, and compares what it answers and writes, and the number of calls.
+/// Runs the script over a writer that fails at one call, and compares what it answers and writes,
+/// and the number of calls.
 fn writes_are(rt: &impl Abort, alloc: Global, rows: &[Row]) -> Result<(), Fail> {
     for (kind, failing, answer, report, made) in rows {
         let mut writer = TestWriter {

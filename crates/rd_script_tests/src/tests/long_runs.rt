@@ -1,4 +1,5 @@
-//! Long scripts of all kinds of lines, in an order that looks like chance: no line is refused memory.
+//! Long scripts of all kinds of lines, in an order that looks like chance: no line is refused
+//! memory.
 
 ghost use Rattle.std.specs.Prelude.{◌≤◌};
 
@@ -19,8 +20,8 @@ fn next(number: u64) -> u64 {
         .wrapping_add(1_442_695_040_888_963_407)
 }
 
-/// Puts a line of a kind behind a script: `A` stands for an actor, `K` for a number, and `N` for the number in a bookmark's name. Which
-/// ones they are is as the number has it.
+/// Puts a line of a kind after a script: `A` stands for an actor, `K` for a number, and `N` for the
+/// number in a bookmark's name. Which ones they are is as the number has it.
 fn put_line(script: &mut String, kind: &str, actors: u64, number: u64) -> Result<(), Fail>
     requires { 1 ≤ actors }
 {
@@ -40,7 +41,8 @@ fn put_line(script: &mut String, kind: &str, actors: u64, number: u64) -> Result
     Ok(())
 }
 
-/// A script of lines of these kinds for so many actors, in which each second line or so is a step.
+/// A script of lines of these kinds for this many actors, in which each second line or so is a
+/// step.
 fn long_script(alloc: Global, kinds: &[&str], actors: u64) -> Result<String, Fail>
     requires { 1 ≤ actors }
 {
@@ -57,7 +59,7 @@ fn long_script(alloc: Global, kinds: &[&str], actors: u64) -> Result<String, Fai
     Ok(script)
 }
 
-/// Runs a script over a fresh world of so many actors: no line is refused memory.
+/// Runs a script over a fresh world of this many actors: no line is refused memory.
 fn has_memory<const R: usize>(
     rt: &impl Abort,
     alloc: Global,
@@ -83,7 +85,8 @@ fn has_memory<const R: usize>(
     Ok(())
 }
 
-/// Runs a long script of lines of these kinds for each number of actors over rings of 2, 4 and 8 cells: no line is refused memory.
+/// Runs a long script of lines of these kinds for each number of actors over rings of 2, 4 and 8
+/// cells: no line is refused memory.
 fn have_memory(rt: &impl Abort, alloc: Global, kinds: &[&str]) -> Result<(), Fail> {
     for actors in 1..17 {
         let script = long_script(alloc, kinds, u64::from(actors))?;

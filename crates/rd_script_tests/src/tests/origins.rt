@@ -1,4 +1,5 @@
-//! Lines that ask for an origin or a writer, nearly ask for one, and answer one. (Whole calls with their origins: `queues`.)
+//! Lines that ask for an origin or a writer, nearly ask for one, and answer one. (Whole calls with
+//! their origins: `queues`.)
 
 use super::reply_is;
 use super::runs::over_fresh;
@@ -7,7 +8,8 @@ use rd_origin::Origin;
 use std::process::Abort;
 use std::test::Fail;
 
-/// Compares the line of each origin of what the sixth step took, its call and its put, with its text.
+/// Compares the line of each origin of what the sixth step took, its call and its put, with its
+/// text.
 fn origins_are(rt: &impl Abort, rows: &[(Option<u64>, Option<u64>, &str)]) {
     for (call, put, line) in rows {
         let origin = Origin {

@@ -7,7 +7,8 @@ use rd_step::Flaw;
 use std::alloc::Global;
 use std::process::Abort;
 
-/// Compares the line of each refusal of a command with its text, and with what a writer is given of it.
+/// Compares the line of each refusal of a command with its text, and with what a writer is given of
+/// it.
 fn refusals_are(rt: &impl Abort, alloc: Global, rows: &[(Refusal, &str)]) {
     for (refusal, line) in rows {
         let answer = Err(AnyRefusal::Refused(*refusal));

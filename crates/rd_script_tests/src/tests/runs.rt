@@ -11,7 +11,7 @@ use std::alloc::Global;
 use std::process::Abort;
 use std::test::Fail;
 
-/// A book over a fresh world of so many actors.
+/// A book over a fresh world of this many actors.
 pub fn fresh<const R: usize>(alloc: Global, actors: u8) -> Result<Book<R>, Refusal>
     requires positive { 1 ≤ R }
     requires small { R ≤ 64 }
@@ -52,7 +52,8 @@ pub fn report_is<const R: usize>(
     );
 }
 
-/// Runs pieces of a script over a book, one after another, and compares the report of each and its number of lines.
+/// Runs pieces of a script over a book, one after another, and compares the report of each and its
+/// number of lines.
 fn reports_are<const R: usize>(
     rt: &impl Abort,
     alloc: Global,

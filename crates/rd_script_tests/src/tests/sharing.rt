@@ -102,8 +102,8 @@ fn bookmarks_go_although_the_steps_stand_there(rt: HostRuntime) -> Result<(), Fa
     )
 }
 
-/// Sets three bookmarks over a fresh world: two share two steps, and the third is at three steps of the first. Then counts the nodes
-/// after each line.
+/// Sets three bookmarks over a fresh world: two share two steps, and the third is at three steps of
+/// the first. Then counts the nodes after each line.
 fn three_keep(rt: &impl Abort, alloc: Global, rows: &[(&str, u64)]) -> Result<(), Fail> {
     let mut book = fresh::<4>(alloc, 4)?;
     let three = [

@@ -1,4 +1,5 @@
-//! Lines that are long or lack their line feed, in a script and in a whole text; and the lines of headings.
+//! Lines that are long or lack their line feed, in a script and in a whole text; and the lines of
+//! headings.
 
 use super::runs::{poised, report_is};
 use rd_marks::Command;
@@ -7,7 +8,7 @@ use std::alloc::{AllocError, Global};
 use std::process::Abort;
 use std::test::Fail;
 
-/// Runs each script over a poised world of its own, and compares its report.
+/// Runs each script over its own poised world, and compares its report.
 fn alone_over_poised(rt: &impl Abort, alloc: Global, rows: &[(&str, &str)]) -> Result<(), Fail> {
     for (script, report) in rows {
         report_is(rt, alloc, &mut poised::<4>(alloc)?, *script, *report);
@@ -29,7 +30,7 @@ fn a_last_line_may_lack_its_line_feed(rt: HostRuntime) -> Result<(), Fail> {
     )
 }
 
-/// A line of so many bytes, and another line behind it.
+/// A line of this many bytes, and another line after it.
 fn long_line(alloc: Global, length: usize, last: &str) -> Result<String, AllocError> {
     let mut text = "x".repeat(alloc, length)?;
     text.push_str("\n")?;
@@ -37,7 +38,7 @@ fn long_line(alloc: Global, length: usize, last: &str) -> Result<String, AllocEr
     Ok(text)
 }
 
-/// Compares the report of a script whose first line has so many bytes.
+/// Compares the report of a script whose first line has this many bytes.
 fn long_lines_are(rt: &impl Abort, alloc: Global, rows: &[(usize, &str)]) -> Result<(), Fail> {
     for (length, report) in rows {
         let script = long_line(alloc, *length, "go 3\n")?;
@@ -101,7 +102,7 @@ fn a_whole_text_says_what_each_of_its_lines_says(rt: HostRuntime) -> Result<(), 
     )
 }
 
-/// Compares what a first line of so many bytes, with another one behind it, says in a whole text.
+/// Compares what a first line of this many bytes, with another one after it, says in a whole text.
 fn long_lines_say(rt: &impl Abort, alloc: Global, rows: &[(usize, LineFault)]) -> Result<(), Fail> {
     for (length, fault) in rows {
         let text = long_line(alloc, *length, "len")?;

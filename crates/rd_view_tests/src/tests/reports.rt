@@ -12,7 +12,7 @@ use std::test::Fail;
 /// What the lines of a script say, and what was answered where its viewer was started.
 type Row<'a> = (&'a [Said], Option<&'a [Answer]>);
 
-/// The text of a view of these viewers, with so many recorded calls.
+/// The text of a view of these viewers, with this many recorded calls.
 fn view_of(
     rt: &impl Abort,
     alloc: Global,

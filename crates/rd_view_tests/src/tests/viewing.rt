@@ -1,4 +1,4 @@
-//! Views of scripts: each viewer in a thread of its own, over one desk.
+//! Views of scripts: each viewer in its own thread, over one desk.
 
 use rd_cell::Refusal;
 use rd_journal::Session;
@@ -26,7 +26,8 @@ fn fresh(alloc: Global) -> Result<Book<4>, Refusal> {
     Ok(Book::open(alloc, Session::open(alloc, World::<4>::fresh(alloc, 4)?)))
 }
 
-/// Views one to 64 scripts over a fresh world of 4 actors, and compares the text with what is wanted.
+/// Views one to 64 scripts over a fresh world of 4 actors, and compares the text with what is
+/// wanted.
 fn view_is<R: Threads + Wait + Abort + Sync>(
     rt: &R,
     alloc: Global,

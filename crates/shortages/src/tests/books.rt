@@ -4,8 +4,8 @@ use super::trials::on_trial;
 use std::alloc::Global;
 use std::process::Abort;
 
-/// Two actors that race to put a new ring behind a full one, over rings of two cells, and undos among their steps. Then bookmarks, calls on
-/// the array, and queries.
+/// Two actors that race to put a new ring behind a full one, over rings of two cells, and undos
+/// among their steps. Then bookmarks, calls on the array, and queries.
 const RACE: &[&[u8]] = &[
     b"enq 1 7",
     b"go 1",
@@ -65,7 +65,8 @@ const RACE: &[&[u8]] = &[
     b"writer qtail",
 ];
 
-/// An actor that starves: its cell was taken from it before it came, so it closes the ring and makes the next one.
+/// An actor that starves: its cell was taken from it before it came, so it closes the ring and
+/// makes the next one.
 const STARVED: &[&[u8]] = &[
     b"enq 1 7",
     b"go 1",
@@ -91,7 +92,8 @@ const STARVED: &[&[u8]] = &[
     b"go 1",
 ];
 
-/// A book obeys the lines whatever is refused to it, and so does another, which is answered the same and is the same then.
+/// A book obeys the lines whatever is refused to it, and so does another, which is answered the
+/// same and is the same then.
 fn are_obeyed(rt: &impl Abort, alloc: Global, lines: &[&[u8]]) -> bool {
     let mut first = on_trial(rt, alloc);
     let mut second = on_trial(rt, alloc);

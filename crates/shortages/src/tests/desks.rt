@@ -13,7 +13,8 @@ use std::alloc::Global;
 use std::process::Abort;
 use std::sync::Wait;
 
-/// A desk for one viewer over a fresh book, which comes back as it was where memory is refused, and is opened again.
+/// A desk for one viewer over a fresh book, which comes back as it was where memory is refused, and
+/// is opened again.
 fn opened(rt: &impl Abort, alloc: Global, twin: &mut Trial) -> (Desk<2>, Vec<DeskPass<2>>)
     ensures each { Every (IsNewViewer result.0) result.1.items }
 {
@@ -62,12 +63,14 @@ const LINES: &[&[u8]] = &[
     b"markat 2",
 ];
 
-/// Whether a call has to be asked again: it was not recorded, or it was recorded that memory was refused to its command.
+/// Whether a call has to be asked again: it was not recorded, or it was recorded that memory was
+/// refused to its command.
 fn is_refused(answer: Answer) -> bool {
     answer == Ok(Err(Refusal::NoMemory)) || answer == Err(DeskRefusal::NotRecorded)
 }
 
-/// Asks a command, and again if memory was refused. Answers whether it was obeyed or refused for another reason.
+/// Asks a command, and again if memory was refused. Returns whether it was obeyed or refused for
+/// another reason.
 fn asks<R: Wait>(rt: &R, desk: &Desk<2>, pass: &mut DeskPass<2>, command: &Command) -> bool
     requires own { IsViewerOf desk.now pass.old }
     ensures own { IsViewerOf desk.now pass.new }
@@ -104,8 +107,8 @@ fn last_pass(rt: &impl Abort, desk: &Desk<2>, mut passes: Vec<DeskPass<2>>) -> D
     passes.pop().expect(rt, "no pass")
 }
 
-/// Whether a history has a call for what each line spells, in order, answered as the book answers it. Before one of them there may be
-/// another call of the same command, which was refused memory.
+/// Whether a history has a call for what each line spells, in order, answered as the book answers
+/// it. Before one of them there may be another call of the same command, which was refused memory.
 fn has_calls_in_order(history: &History, book: &mut Book<2>) -> bool {
     let mut next = 0;
     for number in 1..history.len() + 1 {

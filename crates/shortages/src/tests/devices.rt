@@ -1,4 +1,5 @@
-//! Devices in memory that fail at a call of a given number, give or take one byte a call, or take none.
+//! Devices in memory that fail at a call of a given number, give or take one byte a call, or take
+//! none.
 
 mod runs;
 mod texts;
@@ -21,11 +22,11 @@ const ENDS: [End; 2] = [End::Fails, End::TakesNone];
 /// What a writer takes.
 #[derive(Clone, Copy)]
 pub(super) struct Limit {
-    /// How many calls take bytes; those behind them don't.
+    /// How many calls take bytes; those after them don't.
     calls: usize,
     /// The most bytes that a call takes.
     most: usize,
-    /// What the calls behind them do.
+    /// What the calls after them do.
     end: End,
 }
 
@@ -79,14 +80,14 @@ impl<'a> Write for PageWriter<'a> {
 #[derive(Drop)]
 pub(super) struct StripReader<'a> {
     rest: &'a [u8],
-    /// How many calls give bytes or the end; those behind them fail.
+    /// How many calls give bytes or the end; those after them fail.
     good_calls: usize,
     /// The most bytes that a call gives.
     most: usize,
 }
 
 impl<'a> StripReader<'a> {
-    /// A reader that gives so many bytes a call, for so many calls, and then fails.
+    /// A reader that gives this many bytes a call, for this many calls, and then fails.
     pub(super) fn of(rest: &'a [u8], good_calls: usize, most: usize) -> StripReader<'a> {
         StripReader {
             rest,

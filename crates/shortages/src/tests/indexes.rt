@@ -1,4 +1,5 @@
-//! An index of steps that is refused memory: it finds what it found before, and takes the steps the next time.
+//! An index of steps that is refused memory: it finds what it found before, and takes the steps the
+//! next time.
 
 ghost use Rattle.rd_depend.specs.Index.{IsIndexOf};
 
@@ -57,7 +58,8 @@ impl Indexed {
         false
     }
 
-    /// Whether there is a position for each entry, and each first dependant is the one that a scan finds.
+    /// Whether there is a position for each entry, and each first dependant is the one that a scan
+    /// finds.
     fn finds_all(&self) -> bool {
         for at in 0..self.entries.len() {
             if !self.finds_at(at) {
@@ -74,7 +76,8 @@ type Access = (u8, Option<Place>, Wrote);
 /// A segment that actor 1 made.
 const MADE: SegName = SegName { maker: 1, n: 0 };
 
-/// Steps at many places by many actors, so that each list and each table of an index grows more than once.
+/// Steps at many places by many actors, so that each list and each table of an index grows more
+/// than once.
 const STEPS: [Access; 16] = [
     (1, None, Wrote::Nothing),
     (1, Some(Place::QTail), Wrote::Nothing),
@@ -118,7 +121,8 @@ fn fresh(rt: &impl Abort, alloc: Global) -> Indexed {
         .expect(rt, "refused memory twice")
 }
 
-/// Pushes an entry, again if memory was refused. Answers whether it was pushed at last, and the index found all there was between.
+/// Pushes an entry, again if memory was refused. Returns whether it was pushed at last, and the
+/// index found all there was between.
 fn is_pushed(indexed: &mut Indexed, entry: Entry) -> bool {
     indexed.push(entry).is_ok() || indexed.finds_all() && indexed.push(entry).is_ok()
 }

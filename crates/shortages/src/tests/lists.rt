@@ -38,7 +38,8 @@ fn count_refused(answers: &[Result<Reply, Refusal>]) -> usize {
         .count()
 }
 
-/// Whether a book answers the commands as this list has it, but for one that was refused memory, which it does not obey.
+/// Whether a book answers the commands as this list has it, but for one that was refused memory,
+/// which it does not obey.
 fn follows(book: &mut Book<2>, answers: &[Result<Reply, Refusal>]) -> bool {
     for i in 0..COMMANDS.len().min(answers.len()) {
         let refused = answers[i] == Err(Refusal::NoMemory);
@@ -49,7 +50,8 @@ fn follows(book: &mut Book<2>, answers: &[Result<Reply, Refusal>]) -> bool {
     answers.len() == COMMANDS.len() && count_refused(answers) < 2
 }
 
-/// Whether a book was asked the list and its twin follows. If not, the room for the answers was refused, and the book is as its twin.
+/// Whether a book was asked the list and its twin follows. If not, the room for the answers was
+/// refused, and the book is as its twin.
 fn is_asked(rt: &impl Abort, alloc: Global, first: &mut Trial, second: &mut Trial) -> bool {
     let asked = match first.book.apply_all(alloc, &COMMANDS) {
         Ok(answers) => {

@@ -3,7 +3,8 @@
 use super::trials::{Trial, look, plays};
 use std::alloc::Global;
 
-/// Two bookmarks of which neither begins the other, and the race of two actors to put a new ring behind a full one. Thirty steps are live.
+/// Two bookmarks of which neither begins the other, and the race of two actors to put a new ring
+/// behind a full one. Thirty steps are live.
 const BEFORE: &[&[u8]] = &[
     b"deq 3",
     b"mark x",
@@ -65,7 +66,7 @@ fn ready(alloc: Global) -> Option<Trial> {
     }
 }
 
-/// Makes the moves, and looks at the book after them. Answers whether they were answered as ever.
+/// Makes the moves, and looks at the book after them. Returns whether they were answered as ever.
 fn moves(trial: &mut Trial) -> bool {
     trial.report.clear();
     plays(&mut trial.book, &[MOVES], &mut trial.report)
@@ -73,8 +74,8 @@ fn moves(trial: &mut Trial) -> bool {
         && look(&mut trial.book, &mut trial.seen).is_some()
 }
 
-/// A book answers as ever to moves and queries behind a comparison that may be refused memory, and is as its twin then, which had made the
-/// moves before it.
+/// A book answers as ever to moves and queries after a comparison that may be refused memory, and
+/// is as its twin then, which had made the moves before it.
 fn answers_as_ever(trial: &mut Trial, twin: &mut Trial) -> bool {
     let before = moves(twin);
     let compared = plays(&mut trial.book, &[b"same x y"], &mut trial.report);

@@ -7,7 +7,7 @@ use rd_trace::{AnyBook, LoadTraceFault, WriteTraceFault, load_trace, write_trace
 use std::alloc::Global;
 use std::process::Abort;
 
-/// The lines of a session: seven steps, a bookmark behind them, and two undos.
+/// The lines of a session: seven steps, a bookmark after them, and two undos.
 pub(super) const STEPS: &[&[u8]] = &[
     b"enq 1 7",
     b"go 1",
@@ -24,7 +24,8 @@ pub(super) const STEPS: &[&[u8]] = &[
 pub(super) const TRACE: &[u8] =
     b"{\"events\":[[\"enq\",1,7],[\"go\",1],[\"aenq\",2,18446744073709551615],[\"deq\",3],[\"go\",3]],\"marks\":[{\"events\":[[\"enq\",1,7],[\"go\",1],[\"aenq\",2,18446744073709551615],[\"deq\",3],[\"go\",3],[\"go\",3],[\"go\",3]],\"name\":\"a\"}],\"ring\":2,\"start\":{\"fresh\":4},\"undone\":[[\"go\",3],[\"go\",3]],\"version\":2}\n";
 
-/// Whether a trace was written whole, as this text. If not, memory was refused, and nothing was written.
+/// Whether a trace was written whole, as this text. If not, memory was refused, and nothing was
+/// written.
 fn is_whole(
     rt: &impl Abort,
     answer: Result<(), WriteTraceFault>,
@@ -43,7 +44,8 @@ fn is_whole(
     }
 }
 
-/// Whether the trace of a book is written as it should be. If not, memory was refused, and nothing was written.
+/// Whether the trace of a book is written as it should be. If not, memory was refused, and nothing
+/// was written.
 fn is_written(rt: &impl Abort, alloc: Global, book: &Book<2>, page: &mut Vec<u8>) -> bool {
     page.clear();
     let answer = write_trace(alloc, &mut WriteSink::new(&mut *page), book);
@@ -81,8 +83,8 @@ const FIRST_ROWS: &[Row] = &[
     },
 ];
 
-/// Traces of version 2: one with bookmarks and undone events, one with an undone event alone, one with a bookmark alone, and one
-/// that starts with its actor at the fetch-and-add of an enqueue.
+/// Traces of version 2: one with bookmarks and undone events, one with an undone event alone, one
+/// with a bookmark alone, and one that starts with its actor at the fetch-and-add of an enqueue.
 const ROWS: &[Row] = &[
     Row {
         trace: TRACE,

@@ -1,5 +1,5 @@
-//! A book on trial: it obeys lines, each of which may be refused memory. Where one is, the book must be as it was, and the line is
-//! played again.
+//! A book on trial: it obeys lines, each of which may be refused memory. Where one is, the book
+//! must be as it was, and the line is played again.
 
 use rd_cell::Refusal;
 use rd_journal::Session;
@@ -12,12 +12,14 @@ use std::process::Abort;
 /// What is written for a line that was refused memory.
 const REFUSED: &[u8] = b"refused 20 NoMemory\n";
 
-/// How the lines begin that may be refused memory: those that make a step, set a bookmark, go to one, or compare two.
+/// How the lines begin that may be refused memory: those that make a step, set a bookmark, go to
+/// one, or compare two.
 const TAKERS: [&[u8]; 9] = [
     b"enq ", b"deq ", b"aenq ", b"adeq ", b"go ", b"starve ", b"mark ", b"goto ", b"same ",
 ];
 
-/// Queries whose replies are all that a book of these tests has: its counts and bookmarks, each place and each actor, and its live steps.
+/// Queries whose replies are all that a book of these tests has: its counts and bookmarks, each
+/// place and each actor, and its live steps.
 pub(super) const QUERIES: &[&[u8]] = &[
     b"len\nmarks\nmarkat 1\nmarkat 2\nmarkat 3\nmarkat 4",
     b"show qhead\nshow qtail\nshow ahead\nshow atail\nshow acell 0\nshow acell 1",
@@ -58,7 +60,8 @@ impl Trial {
         })
     }
 
-    /// Obeys each line. Answers whether each was played with memory at last, and changed nothing where it was refused some.
+    /// Obeys each line. Returns whether each was played with memory at last, and changed nothing
+    /// where it was refused some.
     pub(super) fn obeys_all(&mut self, lines: &[&[u8]]) -> bool {
         for line in lines {
             if !self.obeys(line) {
@@ -85,7 +88,8 @@ impl Trial {
         same && seen.is_some() && played && may_take_memory(line) && !self.report.ends_with(REFUSED)
     }
 
-    /// Whether two books are the same: their worlds, their live and their undone steps, and their bookmarks.
+    /// Whether two books are the same: their worlds, their live and their undone steps, and their
+    /// bookmarks.
     pub(super) fn is_as(&mut self, other: &mut Trial) -> bool {
         let seen = look(&mut self.book, &mut self.seen);
         let others = look(&mut other.book, &mut other.seen);
@@ -110,8 +114,8 @@ fn may_take_memory(line: &[u8]) -> bool {
     false
 }
 
-/// Plays scripts over a book, one behind another, and writes their reports behind what is on the page. Answers whether all were played to
-/// their ends.
+/// Plays scripts over a book, one after another, and writes their reports after what is on the
+/// page. Returns whether all were played to their ends.
 pub(super) fn plays(book: &mut Book<2>, scripts: &[&[u8]], page: &mut Vec<u8>) -> bool {
     for script in scripts {
         let played = run(
@@ -131,15 +135,16 @@ pub(super) fn has_text(page: &Vec<u8>, text: &[u8]) -> bool {
     page.as_slice() == text
 }
 
-/// Writes on the page what a book is: what the queries answer, and what they answer when its undone steps are made again. Answers how
-/// many nodes it keeps for its bookmarks.
+/// Writes on the page what a book is: what the queries answer, and what they answer when its undone
+/// steps are made again. Answers how many nodes it keeps for its bookmarks.
 pub(super) fn look(book: &mut Book<2>, page: &mut Vec<u8>) -> Option<u64> {
     page.clear();
     let asked = plays(book, QUERIES, page) && look_ahead(book, page);
     if asked { Some(book.nodes()) } else { None }
 }
 
-/// Makes the undone steps of a book again, writes what the queries answer then, and undoes the steps.
+/// Makes the undone steps of a book again, writes what the queries answer then, and undoes the
+/// steps.
 fn look_ahead(book: &mut Book<2>, page: &mut Vec<u8>) -> bool {
     let undone = book.session().undone_len();
     undone == 0

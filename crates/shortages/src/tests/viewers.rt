@@ -82,7 +82,8 @@ fn fate_of(viewer: u64, calls: u64, ran: &Ran<u64>) -> Fate {
     }
 }
 
-/// Whether both viewers are started and answered. If not, memory was refused: to one of them, who asked nothing, or to both.
+/// Whether both viewers are started and answered. If not, memory was refused: to one of them, who
+/// asked nothing, or to both.
 fn are_answered<R: Abort + Threads + Wait + Sync>(rt: &R, alloc: Global) -> bool {
     let gate = Counter {
         first: AtomicU64::new(0),

@@ -28,7 +28,7 @@ fn script(rt: &impl Abort, alloc: Global, text: &[u8]) -> Vec<u8> {
         .expect(rt, "refused memory twice")
 }
 
-/// Views the two scripts over a fresh book. Answers the fault, if there was one.
+/// Views the two scripts over a fresh book. Returns the fault, if there was one.
 pub(super) fn viewed<R: Abort + Threads + Wait + Sync>(
     rt: &R,
     alloc: Global,
@@ -43,7 +43,8 @@ pub(super) fn viewed<R: Abort + Threads + Wait + Sync>(
     view_scripts(rt, alloc, scripts.as_slice(), &mut sink, book).err()
 }
 
-/// Whether a view has the usual text. If not, memory was refused: it has none of it, or one that says to whom.
+/// Whether a view has the usual text. If not, memory was refused: it has none of it, or one that
+/// says to whom.
 fn is_usual<R: Abort + Threads + Wait + Sync>(rt: &R, alloc: Global, page: &mut Vec<u8>) -> bool {
     page.clear();
     let fault = viewed(rt, alloc, PageWriter::that_works(page));

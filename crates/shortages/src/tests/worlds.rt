@@ -57,7 +57,8 @@ fn is_made(rt: &impl Abort, made: Result<World<2>, Refusal>, usual: &World<2>) -
     }
 }
 
-/// Of three worlds that were made alike at most one was refused memory, and the others are the same.
+/// Of three worlds that were made alike at most one was refused memory, and the others are the
+/// same.
 fn are_made(
     rt: &impl Abort,
     first: Result<World<2>, Refusal>,

@@ -2,6 +2,6 @@ use Rattle.std.proofs.Common.{◌≡◌, ◌++◌, drop}
 use Rattle.rd_view.specs.Viewing.{commands_of}
 use Rattle.rd_view.proofs.viewing.commands_in.Given as goal
 
--- the commands so far, and those of the lines behind them
+-- the commands so far, and those of the lines after them
 abbrev pub invariant-loop-line : goal.invariant-loop-line
 invariant-loop-line l = commands_of l.said ≡ l.commands.items ++ commands_of (drop l.line-index l.said)

@@ -7,7 +7,8 @@ use rd_script::{ReadSource, ScriptFault, WriteSink, run};
 use std::alloc::Global;
 use std::process::Abort;
 
-/// A script with each command, obeyed or refused, and lines that spell none. Its last line has no line feed.
+/// A script with each command, obeyed or refused, and lines that spell none. Its last line has no
+/// line feed.
 const SCRIPT: &[u8] =
     b"enq 1 7\ngo 1\nmark a\nhello\n\ngo 9\nundo\nundo 5\nredo\ndeq 2\naenq 3 5\nadeq 4\nstarve 1 yes\nback 2\nforward 1\nroll 1\nshow qtail\nactor 1\nstep 1\nmark A\nsame a b\ngoto a\nmarkat 1\norigin 1\nwriter qtail\ndrop a\nmarks\nlen";
 
@@ -44,7 +45,8 @@ fn fault_of(
     .err()
 }
 
-/// A run whose reader gives one byte a call and fails behind so many: the whole lines among these are obeyed and answered, and no more.
+/// A run whose reader gives one byte a call and fails after this many: the whole lines among these
+/// are obeyed and answered, and no more.
 fn read_fails(failed: &mut Trial, twin: &mut Trial, bytes: usize) -> bool {
     let reader = StripReader::of(SCRIPT, bytes, 1);
     let writer = PageWriter::that_works(&mut failed.report);
@@ -70,7 +72,8 @@ fn a_read_that_fails_at_any_call_leaves_the_whole_lines_before_it_done(rt: HostR
     }
 }
 
-/// A run whose writer takes no more than this: the line whose answer it was to take is obeyed, and no later one.
+/// A run whose writer takes no more than this: the line whose answer it was to take is obeyed, and
+/// no later one.
 fn write_fails(failed: &mut Trial, twin: &mut Trial, limit: Limit) -> bool {
     let reader = StripReader::of(SCRIPT, usize::MAX, usize::MAX);
     let writer = PageWriter::that_ends(&mut failed.report, limit);
@@ -129,7 +132,8 @@ fn a_write_that_takes_nothing_at_any_call_leaves_the_lines_up_to_it_done(rt: Hos
     replies_fail(&rt, rt.alloc(), End::TakesNone);
 }
 
-/// Whether a run whose reader gives, and whose writer takes, one byte a call is as one over devices that do all at once.
+/// Whether a run whose reader gives, and whose writer takes, one byte a call is as one over devices
+/// that do all at once.
 fn is_run(slow: &mut Trial, twin: &mut Trial) -> bool {
     let limit = Limit {
         calls: usize::MAX,
@@ -163,7 +167,8 @@ struct Row {
     live: u64,
 }
 
-/// A reader that gives all that there is and then fails, and a writer that takes three bytes and then fails.
+/// A reader that gives all that there is and then fails, and a writer that takes three bytes and
+/// then fails.
 const ROWS: [Row; 2] = [
     Row {
         script: b"enq 1 7\ngo 1\ngo",

@@ -1,4 +1,5 @@
-//! Traces and views that are written to a writer which takes one byte a call, and ends at each of its calls.
+//! Traces and views that are written to a writer which takes one byte a call, and ends at each of
+//! its calls.
 
 use super::super::trials::on_trial;
 use super::super::{traces, views};
@@ -12,7 +13,7 @@ use std::process::Abort;
 use std::sync::Wait;
 use std::thread::Threads;
 
-/// Whether a trace whose writer ends behind so many bytes ends with just these written.
+/// Whether a trace whose writer ends after this many bytes ends with just these written.
 fn trace_ends(alloc: Global, book: &Book<2>, page: &mut Vec<u8>, calls: usize, end: End) -> bool {
     page.clear();
     let most = 1;
@@ -35,7 +36,7 @@ fn a_trace_whose_writer_ends_at_any_call_leaves_a_beginning_of_its_text(rt: Host
     }
 }
 
-/// Whether a view whose writer ends behind so many bytes ends with just these written.
+/// Whether a view whose writer ends after this many bytes ends with just these written.
 fn view_ends<R: Abort + Threads + Wait + Sync>(
     rt: &R,
     page: &mut Vec<u8>,

@@ -31,7 +31,7 @@ first_up_to : (k n : ℕ) (held : Bool) (mid : List ℕ) → k ≤ n → AreUpTo
 first_up_to k n true mid le h = (le, h)
 first_up_to k n false mid le h = h
 
--- where the positions stand in three parts, the part between is turned
+-- where the positions are in three parts, the part between is turned
 parts_moved : (k n start end : ℕ) (ps turned low mid high : List ℕ) (held : Bool) → end ≡ length (with_first held k mid)
     → take start ps ≡ low → drop start ps ≡ with_first held k mid ++ high
     → (take (start + end - start) (drop start ps) ≡ with_first held k mid → turned ≡ map (λ p. p - 1) mid ++ with_first held n [])

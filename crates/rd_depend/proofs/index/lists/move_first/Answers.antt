@@ -3,7 +3,7 @@ use Rattle.std.proofs.Math.Seq.{set-append_seam}
 use Rattle.rd_depend.specs.Lists.{AscendsFrom, with_first}
 use Rattle.rd_depend.proofs.index.lists.move_first.Goals as goal
 
--- where the first is k once it was lowered, it was k before, and goes behind the others
+-- where the first is k once it was lowered, it was k before, and goes after the others
 turned : (k n : ℕ) (ps qs rs later : List ℕ) (held : Bool) → 1 ≤ k → AscendsFrom (suc k) later → ps ≡ with_first held k later → qs ≡ map (λ p. p - 1) ps
     → 0 < length qs → get_or qs 0 0 ≡ k - 1 → rs ≡ drop 1 qs ++ take 1 qs → set rs (length qs - 1) n ≡ map (λ p. p - 1) later ++ with_first held n []
 turned k n ps qs rs later true some h was low has is turn =

@@ -17,7 +17,7 @@ use Rattle.rd_journal.proofs.records.gathering.gather.Goals.{then-depends_behind
 told : (before block : List Entry) (x : Entry) (b : Bool) (n : ℕ) → length before ≡ n → b ≡ depends_on_one (drop n (before ++ block)) x → depends_on_one block x ≡ b
 told before block x b n len h = ap (λ (xs : List Entry). depends_on_one xs x) (sym (drop_at before block n len)) ∙ sym h
 
--- what the order is when the gathered numbers were put behind those that stay
+-- what the order is when the gathered numbers were put after those that stay
 written : (n f live : ℕ) (now dm copied gathered : List ℕ) → n ≡ length now → dm ≡ now → copied ≡ gathered → f + length gathered ≡ live → live ≤ length now
     → let ys = put_mid f (live - f) dm copied in take n (ys ++ drop (length ys) now) ≡ take f now ++ (gathered ++ drop live now)
 written n f live now dm copied gathered len same its number within =

@@ -2,7 +2,7 @@ use Rattle.std.proofs.Common.{◌≡◌, ◌-◌, ◌≤◌, false, length, take
 use Rattle.std.specs.Io.KnownBytes.{Appends}
 use Rattle.rd_script.proofs.devices.sinks.hand_over.Given as goal
 
--- so many bytes were taken
+-- this many bytes were taken
 abbrev pub invariant-loop-done : goal.invariant-loop-done
 invariant-loop-done g l = record {
   works : g.K.Sink.has_failed l.writer ≡ false;
