@@ -5,8 +5,8 @@
 
 It prints a Markdown table, a row a crate in the order of crates.txt. Code is what `src/` has but
 tests, contracts included; definitions are `specs/`, proofs are `proofs/`; tests are `src/tests.rt`,
-`src/tests/` and the proofs of these, in the crate or in the one with `_tests` after its name. Which
-definitions a contract reaches is said by `definitions.py`.
+`src/tests/` and the proofs of these, in the crate or in the one with `_tests` after its name, and
+all that `machine_tests` has. Which definitions a contract reaches is said by `definitions.py`.
 
 A line counts if it is neither blank nor a comment alone. Only Python's standard library is used.
 """
@@ -46,6 +46,8 @@ def counts_of(crate):
     counts = dict.fromkeys(KINDS, 0)
     for path in sorted(crate.rglob("*")):
         kind = kind_of(path.relative_to(crate).parts)
+        if kind and crate.name.endswith(TESTS):
+            kind = "tests"
         if kind and path.suffix in COMMENT:
             counts[kind] += lines_in(path)
     return counts
@@ -66,8 +68,9 @@ def print_crates():
     """Prints the table of all crates."""
     total = dict.fromkeys(KINDS, 0)
     print_head("Crate", "Code", "Definitions", "Proofs", "Tests", "All")
-    for name in crate_names():
-        if name.endswith(TESTS):
+    names = crate_names()
+    for name in names:
+        if name.endswith(TESTS) and name.removesuffix(TESTS) in names:
             continue
         counts, tests = counts_of(CRATES / name), counts_of(CRATES / (name + TESTS))
         counts["tests"] += tests["tests"]
