@@ -27,8 +27,10 @@ use Rattle.rd_step.specs.contracts.worlds.World as World
 use Rattle.rd_journal.specs.contracts.records.Records as Records
 use Rattle.rd_journal.specs.contracts.sessions.Session as Session
 use Rattle.rd_marks.specs.contracts.books.Book as Book
-use Rattle.rd_marks.specs.contracts.tree.Node as Node
-use Rattle.rd_marks.specs.contracts.tree.Tree as Tree
+use Rattle.rd_marks.specs.contracts.bookmarks.Bookmarks as Bookmarks
+use Rattle.rd_marks.specs.contracts.stretches.Place as MarkPlace
+use Rattle.rd_marks.specs.contracts.stretches.Stretch as Stretch
+use Rattle.rd_marks.specs.contracts.stretches.Stretches as Stretches
 use Rattle.rd_marks.specs.contracts.names.MarkName as MarkName
 use Rattle.rd_marks.specs.contracts.commands.Command as Command
 use Rattle.rd_marks.specs.contracts.replies.Reply as Reply
@@ -92,17 +94,23 @@ records_fields = search (entry_send, sendable, crosses) depth 60 fits 100000
 pub session_fields : (R : RattleType) → IsSend (Session.the_field R).row
 session_fields R = struct_send (shape (Session.the_type R)) (world_fields R, (records_fields, (search (sendable, crosses) depth 60 fits 100000, (search (sendable, crosses) depth 60 fits 100000, tt))))
 
-pub node_fields : IsSend (Node.the_field).row
-node_fields = struct_send (shape Node.the_type) (search (sendable, crosses) depth 60 fits 100000, (search (sendable, crosses) depth 60 fits 100000, (search (sendable, crosses) depth 60 fits 100000, (search (sendable, crosses) depth 60 fits 100000, tt))))
+pub mark_place_send : IsSend MarkPlace.the_row
+mark_place_send = search (sendable, crosses) depth 60 fits 100000
 
-pub node_send : IsSend Node.the_row
-node_send = recorded_send _ _ _ (Node.the_type).to_one node_fields
+pub stretch_fields : IsSend (Stretch.the_field).row
+stretch_fields = struct_send (shape Stretch.the_type) (search (sendable, crosses) depth 60 fits 100000, (search (entry_send, sendable, crosses) depth 60 fits 100000, tt))
 
-pub tree_fields : IsSend (Tree.the_field).row
-tree_fields = search (node_send, entry_send, sendable, crosses) depth 60 fits 100000
+pub stretch_send : IsSend Stretch.the_row
+stretch_send = recorded_send _ _ _ (Stretch.the_type).to_one stretch_fields
+
+pub stretches_fields : IsSend (Stretches.the_field).row
+stretches_fields = search (stretch_send, sendable, crosses) depth 60 fits 100000
+
+pub bookmarks_fields : IsSend (Bookmarks.the_field).row
+bookmarks_fields = struct_send (shape Bookmarks.the_type) (search (name_send, mark_place_send, sendable, crosses) depth 60 fits 100000, (stretches_fields, (search (mark_place_send, sendable, crosses) depth 60 fits 100000, tt)))
 
 pub book_fields : (R : RattleType) → IsSend (Book.the_field R).row
-book_fields R = struct_send (shape (Book.the_type R)) (session_fields R, (tree_fields, (search (name_send, sendable, crosses) depth 60 fits 100000, (search (sendable, crosses) depth 60 fits 100000, (search (sendable, crosses) depth 60 fits 100000, tt)))))
+book_fields R = struct_send (shape (Book.the_type R)) (session_fields R, (bookmarks_fields, (search (sendable, crosses) depth 60 fits 100000, tt)))
 
 pub book_send : (R : RattleType) → IsSend (Book.the_row R)
 book_send R = recorded_send _ _ _ (Book.the_type R).to_one (book_fields R)

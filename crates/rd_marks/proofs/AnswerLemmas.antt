@@ -1,12 +1,15 @@
 -- What moves, events and marks are answered, from what the calls say of their results.
-use Rattle.std.proofs.Common.{◌≡◌, ℕ, sym, ap, ◌∙◌, length, Option, Result, Ok, Err, OnOk, OnErr, IfErr}
+use Rattle.std.proofs.Common.{◌≡◌, ℕ, sym, ap, ◌∙◌, List, length, Option, Result, Ok, Err, OnOk, OnErr, IfErr}
 use Rattle.rd_step.specs.Prelude.{Refusal, OpReply}
+use Rattle.rd_step.specs.declared.entries.Entry.{Entry}
 use Rattle.rd_step.specs.declared.entries.Event.{Event}
 use Rattle.rd_journal.specs.Journal.{Journal}
 use Rattle.rd_journal.specs.State.{State, state_of, apply, reply_to}
 use Rattle.rd_marks.specs.declared.replies.Reply.{Reply}
 use Rattle.rd_marks.specs.declared.replies.Reply.TheVariants.{Applied}
-use Rattle.rd_marks.specs.Books.{BookState, with_session}
+use Rattle.rd_marks.specs.declared.names.MarkName.{MarkName}
+use Rattle.rd_marks.specs.Books.{Mark, BookState, with_session}
+use Rattle.rd_marks.specs.Marks.{marks_of}
 use Rattle.rd_marks.specs.Commands.{step_counts, move_answer, event_answer, happens}
 
 -- a move through the run, as its call and the answer made of it say
@@ -20,6 +23,16 @@ move_answered (Err e) b i j moved answer same ok err unchanged went stayed =
     (λ k. record { answer = stayed k; state = with_session b (state_of (unchanged k)) })
     ∙ ap (λ (s : State). record { answer = Err e; state = with_session b s }) same
     ∙ ap (move_answer b) (sym err)
+
+-- the same where the bookmarks' records stay
+pub move_answered_with : (done : Result (Unit {0}) Refusal) (b : BookState) (i j : Journal) (moved : Result State Refusal) (answer : Result Reply Refusal) (kept : List (MarkName × List Entry))
+    → (lists : List (MarkName × List Entry)) → kept ≡ lists → b.marks ≡ marks_of lists
+    → state_of i ≡ b.session → OnOk done (moved ≡ Ok (state_of j)) → IfErr done (λ e. moved ≡ Err e) → OnErr done (j ≡ i)
+    → OnOk done (answer ≡ Ok (step_counts (state_of j))) → IfErr done (λ e. answer ≡ Err e)
+    → record { answer = answer; state = record { session = state_of j; marks = marks_of kept } } ≡ move_answer b moved
+move_answered_with done b i j moved answer kept lists same marks of_i ok err unchanged went stayed =
+    ap (λ (ms : List Mark). record { answer = answer; state = record { session = state_of j; marks = ms } }) (ap marks_of same ∙ sym marks)
+    ∙ move_answered done b i j moved answer of_i ok err unchanged went stayed
 
 -- an event that happened
 pub event_happened : (R : ℕ) (b : BookState) (s : State) (e : Event) (n : ℕ) (reply : Option OpReply) → apply R b.session e ≡ Ok s → n ≡ length s.live

@@ -1,136 +1,258 @@
--- The nodes of a tree are as many as the lists that begin the events of its marks, the empty one apart.
-use Rattle.std.proofs.Common.{◌≡◌, ℕ, suc, ◌+◌, inl, inr, refl, sym, ap, ◌∙◌, subst, List, [], ◌∷◌, length, take, get_or, map, Option, Some, None, All, Contains, zero-add, arith}
-use Rattle.std.proofs.lemmas.List.{get_or-map, length-map, map-append}
-use Rattle.std.proofs.lemmas.List.Elements.{All-contains}
-use Rattle.slab.specs.Slab.{Slab, get, entries, entries_from, slab_len}
-use Rattle.slab.proofs.SlabLemmas.{Contains-cons, Contains-cons_cases, Contains-entries, length-entries}
+-- The records of the stretches are as many as the lists that begin the events of a bookmark, the empty one apart.
+use Rattle.std.proofs.Common.{◌≡◌, ℕ, zero, suc, ◌+◌, ◌-◌, ◌<◌, ◌≤◌, inl, inr, refl, sym, ap, ◌∙◌, subst, List, [], ◌∷◌, ◌++◌, length, take, map, sum_by, Contains, length-append, length-take, arith}
+use Rattle.std.specs.List.{range_with_len}
+use Rattle.std.proofs.Math.Seq.{take-length}
+use Rattle.std.proofs.lemmas.Bool.{cases_lt, cases_eq}
+use Rattle.std.proofs.lemmas.Bool.Decides.{nat_tests}
+use Rattle.std.proofs.lemmas.List.{get_or-map, length-map, length-take-le, take-map, take-take}
+use Rattle.std.proofs.lemmas.List.FromFn.{length-map-range_with_len, get_or-map-range_with_len}
+use Rattle.std.proofs.lemmas.List.Sums.{sum_by-cons}
+use Rattle.std.proofs.lemmas.List.Elements.{Contains-append_left, Contains-append_right, Contains-append_cases}
 use Rattle.rd_step.specs.Run.{events}
 use Rattle.rd_step.specs.declared.entries.Event.{Event}
 use Rattle.rd_step.specs.declared.entries.Entry.{Entry}
 use Rattle.rd_depend.specs.Beginnings.{Begins}
 use Rattle.rd_marks.specs.declared.names.MarkName.{MarkName}
-use Rattle.rd_marks.specs.declared.tree.Node.{Node}
+use Rattle.rd_marks.specs.declared.stretches.Stretch.{Stretch}
+use Rattle.rd_marks.specs.declared.stretches.Place.{Place}
 use Rattle.rd_marks.specs.Beginnings.{IsBeginning, AreDistinct, CountsBeginnings}
 use Rattle.rd_marks.specs.Books.{Mark}
 use Rattle.rd_marks.specs.Marks.{mark_of, marks_of}
-use Rattle.rd_marks.specs.Tree.{IsIn, depth_in, path_in, IsTree}
-use Rattle.rd_marks.specs.TreeLayout.{tree_of, node_of, AreRecorded}
-use Rattle.rd_marks.specs.Uses.{AreUsedExcept}
-use Rattle.rd_marks.proofs.NodeLemmas.{recorded_at, node_there}
-use Rattle.rd_marks.proofs.TreeLemmas.{is_there, deep, depth_there, events_length, same_path}
-use Rattle.rd_marks.proofs.Switches.{on_way, begins_with, begins_shorter}
-use Rattle.rd_marks.proofs.Sharing.{on_path}
+use Rattle.rd_marks.specs.Layout.{lists_of}
+use Rattle.rd_marks.specs.Stretches.{list_of, shared_at, records_at, AreNested, AreFresh, number_in, greatest_in, AreNeeded, IsAlong, count_of}
+use Rattle.rd_marks.proofs.StretchLists.{own_at, list_past, shared_past, shared_within, total, begins_shared}
+use Rattle.rd_marks.proofs.Fresh.{along_within, not_both}
 
--- the elements of a mapped list
-contains_mapped : {X Y : Type 0} (f : X → Y) (xs : List X) (x : X) → Contains xs x → Contains (map f xs) (f x)
+-- Elements
+
+contains_first : {X : Type 0} (x : X) (xs : List X) → Contains (x ∷ xs) x
+contains_first x xs = (0, omega arith, refl)
+
+contains_later : {X : Type 0} (x y : X) (xs : List X) → Contains xs y → Contains (x ∷ xs) y
+contains_later x y xs c = Contains-append_right (x ∷ []) xs y c
+
+pub contains_mapped : {X Y : Type 0} (f : X → Y) (xs : List X) (x : X) → Contains xs x → Contains (map f xs) (f x)
 contains_mapped f xs x c = (c.0, omega (arith, c.1, length-map xs f), get_or-map f xs c.0 x (f x) c.1 ∙ ap f c.2)
 
 mapped_contains : {X Y : Type 0} (f : X → Y) (xs : List X) (y : Y) → Contains (map f xs) y → (x : X) × Contains xs x × (f x ≡ y)
 mapped_contains f [] y c = absurd (omega (arith, c.1))
-mapped_contains f (x ∷ xs) y c =
-    elim (Contains-cons_cases (f x) y (map f xs) c) [
-      | inl here ↦ (x, (0, omega arith, refl), here)
-      | inr later ↦ let rest = mapped_contains f xs y later in (rest.0, Contains-cons x rest.0 xs rest.1, rest.2)
+mapped_contains f (x ∷ xs) y (zero, h, e) = (x, contains_first x xs, e)
+mapped_contains f (x ∷ xs) y (suc k, h, e) =
+    let rest = mapped_contains f xs y (k, omega (arith, h), e) in
+    (rest.0, contains_later x rest.0 xs rest.1, rest.2)
+
+distinct_joined : {X : Type 0} (xs ys : List X) → AreDistinct xs → AreDistinct ys → ((x : X) → Contains xs x → Contains ys x → ⊥) → AreDistinct (xs ++ ys)
+distinct_joined [] ys h k apart = k
+distinct_joined (x ∷ xs) ys h k apart = (
+  λ c. elim (Contains-append_cases xs ys x c) [ inl first ↦ h.0 first | inr second ↦ apart x (contains_first x xs) second ],
+  distinct_joined xs ys h.1 k (λ y first second. apart y (contains_later x y xs first) second),
+)
+
+-- n beginnings of a list, the first of which has a elements
+abbrev levels : List Event → ℕ → ℕ → List (List Event)
+levels fs a n = map (λ (m : ℕ). take m fs) (range_with_len a n)
+
+level_of : (fs : List Event) (a n : ℕ) (es : List Event) → a + n ≤ suc (length fs) → Contains (levels fs a n) es → (a ≤ length es) × Begins es fs
+level_of fs a n es h c =
+    let inside : c.0 < n = omega (arith, c.1, length-map-range_with_len (λ (m : ℕ). take m fs) a n) in
+    let is = sym (get_or-map-range_with_len (λ (m : ℕ). take m fs) a n c.0 (a + c.0) es inside refl) ∙ c.2 in
+    let long : length es ≡ a + c.0 = ap length (sym is) ∙ length-take-le (a + c.0) fs (omega (arith, inside, h)) in
+    (omega (arith, long), ap (λ (m : ℕ). take m fs) long ∙ is)
+
+of_level : (fs : List Event) (a n : ℕ) (es : List Event) → a ≤ length es → length es < a + n → Begins es fs → Contains (levels fs a n) es
+of_level fs a n es more within b = (
+  length es - a,
+  omega (arith, more, within, length-map-range_with_len (λ (m : ℕ). take m fs) a n),
+  get_or-map-range_with_len (λ (m : ℕ). take m fs) a n (length es - a) (length es) es (omega (arith, more, within)) (omega (arith, more)) ∙ b,
+)
+
+levels_distinct : (fs : List Event) (a n : ℕ) → a + n ≤ suc (length fs) → AreDistinct (levels fs a n)
+levels_distinct fs a zero h = tt
+levels_distinct fs a (suc n) h = (
+  λ c. omega (arith, (level_of fs (a + 1) n (take a fs) (omega (arith, h)) c).0, length-take-le a fs (omega (arith, h))),
+  levels_distinct fs (a + 1) n (omega (arith, h)),
+)
+
+-- The beginnings that are a stretch's own, for each stretch below this number
+
+abbrev own_lists : List Stretch → ℕ → List (List Event)
+own_lists ss i = levels (events (list_of ss i)) (suc (shared_at ss i)) (length (own_at ss i))
+
+abbrev lists_to : List Stretch → ℕ → List (List Event)
+lists_to ss zero = []
+lists_to ss (suc n) = lists_to ss n ++ own_lists ss n
+
+lists_length : (ss : List Stretch) (n : ℕ) → length (lists_to ss (suc n)) ≡ length (lists_to ss n) + length (own_at ss n)
+lists_length ss n =
+    omega (arith, length-append (lists_to ss n) (own_lists ss n), length-map-range_with_len (λ (m : ℕ). take m (events (list_of ss n))) (suc (shared_at ss n)) (length (own_at ss n)))
+
+lists_more : (s : Stretch) (ss : List Stretch) (n : ℕ) → length (lists_to (s ∷ ss) (suc n)) ≡ length s.records.items + length (lists_to ss n)
+lists_more s ss zero = omega (arith, lists_length (s ∷ ss) 0)
+lists_more s ss (suc n) = omega (arith, lists_more s ss n, lists_length (s ∷ ss) (suc n), lists_length ss n)
+
+lists_counted : (ss : List Stretch) → length (lists_to ss (length ss)) ≡ count_of ss
+lists_counted [] = refl
+lists_counted (s ∷ ss) = omega (arith, lists_more s ss (length ss), lists_counted ss)
+
+-- the list is one of those
+abbrev IsListed : List Stretch → ℕ → List Event → Type 0
+IsListed ss n es = (at : ℕ) × (at < n) × (shared_at ss at < length es) × Begins es (events (list_of ss at))
+
+along_begun : (ss : List Stretch) (i : ℕ) (es : List Event) → Begins es (events (list_of ss i)) → IsAlong ss i (length es) es
+along_begun ss i es b = record { enough = omega arith; alike = b ∙ sym (take-length es) }
+
+begun_within : (ss : List Stretch) (i : ℕ) (es : List Event) → Begins es (events (list_of ss i)) → length es ≤ length (list_of ss i)
+begun_within ss i es b = along_within ss i (length es) es (along_begun ss i es b)
+
+-- lists that begin alike are begun by the same
+begun_taken : (es : List Event) (xs ys : List Entry) → take (length es) xs ≡ take (length es) ys → Begins es (events xs) → Begins es (events ys)
+begun_taken es xs ys same b =
+    take-map (λ (x : Entry). x.event) (length es) ys ∙ ap events (sym same) ∙ sym (take-map (λ (x : Entry). x.event) (length es) xs) ∙ b
+
+greatest_there : (i n : ℕ) (ps : List Place) → 0 < n → n ≤ greatest_in i ps → (p : Place) × Contains ps p × (p.stretch ≡ i) × (n ≤ p.number)
+greatest_there i n [] some h = absurd (omega (arith, some, h))
+greatest_there i n (p ∷ ps) some h =
+    elim (cases_lt (number_in i p) n) [
+      | inl less ↦ let rest = greatest_there i n ps some (omega (arith, less, h)) in (rest.0, contains_later p rest.0 ps rest.1, rest.2, rest.3)
+      | inr fine ↦ (p, contains_first p ps, grind (arith, nat_tests), grind (arith, nat_tests))
     ]
 
--- the slot of a listed node
-slot_of : (first : ℕ) (slots : List (Option Node)) (x : ℕ × Node) → Contains (entries_from first slots) x → (at : ℕ) × (x.0 ≡ first + at) × (get_or slots at None ≡ Some x.1)
-slot_of first [] x c = absurd (omega (arith, c.1))
-slot_of first (None ∷ rest) x c =
-    let later = slot_of (first + 1) rest x c in
-    (suc later.0, omega (arith, later.1), later.2)
-slot_of first (Some n ∷ rest) x c =
-    elim (Contains-cons_cases (first, n) x (entries_from (first + 1) rest) c) [
-      | inl here ↦ (0, omega (arith, ap (λ p. p.0) here), ap (λ p. Some p.1) here)
-      | inr later ↦
-          let found = slot_of (first + 1) rest x later in
-          (suc found.0, omega (arith, found.1), found.2)
-    ]
+module _ (ss : List Stretch) (rule : AreNested ss) where
+  fits : (i : ℕ) → suc (shared_at ss i) + length (own_at ss i) ≡ suc (length (events (list_of ss i)))
+  fits i = omega (arith, total ss rule i, length-map (list_of ss i) (λ (x : Entry). x.event))
 
-module _ (nodes : Slab Node) (records : List Entry) (recorded : AreRecorded nodes records) (rule : IsTree (tree_of nodes records)) where
-  -- the events of the path of a listed node
-  abbrev list_of : ℕ × Node → List Event
-  list_of x = events (path_in (tree_of nodes records) (Some x.0))
+  listed : (n : ℕ) (es : List Event) → Contains (lists_to ss n) es → IsListed ss n es
+  listed zero es c = absurd (omega (arith, c.1))
+  listed (suc n) es c =
+      elim (Contains-append_cases (lists_to ss n) (own_lists ss n) es c) [
+        | inl before ↦ let l = listed n es before in (l.0, omega (arith, l.1), l.2, l.3)
+        | inr here ↦
+            let l = level_of (events (list_of ss n)) (suc (shared_at ss n)) (length (own_at ss n)) es (omega (arith, fits n)) here in
+            (n, omega arith, l.0, l.1)
+      ]
 
-  present : (key : ℕ) (n : Node) → get nodes key ≡ Some n → IsIn (tree_of nodes records) (Some key)
-  present key n e = is_there (tree_of nodes records) key _ (recorded_at nodes records recorded key n e).there
+  is_listed : (n at : ℕ) (es : List Event) → at < n → shared_at ss at < length es → Begins es (events (list_of ss at)) → Contains (lists_to ss n) es
+  is_listed zero at es h more b = absurd (omega (arith, h))
+  is_listed (suc n) at es h more b =
+      elim (cases_eq at n) [
+        | inl same ↦
+            subst (λ (k : ℕ). Contains (lists_to ss n ++ own_lists ss k) es) same
+            (Contains-append_right (lists_to ss n) (own_lists ss at) es
+            (of_level (events (list_of ss at)) (suc (shared_at ss at)) (length (own_at ss at)) es more (omega (arith, total ss rule at, begun_within ss at es b)) b))
+        | inr apart ↦ Contains-append_left (lists_to ss n) (own_lists ss n) es (is_listed n at es (omega (arith, h, apart)) more b)
+      ]
 
-  distinct_from : (first : ℕ) (slots : List (Option Node)) → ((at : ℕ) (n : Node) → get_or slots at None ≡ Some n → get nodes (first + at) ≡ Some n)
-      → AreDistinct (map list_of (entries_from first slots))
-  distinct_from first [] there = tt
-  distinct_from first (None ∷ rest) there = distinct_from (first + 1) rest (λ at n e. subst (λ (k : ℕ). get nodes k ≡ Some n) (shift first at) (there (suc at) n e))
-    where
-      shift : (a b : ℕ) → a + suc b ≡ a + 1 + b
-      shift a b = omega arith
-  distinct_from first (Some m ∷ rest) there = (
-    λ c. twice (mapped_contains list_of (entries_from (first + 1) rest) (list_of (first, m)) c),
-    distinct_from (first + 1) rest later,
-  )
-    where
-      shift : (a b : ℕ) → a + suc b ≡ a + 1 + b
-      shift a b = omega arith
+  distinct_to : AreFresh ss → (n : ℕ) → n ≤ length ss → AreDistinct (lists_to ss n)
+  distinct_to fresh zero h = tt
+  distinct_to fresh (suc n) h =
+      distinct_joined (lists_to ss n) (own_lists ss n) (distinct_to fresh n (omega (arith, h)))
+      (levels_distinct (events (list_of ss n)) (suc (shared_at ss n)) (length (own_at ss n)) (omega (arith, fits n)))
+      (λ es first second. (
+      let l = listed n es first in
+      let m = level_of (events (list_of ss n)) (suc (shared_at ss n)) (length (own_at ss n)) es (omega (arith, fits n)) second in
+      not_both ss rule fresh n l.0 (length es) es l.1 (omega (arith, h)) m.0 (along_begun ss n es m.1) (along_begun ss l.0 es l.3)
+      ))
 
-      later : (at : ℕ) (n : Node) → get_or rest at None ≡ Some n → get nodes (first + 1 + at) ≡ Some n
-      later at n e = subst (λ (k : ℕ). get nodes k ≡ Some n) (shift first at) (there (suc at) n e)
+  -- a list that begins that of a stretch is one stretch's own
+  owner : (i : ℕ) (es : List Event) → 0 < length es → Begins es (events (list_of ss i)) → IsListed ss (suc i) es
+  owner zero es some b = (0, omega arith, omega (arith, shared_within ss rule 0, some), b)
+  owner (suc i) es some b =
+      elim (cases_lt (shared_at ss (suc i)) (length es)) [
+        | inl own ↦ (suc i, omega arith, own, b)
+        | inr less ↦
+            let l = owner i es some (begun_taken es (list_of ss (suc i)) (list_of ss i) (begins_shared ss rule (suc i) (length es) less) b) in
+            (l.0, omega (arith, l.1), l.2, l.3)
+      ]
 
-      here : get nodes first ≡ Some m
-      here = subst (λ (k : ℕ). get nodes k ≡ Some m) (plain first) (there 0 m refl)
-        where
-          plain : (a : ℕ) → a + 0 ≡ a
-          plain a = omega arith
+  module _ (ms : List (MarkName × Place)) (needed : AreNeeded ss (map (λ (m : MarkName × Place). m.1) ms)) where
+    reached : (fuel i n : ℕ) → length ss ≤ i + fuel → i < length ss → n ≤ length (list_of ss i)
+        → (m : MarkName × Place) × Contains ms m × (take n (records_at ss m.1) ≡ take n (list_of ss i))
+    reached zero i n enough inside h = absurd (omega (arith, enough, inside))
+    reached (suc fuel) i n enough inside h =
+        elim (cases_lt (greatest_in i (map (λ (m : MarkName × Place). m.1) ms)) (length (list_of ss i))) [
+          | inr there ↦
+              let p = greatest_there i (length (list_of ss i)) (map (λ (m : MarkName × Place). m.1) ms) (omega (arith, rule.some i inside)) there in
+              let m = mapped_contains (λ (m : MarkName × Place). m.1) ms p.0 p.1 in (
+                m.0,
+                m.1,
+                ap (λ (q : Place). take n (records_at ss q)) m.2 ∙ take-take n p.0.number (list_of ss p.0.stretch) (omega (arith, p.3, h))
+                    ∙ ap (λ (k : ℕ). take n (list_of ss k)) p.2,
+              )
+          | inl less ↦
+              let next : length (list_of ss i) ≤ shared_at ss (suc i) = omega (arith, needed i inside, less) in
+              elim (cases_lt (suc i) (length ss)) [
+                | inr past ↦ absurd (omega (arith, shared_past ss (suc i) past, next, rule.some i inside))
+                | inl more ↦
+                    let rest = reached fuel (suc i) n (omega (arith, enough)) more (omega (arith, rule.some (suc i) more, next, h)) in
+                    (rest.0, rest.1, rest.2 ∙ begins_shared ss rule (suc i) n (omega (arith, next, h)))
+              ]
+        ]
 
-      twice : (x : ℕ × Node) × Contains (entries_from (first + 1) rest) x × (list_of x ≡ list_of (first, m)) → ⊥
-      twice found =
-          let x = found.0 in
-          let slot = slot_of (first + 1) rest x found.1 in
-          let its : get nodes x.0 ≡ Some x.1 = ap (get nodes) slot.1 ∙ later slot.0 x.1 slot.2 in
-          let both = same_path (tree_of nodes records) rule (Some x.0) (present x.0 x.1 its) (Some first) (present first m here) found.2 in
-          let one : x.0 ≡ first = cc in
-          omega (arith, one, slot.1)
+    -- each beginning of the list of a stretch begins the records of a bookmark
+    pub begins_one : (i n : ℕ) → i < length ss → n ≤ length (list_of ss i) → (m : MarkName × Place) × Contains ms m × (take n (records_at ss m.1) ≡ take n (list_of ss i))
+    begins_one i n inside h = reached (length ss) i n (omega arith) inside h
 
-  pub counts : (ms : List (MarkName × Option ℕ)) (n : ℕ) → All (λ m. IsIn (tree_of nodes records) m.1) ms → AreUsedExcept (tree_of nodes records) ms None → n ≡ slab_len nodes
-      → CountsBeginnings (marks_of (tree_of nodes records) ms) n
-  counts ms n all used len = record {
-    lists = map list_of (entries nodes);
-    distinct = distinct_from 0 nodes.slots (λ at m e. ap (get nodes) (zero-add at) ∙ e);
-    all = λ es. (listed_begins es, beginning_listed es);
-    counted = len ∙ sym (length-map (entries nodes) list_of ∙ length-entries nodes);
-  }
-    where
-      listed_begins : (es : List Event) → Contains (map list_of (entries nodes)) es → IsBeginning (marks_of (tree_of nodes records) ms) es
-      listed_begins es c =
-          let found = mapped_contains list_of (entries nodes) es c in
-          let key = found.0.0 in
-          let its = (Contains-entries nodes key found.0.1).0 found.1 in
-          let x = recorded_at nodes records recorded key found.0.1 its in
-          let on = on_path (tree_of nodes records) rule ms used key (node_of found.0.1 x.its) x.there in
-          let long = events_length (tree_of nodes records) rule (Some key) (present key found.0.1 its) in
-          let more = depth_there (tree_of nodes records) rule key (node_of found.0.1 x.its) x.there in
-          record {
-            some = omega (arith, ap length (sym found.2), long, more);
-            mark = mark_of (tree_of nodes records) on.mark;
-            kept = contains_mapped (λ m. mark_of (tree_of nodes records) m) ms on.mark (on.index, on.within, on.its on.mark);
-            begins =
-                subst (λ (fs : List Event). Begins fs (events (path_in (tree_of nodes records) on.mark.1))) found.2
-                (begins_with (list_of found.0) (events (path_in (tree_of nodes records) on.mark.1)) (events on.rest)
-                (ap events on.path ∙ map-append (λ (x : Entry). x.event) (path_in (tree_of nodes records) (Some key)) on.rest));
-          }
+    pub counts : AreFresh ss → CountsBeginnings (marks_of (lists_of ss ms)) (count_of ss)
+    counts fresh = record {
+      lists = lists_to ss (length ss);
+      distinct = distinct_to fresh (length ss) (omega arith);
+      all = λ es. (begins es, is_one es);
+      counted = sym (lists_counted ss);
+    }
+      where
+        begins : (es : List Event) → Contains (lists_to ss (length ss)) es → IsBeginning (marks_of (lists_of ss ms)) es
+        begins es c =
+            let l = listed (length ss) es c in
+            let r = begins_one l.0 (length es) l.1 (begun_within ss l.0 es l.3) in
+            let m = r.0 in
+            record {
+              some = omega (arith, l.2);
+              mark = mark_of (m.0, records_at ss m.1);
+              kept =
+                  contains_mapped (λ (x : MarkName × List Entry). mark_of x) (lists_of ss ms) (m.0, records_at ss m.1)
+                  (contains_mapped (λ (x : MarkName × Place). (x.0, records_at ss x.1)) ms m r.1);
+              begins = begun_taken es (list_of ss l.0) (records_at ss m.1) (sym r.2) l.3;
+            }
 
-      beginning_listed : (es : List Event) → IsBeginning (marks_of (tree_of nodes records) ms) es → Contains (map list_of (entries nodes)) es
-      beginning_listed es h =
-          let found = mapped_contains (λ m. mark_of (tree_of nodes records) m) ms h.mark h.kept in
-          let m = found.0 in
-          let is_in = All-contains (λ x. IsIn (tree_of nodes records) x.1) ms m all found.1 in
-          let begins : Begins es (events (path_in (tree_of nodes records) m.1)) = subst (λ (k : Mark). Begins es k.events) (sym found.2) h.begins in
-          let short = begins_shorter es (events (path_in (tree_of nodes records) m.1)) begins in
-          let long = events_length (tree_of nodes records) rule m.1 is_in in
-          let on = on_way (tree_of nodes records) rule (depth_in (tree_of nodes records) m.1) m.1 refl is_in (length es) (omega (arith, short, long)) in
-          let node = deep (tree_of nodes records) rule on.node on.present (omega (arith, on.depth, h.some)) in
-          let whole = ap events on.path ∙ map-append (λ (x : Entry). x.event) (path_in (tree_of nodes records) on.node) on.rest in
-          let its = events_length (tree_of nodes records) rule on.node on.present in
-          let same : events (path_in (tree_of nodes records) on.node) ≡ es =
-          sym (begins_with (events (path_in (tree_of nodes records) on.node)) (events (path_in (tree_of nodes records) m.1)) (events on.rest) whole)
-          ∙ ap (λ (k : ℕ). take k (events (path_in (tree_of nodes records) m.1))) (its ∙ on.depth) ∙ begins in
-          let slot = node_there nodes records node.0 node.1 node.3 in
-          let here = contains_mapped list_of (entries nodes) (node.0, slot.0) ((Contains-entries nodes node.0 slot.0).1 slot.1) in
-          subst (λ (fs : List Event). Contains (map list_of (entries nodes)) fs) (ap (λ (p : Option ℕ). events (path_in (tree_of nodes records) p)) (sym node.2) ∙ same) here
+        is_one : (es : List Event) → IsBeginning (marks_of (lists_of ss ms)) es → Contains (lists_to ss (length ss)) es
+        is_one es h =
+            let found = mapped_contains (λ (x : MarkName × List Entry). mark_of x) (lists_of ss ms) h.mark h.kept in
+            let named = mapped_contains (λ (x : MarkName × Place). (x.0, records_at ss x.1)) ms found.0 found.1 in
+            let p = named.0.1 in
+            let b : Begins es (events (records_at ss p)) =
+            subst (λ (xs : List Entry). Begins es (events xs)) (sym (ap (λ (x : MarkName × List Entry). x.1) named.2))
+            (subst (λ (k : Mark). Begins es k.events) (sym found.2) h.begins) in
+            let taken = sym (length-take (length es) (events (records_at ss p))) ∙ ap length b in
+            let its = length-map (records_at ss p) (λ (x : Entry). x.event) ∙ length-take p.number (list_of ss p.stretch) in
+            let whole = begun_taken es (records_at ss p) (list_of ss p.stretch) (take-take (length es) p.number (list_of ss p.stretch) (omega (arith, taken, its))) b in
+            let l = owner p.stretch es h.some whole in
+            elim (cases_lt l.0 (length ss)) [
+              | inl inside ↦ is_listed (length ss) l.0 es inside l.2 l.3
+              | inr past ↦ absurd (omega (arith, ap length (list_past ss l.0 past), l.2, begun_within ss l.0 es l.3))
+            ]
+
+-- The records are no more than those of the places together
+
+abbrev greatest_to : List Place → ℕ → ℕ
+greatest_to ps zero = 0
+greatest_to ps (suc n) = greatest_to ps n + greatest_in n ps
+
+-- a place counts in its stretch alone
+greatest_one : (p : Place) (ps : List Place) (n : ℕ)
+    → (greatest_to (p ∷ ps) n ≤ p.number + greatest_to ps n) × (n ≤ p.stretch → greatest_to (p ∷ ps) n ≤ greatest_to ps n)
+greatest_one p ps zero = (omega arith, λ h. omega arith)
+greatest_one p ps (suc n) = let rest = greatest_one p ps n in (grind (arith, nat_tests, rest), λ h. grind (arith, nat_tests, rest))
+
+greatest_bound : (ps : List Place) (n : ℕ) → greatest_to ps n ≤ sum_by (λ (p : Place). p.number) ps
+greatest_bound [] zero = omega arith
+greatest_bound [] (suc n) = omega (arith, greatest_bound [] n)
+greatest_bound (p ∷ ps) n = omega (arith, (greatest_one p ps n).0, greatest_bound ps n, sum_by-cons (λ (q : Place). q.number) p ps)
+
+module _ (ss : List Stretch) (rule : AreNested ss) (places : List Place) (needed : AreNeeded ss places) where
+  count_bound : (n : ℕ) → n ≤ length ss → length (lists_to ss n) ≤ shared_at ss n + greatest_to places n
+  count_bound zero h = omega arith
+  count_bound (suc n) h = omega (arith, count_bound n (omega (arith, h)), total ss rule n, lists_length ss n, needed n (omega (arith, h)))
+
+  pub count_bounded : count_of ss ≤ sum_by (λ (p : Place). p.number) places
+  count_bounded =
+      omega (arith, count_bound (length ss) (omega arith), shared_past ss (length ss) (omega arith), lists_counted ss, greatest_bound places (length ss))

@@ -1,7 +1,6 @@
--- Where the session's track lies in the tree, and what each call leaves of that.
-use Rattle.std.proofs.Common.{◌≡◌, ◌⊎◌, inl, inr, ℕ, zero, suc, ◌-◌, ◌≤◌, Bool, true, false, nat_lt, if◌then◌else◌, min, refl, sym, ap, ◌∙◌, subst, List, [], ◌∷◌, ◌++◌, length, take, drop, Option, Some, None, Result, Ok, Err, OnOk, OnErr, arith, ltb-true}
+-- Where the session's track lies among the bookmarks' records, and what each call leaves of that.
+use Rattle.std.proofs.Common.{◌≡◌, ℕ, zero, suc, ◌-◌, ◌≤◌, Bool, true, false, nat_lt, if◌then◌else◌, refl, sym, ap, ◌∙◌, subst, List, [], ◌∷◌, ◌++◌, length, take, drop, Result, Ok, Err, OnOk, OnErr, arith, ltb-true}
 use Rattle.std.proofs.Math.Seq.{take-append_seam, take-length}
-use Rattle.std.proofs.lemmas.Bool.{cases_eq}
 use Rattle.std.proofs.lemmas.List.{take-map, take-take, take-append-le, length-map, length-take}
 use Rattle.rd_step.specs.Prelude.{Refusal, closure, unmarked}
 use Rattle.rd_step.specs.declared.entries.Event.{Event}
@@ -13,25 +12,10 @@ use Rattle.rd_journal.specs.Moves.{IsLengthened, IsTakenOutAt, IsRolledBack}
 use Rattle.rd_journal.specs.Records.{ahead_records}
 use Rattle.rd_journal.specs.Sessions.{state, track}
 use Rattle.rd_journal.specs.State.{State, undo_at, roll}
-use Rattle.rd_marks.specs.declared.names.MarkName.{MarkName}
-use Rattle.rd_marks.specs.Layout.{IsHere}
-use Rattle.rd_marks.specs.Tree.{MarkTree, IsIn, depth_in, parent_in, path_in, IsTree, IsPartOf, ChangesAt}
-use Rattle.rd_marks.specs.Uses.{IsUsed}
-use Rattle.rd_marks.proofs.CommonNode.{begins_itself}
-use Rattle.rd_marks.proofs.Switches.{begins_shorter, begins_with}
-use Rattle.rd_marks.proofs.TreeChanges.{tree_without}
-use Rattle.rd_marks.proofs.TreeLemmas.{there, events_length, path_there, parent_there, stays_in, path_kept}
-use Rattle.rd_marks.proofs.Uses.{still_in, part_left, parent_left}
-
-pub begins_trans : {X : Type 0} (xs ys zs : List X) → Begins xs ys → Begins ys zs → Begins xs zs
-begins_trans xs ys zs h k =
-    let short = begins_shorter xs ys h in
-    sym (take-take (length xs) (length ys) zs short) ∙ ap (take (length xs)) k ∙ h
-
--- the events of records that begin others begin theirs
-pub begins_events : (xs ys : List Entry) → Begins xs ys → Begins (events xs) (events ys)
-begins_events xs ys h =
-    ap (λ (n : ℕ). take n (events ys)) (length-map xs (λ (x : Entry). x.event)) ∙ take-map (λ (x : Entry). x.event) (length xs) ys ∙ ap events h
+use Rattle.rd_marks.specs.declared.stretches.Place.{Place}
+use Rattle.rd_marks.specs.declared.stretches.Stretch.{Stretch}
+use Rattle.rd_marks.specs.Stretches.{list_of, records_at, IsWithin, IsAlong}
+use Rattle.rd_marks.proofs.Starting.{begins_events, begins_shorter, begins_trans, events_length, fewer_begin, first_events}
 
 -- What a call leaves of the first live records
 
@@ -77,25 +61,19 @@ pub rolled_within : (R : ℕ) (s : State) (k : ℕ) (t : State) → roll R s k �
 rolled_within R s zero t h = omega arith
 rolled_within R s (suc i) t h = within_by (nat_lt i (length s.live)) i (length s.live) _ _ t refl h
 
-module _ (t : MarkTree) (rule : IsTree t) where
-  -- a node on the way there that is no deeper than what stayed
-  pub here_cut : (here at : Option ℕ) (n : ℕ) (old new : List Event) → IsHere t here old → IsIn t at → Begins (path_in t at) (path_in t here)
-      → depth_in t at ≤ n → take n new ≡ take n old → IsHere t at new
-  here_cut here at n old new stands is begins shallow same =
-      let es = events (path_in t at) in
-      let whole = begins_trans es (events (path_in t here)) old (begins_events (path_in t at) (path_in t here) begins) stands.begins in
-      let long = events_length t rule at is in
-      let short : length es ≤ n = omega (arith, long, shallow) in
-      record {
-        present = is;
-        begins = sym (take-take (length es) n new short) ∙ ap (take (length es)) same ∙ take-take (length es) n old short ∙ whole;
-      }
+-- no more than the first n, which stayed
+here_cut : (es : List Event) (n : ℕ) (old new : List Event) → Begins es old → length es ≤ n → take n new ≡ take n old → Begins es new
+here_cut es n old new begins short same =
+    sym (take-take (length es) n new short) ∙ ap (take (length es)) same ∙ take-take (length es) n old short ∙ begins
+
+module _ (here there : List Entry) (begins : Begins there here) where
+  event_count : length (events there) ≡ length there
+  event_count = length-map there (λ (x : Entry). x.event)
 
   -- where the first n live steps stayed, whatever is ahead
-  pub track_cut : (here at : Option ℕ) (n : ℕ) (old new : Journal) (old_ahead new_ahead : List Event) → IsHere t here (events old.live ++ old_ahead)
-      → IsIn t at → Begins (path_in t at) (path_in t here) → depth_in t at ≤ n → n ≤ length old.live → take n new.live ≡ take n old.live
-      → IsHere t at (events new.live ++ new_ahead)
-  track_cut here at n old new old_ahead new_ahead stands is begins shallow within same =
+  pub track_cut : (n : ℕ) (old new : Journal) (old_ahead new_ahead : List Event) → Begins (events here) (events old.live ++ old_ahead)
+      → length there ≤ n → n ≤ length old.live → take n new.live ≡ take n old.live → Begins (events there) (events new.live ++ new_ahead)
+  track_cut n old new old_ahead new_ahead stands short within same =
       let event = λ (x : Entry). x.event in
       let long : length (take n new.live) ≡ length (take n old.live) = ap length same in
       let few : n ≤ length new.live = omega (arith, long, within, length-take n old.live, length-take n new.live) in
@@ -103,118 +81,62 @@ module _ (t : MarkTree) (rule : IsTree t) where
       take-append-le n (events old.live) old_ahead (omega (arith, within, length-map old.live event)) in
       let new_first : take n (events new.live ++ new_ahead) ≡ take n (events new.live) =
       take-append-le n (events new.live) new_ahead (omega (arith, few, length-map new.live event)) in
-      here_cut here at n (events old.live ++ old_ahead) (events new.live ++ new_ahead) stands is begins shallow
+      here_cut (events there) n (events old.live ++ old_ahead) (events new.live ++ new_ahead)
+      (begins_trans (events there) (events here) (events old.live ++ old_ahead) (begins_events there here begins) stands) (omega (arith, short, event_count))
       (new_first ∙ take-map event n new.live ∙ ap events same ∙ sym (take-map event n old.live) ∙ sym old_first)
 
   -- where steps were taken out behind them, if the call was not refused
-  pub after_out : {X P Q : Type 0} (r : Result X Refusal) (here at : Option ℕ) (n : ℕ) (old new : Journal) (old_ahead new_ahead : List Event)
-      → IsHere t here (events old.live ++ old_ahead) → IsIn t at → Begins (path_in t at) (path_in t here) → OnOk r (depth_in t at ≡ min n (depth_in t here))
+  pub after_out : {X P Q : Type 0} (r : Result X Refusal) (n : ℕ) (old new : Journal) (old_ahead new_ahead : List Event)
+      → Begins (events here) (events old.live ++ old_ahead) → OnOk r (length there ≤ n)
       → OnErr r (events new.live ++ new_ahead ≡ events old.live ++ old_ahead) → OnOk r P → (P → n ≤ length old.live) → OnOk r Q
-      → (Q → take n new.live ≡ take n old.live) → IsHere t at (events new.live ++ new_ahead)
-  after_out (Ok x) here at n old new old_ahead new_ahead stands is begins depth unchanged there within left leaves =
-      track_cut here at n old new old_ahead new_ahead stands is begins (omega (arith, depth)) (within there) (leaves left)
-  after_out (Err e) here at n old new old_ahead new_ahead stands is begins depth unchanged there within left leaves = record {
-    present = is;
-    begins =
-        begins_trans (events (path_in t at)) (events (path_in t here)) (events new.live ++ new_ahead) (begins_events (path_in t at) (path_in t here) begins)
-        (subst (λ (es : List Event). Begins (events (path_in t here)) es) (sym unchanged) stands.begins);
-  }
+      → (Q → take n new.live ≡ take n old.live) → Begins (events there) (events new.live ++ new_ahead)
+  after_out (Ok x) n old new old_ahead new_ahead stands short unchanged done within left leaves =
+      track_cut n old new old_ahead new_ahead stands short (within done) (leaves left)
+  after_out (Err e) n old new old_ahead new_ahead stands short unchanged done within left leaves =
+      begins_trans (events there) (events here) (events new.live ++ new_ahead) (begins_events there here begins)
+      (subst (λ (es : List Event). Begins (events here) es) (sym unchanged) stands)
 
-  -- where the live steps stand: at the node on the way there whose path is no longer than they are
-  pub live_here : (here at : Option ℕ) (n : ℕ) (live ahead : List Event) → n ≡ length live → IsHere t here (live ++ ahead) → IsIn t at
-      → Begins (path_in t at) (path_in t here) → depth_in t at ≤ n → IsHere t at live
-  live_here here at n live ahead all stands is begins shallow =
-      here_cut here at n (live ++ ahead) live stands is begins shallow
-      (ap (λ (m : ℕ). take m live) all ∙ take-length live ∙ sym (ap (λ (m : ℕ). take m (live ++ ahead)) all ∙ take-append_seam live ahead))
+  -- what begins it begins the same track
+  pub still_begins : (steps : List Event) → Begins (events here) steps → Begins (events there) steps
+  still_begins steps stands = begins_trans (events there) (events here) steps (begins_events there here begins) stands
 
--- of a session
-pub stands : {R : ℕ} (session : Session R) (t : MarkTree) → IsTree t → (here at : Option ℕ) (n : ℕ) → n ≡ length (state session).live
-    → IsHere t here (track session) → IsIn t at → Begins (path_in t at) (path_in t here) → depth_in t at ≡ min n (depth_in t here)
-    → IsHere t at (state session).live
-stands session t rule here at n all lies is begins depth =
-    live_here t rule here at n (state session).live (events (ahead_records session.records)) all lies is begins (omega (arith, depth))
+-- records with the events of the live steps begin the track
+pub live_begin : {R : ℕ} (session : Session R) (xs : List Entry) → events xs ≡ (state session).live → Begins (events xs) (track session)
+live_begin session xs its =
+    let ahead = events (ahead_records session.records) in
+    subst (λ (es : List Event). Begins (events xs) (es ++ ahead)) its (take-append_seam (events xs) ahead)
 
--- Going down begins where the live steps stand
+-- The place of the records of a list with which the live steps begin
 
-pub within_at : (t : MarkTree) → IsTree t → (here : Option ℕ) (xs : List Entry) (live : List Event) → events xs ≡ live → IsHere t here live → depth_in t here ≤ length xs
-within_at t rule here xs live its stands =
-    let short = begins_shorter (events (path_in t here)) live stands.begins in
-    let long = events_length t rule here stands.present in
-    let all = sym (length-map xs (λ (x : Entry). x.event)) ∙ ap length its in
-    omega (arith, short, long, all)
+module _ (ss : List Stretch) where
+  -- where they stand: no further than they are, at the place where their track lies
+  pub live_along : {R : ℕ} (session : Session R) (here at : Place) (xs : List Entry) → events xs ≡ (state session).live → IsWithin ss here
+      → Begins (events (records_at ss here)) (track session) → at.stretch ≡ here.stretch → at.number ≤ here.number → at.number ≤ length xs
+      → IsWithin ss at × IsAlong ss at.stretch at.number (events xs)
+  live_along session here at xs its within stands same fewer few =
+      let first = fewer_begin ss here at within same fewer in
+      let es = events (records_at ss at) in
+      let long : length es ≡ at.number = events_length ss at first.0 in
+      let ahead = events (ahead_records session.records) in
+      let n = at.number in
+      let all : length (events xs) ≡ length xs = length-map xs (λ (x : Entry). x.event) in
+      let begins : Begins es (track session) = still_begins (records_at ss here) (records_at ss at) first.1 (track session) stands in
+      let live : take n (events xs ++ ahead) ≡ take n (events xs) = take-append-le n (events xs) ahead (omega (arith, few, all)) in
+      let whole : take n es ≡ es = ap (λ (m : ℕ). take m es) (sym long) ∙ take-length es in
+      let alike : take n (events (list_of ss at.stretch)) ≡ take n (events xs) =
+      sym (first_events ss at n (omega arith)) ∙ whole ∙ sym begins ∙ ap (λ (m : ℕ). take m (track session)) long
+      ∙ ap (λ (es : List Event). take n (es ++ ahead)) (sym its) ∙ live in
+      (first.0, record { enough = omega (arith, few, all); alike = alike })
 
-pub begins_at : (t : MarkTree) → IsTree t → (here : Option ℕ) (xs : List Entry) (live : List Event) → events xs ≡ live → IsHere t here live
-    → events (path_in t here) ≡ take (depth_in t here) (events xs)
-begins_at t rule here xs live its stands =
-    sym (ap (λ (n : ℕ). take n (events xs)) (sym (events_length t rule here stands.present)) ∙ ap (take (length (events (path_in t here)))) its ∙ stands.begins)
-
--- at a node whose events the live steps have lies the track
-pub track_at : (t : MarkTree) (at : Option ℕ) (live ahead : List Event) → IsIn t at → events (path_in t at) ≡ live → IsHere t at (live ++ ahead)
-track_at t at live ahead is its = record {
-  present = is;
-  begins = subst (λ (es : List Event). Begins (events (path_in t at)) (es ++ ahead)) its (take-append_seam (events (path_in t at)) ahead);
-}
-
--- a node on the way to where the track lies begins it
-pub track_above : (t : MarkTree) (here at : Option ℕ) (track : List Event) → IsHere t here track → IsIn t at → Begins (path_in t at) (path_in t here) → IsHere t at track
-track_above t here at track stands is begins = record {
-  present = is;
-  begins =
-      begins_trans (events (path_in t at)) (events (path_in t here)) track (begins_events (path_in t at) (path_in t here) begins) stands.begins;
-}
-
--- so its steps are the first ones of the track
-pub along_to : (t : MarkTree) → IsTree t → (at : Option ℕ) (n : ℕ) (track : List Event) → n ≡ depth_in t at → IsHere t at track
-    → (n ≤ length track) × (take n track ≡ events (path_in t at))
-along_to t rule at n track deep stands =
-    let long : length (events (path_in t at)) ≡ depth_in t at = events_length t rule at stands.present in
-    let short = begins_shorter (events (path_in t at)) track stands.begins in
-    (omega (arith, long, short, deep), ap (λ (m : ℕ). take m track) (deep ∙ sym long) ∙ stands.begins)
-
--- also in a tree with more room
-pub stands_in : (t u : MarkTree) (here : Option ℕ) (track : List Event) → u ≡ t → IsHere t here track → IsHere u here track
-stands_in t u here track same stands = subst (λ (v : MarkTree). IsHere v here track) (sym same) stands
-
--- and in a tree that has all its nodes
-pub lies_on : (t u : MarkTree) (here : Option ℕ) (track : List Event) → IsTree t → IsPartOf t u → IsHere t here track → IsHere u here track
-lies_on t u here track rule part lies = record {
-  present = stays_in t u rule part here lies.present;
-  begins = subst (λ (xs : List Entry). Begins (events xs) track) (sym (path_kept t u rule part here lies.present)) lies.begins;
-}
-
--- What lay in a tree from which a node goes lies at the node above it, if it lay there
-module _ (t u : MarkTree) (ms : List (MarkName × Option ℕ)) (key : ℕ) (rule : IsTree t) (is : IsIn t (Some key)) (unused : IsUsed t ms (Some key) → ⊥)
-    (change : ChangesAt t u key None) where
-  kept_path : (at : Option ℕ) → IsIn u at → path_in t at ≡ path_in u at
-  kept_path at at_in = path_kept u t (tree_without t u key rule (λ h. unused (inl h)) change) (part_left t u ms key rule is unused change) at at_in
-
-  pub here_left : (stood stands : Option ℕ) → IsIn t stood → (stood ≡ Some key → stands ≡ parent_in t (Some key)) → ((stood ≡ Some key → ⊥) → stands ≡ stood)
-      → IsIn u stands × Begins (path_in u stands) (path_in t stood)
-  here_left stood stands stood_in gone others =
-      elim (same_or_not stood) [
-        | inl same ↦
-            let found = there t key is in
-            let up = parent_in t (Some key) in
-            let up_in = parent_left t u ms key rule is unused change in
-            let begins : Begins (path_in u up) (path_in t (Some key)) =
-            subst (λ (xs : List Entry). Begins xs (path_in t (Some key))) (kept_path up up_in)
-            (begins_with (path_in t up) (path_in t (Some key)) (found.0.entry ∷ [])
-            (path_there t rule key found.0 found.1 ∙ ap (λ (p : Option ℕ). path_in t p ++ found.0.entry ∷ []) (sym (parent_there t rule key found.0 found.1)))) in (
-              subst (λ (p : Option ℕ). IsIn u p) (sym (gone same)) up_in,
-              subst (λ (p : Option ℕ). Begins (path_in u p) (path_in t stood)) (sym (gone same))
-                  (subst (λ (p : Option ℕ). Begins (path_in u up) (path_in t p)) (sym same) begins),
-            )
-        | inr apart ↦
-            let left = still_in t u ms key rule is unused change stood apart stood_in in (
-              subst (λ (p : Option ℕ). IsIn u p) (sym (others apart)) left,
-              subst (λ (p : Option ℕ). Begins (path_in u p) (path_in t stood)) (sym (others apart))
-                  (subst (λ (xs : List Entry). Begins xs (path_in t stood)) (kept_path stood left) (begins_itself (path_in t stood))),
-            )
-      ]
-    where
-      same_or_not : (at : Option ℕ) → (at ≡ Some key) ⊎ (at ≡ Some key → ⊥)
-      same_or_not None = inr (λ h. cc)
-      same_or_not (Some k) = elim (cases_eq k key) [
-        | inl same ↦ inl (ap (λ (j : ℕ). Some j) same)
-        | inr apart ↦ inr (λ h. apart (cc))
-      ]
+  -- so its steps are the first ones of the track
+  pub along_to : (at here : Place) (steps : List Event) → IsWithin ss at → IsWithin ss here → Begins (events (records_at ss here)) steps → (n : ℕ) → n ≡ at.number → n ≤ here.number
+      → take n (records_at ss here) ≡ take n (records_at ss at) → (n ≤ length steps) × (take n steps ≡ events (records_at ss at))
+  along_to at here steps is within stands n all fewer alike =
+      let event = λ (x : Entry). x.event in
+      let short = begins_shorter (events (records_at ss here)) steps stands in
+      let long = events_length ss here within in
+      let whole = events_length ss at is in (
+        omega (arith, short, long, fewer),
+        sym (take-take n (length (events (records_at ss here))) steps (omega (arith, long, fewer))) ∙ ap (take n) stands ∙ take-map event n (records_at ss here) ∙ ap events alike
+            ∙ sym (take-map event n (records_at ss at)) ∙ ap (λ (m : ℕ). take m (events (records_at ss at))) (all ∙ sym whole) ∙ take-length (events (records_at ss at)),
+      )

@@ -1,5 +1,5 @@
 -- The marks that a list of names with records is: looking one up, putting one last, taking one away.
-use Rattle.std.proofs.Common.{◌↔◌, IsTrue, true≢false, ◌⊎◌, inr, ◌≢◌, suc, ◌==◌, Result, Ok, Err, IsOk, IfErr, OnOk, ne_eqb, ◌≡◌, ℕ, ◌≤◌, Bool, true, false, if◌then◌else◌, cond, refl, sym, ap, ◌∙◌, subst, List, [], ◌∷◌, ◌++◌, length, is_some, option_map, Option, Some, None, All, slice_get, nat_eq, inl, arith}
+use Rattle.std.proofs.Common.{◌↔◌, IsTrue, true≢false, ◌⊎◌, inr, ◌≢◌, suc, ◌==◌, Result, Ok, Err, IsOk, IfErr, OnOk, ne_eqb, ◌≡◌, ℕ, ◌≤◌, Bool, true, false, if◌then◌else◌, cond, map, refl, sym, ap, ◌∙◌, subst, List, [], ◌∷◌, ◌++◌, length, is_some, option_map, Option, Some, None, All, slice_get, arith}
 use Rattle.std.specs.Map.{lookup, remove_entry}
 use Rattle.indexmap.specs.IndexMap.{insert_entry}
 use Rattle.std.proofs.lemmas.List.Elements.{All-cons, All-head, All-tail}
@@ -8,109 +8,112 @@ use Rattle.rd_step.specs.declared.entries.Event.{Event}
 use Rattle.rd_journal.specs.Journal.{events}
 use Rattle.rd_marks.specs.declared.names.MarkName.{MarkName}
 use Rattle.rd_marks.specs.Names.{same_name}
-use Rattle.std.proofs.lemmas.Bool.{cond-false, cond-true, or_cases, or_left, or_right, eq-eqb}
+use Rattle.std.proofs.lemmas.Bool.{cond-false, cond-true, eq-eqb}
 use Rattle.std.proofs.lemmas.List.{length-map}
-use Rattle.std.proofs.lemmas.Option.{slice_get-map}
+use Rattle.std.proofs.lemmas.Option.{get_or_from_slice_get, slice_get-map, slice_get_within}
 use Rattle.rd_step.specs.Prelude.{Refusal, World, NoMark, NoMemory, MarkTaken, TooManyMarks}
 use Rattle.rd_journal.specs.State.{State}
 use Rattle.rd_marks.specs.NameBytes.{MOST_MARKS}
-use Rattle.rd_marks.specs.Layout.{IsRecordOfRun, has_mark}
-use Rattle.rd_marks.specs.Tree.{MarkTree, path_in}
-use Rattle.rd_marks.proofs.NodeLemmas.{same_option}
-use Rattle.std.specs.Option.{option_eq}
+use Rattle.rd_marks.specs.Layout.{IsRecordOfRun}
 use Rattle.rd_depend.specs.Beginnings.{Begins}
-use Rattle.rd_marks.specs.Books.{Mark, BookState, with_session, with_marks, marked_events, without_mark, mark, drop_mark, goto_mark, at_events, mark_at, name_and_length, MakesSteps, AnswersSame}
+use Rattle.rd_marks.specs.Books.{Mark, BookState, with_session, with_marks, marked_events, without_mark, mark, drop_mark, goto_mark, at_events, mark_at, mark_events, name_and_length, MakesSteps, AnswersSame}
 use Rattle.rd_step.specs.Equivalence.{IsEquivalent}
 use Rattle.rd_depend.specs.Equivalence.{DecidesEquivalence}
 use Rattle.rd_marks.specs.Marks.{mark_of, marks_of}
 
-module _ (t : MarkTree) (name : MarkName) where
-  -- what is found under a name is the events of its mark
-  pub lookup_events : (ms : List (MarkName × Option ℕ)) → option_map (λ v. events (path_in t v)) (lookup (same_name name) ms) ≡ marked_events (marks_of t ms) name
-  lookup_events [] = refl
-  lookup_events (m ∷ ms) =
-      elim (same_name name m.0) as (λ b. option_map (λ v. events (path_in t v)) (cond b (Some m.1) (lookup (same_name name) ms))
-      ≡ (if b then Some (events (path_in t m.1)) else marked_events (marks_of t ms) name)) [
-        | true ↦ refl
-        | false ↦ lookup_events ms
-      ]
+-- taking an entry away, whatever is made of the values
+pub removed_mapped : {K V W : Type 0} (f : V → W) (test : K → Bool) (ms : List (K × V)) → map (λ m. (m.0, f m.1)) (remove_entry test ms) ≡ remove_entry test (map (λ m. (m.0, f m.1)) ms)
+removed_mapped f test [] = refl
+removed_mapped {K} {V} {W} f test (m ∷ ms) =
+    elim (test m.0) as (λ b. map (λ m. (m.0, f m.1)) (cond b ms (m ∷ remove_entry test ms)) ≡ cond b (map (λ m. (m.0, f m.1)) ms) ((m.0, f m.1) ∷ remove_entry test (map (λ m. (m.0, f m.1)) ms))) [
+      | true ↦ refl
+      | false ↦ ap (λ (rest : List (K × W)). (m.0, f m.1) ∷ rest) (removed_mapped f test ms)
+    ]
 
-  is_some_map : (o : Option (Option ℕ)) → is_some (option_map (λ v. events (path_in t v)) o) ≡ is_some o
-  is_some_map None = refl
-  is_some_map (Some v) = refl
+-- what holds of each entry holds of each other one, and of the one that is found
+pub all_without : {K V : Type 0} (test : K → Bool) (P : K × V → Type 0) (ms : List (K × V)) → All P ms → All P (remove_entry test ms)
+all_without test P [] h = h
+all_without test P (m ∷ ms) h =
+    elim (test m.0) as (λ b. All P (cond b ms (m ∷ remove_entry test ms))) [
+      | true ↦ All-tail P m ms h
+      | false ↦ All-cons P m (remove_entry test ms) (All-head P m ms h) (all_without test P ms (All-tail P m ms h))
+    ]
+
+pub all_found : {K V : Type 0} (test : K → Bool) (P : V → Type 0) (ms : List (K × V)) (v : V) → All (λ m. P m.1) ms → lookup test ms ≡ Some v → P v
+all_found test P [] v h found = cc
+all_found {V = V} test P (m ∷ ms) v h found =
+    (elim (test m.0) as (λ b. cond b (Some m.1) (lookup test ms) ≡ Some v → P v) [
+      | true ↦ λ k. (let same : m.1 ≡ v = cc in subst (λ (u : V). P u) same (All-head (λ m. P m.1) m ms h))
+      | false ↦ λ k. all_found test P ms v (All-tail (λ m. P m.1) m ms h) k
+    ]) found
+
+pub all_at : {X : Type 0} (P : X → Type 0) (xs : List X) (k : ℕ) (x : X) → All P xs → slice_get xs k ≡ Some x → P x
+all_at P xs k x h at = subst P (get_or_from_slice_get xs k x x at) (h k x (slice_get_within xs k x at))
+
+-- without an entry there are no more
+pub shorter : {K V : Type 0} (test : K → Bool) (ms : List (K × V)) → length (remove_entry test ms) ≤ length ms
+shorter test [] = omega arith
+shorter test (m ∷ ms) =
+    let rest : length (remove_entry test ms) ≤ length ms = shorter test ms in
+    elim (test m.0) as (λ b. length (cond b ms (m ∷ remove_entry test ms)) ≤ suc (length ms)) [
+      | true ↦ omega arith
+      | false ↦ omega arith
+    ]
+
+module _ (name : MarkName) where
+  -- what is found under a name is the events of its mark
+  pub found_events : (ls : List (MarkName × List Entry)) → marked_events (marks_of ls) name ≡ option_map (λ xs. events xs) (lookup (same_name name) ls)
+  found_events [] = refl
+  found_events (l ∷ ls) =
+      elim (same_name name l.0) as (λ b. (if b then Some (events l.1) else marked_events (marks_of ls) name)
+      ≡ option_map (λ xs. events xs) (cond b (Some l.1) (lookup (same_name name) ls))) [
+        | true ↦ refl
+        | false ↦ found_events ls
+      ]
 
   -- something is found exactly if there is a mark of that name
-  pub found_marked : (ms : List (MarkName × Option ℕ)) → is_some (lookup (same_name name) ms) ≡ is_some (marked_events (marks_of t ms) name)
-  found_marked ms = sym (is_some_map (lookup (same_name name) ms)) ∙ ap is_some (lookup_events ms)
+  pub found_marked : (ls : List (MarkName × List Entry)) → is_some (marked_events (marks_of ls) name) ≡ is_some (lookup (same_name name) ls)
+  found_marked ls = ap is_some (found_events ls) ∙ is_some_map (lookup (same_name name) ls)
+    where
+      is_some_map : (o : Option (List Entry)) → is_some (option_map (λ xs. events xs) o) ≡ is_some o
+      is_some_map None = refl
+      is_some_map (Some xs) = refl
 
   -- without the entry of a name, the marks are without its mark
-  pub marks_without : (ms : List (MarkName × Option ℕ)) → marks_of t (remove_entry (same_name name) ms) ≡ without_mark (marks_of t ms) name
+  pub marks_without : (ls : List (MarkName × List Entry)) → marks_of (remove_entry (same_name name) ls) ≡ without_mark (marks_of ls) name
   marks_without [] = refl
-  marks_without (m ∷ ms) =
-      elim (same_name name m.0) as (λ b. marks_of t (cond b ms (m ∷ remove_entry (same_name name) ms))
-      ≡ (if b then marks_of t ms else mark_of t m ∷ without_mark (marks_of t ms) name)) [
+  marks_without (l ∷ ls) =
+      elim (same_name name l.0) as (λ b. marks_of (cond b ls (l ∷ remove_entry (same_name name) ls))
+      ≡ (if b then marks_of ls else mark_of l ∷ without_mark (marks_of ls) name)) [
         | true ↦ refl
-        | false ↦ ap (λ (rest : List Mark). mark_of t m ∷ rest) (marks_without ms)
+        | false ↦ ap (λ (rest : List Mark). mark_of l ∷ rest) (marks_without ls)
       ]
 
-  -- what holds of each entry holds of each other one
-  pub all_without : (P : MarkName × Option ℕ → Type 0) (ms : List (MarkName × Option ℕ)) → All P ms → All P (remove_entry (same_name name) ms)
-  all_without P [] h = h
-  all_without P (m ∷ ms) h =
-      elim (same_name name m.0) as (λ b. All P (cond b ms (m ∷ remove_entry (same_name name) ms))) [
-        | true ↦ All-tail P m ms h
-        | false ↦ All-cons P m (remove_entry (same_name name) ms) (All-head P m ms h) (all_without P ms (All-tail P m ms h))
-      ]
+-- whether something is found
+module _ {X : Type 0} (f : X → List Entry) (name : MarkName) (ls : List (MarkName × List Entry)) (o : Option X) (b : Bool) (found : option_map f o ≡ lookup (same_name name) ls) (is : b ≡ is_some o) where
+  pub found_at : is_some (marked_events (marks_of ls) name) ≡ b
+  found_at = found_marked name ls ∙ ap is_some (sym found) ∙ is_some_map o ∙ sym is
+    where
+      is_some_map : (p : Option X) → is_some (option_map f p) ≡ is_some p
+      is_some_map None = refl
+      is_some_map (Some x) = refl
 
-  -- and its events are those of the mark
-  pub found_events : (ms : List (MarkName × Option ℕ)) (o : Option (Option ℕ)) → lookup (same_name name) ms ≡ o
-      → marked_events (marks_of t ms) name ≡ option_map (λ v. events (path_in t v)) o
-  found_events ms o h = sym (lookup_events ms) ∙ ap (option_map (λ v. events (path_in t v))) h
+  pub none_at : b ≡ false → lookup (same_name name) ls ≡ None
+  none_at none = sym found ∙ by o (sym is ∙ none)
+    where
+      by : (p : Option X) → is_some p ≡ false → option_map f p ≡ None
+      by None h = refl
+      by (Some x) h = absurd (true≢false h)
 
-  -- a new name goes last
-  insert_last : (v : Option ℕ) (ms : List (MarkName × Option ℕ)) → is_some (marked_events (marks_of t ms) name) ≡ false
-      → insert_entry same_name ms name v ≡ ms ++ (name, v) ∷ []
-  insert_last v [] h = refl
-  insert_last v (m ∷ ms) h =
-      (elim (same_name name m.0) as (λ b. is_some (if b then Some (events (path_in t m.1)) else marked_events (marks_of t ms) name) ≡ false
-      → (if b then (m.0, v) ∷ ms else m ∷ insert_entry same_name ms name v) ≡ m ∷ (ms ++ (name, v) ∷ [])) [
-        | true ↦ λ k. absurd (true≢false k)
-        | false ↦ λ k. ap (λ (rest : List (MarkName × Option ℕ)). m ∷ rest) (insert_last v ms k)
-      ]) h
-
-  -- the entries then
-  pub entries_put : (v : Option ℕ) (ms es : List (MarkName × Option ℕ)) → is_some (marked_events (marks_of t ms) name) ≡ false
-      → es ≡ insert_entry same_name ms name v → es ≡ ms ++ (name, v) ∷ []
-  entries_put v ms es new e = e ∙ insert_last v ms new
-
-  -- with one fewer there are no more
-  pub shorter : (ms : List (MarkName × Option ℕ)) → length (remove_entry (same_name name) ms) ≤ length ms
-  shorter [] = omega arith
-  shorter (m ∷ ms) =
-      let rest : length (remove_entry (same_name name) ms) ≤ length ms = shorter ms in
-      elim (same_name name m.0) as (λ b. length (cond b ms (m ∷ remove_entry (same_name name) ms)) ≤ suc (length ms)) [
-        | true ↦ omega arith
-        | false ↦ omega arith
-      ]
-
-  -- a mark at another node than the one found stays
-  pub mark_stays : (at v : Option ℕ) (ms : List (MarkName × Option ℕ)) → lookup (same_name name) ms ≡ Some v → (v ≡ at → ⊥) → has_mark ms at ≡ true
-      → has_mark (remove_entry (same_name name) ms) at ≡ true
-  mark_stays at v [] found apart h = h
-  mark_stays at v (m ∷ ms) found apart h =
-      (elim (same_name name m.0) as (λ b. cond b (Some m.1) (lookup (same_name name) ms) ≡ Some v → has_mark (cond b ms (m ∷ remove_entry (same_name name) ms)) at ≡ true) [
-        | true ↦ λ k.
-            (let same : m.1 ≡ v = cc in
-            elim (or_cases (option_eq nat_eq m.1 at) (has_mark ms at) h) [
-              | inl here ↦ absurd (apart (sym same ∙ same_option m.1 at here))
-              | inr later ↦ later
-            ])
-        | false ↦ λ k.
-            elim (or_cases (option_eq nat_eq m.1 at) (has_mark ms at) h) [
-              | inl here ↦ or_left (option_eq nat_eq m.1 at) (has_mark (remove_entry (same_name name) ms) at) here
-              | inr later ↦ or_right (option_eq nat_eq m.1 at) (has_mark (remove_entry (same_name name) ms) at) (mark_stays at v ms k apart later)
-            ]
-      ]) found
+-- a new name goes last
+pub insert_last : {V : Type 0} (name : MarkName) (v : V) (ms : List (MarkName × V)) → lookup (same_name name) ms ≡ None → insert_entry same_name ms name v ≡ ms ++ (name, v) ∷ []
+insert_last name v [] h = refl
+insert_last {V} name v (m ∷ ms) h =
+    (elim (same_name name m.0) as (λ b. cond b (Some m.1) (lookup (same_name name) ms) ≡ None
+    → (if b then (m.0, v) ∷ ms else m ∷ insert_entry same_name ms name v) ≡ m ∷ (ms ++ (name, v) ∷ [])) [
+      | true ↦ λ k. cc
+      | false ↦ λ k. ap (λ (rest : List (MarkName × V)). m ∷ rest) (insert_last name v ms k)
+    ]) h
 
 -- a mark is set if its name is new and there is room
 pub mark_goes : (b : BookState) (name : MarkName) → is_some (marked_events b.marks name) ≡ false → length b.marks ≢ MOST_MARKS
@@ -122,13 +125,27 @@ mark_goes b name new few =
     ∙ cond-false (length b.marks == MOST_MARKS) (Err TooManyMarks) done no
 
 -- a mark is dropped if it is there
-pub drop_goes : (t : MarkTree) (b : BookState) (name : MarkName) (ms es : List (MarkName × Option ℕ)) → b.marks ≡ marks_of t ms → is_some (marked_events b.marks name) ≡ true
-    → es ≡ remove_entry (same_name name) ms → drop_mark b name ≡ Ok (with_marks b (marks_of t es))
-drop_goes t b name ms es same there e =
-    let left : without_mark b.marks name ≡ marks_of t es =
-    ap (λ (xs : List Mark). without_mark xs name) same ∙ sym (marks_without t name ms) ∙ ap (marks_of t) (sym e) in
-    cond-true (is_some (marked_events b.marks name)) (Ok (with_marks b (without_mark b.marks name))) (Err NoMark) there
-    ∙ ap (λ (xs : List Mark). Ok (with_marks b xs)) left
+pub drop_goes : (b : BookState) (name : MarkName) (ls left : List (MarkName × List Entry)) → b.marks ≡ marks_of ls → is_some (lookup (same_name name) ls) ≡ true
+    → left ≡ remove_entry (same_name name) ls → drop_mark b name ≡ Ok (with_marks b (marks_of left))
+drop_goes b name ls left same there e =
+    let goes : without_mark b.marks name ≡ marks_of left = ap (λ (xs : List Mark). without_mark xs name) same ∙ sym (marks_without name ls) ∙ ap marks_of (sym e) in
+    let is : is_some (marked_events b.marks name) ≡ true = ap (λ (xs : List Mark). is_some (marked_events xs name)) same ∙ found_marked name ls ∙ there in
+    cond-true (is_some (marked_events b.marks name)) (Ok (with_marks b (without_mark b.marks name))) (Err NoMark) is
+    ∙ ap (λ (xs : List Mark). Ok (with_marks b xs)) goes
+
+pub drop_missing : (b : BookState) (name : MarkName) (ls : List (MarkName × List Entry)) → b.marks ≡ marks_of ls → is_some (lookup (same_name name) ls) ≡ false → drop_mark b name ≡ Err NoMark
+drop_missing b name ls same none =
+    cond-false (is_some (marked_events b.marks name)) (Ok (with_marks b (without_mark b.marks name))) (Err NoMark)
+    (ap (λ (xs : List Mark). is_some (marked_events xs name)) same ∙ found_marked name ls ∙ none)
+
+-- which leaves all as it is
+pub none_removed : {K V : Type 0} (test : K → Bool) (ms : List (K × V)) → is_some (lookup test ms) ≡ false → remove_entry test ms ≡ ms
+none_removed test [] h = refl
+none_removed {K} {V} test (m ∷ ms) h =
+    (elim (test m.0) as (λ b. is_some (cond b (Some m.1) (lookup test ms)) ≡ false → cond b ms (m ∷ remove_entry test ms) ≡ m ∷ ms) [
+      | true ↦ λ k. absurd (true≢false k)
+      | false ↦ λ k. ap (λ (rest : List (K × V)). m ∷ rest) (none_removed test ms k)
+    ]) h
 
 -- going to a mark that is there
 pub goto_goes : (b : BookState) (name : MarkName) (es : List Event) (s : State) → marked_events b.marks name ≡ Some es
@@ -138,10 +155,10 @@ goto_goes b name es s there same = ap (at_events b) there ∙ ap (λ (t : State)
 pub goto_missing : (b : BookState) (name : MarkName) → marked_events b.marks name ≡ None → goto_mark b name ≡ Err NoMark
 goto_missing b name none = ap (at_events b) none
 
-pub goto_done : {X : Type 0} (r : Result X Refusal) (b : BookState) (name : MarkName) (es : List Event) (s : State) → marked_events b.marks name ≡ Some es
-    → OnOk r (s ≡ record { start = b.session.start; live = es; undone = [] }) → OnOk r (goto_mark b name ≡ Ok (with_session b s))
-goto_done (Ok x) b name es s there same = goto_goes b name es s there same
-goto_done (Err e) b name es s there same = tt
+pub goto_done : {X : Type 0} (r : Result X Refusal) (b c : BookState) (name : MarkName) (es : List Event) → marked_events b.marks name ≡ Some es → c ≡ with_session b c.session
+    → OnOk r (c.session ≡ record { start = b.session.start; live = es; undone = [] }) → OnOk r (goto_mark b name ≡ Ok c)
+goto_done (Ok x) b c name es there marks same = goto_goes b name es c.session there same ∙ ap (λ (d : BookState). Ok d) (sym marks)
+goto_done (Err e) b c name es there marks same = tt
 
 -- which only memory for its steps can refuse
 pub goto_not_done : {X : Type 0} (r : Result X Refusal) (b : BookState) (name : MarkName) (es : List Event) → marked_events b.marks name ≡ Some es
@@ -173,17 +190,24 @@ decided R w xs ys same p q d = d R w p.ran q.ran
 
 -- The mark of a number
 
-pub mark_missing : (t : MarkTree) (b : BookState) (ms : List (MarkName × Option ℕ)) (i j : ℕ) → b.marks ≡ marks_of t ms → i ≡ suc j → slice_get ms j ≡ None → Err NoMark ≡ mark_at b i
-mark_missing t b ms i j same e h =
-    let at : slice_get b.marks j ≡ None = ap (λ (xs : List Mark). slice_get xs j) same ∙ slice_get-map (mark_of t) ms j ∙ ap (option_map (mark_of t)) h in
-    sym (ap (mark_at b) e ∙ ap name_and_length at)
+-- what stands there
+mark_there : (b : BookState) (ls : List (MarkName × List Entry)) (j : ℕ) (o : Option (MarkName × List Entry)) → b.marks ≡ marks_of ls → slice_get ls j ≡ o
+    → slice_get b.marks j ≡ option_map mark_of o
+mark_there b ls j o same h = ap (λ (xs : List Mark). slice_get xs j) same ∙ slice_get-map mark_of ls j ∙ ap (option_map mark_of) h
 
-pub mark_found : (t : MarkTree) (b : BookState) (ms : List (MarkName × Option ℕ)) (i j n : ℕ) (m : MarkName × Option ℕ) → b.marks ≡ marks_of t ms → i ≡ suc j → slice_get ms j ≡ Some m
-    → n ≡ length (path_in t m.1) → Ok (m.0, n) ≡ mark_at b i
-mark_found t b ms i j n m same e h len =
-    let at : slice_get b.marks j ≡ Some (mark_of t m) = ap (λ (xs : List Mark). slice_get xs j) same ∙ slice_get-map (mark_of t) ms j ∙ ap (option_map (mark_of t)) h in
-    let all : n ≡ length (events (path_in t m.1)) = len ∙ sym (length-map (path_in t m.1) (λ x. x.event)) in
-    ap (λ (k : ℕ). Ok (m.0, k)) all ∙ sym (ap (mark_at b) e ∙ ap name_and_length at)
+pub mark_said : (b : BookState) (ls : List (MarkName × List Entry)) (i j : ℕ) (o : Option (MarkName × List Entry)) → b.marks ≡ marks_of ls → i ≡ suc j → slice_get ls j ≡ o
+    → mark_at b i ≡ name_and_length (option_map mark_of o)
+mark_said b ls i j o same e h = ap (mark_at b) e ∙ ap name_and_length (mark_there b ls j o same h)
+
+pub events_said : (b : BookState) (ls : List (MarkName × List Entry)) (i j : ℕ) (o : Option (MarkName × List Entry)) → b.marks ≡ marks_of ls → i ≡ suc j → slice_get ls j ≡ o
+    → mark_events b i ≡ option_map (λ (m : Mark). m.events) (option_map mark_of o)
+events_said b ls i j o same e h = ap (mark_events b) e ∙ ap (option_map (λ (m : Mark). m.events)) (mark_there b ls j o same h)
+
+pub no_mark : (b : BookState) (i : ℕ) → i ≡ 0 → mark_events b i ≡ None
+no_mark b i h = ap (mark_events b) h
+
+pub length_said : (name : MarkName) (n : ℕ) (xs : List Entry) → length xs ≡ n → Ok (name, n) ≡ name_and_length (Some (mark_of (name, xs)))
+length_said name n xs long = ap (λ (k : ℕ). Ok (name, k)) (sym long ∙ sym (length-map xs (λ x. x.event)))
 
 -- a mark whose name is taken, or one too many
 pub mark_taken : (b : BookState) (name : MarkName) → is_some (marked_events b.marks name) ≡ true → mark b name ≡ Err MarkTaken
@@ -196,6 +220,3 @@ mark_too_many b name new h =
     cond-false (is_some (marked_events b.marks name)) (Err MarkTaken)
     (if length b.marks == MOST_MARKS then Err TooManyMarks else Ok (with_marks b (b.marks ++ record { name = name; events = b.session.live } ∷ []))) new
     ∙ cond-true (length b.marks == MOST_MARKS) (Err TooManyMarks) (Ok (with_marks b (b.marks ++ record { name = name; events = b.session.live } ∷ []))) (eq-eqb (length b.marks) MOST_MARKS h)
-
-pub drop_missing : (b : BookState) (name : MarkName) → marked_events b.marks name ≡ None → drop_mark b name ≡ Err NoMark
-drop_missing b name h = cond-false (is_some (marked_events b.marks name)) (Ok (with_marks b (without_mark b.marks name))) (Err NoMark) (ap is_some h)

@@ -1,5 +1,5 @@
 -- The rules that the bookmarks of a book keep, from how it keeps them.
-use Rattle.std.proofs.Common.{◌≡◌, ◌≤◌, ℕ, refl, sym, ap, subst, List, [], ◌∷◌, map, length, Option, Result, Ok, Err, IsOk, All, arith}
+use Rattle.std.proofs.Common.{◌≡◌, ◌≤◌, ℕ, refl, sym, ap, subst, List, [], ◌∷◌, map, length, Result, Ok, Err, IsOk, arith}
 use Rattle.std.specs.List.{IsDistinct}
 use Rattle.std.proofs.lemmas.List.{length-map}
 use Rattle.std.proofs.lemmas.List.Elements.{All-head, All-tail}
@@ -11,10 +11,9 @@ use Rattle.rd_marks.specs.declared.names.MarkName.{MarkName}
 use Rattle.rd_marks.specs.NameBytes.{MOST_MARKS}
 use Rattle.rd_marks.specs.Names.{same_name}
 use Rattle.rd_marks.specs.Books.{Mark, BookState}
-use Rattle.rd_marks.specs.Layout.{IsRecordOfRun}
+use Rattle.rd_marks.specs.Layout.{AreRuns, IsRecordOfRun}
 use Rattle.rd_marks.specs.Marks.{mark_of, marks_of}
 use Rattle.rd_marks.specs.Rules.{GoThrough, MarksGoThrough, HaveDifferentNames, KeepsRules}
-use Rattle.rd_marks.specs.Tree.{MarkTree, path_in}
 
 -- a run that leaves entries goes through
 went : (ran : Result Ran Refusal) (xs : List Entry) → run_entries ran ≡ Ok xs → IsOk ran
@@ -24,22 +23,21 @@ went (Err refusal) xs h = absurd (cc)
 events_go : (R : ℕ) (w : World) (xs : List Entry) → IsRecordOfRun R w xs → GoThrough R w (events xs)
 events_go R w xs h = record { few = omega (arith, h.few, length-map xs (λ (x : Entry). x.event)); runs = went (run R w (events xs)) xs h.ran }
 
-module _ (t : MarkTree) where
-  marks_go : (R : ℕ) (w : World) (ms : List (MarkName × Option ℕ)) → All (λ m. IsRecordOfRun R w (path_in t m.1)) ms → MarksGoThrough R w (marks_of t ms)
-  marks_go R w [] h = tt
-  marks_go R w (m ∷ ms) h =
-      (events_go R w (path_in t m.1) (All-head (λ n. IsRecordOfRun R w (path_in t n.1)) m ms h), marks_go R w ms (All-tail (λ n. IsRecordOfRun R w (path_in t n.1)) m ms h))
+marks_go : (R : ℕ) (w : World) (ls : List (MarkName × List Entry)) → AreRuns R w ls → MarksGoThrough R w (marks_of ls)
+marks_go R w [] h = tt
+marks_go R w (l ∷ ls) h =
+    (events_go R w l.1 (All-head (λ n. IsRecordOfRun R w n.1) l ls h), marks_go R w ls (All-tail (λ n. IsRecordOfRun R w n.1) l ls h))
 
-  names_of : (ms : List (MarkName × Option ℕ)) → map (λ m. m.0) ms ≡ map (λ m. m.name) (marks_of t ms)
-  names_of [] = refl
-  names_of (m ∷ ms) = ap (λ (names : List MarkName). m.0 ∷ names) (names_of ms)
+names_of : (ls : List (MarkName × List Entry)) → map (λ l. l.0) ls ≡ map (λ m. m.name) (marks_of ls)
+names_of [] = refl
+names_of (l ∷ ls) = ap (λ (names : List MarkName). l.0 ∷ names) (names_of ls)
 
-  pub keeps_rules : (R : ℕ) (b : BookState) (ms : List (MarkName × Option ℕ)) → b.marks ≡ marks_of t ms → length ms ≤ MOST_MARKS
-      → All (λ m. IsRecordOfRun R b.session.start (path_in t m.1)) ms → IsDistinct same_name (map (λ m. m.0) ms) → KeepsRules R b
-  keeps_rules R b ms same few runs distinct = record {
-    few = omega (arith, few, ap length same, length-map ms (λ m. mark_of t m));
-    names =
-        subst (λ (xs : List Mark). HaveDifferentNames xs) (sym same)
-        (subst (λ (names : List MarkName). IsDistinct same_name names) (names_of ms) distinct);
-    through = subst (λ (xs : List Mark). MarksGoThrough R b.session.start xs) (sym same) (marks_go R b.session.start ms runs);
-  }
+pub keeps_rules : (R : ℕ) (b : BookState) (ls : List (MarkName × List Entry)) → b.marks ≡ marks_of ls → length ls ≤ MOST_MARKS
+    → AreRuns R b.session.start ls → IsDistinct same_name (map (λ l. l.0) ls) → KeepsRules R b
+keeps_rules R b ls same few runs distinct = record {
+  few = omega (arith, few, ap length same, length-map ls (λ l. mark_of l));
+  names =
+      subst (λ (xs : List Mark). HaveDifferentNames xs) (sym same)
+      (subst (λ (names : List MarkName). IsDistinct same_name names) (names_of ls) distinct);
+  through = subst (λ (xs : List Mark). MarksGoThrough R b.session.start xs) (sym same) (marks_go R b.session.start ls runs);
+}

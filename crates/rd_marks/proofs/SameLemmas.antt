@@ -1,21 +1,17 @@
 -- Lists of which one begins the other are equivalent only if they are one.
-use Rattle.std.proofs.Common.{◌≡◌, ℕ, ◌⊎◌, inl, inr, Bool, false, true≢false, nat_eq, refl, sym, ap, ◌∙◌, subst, List, [], ◌∷◌, ◌++◌, length, take, drop, ◌-◌, Option, length-append, arith}
-use Rattle.std.specs.Option.{option_eq}
+use Rattle.std.proofs.Common.{◌≡◌, ℕ, ◌⊎◌, inl, inr, Bool, ◌==◌, refl, sym, ap, ◌∙◌, subst, List, [], ◌∷◌, ◌++◌, length, take, drop, ◌-◌, ◌≤◌, length-append, arith, eqb-true}
+use Rattle.std.proofs.lemmas.Bool.{eq-eqb}
+use Rattle.std.proofs.lemmas.List.{length-map, take_all}
 use Rattle.rd_step.specs.Prelude.{World}
 use Rattle.rd_step.specs.Run.{events, IsRunFrom}
 use Rattle.rd_step.specs.Equivalence.{IsEquivalent}
 use Rattle.rd_step.specs.declared.entries.Event.{Event}
 use Rattle.rd_step.specs.declared.entries.Entry.{Entry}
-use Rattle.rd_depend.specs.Beginnings.{Begins, IsBegunByNeither}
+use Rattle.rd_depend.specs.Beginnings.{Begins}
 use Rattle.rd_depend.specs.Equivalence.{DecidesEquivalence}
 use Rattle.rd_depend.proofs.Exactness.{right_behind}
-use Rattle.rd_marks.specs.Tree.{MarkTree, IsIn, depth_in, path_in, IsTree}
-use Rattle.rd_marks.proofs.CommonNode.{begins_all}
-use Rattle.rd_marks.proofs.NodeLemmas.{same_option, one_option}
 use Rattle.rd_marks.proofs.RecordLemmas.{began, to_the_end}
-use Rattle.rd_marks.proofs.Switches.{begins_shorter}
-use Rattle.rd_marks.proofs.TreeLemmas.{same_path, path_length}
-use Rattle.std.proofs.lemmas.List.{length-map}
+use Rattle.rd_marks.proofs.Starting.{begins_shorter}
 
 -- equivalent lists are equally long
 pub equivalent_length : (R : ℕ) (w : World) (es fs : List Event) → IsEquivalent R w es fs → length es ≡ length fs
@@ -41,49 +37,41 @@ equivalent_itself R w (x ∷ xs) h =
       rest = equivalent_itself R b.stepped.world xs b.rest;
     }
 
-module _ (t : MarkTree) (rule : IsTree t) (one other : Option ℕ) (one_in : IsIn t one) (other_in : IsIn t other) where
-  -- a path that begins an equally long one is it
-  one_node : Begins (path_in t one) (path_in t other) → length (path_in t one) ≡ length (path_in t other) → one ≡ other
-  one_node h k = same_path t rule one one_in other other_in (ap events (begins_all (path_in t one) (path_in t other) h (omega (arith, k))))
+event_length : (xs : List Entry) → length (events xs) ≡ length xs
+event_length xs = length-map xs (λ (x : Entry). x.event)
 
-  other_node : Begins (path_in t other) (path_in t one) → length (path_in t one) ≡ length (path_in t other) → one ≡ other
-  other_node h k = sym (same_path t rule other other_in one one_in (ap events (begins_all (path_in t other) (path_in t one) h (omega (arith, k)))))
-
-  pub decided_by_node : (c : Option ℕ) (same : Bool) → same ≡ option_eq nat_eq one other → Begins (path_in t c) (path_in t one) → Begins (path_in t c) (path_in t other)
-      → (c ≡ one) ⊎ (c ≡ other) → DecidesEquivalence (path_in t one) (path_in t other) same
-  decided_by_node c same tested first second meets R w p q = (
+module _ (ones others : List Entry) (m n c : ℕ) (long : length ones ≡ m) (long_too : length others ≡ n) (alike : take c ones ≡ take c others) where
+  -- lists that are alike up to the end of one are equivalent exactly if they are equally long
+  pub decided_by_length : (c ≡ m) ⊎ (c ≡ n) → (same : Bool) → same ≡ (m == n) → DecidesEquivalence ones others same
+  decided_by_length meets same tested R w p q = (
     λ h.
-        (let is : one ≡ other = same_option one other (sym tested ∙ h) in
-        subst (λ (at : Option ℕ). IsEquivalent R w (events (path_in t one)) (events (path_in t at))) is (equivalent_itself R w (path_in t one) p)),
+        (let deep : m ≡ n = eqb-true m n (sym tested ∙ h) in
+        let at_end : c ≡ m = elim meets [ inl is ↦ is | inr is ↦ is ∙ sym deep ] in
+        let one : ones ≡ others =
+        sym (take_all c ones (omega (arith, long, at_end))) ∙ alike ∙ take_all c others (omega (arith, long_too, at_end, deep)) in
+        subst (λ (xs : List Entry). IsEquivalent R w (events ones) (events xs)) one (equivalent_itself R w ones p)),
     λ h.
-        (let long : length (path_in t one) ≡ length (path_in t other) =
-        sym (length-map (path_in t one) (λ (x : Entry). x.event)) ∙ equivalent_length R w (events (path_in t one)) (events (path_in t other)) h
-        ∙ length-map (path_in t other) (λ (x : Entry). x.event) in
-        elim meets [
-          | inl is ↦ tested ∙ one_option one other (one_node (subst (λ (at : Option ℕ). Begins (path_in t at) (path_in t other)) is second) long)
-          | inr is ↦ tested ∙ one_option one other (other_node (subst (λ (at : Option ℕ). Begins (path_in t at) (path_in t one)) is first) long)
-        ]),
+        (let as_long = sym (event_length ones) ∙ equivalent_length R w (events ones) (events others) h ∙ event_length others in
+        tested ∙ eq-eqb m n (omega (arith, as_long, long, long_too))),
   )
 
-  -- two nodes that meet at neither of them
-  pub neither_begins : (c : Option ℕ) → option_eq nat_eq c one ≡ false → option_eq nat_eq c other ≡ false
-      → (Begins (events (path_in t one)) (events (path_in t other)) → c ≡ one) → (Begins (events (path_in t other)) (events (path_in t one)) → c ≡ other)
-      → IsBegunByNeither (events (path_in t one)) (events (path_in t other))
-  neither_begins c no_one no_other first second = (
-    λ h. true≢false (sym (one_option c one (first h)) ∙ no_one),
-    λ h. true≢false (sym (one_option c other (second h)) ∙ no_other),
-  )
+  -- an answer for what is behind what they have in common is one for the lists
+  pub decided_behind : c ≤ m → c ≤ n → (same : Bool) (xs ys : List Entry) → xs ≡ drop c ones → ys ≡ drop c others → DecidesEquivalence xs ys same → DecidesEquivalence ones others same
+  decided_behind first second same xs ys one other decided =
+      right_behind ones others c same (omega (arith, long, first)) (omega (arith, long_too, second)) (ap events alike)
+      (subst (λ (zs : List Entry). DecidesEquivalence zs (take (length others - c) (drop c others)) same) (one ∙ sym (to_the_end c ones))
+      (subst (λ (zs : List Entry). DecidesEquivalence xs zs same) (other ∙ sym (to_the_end c others)) decided))
 
-  -- an answer for what is behind the node where they meet is one for the paths
-  pub decided_behind : (c : Option ℕ) (n : ℕ) (same : Bool) (xs ys : List Entry) → IsIn t c → n ≡ depth_in t c → Begins (path_in t c) (path_in t one)
-      → Begins (path_in t c) (path_in t other) → xs ≡ drop n (path_in t one) → ys ≡ drop n (path_in t other) → DecidesEquivalence xs ys same
-      → DecidesEquivalence (path_in t one) (path_in t other) same
-  decided_behind c n same xs ys c_in its first second ones others decided =
-      let long : length (path_in t c) ≡ n = path_length t rule c c_in ∙ sym its in
-      let in_first = begins_shorter (path_in t c) (path_in t one) first in
-      let in_second = begins_shorter (path_in t c) (path_in t other) second in
-      let alike : take n (path_in t one) ≡ take n (path_in t other) =
-      ap (λ (m : ℕ). take m (path_in t one)) (sym long) ∙ first ∙ sym second ∙ ap (λ (m : ℕ). take m (path_in t other)) long in
-      right_behind (path_in t one) (path_in t other) n same (omega (arith, in_first, long)) (omega (arith, in_second, long)) (ap events alike)
-      (subst (λ (zs : List Entry). DecidesEquivalence zs (take (length (path_in t other) - n) (drop n (path_in t other))) same) (ones ∙ sym (to_the_end n (path_in t one)))
-      (subst (λ (zs : List Entry). DecidesEquivalence xs zs same) (others ∙ sym (to_the_end n (path_in t other))) decided))
+-- a list that begins the other has all of its events in common with it
+pub not_begun : (xs ys : List Entry) (c : ℕ)
+    → ((n : ℕ) → n ≤ length xs → n ≤ length ys → take n (events xs) ≡ take n (events ys) → n ≤ c) → c ≤ length xs → (c ≡ length xs → ⊥)
+    → Begins (events xs) (events ys) → ⊥
+not_begun xs ys c most within apart h =
+    let lx = event_length xs in
+    let ly = event_length ys in
+    let short = begins_shorter (events xs) (events ys) h in
+    let n = length xs in
+    let alike : take n (events xs) ≡ take n (events ys) =
+    take_all n (events xs) (omega (arith, lx)) ∙ sym h ∙ ap (λ (m : ℕ). take m (events ys)) lx in
+    let all = most n (omega arith) (omega (arith, lx, ly, short)) alike in
+    apart (omega (arith, all, within))

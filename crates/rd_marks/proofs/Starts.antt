@@ -1,14 +1,12 @@
 -- No call of a session moves its start, so the marks of a book stay runs from there.
-use Rattle.std.proofs.Common.{◌≡◌, ℕ, zero, suc, ◌==◌, nat_lt, Bool, true, false, if◌then◌else◌, refl, sym, ap, ◌∙◌, subst, List, length, Option, Some, None, Result, Ok, Err, OnOk, OnErr}
+use Rattle.std.proofs.Common.{◌≡◌, ℕ, zero, suc, ◌==◌, nat_lt, Bool, true, false, if◌then◌else◌, refl, sym, ap, ◌∙◌, subst, List, [], length, Option, Some, None, Result, Ok, Err, OnOk, OnErr}
 use Rattle.rd_step.specs.Prelude.{Refusal, TooLong, NothingToUndo, NothingToRedo, NoSuchStep, World, Stepped}
 use Rattle.rd_step.specs.declared.entries.Event.{Event}
 use Rattle.rd_step.specs.declared.entries.Entry.{Entry}
 use Rattle.rd_journal.specs.Journal.{Journal, start_of}
 use Rattle.rd_journal.specs.State.{State, state_of, run_of, step_after, with_event, apply, back_one, forward_one, times, undo, back, redo, forward, one_out_unless, undo_at, dependant_in, roll, marked_out, closure_in}
-use Rattle.slab.specs.Slab.{Slab}
 use Rattle.rd_marks.specs.declared.names.MarkName.{MarkName}
-use Rattle.rd_marks.specs.declared.tree.Node.{Node}
-use Rattle.rd_marks.specs.Layout.{KeepsMarks}
+use Rattle.rd_marks.specs.Layout.{AreRuns}
 
 of_ok : (s t : State) (r : Result State Refusal) → r ≡ Ok s → r ≡ Ok t → t.start ≡ s.start
 of_ok s t r k h =
@@ -90,7 +88,12 @@ pub start_stays : {X : Type 0} (r : Result X Refusal) (i j : Journal) (moved : R
 start_stays (Ok x) i j moved starts h g = starts (state_of j) h
 start_stays (Err e) i j moved starts h g = ap start_of g
 
--- so the marks stay runs from it
-pub marks_stay : (R : ℕ) (v w : World) (nodes : Slab Node) (records : List Entry) (ms : List (MarkName × Option ℕ)) → w ≡ v → KeepsMarks R v nodes records ms
-    → KeepsMarks R w nodes records ms
-marks_stay R v w nodes records ms e k = subst (λ (u : World). KeepsMarks R u nodes records ms) (sym e) k
+-- going somewhere leaves it as well
+pub start_kept : {X : Type 0} (r : Result X Refusal) (i j : Journal) (es : List Event) → OnOk r (state_of j ≡ record { start = start_of i; live = es; undone = [] }) → OnErr r (j ≡ i) → start_of j ≡ start_of i
+start_kept (Ok x) i j es h g = ap (λ (s : State). s.start) h
+start_kept (Err e) i j es h g = ap start_of g
+
+-- so the bookmarks' records stay runs from it
+pub runs_stay : (R : ℕ) (v w : World) (lists kept : List (MarkName × List Entry)) → w ≡ v → kept ≡ lists → AreRuns R v lists → AreRuns R w kept
+runs_stay R v w lists kept e same runs =
+    subst (λ (u : World). AreRuns R u kept) (sym e) (subst (λ (ls : List (MarkName × List Entry)). AreRuns R v ls) (sym same) runs)

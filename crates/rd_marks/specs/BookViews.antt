@@ -3,9 +3,9 @@ use Rattle.std.specs.Prelude.{ℕ}
 use Rattle.rd_journal.specs.Sessions.{state}
 use Rattle.rd_marks.specs.declared.books.Book.{Book}
 use Rattle.rd_marks.specs.Books.{BookState}
+use Rattle.rd_marks.specs.Kept.{lists_in}
 use Rattle.rd_marks.specs.Marks.{marks_of}
-use Rattle.rd_marks.specs.TreeViews.{mark_tree}
 
 -- the session's state and the marks' events
 abbrev pub book_state : {R : ℕ} → Book R → BookState
-book_state b = record { session = state b.session; marks = marks_of (mark_tree b.tree) b.marks.entries }
+book_state b = record { session = state b.session; marks = marks_of (lists_in b.bookmarks) }

@@ -1,47 +1,47 @@
--- How a book keeps its marks: a tree of records, and the node of each mark. The path of each is the records of a run from the
--- session's start, and no node is kept that no mark uses.
-use Rattle.std.specs.Prelude.{◌≡◌, ◌||◌, ℕ, ◌≤◌, Bool, true, false, nat_eq, List, length, Option, Some, None}
-use Rattle.std.specs.Option.{option_eq}
-use Rattle.std.specs.List.{All, list_any}
-use Rattle.slab.specs.Slab.{Slab}
+-- How a book keeps its bookmarks: the place of the records of each, which are those of a run from the session's start; and no record
+-- is kept that no bookmark needs.
+use Rattle.std.specs.Prelude.{◌≡◌, ℕ, ◌≤◌, List, map, length}
+use Rattle.std.specs.List.{All}
 use Rattle.rd_step.specs.Prelude.{World, MOST_STEPS}
-use Rattle.rd_step.specs.declared.entries.Event.{Event}
 use Rattle.rd_step.specs.declared.entries.Entry.{Entry}
 use Rattle.rd_depend.specs.Beginnings.{Begins}
-use Rattle.rd_journal.specs.Journal.{events, IsRunFrom}
+use Rattle.rd_journal.specs.Journal.{IsRunFrom}
 use Rattle.rd_marks.specs.declared.names.MarkName.{MarkName}
-use Rattle.rd_marks.specs.declared.tree.Node.{Node}
+use Rattle.rd_marks.specs.declared.stretches.Place.{Place}
+use Rattle.rd_marks.specs.declared.stretches.Stretch.{Stretch}
 use Rattle.rd_marks.specs.NameBytes.{MOST_MARKS}
-use Rattle.rd_marks.specs.Tree.{TreeNode, MarkTree, IsIn, path_in}
-use Rattle.rd_marks.specs.TreeLayout.{tree_of}
+use Rattle.rd_marks.specs.Stretches.{records_at, IsWithin, AreNeeded, AreNeededFrom}
 
 -- the records are those of the run of their events from the start, no more than may be live
 pub record IsRecordOfRun (R : ℕ) (start : World) (records : List Entry) : Type 0 where
   pub few : length records ≤ MOST_STEPS
   pub ran : IsRunFrom R start records
 
--- whether what is in a slot is right below the node
-abbrev pub is_below : Option ℕ → Option Node → Bool
-is_below at None = false
-is_below at (Some n) = option_eq nat_eq n.parent at
+-- each name with its records
+abbrev pub lists_of : List Stretch → List (MarkName × Place) → List (MarkName × List Entry)
+lists_of ss names = map (λ m. (m.0, records_at ss m.1)) names
 
--- whether a node has a child
-abbrev pub has_child : Slab Node → Option ℕ → Bool
-has_child nodes at = list_any (λ slot. is_below at slot) nodes.slots
+-- those of each name are those of a run
+abbrev pub AreRuns : ℕ → World → List (MarkName × List Entry) → Type 0
+AreRuns R start lists = All (λ l. IsRecordOfRun R start l.1) lists
 
--- whether a mark is at the node
-abbrev pub has_mark : List (MarkName × Option ℕ) → Option ℕ → Bool
-has_mark marks at = list_any (λ m. option_eq nat_eq m.1 at) marks
+-- the places of the names
+abbrev pub places_of : List (MarkName × Place) → List Place
+places_of names = map (λ m. m.1) names
 
--- no more marks than there may be, each at a node whose path is the records of a run from the start; and each node has a child
--- or a mark
-pub record KeepsMarks (R : ℕ) (start : World) (nodes : Slab Node) (records : List Entry) (marks : List (MarkName × Option ℕ)) : Type 0 where
-  pub few : length marks ≤ MOST_MARKS
-  pub present : All (λ m. IsIn (tree_of nodes records) m.1) marks
-  pub runs : All (λ m. IsRecordOfRun R start (path_in (tree_of nodes records) m.1)) marks
-  pub used : (key : ℕ) (n : TreeNode) → tree_of nodes records key ≡ Some n → (has_child nodes (Some key) || has_mark marks (Some key)) ≡ true
+-- no more bookmarks than there may be, each at records that are there, as is the place where the session's track lies; and no record is
+-- kept that no bookmark needs
+pub record IsKept (ss : List Stretch) (names : List (MarkName × Place)) (here : Place) : Type 0 where
+  pub few : length names ≤ MOST_MARKS
+  pub within : All (λ m. IsWithin ss m.1) names
+  pub needed : AreNeeded ss (places_of names)
+  pub lies : IsWithin ss here
 
--- where steps lie in the tree: at a node, the events of whose path begin them
-pub record IsHere (t : MarkTree) (here : Option ℕ) (steps : List Event) : Type 0 where
-  pub present : IsIn t here
-  pub begins : Begins (events (path_in t here)) steps
+-- after stretches from this one on were shrunk to what is needed: the bookmarks have their records, and a place elsewhere has a beginning
+-- of those that it had
+pub record IsPruned (from : ℕ) (old new : List Stretch) (names left : List (MarkName × Place)) (here there : Place) : Type 0 where
+  pub lists : lists_of new left ≡ lists_of old names
+  pub within : All (λ m. IsWithin new m.1) left
+  pub needed : AreNeededFrom from new (places_of left)
+  pub lies : IsWithin new there
+  pub begins : Begins (records_at new there) (records_at old here)

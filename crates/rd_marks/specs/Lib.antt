@@ -2,12 +2,11 @@ pub mod NameBytes
 pub mod Names
 pub mod Books
 pub mod Beginnings
-pub mod Tree
-pub mod TreeLayout
-pub mod TreeViews
+pub mod Stretches
+pub mod Changes
 pub mod Marks
 pub mod Layout
-pub mod Uses
+pub mod Kept
 pub mod Rules
 pub mod BookViews
 pub mod Commands

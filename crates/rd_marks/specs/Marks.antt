@@ -1,14 +1,14 @@
--- Which marks a list of names with nodes is.
-use Rattle.std.specs.Prelude.{ℕ, List, map, Option}
+-- Which marks a list of names with records is.
+use Rattle.std.specs.Prelude.{List, map}
+use Rattle.rd_step.specs.declared.entries.Entry.{Entry}
 use Rattle.rd_journal.specs.Journal.{events}
 use Rattle.rd_marks.specs.declared.names.MarkName.{MarkName}
 use Rattle.rd_marks.specs.Books.{Mark}
-use Rattle.rd_marks.specs.Tree.{MarkTree, path_in}
 
--- the mark of this name with the events of the path of its node
-abbrev pub mark_of : MarkTree → MarkName × Option ℕ → Mark
-mark_of t m = record { name = m.0; events = events (path_in t m.1) }
+-- the mark of this name with the events of its records
+abbrev pub mark_of : MarkName × List Entry → Mark
+mark_of l = record { name = l.0; events = events l.1 }
 
 -- the marks, in their order
-abbrev pub marks_of : MarkTree → List (MarkName × Option ℕ) → List Mark
-marks_of t ms = map (λ m. mark_of t m) ms
+abbrev pub marks_of : List (MarkName × List Entry) → List Mark
+marks_of lists = map (λ l. mark_of l) lists

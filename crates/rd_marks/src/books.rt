@@ -4,24 +4,24 @@
 //! Nothing outside this crate may know that.
 //!
 //! The calls of a book are here; what each command answers is in `books/`: `obeying` has the commands, `moves` the events, undos and redos,
-//! `bookmarks` the bookmarks, and `queries` the rest; `marked` has the calls that read the events of bookmarks, and `to_start`.
+//! `bookmarks` the bookmarks, and `queries` the rest; `saving` has what saves a book and loads it again.
 
 mod bookmarks;
-mod marked;
 mod moves;
 mod obeying;
 mod queries;
+mod saving;
 
 ghost use Rattle.std.specs.Prelude.{◌≡◌, ◌⊎◌, [], length, Ok, Err, OnOk, OnErr, IfErr, IsOk};
 ghost use Rattle.rd_cell.specs.declared.refusal.Refusal.TheVariants.{NoMemory};
+ghost use Rattle.rd_step.specs.Run.{events};
+ghost use Rattle.rd_depend.specs.Beginnings.{Begins};
 ghost use Rattle.rd_journal.specs.Sessions.{state, track};
-ghost use Rattle.rd_marks.specs.Layout.{KeepsMarks, IsHere};
-ghost use Rattle.rd_marks.specs.TreeViews.{mark_tree};
+ghost use Rattle.rd_marks.specs.Layout.{AreRuns};
+ghost use Rattle.rd_marks.specs.Kept.{lists_in, here_in};
 
-use super::marks::{are_same, is_marked, prune, put_mark, switch_to};
+use super::bookmarks::Bookmarks;
 use super::names::MarkName;
-use super::tree::Tree;
-use indexmap::IndexMap;
 use rd_cell::Refusal;
 use rd_cell::limits::MOST_MARKS;
 use rd_journal::Session;
@@ -30,15 +30,10 @@ use std::alloc::Global;
 /// A session with bookmarks.
 pub struct Book<const R: usize> {
     session: Session<R>,
-    tree: Tree,
-    /// The node of each bookmark, whose path has the records of its steps.
-    marks: IndexMap<MarkName, Option<usize>>,
-    /// Where the session's track lies in the tree: a node whose path begins it, which is the live steps with those ahead of them. Setting
-    /// a bookmark and going to one begin there, and not at the root.
-    here: Option<usize>,
+    bookmarks: Bookmarks,
     alloc: Global,
-    ghost kept: { KeepsMarks R (state session).start tree.nodes tree.records.items marks.entries },
-    ghost stands: { IsHere (mark_tree tree) here (track session) },
+    ghost runs: { AreRuns R (state session).start (lists_in bookmarks) },
+    ghost stands: { Begins (events (here_in bookmarks)) (track session) },
 }
 
 /// Written out and not derived, so that a proof of a function in which a book ends has one step for that, and not one for
@@ -47,9 +42,7 @@ impl<const R: usize> Drop for Book<R> {
     fn drop(self) {
         let Book {
             session: _session,
-            tree: _tree,
-            marks: _marks,
-            here: _here,
+            bookmarks: _bookmarks,
             alloc: _alloc,
         } = self;
     }
@@ -68,9 +61,7 @@ impl<const R: usize> Book<R> {
     {
         Book {
             session,
-            tree: Tree::new(alloc),
-            marks: IndexMap::new(alloc),
-            here: None,
+            bookmarks: Bookmarks::new(alloc),
             alloc,
         }
     }
@@ -94,19 +85,13 @@ impl<const R: usize> Book<R> {
             ⊎ ((refusal ≡ Refusal.NoMemory) × IsOk (mark (book_state self.old) name))) }
         ensures unchanged { OnErr result (book_state self.new ≡ book_state self.old) }
     {
-        if is_marked(&self.marks, &name) {
+        if self.bookmarks.find(&name).is_some() {
             return Err(Refusal::MarkTaken);
         }
-        if self.marks.len() == MOST_MARKS {
+        if self.bookmarks.len() == MOST_MARKS {
             return Err(Refusal::TooManyMarks);
         }
-        match put_mark(
-            &mut self.tree,
-            &mut self.marks,
-            &mut self.here,
-            &self.session,
-            name,
-        ) {
+        match self.bookmarks.set(self.alloc, &self.session, name) {
             Err(_) => Err(Refusal::NoMemory),
             Ok(()) => Ok(()),
         }
@@ -122,13 +107,11 @@ impl<const R: usize> Book<R> {
         ensures err { IfErr result (λ refusal. drop_mark (book_state self.old) name ≡ Err refusal) }
         ensures unchanged { OnErr result (book_state self.new ≡ book_state self.old) }
     {
-        let Some(node) = self.marks.get(&name) else {
-            return Err(Refusal::NoMark);
-        };
-        let node = *node;
-        let _gone = self.marks.shift_remove(&name);
-        prune(&mut self.tree, &self.marks, &mut self.here, node);
-        Ok(())
+        if self.bookmarks.drop(&name) {
+            Ok(())
+        } else {
+            Err(Refusal::NoMark)
+        }
     }
 
     /// Goes to the bookmark of this name: its steps are live, and none is undone. The steps that the live ones begin with in
@@ -144,17 +127,10 @@ impl<const R: usize> Book<R> {
             ⊎ ((refusal ≡ Refusal.NoMemory) × MakesSteps (book_state self.old) name)) }
         ensures unchanged { OnErr result (book_state self.new ≡ book_state self.old) }
     {
-        let Some(node) = self.marks.get(&name) else {
+        let Some(place) = self.bookmarks.find(&name) else {
             return Err(Refusal::NoMark);
         };
-        let node = *node;
-        switch_to(
-            &mut self.session,
-            &self.tree,
-            self.alloc,
-            &mut self.here,
-            node,
-        )
+        self.bookmarks.go_to(self.alloc, &mut self.session, place)
     }
 
     /// Whether the steps of two bookmarks are causally equivalent: one list is the other up to the order of steps that do not
@@ -168,13 +144,13 @@ impl<const R: usize> Book<R> {
         ensures { AnswersSame R (book_state self.now).session.start (marked_events (book_state self.now).marks one)
             (marked_events (book_state self.now).marks other) result }
     {
-        let Some(one) = self.marks.get(&one) else {
+        let Some(one) = self.bookmarks.find(&one) else {
             return Err(Refusal::NoMark);
         };
-        let Some(other) = self.marks.get(&other) else {
+        let Some(other) = self.bookmarks.find(&other) else {
             return Err(Refusal::NoMark);
         };
-        match are_same(&self.tree, self.alloc, *one, *other) {
+        match self.bookmarks.are_same(self.alloc, one, other) {
             Err(_) => Err(Refusal::NoMemory),
             Ok(same) => Ok(same),
         }
@@ -185,7 +161,7 @@ impl<const R: usize> Book<R> {
         ensures count { result ≡ length (book_state self.now).marks }
         ensures rules { KeepsRules R (book_state self.now) }
     {
-        self.marks.len() as u64
+        self.bookmarks.len() as u64
     }
 
     /// How many different lists there are that begin the steps of some bookmark, the empty one apart: so many nodes has the tree that is
@@ -193,7 +169,7 @@ impl<const R: usize> Book<R> {
     pub fn nodes(&self) -> u64
         ensures { CountsBeginnings (book_state self.now).marks result }
     {
-        self.tree.len() as u64
+        self.bookmarks.nodes() as u64
     }
 
     /// The name of the bookmark of this number, from 1, and how many steps were live when it was set.
@@ -207,9 +183,9 @@ impl<const R: usize> Book<R> {
         if i == 0 {
             return Err(Refusal::NoMark);
         }
-        match self.marks.get_index(i as usize - 1) {
+        match self.bookmarks.at(i as usize - 1) {
             None => Err(Refusal::NoMark),
-            Some((name, node)) => Ok((*name, self.tree.depth(*node) as u64)),
+            Some((name, place)) => Ok((name, place.number as u64)),
         }
     }
 }

@@ -4,12 +4,12 @@
 //! How a mark is kept is known here alone.
 #![tactic(auto)]
 
+mod bookmarks;
 mod books;
 mod commands;
-mod marks;
 mod names;
 mod replies;
-mod tree;
+mod stretches;
 
 pub use books::Book;
 pub use commands::Command;

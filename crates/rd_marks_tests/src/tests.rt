@@ -5,3 +5,4 @@ mod ends;
 mod limits;
 mod long_runs;
 mod marked;
+mod sharing;

@@ -2,7 +2,6 @@
 
 ghost use Rattle.std.specs.Prelude.{◌≡◌, Ok, Err, OnOk, IfErr};
 
-use super::super::marks::cut_back;
 use super::super::replies::Reply;
 use super::Book;
 use rd_cell::Refusal;
@@ -18,7 +17,7 @@ impl<const R: usize> Book<R> {
         ensures { Happened R (book_state self.old) event (record { answer = result; state = book_state self.new }) }
     {
         let (step, entry) = self.session.apply(event)?;
-        self.here = self.tree.ancestor(self.here, step as usize - 1);
+        self.bookmarks.cut_here(step as usize - 1);
         Ok(Reply::Applied {
             step,
             reply: entry.reply,
@@ -38,7 +37,7 @@ impl<const R: usize> Book<R> {
         ensures { record { answer = result; state = book_state self.new } ≡ move_answer (book_state self.old) (undo_at R (book_state self.old).session k) }
     {
         let done = self.session.undo_at(k);
-        self.here = cut_back(&self.tree, self.here, &done, k.saturating_sub(1));
+        self.bookmarks.cut_back(&done, k.saturating_sub(1));
         self.counts_after(done)
     }
 
@@ -48,7 +47,7 @@ impl<const R: usize> Book<R> {
         ensures { record { answer = result; state = book_state self.new } ≡ move_answer (book_state self.old) (roll R (book_state self.old).session k) }
     {
         let done = self.session.roll(k);
-        self.here = cut_back(&self.tree, self.here, &done, k.saturating_sub(1));
+        self.bookmarks.cut_back(&done, k.saturating_sub(1));
         self.counts_after(done)
     }
 

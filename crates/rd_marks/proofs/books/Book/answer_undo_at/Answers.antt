@@ -6,10 +6,10 @@ use Rattle.rd_journal.specs.Records.{ahead_records}
 use Rattle.rd_journal.specs.Sessions.{journal, state}
 use Rattle.rd_journal.specs.State.{undo_at}
 use Rattle.rd_marks.specs.BookViews.{book_state}
-use Rattle.rd_marks.specs.TreeViews.{mark_tree}
-use Rattle.rd_marks.proofs.AnswerLemmas.{move_answered}
+use Rattle.rd_marks.specs.Kept.{lists_in, here_in}
+use Rattle.rd_marks.proofs.AnswerLemmas.{move_answered_with}
 use Rattle.rd_marks.proofs.Here.{after_out, one_out_leaves, undone_within}
-use Rattle.rd_marks.proofs.Starts.{undo_at_start, start_stays, marks_stay}
+use Rattle.rd_marks.proofs.Starts.{undo_at_start, start_stays, runs_stay}
 use Rattle.rd_marks.proofs.books.Book.answer_undo_at.Goals as goal
 
 pub invariant_of-self : goal.invariant_of-self
@@ -22,11 +22,11 @@ invariant_of-self g c =
     let n = c.saturating_sub.result in
     let len = length-map (journal book.session).live (λ (x : Entry). x.event) in
     record {
-      kept = marks_stay g.row.R old.start (state c.undo_at-done.new.self).start c.args.self.now.tree.nodes c.args.self.now.tree.records.items c.args.self.now.marks.entries start c.args.self.now.kept;
+      runs = runs_stay g.row.R old.start (state c.undo_at-done.new.self).start (lists_in book.bookmarks) (lists_in c.cut_back.new.self) start c.cut_back.ensures.lists book.runs;
       stands =
-          after_out (mark_tree book.tree) book.tree.kept.tree c.undo_at-done.result book.here c.cut_back-self.result n (journal book.session) (journal c.undo_at-done.new.self)
+          after_out (here_in book.bookmarks) (here_in c.cut_back.new.self) c.cut_back.ensures.begins c.undo_at-done.result n (journal book.session) (journal c.undo_at-done.new.self)
           (events (ahead_records book.session.records)) (events (ahead_records c.undo_at-done.new.self.records)) book.stands
-          c.cut_back-self.ensures.present c.cut_back-self.ensures.begins c.cut_back-self.ensures.ok c.undo_at-done.ensures.track c.undo_at-done.ensures.ok
+          c.cut_back.ensures.short c.undo_at-done.ensures.track c.undo_at-done.ensures.ok
           (λ done. let there = undone_within g.row.R old c.args.k _ done in omega (arith, there, len)) c.undo_at-done.ensures.records
           (one_out_leaves c.args.k n (journal book.session) (journal c.undo_at-done.new.self) c.saturating_sub.ensures);
     }
@@ -34,5 +34,5 @@ invariant_of-self g c =
 pub returns : goal.returns
 returns g c =
     let b = book_state c.args.self.now in
-    move_answered c.undo_at-done.result b (journal c.args.self.now.session) (journal c.undo_at-done.new.self) (undo_at g.row.R b.session c.args.k)
-    c.counts_after.result refl c.undo_at-done.ensures.ok c.undo_at-done.ensures.err c.undo_at-done.ensures.unchanged c.counts_after.ensures.ok c.counts_after.ensures.err
+    move_answered_with c.undo_at-done.result b (journal c.args.self.now.session) (journal c.undo_at-done.new.self) (undo_at g.row.R b.session c.args.k)
+    c.counts_after.result (lists_in c.cut_back.new.self) (lists_in c.args.self.now.bookmarks) c.cut_back.ensures.lists refl refl c.undo_at-done.ensures.ok c.undo_at-done.ensures.err c.undo_at-done.ensures.unchanged c.counts_after.ensures.ok c.counts_after.ensures.err

@@ -1,40 +1,54 @@
-use Rattle.std.proofs.Common.{None, lit<, sym, inl, Some}
+use Rattle.std.proofs.Common.{List, lit<, sym, inl, ap, ◌∙◌, option_map}
+use Rattle.rd_step.specs.declared.entries.Entry.{Entry}
 use Rattle.rd_journal.specs.Journal.{events}
-use Rattle.rd_journal.specs.Sessions.{state}
+use Rattle.rd_journal.specs.Sessions.{journal, state}
+use Rattle.rd_marks.specs.declared.names.MarkName.{MarkName}
 use Rattle.rd_marks.specs.BookViews.{book_state}
-use Rattle.rd_marks.specs.Tree.{path_in}
-use Rattle.rd_marks.specs.TreeViews.{mark_tree}
-use Rattle.rd_marks.proofs.MarkLemmas.{found_events, goto_missing, goto_done, goto_not_done}
-use Rattle.rd_marks.proofs.Sharing.{node_in, node_run}
+use Rattle.rd_marks.specs.Kept.{lists_in, records_in}
+use Rattle.rd_marks.specs.Layout.{IsRecordOfRun}
+use Rattle.rd_marks.specs.Marks.{marks_of}
+use Rattle.rd_marks.specs.Names.{same_name}
+use Rattle.rd_marks.proofs.MarkLemmas.{all_found, found_events, goto_missing, goto_done, goto_not_done}
+use Rattle.rd_marks.proofs.Starts.{runs_stay, start_kept}
 use Rattle.rd_marks.proofs.books.Book.goto_mark.Goals as goal
 
 pub returns-in_default-clause-err : goal.returns-in_default-clause-err
 returns-in_default-clause-err g c =
     inl (goto_missing (book_state c.args.self.now) c.args.name
-    (found_events (mark_tree c.args.self.now.tree) c.args.name c.args.self.now.marks.entries None (sym c.in_default.ensures.value)))
+    (found_events c.args.name (lists_in c.args.self.now.bookmarks) ∙ ap (option_map events) (sym c.in_default.ensures.found)))
 
-pub switch_to-requires : goal.switch_to-requires
-switch_to-requires g c =
-    let t = mark_tree c.args.self.now.tree in (
+pub go_to-requires : goal.go_to-requires
+go_to-requires g c =
+    let book = c.args.self.now in (
       lit< tt,
       (
-        c.args.self.now.stands,
+        c.in-Some.ensures.within,
         (
-          node_in t c.args.name c.args.self.now.marks.entries c.in-Some.node.now (sym c.in-Some.ensures.value) c.args.self.now.kept.present,
-          node_run g.row.R (state c.args.self.now.session).start t c.args.name c.args.self.now.marks.entries c.in-Some.node.now (sym c.in-Some.ensures.value)
-              c.args.self.now.kept.runs,
+          all_found (same_name c.args.name) (λ (xs : List Entry). IsRecordOfRun g.row.R (state book.session).start xs) (lists_in book.bookmarks) (records_in book.bookmarks c.in-Some.place) book.runs
+              (sym c.in-Some.ensures.found),
+          book.stands,
         ),
       ),
     )
 
 pub returns-clause-ok : goal.returns-clause-ok
 returns-clause-ok g c =
-    let t = mark_tree c.args.self.now.tree in
-    goto_done c.switch_to.result (book_state c.args.self.now) c.args.name (events (path_in t c.in-Some.node.now)) (state c.switch_to.new.session)
-    (found_events t c.args.name c.args.self.now.marks.entries (Some c.in-Some.node.now) (sym c.in-Some.ensures.value)) c.switch_to.ensures.ok
+    let b = book_state c.args.self.now in
+    goto_done c.go_to.result b (record { session = state c.go_to.new.session; marks = marks_of (lists_in c.go_to.new.self) }) c.args.name (events (records_in c.args.self.now.bookmarks c.in-Some.place))
+    (found_events c.args.name (lists_in c.args.self.now.bookmarks) ∙ ap (option_map events) (sym c.in-Some.ensures.found))
+    (ap (λ (ls : List (MarkName × List Entry)). record { session = state c.go_to.new.session; marks = marks_of ls }) c.go_to.ensures.lists) c.go_to.ensures.ok
 
 pub returns-clause-err : goal.returns-clause-err
 returns-clause-err g c =
-    let t = mark_tree c.args.self.now.tree in
-    goto_not_done c.switch_to.result (book_state c.args.self.now) c.args.name (events (path_in t c.in-Some.node.now))
-    (found_events t c.args.name c.args.self.now.marks.entries (Some c.in-Some.node.now) (sym c.in-Some.ensures.value)) c.switch_to.ensures.err c.switch_to.ensures.succeeds
+    goto_not_done c.go_to.result (book_state c.args.self.now) c.args.name (events (records_in c.args.self.now.bookmarks c.in-Some.place))
+    (found_events c.args.name (lists_in c.args.self.now.bookmarks) ∙ ap (option_map events) (sym c.in-Some.ensures.found)) c.go_to.ensures.err c.go_to.ensures.succeeds
+
+pub invariant_of-self : goal.invariant_of-self
+invariant_of-self g c =
+    let book = c.args.self.now in
+    let start =
+    start_kept c.go_to.result (journal book.session) (journal c.go_to.new.session) (events (records_in book.bookmarks c.in-Some.place)) c.go_to.ensures.ok c.go_to.ensures.unchanged in
+    record {
+      runs = runs_stay g.row.R (state book.session).start (state c.go_to.new.session).start (lists_in book.bookmarks) (lists_in c.go_to.new.self) start c.go_to.ensures.lists book.runs;
+      stands = c.go_to.ensures.stands;
+    }

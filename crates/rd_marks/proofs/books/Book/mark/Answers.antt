@@ -1,40 +1,50 @@
 use Rattle.std.proofs.Common.{◌≡◌, ◌≢◌, ◌∙◌, lit<, inl, inr, refl, sym, ap, subst, List, Result, Ok, IsOk, length, arith}
+use Rattle.std.proofs.lemmas.List.{length-map, map-append}
 use Rattle.rd_step.specs.Prelude.{Refusal}
-use Rattle.std.proofs.lemmas.List.{length-map}
 use Rattle.rd_marks.specs.Books.{BookState, Mark, with_marks}
 use Rattle.rd_marks.specs.BookViews.{book_state}
-use Rattle.rd_marks.specs.Marks.{mark_of}
+use Rattle.rd_marks.specs.Kept.{lists_in, records_in}
+use Rattle.rd_marks.specs.Marks.{mark_of, marks_of}
 use Rattle.rd_marks.specs.NameBytes.{MOST_MARKS}
-use Rattle.rd_marks.specs.TreeViews.{mark_tree}
-use Rattle.rd_marks.proofs.MarkLemmas.{mark_goes, mark_taken, mark_too_many}
+use Rattle.rd_marks.proofs.MarkLemmas.{found_at, none_at, mark_goes, mark_taken, mark_too_many}
 use Rattle.rd_marks.proofs.books.Book.mark.Goals as goal
 
-pub returns-then-is_marked-clause-err : goal.returns-then-is_marked-clause-err
-returns-then-is_marked-clause-err g c =
-    inl (mark_taken (book_state c.args.self.now) c.args.name (sym (c.is_marked.ensures (mark_tree c.args.self.now.tree)) ∙ c.if-is_marked.true))
+pub returns-then-is_some-clause-err : goal.returns-then-is_some-clause-err
+returns-then-is_some-clause-err g c =
+    let bookmarks = c.args.self.now.bookmarks in
+    inl (mark_taken (book_state c.args.self.now) c.args.name
+    (found_at (records_in bookmarks) c.args.name (lists_in bookmarks) c.find.result c.is_some.result c.find.ensures.found c.is_some.ensures ∙ c.if-is_some.true))
 
 pub returns-then-len-eq-MOST_MARKS-clause-err : goal.returns-then-len-eq-MOST_MARKS-clause-err
 returns-then-len-eq-MOST_MARKS-clause-err g c =
-    let b = book_state c.args.self.now in
-    let full : length b.marks ≡ MOST_MARKS = omega (arith, length-map c.args.self.now.marks.entries (λ m. mark_of (mark_tree c.args.self.now.tree) m)) in
-    inl (mark_too_many b c.args.name (sym (c.is_marked.ensures (mark_tree c.args.self.now.tree)) ∙ c.if-is_marked.false) full)
+    let bookmarks = c.args.self.now.bookmarks in
+    let full : length (book_state c.args.self.now).marks ≡ MOST_MARKS = omega (arith, length-map (lists_in bookmarks) mark_of, c.len.ensures.count, c.if-len-eq-MOST_MARKS.true) in
+    inl (mark_too_many (book_state c.args.self.now) c.args.name
+    (found_at (records_in bookmarks) c.args.name (lists_in bookmarks) c.find.result c.is_some.result c.find.ensures.found c.is_some.ensures ∙ c.if-is_some.false) full)
 
-pub put_mark-requires : goal.put_mark-requires
-put_mark-requires g c = (
-  lit< tt,
-  (sym (c.is_marked.ensures (mark_tree c.args.self.now.tree)) ∙ c.if-is_marked.false, (omega (arith, c.args.self.now.kept.few), (c.args.self.now.kept, c.args.self.now.stands))),
-)
+pub set-requires : goal.set-requires
+set-requires g c =
+    let bookmarks = c.args.self.now.bookmarks in (
+      lit< tt,
+      (
+        none_at (records_in bookmarks) c.args.name (lists_in bookmarks) c.find.result c.is_some.result c.find.ensures.found c.is_some.ensures c.if-is_some.false,
+        (omega (arith, c.len.ensures.count, c.len.ensures.few, c.if-len-eq-MOST_MARKS.false), (c.args.self.now.runs, c.args.self.now.stands)),
+      ),
+    )
 
 pub returns-in-Err-clause-err : goal.returns-in-Err-clause-err
 returns-in-Err-clause-err g c =
+    let bookmarks = c.args.self.now.bookmarks in
     let b = book_state c.args.self.now in
-    let new = sym (c.is_marked.ensures (mark_tree c.args.self.now.tree)) ∙ c.if-is_marked.false in
-    let few : length b.marks ≢ MOST_MARKS = omega (arith, length-map c.args.self.now.marks.entries (λ m. mark_of (mark_tree c.args.self.now.tree) m)) in
+    let new = found_at (records_in bookmarks) c.args.name (lists_in bookmarks) c.find.result c.is_some.result c.find.ensures.found c.is_some.ensures ∙ c.if-is_some.false in
+    let few : length b.marks ≢ MOST_MARKS = omega (arith, length-map (lists_in bookmarks) mark_of, c.len.ensures.count, c.if-len-eq-MOST_MARKS.false) in
     inr (refl, subst (λ (m : Result BookState Refusal). IsOk m) (sym (mark_goes b c.args.name new few)) refl)
 
 pub returns-in-Ok-clause-ok : goal.returns-in-Ok-clause-ok
 returns-in-Ok-clause-ok g c =
+    let bookmarks = c.args.self.now.bookmarks in
     let b = book_state c.args.self.now in
-    let new = sym (c.is_marked.ensures (mark_tree c.args.self.now.tree)) ∙ c.if-is_marked.false in
-    let few : length b.marks ≢ MOST_MARKS = omega (arith, length-map c.args.self.now.marks.entries (λ m. mark_of (mark_tree c.args.self.now.tree) m)) in
-    mark_goes b c.args.name new few ∙ ap (λ (xs : List Mark). Ok (with_marks b xs)) (sym c.in-Ok.ensures.ok)
+    let new = found_at (records_in bookmarks) c.args.name (lists_in bookmarks) c.find.result c.is_some.result c.find.ensures.found c.is_some.ensures ∙ c.if-is_some.false in
+    let few : length b.marks ≢ MOST_MARKS = omega (arith, length-map (lists_in bookmarks) mark_of, c.len.ensures.count, c.if-len-eq-MOST_MARKS.false) in
+    let put = ap marks_of c.in-Ok.ensures.ok ∙ map-append mark_of (lists_in bookmarks) _ in
+    mark_goes b c.args.name new few ∙ ap (λ (xs : List Mark). Ok (with_marks b xs)) (sym put)

@@ -1,39 +1,23 @@
-use Rattle.std.proofs.Common.{◌≡◌, ◌∙◌, ◌-◌, suc, List, Option, refl, sym, ap, inl, inr, arith}
+use Rattle.std.proofs.Common.{◌∙◌, ◌-◌, List, Option, Some, None, refl, sym, ap, arith}
 use Rattle.rd_step.specs.declared.entries.Event.{Event}
 use Rattle.rd_marks.specs.Books.{event_in}
 use Rattle.rd_marks.specs.BookViews.{book_state}
-use Rattle.rd_marks.specs.TreeViews.{mark_tree}
-use Rattle.rd_marks.proofs.Sharing.{marked_in}
-use Rattle.rd_marks.proofs.MarkedEvents.{no_events, its_events}
+use Rattle.rd_marks.specs.Kept.{lists_in, records_in}
+use Rattle.rd_marks.proofs.MarkLemmas.{events_said, no_mark}
 use Rattle.rd_marks.proofs.books.Book.mark_event.Goals as goal
 
 pub returns-then-i-eq0 : goal.returns-then-i-eq0
-returns-then-i-eq0 g c =
-    let book = c.args.self.now in
-    sym (ap (λ (es : Option (List Event)). event_in es c.args.n)
-    (no_events (mark_tree book.tree) (book_state book) book.marks.entries c.args.i refl (inl (omega arith))))
+returns-then-i-eq0 g c = sym (ap (λ (es : Option (List Event)). event_in es c.args.n) (no_mark (book_state c.args.self.now) c.args.i (omega arith)))
 
 pub returns-in-None : goal.returns-in-None
 returns-in-None g c =
-    let book = c.args.self.now in
-    let before : c.args.i ≡ suc (c.args.i - 1) = omega arith in
     sym (ap (λ (es : Option (List Event)). event_in es c.args.n)
-    (no_events (mark_tree book.tree) (book_state book) book.marks.entries c.args.i refl (inr (c.args.i - 1, before, sym c.in-None.ensures.entry))))
-
-pub event_at-requires : goal.event_at-requires
-event_at-requires g c =
-    let book = c.args.self.now in
-    record {
-      present =
-          marked_in (mark_tree book.tree) book.marks.entries (c.args.i - 1) (c.in-Some.field-0-0.now, c.in-Some.node.now) (sym c.in-Some.ensures.entry)
-          book.kept.present;
-    }
+    (events_said (book_state c.args.self.now) (lists_in c.args.self.now.bookmarks) c.args.i (c.args.i - 1) None refl (omega arith) (sym c.in-None.ensures.found)))
 
 pub returns-in-Some : goal.returns-in-Some
 returns-in-Some g c =
-    let book = c.args.self.now in
-    let before : c.args.i ≡ suc (c.args.i - 1) = omega arith in
+    let bookmarks = c.args.self.now.bookmarks in
     c.event_at.ensures
     ∙ sym (ap (λ (es : Option (List Event)). event_in es c.args.n)
-    (its_events (mark_tree book.tree) (book_state book) book.marks.entries c.args.i (c.args.i - 1) (c.in-Some.field-0-0.now, c.in-Some.node.now) refl before
-    (sym c.in-Some.ensures.entry)))
+    (events_said (book_state c.args.self.now) (lists_in bookmarks) c.args.i (c.args.i - 1) (Some (c.in-Some.field-0-0, records_in bookmarks c.in-Some.place)) refl (omega arith)
+    (sym c.in-Some.ensures.found)))

@@ -1,53 +1,33 @@
-use Rattle.std.proofs.Common.{◌≡◌, ◌-◌, suc, List, Option, Ok, Err, refl, sym, subst, true≢false, inl, inr, arith}
+use Rattle.std.proofs.Common.{◌-◌, List, Option, Some, None, Ok, Err, refl, sym, subst, ap, length, true≢false, arith}
 use Rattle.rd_step.specs.Prelude.{NoMark, NoMemory}
 use Rattle.rd_step.specs.declared.entries.Event.{Event}
 use Rattle.rd_marks.specs.Books.{AnswersEvents}
 use Rattle.rd_marks.specs.BookViews.{book_state}
-use Rattle.rd_marks.specs.TreeViews.{mark_tree}
-use Rattle.rd_marks.proofs.Sharing.{marked_in}
-use Rattle.rd_marks.proofs.MarkedEvents.{no_depth, no_events, its_events}
+use Rattle.rd_marks.specs.Kept.{lists_in, records_in}
+use Rattle.rd_marks.proofs.Starting.{events_length}
+use Rattle.rd_marks.proofs.MarkLemmas.{events_said, no_mark}
 use Rattle.rd_marks.proofs.books.Book.mark_events.Goals as goal
 
 pub returns-then-i-eq0 : goal.returns-then-i-eq0
 returns-then-i-eq0 g c =
-    let book = c.args.self.now in
-    subst (λ (es : Option (List Event)). AnswersEvents es (Err NoMark))
-    (sym (no_events (mark_tree book.tree) (book_state book) book.marks.entries c.args.i refl (inl (omega arith)))) refl
+    subst (λ (es : Option (List Event)). AnswersEvents es (Err NoMark)) (sym (no_mark (book_state c.args.self.now) c.args.i (omega arith))) refl
 
 pub returns-in_default : goal.returns-in_default
 returns-in_default g c =
-    let book = c.args.self.now in
-    let before : c.args.i ≡ suc (c.args.i - 1) = omega arith in
     subst (λ (es : Option (List Event)). AnswersEvents es (Err NoMark))
-    (sym (no_events (mark_tree book.tree) (book_state book) book.marks.entries c.args.i refl
-    (inr (c.args.i - 1, before, sym c.in_default.ensures.entry)))) refl
-
-pub events-requires : goal.events-requires
-events-requires g c =
-    let book = c.args.self.now in
-    record {
-      present =
-          marked_in (mark_tree book.tree) book.marks.entries (c.args.i - 1) (c.in-Some.field-0-0.now, c.in-Some.node.now) (sym c.in-Some.ensures.entry)
-          book.kept.present;
-    }
+    (sym (events_said (book_state c.args.self.now) (lists_in c.args.self.now.bookmarks) c.args.i (c.args.i - 1) None refl (omega arith) (sym c.in_default.ensures.found))) refl
 
 pub returns-in-Err : goal.returns-in-Err
 returns-in-Err g c =
-    let book = c.args.self.now in
-    let t = mark_tree book.tree in
-    let at = c.in-Some.node.now in
-    let before : c.args.i ≡ suc (c.args.i - 1) = omega arith in
-    let there =
-    marked_in t book.marks.entries (c.args.i - 1) (c.in-Some.field-0-0.now, at) (sym c.in-Some.ensures.entry) book.kept.present
-    in
+    let bookmarks = c.args.self.now.bookmarks in
+    let place = c.in-Some.place in
     subst (λ (es : Option (List Event)). AnswersEvents es (Err NoMemory))
-    (sym (its_events t (book_state book) book.marks.entries c.args.i (c.args.i - 1) (c.in-Some.field-0-0.now, at) refl before (sym c.in-Some.ensures.entry)))
-    (refl, λ none. true≢false (sym (c.in-Err.ensures.succeeds (no_depth t book.tree.kept.tree at there none))))
+    (sym (events_said (book_state c.args.self.now) (lists_in bookmarks) c.args.i (c.args.i - 1) (Some (c.in-Some.field-0-0, records_in bookmarks place)) refl (omega arith) (sym c.in-Some.ensures.found)))
+    (refl, λ none. true≢false (sym (c.in-Err.ensures.succeeds (omega (arith, ap length none, events_length bookmarks.stretches.list.items place c.in-Some.ensures.within)))))
 
 pub returns-in-Ok : goal.returns-in-Ok
 returns-in-Ok g c =
-    let book = c.args.self.now in
-    let before : c.args.i ≡ suc (c.args.i - 1) = omega arith in
+    let bookmarks = c.args.self.now.bookmarks in
     subst (λ (es : Option (List Event)). AnswersEvents es (Ok c.in-Ok.events))
-    (sym (its_events (mark_tree book.tree) (book_state book) book.marks.entries c.args.i (c.args.i - 1) (c.in-Some.field-0-0.now, c.in-Some.node.now) refl before
-    (sym c.in-Some.ensures.entry))) c.in-Ok.ensures.ok
+    (sym (events_said (book_state c.args.self.now) (lists_in bookmarks) c.args.i (c.args.i - 1) (Some (c.in-Some.field-0-0, records_in bookmarks c.in-Some.place)) refl (omega arith) (sym c.in-Some.ensures.found)))
+    c.in-Ok.ensures.ok

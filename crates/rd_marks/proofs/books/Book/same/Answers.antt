@@ -1,58 +1,48 @@
-use Rattle.std.proofs.Common.{Some, None, Ok, Err, sym, refl}
+use Rattle.std.proofs.Common.{Ok, Err, List, sym, refl, ap, ◌∙◌, option_map}
 use Rattle.rd_step.specs.Prelude.{NoMemory}
+use Rattle.rd_step.specs.declared.entries.Entry.{Entry}
 use Rattle.rd_journal.specs.Journal.{events}
 use Rattle.rd_journal.specs.Sessions.{state}
 use Rattle.rd_marks.specs.Books.{marked_events}
 use Rattle.rd_marks.specs.BookViews.{book_state}
-use Rattle.rd_marks.specs.Tree.{path_in}
-use Rattle.rd_marks.specs.TreeViews.{mark_tree}
-use Rattle.rd_marks.proofs.MarkLemmas.{found_events, first_missing, second_missing, both_there, decided}
-use Rattle.rd_marks.proofs.Sharing.{node_in, node_run}
+use Rattle.rd_marks.specs.Kept.{lists_in, records_in}
+use Rattle.rd_marks.specs.Layout.{IsRecordOfRun}
+use Rattle.rd_marks.specs.Names.{same_name}
+use Rattle.rd_marks.proofs.MarkLemmas.{all_found, found_events, first_missing, second_missing, both_there, decided}
 use Rattle.rd_marks.proofs.books.Book.same.Goals as goal
-
-pub are_same-requires-clause-one : goal.are_same-requires-clause-one
-are_same-requires-clause-one g c =
-    node_in (mark_tree c.args.self.now.tree) c.args.one c.args.self.now.marks.entries c.in-Some.one.now (sym c.in-Some.ensures.value) c.args.self.now.kept.present
-
-pub are_same-requires-clause-other : goal.are_same-requires-clause-other
-are_same-requires-clause-other g c =
-    node_in (mark_tree c.args.self.now.tree) c.args.other c.args.self.now.marks.entries c.in-Some-get.other.now (sym c.in-Some-get.ensures.value)
-    c.args.self.now.kept.present
 
 pub returns-in_default : goal.returns-in_default
 returns-in_default g c =
     let b = book_state c.args.self.now in
     first_missing g.row.R b.session.start (marked_events b.marks c.args.one) (marked_events b.marks c.args.other)
-    (found_events (mark_tree c.args.self.now.tree) c.args.one c.args.self.now.marks.entries None (sym c.in_default.ensures.value))
+    (found_events c.args.one (lists_in c.args.self.now.bookmarks) ∙ ap (option_map events) (sym c.in_default.ensures.found))
 
-pub returns-in_default-get : goal.returns-in_default-get
-returns-in_default-get g c =
+pub returns-in_default-find : goal.returns-in_default-find
+returns-in_default-find g c =
     let b = book_state c.args.self.now in
-    let t = mark_tree c.args.self.now.tree in
-    second_missing g.row.R b.session.start (marked_events b.marks c.args.one) (marked_events b.marks c.args.other) (events (path_in t c.in-Some.one.now))
-    (found_events t c.args.one c.args.self.now.marks.entries (Some c.in-Some.one.now) (sym c.in-Some.ensures.value))
-    (found_events t c.args.other c.args.self.now.marks.entries None (sym c.in_default-get.ensures.value))
+    let ls = lists_in c.args.self.now.bookmarks in
+    second_missing g.row.R b.session.start (marked_events b.marks c.args.one) (marked_events b.marks c.args.other) (events (records_in c.args.self.now.bookmarks c.in-Some.one))
+    (found_events c.args.one ls ∙ ap (option_map events) (sym c.in-Some.ensures.found)) (found_events c.args.other ls ∙ ap (option_map events) (sym c.in_default-find.ensures.found))
 
 pub returns-in-Err : goal.returns-in-Err
 returns-in-Err g c =
     let b = book_state c.args.self.now in
-    let t = mark_tree c.args.self.now.tree in
-    both_there g.row.R b.session.start (marked_events b.marks c.args.one) (marked_events b.marks c.args.other) (events (path_in t c.in-Some.one.now))
-    (events (path_in t c.in-Some-get.other.now)) (Err NoMemory)
-    (found_events t c.args.one c.args.self.now.marks.entries (Some c.in-Some.one.now) (sym c.in-Some.ensures.value))
-    (found_events t c.args.other c.args.self.now.marks.entries (Some c.in-Some-get.other.now) (sym c.in-Some-get.ensures.value))
+    let ls = lists_in c.args.self.now.bookmarks in
+    both_there g.row.R b.session.start (marked_events b.marks c.args.one) (marked_events b.marks c.args.other) (events (records_in c.args.self.now.bookmarks c.in-Some.one))
+    (events (records_in c.args.self.now.bookmarks c.in-Some-find.other)) (Err NoMemory)
+    (found_events c.args.one ls ∙ ap (option_map events) (sym c.in-Some.ensures.found)) (found_events c.args.other ls ∙ ap (option_map events) (sym c.in-Some-find.ensures.found))
     (refl, c.in-Err.ensures.memory)
 
 pub returns-in-Ok : goal.returns-in-Ok
 returns-in-Ok g c =
-    let b = book_state c.args.self.now in
-    let w = (state c.args.self.now.session).start in
-    let t = mark_tree c.args.self.now.tree in
-    let ms = c.args.self.now.marks.entries in
-    both_there g.row.R b.session.start (marked_events b.marks c.args.one) (marked_events b.marks c.args.other) (events (path_in t c.in-Some.one.now))
-    (events (path_in t c.in-Some-get.other.now)) (Ok c.in-Ok.same)
-    (found_events t c.args.one ms (Some c.in-Some.one.now) (sym c.in-Some.ensures.value))
-    (found_events t c.args.other ms (Some c.in-Some-get.other.now) (sym c.in-Some-get.ensures.value))
-    (decided g.row.R w (path_in t c.in-Some.one.now) (path_in t c.in-Some-get.other.now) c.in-Ok.same
-    (node_run g.row.R w t c.args.one ms c.in-Some.one.now (sym c.in-Some.ensures.value) c.args.self.now.kept.runs)
-    (node_run g.row.R w t c.args.other ms c.in-Some-get.other.now (sym c.in-Some-get.ensures.value) c.args.self.now.kept.runs) c.in-Ok.ensures.answer)
+    let book = c.args.self.now in
+    let b = book_state book in
+    let w = (state book.session).start in
+    let ls = lists_in book.bookmarks in
+    let ones = records_in book.bookmarks c.in-Some.one in
+    let others = records_in book.bookmarks c.in-Some-find.other in
+    both_there g.row.R b.session.start (marked_events b.marks c.args.one) (marked_events b.marks c.args.other) (events ones) (events others) (Ok c.in-Ok.same)
+    (found_events c.args.one ls ∙ ap (option_map events) (sym c.in-Some.ensures.found)) (found_events c.args.other ls ∙ ap (option_map events) (sym c.in-Some-find.ensures.found))
+    (decided g.row.R w ones others c.in-Ok.same
+    (all_found (same_name c.args.one) (λ (xs : List Entry). IsRecordOfRun g.row.R w xs) ls ones book.runs (sym c.in-Some.ensures.found))
+    (all_found (same_name c.args.other) (λ (xs : List Entry). IsRecordOfRun g.row.R w xs) ls others book.runs (sym c.in-Some-find.ensures.found)) c.in-Ok.ensures.answer)

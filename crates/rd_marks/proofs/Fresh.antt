@@ -1,0 +1,194 @@
+-- Which lists begin alike, and how far the stretches can be followed along a list of events.
+use Rattle.std.proofs.Common.{◌≡◌, ◌⊎◌, ℕ, zero, suc, ◌<◌, ◌≤◌, inl, inr, refl, sym, ap, ◌∙◌, subst, List, length, take, length-take, arith}
+use Rattle.std.proofs.lemmas.Bool.{cases_lt, cases_eq}
+use Rattle.std.proofs.lemmas.List.{length-map, take-take, take-map, length-take-le}
+use Rattle.rd_step.specs.Run.{events}
+use Rattle.rd_step.specs.declared.entries.Event.{Event}
+use Rattle.rd_step.specs.declared.entries.Entry.{Entry}
+use Rattle.rd_depend.specs.Beginnings.{Begins}
+use Rattle.rd_marks.specs.declared.stretches.Stretch.{Stretch}
+use Rattle.rd_marks.specs.Stretches.{list_of, shared_at, AreNested, AreFresh, IsAlong, IsDeepest}
+use Rattle.rd_marks.proofs.StretchLists.{list_past, begins_shared, shared_records}
+
+abbrev event_of : Entry → Event
+event_of x = x.event
+
+-- Along events
+
+pub along_within : (ss : List Stretch) (i n : ℕ) (es : List Event) → IsAlong ss i n es → n ≤ length (list_of ss i)
+along_within ss i n es a =
+    let both = sym (length-take n (events (list_of ss i))) ∙ ap length a.alike ∙ length-take n es in
+    let its = length-map (list_of ss i) event_of in
+    let enough = a.enough in
+    omega (arith, both, its, enough)
+
+pub along_less : (ss : List Stretch) (i m n : ℕ) (es : List Event) → m ≤ n → IsAlong ss i n es → IsAlong ss i m es
+along_less ss i m n es h a =
+    let enough = a.enough in
+    record { enough = omega (arith, h, enough); alike = sym (take-take m n (events (list_of ss i)) h) ∙ ap (take m) a.alike ∙ take-take m n es h }
+
+-- so is each list that begins alike
+pub along_taken : (ss rs : List Stretch) (i m n : ℕ) (es : List Event) → take n (list_of ss i) ≡ take n (list_of rs m) → IsAlong rs m n es → IsAlong ss i n es
+along_taken ss rs i m n es same a = record {
+  enough = a.enough;
+  alike = take-map event_of n (list_of ss i) ∙ ap events same ∙ sym (take-map event_of n (list_of rs m)) ∙ a.alike;
+}
+
+pub along_itself : (ss : List Stretch) (i n : ℕ) → n ≤ length (list_of ss i) → IsAlong ss i n (events (list_of ss i))
+along_itself ss i n h = let its = length-map (list_of ss i) event_of in record { enough = omega (arith, its, h); alike = refl }
+
+-- two that are along the same are along each other
+along_both : (ss rs : List Stretch) (i m n : ℕ) (es : List Event) → IsAlong ss i n es → IsAlong rs m n es → IsAlong ss i n (events (list_of rs m))
+along_both ss rs i m n es a b =
+    let within = along_within rs m n es b in
+    let its = length-map (list_of rs m) event_of in
+    record { enough = omega (arith, its, within); alike = a.alike ∙ sym b.alike }
+
+-- beginning with the first events of a list is going along it
+pub opened : (ss : List Stretch) (i n : ℕ) (es : List Event) → n ≤ length (list_of ss i) → Begins (take n (events (list_of ss i))) es → IsAlong ss i n es
+opened ss i n es h b =
+    let its = length-map (list_of ss i) event_of in
+    let long : length (take n (events (list_of ss i))) ≡ n = length-take-le n (events (list_of ss i)) (omega (arith, its, h)) in
+    let same : take n es ≡ take n (events (list_of ss i)) = ap (λ (m : ℕ). take m es) (sym long) ∙ b in
+    let taken = sym (length-take n es) ∙ ap length same ∙ long in
+    record { enough = omega (arith, taken); alike = sym same }
+
+opens : (ss : List Stretch) (i n : ℕ) (es : List Event) → IsAlong ss i n es → Begins (take n (events (list_of ss i))) es
+opens ss i n es a =
+    let within = along_within ss i n es a in
+    let its = length-map (list_of ss i) event_of in
+    let long : length (take n (events (list_of ss i))) ≡ n = length-take-le n (events (list_of ss i)) (omega (arith, its, within)) in
+    ap (λ (m : ℕ). take m es) long ∙ sym a.alike
+
+-- what freshness says of lists along the same events
+abbrev pub AreApart : List Stretch → Type 0
+AreApart ss = (i j : ℕ) → j < i → i < length ss → IsAlong ss i (suc (shared_at ss i)) (events (list_of ss j)) → ⊥
+
+pub apart : (ss : List Stretch) → AreFresh ss → AreApart ss
+apart ss fresh i j h k a = fresh i j h k (opens ss i (suc (shared_at ss i)) (events (list_of ss j)) a)
+
+pub fresh_apart : (ss : List Stretch) → AreNested ss → AreApart ss → AreFresh ss
+fresh_apart ss rule apart i j h k b = apart i j h k (opened ss i (suc (shared_at ss i)) (events (list_of ss j)) (let some = rule.some i k in omega (arith, some)) b)
+
+module _ (ss : List Stretch) (rule : AreNested ss) (fresh : AreFresh ss) where
+  pub not_both : (i j n : ℕ) (es : List Event) → j < i → i < length ss → shared_at ss i < n → IsAlong ss i n es → IsAlong ss j n es → ⊥
+  not_both i j n es h k less a b =
+      let d = suc (shared_at ss i) in
+      apart ss fresh i j h k (along_both ss ss i j d es (along_less ss i d n es (omega (arith, less)) a) (along_less ss j d n es (omega (arith, less)) b))
+
+  -- if two lists have as many first events in common, all stretches between share as many
+  pub between : (i m n : ℕ) (es : List Event) → m < length ss → IsAlong ss i n es → IsAlong ss m n es → (k : ℕ) → i < k → k ≤ m → n ≤ shared_at ss k
+  between i zero n es h a b k low high = absurd (omega (arith, low, high))
+  between i (suc m) n es h a b k low high =
+      elim (cases_eq k (suc m)) [
+        | inl same ↦ subst (λ (d : ℕ). n ≤ shared_at ss d) (sym same) last
+        | inr other ↦
+            between i m n es (omega (arith, h)) a (along_taken ss ss m (suc m) n es (sym (begins_shared ss rule (suc m) n last)) b) k low
+            (omega (arith, high, other))
+      ]
+    where
+      last : n ≤ shared_at ss (suc m)
+      last =
+          elim (cases_lt (shared_at ss (suc m)) n) [
+            | inl less ↦ absurd (not_both (suc m) i n es (omega (arith, low, high)) h less b a)
+            | inr fine ↦ fine
+          ]
+
+-- Following the stretches along events
+
+-- before stretch k: n events are in common with the list of one stretch, all from there on share as many, and none has one more
+pub record Follows (ss : List Stretch) (es : List Event) (k at n : ℕ) : Type 0 where
+  pub along : IsAlong ss at n es
+  pub shared : (j : ℕ) → at < j → j < k → n ≤ shared_at ss j
+  pub none : (j : ℕ) → j < k → IsAlong ss j (suc n) es → ⊥
+
+module _ (ss : List Stretch) (rule : AreNested ss) (fresh : AreFresh ss) (es : List Event) where
+  -- at its beginning, in a stretch of its own or the first
+  pub follows_start : (at n : ℕ) → (at ≡ 0) ⊎ (shared_at ss at < n) → IsAlong ss at n es → Follows ss es at at n
+  follows_start at n owned a = record {
+    along = a;
+    shared = λ j low high. absurd (omega (arith, low, high));
+    none = λ j h b. elim owned [
+      | inl first ↦ omega (arith, first, h)
+      | inr own ↦ elim (cases_lt at (length ss)) [
+        | inl inside ↦ not_both ss rule fresh at j n es h inside own a (along_less ss j n (suc n) es (omega arith) b)
+        | inr past ↦ let none = ap length (list_past ss at past) in let within = along_within ss at n es a in omega (arith, none, within, own)
+      ]
+    ];
+  }
+
+  -- the stretch is along as many
+  pub follows_here : (k at n : ℕ) → Follows ss es k at n → at ≤ k → (at ≡ k) ⊎ (n ≤ shared_at ss k) → IsAlong ss k n es
+  follows_here k at n f h here =
+      elim here [
+        | inl same ↦ subst (λ (i : ℕ). IsAlong ss i n es) same f.along
+        | inr less ↦ along_taken ss ss k at n es (shared_records ss rule at k n h (λ j low high. elim (cases_eq j k) [
+          | inl last ↦ subst (λ (i : ℕ). n ≤ shared_at ss i) (sym last) less
+          | inr earlier ↦ f.shared j low (omega (arith, high, earlier))
+        ])) f.along
+      ]
+
+  -- the stretch branches off further on than that
+  pub follows_skipped : (k at n : ℕ) → Follows ss es k at n → at < k → n < shared_at ss k → Follows ss es (suc k) at n
+  follows_skipped zero at n f h less = absurd (omega (arith, h))
+  follows_skipped (suc k) at n f h less = record {
+    along = f.along;
+    shared = λ j low high. elim (cases_eq j (suc k)) [
+      | inl last ↦ subst (λ (i : ℕ). n ≤ shared_at ss i) (sym last) (omega (arith, less))
+      | inr earlier ↦ f.shared j low (omega (arith, high, earlier))
+    ];
+    none = λ j high a. elim (cases_eq j (suc k)) [
+      | inl last ↦
+          f.none k (omega arith) (along_taken ss ss k (suc k) (suc n) es (sym (begins_shared ss rule (suc k) (suc n) (omega (arith, less))))
+          (subst (λ (i : ℕ). IsAlong ss i (suc n) es) last a))
+      | inr earlier ↦ f.none j (omega (arith, high, earlier)) a
+    ];
+  }
+
+  -- the stretch is along m, and no more
+  pub follows_compared : (k at n m : ℕ) → Follows ss es k at n → n ≤ m → IsAlong ss k m es → (IsAlong ss k (suc m) es → ⊥) → Follows ss es (suc k) k m
+  follows_compared k at n m f h a most = record {
+    along = a;
+    shared = λ j low high. absurd (omega (arith, low, high));
+    none = λ j high b. elim (cases_eq j k) [
+      | inl last ↦ most (subst (λ (i : ℕ). IsAlong ss i (suc m) es) last b)
+      | inr earlier ↦ f.none j (omega (arith, high, earlier)) (along_less ss j (suc n) (suc m) es (omega (arith, h)) b)
+    ];
+  }
+
+  -- the stretch branches off just there, to another event
+  pub follows_parted : (k at n : ℕ) → Follows ss es k at n → (at ≡ k) ⊎ (shared_at ss k ≡ n) → (IsAlong ss k (suc n) es → ⊥) → Follows ss es (suc k) at n
+  follows_parted k at n f here most = record {
+    along = f.along;
+    shared = λ j low high. elim (cases_eq j k) [
+      | inl last ↦ elim here [
+        | inl first ↦ absurd (omega (arith, low, last, first))
+        | inr off ↦ subst (λ (i : ℕ). n ≤ shared_at ss i) (sym last) (omega (arith, off))
+      ]
+      | inr earlier ↦ f.shared j low (omega (arith, high, earlier))
+    ];
+    none = λ j high b. elim (cases_eq j k) [
+      | inl last ↦ most (subst (λ (i : ℕ). IsAlong ss i (suc n) es) last b)
+      | inr earlier ↦ f.none j (omega (arith, high, earlier)) b
+    ];
+  }
+
+  -- where the stretches end, or one shares fewer, no list has one more
+  pub follows_stopped : (k at n : ℕ) → Follows ss es k at n → (k < length ss → (at < k) × (shared_at ss k < n)) → IsDeepest ss n es
+  follows_stopped k at n f stop j h a =
+      elim (cases_lt j k) [
+        | inl earlier ↦ f.none j earlier a
+        | inr later ↦
+            let stopped = stop (omega (arith, later, h)) in
+            let shared = between ss rule fresh at j n es h f.along (along_less ss j n (suc n) es (omega arith) a) k stopped.0 later in
+            let less = stopped.1 in
+            omega (arith, shared, less)
+      ]
+
+  -- no later stretch opens as those events do
+  pub later_apart : (at n k : ℕ) → at < k → k < length ss → IsAlong ss at n es → IsDeepest ss n es → IsAlong ss k (suc (shared_at ss k)) es → ⊥
+  later_apart at n k h inside a deepest b =
+      elim (cases_lt (shared_at ss k) n) [
+        | inl less ↦ not_both ss rule fresh k at (suc (shared_at ss k)) es h inside (omega arith) b (along_less ss at (suc (shared_at ss k)) n es (omega (arith, less)) a)
+        | inr more ↦ deepest k inside (along_less ss k (suc n) (suc (shared_at ss k)) es (omega (arith, more)) b)
+      ]

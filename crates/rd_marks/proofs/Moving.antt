@@ -1,0 +1,58 @@
+-- Changing what each name has, one after another, and reading it.
+use Rattle.std.proofs.Common.{◌≡◌, ℕ, zero, suc, ◌≤◌, max, refl, sym, ap, subst, List, [], ◌∷◌, ◌++◌, map, length, take, drop, slice_get, Some, All, arith}
+use Rattle.std.specs.Map.{values_of}
+use Rattle.std.proofs.lemmas.List.Elements.{All-head, All-tail}
+use Rattle.indexmap.specs.IndexMap.{set_value_at}
+use Rattle.rd_marks.specs.declared.names.MarkName.{MarkName}
+use Rattle.rd_marks.specs.declared.stretches.Place.{Place}
+use Rattle.rd_marks.specs.Layout.{places_of}
+use Rattle.rd_marks.specs.Stretches.{greatest_in, number_in}
+
+module _ {K V : Type 0} (f : V → V) where
+  -- the first n changed
+  abbrev pub changed : ℕ → List (K × V) → List (K × V)
+  changed n es = map (λ (e : K × V). (e.0, f e.1)) (take n es) ++ drop n es
+
+  pub changed_length : (n : ℕ) (es : List (K × V)) → length (changed n es) ≡ length es
+  changed_length zero es = refl
+  changed_length (suc n) [] = refl
+  changed_length (suc n) (e ∷ es) = ap suc (changed_length n es)
+
+  -- and the next one
+  pub changed_next : (n : ℕ) (es : List (K × V)) (v : V) → slice_get (values_of (changed n es)) n ≡ Some v → set_value_at (changed n es) n (f v) ≡ changed (suc n) es
+  changed_next zero [] v h = cc
+  changed_next zero (e ∷ es) v h = (let same : e.1 ≡ v = cc in ap (λ (u : V). (e.0, f u) ∷ es) (sym same))
+  changed_next (suc n) [] v h = cc
+  changed_next (suc n) (e ∷ es) v h = ap (λ (rest : List (K × V)). (e.0, f e.1) ∷ rest) (changed_next n es v h)
+
+  -- what the next one has
+  pub value_next : (P : V → Type 0) (n : ℕ) (es : List (K × V)) (v : V) → All (λ (e : K × V). P e.1) es → slice_get (values_of (changed n es)) n ≡ Some v → P v
+  value_next P zero [] v all h = cc
+  value_next P zero (e ∷ es) v all h = (let same : e.1 ≡ v = cc in subst (λ (u : V). P u) same (All-head (λ (d : K × V). P d.1) e es all))
+  value_next P (suc n) [] v all h = cc
+  value_next P (suc n) (e ∷ es) v all h = value_next P n es v (All-tail (λ (d : K × V). P d.1) e es all) h
+
+  -- all of them
+  pub all_changed : (n : ℕ) (es : List (K × V)) → length es ≤ n → changed n es ≡ map (λ (e : K × V). (e.0, f e.1)) es
+  all_changed zero [] h = refl
+  all_changed zero (e ∷ es) h = absurd (omega (arith, h))
+  all_changed (suc n) [] h = refl
+  all_changed (suc n) (e ∷ es) h = ap (λ (rest : List (K × V)). (e.0, f e.1) ∷ rest) (all_changed n es (omega (arith, h)))
+
+-- The greatest number of those that are left to read
+
+pub greatest_next : (i k : ℕ) (ms : List (MarkName × Place)) (m : MarkName × Place) → slice_get ms k ≡ Some m
+    → greatest_in i (places_of (drop k ms)) ≡ max (number_in i m.1) (greatest_in i (places_of (drop (suc k) ms)))
+greatest_next i k [] m h = cc
+greatest_next i zero (n ∷ ms) m h = (let same : n ≡ m = cc in ap (λ (d : MarkName × Place). max (number_in i d.1) (greatest_in i (places_of ms))) same)
+greatest_next i (suc k) (n ∷ ms) m h = greatest_next i k ms m h
+
+pub none_left : (i k : ℕ) (ms : List (MarkName × Place)) → length ms ≤ k → greatest_in i (places_of (drop k ms)) ≡ 0
+none_left i zero [] h = refl
+none_left i zero (m ∷ ms) h = absurd (omega (arith, h))
+none_left i (suc k) [] h = refl
+none_left i (suc k) (m ∷ ms) h = none_left i k ms (omega (arith, h))
+
+-- taking them in is as good
+pub max_assoc : (a b c : ℕ) → max (max a b) c ≡ max a (max b c)
+max_assoc a b c = omega arith

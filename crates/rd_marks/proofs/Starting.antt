@@ -1,0 +1,75 @@
+-- Lists that begin others, and the records up to a place.
+use Rattle.std.proofs.Common.{◌≡◌, ℕ, ◌<◌, ◌≤◌, inl, inr, sym, ap, ◌∙◌, subst, List, ◌++◌, length, take, drop, length-append, arith}
+use Rattle.std.proofs.Math.Seq.{take-append_seam, take-length}
+use Rattle.std.proofs.lemmas.Bool.{cases_lt}
+use Rattle.std.proofs.lemmas.List.{length-map, length-take-le, take-map, take-take, take-append-drop}
+use Rattle.rd_step.specs.Run.{events}
+use Rattle.rd_step.specs.declared.entries.Entry.{Entry}
+use Rattle.rd_depend.specs.Beginnings.{Begins}
+use Rattle.rd_marks.specs.declared.stretches.Place.{Place}
+use Rattle.rd_marks.specs.declared.stretches.Stretch.{Stretch}
+use Rattle.rd_marks.specs.Stretches.{list_of, records_at, IsWithin}
+use Rattle.rd_marks.proofs.StretchLists.{list_past}
+
+-- a list that begins with another is that and a rest
+begun : {X : Type 0} (xs ys : List X) → Begins xs ys → ys ≡ xs ++ drop (length xs) ys
+begun {X} xs ys h = sym (take-append-drop (length xs) ys) ∙ ap (λ (zs : List X). zs ++ drop (length xs) ys) h
+
+pub begins_itself : {X : Type 0} (xs : List X) → Begins xs xs
+begins_itself xs = take-length xs
+
+pub begins_with : {X : Type 0} (xs ys rest : List X) → ys ≡ xs ++ rest → Begins xs ys
+begins_with xs ys rest h = ap (take (length xs)) h ∙ take-append_seam xs rest
+
+pub begins_shorter : {X : Type 0} (xs ys : List X) → Begins xs ys → length xs ≤ length ys
+begins_shorter xs ys h =
+    let all = ap length (begun xs ys h) ∙ length-append xs (drop (length xs) ys) in
+    omega (arith, all)
+
+pub begins_trans : {X : Type 0} (xs ys zs : List X) → Begins xs ys → Begins ys zs → Begins xs zs
+begins_trans xs ys zs h k =
+    let short = begins_shorter xs ys h in
+    sym (take-take (length xs) (length ys) zs short) ∙ ap (take (length xs)) k ∙ h
+
+event_length : (xs : List Entry) → length (events xs) ≡ length xs
+event_length xs = length-map xs (λ (x : Entry). x.event)
+
+-- the events of records that begin others begin theirs
+pub begins_events : (xs ys : List Entry) → Begins xs ys → Begins (events xs) (events ys)
+begins_events xs ys h = ap (λ (n : ℕ). take n (events ys)) (event_length xs) ∙ take-map (λ (x : Entry). x.event) (length xs) ys ∙ ap events h
+
+-- the first events are those of the first records
+pub events_of_first : (n : ℕ) (xs : List Entry) → take n (events xs) ≡ events (take n xs)
+events_of_first n xs = take-map (λ (x : Entry). x.event) n xs
+
+module _ (ss : List Stretch) where
+  -- up to a place there are as many as its number says
+  pub records_length : (p : Place) → IsWithin ss p → length (records_at ss p) ≡ p.number
+  records_length p within = length-take-le p.number (list_of ss p.stretch) within
+
+  pub events_length : (p : Place) → IsWithin ss p → length (events (records_at ss p)) ≡ p.number
+  events_length p within = event_length (records_at ss p) ∙ records_length p within
+
+  -- it is in a stretch if it has any
+  pub stretch_within : (p : Place) → IsWithin ss p → 0 < p.number → p.stretch < length ss
+  stretch_within p within some =
+      elim (cases_lt p.stretch (length ss)) [
+        | inl inside ↦ inside
+        | inr past ↦ let none = ap length (list_past ss p.stretch past) in absurd (omega (arith, none, within, some))
+      ]
+
+  -- the first of them are the first of the list
+  pub first_records : (p : Place) (n : ℕ) → n ≤ p.number → take n (records_at ss p) ≡ take n (list_of ss p.stretch)
+  first_records p n h = take-take n p.number (list_of ss p.stretch) h
+
+  pub first_events : (p : Place) (n : ℕ) → n ≤ p.number → take n (events (records_at ss p)) ≡ take n (events (list_of ss p.stretch))
+  first_events p n h = events_of_first n (records_at ss p) ∙ ap events (first_records p n h) ∙ sym (events_of_first n (list_of ss p.stretch))
+
+  -- those up to a place of the same list with no greater number begin them
+  pub fewer_begin : (p q : Place) → IsWithin ss p → q.stretch ≡ p.stretch → q.number ≤ p.number → IsWithin ss q × Begins (records_at ss q) (records_at ss p)
+  fewer_begin p q within same fewer =
+      let there : q.number ≤ length (list_of ss p.stretch) = omega (arith, within, fewer) in
+      let is : IsWithin ss q = subst (λ (i : ℕ). q.number ≤ length (list_of ss i)) (sym same) there in (
+        is,
+        ap (λ (n : ℕ). take n (records_at ss p)) (records_length q is) ∙ first_records p q.number fewer ∙ ap (λ (i : ℕ). take q.number (list_of ss i)) (sym same),
+      )

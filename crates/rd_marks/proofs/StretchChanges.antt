@@ -1,0 +1,332 @@
+-- The rule of the stretches is kept, and each place keeps its records, where a stretch comes, goes or changes.
+use Rattle.std.proofs.Common.{◌≡◌, ◌⊎◌, ℕ, zero, suc, ◌+◌, ◌-◌, ◌<◌, ◌≤◌, inl, inr, refl, sym, ap, ◌∙◌, subst, List, [], ◌∷◌, ◌++◌, map, length, take, length-take, arith}
+use Rattle.std.proofs.lemmas.Bool.{cases_lt, cases_eq, cases_order}
+use Rattle.std.proofs.lemmas.Bool.Decides.{nat_tests}
+use Rattle.std.proofs.lemmas.List.{length-map, take-append-le, take-take, take-map}
+use Rattle.rd_step.specs.Prelude.{MOST_STEPS}
+use Rattle.rd_step.specs.Run.{events}
+use Rattle.rd_step.specs.declared.entries.Event.{Event}
+use Rattle.rd_step.specs.declared.entries.Entry.{Entry}
+use Rattle.rd_marks.specs.declared.stretches.Stretch.{Stretch}
+use Rattle.rd_marks.specs.declared.stretches.Place.{Place}
+use Rattle.rd_marks.specs.Stretches.{list_of, list_before, shared_at, records_at, IsWithin, AreNested, AreFresh, greatest_in, needed_at, AreNeeded, AreNeededFrom, IsAlong, IsDeepest, raised, lowered}
+use Rattle.rd_marks.proofs.StretchLists.{shared_within, goes_back, IsChanged, IsInserted, IsReplaced}
+use Rattle.rd_marks.proofs.Fresh.{along_within, along_taken, AreApart, apart, fresh_apart, later_apart}
+
+-- The places
+
+-- the places, and one more
+abbrev pub with_place : List Place → ℕ → ℕ → List Place
+with_place ps i n = ps ++ record { stretch = i; number = n } ∷ []
+
+greatest_left : (i : ℕ) (ps qs : List Place) → greatest_in i ps ≤ greatest_in i (ps ++ qs)
+greatest_left i [] qs = omega arith
+greatest_left i (p ∷ ps) qs = omega (arith, greatest_left i ps qs)
+
+greatest_last : (i n : ℕ) (ps : List Place) → n ≤ greatest_in i (with_place ps i n)
+greatest_last i n [] = grind (arith, nat_tests)
+greatest_last i n (p ∷ ps) = omega (arith, greatest_last i n ps)
+
+greatest_raised : (i j : ℕ) (ps qs : List Place)
+    → (i < j → greatest_in i ps ≤ greatest_in i (map (raised j) ps ++ qs)) × (j ≤ i → greatest_in i ps ≤ greatest_in (suc i) (map (raised j) ps ++ qs))
+greatest_raised i j [] qs = (λ h. omega arith, λ h. omega arith)
+greatest_raised i j (p ∷ ps) qs = let rest = greatest_raised i j ps qs in (λ h. grind (arith, nat_tests, rest.0 h), λ h. grind (arith, nat_tests, rest.1 h))
+
+greatest_lowered : (i j : ℕ) (ps : List Place) → j ≤ i → greatest_in (suc i) ps ≤ greatest_in i (map (lowered j) ps)
+greatest_lowered i j [] h = omega arith
+greatest_lowered i j (p ∷ ps) h = grind (arith, nat_tests, greatest_lowered i j ps h)
+
+-- What a change leaves
+
+-- what is of one number in the second stretches is of this other one in the first
+record IsMoved (old new : List Stretch) (j more i k : ℕ) : Type 0 where
+  inside : k < length old
+  list : list_of new i ≡ list_of old k
+  shared : shared_at new i ≡ shared_at old k
+  place : ((i < j) × (k ≡ i)) ⊎ ((j < i) × (i ≡ more + k))
+
+module _ (old new : List Stretch) (j more : ℕ) (change : IsChanged old new j more) where
+  moved : (i : ℕ) → (i ≡ j → ⊥) → i < length new → (k : ℕ) × IsMoved old new j more i k
+  moved i other h =
+      elim (cases_lt i j) [
+        | inl low ↦
+            let its = change.below i low in
+            (i, record { inside = omega (arith, change.within, low); list = its.0; shared = its.1; place = inl (low, refl) })
+        | inr high ↦
+            let after : j < i = omega (arith, other, high) in
+            let parts : i ≡ more + (i - more) = omega (arith, change.small, after) in
+            let its = change.above i (i - more) parts after in
+            (i - more, record { inside = omega (arith, change.count, parts, h); list = its.0; shared = its.1; place = inr (after, parts) })
+      ]
+
+  pub before_here : (i : ℕ) → i ≤ j → list_before new i ≡ list_before old i
+  before_here zero h = refl
+  before_here (suc i) h = (change.below i (omega (arith, h))).0
+
+  before_moved : (i k : ℕ) → (i ≡ suc j → ⊥) → IsMoved old new j more i k → list_before new i ≡ list_before old k
+  before_moved zero k next m = let at : 0 ≡ k = omega (arith, m.place) in ap (list_before old) at
+  before_moved (suc i) k next m =
+      elim (cases_lt (suc i) j) [
+        | inl low ↦ let at : suc i ≡ k = omega (arith, m.place, low) in before_here (suc i) (omega (arith, low)) ∙ ap (list_before old) at
+        | inr high ↦
+            let one : suc (k - 1) ≡ k = omega (arith, change.small, m.place, high, next) in
+            (change.above i (k - 1) (omega (arith, m.place, high, one)) (omega (arith, m.place, high, next))).0 ∙ ap (list_before old) one
+      ]
+
+  nested_changed : AreNested old → shared_at new j < length (list_of new j) → length (list_of new j) ≤ MOST_STEPS
+      → ((k : ℕ) → suc j ≡ more + k → shared_at old k ≤ length (list_of new j)) → AreNested new
+  nested_changed rule some few next = record {
+    within = λ i h. elim (cases_order i j) [
+      | inl same ↦ grind (arith, same, change.there, ap length (before_here j (omega arith)))
+      | inr other ↦ (
+          let m = moved i (omega (arith, other)) h in
+          elim (cases_eq i (suc j)) [
+            | inl one ↦
+                let before : list_before new i ≡ list_of new j = ap (list_before new) one in
+                omega (arith, m.1.shared, next m.0 (omega (arith, m.1.place, one)), ap length before)
+            | inr apart ↦ omega (arith, m.1.shared, shared_within old rule m.0, ap length (before_moved i m.0 apart m.1))
+          ])
+    ];
+    some = λ i h. elim (cases_eq i j) [
+      | inl same ↦ grind (arith, same, some)
+      | inr other ↦ (let m = moved i other h in omega (arith, rule.some m.0 m.1.inside, ap length m.1.list, m.1.shared))
+    ];
+    few = λ i h. elim (cases_eq i j) [
+      | inl same ↦ grind (arith, same, few)
+      | inr other ↦ (let m = moved i other h in omega (arith, rule.few m.0 m.1.inside, ap length m.1.list))
+    ];
+  }
+
+  -- if no earlier list opens as the changed one, and it opens as no later one
+  fresh_changed : AreFresh old → AreNested new → ((m : ℕ) → m < j → IsAlong new j (suc (shared_at new j)) (events (list_of old m)) → ⊥)
+      → ((k : ℕ) → j < more + k → k < length old → IsAlong old k (suc (shared_at old k)) (events (list_of new j)) → ⊥) → AreFresh new
+  fresh_changed fresh after own later = fresh_apart new after go
+    where
+      go : AreApart new
+      go i m h l a =
+          elim (cases_eq i j) [
+            | inl same ↦
+                let low : m < j = omega (arith, h, same) in
+                own m low (subst (λ (xs : List Entry). IsAlong new j (suc (shared_at new j)) (events xs)) (change.below m low).0
+                (subst (λ (d : ℕ). IsAlong new d (suc (shared_at new d)) (events (list_of new m))) same a))
+            | inr other ↦
+                let from = moved i other l in
+                let k = from.0 in
+                let d = suc (shared_at old k) in
+                let b = along_taken old new k i d (events (list_of new m)) (ap (take d) (sym from.1.list))
+                (subst (λ (n : ℕ). IsAlong new i (suc n) (events (list_of new m))) from.1.shared a) in
+                elim (cases_eq m j) [
+                  | inl same ↦
+                      later k (omega (arith, from.1.place, h, same)) from.1.inside (subst (λ (n : ℕ). IsAlong old k d (events (list_of new n))) same b)
+                  | inr other_too ↦
+                      let to = moved m other_too (omega (arith, h, l)) in
+                      apart old fresh k to.0 (omega (arith, change.small, from.1.place, to.1.place, h)) from.1.inside
+                      (subst (λ (xs : List Entry). IsAlong old k d (events xs)) to.1.list b)
+                ]
+          ]
+
+  -- if the changed list is needed, and the places count for no less
+  needed_changed : (ps qs : List Place) (i : ℕ) → i < length new → ((k : ℕ) → IsMoved old new j more i k → length (list_of old k) ≤ needed_at old ps k)
+      → length (list_of new j) ≤ needed_at new qs j → ((k : ℕ) → IsMoved old new j more i k → greatest_in k ps ≤ greatest_in i qs) → length (list_of new i) ≤ needed_at new qs i
+  needed_changed ps qs i h needed own places =
+      elim (cases_eq i j) [
+        | inl same ↦ grind (arith, same, own)
+        | inr other ↦
+            let m = moved i other h in
+            let next : shared_at old (suc m.0) ≤ shared_at new (suc i) =
+            elim (cases_order (suc i) j) [
+              | inl last ↦ (let at : suc m.0 ≡ j = omega (arith, m.1.place, last) in grind (arith, at, last, change.less))
+              | inr further ↦ elim further [
+                | inl low ↦ (let at : m.0 ≡ i = omega (arith, m.1.place, low) in grind (arith, at, (change.below (suc i) low).1))
+                | inr high ↦ (let parts : suc i ≡ more + suc m.0 = omega (arith, m.1.place, high) in omega (arith, (change.above (suc i) (suc m.0) parts high).1))
+              ]
+            ] in
+            omega (arith, needed m.0 m.1, places m.0 m.1, next, ap length m.1.list)
+      ]
+
+-- A stretch comes or goes
+
+module _ (old new : List Stretch) (j : ℕ) (s : Stretch) (change : IsInserted old new j s) where
+  pub nested_inserted : AreNested old → s.shared < length (list_of new j) → length (list_of new j) ≤ MOST_STEPS → AreNested new
+  nested_inserted rule some few =
+      nested_changed old new j 1 change.changed rule (omega (arith, change.here.1, some)) few (λ k next. (
+      let at : j ≡ k = omega (arith, next) in
+      omega (arith, ap (shared_at old) at, change.changed.less, change.here.1, some)
+      ))
+
+  -- the new list goes on as none did behind what it shares
+  pub fresh_inserted : AreNested old → AreFresh old → AreNested new → (at : ℕ) (es : List Event) → events (list_of new j) ≡ es → (0 < length old → at < j)
+      → IsAlong old at s.shared es → IsDeepest old s.shared es → AreFresh new
+  fresh_inserted rule fresh after at es its low along deepest =
+      fresh_changed old new j 1 change.changed fresh after own
+      (λ k high there a. (
+      let lower = low (omega (arith, there)) in
+      later_apart old rule fresh es at s.shared k (omega (arith, lower, high)) there along deepest (subst (λ (fs : List Event). IsAlong old k (suc (shared_at old k)) fs) its a)
+      ))
+    where
+      own : (m : ℕ) → m < j → IsAlong new j (suc (shared_at new j)) (events (list_of old m)) → ⊥
+      own m h a =
+          let within = change.changed.within in
+          let d = suc s.shared in
+          let b : IsAlong new j d (events (list_of old m)) = subst (λ (n : ℕ). IsAlong new j (suc n) (events (list_of old m))) change.here.1 a in
+          let long = along_within new j d (events (list_of old m)) b in
+          let all = sym (length-map (list_of new j) (λ (x : Entry). x.event)) ∙ ap length its in
+          deepest m (omega (arith, h, within)) (record { enough = omega (arith, long, all); alike = sym b.alike ∙ ap (take d) its })
+
+  -- the end of the new one is needed by a place there
+  pub needed_inserted : (ps : List Place) (n : ℕ) → length (list_of new j) ≤ n → AreNeeded old ps → AreNeeded new (with_place (map (raised j) ps) j n)
+  needed_inserted ps n all needed i h =
+      needed_changed old new j 1 change.changed ps (with_place (map (raised j) ps) j n) i h (λ k m. needed k m.inside)
+      (omega (arith, greatest_last j n (map (raised j) ps), all))
+      (λ k m. (
+      let more = greatest_raised k j ps (record { stretch = j; number = n } ∷ []) in
+      elim m.place [ inl low ↦ grind (arith, low, more.0) | inr high ↦ (let parts : i ≡ suc k = omega (arith, high) in grind (arith, high, parts, more.1)) ]
+      ))
+
+  -- the other way round
+  up : (k : ℕ) → k < length old
+      → (i : ℕ) × (i < length new) × (list_of new i ≡ list_of old k) × (shared_at new i ≡ shared_at old k) × (((k < j) × (i ≡ k)) ⊎ ((j ≤ k) × (i ≡ suc k)))
+  up k h =
+      elim (cases_lt k j) [
+        | inl low ↦ let its = change.changed.below k low in (k, omega (arith, change.changed.count, h), its.0, its.1, inl (low, refl))
+        | inr high ↦
+            let its = change.changed.above (suc k) k (omega arith) (omega (arith, high)) in
+            (suc k, omega (arith, change.changed.count, h), its.0, its.1, inr (high, refl))
+      ]
+
+  before_up : (k : ℕ) → j < k → list_before new (suc k) ≡ list_before old k
+  before_up zero h = absurd (omega (arith, h))
+  before_up (suc k) h = (change.changed.above (suc k) k (omega arith) (omega (arith, h))).0
+
+  pub nested_removed : AreNested new → AreNested old
+  nested_removed rule = record {
+    within = λ k h. elim (cases_order k j) [
+      | inl same ↦ grind (arith, same, change.changed.less, change.changed.there)
+      | inr other ↦ elim other [
+        | inl low ↦
+            omega (arith, (change.changed.below k low).1, ap length (before_here old new j 1 change.changed k (omega (arith, low))), shared_within new rule k)
+        | inr high ↦
+            omega (arith, (change.changed.above (suc k) k (omega arith) (omega (arith, high))).1, ap length (before_up k high), shared_within new rule (suc k))
+      ]
+    ];
+    some = λ k h. (let to = up k h in omega (arith, rule.some to.0 to.1, ap length to.2, to.3));
+    few = λ k h. (let to = up k h in omega (arith, rule.few to.0 to.1, ap length to.2));
+  }
+
+  pub fresh_removed : AreNested old → AreFresh new → AreFresh old
+  fresh_removed rule fresh = fresh_apart old rule (λ i m h l a. (
+      let to = up i l in
+      let its = up m (omega (arith, h, l)) in
+      let d = suc (shared_at new to.0) in
+      apart new fresh to.0 its.0 (omega (arith, to.4, its.4, h)) to.1
+      (along_taken new old to.0 i d (events (list_of new its.0)) (ap (take d) to.2)
+      (subst (λ (xs : List Entry). IsAlong old i d (events xs)) (sym its.2) (subst (λ (n : ℕ). IsAlong old i (suc n) (events (list_of old m))) (sym to.3) a)))
+      ))
+
+  pub needed_removed : (ps : List Place) → AreNeededFrom (suc j) new ps → AreNeededFrom j old (map (lowered j) ps)
+  needed_removed ps needed k high h =
+      let list = ap length (change.changed.above (suc k) k (omega arith) (omega (arith, high))).0 in
+      let next = (change.changed.above (suc (suc k)) (suc k) (omega arith) (omega (arith, high))).1 in
+      omega (arith, needed (suc k) (omega (arith, high)) (omega (arith, change.changed.count, h)), list, next, greatest_lowered k j ps high)
+
+  -- each place has its records
+  pub records_raised : (p : Place) → records_at new (raised j p) ≡ records_at old p
+  records_raised p = grind (arith, nat_tests, change.changed.below p.stretch, change.changed.above (suc p.stretch) p.stretch (omega arith))
+
+  pub records_lowered : (p : Place) → (p.stretch ≡ j → p.number ≤ s.shared) → records_at old (lowered j p) ≡ records_at new p
+  records_lowered p own =
+      elim (cases_lt p.stretch j) [
+        | inl low ↦ grind (arith, nat_tests, change.changed.below p.stretch)
+        | inr high ↦ (let its = above p.stretch p.number high own in grind (arith, nat_tests, its))
+      ]
+    where
+      above : (q n : ℕ) → j ≤ q → (q ≡ j → n ≤ s.shared) → take n (list_of new q) ≡ take n (list_of old (q - 1))
+      above zero n high own =
+          let first : 0 ≡ j = omega (arith, high) in
+          let before = ap (λ (k : ℕ). length (list_before old k)) first in
+          let none : n ≡ 0 = omega (arith, change.changed.there, change.here.1, before, own first) in
+          ap (λ (k : ℕ). take k (list_of new 0)) none ∙ sym (ap (λ (k : ℕ). take k (list_of old (0 - 1))) none)
+      above (suc q) n high own =
+          let down : q ≡ suc q - 1 = omega arith in
+          elim (cases_eq (suc q) j) [
+            | inl same ↦
+                ap (λ (k : ℕ). take n (list_of new k)) same ∙ ap (take n) change.here.0
+                ∙ goes_back (list_before old j) s n (own same) (omega (arith, change.changed.there, change.here.1))
+                ∙ ap (λ (k : ℕ). take n (list_before old k)) (sym same)
+            | inr further ↦ ap (take n) (change.changed.above (suc q) q (omega arith) (omega (arith, high, further))).0
+          ] ∙ ap (λ (k : ℕ). take n (list_of old k)) down
+
+-- a place with the same records is within
+pub within_at : (old new : List Stretch) (p q : Place) → q.number ≡ p.number → records_at new q ≡ records_at old p → IsWithin old p → IsWithin new q
+within_at old new p q same records h =
+    let both = sym (length-take q.number (list_of new q.stretch)) ∙ ap length records ∙ length-take p.number (list_of old p.stretch) in
+    omega (arith, both, same, h)
+
+-- A stretch has more records, or fewer
+
+module _ (old new : List Stretch) (j : ℕ) (change : IsReplaced old new j) where
+  pub nested_replaced : AreNested old → shared_at old j < length (list_of new j) → shared_at old (suc j) ≤ length (list_of new j) → length (list_of new j) ≤ MOST_STEPS
+      → AreNested new
+  nested_replaced rule some next few =
+      nested_changed old new j 0 change.changed rule (omega (arith, change.shared, some)) few
+      (λ k at. (let one : k ≡ suc j = omega (arith, at) in omega (arith, ap (shared_at old) one, next)))
+
+  -- if it begins as before up to the first record of its own, and opens as no later one
+  fresh_replaced : AreFresh old → AreNested new → take (suc (shared_at old j)) (list_of old j) ≡ take (suc (shared_at old j)) (list_of new j)
+      → ((k : ℕ) → j < k → k < length old → IsAlong old k (suc (shared_at old k)) (events (list_of new j)) → ⊥) → AreFresh new
+  fresh_replaced fresh after opening later =
+      fresh_changed old new j 0 change.changed fresh after
+      (λ m h a. (
+      let d = suc (shared_at old j) in
+      apart old fresh j m h change.inside
+      (along_taken old new j j d (events (list_of old m)) opening (subst (λ (n : ℕ). IsAlong new j (suc n) (events (list_of old m))) change.shared a))
+      ))
+      (λ k h there a. later k (omega (arith, h)) there a)
+
+  pub fresh_appended : AreNested old → AreFresh old → AreNested new → (rest : List Entry) (es : List Event) → list_of new j ≡ list_of old j ++ rest
+      → events (list_of new j) ≡ es → IsAlong old j (length (list_of old j)) es → IsDeepest old (length (list_of old j)) es → AreFresh new
+  fresh_appended rule fresh after rest es its all along deepest =
+      let some = rule.some j change.inside in
+      fresh_replaced fresh after (sym (ap (take (suc (shared_at old j))) its ∙ take-append-le (suc (shared_at old j)) (list_of old j) rest (omega (arith, some))))
+      (λ k h l a. later_apart old rule fresh es j (length (list_of old j)) k h l along deepest
+      (subst (λ (fs : List Event). IsAlong old k (suc (shared_at old k)) fs) all a))
+
+  pub fresh_cut : AreFresh old → AreNested new → (n : ℕ) → shared_at old j < n → list_of new j ≡ take n (list_of old j) → AreFresh new
+  fresh_cut fresh after n less its =
+      fresh_replaced fresh after (sym (ap (take (suc (shared_at old j))) its ∙ take-take (suc (shared_at old j)) n (list_of old j) (omega (arith, less))))
+      (λ k h l a. (
+      let d = suc (shared_at old k) in
+      let enough = a.enough in
+      let long = length-map (list_of new j) (λ (x : Entry). x.event) ∙ ap length its ∙ length-take n (list_of old j) in
+      let all = length-map (list_of old j) (λ (x : Entry). x.event) in
+      let cut : events (list_of new j) ≡ take n (events (list_of old j)) = ap events its ∙ sym (take-map (λ (x : Entry). x.event) n (list_of old j)) in
+      apart old fresh k j h l
+      (record { enough = omega (arith, enough, long, all); alike = a.alike ∙ ap (take d) cut ∙ take-take d n (events (list_of old j)) (omega (arith, enough, long)) })
+      ))
+
+  pub needed_appended : (ps : List Place) (n : ℕ) → length (list_of new j) ≤ n → AreNeeded old ps → AreNeeded new (with_place ps j n)
+  needed_appended ps n all needed i h =
+      needed_changed old new j 0 change.changed ps (with_place ps j n) i h (λ k m. needed k m.inside) (omega (arith, greatest_last j n ps, all))
+      (λ k m. (
+      let at : k ≡ i = omega (arith, m.place) in
+      grind (arith, at, greatest_left i ps (record { stretch = j; number = n } ∷ []))
+      ))
+
+  pub needed_cut : (ps : List Place) → length (list_of new j) ≤ needed_at old ps j → AreNeededFrom (suc j) old ps → AreNeededFrom j new ps
+  needed_cut ps all needed i low h =
+      needed_changed old new j 0 change.changed ps ps i h (λ k m. needed k (omega (arith, m.place, low)) m.inside)
+      (omega (arith, (change.changed.above (suc j) (suc j) (omega arith) (omega arith)).1, all))
+      (λ k m. (let at : k ≡ i = omega (arith, m.place) in grind (arith, at)))
+
+  records_replaced : (p : Place) → (p.stretch ≡ j → take p.number (list_of new j) ≡ take p.number (list_of old j)) → records_at new p ≡ records_at old p
+  records_replaced p own = grind (arith, own, cases_order p.stretch j, change.changed.below p.stretch, change.changed.above p.stretch p.stretch (omega arith))
+
+  pub records_appended : (rest : List Entry) → list_of new j ≡ list_of old j ++ rest → (p : Place) → IsWithin old p → records_at new p ≡ records_at old p
+  records_appended rest its p h =
+      records_replaced p (λ same. (
+      let long = ap (λ (k : ℕ). length (list_of old k)) same in
+      ap (take p.number) its ∙ take-append-le p.number (list_of old j) rest (omega (arith, long, h))
+      ))
+
+  pub records_cut : (n : ℕ) → list_of new j ≡ take n (list_of old j) → (p : Place) → (p.stretch ≡ j → p.number ≤ n) → records_at new p ≡ records_at old p
+  records_cut n its p own = records_replaced p (λ same. ap (take p.number) its ∙ take-take p.number n (list_of old j) (own same))

@@ -1,0 +1,279 @@
+-- The lists of stretches: how each goes on from the one before, and what stays when a stretch comes, goes or changes.
+use Rattle.std.proofs.Common.{◌≡◌, ℕ, zero, suc, ◌+◌, ◌-◌, ◌<◌, ◌≤◌, inl, inr, refl, sym, ap, ◌∙◌, subst, List, [], ◌∷◌, ◌++◌, length, take, drop, get_or, set, insert, remove, length-append, length-set, arith}
+use Rattle.std.proofs.Math.Seq.{take-append-add, drop-append-add}
+use Rattle.std.proofs.lemmas.Bool.{cases_lt, cases_eq}
+use Rattle.std.proofs.lemmas.List.{append_assoc, take-append-le, take-take, length-take-le}
+use Rattle.std.proofs.lemmas.List.Edits.{length-insert}
+use Rattle.rd_step.specs.declared.entries.Entry.{Entry}
+use Rattle.rd_marks.specs.declared.stretches.Stretch.{Stretch}
+use Rattle.rd_marks.specs.Stretches.{continued, list_after, list_of, list_before, shared_at, AreNested}
+
+-- the records of the stretch of this number; none behind the last
+abbrev pub own_at : List Stretch → ℕ → List Entry
+own_at [] i = []
+own_at (s ∷ ss) zero = s.records.items
+own_at (s ∷ ss) (suc i) = own_at ss i
+
+-- the list before the stretch of this number, where the first comes after this list
+abbrev before_after : List Entry → List Stretch → ℕ → List Entry
+before_after x ss zero = x
+before_after x ss (suc i) = list_after x ss i
+
+one_on : (x : List Entry) (s : Stretch) (ss : List Stretch) (i : ℕ) → before_after (continued x s) ss i ≡ list_after x (s ∷ ss) i
+one_on x s ss zero = refl
+one_on x s ss (suc i) = refl
+
+before_is : (ss : List Stretch) (i : ℕ) → before_after [] ss i ≡ list_before ss i
+before_is ss zero = refl
+before_is ss (suc i) = refl
+
+splits_after : (x : List Entry) (ss : List Stretch) (i : ℕ) → list_after x ss i ≡ take (shared_at ss i) (before_after x ss i) ++ own_at ss i
+splits_after x [] i = refl
+splits_after x (s ∷ ss) zero = refl
+splits_after x (s ∷ ss) (suc i) = splits_after (continued x s) ss i ∙ ap (λ (y : List Entry). take (shared_at ss i) y ++ own_at ss i) (one_on x s ss i)
+
+pub splits : (ss : List Stretch) (i : ℕ) → list_of ss i ≡ take (shared_at ss i) (list_before ss i) ++ own_at ss i
+splits ss i = splits_after [] ss i ∙ ap (λ (y : List Entry). take (shared_at ss i) y ++ own_at ss i) (before_is ss i)
+
+pub stretch_there : (ss : List Stretch) (i : ℕ) (d : Stretch) → i < length ss → (shared_at ss i ≡ (get_or ss i d).shared) × (own_at ss i ≡ (get_or ss i d).records.items)
+stretch_there [] i d h = absurd (omega (arith, h))
+stretch_there (s ∷ ss) zero d h = (refl, refl)
+stretch_there (s ∷ ss) (suc i) d h = stretch_there ss i d (omega (arith, h))
+
+pub shared_past : (ss : List Stretch) (i : ℕ) → length ss ≤ i → shared_at ss i ≡ 0
+shared_past [] i h = refl
+shared_past (s ∷ ss) zero h = absurd (omega (arith, h))
+shared_past (s ∷ ss) (suc i) h = shared_past ss i (omega (arith, h))
+
+past_after : (x : List Entry) (ss : List Stretch) (i : ℕ) → length ss ≤ i → list_after x ss i ≡ []
+past_after x [] i h = refl
+past_after x (s ∷ ss) zero h = absurd (omega (arith, h))
+past_after x (s ∷ ss) (suc i) h = past_after (continued x s) ss i (omega (arith, h))
+
+-- behind the last stretch there is nothing
+pub list_past : (ss : List Stretch) (i : ℕ) → length ss ≤ i → list_of ss i ≡ []
+list_past ss i h = past_after [] ss i h
+
+module _ (ss : List Stretch) (rule : AreNested ss) where
+  pub shared_within : (i : ℕ) → shared_at ss i ≤ length (list_before ss i)
+  shared_within i =
+      elim (cases_lt i (length ss)) [
+        | inl inside ↦ rule.within i inside
+        | inr past ↦ omega (arith, shared_past ss i past)
+      ]
+
+  front_length : (i : ℕ) → length (take (shared_at ss i) (list_before ss i)) ≡ shared_at ss i
+  front_length i = length-take-le (shared_at ss i) (list_before ss i) (shared_within i)
+
+  pub total : (i : ℕ) → length (list_of ss i) ≡ shared_at ss i + length (own_at ss i)
+  total i =
+      let all = ap length (splits ss i) ∙ length-append (take (shared_at ss i) (list_before ss i)) (own_at ss i) in
+      omega (arith, all, front_length i)
+
+  -- what is shared
+  pub begins_shared : (i n : ℕ) → n ≤ shared_at ss i → take n (list_of ss i) ≡ take n (list_before ss i)
+  begins_shared i n h =
+      ap (take n) (splits ss i) ∙ take-append-le n (take (shared_at ss i) (list_before ss i)) (own_at ss i) (omega (arith, front_length i, h))
+      ∙ take-take n (shared_at ss i) (list_before ss i) h
+
+  -- what comes after it
+  pub behind_shared : (i n : ℕ) → shared_at ss i ≤ n → drop n (list_of ss i) ≡ drop (n - shared_at ss i) (own_at ss i)
+  behind_shared i n h =
+      let front = take (shared_at ss i) (list_before ss i) in
+      let parts : n ≡ length front + (n - shared_at ss i) = omega (arith, front_length i, h) in
+      ap (drop n) (splits ss i) ∙ ap (λ (m : ℕ). drop m (front ++ own_at ss i)) parts ∙ drop-append-add front (own_at ss i) (n - shared_at ss i)
+
+  -- lists begin alike where all stretches from the one to the other share as much
+  pub shared_records : (i m n : ℕ) → i ≤ m → ((k : ℕ) → i < k → k ≤ m → n ≤ shared_at ss k) → take n (list_of ss m) ≡ take n (list_of ss i)
+  shared_records i zero n h all = let same : 0 ≡ i = omega (arith, h) in ap (λ (k : ℕ). take n (list_of ss k)) same
+  shared_records i (suc m) n h all =
+      elim (cases_eq (suc m) i) [
+        | inl same ↦ ap (λ (k : ℕ). take n (list_of ss k)) same
+        | inr apart ↦
+            begins_shared (suc m) n (all (suc m) (omega (arith, h, apart)) (omega arith))
+            ∙ shared_records i m n (omega (arith, h, apart)) (λ k low high. all k low (omega (arith, high)))
+      ]
+
+-- Lists that differ behind what the first stretch shares are followed by the same lists
+
+pub lists_common : (ss : List Stretch) (x y : List Entry) (i : ℕ) → take (shared_at ss 0) x ≡ take (shared_at ss 0) y → list_after x ss i ≡ list_after y ss i
+lists_common [] x y i h = refl
+lists_common (s ∷ ss) x y zero h = ap (λ (z : List Entry). z ++ s.records.items) h
+lists_common (s ∷ ss) x y (suc i) h = ap (λ (z : List Entry). list_after (z ++ s.records.items) ss i) h
+
+pub goes_back : (x : List Entry) (s : Stretch) (n : ℕ) → n ≤ s.shared → s.shared ≤ length x → take n (continued x s) ≡ take n x
+goes_back x s n h there =
+    take-append-le n (take s.shared x) s.records.items (omega (arith, length-take-le s.shared x there, h)) ∙ take-take n s.shared x h
+
+-- One stretch more, or one changed
+
+-- the second stretches are the first ones but for that of this number: it is one more, or stands for one. It shares no less than the one
+-- there did, and no more than there is
+pub record IsChanged (old new : List Stretch) (j more : ℕ) : Type 0 where
+  pub small : more ≤ 1
+  pub count : length new ≡ more + length old
+  pub within : j ≤ length old
+  pub less : shared_at old j ≤ shared_at new j
+  pub there : shared_at new j ≤ length (list_before old j)
+  pub below : (i : ℕ) → i < j → (list_of new i ≡ list_of old i) × (shared_at new i ≡ shared_at old i)
+  pub above : (i k : ℕ) → i ≡ more + k → j < i → (list_of new i ≡ list_of old k) × (shared_at new i ≡ shared_at old k)
+
+-- it is this one more
+pub record IsInserted (old new : List Stretch) (j : ℕ) (s : Stretch) : Type 0 where
+  pub changed : IsChanged old new j 1
+  pub here : (list_of new j ≡ continued (list_before old j) s) × (shared_at new j ≡ s.shared)
+
+-- it stands for one that shares as many
+pub record IsReplaced (old new : List Stretch) (j : ℕ) : Type 0 where
+  pub changed : IsChanged old new j 0
+  pub inside : j < length old
+  pub shared : shared_at new j ≡ shared_at old j
+
+below_inserted : (x : List Entry) (ss : List Stretch) (j : ℕ) (s : Stretch) (i : ℕ) → i < j → j ≤ length ss
+    → (list_after x (insert ss j s) i ≡ list_after x ss i) × (shared_at (insert ss j s) i ≡ shared_at ss i)
+below_inserted x ss zero s i h k = absurd (omega (arith, h))
+below_inserted x [] (suc j) s i h k = absurd (omega (arith, k))
+below_inserted x (r ∷ ss) (suc j) s zero h k = (refl, refl)
+below_inserted x (r ∷ ss) (suc j) s (suc i) h k = below_inserted (continued x r) ss j s i (omega (arith, h)) (omega (arith, k))
+
+here_inserted : (x : List Entry) (ss : List Stretch) (j : ℕ) (s : Stretch) → j ≤ length ss
+    → (list_after x (insert ss j s) j ≡ continued (before_after x ss j) s) × (shared_at (insert ss j s) j ≡ s.shared)
+here_inserted x ss zero s k = (refl, refl)
+here_inserted x [] (suc j) s k = absurd (omega (arith, k))
+here_inserted x (r ∷ ss) (suc j) s k =
+    let rest = here_inserted (continued x r) ss j s (omega (arith, k)) in
+    (rest.0 ∙ ap (λ (y : List Entry). continued y s) (one_on x r ss j), rest.1)
+
+above_inserted : (x : List Entry) (ss : List Stretch) (j : ℕ) (s : Stretch) (i : ℕ) → j ≤ i → j ≤ length ss → shared_at ss j ≤ s.shared → s.shared ≤ length (before_after x ss j)
+    → (list_after x (insert ss j s) (suc i) ≡ list_after x ss i) × (shared_at (insert ss j s) (suc i) ≡ shared_at ss i)
+above_inserted x ss zero s i h k less there = (lists_common ss (continued x s) x i (goes_back x s (shared_at ss 0) less there), refl)
+above_inserted x [] (suc j) s i h k less there = absurd (omega (arith, k))
+above_inserted x (r ∷ ss) (suc j) s zero h k less there = absurd (omega (arith, h))
+above_inserted x (r ∷ ss) (suc j) s (suc i) h k less there =
+    above_inserted (continued x r) ss j s i (omega (arith, h)) (omega (arith, k)) less (subst (λ (y : List Entry). s.shared ≤ length y) (sym (one_on x r ss j)) there)
+
+pub inserted_at : (ss : List Stretch) (j : ℕ) (s : Stretch) → j ≤ length ss → shared_at ss j ≤ s.shared → s.shared ≤ length (list_before ss j) → IsInserted ss (insert ss j s) j s
+inserted_at ss j s within less there =
+    let its = here_inserted [] ss j s within in
+    record {
+      changed = record {
+        small = omega arith;
+        count = omega (arith, length-insert ss j s within);
+        within = within;
+        less = omega (arith, its.1, less);
+        there = omega (arith, its.1, there);
+        below = λ i h. below_inserted [] ss j s i h within;
+        above = above;
+      };
+      here = (its.0 ∙ ap (λ (y : List Entry). continued y s) (before_is ss j), its.1);
+    }
+  where
+    above : (i k : ℕ) → i ≡ 1 + k → j < i → (list_of (insert ss j s) i ≡ list_of ss k) × (shared_at (insert ss j s) i ≡ shared_at ss k)
+    above zero k parts h = absurd (omega (arith, h))
+    above (suc i) k parts h =
+        let same : i ≡ k = omega (arith, parts) in
+        let rest = above_inserted [] ss j s i (omega (arith, h)) within less (omega (arith, there, ap length (before_is ss j))) in
+        (rest.0 ∙ ap (list_of ss) same, rest.1 ∙ ap (shared_at ss) same)
+
+-- One stretch less
+
+-- the stretch that goes, put back
+put_back : (ss : List Stretch) (j : ℕ) → j < length ss → (s : Stretch) × (insert (remove ss j) j s ≡ ss) × (s.shared ≡ shared_at ss j)
+put_back [] j h = absurd (omega (arith, h))
+put_back (s ∷ ss) zero h = (s, refl, refl)
+put_back (r ∷ ss) (suc j) h =
+    let rest = put_back ss j (omega (arith, h)) in
+    (rest.0, ap (λ (rs : List Stretch). r ∷ rs) rest.1, rest.2)
+
+left_after : (x : List Entry) (ss : List Stretch) (j : ℕ) → j < length ss
+    → (before_after x (remove ss j) j ≡ before_after x ss j) × (shared_at (remove ss j) j ≡ shared_at ss (suc j)) × (suc (length (remove ss j)) ≡ length ss)
+left_after x [] j h = absurd (omega (arith, h))
+left_after x (s ∷ ss) zero h = (refl, refl, refl)
+left_after x (r ∷ ss) (suc j) h =
+    let rest = left_after (continued x r) ss j (omega (arith, h)) in
+    (sym (one_on x r (remove ss j) j) ∙ rest.0 ∙ one_on x r ss j, rest.1, ap suc rest.2)
+
+-- removing is inserting, seen from behind
+pub removed_at : (ss : List Stretch) (j : ℕ) → AreNested ss → j < length ss → shared_at ss (suc j) ≤ shared_at ss j
+    → (s : Stretch) × (s.shared ≡ shared_at ss j) × IsInserted (remove ss j) ss j s
+removed_at ss j rule h less =
+    let back = put_back ss j h in
+    let left = left_after [] ss j h in
+    let before = ap length (sym (before_is (remove ss j) j) ∙ left.0 ∙ before_is ss j) in (
+      back.0,
+      back.2,
+      subst (λ (rs : List Stretch). IsInserted (remove ss j) rs j back.0) back.1
+          (inserted_at (remove ss j) j back.0 (omega (arith, left.2, h)) (omega (arith, left.1, back.2, less))
+          (omega (arith, before, back.2, shared_within ss rule j))),
+    )
+
+shared_replaced : (ss : List Stretch) (j : ℕ) (t : Stretch) (i : ℕ) → t.shared ≡ shared_at ss j → shared_at (set ss j t) i ≡ shared_at ss i
+shared_replaced [] j t i h = refl
+shared_replaced (s ∷ ss) zero t zero h = h
+shared_replaced (s ∷ ss) zero t (suc i) h = refl
+shared_replaced (s ∷ ss) (suc j) t zero h = refl
+shared_replaced (s ∷ ss) (suc j) t (suc i) h = shared_replaced ss j t i h
+
+others_replaced : (x : List Entry) (ss : List Stretch) (j : ℕ) (t : Stretch) (i : ℕ) → (i ≡ j → ⊥)
+    → take (shared_at ss (suc j)) (continued (before_after x ss j) t) ≡ take (shared_at ss (suc j)) (list_after x ss j) → list_after x (set ss j t) i ≡ list_after x ss i
+others_replaced x [] j t i apart h = refl
+others_replaced x (s ∷ ss) zero t zero apart h = absurd (apart refl)
+others_replaced x (s ∷ ss) zero t (suc i) apart h = lists_common ss (continued x t) (continued x s) i h
+others_replaced x (s ∷ ss) (suc j) t zero apart h = refl
+others_replaced x (s ∷ ss) (suc j) t (suc i) apart h =
+    others_replaced (continued x s) ss j t i (λ same. apart (ap suc same)) (ap (λ (y : List Entry). take (shared_at ss (suc j)) (continued y t)) (one_on x s ss j) ∙ h)
+
+here_replaced : (x : List Entry) (ss : List Stretch) (j : ℕ) (t : Stretch) → j < length ss → list_after x (set ss j t) j ≡ continued (before_after x ss j) t
+here_replaced x [] j t h = absurd (omega (arith, h))
+here_replaced x (s ∷ ss) zero t h = refl
+here_replaced x (s ∷ ss) (suc j) t h = here_replaced (continued x s) ss j t (omega (arith, h)) ∙ ap (λ (y : List Entry). continued y t) (one_on x s ss j)
+
+module _ (ss : List Stretch) (rule : AreNested ss) (j : ℕ) (h : j < length ss) (t : Stretch) (shared : t.shared ≡ shared_at ss j) where
+  replaced_at : (ys : List Entry) → continued (list_before ss j) t ≡ ys → take (shared_at ss (suc j)) ys ≡ take (shared_at ss (suc j)) (list_of ss j)
+      → IsReplaced ss (set ss j t) j × (list_of (set ss j t) j ≡ ys)
+  replaced_at ys its same =
+      let here = shared_replaced ss j t j shared in (
+        record {
+          changed = record {
+            small = omega arith;
+            count = omega (arith, length-set ss j t);
+            within = omega (arith, h);
+            less = omega (arith, here);
+            there = omega (arith, here, shared_within ss rule j);
+            below = λ i low. others i (λ at. omega (arith, at, low));
+            above = λ i k parts high. (
+                let at : i ≡ k = omega (arith, parts) in
+                let rest = others i (λ here. omega (arith, here, high)) in
+                (rest.0 ∙ ap (list_of ss) at, rest.1 ∙ ap (shared_at ss) at)
+                );
+          };
+          inside = h;
+          shared = here;
+        },
+        here_replaced [] ss j t h ∙ ap (λ (y : List Entry). continued y t) (before_is ss j) ∙ its,
+      )
+    where
+      others : (i : ℕ) → (i ≡ j → ⊥) → (list_of (set ss j t) i ≡ list_of ss i) × (shared_at (set ss j t) i ≡ shared_at ss i)
+      others i apart = (
+        others_replaced [] ss j t i apart (ap (λ (y : List Entry). take (shared_at ss (suc j)) (continued y t)) (before_is ss j) ∙ ap (take (shared_at ss (suc j))) its ∙ same),
+        shared_replaced ss j t i shared,
+      )
+
+  -- with more records behind its own
+  pub appended_at : (rest : List Entry) → t.records.items ≡ own_at ss j ++ rest → IsReplaced ss (set ss j t) j × (list_of (set ss j t) j ≡ list_of ss j ++ rest)
+  appended_at rest its =
+      replaced_at (list_of ss j ++ rest)
+      ((λ i. take (shared i) (list_before ss j) ++ its i) ∙ sym (append_assoc (take (shared_at ss j) (list_before ss j)) (own_at ss j) rest)
+      ∙ ap (λ (ys : List Entry). ys ++ rest) (sym (splits ss j)))
+      (take-append-le (shared_at ss (suc j)) (list_of ss j) rest (shared_within ss rule (suc j)))
+
+  -- with no more than the first of its own
+  pub cut_at : (n : ℕ) → shared_at ss j ≤ n → shared_at ss (suc j) ≤ n → t.records.items ≡ take (n - shared_at ss j) (own_at ss j)
+      → IsReplaced ss (set ss j t) j × (list_of (set ss j t) j ≡ take n (list_of ss j))
+  cut_at n less next its =
+      let front = take (shared_at ss j) (list_before ss j) in
+      let parts : length front + (n - shared_at ss j) ≡ n = omega (arith, front_length ss rule j, less) in
+      replaced_at (take n (list_of ss j))
+      ((λ i. take (shared i) (list_before ss j) ++ its i) ∙ sym (take-append-add front (own_at ss j) (n - shared_at ss j))
+      ∙ ap (λ (m : ℕ). take m (front ++ own_at ss j)) parts ∙ ap (take n) (sym (splits ss j)))
+      (take-take (shared_at ss (suc j)) n (list_of ss j) next)

@@ -1,0 +1,246 @@
+-- What growing a list and shrinking a stretch leave, in the words of their contracts.
+use Rattle.std.proofs.Common.{◌≡◌, ℕ, zero, suc, ◌-◌, ◌<◌, ◌≤◌, ◌^◌, inl, inr, refl, sym, ap, ◌∙◌, subst, List, [], ◌∷◌, ◌++◌, map, length, take, drop, set, insert, remove, length-take, Result, Ok, Err, OnOk, OnErr, arith}
+use Rattle.std.proofs.Math.Seq.{drop-length}
+use Rattle.std.proofs.lemmas.Bool.{cases_eq, cases_lt}
+use Rattle.std.proofs.lemmas.Bool.Decides.{nat_tests}
+use Rattle.std.proofs.lemmas.List.{append-nil, length-map, map-append, take-append-drop, take-map, take_all}
+use Rattle.rd_step.specs.Prelude.{MOST_STEPS}
+use Rattle.rd_step.specs.Run.{events}
+use Rattle.rd_step.specs.declared.entries.Event.{Event}
+use Rattle.rd_step.specs.declared.entries.Entry.{Entry}
+use Rattle.rd_marks.specs.declared.stretches.Place.{Place}
+use Rattle.rd_marks.specs.declared.stretches.Stretch.{Stretch}
+use Rattle.rd_marks.specs.declared.stretches.changes.Shift.{Shift}
+use Rattle.rd_marks.specs.declared.stretches.changes.Shift.TheVariants.{Same, Up, Down}
+use Rattle.rd_marks.specs.Stretches.{greatest_in, list_of, list_before, shared_at, records_at, IsWithin, IsEnd, IsAlong, IsDeepest, AreNested, AreFresh, AreNeeded, AreNeededFrom, raised, lowered}
+use Rattle.rd_marks.specs.Changes.{moved, IsLow, IsGrown, IsShrunk, IsUnchanged}
+use Rattle.rd_marks.proofs.StretchLists.{own_at, shared_within, inserted_at, removed_at, appended_at, cut_at}
+use Rattle.rd_marks.proofs.Fresh.{along_taken}
+use Rattle.rd_marks.proofs.StretchChanges.{within_at, nested_inserted, nested_removed, fresh_inserted, fresh_removed, needed_inserted, needed_removed, records_raised, records_lowered, nested_replaced, fresh_appended, fresh_cut, needed_appended, needed_cut, records_appended, records_cut}
+use Rattle.rd_marks.proofs.Starting.{stretch_within}
+
+-- a place in few stretches has a next number
+pub is_low : (ss : List Stretch) → length ss < 2 ^ 64 → (p : Place) → IsWithin ss p → IsLow p
+is_low ss few p within some = let inside = stretch_within ss p within some in omega (arith, few, inside)
+
+raised_number : (j : ℕ) (p : Place) → (raised j p).number ≡ p.number
+raised_number j p = grind (arith, nat_tests)
+
+lowered_number : (j : ℕ) (p : Place) → (lowered j p).number ≡ p.number
+lowered_number j p = grind (arith, nat_tests)
+
+moved_same : (ps : List Place) → map (moved Same) ps ≡ ps
+moved_same [] = refl
+moved_same (p ∷ ps) = ap (λ (qs : List Place). p ∷ qs) (moved_same ps)
+
+-- the events of a list with those of others behind it
+joined_events : (xs ys zs : List Entry) (n : ℕ) → zs ≡ xs ++ drop n ys → events xs ≡ take n (events ys) → events zs ≡ events ys
+joined_events xs ys zs n its same =
+    ap events its ∙ map-append (λ (x : Entry). x.event) xs (drop n ys) ∙ ap (λ (es : List Event). es ++ events (drop n ys)) (same ∙ take-map (λ (x : Entry). x.event) n ys)
+    ∙ sym (map-append (λ (x : Entry). x.event) (take n ys) (drop n ys)) ∙ ap events (take-append-drop n ys)
+
+-- nothing changed
+pub unchanged : (old new : List Stretch) → new ≡ old → IsUnchanged old new
+unchanged old new same =
+    subst (λ (ss : List Stretch). IsUnchanged old ss) (sym same) (record { stays = λ p within. record { within = within; same = refl }; needed = λ places needed. needed })
+
+-- all that is put is there
+pub all_there : (ss : List Stretch) (few : length ss < 2 ^ 64) (at : Place) (live : List Entry) → IsWithin ss at → at.number ≡ length live
+    → IsGrown ss ss at live (record { place = at; shift = Same })
+all_there ss few at live within all = record {
+  within = within;
+  put =
+      sym (append-nil (records_at ss at))
+      ∙ ap (λ (xs : List Entry). records_at ss at ++ xs) (sym (drop-length live) ∙ ap (λ (n : ℕ). drop n live) (sym all));
+  low = is_low ss few;
+  stays = λ p is. record { within = is; same = refl };
+  needed = λ places needed i inside.
+      omega (arith, needed i inside, ap (greatest_in i) (ap (λ (ps : List Place). ps ++ at ∷ []) (moved_same places)), greatest_more i places (at ∷ []));
+}
+  where
+    greatest_more : (i : ℕ) (ps qs : List Place) → greatest_in i ps ≤ greatest_in i (ps ++ qs)
+    greatest_more i [] qs = omega arith
+    greatest_more i (p ∷ ps) qs = let rest = greatest_more i ps qs in omega (arith, rest)
+
+-- what a change leaves
+pub record Grows (old new : List Stretch) (at : Place) (records : List Entry) (shift : Shift) (place : Place) : Type 0 where
+  pub nested : AreNested new
+  pub fresh : AreFresh new
+  pub grown : IsGrown old new at records (record { place = place; shift = shift })
+
+module _ (ss : List Stretch) (few : length ss < 2 ^ 64) (rule : AreNested ss) (fresh : AreFresh ss) (live : List Entry) (most : length live ≤ MOST_STEPS) (at : Place)
+    (more : at.number < length live) (along : IsAlong ss at.stretch at.number (events live)) (deepest : IsDeepest ss at.number (events live)) where
+  -- at the end of a stretch
+  pub extended : IsEnd ss at → (t : Stretch) → t.shared ≡ shared_at ss at.stretch → t.records.items ≡ own_at ss at.stretch ++ drop at.number live
+      → Grows ss (set ss at.stretch t) at live Same (record { stretch = at.stretch; number = length live })
+  extended end t shared its =
+      let j = at.stretch in
+      let n = at.number in
+      let new = set ss j t in
+      let rest = drop n live in
+      let both = appended_at ss rule j end.there t shared rest its in
+      let change = both.0 in
+      let list = both.1 in
+      let all = end.all in
+      let whole : take n (list_of ss j) ≡ list_of ss j = take_all n (list_of ss j) (omega (arith, all)) in
+      let start : events (list_of ss j) ≡ take n (events live) = ap events (sym whole) ∙ sym (take-map (λ (x : Entry). x.event) n (list_of ss j)) ∙ along.alike in
+      let same : events (list_of new j) ≡ events live = joined_events (list_of ss j) live (list_of new j) n list start in
+      let long : length (list_of new j) ≡ length live = sym (length-map (list_of new j) (λ (x : Entry). x.event)) ∙ ap length same ∙ length-map live (λ (x : Entry). x.event) in
+      let some = rule.some j end.there in
+      let next = shared_within ss rule (suc j) in
+      let nested = nested_replaced ss new j change rule (omega (arith, some, all, more, long)) (omega (arith, next, all, more, long)) (omega (arith, most, long)) in
+      record {
+        nested = nested;
+        fresh =
+            fresh_appended ss new j change rule fresh nested rest (events live) list same (subst (λ (m : ℕ). IsAlong ss j m (events live)) all along)
+            (subst (λ (m : ℕ). IsDeepest ss m (events live)) all deepest);
+        grown = record {
+          within = omega (arith, long);
+          put = take_all (length live) (list_of new j) (omega (arith, long)) ∙ list ∙ ap (λ (xs : List Entry). xs ++ rest) (sym whole);
+          low = is_low ss few;
+          stays = λ p within.
+              (let kept = records_appended ss new j change rest list p within in
+              record { within = within_at ss new p p refl kept within; same = kept });
+          needed = λ places needed.
+              subst (λ (ps : List Place). AreNeeded new (ps ++ record { stretch = j; number = length live } ∷ [])) (sym (moved_same places))
+              (needed_appended ss new j change places (length live) (omega (arith, long)) needed);
+        };
+      }
+
+  -- in a new one
+  pub branched : IsWithin ss at → (j : ℕ) → j ≤ length ss → (0 < length ss → 0 < j) → shared_at ss j ≤ at.number → at.number ≤ length (list_before ss j)
+      → take at.number (list_before ss j) ≡ records_at ss at → (s : Stretch) → s.shared ≡ at.number → s.records.items ≡ drop at.number live
+      → Grows ss (insert ss j s) at live (Up j) (record { stretch = j; number = length live })
+  branched within j inside first less there begins s shared its =
+      let n = at.number in
+      let new = insert ss j s in
+      let rest = drop n live in
+      let change = inserted_at ss j s inside (omega (arith, shared, less)) (omega (arith, shared, there)) in
+      let list : list_of new j ≡ records_at ss at ++ rest =
+      change.here.0 ∙ (λ i. take (shared i) (list_before ss j) ++ its i) ∙ ap (λ (xs : List Entry). xs ++ rest) begins in
+      let start : events (records_at ss at) ≡ take n (events live) = sym (take-map (λ (x : Entry). x.event) n (list_of ss at.stretch)) ∙ along.alike in
+      let same : events (list_of new j) ≡ events live = joined_events (records_at ss at) live (list_of new j) n list start in
+      let long : length (list_of new j) ≡ length live = sym (length-map (list_of new j) (λ (x : Entry). x.event)) ∙ ap length same ∙ length-map live (λ (x : Entry). x.event) in
+      let nested = nested_inserted ss new j s change rule (omega (arith, shared, more, long)) (omega (arith, most, long)) in
+      record {
+        nested = nested;
+        fresh =
+            before j first begins (λ k low on. fresh_inserted ss new j s change rule fresh nested k (events live) same low (subst (λ (m : ℕ). IsAlong ss k m (events live)) (sym shared) on)
+            (subst (λ (m : ℕ). IsDeepest ss m (events live)) (sym shared) deepest));
+        grown = record {
+          within = omega (arith, long);
+          put = take_all (length live) (list_of new j) (omega (arith, long)) ∙ list;
+          low = is_low ss few;
+          stays = λ p is.
+              (let kept = records_raised ss new j s change p in
+              record { within = within_at ss new p (raised j p) (raised_number j p) kept is; same = kept });
+          needed = λ places needed. needed_inserted ss new j s change places (length live) (omega (arith, long)) needed;
+        };
+      }
+    where
+      -- the list before it begins with them
+      before : (j : ℕ) → (0 < length ss → 0 < j) → take at.number (list_before ss j) ≡ records_at ss at
+          → {X : Type 0} → ((k : ℕ) → (0 < length ss → k < j) → IsAlong ss k at.number (events live) → X) → X
+      before zero first begins go = go 0 (λ some. let no = first some in omega (arith, no)) (none begins)
+        where
+          none : take at.number [] ≡ records_at ss at → IsAlong ss 0 at.number (events live)
+          none h = along_taken ss ss 0 at.stretch at.number (events live) (grind arith) along
+      before (suc k) first begins go = go k (λ some. omega arith) (along_taken ss ss k at.stretch at.number (events live) begins along)
+
+pub record Shrinks (old new : List Stretch) (i n : ℕ) (shift : Shift) : Type 0 where
+  pub nested : AreNested new
+  pub fresh : AreFresh new
+  pub shrunk : IsShrunk old new i n shift
+
+module _ (ss : List Stretch) (few : length ss < 2 ^ 64) (rule : AreNested ss) (fresh : AreFresh ss) (j : ℕ) (inside : j < length ss) where
+  -- a stretch that goes
+  pub gone : (n : ℕ) → shared_at ss (suc j) ≤ n → n ≤ shared_at ss j → Shrinks ss (remove ss j) j n (Down j)
+  gone n next none =
+      let found = removed_at ss j rule inside (omega (arith, next, none)) in
+      let new = remove ss j in
+      let s = found.0 in
+      let change = found.2 in
+      let count = change.changed.count in
+      let shared = change.here.1 in
+      let nested = nested_removed new ss j s change rule in
+      record {
+        nested = nested;
+        fresh = fresh_removed new ss j s change nested fresh;
+        shrunk = record {
+          below = omega (arith, count, inside);
+          low = is_low ss few;
+          stays = λ p within own.
+              (let kept = records_lowered new ss j s change p (λ here. let most = own here in omega (arith, most, none, shared)) in
+              record { within = within_at ss new p (lowered j p) (lowered_number j p) kept within; same = kept });
+          needed = λ places needed its. needed_removed new ss j s change places needed;
+        };
+      }
+
+  -- one whose records stay
+  pub same_left : (t : Stretch) → t.shared ≡ shared_at ss j → t.records.items ≡ own_at ss j → AreNested (set ss j t) × AreFresh (set ss j t) × IsUnchanged ss (set ss j t)
+  same_left t shared its =
+      let new = set ss j t in
+      let both = appended_at ss rule j inside t shared [] (its ∙ sym (append-nil (own_at ss j))) in
+      let change = both.0 in
+      let list : list_of new j ≡ list_of ss j = both.1 ∙ append-nil (list_of ss j) in
+      let all : list_of new j ≡ take (length (list_of ss j)) (list_of ss j) = list ∙ sym (take_all (length (list_of ss j)) (list_of ss j) (omega arith)) in
+      let both_same : (i : ℕ) → (list_of new i ≡ list_of ss i) × (shared_at new i ≡ shared_at ss i) =
+      (λ i. elim (cases_lt i j) [
+        | inl low ↦ change.changed.below i low
+        | inr high ↦ elim (cases_eq i j) [
+          | inl same ↦ subst (λ (k : ℕ). (list_of new k ≡ list_of ss k) × (shared_at new k ≡ shared_at ss k)) (sym same) (list, change.shared)
+          | inr other ↦ change.changed.above i i (omega arith) (omega (arith, high, other))
+        ]
+      ]) in
+      let some = rule.some j inside in
+      let follows = shared_within ss rule (suc j) in
+      let nested =
+      nested_replaced ss new j change rule (omega (arith, some, ap length list)) (omega (arith, follows, ap length list)) (omega (arith, rule.few j inside, ap length list)) in (
+        nested,
+        fresh_cut ss new j change fresh nested (length (list_of ss j)) some all,
+        record {
+          stays = λ p within.
+              (let kept = ap (take p.number) (both_same p.stretch).0 in
+              record { within = within_at ss new p p refl kept within; same = kept });
+          needed = λ places needed i inside_too.
+              omega (arith, needed i (omega (arith, inside_too, change.changed.count)), ap length (both_same i).0, (both_same (suc i)).1);
+        },
+      )
+
+  -- one of which some are left
+  pub left : (n : ℕ) → shared_at ss (suc j) ≤ n → shared_at ss j < n → (t : Stretch) → t.shared ≡ shared_at ss j → t.records.items ≡ take (n - shared_at ss j) (own_at ss j) → Shrinks ss (set ss j t) j n Same
+  left n next some t shared its =
+      let new = set ss j t in
+      let both = cut_at ss rule j inside t shared n (omega (arith, some)) next its in
+      let change = both.0 in
+      let list = both.1 in
+      let count = change.changed.count in
+      let long = ap length list ∙ length-take n (list_of ss j) in
+      let had = rule.some j inside in
+      let few_had = rule.few j inside in
+      let follows = shared_within ss rule (suc j) in
+      let nested = nested_replaced ss new j change rule (omega (arith, long, some, had)) (omega (arith, long, next, follows)) (omega (arith, long, few_had)) in
+      record {
+        nested = nested;
+        fresh = fresh_cut ss new j change fresh nested n some list;
+        shrunk = record {
+          below = omega (arith, count, inside);
+          low = is_low ss few;
+          stays = λ p within own.
+              (let kept = records_cut ss new j change n list p own in
+              record { within = within_at ss new p p refl kept within; same = kept });
+          needed = λ places needed its.
+              subst (λ (ps : List Place). AreNeededFrom j new ps) (sym (moved_same places)) (needed_cut ss new j change places (omega (arith, long, its)) needed);
+        };
+      }
+
+-- records were put at the end of a stretch, or not
+pub extended_or_not : {X Y : Type 0} (r : Result X Y) (P : Type 0) (own more records : List Entry) → OnOk r (records ≡ own ++ more) → OnErr r (records ≡ own)
+    → (records ≡ own ++ more → P) → (records ≡ own → P) → P
+extended_or_not (Ok x) P own more records ok err f g = f ok
+extended_or_not (Err e) P own more records ok err f g = g err
+
+-- whatever the number of the live steps is called
+pub grown_of_length : (old new : List Stretch) (at : Place) (live : List Entry) (shift : Shift) (i n : ℕ) → n ≡ length live
+    → IsGrown old new at live (record { place = record { stretch = i; number = length live }; shift = shift }) → IsGrown old new at live (record { place = record { stretch = i; number = n }; shift = shift })
+grown_of_length old new at live shift i n e grown = subst (λ (m : ℕ). IsGrown old new at live (record { place = record { stretch = i; number = m }; shift = shift })) (sym e) grown

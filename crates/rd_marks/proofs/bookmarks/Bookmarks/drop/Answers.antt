@@ -1,0 +1,41 @@
+use Rattle.std.proofs.Common.{◌∙◌, List, All, sym, ap, subst, is_some, option_map}
+use Rattle.std.proofs.lemmas.Map.Made.{lookup-map_values}
+use Rattle.rd_marks.specs.declared.names.MarkName.{MarkName}
+use Rattle.rd_marks.specs.declared.stretches.Place.{Place}
+use Rattle.rd_marks.specs.Kept.{records_in}
+use Rattle.rd_marks.specs.Layout.{IsKept, lists_of}
+use Rattle.rd_marks.specs.Names.{same_name}
+use Rattle.rd_marks.specs.Stretches.{IsWithin}
+use Rattle.rd_marks.proofs.MarkLemmas.{all_without, removed_mapped}
+use Rattle.rd_marks.proofs.bookmarks.Bookmarks.drop.Goals as goal
+
+pub invariant_of-self : goal.invariant_of-self
+invariant_of-self c =
+    let b = c.args.self.now in
+    record { kept = subst (λ (es : List (MarkName × Place)). IsKept b.stretches.list.items es b.here) (sym c.in-None.ensures.unchanged) b.kept }
+
+pub returns-in-None-clause-found : goal.returns-in-None-clause-found
+returns-in-None-clause-found c =
+    let b = c.args.self.now in
+    ap is_some (ap (option_map (records_in b)) c.in-None.ensures.value ∙ sym (lookup-map_values (records_in b) (same_name c.args.name.now) b.names.entries))
+
+pub returns-in-None-clause-lists : goal.returns-in-None-clause-lists
+returns-in-None-clause-lists c =
+    let b = c.args.self.now in
+    ap (lists_of b.stretches.list.items) c.shift_remove.ensures.entries ∙ removed_mapped (records_in b) (same_name c.args.name.now) b.names.entries
+
+pub prune-requires-clause-within : goal.prune-requires-clause-within
+prune-requires-clause-within c =
+    let b = c.args.self.now in
+    subst (λ (es : List (MarkName × Place)). All (λ (m : MarkName × Place). IsWithin b.stretches.list.items m.1) es) (sym c.shift_remove.ensures.entries)
+    (all_without (same_name c.args.name.now) (λ (m : MarkName × Place). IsWithin b.stretches.list.items m.1) b.names.entries b.kept.within)
+
+pub returns-in-Some-clause-found : goal.returns-in-Some-clause-found
+returns-in-Some-clause-found c =
+    let b = c.args.self.now in
+    ap is_some (ap (option_map (records_in b)) c.in-Some.ensures.value ∙ sym (lookup-map_values (records_in b) (same_name c.args.name.now) b.names.entries))
+
+pub returns-in-Some-clause-lists : goal.returns-in-Some-clause-lists
+returns-in-Some-clause-lists c =
+    let b = c.args.self.now in
+    c.prune.ensures.lists ∙ ap (lists_of b.stretches.list.items) c.shift_remove.ensures.entries ∙ removed_mapped (records_in b) (same_name c.args.name.now) b.names.entries

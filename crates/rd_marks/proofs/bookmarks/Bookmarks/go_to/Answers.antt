@@ -1,0 +1,33 @@
+use Rattle.std.proofs.Common.{◌≡◌, ◌≤◌, [], ℕ, List, length, take, lit<, refl, subst, ap, ◌∙◌, arith}
+use Rattle.rd_step.proofs.PassedUp.{fact_passed_up}
+use Rattle.rd_step.specs.declared.entries.Event.{Event}
+use Rattle.rd_depend.specs.Beginnings.{Begins}
+use Rattle.rd_journal.specs.Journal.{events}
+use Rattle.rd_journal.specs.Sessions.{state, track}
+use Rattle.rd_marks.specs.declared.bookmarks.Bookmarks.{Bookmarks}
+use Rattle.rd_marks.specs.declared.stretches.Place.{Place}
+use Rattle.rd_marks.specs.Kept.{here_in, records_in, IsIn}
+use Rattle.rd_marks.proofs.Here.{along_to}
+use Rattle.rd_marks.proofs.bookmarks.Bookmarks.go_to.Goals as goal
+
+-- the records of the place begin the track
+on_track : (b : Bookmarks) (place : Place) (steps : List Event) (c : ℕ) → IsIn b place → Begins (events (here_in b)) steps → c ≤ b.here.number
+    → take c (here_in b) ≡ take c (records_in b place) → c ≡ place.number → (place.number ≤ length steps) × (take place.number steps ≡ events (records_in b place))
+on_track b place steps c is stands first alike all =
+    along_to b.stretches.list.items place b.here steps is b.kept.lies stands place.number refl (omega (arith, first, all))
+    (subst (λ (n : ℕ). take n (here_in b) ≡ take n (records_in b place)) all alike)
+
+pub go_along-requires : goal.go_along-requires
+go_along-requires g c = (
+  lit< tt,
+  (on_track c.args.self.now c.args.place (track c.args.session.now) c.common.result c.requires.within c.requires.stands c.common.ensures.first c.common.ensures.alike (omega (arith, c.if-common-place.true))).0,
+)
+
+pub returns-then-common-place-clause-ok : goal.returns-then-common-place-clause-ok
+returns-then-common-place-clause-ok g c =
+    c.go_along.ensures.state
+    ∙ ap (λ (es : List Event). record { start = (state c.args.session.now).start; live = es; undone = [] })
+    (on_track c.args.self.now c.args.place (track c.args.session.now) c.common.result c.requires.within c.requires.stands c.common.ensures.first c.common.ensures.alike (omega (arith, c.if-common-place.true))).1
+
+pub returns-in_err-exchange-clause-unchanged : goal.returns-in_err-exchange-clause-unchanged
+returns-in_err-exchange-clause-unchanged g c = fact_passed_up c.from_residual.result c.in_err-exchange.ensures.unchanged

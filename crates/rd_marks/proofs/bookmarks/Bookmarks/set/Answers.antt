@@ -1,0 +1,112 @@
+use Rattle.std.proofs.Common.{◌++◌, ◌∙◌, [], ◌∷◌, List, All, sym, ap, subst, arith}
+use Rattle.std.specs.Map.{lookup}
+use Rattle.std.proofs.lemmas.Map.Made.{lookup-map_values}
+use Rattle.rd_step.proofs.PassedUp.{fact_passed_up}
+use Rattle.rd_step.specs.declared.entries.Entry.{Entry}
+use Rattle.rd_depend.specs.Beginnings.{Begins}
+use Rattle.rd_journal.specs.Journal.{events}
+use Rattle.rd_journal.specs.Sessions.{state, track}
+use Rattle.rd_marks.specs.declared.names.MarkName.{MarkName}
+use Rattle.rd_marks.specs.declared.stretches.Place.{Place}
+use Rattle.rd_marks.specs.Changes.{IsLow}
+use Rattle.rd_marks.specs.Layout.{AreRuns, lists_of}
+use Rattle.rd_marks.specs.Names.{same_name}
+use Rattle.rd_marks.specs.Stretches.{records_at, IsWithin}
+use Rattle.rd_marks.proofs.Here.{live_along, live_begin}
+use Rattle.rd_marks.proofs.Putting.{each, is_set, kept_same, none_named}
+use Rattle.rd_marks.proofs.bookmarks.Bookmarks.set.Goals as goal
+
+pub follow-at-requires-clause-within : goal.follow-at-requires-clause-within
+follow-at-requires-clause-within g c =
+    (live_along c.args.self.now.stretches.list.items c.args.session.now c.args.self.now.here c.cut.result c.live-live.result c.live-live.ensures.events c.args.self.now.kept.lies c.requires.stands
+    c.cut.ensures.stretch (omega (arith, c.cut.ensures.number)) (omega (arith, c.cut.ensures.number, c.len.ensures))).0
+
+pub follow-at-requires-clause-along : goal.follow-at-requires-clause-along
+follow-at-requires-clause-along g c =
+    (live_along c.args.self.now.stretches.list.items c.args.session.now c.args.self.now.here c.cut.result c.live-live.result c.live-live.ensures.events c.args.self.now.kept.lies c.requires.stands
+    c.cut.ensures.stretch (omega (arith, c.cut.ensures.number)) (omega (arith, c.cut.ensures.number, c.len.ensures))).1
+
+pub put-requires-clause-new : goal.put-requires-clause-new
+put-requires-clause-new g c =
+    let b = c.args.self.now in
+    ap (λ (es : List (MarkName × Place)). lookup (same_name c.args.name) es) c.reserve.ensures.entries
+    ∙ none_named (records_at b.stretches.list.items) (lookup (same_name c.args.name) b.names.entries)
+    (sym (lookup-map_values (records_at b.stretches.list.items) (same_name c.args.name) b.names.entries) ∙ c.requires.new)
+
+pub put-requires-clause-low : goal.put-requires-clause-low
+put-requires-clause-low g c =
+    let b = c.args.self.now in
+    subst (λ (es : List (MarkName × Place)). All (λ (m : MarkName × Place). IsLow m.1) es) (sym c.reserve.ensures.entries)
+    (each (IsWithin b.stretches.list.items) IsLow b.names.entries c.in_ok-grown.ensures.ok.low b.kept.within)
+
+pub here_after-self-requires : goal.here_after-self-requires
+here_after-self-requires g c = c.in_ok-grown.ensures.ok.low c.args.self.now.here c.args.self.now.kept.lies
+
+pub returns-in_err-reserve-clause-runs : goal.returns-in_err-reserve-clause-runs
+returns-in_err-reserve-clause-runs g c =
+    subst (λ (es : List (MarkName × Place)). AreRuns g.row.R (state c.args.session.now).start (lists_of c.args.self.now.stretches.list.items es)) (sym c.reserve.ensures.entries) c.requires.runs
+
+pub invariant_of-self-in-Break-branch-2 : goal.invariant_of-self-in-Break-branch-2
+invariant_of-self-in-Break-branch-2 g c =
+    let b = c.args.self.now in
+    record {
+      kept =
+          (kept_same b.stretches.list.items c.grow.new.self.list.items c.in_err-grown.ensures.err b.names.entries c.reserve.new.self.entries b.here c.reserve.ensures.entries b.kept).0;
+    }
+
+pub returns-in_err-grown-clause-runs : goal.returns-in_err-grown-clause-runs
+returns-in_err-grown-clause-runs g c =
+    let b = c.args.self.now in
+    let same = kept_same b.stretches.list.items c.grow.new.self.list.items c.in_err-grown.ensures.err b.names.entries c.reserve.new.self.entries b.here c.reserve.ensures.entries b.kept in
+    subst (λ (ls : List (MarkName × List Entry)). AreRuns g.row.R (state c.args.session.now).start ls) (sym same.1) c.requires.runs
+
+pub returns-in_err-grown-clause-stands : goal.returns-in_err-grown-clause-stands
+returns-in_err-grown-clause-stands g c =
+    let b = c.args.self.now in
+    let same = kept_same b.stretches.list.items c.grow.new.self.list.items c.in_err-grown.ensures.err b.names.entries c.reserve.new.self.entries b.here c.reserve.ensures.entries b.kept in
+    subst (λ (xs : List Entry). Begins (events xs) (track c.args.session.now)) (sym same.2) c.requires.stands
+
+pub returns-in_err-grown-clause-unchanged : goal.returns-in_err-grown-clause-unchanged
+returns-in_err-grown-clause-unchanged g c =
+    let b = c.args.self.now in
+    fact_passed_up _
+    (kept_same b.stretches.list.items c.grow.new.self.list.items c.in_err-grown.ensures.err b.names.entries c.reserve.new.self.entries b.here c.reserve.ensures.entries b.kept).1
+
+pub invariant_of-self-2 : goal.invariant_of-self-2
+invariant_of-self-2 g c =
+    let b = c.args.self.now in
+    record {
+      kept = (is_set g.row.R (state c.args.session.now).start b.stretches.list.items b.stretches.nested b.names.entries b.here b.kept c.requires.few c.requires.runs c.live-live.result
+          (record { few = c.live-live.ensures.few; ran = c.live-live.ensures.run }) (track c.args.session.now) c.requires.stands
+          (live_begin c.args.session.now c.live-live.result c.live-live.ensures.events) c.follow-at.result c.follow-at.ensures.within c.follow-at.ensures.along c.grow.new.self.list.items
+          c.in_ok-grown.grown c.in_ok-grown.ensures.ok c.args.name c.reserve.new.self.entries c.put.new.names.entries c.reserve.ensures.entries c.put.ensures c.here_after-self.result
+          c.len-2.result c.here_after-self.ensures.near c.here_after-self.ensures.far).kept;
+    }
+
+pub returns-clause-ok : goal.returns-clause-ok
+returns-clause-ok g c =
+    let b = c.args.self.now in
+    (is_set g.row.R (state c.args.session.now).start b.stretches.list.items b.stretches.nested b.names.entries b.here b.kept c.requires.few c.requires.runs c.live-live.result
+    (record { few = c.live-live.ensures.few; ran = c.live-live.ensures.run }) (track c.args.session.now) c.requires.stands
+    (live_begin c.args.session.now c.live-live.result c.live-live.ensures.events) c.follow-at.result c.follow-at.ensures.within c.follow-at.ensures.along c.grow.new.self.list.items
+    c.in_ok-grown.grown c.in_ok-grown.ensures.ok c.args.name c.reserve.new.self.entries c.put.new.names.entries c.reserve.ensures.entries c.put.ensures c.here_after-self.result
+    c.len-2.result c.here_after-self.ensures.near c.here_after-self.ensures.far).lists
+    ∙ ap (λ (xs : List Entry). lists_of b.stretches.list.items b.names.entries ++ (c.args.name, xs) ∷ []) c.live-live.ensures.records
+
+pub returns-clause-runs : goal.returns-clause-runs
+returns-clause-runs g c =
+    let b = c.args.self.now in
+    (is_set g.row.R (state c.args.session.now).start b.stretches.list.items b.stretches.nested b.names.entries b.here b.kept c.requires.few c.requires.runs c.live-live.result
+    (record { few = c.live-live.ensures.few; ran = c.live-live.ensures.run }) (track c.args.session.now) c.requires.stands
+    (live_begin c.args.session.now c.live-live.result c.live-live.ensures.events) c.follow-at.result c.follow-at.ensures.within c.follow-at.ensures.along c.grow.new.self.list.items
+    c.in_ok-grown.grown c.in_ok-grown.ensures.ok c.args.name c.reserve.new.self.entries c.put.new.names.entries c.reserve.ensures.entries c.put.ensures c.here_after-self.result
+    c.len-2.result c.here_after-self.ensures.near c.here_after-self.ensures.far).runs
+
+pub returns-clause-stands : goal.returns-clause-stands
+returns-clause-stands g c =
+    let b = c.args.self.now in
+    (is_set g.row.R (state c.args.session.now).start b.stretches.list.items b.stretches.nested b.names.entries b.here b.kept c.requires.few c.requires.runs c.live-live.result
+    (record { few = c.live-live.ensures.few; ran = c.live-live.ensures.run }) (track c.args.session.now) c.requires.stands
+    (live_begin c.args.session.now c.live-live.result c.live-live.ensures.events) c.follow-at.result c.follow-at.ensures.within c.follow-at.ensures.along c.grow.new.self.list.items
+    c.in_ok-grown.grown c.in_ok-grown.ensures.ok c.args.name c.reserve.new.self.entries c.put.new.names.entries c.reserve.ensures.entries c.put.ensures c.here_after-self.result
+    c.len-2.result c.here_after-self.ensures.near c.here_after-self.ensures.far).stands

@@ -1,0 +1,27 @@
+use Rattle.std.proofs.Common.{◌≡◌, ◌+◌, ℕ, suc, ap, subst, sym, take, arith}
+use Rattle.rd_marks.specs.Stretches.{list_of, shared_at}
+use Rattle.rd_marks.proofs.Reading.{common_most, common_on}
+use Rattle.rd_marks.proofs.stretches.Stretches.common_up.Goals as goal
+
+pub loop-i-preserved : goal.loop-i-preserved
+loop-i-preserved c =
+    let ss = c.args.self.now.list.items in
+    let inv = c.loop-i.invariant in
+    let i = c.loop-i.i in
+    let d = c.min-common-in-loop-i.result in
+    let e : i + 1 ≡ suc i = omega arith in
+    record {
+      first = omega (arith, inv.first, c.min-common-in-loop-i.ensures);
+      second = omega (arith, inv.second, c.min-common-in-loop-i.ensures);
+      alike =
+          subst (λ (k : ℕ). take d (list_of ss k) ≡ take d (list_of ss c.args.one.stretch)) (sym e)
+          (common_on ss c.args.self.now.nested c.args.one.stretch i c.loop-i.common d (omega (arith, c.min-common-in-loop-i.ensures))
+          (omega (arith, c.min-common-in-loop-i.ensures, c.shared.ensures, ap (shared_at ss) e)) inv.alike);
+      most = λ n h k all.
+          omega (arith, inv.most n h k (λ j low high. all j low (omega (arith, high))), all (i + 1) (omega (arith, c.loop-i.auto.i)) (omega arith), c.min-common-in-loop-i.ensures, c.shared.ensures);
+    }
+
+pub returns-clause-most : goal.returns-clause-most
+returns-clause-most c = λ n h k same. c.loop-i.invariant.most n h k (λ j low high.
+    common_most c.args.self.now.list.items c.args.self.now.nested c.args.self.now.fresh c.args.one c.args.other c.requires.one c.requires.other n h k same j low
+    (omega (arith, high, c.loop-i.auto.i, c.loop-i.auto.i-end, c.requires.later)))

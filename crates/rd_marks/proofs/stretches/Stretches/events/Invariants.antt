@@ -1,0 +1,11 @@
+use Rattle.std.proofs.Common.{◌≡◌, ◌≤◌, take, length, vec_len, vec_capacity}
+use Rattle.std.specs.Cow.{cow_slice_items}
+use Rattle.rd_step.specs.Run.{events}
+use Rattle.rd_marks.proofs.stretches.Stretches.events.Given as goal
+
+abbrev pub invariant-loop-i : goal.invariant-loop-i
+invariant-loop-i l = record {
+  items : l.list.items ≡ events (take l.i (cow_slice_items l.records));
+  len : vec_len l.list ≡ l.i;
+  capacity : length (cow_slice_items l.records) ≤ vec_capacity l.list;
+}

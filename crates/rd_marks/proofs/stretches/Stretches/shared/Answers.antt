@@ -1,0 +1,12 @@
+use Rattle.std.proofs.Common.{sym, arith}
+use Rattle.rd_marks.proofs.StretchLists.{shared_past}
+use Rattle.rd_marks.proofs.Reading.{stretch_at}
+use Rattle.rd_marks.proofs.stretches.Stretches.shared.Goals as goal
+
+pub returns-in-None : goal.returns-in-None
+returns-in-None c = sym (shared_past c.args.self.now.list.items c.args.i (omega (arith, c.in-None.ensures.lookup.3, c.deref.ensures.len)))
+
+pub returns-in-Some : goal.returns-in-Some
+returns-in-Some c =
+    let found = c.in-Some.ensures.lookup in
+    sym (stretch_at c.args.self.now.list.items c.deref.result.now c.args.i c.in-Some.stretch.now c.deref.ensures.value found.3.0 found.1).1

@@ -1,0 +1,44 @@
+-- What a change of the stretches leaves.
+use Rattle.std.specs.Prelude.{◌≡◌, ℕ, suc, ◌<◌, ◌≤◌, ◌^◌, List, [], ◌∷◌, ◌++◌, map, drop, length}
+use Rattle.rd_step.specs.declared.entries.Entry.{Entry}
+use Rattle.rd_marks.specs.declared.stretches.Place.{Place}
+use Rattle.rd_marks.specs.declared.stretches.Stretch.{Stretch}
+use Rattle.rd_marks.specs.declared.stretches.changes.Grown.{Grown}
+use Rattle.rd_marks.specs.declared.stretches.changes.Shift.{Shift}
+use Rattle.rd_marks.specs.declared.stretches.changes.Shift.TheVariants.{Same, Up, Down}
+use Rattle.rd_marks.specs.Stretches.{records_at, needed_at, IsWithin, AreNeeded, AreNeededFrom, raised, lowered}
+
+-- where the records of a place are after the stretches got other numbers
+abbrev pub moved : Shift → Place → Place
+moved Same p = p
+moved (Up i) p = raised i p
+moved (Down i) p = lowered i p
+
+-- there is a number after that of its stretch
+abbrev pub IsLow : Place → Type 0
+IsLow p = 0 < p.number → suc p.stretch < 2 ^ 64
+
+-- it has the records that it had
+pub record Stays (old new : List Stretch) (shift : Shift) (p : Place) : Type 0 where
+  pub within : IsWithin new (moved shift p)
+  pub same : records_at new (moved shift p) ≡ records_at old p
+
+-- all places have what they had, and what is needed is
+pub record IsUnchanged (old new : List Stretch) : Type 0 where
+  pub stays : (p : Place) → IsWithin old p → Stays old new Same p
+  pub needed : (places : List Place) → AreNeeded old places → AreNeeded new places
+
+-- after the records of a place were put, with those of the others behind them
+pub record IsGrown (old new : List Stretch) (at : Place) (records : List Entry) (grown : Grown) : Type 0 where
+  pub within : IsWithin new grown.place
+  pub put : records_at new grown.place ≡ records_at old at ++ drop at.number records
+  pub low : (p : Place) → IsWithin old p → IsLow p
+  pub stays : (p : Place) → IsWithin old p → Stays old new grown.shift p
+  pub needed : (places : List Place) → AreNeeded old places → AreNeeded new (map (moved grown.shift) places ++ grown.place ∷ [])
+
+-- after a stretch was cut to the first so many records of its list, or taken away
+pub record IsShrunk (old new : List Stretch) (i n : ℕ) (shift : Shift) : Type 0 where
+  pub below : i ≤ length new
+  pub low : (p : Place) → IsWithin old p → IsLow p
+  pub stays : (p : Place) → IsWithin old p → (p.stretch ≡ i → p.number ≤ n) → Stays old new shift p
+  pub needed : (places : List Place) → AreNeededFrom (suc i) old places → n ≡ needed_at old places i → AreNeededFrom i new (map (moved shift) places)

@@ -1,0 +1,208 @@
+//! The bookmarks: their names in the order in which they were set, each with where its records are, and where the session's track lies
+//! among those.
+
+ghost use Rattle.std.specs.Prelude.{◌≡◌, ◌<◌, ◌≤◌, ◌++◌, [], ◌∷◌, None, map, length, slice_get, is_some, option_map, IsOk, IfOk, IfSome, OnOk, OnErr};
+ghost use Rattle.std.specs.List.{IsDistinct};
+ghost use Rattle.std.specs.Map.{lookup, remove_entry};
+ghost use Rattle.rd_depend.specs.Beginnings.{Begins, IsBegunByNeither};
+ghost use Rattle.rd_depend.specs.Equivalence.{DecidesEquivalence};
+ghost use Rattle.rd_journal.specs.Journal.{events};
+ghost use Rattle.rd_journal.specs.Sessions.{state, track, journal};
+ghost use Rattle.rd_journal.specs.State.{event_at};
+ghost use Rattle.rd_marks.specs.Layout.{IsKept};
+
+mod going;
+mod keeping;
+
+use super::names::MarkName;
+use super::stretches::{Place, Stretches};
+use indexmap::IndexMap;
+use keeping::{here_after, prune, put};
+use rd_cell::Refusal;
+use rd_cell::limits::MOST_MARKS;
+use rd_depend::are_equivalent;
+use rd_journal::Session;
+use rd_step::Event;
+use std::alloc::{AllocError, Global};
+
+/// The bookmarks.
+#[derive(Drop)]
+pub(crate) struct Bookmarks {
+    /// The place of each bookmark's records.
+    names: IndexMap<MarkName, Place>,
+    stretches: Stretches,
+    /// The place of records whose steps begin the session's track, which is the live steps with those ahead of them. Setting a bookmark
+    /// and going to one begin there, and not at the start.
+    here: Place,
+    ghost kept: { IsKept stretches.list.items names.entries here },
+}
+
+impl Bookmarks {
+    ghost use Rattle.rd_marks.specs.Beginnings.{CountsBeginnings};
+    ghost use Rattle.rd_marks.specs.Kept.{lists_in, records_in, here_in, IsIn};
+    ghost use Rattle.rd_marks.specs.Layout.{AreRuns};
+    ghost use Rattle.rd_marks.specs.Marks.{marks_of};
+    ghost use Rattle.rd_marks.specs.Names.{same_name};
+
+    /// No bookmark. It takes no memory.
+    pub(crate) fn new(alloc: Global) -> Bookmarks
+        ensures lists { lists_in result ≡ [] }
+        ensures here { here_in result ≡ [] }
+    {
+        Bookmarks {
+            names: IndexMap::new(alloc),
+            stretches: Stretches::new(alloc),
+            here: Place::START,
+        }
+    }
+
+    /// How many bookmarks there are.
+    pub(crate) fn len(&self) -> usize
+        ensures count { result ≡ length (lists_in self.now) }
+        ensures few { result ≤ MOST_MARKS }
+        ensures unique { IsDistinct same_name (map (λ l. l.0) (lists_in self.now)) }
+    {
+        self.names.len()
+    }
+
+    /// How many records are kept for all of them.
+    pub(crate) fn nodes(&self) -> usize
+        ensures { CountsBeginnings (marks_of (lists_in self.now)) result }
+    {
+        self.stretches.records()
+    }
+
+    /// Where the records of the bookmark of this name are, if there is one.
+    pub(crate) fn find(&self, name: &MarkName) -> Option<Place>
+        ensures found { option_map (λ place. records_in self.now place) result ≡ lookup (same_name name.now) (lists_in self.now) }
+        ensures within { IfSome result (λ place. IsIn self.now place) }
+    {
+        match self.names.get(name) {
+            None => None,
+            Some(place) => Some(*place),
+        }
+    }
+
+    /// The name of the bookmark at this index, and where its records are.
+    pub(crate) fn at(&self, index: usize) -> Option<(MarkName, Place)>
+        ensures found { option_map (λ m. (m.0, records_in self.now m.1)) result ≡ slice_get (lists_in self.now) index }
+        ensures within { IfSome result (λ m. IsIn self.now m.1) }
+    {
+        match self.names.get_index(index) {
+            None => None,
+            Some((name, place)) => Some((*name, *place)),
+        }
+    }
+
+    /// The event of this number, from 1, of the records of a place, if there is one.
+    pub(crate) fn event_at(&self, of: Place, n: u64) -> Option<Event>
+        requires { IsIn self.now of }
+        ensures { result ≡ event_at (events (records_in self.now of)) n }
+    {
+        self.stretches.event_at(of, n)
+    }
+
+    /// The events of the records of a place.
+    ///
+    /// # Errors
+    ///
+    /// If memory was refused for them, so not if there are none.
+    pub(crate) fn events(&self, alloc: Global, of: Place) -> Result<Vec<Event>, AllocError>
+        requires { IsIn self.now of }
+        ensures ok { IfOk result (λ list. list.items ≡ events (records_in self.now of)) }
+        ensures succeeds { of.number ≡ 0 → IsOk result }
+    {
+        self.stretches.events(alloc, of)
+    }
+
+    /// Sets a bookmark of this name, which none has, at the live steps. It is the last one. What is there of its records stays; all
+    /// memory for the others is asked for before the first is put.
+    ///
+    /// # Errors
+    ///
+    /// If the room for the others or for itself was refused. The bookmarks stay.
+    pub(crate) fn set<const R: usize>(
+        &mut self,
+        alloc: Global,
+        session: &Session<R>,
+        name: MarkName,
+    ) -> Result<(), AllocError>
+        requires new { lookup (same_name name) (lists_in self.old) ≡ None }
+        requires few { length (lists_in self.old) < MOST_MARKS }
+        requires runs { AreRuns R (state session.now).start (lists_in self.old) }
+        requires stands { Begins (events (here_in self.old)) (track session.now) }
+        ensures ok { OnOk result (lists_in self.new ≡ lists_in self.old ++ (name, (journal session.now).live) ∷ []) }
+        ensures runs { AreRuns R (state session.now).start (lists_in self.new) }
+        ensures stands { Begins (events (here_in self.new)) (track session.now) }
+        ensures unchanged { OnErr result (lists_in self.new ≡ lists_in self.old) }
+    {
+        let live = session.live();
+        let at = self.stretches.follow(self.here.cut(live.len()), &live);
+        self.names.reserve(1)?;
+        let grown = self.stretches.grow(alloc, at, &live)?;
+        put(&mut self.names, name, grown);
+        self.here = here_after(self.here, live.len(), grown);
+        Ok(())
+    }
+
+    /// Drops the bookmark of this name, and gives back the records that no other one has. The others keep their order. Returns whether
+    /// there was one. It takes no memory.
+    pub(crate) fn drop(&mut self, name: &MarkName) -> bool
+        ensures found { result ≡ is_some (lookup (same_name name.now) (lists_in self.old)) }
+        ensures lists { lists_in self.new ≡ remove_entry (same_name name.now) (lists_in self.old) }
+        ensures here { Begins (here_in self.new) (here_in self.old) }
+    {
+        match self.names.shift_remove(name) {
+            None => false,
+            Some(_) => {
+                prune(&mut self.stretches, &mut self.names, &mut self.here);
+                true
+            }
+        }
+    }
+
+    /// Whether the records of two places are of equivalent events. What they have in common is not looked at.
+    ///
+    /// # Errors
+    ///
+    /// If memory was refused for the comparison, so not if one list begins the other.
+    pub(crate) fn are_same(
+        &self,
+        alloc: Global,
+        one: Place,
+        other: Place,
+    ) -> Result<bool, AllocError>
+        requires one { IsIn self.now one }
+        requires other { IsIn self.now other }
+        ensures answer { IfOk result (DecidesEquivalence (records_in self.now one) (records_in self.now other)) }
+        ensures memory { OnErr result (IsBegunByNeither (events (records_in self.now one)) (events (records_in self.now other))) }
+    {
+        let shared = self.stretches.common(one, other);
+        if shared == one.number || shared == other.number {
+            return Ok(one.number == other.number);
+        }
+        let ones = self.stretches.records_behind(alloc, one, shared)?;
+        let others = self.stretches.records_behind(alloc, other, shared)?;
+        are_equivalent(alloc, &ones, &others)
+    }
+
+    /// After a call that takes steps out of the track has answered: if it was not refused, the first `n` of those before it stayed.
+    pub(crate) fn cut_back(&mut self, done: &Result<(), Refusal>, n: u64)
+        ensures lists { lists_in self.new ≡ lists_in self.old }
+        ensures begins { Begins (here_in self.new) (here_in self.old) }
+        ensures short { OnOk done.now (length (here_in self.new) ≤ n) }
+    {
+        if let Ok(()) = done {
+            self.cut_here(n as usize);
+        }
+    }
+
+    /// After all but the first `n` steps of the track may have changed.
+    pub(crate) fn cut_here(&mut self, n: usize)
+        ensures lists { lists_in self.new ≡ lists_in self.old }
+        ensures begins { Begins (here_in self.new) (here_in self.old) }
+        ensures short { length (here_in self.new) ≤ n }
+    {
+        self.here = self.here.cut(n);
+    }
+}

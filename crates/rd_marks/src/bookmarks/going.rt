@@ -1,0 +1,83 @@
+//! Going to a bookmark.
+
+ghost use Rattle.std.specs.Prelude.{◌≡◌, [], IsOk, OnOk, IfErr, OnErr};
+ghost use Rattle.rd_depend.specs.Beginnings.{Begins};
+ghost use Rattle.rd_journal.specs.Journal.{events};
+ghost use Rattle.rd_journal.specs.Sessions.{state, track, journal};
+ghost use Rattle.rd_marks.specs.Layout.{IsRecordOfRun};
+ghost use Rattle.rd_marks.specs.Stretches.{records_at, IsWithin};
+
+use super::super::stretches::{Place, Stretches};
+use super::Bookmarks;
+use rd_cell::Refusal;
+use rd_journal::Session;
+use std::alloc::Global;
+
+impl Bookmarks {
+    ghost use Rattle.rd_marks.specs.Kept.{lists_in, records_in, here_in, IsIn};
+
+    /// Makes the steps of a place the live ones, with none undone. If they lie on the session's track, it goes along it; else what they
+    /// begin with in common with the live ones stays, and the track is theirs then.
+    ///
+    /// # Errors
+    ///
+    /// `NoMemory` if room for the others was refused, so not if there are none. Nothing has changed then.
+    pub(crate) fn go_to<const R: usize>(
+        &mut self,
+        alloc: Global,
+        session: &mut Session<R>,
+        place: Place,
+    ) -> Result<(), Refusal>
+        requires within { IsIn self.old place }
+        requires run { IsRecordOfRun R (state session.old).start (records_in self.old place) }
+        requires stands { Begins (events (here_in self.old)) (track session.old) }
+        ensures ok { OnOk result (state session.new
+            ≡ record { start = (state session.old).start; live = events (records_in self.old place); undone = [] }) }
+        ensures lists { lists_in self.new ≡ lists_in self.old }
+        ensures stands { Begins (events (here_in self.new)) (track session.new) }
+        ensures err { IfErr result (λ refusal. refusal ≡ Refusal.NoMemory) }
+        ensures succeeds { Begins (events (records_in self.old place)) (state session.old).live → IsOk result }
+        ensures unchanged { OnErr result (journal session.new ≡ journal session.old) }
+    {
+        if self.stretches.common(self.here, place) == place.number {
+            session.go_along(place.number as u64);
+            return Ok(());
+        }
+        exchange(&self.stretches, alloc, session, self.here, place)?;
+        self.here = place;
+        Ok(())
+    }
+}
+
+/// The same, wherever they lie. What the live ones have in common with the bookmarks is looked for from where they stand among those. The
+/// others are copied if they can't be lent.
+///
+/// # Errors
+///
+/// `NoMemory` if room for the others was refused, so not if there are none. Nothing has changed then.
+fn exchange<const R: usize>(
+    stretches: &Stretches,
+    alloc: Global,
+    session: &mut Session<R>,
+    here: Place,
+    place: Place,
+) -> Result<(), Refusal>
+    requires here { IsWithin stretches.now.list.items here }
+    requires within { IsWithin stretches.now.list.items place }
+    requires run { IsRecordOfRun R (state session.old).start (records_at stretches.now.list.items place) }
+    requires stands { Begins (events (records_at stretches.now.list.items here)) (track session.old) }
+    ensures ok { OnOk result (state session.new
+        ≡ record { start = (state session.old).start; live = events (records_at stretches.now.list.items place); undone = [] }) }
+    ensures err { IfErr result (λ refusal. refusal ≡ Refusal.NoMemory) }
+    ensures succeeds { Begins (events (records_at stretches.now.list.items place)) (state session.old).live → IsOk result }
+    ensures unchanged { OnErr result (journal session.new ≡ journal session.old) }
+    ensures track { OnErr result (track session.new ≡ track session.old) }
+{
+    let live = session.live();
+    let beginning = stretches.follow(here.cut(live.len()), &live);
+    let common = stretches.common(beginning, place);
+    match stretches.records_behind(alloc, place, common) {
+        Err(_) => Err(Refusal::NoMemory),
+        Ok(records) => session.switch(common as u64, &records),
+    }
+}

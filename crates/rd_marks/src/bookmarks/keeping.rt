@@ -1,0 +1,124 @@
+//! Putting a bookmark last, giving back the records that no bookmark has, and keeping places where their stretches are.
+
+ghost use Rattle.std.specs.Prelude.{◌≡◌, ◌<◌, ◌≤◌, ◌++◌, [], ◌∷◌, None, suc, map, length};
+ghost use Rattle.std.specs.List.{All};
+ghost use Rattle.std.specs.Map.{lookup};
+ghost use Rattle.indexmap.specs.IndexMap.{spare};
+ghost use Rattle.rd_marks.specs.Changes.{moved, IsLow};
+ghost use Rattle.rd_marks.specs.Layout.{places_of, IsPruned};
+ghost use Rattle.rd_marks.specs.Names.{same_name};
+ghost use Rattle.rd_marks.specs.Stretches.{greatest_in, number_in, IsWithin, AreNeededFrom};
+
+use super::super::names::MarkName;
+use super::super::stretches::{Grown, Place, Shift, Stretches};
+use indexmap::IndexMap;
+
+/// Puts a bookmark of this name, which none has, last, in the room that was made.
+pub(super) fn put(names: &mut IndexMap<MarkName, Place>, name: MarkName, grown: Grown)
+    requires new { lookup (same_name name) names.old.entries ≡ None }
+    requires room { 0 < spare names.old }
+    requires low { All (λ m. IsLow m.1) names.old.entries }
+    ensures { names.new.entries ≡ map (λ m. (m.0, moved grown.shift m.1)) names.old.entries ++ (name, grown.place) ∷ [] }
+{
+    move_all(names, grown.shift);
+    match names.insert(name, grown.place) {
+        Err(_) => unreachable!(),
+        Ok(_) => {}
+    }
+}
+
+/// Where the session's track lies after so many live steps got a place: there, or further on where it lay.
+pub(super) fn here_after(here: Place, len: usize, grown: Grown) -> Place
+    requires { IsLow here }
+    ensures near { here.number ≤ len → result ≡ grown.place }
+    ensures far { len < here.number → result ≡ moved grown.shift here }
+{
+    if here.number <= len {
+        grown.place
+    } else {
+        grown.shift.moved(here)
+    }
+}
+
+/// Takes away the records that no bookmark needs, and the stretches that have none left, from the last stretch down. What lay on a record
+/// that goes lies at the last one before it that is left.
+pub(super) fn prune(
+    stretches: &mut Stretches,
+    names: &mut IndexMap<MarkName, Place>,
+    here: &mut Place,
+)
+    requires within { All (λ m. IsWithin stretches.old.list.items m.1) names.old.entries }
+    requires here { IsWithin stretches.old.list.items here.old }
+    ensures { IsPruned 0 stretches.old.list.items stretches.new.list.items names.old.entries names.new.entries here.old here.new }
+{
+    let mut i = stretches.len();
+    while i > 0 {
+        i -= 1;
+        trim(stretches, names, here, i);
+    }
+}
+
+/// The same of one stretch, where of those after it all is needed.
+fn trim(
+    stretches: &mut Stretches,
+    names: &mut IndexMap<MarkName, Place>,
+    here: &mut Place,
+    i: usize,
+)
+    requires there { i < length stretches.old.list.items }
+    requires within { All (λ m. IsWithin stretches.old.list.items m.1) names.old.entries }
+    requires here { IsWithin stretches.old.list.items here.old }
+    requires needed { AreNeededFrom (suc i) stretches.old.list.items (places_of names.old.entries) }
+    ensures pruned { IsPruned i stretches.old.list.items stretches.new.list.items names.old.entries names.new.entries here.old here.new }
+    ensures below { i ≤ length stretches.new.list.items }
+{
+    let needed = stretches.shared(i + 1).max(greatest_in(names, i));
+    let shift = stretches.shrink(i, needed);
+    move_all(names, shift);
+    *here = shift.moved(kept_of(*here, i, needed));
+}
+
+/// What is left of a place if of this stretch's list the first `n` records are.
+fn kept_of(place: Place, i: usize, n: usize) -> Place
+    ensures stretch { result.stretch ≡ place.stretch }
+    ensures number { result.number ≤ place.number }
+    ensures left { result.stretch ≡ i → result.number ≤ n }
+{
+    if place.stretch == i {
+        place.cut(n)
+    } else {
+        place
+    }
+}
+
+/// The greatest number of the bookmarks' places in this stretch; 0 if none is in it.
+fn greatest_in(names: &IndexMap<MarkName, Place>, i: usize) -> usize
+    ensures { result ≡ greatest_in i (places_of names.now.entries) }
+{
+    let mut greatest: usize = 0;
+    for index in 0..names.len() {
+        let Some((_, place)) = names.get_index(index) else {
+            unreachable!();
+        };
+        greatest = greatest.max(number_in(i, *place));
+    }
+    greatest
+}
+
+/// The number of a place if it is in this stretch, and else 0.
+fn number_in(i: usize, place: Place) -> usize
+    ensures { result ≡ number_in i place }
+{
+    if place.stretch == i { place.number } else { 0 }
+}
+
+/// Has each bookmark's place be where its records are after the stretches have got other numbers.
+fn move_all(names: &mut IndexMap<MarkName, Place>, shift: Shift)
+    requires { All (λ m. IsLow m.1) names.old.entries }
+    ensures room { spare names.new ≡ spare names.old }
+    ensures entries { names.new.entries ≡ map (λ m. (m.0, moved shift m.1)) names.old.entries }
+{
+    for index in 0..names.len() {
+        names[index] = shift.moved(names[index]);
+    }
+}

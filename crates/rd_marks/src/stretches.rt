@@ -1,0 +1,155 @@
+//! The records of the bookmarks, by front coding: each stretch tells how many records its list shares with the list of the stretch
+//! before it, and has the rest. So lists that begin alike share what they have in common.
+//!
+//! A place is a number of records from the start, of the list of one stretch. No list goes on as one before it does where it no longer
+//! shares, so what two places have in common is known by the numbers that the stretches between them share.
+
+ghost use Rattle.std.specs.Prelude.{◌≡◌, ◌<◌, ◌≤◌, ◌^◌, ℕ, [], length, take, min};
+ghost use Rattle.rd_step.specs.Run.{events};
+ghost use Rattle.rd_marks.specs.Stretches.{AreNested, AreFresh};
+
+pub(crate) use changes::{Grown, Shift};
+
+mod changes;
+mod following;
+mod lending;
+
+use rd_step::Entry;
+use std::alloc::Global;
+
+/// The part of a list that is not shared with the one before it.
+#[derive(Drop)]
+struct Stretch {
+    /// How many records its list shares with the list of the stretch before it; the first one shares none.
+    shared: usize,
+    /// The records after those.
+    records: Vec<Entry>,
+}
+
+/// So many records from the start, of the list of a stretch. Where no stretch is, they are none.
+#[derive(Clone, Copy, PartialEq, Eq)]
+pub(crate) struct Place {
+    /// The number of the stretch, from 0.
+    pub(crate) stretch: usize,
+    /// How many records.
+    pub(crate) number: usize,
+}
+
+impl Place {
+    /// The place of no records.
+    pub(crate) const START: Place = Place {
+        stretch: 0,
+        number: 0,
+    };
+
+    /// The place of its first `n` records, or itself if it has no more.
+    pub(crate) fn cut(self, n: usize) -> Place
+        ensures stretch { result.stretch ≡ self.stretch }
+        ensures number { result.number ≡ min n self.number }
+    {
+        Place {
+            stretch: self.stretch,
+            number: n.min(self.number),
+        }
+    }
+}
+
+/// The stretches.
+#[derive(Drop)]
+pub(crate) struct Stretches {
+    list: Vec<Stretch>,
+    ghost nested: { AreNested list.items },
+    ghost fresh: { AreFresh list.items },
+}
+
+impl Stretches {
+    ghost use Rattle.rd_marks.specs.Stretches.{list_of, shared_at, records_at, count_of, greatest_in, IsWithin, IsOwn};
+
+    /// No stretch. It takes no memory.
+    pub(crate) fn new(alloc: Global) -> Stretches
+        ensures { result.list.items ≡ [] }
+    {
+        Stretches {
+            list: Vec::new(alloc),
+        }
+    }
+
+    /// How many stretches there are.
+    pub(crate) fn len(&self) -> usize
+        ensures { result ≡ length self.now.list.items }
+    {
+        self.list.len()
+    }
+
+    /// How many records there are.
+    pub(crate) fn records(&self) -> usize
+        requires { count_of self.now.list.items < 2 ^ 64 }
+        ensures { result ≡ count_of self.now.list.items }
+    {
+        let mut count = 0;
+        for i in 0..self.list.len() {
+            count += self.list[i].records.len();
+        }
+        count
+    }
+
+    /// How many records the list of this stretch shares with that of the one before it; none behind the last.
+    pub(crate) fn shared(&self, i: usize) -> usize
+        ensures { result ≡ shared_at self.now.list.items i }
+    {
+        match self.list.get(i) {
+            None => 0,
+            Some(stretch) => stretch.shared,
+        }
+    }
+
+    /// The place of the same records in the first stretch that has them, of which the last is its own.
+    pub(crate) fn own_place(&self, of: Place) -> Place
+        requires within { IsWithin self.now.list.items of }
+        ensures number { result.number ≡ of.number }
+        ensures within { IsWithin self.now.list.items result }
+        ensures own { IsOwn self.now.list.items result }
+        ensures same { records_at self.now.list.items result ≡ records_at self.now.list.items of }
+    {
+        let mut at = of;
+        while at.stretch > 0 && at.number <= self.shared(at.stretch) {
+            at.stretch -= 1;
+        }
+        at
+    }
+
+    /// How many records two places have in common from the start.
+    pub(crate) fn common(&self, one: Place, other: Place) -> usize
+        requires one { IsWithin self.now.list.items one }
+        requires other { IsWithin self.now.list.items other }
+        ensures first { result ≤ one.number }
+        ensures second { result ≤ other.number }
+        ensures alike { take result (records_at self.now.list.items one) ≡ take result (records_at self.now.list.items other) }
+        ensures most { (n : ℕ) → n ≤ one.number → n ≤ other.number
+            → take n (events (records_at self.now.list.items one)) ≡ take n (events (records_at self.now.list.items other)) → n ≤ result }
+    {
+        if one.stretch <= other.stretch {
+            self.common_up(one, other)
+        } else {
+            self.common_up(other, one)
+        }
+    }
+
+    /// The same, where the second is in the same stretch or a later one.
+    fn common_up(&self, one: Place, other: Place) -> usize
+        requires one { IsWithin self.now.list.items one }
+        requires other { IsWithin self.now.list.items other }
+        requires later { one.stretch ≤ other.stretch }
+        ensures first { result ≤ one.number }
+        ensures second { result ≤ other.number }
+        ensures alike { take result (records_at self.now.list.items one) ≡ take result (records_at self.now.list.items other) }
+        ensures most { (n : ℕ) → n ≤ one.number → n ≤ other.number
+            → take n (events (records_at self.now.list.items one)) ≡ take n (events (records_at self.now.list.items other)) → n ≤ result }
+    {
+        let mut common = one.number.min(other.number);
+        for i in one.stretch..other.stretch {
+            common = common.min(self.shared(i + 1));
+        }
+        common
+    }
+}

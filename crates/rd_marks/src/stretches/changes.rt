@@ -1,0 +1,244 @@
+//! Growing a list, and taking away what no place needs.
+
+ghost use Rattle.std.specs.Prelude.{◌≡◌, ◌↔◌, ◌<◌, ◌≤◌, ◌++◌, suc, take, length, IsTrue, OnOk, OnErr, IfOk, IsOk};
+ghost use Rattle.rd_marks.specs.Changes.{IsLow};
+ghost use Rattle.rd_marks.specs.Stretches.{raised, lowered};
+ghost use Rattle.rd_step.specs.Prelude.{MOST_STEPS};
+ghost use Rattle.rd_step.specs.Run.{events};
+
+use super::{Place, Stretch, Stretches};
+use rd_journal::LiveRecords;
+use rd_step::Entry;
+use std::alloc::{AllocError, Global};
+
+/// What became of the numbers of the stretches.
+#[derive(Clone, Copy)]
+pub(crate) enum Shift {
+    /// Each has its own.
+    Same,
+    /// A stretch was put before that of this number, so those from there on are one further.
+    Up(usize),
+    /// The stretch of this number went, so those after it are one nearer.
+    Down(usize),
+}
+
+impl Shift {
+    ghost use Rattle.rd_marks.specs.Changes.{moved, IsLow};
+
+    /// Where the same records are then.
+    pub(crate) fn moved(self, place: Place) -> Place
+        requires { IsLow place }
+        ensures { result ≡ moved self place }
+    {
+        match self {
+            Shift::Same => place,
+            Shift::Up(i) => raised(i, place),
+            Shift::Down(i) => lowered(i, place),
+        }
+    }
+}
+
+/// The place of the same records after a stretch was put before that of this number.
+fn raised(i: usize, place: Place) -> Place
+    requires { IsLow place }
+    ensures { result ≡ raised i place }
+{
+    if place.number == 0 || place.stretch < i {
+        return place;
+    }
+    Place {
+        stretch: place.stretch + 1,
+        number: place.number,
+    }
+}
+
+/// The same after the stretch of this number went, none of whose own they were.
+fn lowered(i: usize, place: Place) -> Place
+    ensures { result ≡ lowered i place }
+{
+    if place.stretch < i {
+        return place;
+    }
+    Place {
+        stretch: place.stretch.saturating_sub(1),
+        number: place.number,
+    }
+}
+
+/// Where records were put, and what became of the numbers of the stretches.
+#[derive(Clone, Copy)]
+pub(crate) struct Grown {
+    pub(crate) place: Place,
+    pub(crate) shift: Shift,
+}
+
+impl Stretches {
+    ghost use Rattle.rd_marks.specs.Stretches.{list_before, shared_at, records_at, IsWithin, IsEnd, IsAlong, IsDeepest};
+    ghost use Rattle.rd_marks.specs.Changes.{IsGrown, IsShrunk, IsUnchanged};
+
+    /// Has the records of a place, with which the live steps begin, go on with those of the others, as no list does: at the end of
+    /// their stretch, or in a new one.
+    ///
+    /// # Errors
+    ///
+    /// If the room was refused, so not if there are no others. The lists stay.
+    pub(crate) fn grow(
+        &mut self,
+        alloc: Global,
+        at: Place,
+        live: &LiveRecords,
+    ) -> Result<Grown, AllocError>
+        requires within { IsWithin self.old.list.items at }
+        requires few { length live.now ≤ MOST_STEPS }
+        requires along { IsAlong self.old.list.items at.stretch at.number (events live.now) }
+        requires deepest { IsDeepest self.old.list.items at.number (events live.now) }
+        ensures ok { IfOk result (λ grown. IsGrown self.old.list.items self.new.list.items at live.now grown) }
+        ensures err { OnErr result (IsUnchanged self.old.list.items self.new.list.items) }
+        ensures succeeds { at.number ≡ length live.now → IsOk result }
+    {
+        if at.number == live.len() {
+            return Ok(Grown {
+                place: at,
+                shift: Shift::Same,
+            });
+        }
+        if self.is_end(at) {
+            self.extend(at, live)
+        } else {
+            self.branch_off(alloc, at, live)
+        }
+    }
+
+    /// Whether a place is the end of the list of its stretch.
+    fn is_end(&self, at: Place) -> bool
+        ensures { IsTrue result ↔ IsEnd self.now.list.items at }
+    {
+        match self.list.get(at.stretch) {
+            None => false,
+            Some(stretch) => stretch.shared + stretch.records.len() == at.number,
+        }
+    }
+
+    /// Puts the other records of the live steps at the end of the stretch whose list ends at a place.
+    ///
+    /// # Errors
+    ///
+    /// If the room was refused. The lists stay.
+    fn extend(&mut self, at: Place, live: &LiveRecords) -> Result<Grown, AllocError>
+        requires end { IsEnd self.old.list.items at }
+        requires more { at.number < length live.now }
+        requires few { length live.now ≤ MOST_STEPS }
+        requires along { IsAlong self.old.list.items at.stretch at.number (events live.now) }
+        requires deepest { IsDeepest self.old.list.items at.number (events live.now) }
+        ensures ok { IfOk result (λ grown. IsGrown self.old.list.items self.new.list.items at live.now grown) }
+        ensures err { OnErr result (IsUnchanged self.old.list.items self.new.list.items) }
+    {
+        let rest = live.behind(at.number);
+        append(&mut self.list[at.stretch].records, &rest)?;
+        Ok(Grown {
+            place: Place {
+                stretch: at.stretch,
+                number: live.len(),
+            },
+            shift: Shift::Same,
+        })
+    }
+
+    /// Puts the other records of the live steps into a new stretch, which shares those of a place.
+    ///
+    /// # Errors
+    ///
+    /// If the room was refused. The lists stay.
+    fn branch_off(
+        &mut self,
+        alloc: Global,
+        at: Place,
+        live: &LiveRecords,
+    ) -> Result<Grown, AllocError>
+        requires within { IsWithin self.old.list.items at }
+        requires more { at.number < length live.now }
+        requires few { length live.now ≤ MOST_STEPS }
+        requires along { IsAlong self.old.list.items at.stretch at.number (events live.now) }
+        requires deepest { IsDeepest self.old.list.items at.number (events live.now) }
+        ensures ok { IfOk result (λ grown. IsGrown self.old.list.items self.new.list.items at live.now grown) }
+        ensures err { OnErr result (IsUnchanged self.old.list.items self.new.list.items) }
+    {
+        let i = self.next_off(at);
+        self.list.reserve(1)?;
+        let mut records = Vec::new(alloc);
+        append(&mut records, &live.behind(at.number))?;
+        let stretch = Stretch {
+            shared: at.number,
+            records,
+        };
+        match self.list.insert(i, stretch) {
+            Err(_) => unreachable!(),
+            Ok(()) => Ok(Grown {
+                place: Place {
+                    stretch: i,
+                    number: live.len(),
+                },
+                shift: Shift::Up(i),
+            }),
+        }
+    }
+
+    /// The first stretch after that of a place whose list does not go on as the place's stretch does behind it; their number if each does.
+    fn next_off(&self, at: Place) -> usize
+        requires { IsWithin self.now.list.items at }
+        ensures there { result ≤ length self.now.list.items }
+        ensures first { 0 < length self.now.list.items → 0 < result }
+        ensures shares { shared_at self.now.list.items result ≤ at.number }
+        ensures within { at.number ≤ length (list_before self.now.list.items result) }
+        ensures same { take at.number (list_before self.now.list.items result) ≡ records_at self.now.list.items at }
+    {
+        for i in at.stretch..self.list.len() {
+            if self.shared(i) <= at.number && i > at.stretch {
+                return i;
+            }
+        }
+        self.list.len()
+    }
+
+    /// Takes away the records of a stretch's list behind the first `n`, none of which is shared by the next one, and gives their room
+    /// back; all of the stretch if none of its own are left. Returns what became of the numbers of the stretches.
+    pub(crate) fn shrink(&mut self, i: usize, n: usize) -> Shift
+        requires there { i < length self.old.list.items }
+        requires next { shared_at self.old.list.items (suc i) ≤ n }
+        ensures { IsShrunk self.old.list.items self.new.list.items i n result }
+    {
+        let shared = self.shared(i);
+        if n <= shared {
+            let _gone = self.list.remove(i);
+            return Shift::Down(i);
+        }
+        cut(&mut self.list[i].records, n - shared);
+        Shift::Same
+    }
+}
+
+/// Puts records behind others.
+///
+/// # Errors
+///
+/// If the room was refused. The records stay.
+fn append(records: &mut Vec<Entry>, more: &LiveRecords) -> Result<(), AllocError>
+    ensures ok { OnOk result (records.new.items ≡ records.old.items ++ more.now) }
+    ensures err { OnErr result (records.new.items ≡ records.old.items) }
+{
+    records.reserve(more.len())?;
+    for index in 0..more.len() {
+        records.push_reserved(*more.at(index));
+    }
+    Ok(())
+}
+
+/// Keeps the first `n` records, and gives the room of the others back.
+fn cut(records: &mut Vec<Entry>, n: usize)
+    ensures { records.new.items ≡ take n records.old.items }
+{
+    if n < records.len() {
+        records.truncate(n);
+        records.shrink_to_fit();
+    }
+}

@@ -1,0 +1,102 @@
+//! Following a list from the start as far as the stretches have it.
+
+ghost use Rattle.std.specs.Prelude.{◌≡◌, ◌↔◌, ◌<◌, ◌≤◌, ℕ, suc, Some, IsTrue, length, take, drop, slice_get, slice_index_or};
+ghost use Rattle.rd_step.specs.Run.{events};
+ghost use Rattle.rd_step.specs.declared.entries.Event.{Event as Happening};
+
+use super::{Place, Stretches};
+use rd_journal::LiveRecords;
+use rd_step::{Entry, Event};
+
+impl Stretches {
+    ghost use Rattle.rd_marks.specs.Stretches.{shared_at, IsWithin, IsAlong, IsDeepest};
+
+    /// The place of as many of the live steps as any list begins with, found from one that they begin with.
+    pub(crate) fn follow(&self, from: Place, live: &LiveRecords) -> Place
+        requires within { IsWithin self.now.list.items from }
+        requires along { IsAlong self.now.list.items from.stretch from.number (events live.now) }
+        ensures within { IsWithin self.now.list.items result }
+        ensures along { IsAlong self.now.list.items result.stretch result.number (events live.now) }
+        ensures deepest { IsDeepest self.now.list.items result.number (events live.now) }
+    {
+        let mut at = self.own_place(from);
+        for i in at.stretch..self.list.len() {
+            let shared = self.shared(i);
+            if i > at.stretch && shared < at.number {
+                return at;
+            }
+            if shared <= at.number {
+                at = farther(at, i, self.along(i, at.number, live));
+            }
+        }
+        at
+    }
+
+    /// How many of the live steps the list of a stretch begins with, of which the first `n` are known and the others are its own.
+    fn along(&self, i: usize, n: usize, live: &LiveRecords) -> usize
+        requires there { i < length self.now.list.items }
+        requires own { shared_at self.now.list.items i ≤ n }
+        requires along { IsAlong self.now.list.items i n (events live.now) }
+        ensures more { n ≤ result }
+        ensures along { IsAlong self.now.list.items i result (events live.now) }
+        ensures most { IsAlong self.now.list.items i (suc result) (events live.now) → ⊥ }
+    {
+        let stretch = &self.list[i];
+        n + alike(
+            own_behind(&stretch.records, n - stretch.shared),
+            &live.behind(n),
+        )
+    }
+}
+
+/// The place of `number` records in this stretch if it has more than the other.
+fn farther(at: Place, i: usize, number: usize) -> Place
+    requires { at.number ≤ number }
+    ensures more { at.number < number → result ≡ record { stretch = i; number = number } }
+    ensures others { number ≡ at.number → result ≡ at }
+{
+    if number > at.number {
+        Place { stretch: i, number }
+    } else {
+        at
+    }
+}
+
+/// How many of the live steps these records begin with.
+fn alike(records: &[Entry], live: &LiveRecords) -> usize
+    ensures enough { result ≤ length records.now }
+    ensures within { result ≤ length live.now }
+    ensures alike { take result (events records.now) ≡ take result (events live.now) }
+    ensures most { (e : Happening) → slice_get (events records.now) result ≡ Some e → slice_get (events live.now) result ≡ Some e → ⊥ }
+{
+    let most = records.len().min(live.len());
+    for n in 0..most {
+        if !is_same(&record_at(records, n).event, &live.at(n).event) {
+            return n;
+        }
+    }
+    most
+}
+
+/// The records behind the first `n`.
+fn own_behind(records: &[Entry], n: usize) -> &[Entry]
+    requires { n ≤ length records.now }
+    ensures { result.now ≡ drop n records.now }
+{
+    &records[n..]
+}
+
+/// The record at this index.
+fn record_at(records: &[Entry], index: usize) -> &Entry
+    requires { index < length records.now }
+    ensures { result.now ≡ slice_index_or records.now index result.now }
+{
+    &records[index]
+}
+
+/// Whether the two are one event.
+fn is_same(a: &Event, b: &Event) -> bool
+    ensures { IsTrue result ↔ (a.now ≡ b.now) }
+{
+    a == b
+}

@@ -1,0 +1,114 @@
+//! The records of a place, lent and copied.
+
+ghost use Rattle.std.specs.Prelude.{◌≡◌, ◌<◌, ◌≤◌, ◌-◌, Some, drop, slice_get, IsOk, IfOk, IfSome};
+ghost use Rattle.std.specs.Cow.{cow_slice_items};
+ghost use Rattle.rd_step.specs.Run.{events};
+ghost use Rattle.rd_journal.specs.State.{event_at};
+
+use super::{Place, Stretches};
+use rd_step::{Entry, Event};
+use std::alloc::{AllocError, Global};
+use std::borrow::CowSlice;
+
+impl Stretches {
+    ghost use Rattle.rd_marks.specs.Stretches.{records_at, IsWithin, IsOwn};
+
+    /// The event of this number, from 1, of the records of a place, if there is one.
+    pub(crate) fn event_at(&self, of: Place, n: u64) -> Option<Event>
+        requires { IsWithin self.now.list.items of }
+        ensures { result ≡ event_at (events (records_at self.now.list.items of)) n }
+    {
+        if n == 0 || n > of.number as u64 {
+            return None;
+        }
+        Some(self.last(self.own_place(of.cut(n as usize))).event)
+    }
+
+    /// The last record of a place that is its stretch's own.
+    fn last(&self, of: Place) -> &Entry
+        requires within { IsWithin self.now.list.items of }
+        requires own { IsOwn self.now.list.items of }
+        requires some { 0 < of.number }
+        ensures { slice_get (records_at self.now.list.items of) (of.number - 1) ≡ Some result.now }
+    {
+        let stretch = &self.list[of.stretch];
+        &stretch.records[of.number - stretch.shared - 1]
+    }
+
+    /// The records of a place behind the first `n`: lent if they are of one stretch, as for most places they are, and else copied.
+    ///
+    /// # Errors
+    ///
+    /// If memory was refused for a copy, so not if there are no such records.
+    pub(crate) fn records_behind(
+        &self,
+        alloc: Global,
+        of: Place,
+        n: usize,
+    ) -> Result<CowSlice<'_, Entry>, AllocError>
+        requires present { IsWithin self.now.list.items of }
+        requires within { n ≤ of.number }
+        ensures ok { IfOk result (λ records. cow_slice_items records ≡ drop n (records_at self.now.list.items of)) }
+        ensures succeeds { of.number ≡ n → IsOk result }
+    {
+        let own = self.own_place(of);
+        if let Some(records) = self.slice(own, n) {
+            return Ok(CowSlice::Borrowed(records));
+        }
+        Ok(CowSlice::Owned(self.copy(alloc, own, n)?))
+    }
+
+    /// The same where they are of one stretch, which is that of the place.
+    fn slice(&self, of: Place, n: usize) -> Option<&[Entry]>
+        requires present { IsWithin self.now.list.items of }
+        requires own { IsOwn self.now.list.items of }
+        requires within { n ≤ of.number }
+        ensures { IfSome result (λ records. records.now ≡ drop n (records_at self.now.list.items of)) }
+    {
+        let stretch = self.list.get(of.stretch)?;
+        if n < stretch.shared {
+            return None;
+        }
+        Some(&stretch.records[n - stretch.shared..of.number - stretch.shared])
+    }
+
+    /// A copy of the records of a place behind the first `n`.
+    ///
+    /// # Errors
+    ///
+    /// If memory was refused for them, so not if there are none.
+    fn copy(&self, alloc: Global, of: Place, n: usize) -> Result<Vec<Entry>, AllocError>
+        requires present { IsWithin self.now.list.items of }
+        requires within { n ≤ of.number }
+        ensures ok { IfOk result (λ records. records.items ≡ drop n (records_at self.now.list.items of)) }
+        ensures succeeds { of.number ≡ n → IsOk result }
+    {
+        let mut records = Vec::with_capacity(alloc, of.number - n)?;
+        let mut at = of;
+        while at.number > n {
+            at = self.own_place(at);
+            records.push_reserved(*self.last(at));
+            at.number -= 1;
+        }
+        records.reverse();
+        Ok(records)
+    }
+
+    /// The events of a place.
+    ///
+    /// # Errors
+    ///
+    /// If memory was refused for them, so not if there are none.
+    pub(crate) fn events(&self, alloc: Global, of: Place) -> Result<Vec<Event>, AllocError>
+        requires { IsWithin self.now.list.items of }
+        ensures ok { IfOk result (λ list. list.items ≡ events (records_at self.now.list.items of)) }
+        ensures succeeds { of.number ≡ 0 → IsOk result }
+    {
+        let records = self.records_behind(alloc, of, 0)?;
+        let mut list = Vec::with_capacity(alloc, records.len())?;
+        for i in 0..records.len() {
+            list.push_reserved(records[i].event);
+        }
+        Ok(list)
+    }
+}
