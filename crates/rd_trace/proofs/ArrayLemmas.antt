@@ -1,6 +1,6 @@
 -- The array as a value: which slots are read, whose positions rise, and its value, which spells it.
-use Rattle.std.proofs.Common.{◌≡◌, ℕ, zero, suc, ◌+◌, ◌<◌, ◌≤◌, List, [], ◌∷◌, ◌++◌, length, drop, set, replicate, take, get_or, Bool, true, false, if◌then◌else◌, bytes_eq, codes, Option, Some, None, option_map, option_and_then, refl, sym, ap, ap₂, ◌∙◌, subst, arith, append-nil, length-take}
-use Rattle.std.proofs.lemmas.List.{length-set, take_more}
+use Rattle.std.proofs.Common.{◌≡◌, ℕ, zero, suc, ◌+◌, ◌<◌, ◌≤◌, List, [], ◌∷◌, ◌++◌, length, set, replicate, take, get_or, Bool, true, false, if◌then◌else◌, bytes_eq, codes, Option, Some, None, option_map, option_and_then, refl, sym, ap, ap₂, ◌∙◌, subst, arith, append-nil, length-take}
+use Rattle.std.proofs.lemmas.List.{length-set, take_more, take_all}
 use Rattle.serde_json.specs.Data.{Data, unsigned, negative, float, null, boolean, number, string, array, object, Items, no_items, item}
 use Rattle.serde_json.specs.View.{view, items_view}
 use Rattle.serde_json.specs.declared.value.Value.{Value}
@@ -9,8 +9,9 @@ use Rattle.rd_cell.specs.declared.contents.ArrSlot.{ArrSlot}
 use Rattle.rd_cell.specs.declared.contents.ArrSlot.TheVariants.{Empty, Top, Value as Held}
 use Rattle.rd_segments.specs.declared.array.ArrayParts.{ArrayParts}
 use Rattle.rd_trace.specs.Numbers.{whole_number}
-use Rattle.rd_trace.specs.Arrays.{slot_content, slot_of_items, slot_of, slots_of, filled_slots, slot_data, slots_data, IsArray, array_data}
-use Rattle.rd_trace.proofs.SpellLemmas.{then_item, items_view-last, behind, behind_none, ReadsEach, read_here, read_more, read_none, read_all}
+use Rattle.rd_trace.specs.Spelled.{Gives, SpellEach, items_by}
+use Rattle.rd_trace.specs.Arrays.{slot_content, slot_of_items, slot_of, filled_slots, slot_data, IsArray, array_data}
+use Rattle.rd_trace.proofs.SpellLemmas.{one_given, same_each, spelled_at, spell_each-more, spell_each-none, items_written}
 
 -- ---- reading
 
@@ -95,11 +96,6 @@ rises_at : (i end : ℕ) (ps : List (ℕ × ArrSlot)) (p : ℕ × ArrSlot) (more
 rises_at i end [] p more h = (h.0, h.1)
 rises_at i end (q ∷ ps) p more h = rises_at (suc q.0) end ps p more h.2
 
-rises_there : (end : ℕ) (done : List (ℕ × ArrSlot)) (p : ℕ × ArrSlot) (rest : Option (List (ℕ × ArrSlot))) (ps : List (ℕ × ArrSlot))
-    → behind done (option_map (λ qs. p ∷ qs) rest) ≡ Some ps → Rises 0 end ps → (next_position 0 done ≤ p.0) × (p.0 < end)
-rises_there end done p None ps is h = absurd (cc)
-rises_there end done p (Some qs) ps is h = let same : ps ≡ done ++ p ∷ qs = cc in rises_at 0 end done p qs (subst (Rises 0 end) same h)
-
 -- no empty slot is spelled
 some_filled : (s t : ArrSlot) → IsFilled t → Some s ≡ Some t → IsFilled s
 some_filled s t h is = let same : t ≡ s = cc in subst IsFilled same h
@@ -138,12 +134,12 @@ slot_filled (string s) p is = absurd (cc)
 slot_filled (array ds) p is = items_filled ds p is
 slot_filled (object ms) p is = absurd (cc)
 
-pub reads_slots : ReadsEach slot_of slots_of
-reads_slots = record { nothing = refl; first = λ d ds. refl }
+one_slot : (d : Data) (p q : ℕ × ArrSlot) → Gives slot_of d p → Gives slot_of d q → p ≡ q
+one_slot = one_given slot_of
 
--- the slots that the values before this one spell, the lowest position that is free, and what is spelled behind them
+-- the slots that the values before this one spell, and the lowest position that is free
 pub record AreReadTo (vs : List Value) (i : ℕ) (slots : List ArrSlot) (free : ℕ) : Type 0 where
-  pub spelled : slots_of (items_view vs) ≡ behind (filled_slots 0 slots) (slots_of (items_view (drop i vs)))
+  pub spelled : SpellEach (Gives slot_of) (items_view (take i vs)) (filled_slots 0 slots)
   pub sized : length slots ≡ SLOTS
   pub next : free ≡ next_position 0 (filled_slots 0 slots)
   pub empty : AreEmptyFrom free slots
@@ -152,7 +148,7 @@ pub none_read : (vs : List Value) → AreReadTo vs 0 (replicate SLOTS Empty) 0
 none_read vs =
     let none : filled_slots 0 (replicate SLOTS Empty) ≡ [] = filled_none 0 (replicate SLOTS Empty) (empty_slots SLOTS) in
     record {
-      spelled = behind_none (slots_of (items_view vs)) ∙ ap (λ ps. behind ps (slots_of (items_view vs))) (sym none);
+      spelled = subst (SpellEach (Gives slot_of) no_items) (sym none) tt;
       sized = refl;
       next = sym (ap (next_position 0) none);
       empty = empty_slots SLOTS;
@@ -165,24 +161,27 @@ module _ (vs : List Value) (i : ℕ) (slots : List ArrSlot) (free : ℕ) (h : Ar
       let more : filled_slots 0 (set slots p.0 p.1) ≡ filled_slots 0 slots ++ p ∷ [] =
       filled_set 0 p.0 p.0 slots p.1 (omega arith) (omega arith) (empty_later free p.0 slots behind_all h.empty) (slot_filled (view v) p read) in
       record {
-        spelled = read_more slot_of slots_of reads_slots vs (filled_slots 0 slots) i h.spelled v p within is read ∙ ap (λ ps. behind ps (slots_of (items_view (drop (i + 1) vs)))) (sym more);
+        spelled = subst (SpellEach (Gives slot_of) (items_view (take (i + 1) vs))) (sym more) (spell_each-more (Gives slot_of) vs i v within is (filled_slots 0 slots) p h.spelled (sym read));
         sized = length-set slots p.0 p.1 ∙ h.sized;
         next = is_next ∙ sym (next_behind 0 (filled_slots 0 slots) p) ∙ sym (ap (next_position 0) more);
         empty = subst (λ n. AreEmptyFrom n (set slots p.0 p.1)) (sym is_next) (empty_behind p.0 slots p.1 (empty_later free p.0 slots behind_all h.empty));
       }
 
   -- positions of slots rise, and are those of slots
-  pub rises_here : (p : ℕ × ArrSlot) → Some p ≡ slot_of (view v) → (ss : List ArrSlot) → length ss ≡ SLOTS → slots_of (items_view vs) ≡ Some (filled_slots 0 ss) → (free ≤ p.0) × (p.0 < SLOTS)
+  pub rises_here : (p : ℕ × ArrSlot) → Some p ≡ slot_of (view v) → (ss : List ArrSlot) → length ss ≡ SLOTS → SpellEach (Gives slot_of) (items_view vs) (filled_slots 0 ss) → (free ≤ p.0) × (p.0 < SLOTS)
   rises_here p read ss size all =
-      let there = rises_there SLOTS (filled_slots 0 slots) p (slots_of (items_view (drop (i + 1) vs))) (filled_slots 0 ss)
-      (sym (read_here slot_of slots_of reads_slots vs (filled_slots 0 slots) i h.spelled v (Some p) within is read) ∙ all) (filled_rises 0 SLOTS ss (omega arith)) in
+      let here = spelled_at (Gives slot_of) vs i v within is (filled_slots 0 ss) all in
+      let done = same_each (Gives slot_of) one_slot (items_view (take i vs)) here.0 (filled_slots 0 slots) here.4 h.spelled in
+      let this = one_slot (view v) here.1 p here.5 (sym read) in
+      let split : filled_slots 0 ss ≡ filled_slots 0 slots ++ p ∷ here.2 = here.3 ∙ ap₂ (λ xs x. xs ++ x ∷ here.2) done this in
+      let there = rises_at 0 SLOTS (filled_slots 0 slots) p here.2 (subst (Rises 0 SLOTS) split (filled_rises 0 SLOTS ss (omega arith))) in
       (subst (λ n. n ≤ p.0) (sym h.next) there.0, there.1)
 
-  pub none_here : None ≡ slot_of (view v) → (ss : List ArrSlot) → slots_of (items_view vs) ≡ Some (filled_slots 0 ss) → ⊥
-  none_here read ss all = let none = read_none slot_of slots_of reads_slots vs (filled_slots 0 slots) i h.spelled v within is read in cc
+  pub none_here : None ≡ slot_of (view v) → (ss : List ArrSlot) → SpellEach (Gives slot_of) (items_view vs) (filled_slots 0 ss) → ⊥
+  none_here read ss = spell_each-none (Gives slot_of) vs i v within is (λ p k. let no : Some p ≡ None = sym k ∙ sym read in cc) (filled_slots 0 ss)
 
-pub all_read : (vs : List Value) (i : ℕ) (slots : List ArrSlot) (free : ℕ) → AreReadTo vs i slots free → length vs ≤ i → slots_of (items_view vs) ≡ Some (filled_slots 0 slots)
-all_read vs i slots free h past = read_all slot_of slots_of reads_slots vs (filled_slots 0 slots) i h.spelled past
+pub all_read : (vs : List Value) (i : ℕ) (slots : List ArrSlot) (free : ℕ) → AreReadTo vs i slots free → length vs ≤ i → SpellEach (Gives slot_of) (items_view vs) (filled_slots 0 slots)
+all_read vs i slots free h past = subst (λ ws. SpellEach (Gives slot_of) (items_view ws) (filled_slots 0 slots)) (take_all i vs past) h.spelled
 
 -- ---- writing
 
@@ -192,35 +191,31 @@ filled_behind i j (Empty ∷ xs) s at = filled_behind (suc i) j xs s (omega arit
 filled_behind i j (Top ∷ xs) s at = ap (λ ps. (i, Top) ∷ ps) (filled_behind (suc i) j xs s (omega arith))
 filled_behind i j (Held x ∷ xs) s at = ap (λ ps. (i, Held x) ∷ ps) (filled_behind (suc i) j xs s (omega arith))
 
-slots_data-last : (ps : List (ℕ × ArrSlot)) (p : ℕ × ArrSlot) → slots_data (ps ++ p ∷ []) ≡ then_item (slots_data ps) (slot_data p.0 p.1)
-slots_data-last [] p = refl
-slots_data-last (q ∷ ps) p = ap (item (slot_data q.0 q.1)) (slots_data-last ps p)
-
 not_empty : (s : ArrSlot) → (s ≡ Empty → ⊥) → IsFilled s
 not_empty Empty other = other refl
 not_empty Top other = tt
 not_empty (Held x) other = tt
 
-module _ (ss : List ArrSlot) (i : ℕ) (d : ArrSlot) (vs : List Value) (within : i < length ss) (so_far : items_view vs ≡ slots_data (filled_slots 0 (take i ss))) where
+slots_spelled : (i : ℕ) (ss : List ArrSlot) → SpellEach (Gives slot_of) (items_by slot_data (filled_slots i ss)) (filled_slots i ss)
+slots_spelled i [] = tt
+slots_spelled i (Empty ∷ ss) = slots_spelled (suc i) ss
+slots_spelled i (Top ∷ ss) = (refl, slots_spelled (suc i) ss)
+slots_spelled i (Held x ∷ ss) = (refl, slots_spelled (suc i) ss)
+
+module _ (ss : List ArrSlot) (i : ℕ) (d : ArrSlot) (vs : List Value) (within : i < length ss) (so_far : items_view vs ≡ items_by slot_data (filled_slots 0 (take i ss))) where
   filled_take : filled_slots 0 (take (i + 1) ss) ≡ filled_slots 0 (take i ss) ++ filled_slots i (get_or ss i d ∷ [])
   filled_take = ap (filled_slots 0) (take_more ss i d within) ∙ filled_behind 0 i (take i ss) (get_or ss i d) (omega (arith, length-take i ss))
 
-  pub one_more_value : (v : Value) → (get_or ss i d ≡ Empty → ⊥) → view v ≡ slot_data i (get_or ss i d) → items_view (vs ++ v ∷ []) ≡ slots_data (filled_slots 0 (take (i + 1) ss))
+  pub one_more_value : (v : Value) → (get_or ss i d ≡ Empty → ⊥) → view v ≡ slot_data (i, get_or ss i d) → items_view (vs ++ v ∷ []) ≡ items_by slot_data (filled_slots 0 (take (i + 1) ss))
   one_more_value v other is =
       let s = get_or ss i d in
-      items_view-last vs v ∙ ap₂ then_item so_far is ∙ sym (slots_data-last (filled_slots 0 (take i ss)) (i, s))
-      ∙ ap slots_data (ap (λ ps. filled_slots 0 (take i ss) ++ ps) (sym (filled_first i s [] (not_empty s other))) ∙ sym filled_take)
+      items_written slot_data vs (filled_slots 0 (take i ss)) v (i, s) so_far is
+      ∙ ap (items_by slot_data) (ap (λ ps. filled_slots 0 (take i ss) ++ ps) (sym (filled_first i s [] (not_empty s other))) ∙ sym filled_take)
 
-  pub no_more_value : get_or ss i d ≡ Empty → items_view vs ≡ slots_data (filled_slots 0 (take (i + 1) ss))
+  pub no_more_value : get_or ss i d ≡ Empty → items_view vs ≡ items_by slot_data (filled_slots 0 (take (i + 1) ss))
   no_more_value empty =
-      so_far ∙ ap slots_data (sym (append-nil (filled_slots 0 (take i ss))) ∙ ap (λ s. filled_slots 0 (take i ss) ++ filled_slots i (s ∷ [])) (sym empty) ∙ sym filled_take)
-
-slots_spelled : (i : ℕ) (ss : List ArrSlot) → slots_of (slots_data (filled_slots i ss)) ≡ Some (filled_slots i ss)
-slots_spelled i [] = refl
-slots_spelled i (Empty ∷ ss) = slots_spelled (suc i) ss
-slots_spelled i (Top ∷ ss) = ap (option_map (λ ps. (i, Top) ∷ ps)) (slots_spelled (suc i) ss)
-slots_spelled i (Held x ∷ ss) = ap (option_map (λ ps. (i, Held x) ∷ ps)) (slots_spelled (suc i) ss)
+      so_far ∙ ap (items_by slot_data) (sym (append-nil (filled_slots 0 (take i ss))) ∙ ap (λ s. filled_slots 0 (take i ss) ++ filled_slots i (s ∷ [])) (sym empty) ∙ sym filled_take)
 
 -- the value that the array is written as spells it
 pub array_spelled : (a : ArrayParts) → IsArray (array_data a) a
-array_spelled a = record { members = refl; cells = slots_spelled 0 a.cells; head = refl; tail = refl }
+array_spelled a = record { members = refl; cells = (items_by slot_data (filled_slots 0 a.cells), refl, slots_spelled 0 a.cells); head = refl; tail = refl }

@@ -1,8 +1,7 @@
 -- What loading a text gives.
-use Rattle.std.proofs.Common.{◌≡◌, ◌≤◌, ◌⊎◌, inl, inr, ℕ, List, [], length, codes, Some, Result, Err, sym, subst, arith, IsUtf8}
+use Rattle.std.proofs.Common.{◌≡◌, ◌≤◌, inl, inr, ℕ, List, [], length, codes, Some, Result, Err, sym, subst, arith}
 use Rattle.std.specs.List.{IsDistinct}
 use Rattle.serde_json.specs.Data.{Data}
-use Rattle.serde_json.specs.Read.{read}
 use Rattle.rd_marks.specs.Books.{Mark, BookState}
 use Rattle.rd_marks.specs.NameBytes.{MOST_MARKS}
 use Rattle.rd_marks.specs.Rules.{HaveDifferentNames}
@@ -13,7 +12,7 @@ use Rattle.rd_trace.specs.declared.starts.Start.{Start}
 use Rattle.rd_trace.specs.declared.starts.Start.TheVariants.{Fresh, Parts as OfParts}
 use Rattle.rd_trace.specs.Numbers.{number_at}
 use Rattle.rd_trace.specs.Starts.{IsStart, HasActorCount}
-use Rattle.rd_trace.specs.Saved.{Trace, IsFirstTrace, IsSecondTrace, IsTraceText}
+use Rattle.rd_trace.specs.Saved.{Trace, IsEither, HasValue, IsTraceText}
 use Rattle.rd_trace.specs.Traces.{IsTraceRing}
 use Rattle.rd_trace.specs.Loading.{LoadsValue, LoadsTrace, LoadsAgain}
 use Rattle.rd_trace.specs.Writing.{IsTextOf}
@@ -21,9 +20,6 @@ use Rattle.rd_trace.proofs.OneTrace.{loads_again}
 use Rattle.rd_trace.proofs.ReplayLemmas.{none_refused}
 
 -- What a session that is spelled keeps
-
-abbrev pub IsEither : {R : ℕ} → Data → Trace R → Type 0
-IsEither d t = IsFirstTrace d t ⊎ IsSecondTrace d t
 
 start_counted : {R : ℕ} (d : Data) (start : Start R) → IsStart d start → HasActorCount start
 start_counted d (Fresh count) h = (h.fresh.some, h.fresh.few)
@@ -48,14 +44,6 @@ few_marks d t (inr h) = h.marks.2.few
 ring_of : {R : ℕ} (d : Data) (t : Trace R) → IsEither d t → number_at (codes "ring") d ≡ Some R
 ring_of d t (inl h) = h.ring
 ring_of d t (inr h) = h.ring
-
--- The value of a text
-
--- Texts
-
--- a text is JSON, and its value is this one
-abbrev pub HasValue : List ℕ → Data → Type 0
-HasValue text d = IsUtf8 text × (read text ≡ Some d)
 
 is_value : {R : ℕ} (text : List ℕ) (d : Data) (t : Trace R) → HasValue text d → IsTraceText text t → IsEither d t
 is_value text d t value is =

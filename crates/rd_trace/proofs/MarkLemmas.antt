@@ -1,15 +1,15 @@
 -- Bookmarks as values.
-use Rattle.std.proofs.Common.{◌≡◌, ℕ, nat_eq, zero, suc, ◌+◌, ◌<◌, ◌≤◌, true, false, ◌||◌, List, [], ◌∷◌, ◌++◌, map, length, get_or, take, drop, slice_get, codes, Decides, Option, Some, None, option_map, IfSome, Ok, Err, inl, inr, refl, sym, ap, ap₂, ◌∙◌, subst, arith}
+use Rattle.std.proofs.Common.{◌≡◌, ℕ, nat_eq, zero, suc, ◌+◌, ◌<◌, ◌≤◌, true, false, ◌||◌, List, [], ◌∷◌, ◌++◌, map, length, get_or, take, drop, slice_get, codes, Decides, Option, Some, None, option_map, IfSome, Ok, inl, inr, refl, sym, ap, ◌∙◌, subst, arith}
 use Rattle.std.specs.List.{AllByRecursion, list_any, IsDistinct}
 use Rattle.std.specs.Cmp.Lexicographic.{pointwise}
 use Rattle.std.specs.Cmp.{IsEquivalence}
 use Rattle.std.specs.Bool.{one_answer}
 use Rattle.std.proofs.lemmas.Bool.{or_cases, true≢false, false≢true}
-use Rattle.std.proofs.lemmas.Option.{same_Some, none-some}
-use Rattle.std.proofs.lemmas.List.{take_more, drop_more, take-append-drop, map_push, take_all}
+use Rattle.std.proofs.lemmas.Option.{same_Some}
+use Rattle.std.proofs.lemmas.List.{map_push, take_all}
 use Rattle.std.proofs.lemmas.Map.Keys.{IsDistinct-head, IsDistinct-tail, IsDistinct-push}
 use Rattle.std.proofs.lemmas.Slice.Eq.{bytes_eq-Decides}
-use Rattle.serde_json.specs.Data.{Data, Items, item}
+use Rattle.serde_json.specs.Data.{Data}
 use Rattle.serde_json.specs.View.{view, items_view}
 use Rattle.serde_json.specs.declared.value.Value.{Value}
 use Rattle.rd_marks.specs.declared.names.MarkName.{MarkName}
@@ -17,13 +17,12 @@ use Rattle.rd_marks.specs.NameBytes.{MOST_MARKS, is_mark_name}
 use Rattle.rd_marks.specs.Names.{bytes_of, same_name}
 use Rattle.rd_marks.specs.Rules.{HaveDifferentNames, KeepsRules}
 use Rattle.rd_marks.specs.Books.{Mark, BookState, mark_at, mark_events, name_and_length}
-use Rattle.rd_trace.specs.Numbers.{text_at, SpellEach}
-use Rattle.rd_trace.specs.Events.{events_of, events_data, ReadsEventsAt}
-use Rattle.rd_trace.specs.Bookmarks.{HasMarkName, IsMark, AreMarks, saved_mark, ReadsMark, ReadsMarks, mark_data, marks_data}
+use Rattle.rd_trace.specs.Numbers.{text_at}
+use Rattle.rd_trace.specs.Spelled.{Gives, SpellEach, items_by, AreSpelled}
+use Rattle.rd_trace.specs.Events.{event_of, event_data}
+use Rattle.rd_trace.specs.Bookmarks.{HasMarkName, IsMark, AreMarks, saved_mark, mark_data}
 use Rattle.rd_trace.specs.declared.bookmarks.SavedMark.{SavedMark}
-use Rattle.rd_trace.specs.declared.faults.FormFault.{FormFault}
-use Rattle.rd_trace.specs.declared.faults.FormFault.TheVariants.{NoMemory, BadForm}
-use Rattle.rd_trace.proofs.SpellLemmas.{then_item, items_view-last, spell_each-last, spell_each-at}
+use Rattle.rd_trace.proofs.SpellLemmas.{split_at, spelled_at, spelled_length, spell_each-more, one_more_written}
 
 -- ---- names
 
@@ -45,27 +44,15 @@ name_laws = record {
 one_name : (d : Data) (m n : Mark) → IsMark d m → IsMark d n → bytes_of m.name ≡ bytes_of n.name
 one_name d m n h k = same_Some _ _ (sym h.name.text ∙ k.name.text)
 
--- a value whose events are not read spells no bookmark
-pub no_mark_events : (d : Data) (fault : FormFault) → ReadsEventsAt (codes "events") d (Err fault) → ReadsMark d (Err fault)
-no_mark_events d NoMemory h = tt
-no_mark_events d BadForm h = λ m k. none-some m.events (sym h ∙ k.events)
-
--- nor has one whose text is no name
+-- a value whose text is no name has none
 pub no_mark_name : (d : Data) (text : List ℕ) → text_at (codes "name") d ≡ Some text → is_mark_name text ≡ false → (name : MarkName) → HasMarkName d name → ⊥
 no_mark_name d text there bad name h = true≢false (sym name.valid ∙ ap is_mark_name (same_Some _ _ (sym h.text ∙ there)) ∙ bad)
 
 -- the value of a bookmark spells it, if that of its events does
-pub mark_spelled : (m : Mark) → events_of (events_data m.events) ≡ Some m.events → IsMark (mark_data m) m
-mark_spelled m events = record { name = record { members = refl; text = refl }; events = events }
+pub mark_spelled : (m : Mark) → SpellEach (Gives event_of) (items_by event_data m.events) m.events → IsMark (mark_data m) m
+mark_spelled m events = record { name = record { members = refl; text = refl }; events = (items_by event_data m.events, refl, events) }
 
 -- ---- lists that are read
-
--- a list is as long as what its values spell
-spelled_length : (vs : List Value) (ms : List Mark) → SpellEach IsMark (items_view vs) ms → length vs ≡ length ms
-spelled_length [] [] h = refl
-spelled_length [] (m ∷ ms) h = absurd h
-spelled_length (v ∷ vs) [] h = absurd h
-spelled_length (v ∷ vs) (m ∷ ms) h = ap suc (spelled_length vs ms h.1)
 
 -- a bookmark that differs by its name from those behind it differs from the one that a value among these spells
 apart_later : (q o : Mark) (xs ws : List Value) (v : Value) → IsMark (view v) o → (ms : List Mark) → SpellEach IsMark (items_view (xs ++ v ∷ ws)) ms
@@ -110,24 +97,16 @@ unfolding IsDistinct
 none_read vs marks e = subst (λ (ms : List SavedMark). AreRead vs 0 ms) (sym e) (record { each = tt; names = tt })
 
 module _ (vs : List Value) (i : ℕ) (v : Value) (within : i < length vs) (is : v ≡ get_or vs i v) where
-  split : vs ≡ take i vs ++ v ∷ drop (i + 1) vs
-  split = sym (take-append-drop i vs) ∙ ap (λ xs. take i vs ++ xs) (drop_more vs i v within ∙ ap (λ x. x ∷ drop (i + 1) vs) (sym is))
-
-  longer : take (i + 1) vs ≡ take i vs ++ v ∷ []
-  longer = take_more vs i v within ∙ ap (λ x. take i vs ++ x ∷ []) (sym is)
-
-  -- a value that spells no bookmark
-  pub not_marks : (fault : FormFault) → ReadsMark (view v) (Err fault) → ReadsMarks (items_view vs) (Err fault)
-  not_marks NoMemory h = tt
-  not_marks BadForm h = λ ms k.
-      spell_each-at IsMark (take i vs) (drop (i + 1) vs) v h ms (subst (λ (xs : List Value). SpellEach IsMark (items_view xs) ms) split k.each)
+  -- bookmarks of which one is the value's
+  pub mark_here : (ms : List Mark) → AreMarks (items_view vs) ms → (m : Mark) × IsMark (view v) m
+  mark_here ms k = let here = spelled_at IsMark vs i v within is ms k.each in (here.1, here.5)
 
   module _ (marks : List SavedMark) (so_far : AreRead vs i marks) (m : SavedMark) (spells : IsMark (view v) (saved_mark m)) where
     -- one whose name is taken
-    pub name_taken : list_any (λ o. same_name m.name o.name) marks ≡ true → ReadsMarks (items_view vs) (Err BadForm)
-    name_taken taken = λ ms k.
+    pub name_taken : list_any (λ o. same_name m.name o.name) marks ≡ true → (ms : List Mark) → AreMarks (items_view vs) ms → ⊥
+    name_taken taken ms k =
         taken_twice (take i vs) (drop (i + 1) vs) v (map saved_mark marks) (saved_mark m) so_far.each spells (any_saved m.name marks ∙ taken) ms
-        (subst (λ (xs : List Value). SpellEach IsMark (items_view xs) ms) split k.each) k.names
+        (subst (λ (xs : List Value). SpellEach IsMark (items_view xs) ms) (split_at vs i v within is) k.each) k.names
 
     -- one whose name isn't
     pub one_more_mark : list_any (λ o. same_name m.name o.name) marks ≡ false → AreRead vs (i + 1) (marks ++ m ∷ [])
@@ -136,10 +115,8 @@ module _ (vs : List Value) (i : ℕ) (v : Value) (within : i < length vs) (is : 
         let names = map_push (λ (n : Mark). n.name) (map saved_mark marks) (saved_mark m) in
         record {
           each =
-              subst (λ (xs : List Value). SpellEach IsMark (items_view xs) (map saved_mark (marks ++ m ∷ []))) (sym longer)
-              (subst (λ (ms : List Mark). SpellEach IsMark (items_view (take i vs ++ v ∷ [])) ms) (sym saved)
-              (subst (λ (ds : Items). SpellEach IsMark ds (map saved_mark marks ++ saved_mark m ∷ [])) (sym (items_view-last (take i vs) v))
-              (spell_each-last IsMark (items_view (take i vs)) (view v) (map saved_mark marks) (saved_mark m) so_far.each spells)));
+              subst (λ (ms : List Mark). SpellEach IsMark (items_view (take (i + 1) vs)) ms) (sym saved)
+              (spell_each-more IsMark vs i v within is (map saved_mark marks) (saved_mark m) so_far.each spells);
           names =
               subst (λ (ms : List Mark). HaveDifferentNames ms) (sym saved)
               (subst (λ (ns : List MarkName). IsDistinct same_name ns) (sym names)
@@ -151,34 +128,17 @@ module _ (vs : List Value) (i : ℕ) (v : Value) (within : i < length vs) (is : 
 pub all_read : (vs : List Value) (i : ℕ) (marks : List SavedMark) → length vs ≤ i → length vs ≤ MOST_MARKS → AreRead vs i marks → AreMarks (items_view vs) (map saved_mark marks)
 all_read vs i marks past few h =
     let each = subst (λ (xs : List Value). SpellEach IsMark (items_view xs) (map saved_mark marks)) (take_all i vs past) h.each in
-    record { each = each; names = h.names; few = omega (arith, few, spelled_length vs (map saved_mark marks) each) }
+    record { each = each; names = h.names; few = omega (arith, few, spelled_length IsMark vs (map saved_mark marks) each) }
 
 -- more values than there may be bookmarks
-pub too_many : (vs : List Value) → MOST_MARKS < length vs → ReadsMarks (items_view vs) (Err BadForm)
-too_many vs many = λ ms h. omega (arith, many, h.few, spelled_length vs ms h.each)
+pub too_many : (vs : List Value) → MOST_MARKS < length vs → (ms : List Mark) → AreMarks (items_view vs) ms → ⊥
+too_many vs many ms h = omega (arith, many, h.few, spelled_length IsMark vs ms h.each)
 
 -- ---- lists that are written
 
-marks_data-last : (ms : List Mark) (m : Mark) → marks_data (ms ++ m ∷ []) ≡ then_item (marks_data ms) (mark_data m)
-marks_data-last [] m = refl
-marks_data-last (n ∷ ms) m = ap (item (mark_data n)) (marks_data-last ms m)
-
 -- the values are those of these bookmarks
-pub record AreWritten (vs : List Value) (ms : List Mark) : Type 0 where
-  pub values : items_view vs ≡ marks_data ms
-  pub spelled : SpellEach IsMark (marks_data ms) ms
-
-pub none_written : (vs : List Value) → vs ≡ [] → AreWritten vs []
-none_written vs e = record { values = ap items_view e; spelled = tt }
-
-one_more_written : (vs : List Value) (ms : List Mark) (v : Value) (m : Mark) → AreWritten vs ms → view v ≡ mark_data m → IsMark (mark_data m) m
-    → AreWritten (vs ++ v ∷ []) (ms ++ m ∷ [])
-one_more_written vs ms v m h is spells = record {
-  values = items_view-last vs v ∙ ap₂ then_item h.values is ∙ sym (marks_data-last ms m);
-  spelled =
-      subst (λ (ds : Items). SpellEach IsMark ds (ms ++ m ∷ [])) (sym (marks_data-last ms m))
-      (spell_each-last IsMark (marks_data ms) (mark_data m) ms m h.spelled spells);
-}
+abbrev pub AreWritten : List Value → List Mark → Type 0
+AreWritten = AreSpelled IsMark mark_data
 
 -- the list up to a bookmark and with it
 with_next : (ms : List Mark) (i : ℕ) (m : Mark) → slice_get ms i ≡ Some m → take (suc i) ms ≡ take i ms ++ m ∷ []
@@ -201,7 +161,7 @@ module _ (vs : List Value) (ms : List Mark) (i : ℕ) (v : Value) (name : MarkNa
       let both : (m.name, length m.events) ≡ (name, len) = cc in
       let same : m.name ≡ name = ap (λ (p : MarkName × ℕ). p.0) both in
       subst (λ (ns : List Mark). AreWritten (vs ++ v ∷ []) ns) (sym (with_next ms i m there))
-      (one_more_written vs (take i ms) v m so_far (is ∙ ap (λ n. mark_data (record { name = n; events = m.events })) (sym same))
+      (one_more_written IsMark mark_data vs (take i ms) v m so_far (is ∙ ap (λ n. mark_data (record { name = n; events = m.events })) (sym same))
       (subst (λ (n : MarkName). IsMark (mark_data (record { name = n; events = m.events })) (record { name = n; events = m.events })) (sym same) spells))
 
 module _ (b : BookState) (i n : ℕ) (next : n ≡ suc i) where
@@ -223,7 +183,8 @@ module _ (b : BookState) (i n : ℕ) (next : n ≡ suc i) where
       next_there b.marks i within (λ m h. none m.name (length m.events) (ap (mark_at b) next ∙ ap name_and_length h))
 
 -- all bookmarks were written
-pub all_written : (R : ℕ) (b : BookState) (vs : List Value) (i : ℕ) → length b.marks ≤ i → AreWritten vs (take i b.marks) → KeepsRules R b → (items_view vs ≡ marks_data b.marks) × AreMarks (marks_data b.marks) b.marks
+pub all_written : (R : ℕ) (b : BookState) (vs : List Value) (i : ℕ) → length b.marks ≤ i → AreWritten vs (take i b.marks) → KeepsRules R b
+    → (items_view vs ≡ items_by mark_data b.marks) × AreMarks (items_by mark_data b.marks) b.marks
 all_written R b vs i past h rules =
     let all = subst (λ (ms : List Mark). AreWritten vs ms) (take_all i b.marks past) h in
     (all.values, record { each = all.spelled; names = rules.names; few = rules.few })

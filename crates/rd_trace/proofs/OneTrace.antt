@@ -1,20 +1,18 @@
 -- A text is one trace at most.
-use Rattle.std.proofs.Common.{◌≡◌, ◌≢◌, ℕ, suc, ◌+◌, ◌≤◌, Bool, not, ◌&&◌, ◌==◌, nat_le, if◌then◌else◌, List, [], ◌∷◌, ◌++◌, map, length, slice_get, codes, bytes_eq, Option, Some, None, is_some, option_map, Result, Ok, Err, Vec, Global, ◌⊎◌, inl, inr, refl, sym, ap, ap₂, ◌∙◌, subst, subst₂, arith, map-id}
+use Rattle.std.proofs.Common.{◌≡◌, ◌≢◌, ℕ, suc, ◌+◌, ◌≤◌, Bool, not, ◌&&◌, ◌==◌, nat_le, if◌then◌else◌, List, [], ◌∷◌, ◌++◌, map, length, slice_get, codes, Option, Some, None, is_some, option_map, Result, Ok, Err, Vec, Global, inl, inr, refl, sym, ap, ap₂, ◌∙◌, subst, subst₂, arith}
 use Rattle.std.proofs.Props.{props}
 use Rattle.std.proofs.lemmas.List.{length-map}
 use Rattle.std.proofs.lemmas.List.Folds.{list_all-map}
 use Rattle.std.proofs.lemmas.Option.{slice_get-map}
 use Rattle.std.specs.List.{list_all}
 use mathlib.Core.HLevel.{is_prop→PathP}
-use Rattle.serde_json.specs.Data.{Data, Items, no_items, item}
+use Rattle.serde_json.specs.Data.{Data}
 use Rattle.serde_json.specs.Find.{get, as_array}
 use Rattle.serde_json.specs.Read.{read}
 use Rattle.rd_cell.specs.declared.places.SegName.{SegName}
 use Rattle.rd_cell.specs.declared.contents.ArrSlot.{ArrSlot}
 use Rattle.rd_cell.specs.declared.contents.ArrSlot.TheVariants.{Empty, Top, Value}
 use Rattle.rd_actor.specs.declared.actors.Actor.{Actor}
-use Rattle.rd_actor.specs.declared.actors.Pc.{Pc}
-use Rattle.rd_actor.specs.declared.actors.Pc.TheVariants.{Idle as AtIdle, E1, E2, E3, E4, E5, E6, E7, E8, E9, E10, E11, E12, E13, E14, Q1, Q2, Q3, Q4, Q5, Q6, Q7, Q8, Q9, Q10, Q11, Q12, Q13, Q14, A1, A2, B1, B2, B3}
 use Rattle.rd_ring.specs.Prelude.{COUNTER_END, MOST_SEGMENTS, MOST_CELLS, SLOTS}
 use Rattle.rd_ring.specs.declared.parts.SegmentParts.{SegmentParts}
 use Rattle.rd_ring.specs.Segments.{counters_fit}
@@ -23,7 +21,7 @@ use Rattle.rd_segments.specs.Lists.{by_number, by_name, count_in, count, segment
 use Rattle.rd_segments.specs.Parts.{part_of_parts}
 use Rattle.rd_segments.specs.SpaceFields.{contents_by}
 use Rattle.rd_actor.specs.Words.{words_fit}
-use Rattle.rd_script.specs.Actors.{label}
+use Rattle.rd_actor.proofs.PointLemmas.{same_point}
 use Rattle.rd_step.specs.Prelude.{World, Refusal, MOST_ACTORS}
 use Rattle.rd_step.specs.declared.entries.Event.{Event}
 use Rattle.rd_step.specs.Starts.{fresh_world}
@@ -36,73 +34,27 @@ use Rattle.rd_step.specs.declared.flaws.Flaw.TheVariants.{Makers, PlaceNames, Ac
 use Rattle.rd_marks.specs.Names.{bytes_of}
 use Rattle.rd_marks.specs.Books.{Mark, BookState}
 use Rattle.rd_marks.specs.Rules.{GoThrough, MarksGoThrough}
-use Rattle.rd_trace.specs.Numbers.{member_count, number_at, list_at, SpellEach, SpellEachAt}
+use Rattle.rd_trace.specs.Numbers.{member_count, number_at, list_at}
+use Rattle.rd_trace.specs.Spelled.{Gives, SpellEachAt}
+use Rattle.rd_trace.specs.Events.{event_of}
 use Rattle.rd_trace.specs.Actors.{IsActor}
-use Rattle.rd_trace.specs.Arrays.{filled_slots, IsArray}
-use Rattle.rd_trace.specs.Segments.{IsSegment, IsSegmentList}
+use Rattle.rd_trace.specs.Arrays.{slot_of, filled_slots, IsArray}
+use Rattle.rd_trace.specs.Segments.{cell_of, IsSegment, IsSegmentList}
 use Rattle.rd_trace.specs.Bookmarks.{IsMark}
 use Rattle.rd_trace.specs.Starts.{IsParts, IsStart, start_world, start_flaw}
 use Rattle.rd_trace.specs.declared.starts.Start.{Start}
 use Rattle.rd_trace.specs.declared.starts.Start.TheVariants.{Fresh, Parts as OfParts}
-use Rattle.rd_trace.specs.Saved.{Trace, IsFirstTrace, IsSecondTrace, IsTraceText, loaded_state, seen_mark, IsSameBook}
+use Rattle.rd_trace.specs.Saved.{Trace, IsFirstTrace, IsSecondTrace, IsEither, IsTraceText, loaded_state, seen_mark, IsSameBook}
 use Rattle.rd_trace.specs.Traces.{IsTraceRing, IsRefusedAt, IsMarkRefusedAt}
 use Rattle.rd_trace.specs.Loading.{IsBookIn, Replays, LoadsTrace, IsReachable, LoadsAgain}
 use Rattle.rd_trace.specs.Writing.{IsTextOf}
+use Rattle.rd_trace.proofs.SpellLemmas.{one_given, same_each_at, same_seen_at}
 use Rattle.rd_trace.specs.declared.any_book.AnyBook.{AnyBook}
 use Rattle.rd_trace.specs.declared.faults.LoadTraceFault.{LoadTraceFault}
 use Rattle.rd_trace.specs.declared.faults.LoadTraceFault.TheVariants.{NoMemory, BadTrace, Flawed, TraceMark, TraceStep}
 
 pub some_same : {A : Type 0} (o : Option A) (a b : A) → o ≡ Some a → o ≡ Some b → a ≡ b
 some_same o a b h k = let both : Some a ≡ Some b = sym h ∙ k in cc
-
--- ---- control points: the first of all whose label is a text
-
-abbrev first_of : List Pc → List ℕ → Pc
-first_of [] text = AtIdle
-first_of (pc ∷ pcs) text = if bytes_eq text (label pc) then pc else first_of pcs text
-
-abbrev all_points : List Pc
-all_points =
-    E1 ∷ E2 ∷ E3 ∷ E4 ∷ E5 ∷ E6 ∷ E7 ∷ E8 ∷ E9 ∷ E10 ∷ E11 ∷ E12 ∷ E13 ∷ E14 ∷ Q1 ∷ Q2 ∷ Q3 ∷ Q4 ∷ Q5 ∷ Q6 ∷ Q7 ∷ Q8 ∷ Q9 ∷ Q10 ∷ Q11 ∷ Q12 ∷ Q13 ∷ Q14 ∷ A1 ∷ A2 ∷ B1 ∷ B2 ∷ B3 ∷ []
-
-point_of : (pc : Pc) → first_of all_points (label pc) ≡ pc
-point_of AtIdle = refl
-point_of E1 = refl
-point_of E2 = refl
-point_of E3 = refl
-point_of E4 = refl
-point_of E5 = refl
-point_of E6 = refl
-point_of E7 = refl
-point_of E8 = refl
-point_of E9 = refl
-point_of E10 = refl
-point_of E11 = refl
-point_of E12 = refl
-point_of E13 = refl
-point_of E14 = refl
-point_of Q1 = refl
-point_of Q2 = refl
-point_of Q3 = refl
-point_of Q4 = refl
-point_of Q5 = refl
-point_of Q6 = refl
-point_of Q7 = refl
-point_of Q8 = refl
-point_of Q9 = refl
-point_of Q10 = refl
-point_of Q11 = refl
-point_of Q12 = refl
-point_of Q13 = refl
-point_of Q14 = refl
-point_of A1 = refl
-point_of A2 = refl
-point_of B1 = refl
-point_of B2 = refl
-point_of B3 = refl
-
-same_point : (p q : Pc) → label p ≡ label q → p ≡ q
-same_point p q e = sym (point_of p) ∙ ap (first_of all_points) e ∙ point_of q
 
 -- ---- actors
 
@@ -121,24 +73,6 @@ same_actor d a b h k =
     let val = some_same _ a.val b.val h.val k.val in
     let idx = some_same _ a.idx b.idx h.idx k.idx in
     λ i. record { pc = pc i; pass = pass i; closed = closed i; safe = safe i; crq = crq i; new = new i; next = next i; op = op i; t = t i; h = head i; val = val i; idx = idx i }
-
--- ---- lists: what a value shows of a thing, a list of values shows of a list of things
-
-module _ {X Y : Type 0} (Spells : Data → X → Type 0) (seen : X → Y) (one : (d : Data) (x y : X) → Spells d x → Spells d y → seen x ≡ seen y) where
-  same_each : (ds : Items) (xs ys : List X) → SpellEach Spells ds xs → SpellEach Spells ds ys → map seen xs ≡ map seen ys
-  same_each no_items [] [] h k = refl
-  same_each no_items [] (y ∷ ys) h k = absurd k
-  same_each no_items (x ∷ xs) ys h k = absurd h
-  same_each (item d ds) [] ys h k = absurd h
-  same_each (item d ds) (x ∷ xs) [] h k = absurd k
-  same_each (item d ds) (x ∷ xs) (y ∷ ys) h k = ap₂ (λ z zs. z ∷ zs) (one d x y h.0 k.0) (same_each ds xs ys h.1 k.1)
-
-  same_list : (o : Option Items) (xs ys : List X) → (ds : Items) × (o ≡ Some ds) × SpellEach Spells ds xs → (ds : Items) × (o ≡ Some ds) × SpellEach Spells ds ys
-      → map seen xs ≡ map seen ys
-  same_list o xs ys (ds, is, each) (es, also, each_too) = same_each es xs ys (subst (λ z. SpellEach Spells z xs) (some_same o ds es is also) each) each_too
-
-same_actors : (d : Data) (xs ys : List Actor) → SpellEachAt IsActor (codes "actors") d xs → SpellEachAt IsActor (codes "actors") d ys → xs ≡ ys
-same_actors d xs ys h k = sym (map-id xs) ∙ same_list IsActor (λ a. a) same_actor _ xs ys h k ∙ map-id ys
 
 -- ---- the array
 
@@ -186,7 +120,7 @@ same_array : (d : Data) (a b : ArrayParts) → IsArray d a → IsArray d b → a
 same_array d a b h k =
     let head = some_same _ a.head b.head h.head k.head in
     let tail = some_same _ a.tail b.tail h.tail k.tail in
-    let filled = some_same _ (filled_slots 0 a.cells) (filled_slots 0 b.cells) h.cells k.cells in
+    let filled = same_each_at (Gives slot_of) (one_given slot_of) _ (filled_slots 0 a.cells) (filled_slots 0 b.cells) h.cells k.cells in
     let cells = same_slots 0 a.cells b.cells (a.sized ∙ sym b.sized) filled in
     λ i. record {
       head = head i;
@@ -203,7 +137,7 @@ same_segment R d s r h k =
     let tail = some_same _ s.tail r.tail h.tail k.tail in
     let closed = some_same _ s.closed r.closed h.closed k.closed in
     let next = some_same _ s.next r.next h.next k.next in
-    let cells = some_same _ s.cells r.cells h.cells k.cells in
+    let cells = same_each_at (Gives cell_of) (one_given cell_of) _ s.cells r.cells h.cells k.cells in
     λ i. record {
       head = head i;
       tail = tail i;
@@ -218,11 +152,11 @@ abbrev items : {X : Type 0} → Vec X Global → List X
 items v = v.items
 
 same_segments : (R : ℕ) (d : Data) (v w : Vec (SegmentParts R) Global) → IsSegmentList d v → IsSegmentList d w → v.items ≡ w.items
-same_segments R d v w h k = sym (map-id v.items) ∙ same_list IsSegment (λ s. s) (same_segment R) (as_array d) v.items w.items h k ∙ map-id w.items
+same_segments R d v w h k = same_each_at IsSegment (same_segment R) (as_array d) v.items w.items h k
 
 same_makers : (R : ℕ) (d : Data) (vs ws : List (Vec (SegmentParts R) Global)) → SpellEachAt IsSegmentList (codes "segments") d vs → SpellEachAt IsSegmentList (codes "segments") d ws
     → map items vs ≡ map items ws
-same_makers R d vs ws h k = same_list IsSegmentList items (same_segments R) (list_at (codes "segments") d) vs ws h k
+same_makers R d vs ws h k = same_seen_at IsSegmentList items (same_segments R) (list_at (codes "segments") d) vs ws h k
 
 -- ---- what is seen of the makers' lists: their elements
 
@@ -275,7 +209,7 @@ flaw_by R actors makers roots few there each qhead qtail array =
 
 module _ (R : ℕ) (d : Data) (p q : Parts R) (h : IsParts d p) (k : IsParts d q) where
   actors_same : p.actors.items ≡ q.actors.items
-  actors_same = same_actors d p.actors.items q.actors.items h.actors k.actors
+  actors_same = same_each_at IsActor same_actor _ p.actors.items q.actors.items h.actors k.actors
 
   makers_same : map items p.segments.items ≡ map items q.segments.items
   makers_same = same_makers R d p.segments.items q.segments.items h.segments k.segments
@@ -320,10 +254,13 @@ one_start R d (OfParts p) (OfParts q) h k = (one_flaw R d p q h k, one_world R d
 
 -- ---- bookmarks
 
+same_events : (key : List ℕ) (d : Data) (es fs : List Event) → SpellEachAt (Gives event_of) key d es → SpellEachAt (Gives event_of) key d fs → es ≡ fs
+same_events key d es fs h k = same_each_at (Gives event_of) (one_given event_of) (list_at key d) es fs h k
+
 same_mark : (d : Data) (m n : Mark) → IsMark d m → IsMark d n → seen_mark m ≡ seen_mark n
 same_mark d m n h k =
     let name = some_same _ (bytes_of m.name) (bytes_of n.name) h.name.text k.name.text in
-    let events = some_same _ m.events n.events h.events k.events in
+    let events = same_events (codes "events") d m.events n.events h.events k.events in
     λ i. (name i, events i)
 
 -- ---- traces
@@ -344,7 +281,7 @@ module _ (R : ℕ) (d : Data) (t u : Trace R) where
         flaw = ap start_flaw h.actors.2 ∙ sym (ap start_flaw k.actors.2);
         world = ap start_world h.actors.2 ∙ ap (fresh_world R) count ∙ sym (ap start_world k.actors.2);
         marks = ap (map seen_mark) (h.marks ∙ sym k.marks);
-        live = some_same _ t.live u.live h.live k.live;
+        live = same_events (codes "events") d t.live u.live h.live k.live;
         undone = h.undone ∙ sym k.undone;
       }
 
@@ -355,18 +292,18 @@ module _ (R : ℕ) (d : Data) (t u : Trace R) where
       record {
         flaw = start.0;
         world = start.1;
-        marks = same_list IsMark seen_mark same_mark (list_at (codes "marks") d) t.marks u.marks (h.marks.0, h.marks.1, h.marks.2.each) (k.marks.0, k.marks.1, k.marks.2.each);
-        live = some_same _ t.live u.live h.live k.live;
-        undone = some_same _ t.undone u.undone h.undone k.undone;
+        marks = same_seen_at IsMark seen_mark same_mark (list_at (codes "marks") d) t.marks u.marks (h.marks.0, h.marks.1, h.marks.2.each) (k.marks.0, k.marks.1, k.marks.2.each);
+        live = same_events (codes "events") d t.live u.live h.live k.live;
+        undone = same_events (codes "undone") d t.undone u.undone h.undone k.undone;
       }
 
-  same_either : IsFirstTrace d t ⊎ IsSecondTrace d t → IsFirstTrace d u ⊎ IsSecondTrace d u → IsSameTrace t u
+  same_either : IsEither d t → IsEither d u → IsSameTrace t u
   same_either (inl h) (inl k) = same_first h k
   same_either (inl h) (inr k) = absurd (two_counts d 4 6 (λ e. omega (arith, e)) h.members k.members)
   same_either (inr h) (inl k) = absurd (two_counts d 6 4 (λ e. omega (arith, e)) h.members k.members)
   same_either (inr h) (inr k) = same_second h k
 
-ring_of : (R : ℕ) (d : Data) (t : Trace R) → IsFirstTrace d t ⊎ IsSecondTrace d t → number_at (codes "ring") d ≡ Some R
+ring_of : (R : ℕ) (d : Data) (t : Trace R) → IsEither d t → number_at (codes "ring") d ≡ Some R
 ring_of R d t (inl h) = h.ring
 ring_of R d t (inr h) = h.ring
 
@@ -374,9 +311,9 @@ ring_of R d t (inr h) = h.ring
 pub same_trace : (text : List ℕ) (R Q : ℕ) (t : Trace R) (u : Trace Q) → IsTraceText text t → IsTraceText text u → (R ≡ Q) × IsSameTrace t u
 same_trace text R Q t u h k =
     let d = k.1 in
-    let read_as : IsFirstTrace d t ⊎ IsSecondTrace d t = subst (λ x. IsFirstTrace x t ⊎ IsSecondTrace x t) (some_same (read text) h.1 d h.2 k.2) h.3.1 in
+    let read_as : IsEither d t = subst (λ x. IsEither x t) (some_same (read text) h.1 d h.2 k.2) h.3.1 in
     let ring = some_same _ R Q (ring_of R d t read_as) (ring_of Q d u k.3.1) in
-    (ring, subst (λ P. (v : Trace P) → IsFirstTrace d v ⊎ IsSecondTrace d v → IsSameTrace t v) ring (λ v is. same_either R d t v read_as is) u k.3.1)
+    (ring, subst (λ P. (v : Trace P) → IsEither d v → IsSameTrace t v) ring (λ v is. same_either R d t v read_as is) u k.3.1)
 
 pub same_book : (R Q : ℕ) (t : Trace R) (u : Trace Q) → IsSameTrace t u → IsSameBook (loaded_state t) (loaded_state u)
 same_book R Q t u s = record { session = λ i. record { start = s.world i; live = s.live i; undone = s.undone i }; marks = s.marks }

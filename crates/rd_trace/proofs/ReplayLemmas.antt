@@ -1,12 +1,11 @@
 -- Steps that are made again: what goes through, and what is refused.
 use Rattle.std.proofs.Common.{◌≡◌, ◌≢◌, ◌⊎◌, inl, inr, ℕ, zero, suc, ◌+◌, ◌-◌, ◌<◌, ◌≤◌, ◌==◌, if◌then◌else◌, Bool, true, false, List, [], ◌∷◌, ◌++◌, length, take, drop, get_or, map, Some, None, Option, is_some, Result, Ok, Err, IsOk, refl, sym, ap, ap₂, ◌∙◌, subst, arith, append_assoc, length-append, ne_eqb, eq-eqb}
 use Rattle.std.specs.List.{AllByRecursion}
-use Rattle.std.specs.Result.{IsErrAnd}
 use Rattle.std.proofs.lemmas.Bool.{cond-false}
 use Rattle.std.proofs.lemmas.Cmp.{nat_list_eq_equiv}
 use Rattle.std.proofs.lemmas.Map.Keys.{IsDistinct-head, IsDistinct-tail}
 use Rattle.std.proofs.Math.Seq.{take-append_seam, drop-append_seam}
-use Rattle.std.proofs.lemmas.List.{append-nil, length-map, map-append, map_more, get_or-map, take_more, drop_more, take_all, drop_all, take-take, take-append-drop, drop-append-le, length-take-le, length-drop}
+use Rattle.std.proofs.lemmas.List.{append-nil, length-map, map-append, map_more, get_or-map, take_more, take_all, drop_all, take-take, take-append-drop, drop-append-le, length-take-le, length-drop}
 use Rattle.rd_cell.specs.declared.refusal.Refusal.TheVariants.{NoMemory as OutOfMemory}
 use Rattle.rd_actor.specs.declared.actors.Act.TheVariants.{Enq as CallsEnq, Deq as CallsDeq, AEnq as CallsArrayEnq, ADeq as CallsArrayDeq, Go as GoesOn, Starve as Starves}
 use Rattle.rd_step.specs.Prelude.{World, Refusal, TooLong, MarkTaken, TooManyMarks, OpReply, Stepped, step, Ran, run, MOST_STEPS}
@@ -34,6 +33,7 @@ use Rattle.rd_trace.specs.Starts.{start_world, start_flaw}
 use Rattle.rd_trace.specs.Saved.{Trace, loaded_state}
 use Rattle.rd_trace.specs.Traces.{session_at, IsRefusedAt, IsMarkRefusedAt}
 use Rattle.rd_trace.specs.Loading.{HasMarks, IsPlayable, Replays}
+use Rattle.rd_trace.proofs.SpellLemmas.{split_at, take_item}
 use Rattle.rd_trace.specs.Steps.{IsAt, RefusesOne, StepsAll, GoesTo, MakesLive, SetsMarks, IsFaultOfStep, IsFaultOfMark}
 
 -- Books and lists
@@ -50,19 +50,6 @@ pub opened : (b : BookState) (s : State) (v w : World) → b.session ≡ s → b
 opened b s v w session marks state world =
     let at : b.session ≡ session_at w [] = session ∙ state ∙ ap (λ (u : World). session_at u []) world in
     λ i. record { session = at i; marks = marks i }
-
--- what is so of a fault is so of what passes it up
-pub passed_up : {A E : Type 0} (P : Result A E → Type 0) (r : Result A E) (x : E) → IsErrAnd r (λ e. e ≡ x) → P (Err x) → P r
-passed_up P (Ok a) x is h = absurd is
-passed_up {A} {E} P (Err e) x is h = subst (λ (f : E). P (Err f)) (sym is) h
-
--- a list, cut before one of its elements and behind it
-cut_at : {X : Type 0} (xs : List X) (i : ℕ) (x : X) → i < length xs → x ≡ get_or xs i x → xs ≡ take i xs ++ x ∷ drop (i + 1) xs
-cut_at {X} xs i x within is =
-    sym (take-append-drop i xs) ∙ ap (λ (ys : List X). take i xs ++ ys) (drop_more xs i x within ∙ ap (λ (y : X). y ∷ drop (i + 1) xs) (sym is))
-
-one_longer : {X : Type 0} (xs : List X) (i : ℕ) (x : X) → i < length xs → x ≡ get_or xs i x → take (i + 1) xs ≡ take i xs ++ x ∷ []
-one_longer {X} xs i x within is = take_more xs i x within ∙ ap (λ (y : X). take i xs ++ y ∷ []) (sym is)
 
 -- Runs that go through
 
@@ -181,7 +168,7 @@ module _ (R : ℕ) (old now : BookState) (es : List Event) (i : ℕ) (e : Event)
       let live = old.session.live ++ take i es in
       let p = applied_parts (session_at w live) after.session e _ _ (sym at_now ∙ h) in
       let all : live ++ e ∷ [] ≡ old.session.live ++ (take i es ++ e ∷ []) = append_assoc old.session.live (take i es) (e ∷ []) in
-      subst (λ (done : List Event). HasStepped R old after done) (sym (one_longer es i e within is))
+      subst (λ (done : List Event). HasStepped R old after done) (sym (take_item es i e within is))
       (record {
         start = ap (λ (s : State). s.start) p.2;
         live = ap (λ (s : State). s.live) p.2 ∙ all;
@@ -199,7 +186,7 @@ module _ (R : ℕ) (old now : BookState) (es : List Event) (i : ℕ) (e : Event)
     event = e;
     later = drop (i + 1) es;
     all =
-        ap (λ (fs : List Event). old.session.live ++ fs) (cut_at es i e within is)
+        ap (λ (fs : List Event). old.session.live ++ fs) (split_at es i e within is)
         ∙ sym (append_assoc old.session.live (take i es) (e ∷ drop (i + 1) es));
     number = number ∙ ap (λ (fs : List Event). length fs + 1) so_far.live;
     through = so_far.through;
@@ -340,7 +327,7 @@ one_shared xs es fs k x f all within below is same shared =
     let long : k < length es = omega (arith, ap length all, length-map xs (λ (y : Entry). y.event)) in
     let its : x.event ≡ get_or es k x.event =
     ap (λ (y : Entry). y.event) is ∙ sym (get_or-map (λ (y : Entry). y.event) xs k x x.event within) ∙ ap (λ (gs : List Event). get_or gs k x.event) all in
-    one_longer es k x.event long its ∙ ap₂ (λ (gs : List Event) (g : Event). gs ++ g ∷ []) shared same ∙ sym (take_more fs k f below)
+    take_item es k x.event long its ∙ ap₂ (λ (gs : List Event) (g : Event). gs ++ g ∷ []) shared same ∙ sym (take_more fs k f below)
 
 pub shared_less : (j k : ℕ) (es fs : List Event) → k ≤ j → take j es ≡ take j fs → take k es ≡ take k fs
 shared_less j k es fs h same = sym (take-take k j es h) ∙ ap (λ (gs : List Event). take k gs) same ∙ take-take k j fs h
@@ -499,7 +486,7 @@ module _ (R : ℕ) (old now : BookState) (ms : List SavedMark) (i : ℕ) (m : Sa
       })
 
   placed : map saved_mark ms ≡ map saved_mark (take i ms) ++ saved_mark m ∷ map saved_mark (drop (i + 1) ms)
-  placed = ap (map saved_mark) (cut_at ms i m within is) ∙ map-append saved_mark (take i ms) (m ∷ drop (i + 1) ms)
+  placed = ap (map saved_mark) (split_at ms i m within is) ∙ map-append saved_mark (take i ms) (m ∷ drop (i + 1) ms)
 
   -- there is room for this one, and none has its name
   pub can_mark : (mid : BookState) (refusal : Refusal) → GoesTo R now m.events.items mid (Ok tt) → HaveDifferentNames (map saved_mark ms) → length ms ≤ MOST_MARKS

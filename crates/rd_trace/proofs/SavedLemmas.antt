@@ -1,9 +1,8 @@
 -- Whole sessions as values.
-use Rattle.std.proofs.Common.{◌≡◌, ℕ, zero, suc, ◌+◌, ◌<◌, ◌≤◌, List, [], ◌∷◌, ◌++◌, length, take, get_or, slice_get, codes, Some, None, Result, Ok, Err, IsOk, refl, sym, ap, ◌∙◌, subst, arith, length-append}
+use Rattle.std.proofs.Common.{◌≡◌, ℕ, zero, suc, ◌+◌, ◌<◌, ◌≤◌, List, [], ◌∷◌, ◌++◌, length, take, get_or, slice_get, Some, Result, Ok, Err, IsOk, inl, inr, refl, sym, ap, ◌∙◌, subst, arith, length-append}
 use Rattle.std.proofs.lemmas.List.{length-map, map-append, take_more, get_or-map}
-use Rattle.std.proofs.lemmas.Option.{same_Some, none-some}
-use Rattle.serde_json.specs.Data.{Data, Items}
-use Rattle.serde_json.specs.Find.{get}
+use Rattle.std.proofs.lemmas.Option.{same_Some}
+use Rattle.serde_json.specs.Data.{Data}
 use Rattle.rd_step.specs.Prelude.{Refusal, run, MOST_STEPS}
 use Rattle.rd_step.specs.Run.{Ran, run_entries}
 use Rattle.rd_step.specs.declared.entries.Entry.{Entry}
@@ -13,50 +12,37 @@ use Rattle.rd_journal.specs.State.{State, state_of, event_at}
 use Rattle.rd_journal.proofs.RedoneLast.{one_run}
 use Rattle.rd_marks.specs.Books.{BookState}
 use Rattle.rd_marks.specs.Rules.{GoThrough, KeepsRules}
-use Rattle.rd_trace.specs.Numbers.{list_at}
-use Rattle.rd_trace.specs.Events.{events_of, events_data, ReadsEventsAt}
-use Rattle.rd_trace.specs.Starts.{IsStart, IsActorCount, ReadsStart, SpellsWorld}
-use Rattle.rd_trace.specs.Bookmarks.{AreMarks, ReadsMarks, marks_data}
-use Rattle.rd_trace.specs.Saved.{ReadsFirst, ReadsSecond, SpellsBook, book_data}
-use Rattle.rd_trace.specs.Loading.{IsReachable}
+use Rattle.rd_trace.specs.Spelled.{Reads, Gives, SpellEach, items_by}
+use Rattle.rd_trace.specs.Events.{event_of, event_data}
+use Rattle.rd_trace.specs.Starts.{SpellsWorld}
+use Rattle.rd_trace.specs.Bookmarks.{AreMarks, mark_data}
+use Rattle.rd_trace.specs.Numbers.{member_count}
+use Rattle.rd_trace.specs.Saved.{Trace, IsFirstTrace, IsSecondTrace, IsEither, SpellsBook, saved_trace, book_data}
+use Rattle.rd_trace.specs.declared.saved.SavedSession.{SavedSession}
 use Rattle.rd_trace.specs.declared.faults.FormFault.{FormFault}
 use Rattle.rd_trace.specs.declared.faults.FormFault.TheVariants.{NoMemory, BadForm}
+use Rattle.rd_trace.specs.Loading.{IsReachable}
 
 -- ---- what is read
 
-module _ (R : ℕ) (d : Data) where
-  -- a trace of version 1 whose number of actors, or whose events, are not read
-  pub no_count : ((count : ℕ) → IsActorCount (codes "actors") d count → ⊥) → ReadsFirst {R = R} d (Err BadForm)
-  no_count none = λ t h. none h.actors.0 h.actors.1
+no_first : {R : ℕ} (d : Data) → member_count d ≡ Some 4 → ((t : Trace R) → IsFirstTrace d t → ⊥) → (t : Trace R) → IsEither d t → ⊥
+no_first d four none t (inl k) = none t k
+no_first d four none t (inr k) = let e : 6 ≡ 4 = same_Some 6 4 (sym k.members ∙ four) in omega (arith, e)
 
-  pub no_events : (fault : FormFault) → ReadsEventsAt (codes "events") d (Err fault) → ReadsFirst {R = R} d (Err fault)
-  no_events NoMemory h = tt
-  no_events BadForm h = λ t k. none-some t.live (sym h ∙ k.live)
+no_second : {R : ℕ} (d : Data) → member_count d ≡ Some 6 → ((t : Trace R) → IsSecondTrace d t → ⊥) → (t : Trace R) → IsEither d t → ⊥
+no_second d six none t (inl k) = let e : 4 ≡ 6 = same_Some 4 6 (sym k.members ∙ six) in omega (arith, e)
+no_second d six none t (inr k) = none t k
 
-  -- a trace of version 2 of which a member is not read
-  pub no_start_at : get (codes "start") d ≡ None → ReadsSecond {R = R} d (Err BadForm)
-  no_start_at h = λ t k. none-some k.start.0 (sym h ∙ k.start.1)
+-- a value of so many members is a trace of one version at most
+pub first_read : {R : ℕ} (d : Data) → member_count d ≡ Some 4 → (r : Result (SavedSession R) FormFault) → Reads saved_trace (IsFirstTrace d) r → Reads saved_trace (IsEither d) r
+first_read d four (Ok s) h = inl h
+first_read d four (Err NoMemory) h = tt
+first_read d four (Err BadForm) h = no_first d four h
 
-  pub no_marks_at : list_at (codes "marks") d ≡ None → ReadsSecond {R = R} d (Err BadForm)
-  no_marks_at h = λ t k. none-some k.marks.0 (sym h ∙ k.marks.1)
-
-  pub no_start_in : (e : Data) → get (codes "start") d ≡ Some e → (fault : FormFault) → ReadsStart {R = R} e (Err fault) → ReadsSecond {R = R} d (Err fault)
-  no_start_in e there NoMemory h = tt
-  no_start_in e there BadForm h = λ t k.
-      h t.start (subst (λ (x : Data). IsStart x t.start) (same_Some k.start.0 e (sym k.start.1 ∙ there)) k.start.2)
-
-  pub no_marks_in : (ds : Items) → list_at (codes "marks") d ≡ Some ds → (fault : FormFault) → ReadsMarks ds (Err fault) → ReadsSecond {R = R} d (Err fault)
-  no_marks_in ds there NoMemory h = tt
-  no_marks_in ds there BadForm h = λ t k.
-      h t.marks (subst (λ (x : Items). AreMarks x t.marks) (same_Some k.marks.0 ds (sym k.marks.1 ∙ there)) k.marks.2)
-
-  pub no_live : (fault : FormFault) → ReadsEventsAt (codes "events") d (Err fault) → ReadsSecond {R = R} d (Err fault)
-  no_live NoMemory h = tt
-  no_live BadForm h = λ t k. none-some t.live (sym h ∙ k.live)
-
-  pub no_undone : (fault : FormFault) → ReadsEventsAt (codes "undone") d (Err fault) → ReadsSecond {R = R} d (Err fault)
-  no_undone NoMemory h = tt
-  no_undone BadForm h = λ t k. none-some t.undone (sym h ∙ k.undone)
+pub second_read : {R : ℕ} (d : Data) → member_count d ≡ Some 6 → (r : Result (SavedSession R) FormFault) → Reads saved_trace (IsSecondTrace d) r → Reads saved_trace (IsEither d) r
+second_read d six (Ok s) h = inr h
+second_read d six (Err NoMemory) h = tt
+second_read d six (Err BadForm) h = no_second d six h
 
 -- ---- what is written
 
@@ -85,8 +71,8 @@ reached R b s same rules through = record {
 }
 
 -- the value that a book is written as spells it, if the values of its members do
-pub book_spelled : (R : ℕ) (b : BookState) (start : Data) → SpellsWorld R b.session.start start → events_of (events_data b.session.live) ≡ Some b.session.live
-    → events_of (events_data b.session.undone) ≡ Some b.session.undone → AreMarks (marks_data b.marks) b.marks → SpellsBook R b (book_data R start b)
+pub book_spelled : (R : ℕ) (b : BookState) (start : Data) → SpellsWorld R b.session.start start → SpellEach (Gives event_of) (items_by event_data b.session.live) b.session.live
+    → SpellEach (Gives event_of) (items_by event_data b.session.undone) b.session.undone → AreMarks (items_by mark_data b.marks) b.marks → SpellsBook R b (book_data R start b)
 book_spelled R b start h live undone marks = (
   record { start = h.0; marks = b.marks; live = b.session.live; undone = b.session.undone },
   record {
@@ -94,20 +80,19 @@ book_spelled R b start h live undone marks = (
     version = refl;
     ring = refl;
     start = (start, refl, h.1);
-    marks = (marks_data b.marks, refl, marks);
-    live = live;
-    undone = undone;
+    marks = (items_by mark_data b.marks, refl, marks);
+    live = (items_by event_data b.session.live, refl, live);
+    undone = (items_by event_data b.session.undone, refl, undone);
   },
   h.2,
   (λ i. record { session = record { start = h.3 i; live = b.session.live; undone = b.session.undone }; marks = b.marks }),
 )
 
 -- one more live event
-pub one_more_live : (xs : List Entry) (k : ℕ) (x : Entry) (es : List Event) → k < length xs → x ≡ get_or xs k x → es ≡ take k (events xs)
-    → es ++ x.event ∷ [] ≡ take (k + 1) (events xs)
-one_more_live xs k x es within is so_far =
-    ap (λ ys. ys ++ x.event ∷ []) so_far ∙ ap (λ e. take k (events xs) ++ e ∷ []) (ap (λ (y : Entry). y.event) is ∙ sym (get_or-map (λ (y : Entry). y.event) xs k x x.event within))
-    ∙ sym (take_more (events xs) k x.event (omega (arith, within, length-map xs (λ (y : Entry). y.event))))
+pub live_next : (xs : List Entry) (k : ℕ) (x : Entry) → k < length xs → x ≡ get_or xs k x → take (k + 1) (events xs) ≡ take k (events xs) ++ x.event ∷ []
+live_next xs k x within is =
+    take_more (events xs) k x.event (omega (arith, within, length-map xs (λ (y : Entry). y.event)))
+    ∙ ap (λ e. take k (events xs) ++ e ∷ []) (get_or-map (λ (y : Entry). y.event) xs k x x.event within ∙ ap (λ (y : Entry). y.event) (sym is))
 
 -- one more event by its number
 event_next : (es : List Event) (k : ℕ) (e : Event) → slice_get es k ≡ Some e → take (suc k) es ≡ take k es ++ e ∷ []
@@ -121,9 +106,8 @@ event_there (x ∷ es) zero within none = none x refl
 event_there (x ∷ es) (suc k) within none = event_there es k (omega (arith, within)) none
 
 module _ (es : List Event) (k n : ℕ) (next : n ≡ suc k) where
-  pub one_more_undone : (done : List Event) (e : Event) → event_at es n ≡ Some e → done ≡ take k es → done ++ e ∷ [] ≡ take n es
-  one_more_undone done e found so_far =
-      ap (λ ys. ys ++ e ∷ []) so_far ∙ sym (event_next es k e (sym (ap (event_at es) next) ∙ found)) ∙ ap (λ m. take m es) (sym next)
+  pub undone_next : (e : Event) → event_at es n ≡ Some e → take n es ≡ take k es ++ e ∷ []
+  undone_next e found = ap (λ m. take m es) next ∙ event_next es k e (sym (ap (event_at es) next) ∙ found)
 
   pub some_undone : k < length es → ((e : Event) → event_at es n ≡ Some e → ⊥) → ⊥
   some_undone within none = event_there es k within (λ e h. none e (ap (event_at es) next ∙ h))

@@ -1,113 +1,156 @@
--- Lists of values: one more value behind them, what each spells, and how many they are.
-use Rattle.std.proofs.Common.{◌≡◌, ℕ, ◌+◌, ◌<◌, ◌≤◌, List, [], ◌∷◌, ◌++◌, length, take, drop, get_or, Option, Some, None, option_map, option_and_then, refl, sym, ap, ap₂, ◌∙◌, subst, append_assoc, append-nil}
-use Rattle.std.proofs.lemmas.List.{take_more, drop_more, drop_all, take-append-drop}
+-- What is read of a value by what is read of a part of it; and lists of values: what they spell, and how many they are.
+use Rattle.std.proofs.Common.{◌≡◌, ℕ, suc, ◌+◌, ◌<◌, List, [], ◌∷◌, ◌++◌, length, take, drop, get_or, Option, Some, None, IfSome, IfNone, ok_or, Result, Ok, Err, Vec, Global, refl, sym, ap, ap₂, ◌∙◌, subst, map, map-id}
+use Rattle.std.specs.Result.{IsErrAnd}
+use Rattle.std.proofs.lemmas.Option.{same_Some, none-some}
+use Rattle.std.proofs.lemmas.List.{take_more, drop_more, take-append-drop}
 use Rattle.serde_json.specs.Data.{Data, Items, no_items, item}
 use Rattle.serde_json.specs.View.{view, items_view}
 use Rattle.serde_json.specs.declared.value.Value.{Value}
-use Rattle.rd_trace.specs.Numbers.{SpellEach}
+use Rattle.rd_trace.specs.Numbers.{list_at}
+use Rattle.rd_trace.specs.Spelled.{Reads, itself, elements, Gives, SpellEach, SpellEachAt, items_by, AreSpelled}
+use Rattle.rd_trace.specs.declared.faults.FormFault.{FormFault}
+use Rattle.rd_trace.specs.declared.faults.FormFault.TheVariants.{NoMemory, BadForm}
+
+-- ---- faults
+
+-- what holds of the error that is passed up holds of the answer
+pub passed_up : {T E : Type 0} (P : Result T E → Type 0) (r : Result T E) (x : E) → IsErrAnd r (λ e. e ≡ x) → P (Err x) → P r
+passed_up P (Ok y) x is h = absurd is
+passed_up P (Err e) x is h = subst (λ f. P (Err f)) (sym is) h
+
+-- a part that isn't read
+module _ {V W X Y : Type 0} (part : V → X) (whole : W → Y) (IsPart : X → Type 0) (IsWhole : Y → Type 0) (has : (y : Y) → IsWhole y → (x : X) × IsPart x) where
+  pub no_part : (fault : FormFault) → Reads part IsPart (Err fault) → Reads whole IsWhole (Err fault)
+  no_part NoMemory h = tt
+  no_part BadForm h = λ y is. let its = has y is in h its.0 its.1
+
+  -- and whose fault is passed up
+  pub part_passed_up : (fault : FormFault) (r : Result W FormFault) → IsErrAnd r (λ e. e ≡ fault) → Reads part IsPart (Err fault) → Reads whole IsWhole r
+  part_passed_up fault r is h = passed_up (Reads whole IsWhole) r fault is (no_part fault h)
+
+-- an option that is read
+module _ {X : Type 0} (o : Option X) (r : Result X FormFault) (is : r ≡ ok_or o BadForm) where
+  pub read_or_bad : (P : X → Type 0) → IfSome o P → IfNone o ((x : X) → P x → ⊥) → Reads itself P r
+  read_or_bad P some none = subst (λ x. Reads itself P x) (sym is) (by o some none)
+    where
+      by : (p : Option X) → IfSome p P → IfNone p ((x : X) → P x → ⊥) → Reads itself P (ok_or p BadForm)
+      by None some none = none
+      by (Some x) some none = some
+
+  pub given_or_bad : (f : Data → Option X) (d : Data) → o ≡ f d → Reads itself (Gives f d) r
+  given_or_bad f d same = subst (λ x. Reads itself (Gives f d) x) (sym (is ∙ ap (λ p. ok_or p BadForm) same)) (given (f d) refl)
+    where
+      given : (p : Option X) → f d ≡ p → Reads itself (Gives f d) (ok_or p BadForm)
+      given None none = λ x k. none-some x (sym none ∙ k)
+      given (Some x) some = some
+
+-- ---- lists of values
 
 -- items with one more behind them
-abbrev pub then_item : Items → Data → Items
+abbrev then_item : Items → Data → Items
 then_item no_items d = item d no_items
 then_item (item x xs) d = item x (then_item xs d)
 
-pub items_view-last : (vs : List Value) (v : Value) → items_view (vs ++ v ∷ []) ≡ then_item (items_view vs) (view v)
+items_view-last : (vs : List Value) (v : Value) → items_view (vs ++ v ∷ []) ≡ then_item (items_view vs) (view v)
 items_view-last [] v = refl
 items_view-last (x ∷ vs) v = ap (item (view x)) (items_view-last vs v)
 
+items_by-last : {X : Type 0} (datum : X → Data) (xs : List X) (x : X) → items_by datum (xs ++ x ∷ []) ≡ then_item (items_by datum xs) (datum x)
+items_by-last datum [] x = refl
+items_by-last datum (y ∷ xs) x = ap (item (datum y)) (items_by-last datum xs x)
+
+-- the value at a place, with those before it and those behind it
+pub split_at : {X : Type 0} (xs : List X) (i : ℕ) (x : X) → i < length xs → x ≡ get_or xs i x → xs ≡ take i xs ++ x ∷ drop (i + 1) xs
+split_at xs i x within is = sym (take-append-drop i xs) ∙ ap (λ ys. take i xs ++ ys) (drop_more xs i x within ∙ ap (λ y. y ∷ drop (i + 1) xs) (sym is))
+
+pub take_item : {X : Type 0} (xs : List X) (i : ℕ) (x : X) → i < length xs → x ≡ get_or xs i x → take (i + 1) xs ≡ take i xs ++ x ∷ []
+take_item xs i x within is = take_more xs i x within ∙ ap (λ y. take i xs ++ y ∷ []) (sym is)
+
+pub items_written : {X : Type 0} (datum : X → Data) (vs : List Value) (xs : List X) (v : Value) (x : X) → items_view vs ≡ items_by datum xs → view v ≡ datum x
+    → items_view (vs ++ v ∷ []) ≡ items_by datum (xs ++ x ∷ [])
+items_written datum vs xs v x so_far is = items_view-last vs v ∙ ap₂ then_item so_far is ∙ sym (items_by-last datum xs x)
+
 module _ {X : Type 0} (Spells : Data → X → Type 0) where
-  pub spell_each-last : (ds : Items) (d : Data) (xs : List X) (x : X) → SpellEach Spells ds xs → Spells d x → SpellEach Spells (then_item ds d) (xs ++ x ∷ [])
+  spell_each-last : (ds : Items) (d : Data) (xs : List X) (x : X) → SpellEach Spells ds xs → Spells d x → SpellEach Spells (then_item ds d) (xs ++ x ∷ [])
   spell_each-last no_items d [] x h k = (k, tt)
   spell_each-last no_items d (y ∷ xs) x h k = absurd h
   spell_each-last (item e ds) d [] x h k = absurd h
   spell_each-last (item e ds) d (y ∷ xs) x h k = (h.0, spell_each-last ds d xs x h.1 k)
 
-  -- values that spell no list at their beginning spell none
-  pub spell_each-at : (vs ws : List Value) (v : Value) → ((x : X) → Spells (view v) x → ⊥) → (xs : List X) → SpellEach Spells (items_view (vs ++ v ∷ ws)) xs → ⊥
-  spell_each-at [] ws v never [] h = h
-  spell_each-at [] ws v never (x ∷ xs) h = never x h.0
-  spell_each-at (y ∷ vs) ws v never [] h = h
-  spell_each-at (y ∷ vs) ws v never (x ∷ xs) h = spell_each-at vs ws v never xs h.1
+  -- values that spell a list, one of them something
+  pub spelled_here : (vs ws : List Value) (v : Value) (xs : List X) → SpellEach Spells (items_view (vs ++ v ∷ ws)) xs
+      → (before : List X) × (x : X) × (more : List X) × (xs ≡ before ++ x ∷ more) × SpellEach Spells (items_view vs) before × Spells (view v) x
+  spelled_here [] ws v [] h = absurd h
+  spelled_here [] ws v (x ∷ xs) h = ([], x, xs, refl, tt, h.0)
+  spelled_here (y ∷ vs) ws v [] h = absurd h
+  spelled_here (y ∷ vs) ws v (x ∷ xs) h = let rest = spelled_here vs ws v xs h.1 in (x ∷ rest.0, rest.1, rest.2, ap (λ l. x ∷ l) rest.3, (h.0, rest.4), rest.5)
 
--- ---- lists that are read by a function
+  -- as many as they are
+  pub spelled_length : (vs : List Value) (xs : List X) → SpellEach Spells (items_view vs) xs → length vs ≡ length xs
+  spelled_length [] [] h = refl
+  spelled_length [] (x ∷ xs) h = absurd h
+  spelled_length (v ∷ vs) [] h = absurd h
+  spelled_length (v ∷ vs) (x ∷ xs) h = ap suc (spelled_length vs xs h.1)
 
--- what was read, and then what is read of the values behind it, if they can be read
-abbrev pub behind : {X : Type 0} → List X → Option (List X) → Option (List X)
-behind done rest = option_map (λ xs. done ++ xs) rest
+  module _ (vs : List Value) (i : ℕ) (v : Value) (within : i < length vs) (is : v ≡ get_or vs i v) where
+    -- one more value is read
+    pub spell_each-more : (xs : List X) (x : X) → SpellEach Spells (items_view (take i vs)) xs → Spells (view v) x → SpellEach Spells (items_view (take (i + 1) vs)) (xs ++ x ∷ [])
+    spell_each-more xs x h k =
+        subst (λ ds. SpellEach Spells ds (xs ++ x ∷ [])) (sym (ap items_view (take_item vs i v within is) ∙ items_view-last (take i vs) v))
+        (spell_each-last (items_view (take i vs)) (view v) xs x h k)
 
-pub behind_none : {X : Type 0} (o : Option (List X)) → o ≡ behind [] o
-behind_none None = refl
-behind_none (Some xs) = refl
+    -- values that spell a list, by one of them
+    pub spelled_at : (xs : List X) → SpellEach Spells (items_view vs) xs
+        → (before : List X) × (x : X) × (more : List X) × (xs ≡ before ++ x ∷ more) × SpellEach Spells (items_view (take i vs)) before × Spells (view v) x
+    spelled_at xs h = spelled_here (take i vs) (drop (i + 1) vs) v xs (subst (λ ws. SpellEach Spells (items_view ws) xs) (split_at vs i v within is) h)
 
-pub one_behind : {X : Type 0} (done : List X) (x : X) (o : Option (List X)) → behind done (option_map (λ xs. x ∷ xs) o) ≡ behind (done ++ x ∷ []) o
-one_behind done x None = refl
-one_behind done x (Some xs) = ap Some (sym (append_assoc done (x ∷ []) xs))
+    -- values of which one spells nothing spell no list
+    pub spell_each-none : ((x : X) → Spells (view v) x → ⊥) → (xs : List X) → SpellEach Spells (items_view vs) xs → ⊥
+    spell_each-none never xs h = let here = spelled_at xs h in never here.1 here.5
 
-then_one : {X : Type 0} (x : X) (o : Option X) (p : Option (List X))
-    → option_and_then (λ y. option_map (λ ys. y ∷ ys) (option_map (λ xs. xs ++ x ∷ []) p)) o ≡ option_map (λ xs. xs ++ x ∷ []) (option_and_then (λ y. option_map (λ ys. y ∷ ys) p) o)
-then_one x None p = refl
-then_one x (Some y) None = refl
-then_one x (Some y) (Some ys) = refl
+  -- ---- lists that are written
 
--- a function that reads a value, and one that reads all values of a list by it
-pub record ReadsEach {X : Type 0} (one : Data → Option X) (all : Items → Option (List X)) : Type 0 where
-  pub nothing : all no_items ≡ Some []
-  pub first : (d : Data) (ds : Items) → all (item d ds) ≡ option_and_then (λ x. option_map (λ xs. x ∷ xs) (all ds)) (one d)
+  module _ (datum : X → Data) where
+    pub none_written : (vs : List Value) → vs ≡ [] → AreSpelled Spells datum vs []
+    none_written vs e = record { values = ap items_view e; spelled = tt }
 
-module _ {X : Type 0} (one : Data → Option X) (all : Items → Option (List X)) (reads : ReadsEach one all) where
-  module _ (vs : List Value) (done : List X) (i : ℕ) (so_far : all (items_view vs) ≡ behind done (all (items_view (drop i vs)))) where
-    pub read_here : (v : Value) (o : Option X) → i < length vs → v ≡ get_or vs i v → o ≡ one (view v)
-        → all (items_view vs) ≡ behind done (option_and_then (λ x. option_map (λ xs. x ∷ xs) (all (items_view (drop (i + 1) vs)))) o)
-    read_here v o within is read =
-        let rest = all (items_view (drop (i + 1) vs)) in
-        so_far ∙ ap (λ ws. behind done (all (items_view ws))) (drop_more vs i v within ∙ ap (λ x. x ∷ drop (i + 1) vs) (sym is))
-        ∙ ap (behind done) (reads.first (view v) (items_view (drop (i + 1) vs)) ∙ ap (option_and_then (λ x. option_map (λ xs. x ∷ xs) rest)) (sym read))
+    pub one_more_written : (vs : List Value) (xs : List X) (v : Value) (x : X) → AreSpelled Spells datum vs xs → view v ≡ datum x → Spells (datum x) x
+        → AreSpelled Spells datum (vs ++ v ∷ []) (xs ++ x ∷ [])
+    one_more_written vs xs v x h is spells = record {
+      values = items_written datum vs xs v x h.values is;
+      spelled = subst (λ ds. SpellEach Spells ds (xs ++ x ∷ [])) (sym (items_by-last datum xs x)) (spell_each-last (items_by datum xs) (datum x) xs x h.spelled spells);
+    }
 
-    pub read_more : (v : Value) (x : X) → i < length vs → v ≡ get_or vs i v → Some x ≡ one (view v) → all (items_view vs) ≡ behind (done ++ x ∷ []) (all (items_view (drop (i + 1) vs)))
-    read_more v x within is read = read_here v (Some x) within is read ∙ one_behind done x (all (items_view (drop (i + 1) vs)))
+-- ---- lists whose values spell one thing at most
 
-    pub read_none : (v : Value) → i < length vs → v ≡ get_or vs i v → None ≡ one (view v) → all (items_view vs) ≡ None
-    read_none v within is read = read_here v None within is read
+-- what a value shows of a thing, a list of values shows of a list of things
+module _ {X Y : Type 0} (Spells : Data → X → Type 0) (seen : X → Y) (one : (d : Data) (x y : X) → Spells d x → Spells d y → seen x ≡ seen y) where
+  same_seen : (ds : Items) (xs ys : List X) → SpellEach Spells ds xs → SpellEach Spells ds ys → map seen xs ≡ map seen ys
+  same_seen no_items [] [] h k = refl
+  same_seen no_items [] (y ∷ ys) h k = absurd k
+  same_seen no_items (x ∷ xs) ys h k = absurd h
+  same_seen (item d ds) [] ys h k = absurd h
+  same_seen (item d ds) (x ∷ xs) [] h k = absurd k
+  same_seen (item d ds) (x ∷ xs) (y ∷ ys) h k = ap₂ (λ z zs. z ∷ zs) (one d x y h.0 k.0) (same_seen ds xs ys h.1 k.1)
 
-    pub read_all : length vs ≤ i → all (items_view vs) ≡ Some done
-    read_all past = so_far ∙ ap (λ ws. behind done (all (items_view ws))) (drop_all i vs past) ∙ ap (behind done) reads.nothing ∙ ap Some (append-nil done)
+  pub same_seen_at : (o : Option Items) (xs ys : List X) → (ds : Items) × (o ≡ Some ds) × SpellEach Spells ds xs → (ds : Items) × (o ≡ Some ds) × SpellEach Spells ds ys
+      → map seen xs ≡ map seen ys
+  same_seen_at o xs ys (ds, is, each) (es, also, each_too) = same_seen es xs ys (subst (λ z. SpellEach Spells z xs) (same_Some ds es (sym is ∙ also)) each) each_too
 
-  pub read_last : (ds : Items) (d : Data) (x : X) → one d ≡ Some x → all (then_item ds d) ≡ option_map (λ xs. xs ++ x ∷ []) (all ds)
-  read_last no_items d x is =
-      reads.first d no_items ∙ ap (option_and_then (λ y. option_map (λ ys. y ∷ ys) (all no_items))) is ∙ ap (option_map (λ ys. x ∷ ys)) reads.nothing
-      ∙ ap (option_map (λ xs. xs ++ x ∷ [])) (sym reads.nothing)
-  read_last (item e ds) d x is =
-      reads.first e (then_item ds d) ∙ ap (λ p. option_and_then (λ y. option_map (λ ys. y ∷ ys) p) (one e)) (read_last ds d x is) ∙ then_one x (one e) (all ds)
-      ∙ ap (option_map (λ xs. xs ++ x ∷ [])) (sym (reads.first e ds))
+module _ {X : Type 0} (Spells : Data → X → Type 0) (one : (d : Data) (x y : X) → Spells d x → Spells d y → x ≡ y) where
+  pub same_each : (ds : Items) (xs ys : List X) → SpellEach Spells ds xs → SpellEach Spells ds ys → xs ≡ ys
+  same_each ds xs ys h k = sym (map-id xs) ∙ same_seen Spells itself one ds xs ys h k ∙ map-id ys
 
--- ---- lists that are read value by value
+  pub same_each_at : (o : Option Items) (xs ys : List X) → (ds : Items) × (o ≡ Some ds) × SpellEach Spells ds xs → (ds : Items) × (o ≡ Some ds) × SpellEach Spells ds ys → xs ≡ ys
+  same_each_at o xs ys h k = sym (map-id xs) ∙ same_seen_at Spells itself one o xs ys h k ∙ map-id ys
 
-pub take_item : {X : Type 0} (xs : List X) (i : ℕ) (x : X) → i < length xs → x ≡ get_or xs i x → take (i + 1) xs ≡ take i xs ++ x ∷ []
-take_item xs i x within is = take_more xs i x within ∙ ap (λ y. take i xs ++ y ∷ []) (sym is)
+-- what is read of the list at a key
+pub list_read : {X : Type 0} (Spells : Data → X → Type 0) (key : List ℕ) (d : Data) (ds : Items) → list_at key d ≡ Some ds → (r : Result (Vec X Global) FormFault)
+    → Reads elements (SpellEach Spells ds) r → Reads elements (SpellEachAt Spells key d) r
+list_read Spells key d ds there (Ok v) h = (ds, there, h)
+list_read Spells key d ds there (Err NoMemory) h = tt
+list_read Spells key d ds there (Err BadForm) h = λ xs k. h xs (subst (λ es. SpellEach Spells es xs) (same_Some k.0 ds (sym k.1 ∙ there)) k.2)
 
-module _ {X : Type 0} (Spells : Data → X → Type 0) (vs : List Value) (i : ℕ) (v : Value) (within : i < length vs) (is : v ≡ get_or vs i v) where
-  -- one more value is read
-  pub spell_each-more : (xs : List X) (x : X) → SpellEach Spells (items_view (take i vs)) xs → Spells (view v) x → SpellEach Spells (items_view (take (i + 1) vs)) (xs ++ x ∷ [])
-  spell_each-more xs x h k =
-      subst (λ ds. SpellEach Spells ds (xs ++ x ∷ [])) (sym (ap items_view (take_item vs i v within is) ∙ items_view-last (take i vs) v)) (spell_each-last Spells (items_view (take i vs)) (view v) xs x h k)
-
-  -- values of which one spells nothing spell no list
-  pub spell_each-none : ((x : X) → Spells (view v) x → ⊥) → (xs : List X) → SpellEach Spells (items_view vs) xs → ⊥
-  spell_each-none never xs h =
-      let split : vs ≡ take i vs ++ v ∷ drop (i + 1) vs =
-      sym (take-append-drop i vs) ∙ ap (λ ws. take i vs ++ ws) (drop_more vs i v within ∙ ap (λ w. w ∷ drop (i + 1) vs) (sym is)) in
-      spell_each-at Spells (take i vs) (drop (i + 1) vs) v never xs (subst (λ ws. SpellEach Spells (items_view ws) xs) split h)
-
--- ---- lists that are written value by value
-
--- values are those of these things, and spell them
-pub record AreSpelled {X : Type 0} (Spells : Data → X → Type 0) (all : List X → Items) (vs : List Value) (xs : List X) : Type 0 where
-  pub values : items_view vs ≡ all xs
-  pub spelled : SpellEach Spells (all xs) xs
-
-module _ {X : Type 0} (Spells : Data → X → Type 0) (all : List X → Items) (datum : X → Data) (last : (xs : List X) (x : X) → all (xs ++ x ∷ []) ≡ then_item (all xs) (datum x)) where
-  pub one_more_spelled : (vs : List Value) (xs : List X) (v : Value) (x : X) → AreSpelled Spells all vs xs → view v ≡ datum x → Spells (datum x) x → AreSpelled Spells all (vs ++ v ∷ []) (xs ++ x ∷ [])
-  one_more_spelled vs xs v x h is spells = record {
-    values = items_view-last vs v ∙ ap₂ then_item h.values is ∙ sym (last xs x);
-    spelled = subst (λ ds. SpellEach Spells ds (xs ++ x ∷ [])) (sym (last xs x)) (spell_each-last Spells (all xs) (datum x) xs x h.spelled spells);
-  }
+-- what a function gives is one thing
+pub one_given : {X : Type 0} (f : Data → Option X) (d : Data) (x y : X) → Gives f d x → Gives f d y → x ≡ y
+one_given f d x y h k = same_Some x y (sym h ∙ k)

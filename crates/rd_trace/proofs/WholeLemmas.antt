@@ -18,14 +18,15 @@ use Rattle.rd_step.specs.declared.entries.Event.{Event}
 use Rattle.rd_step.specs.declared.parts.Parts.{Parts}
 use Rattle.rd_marks.specs.Names.{bytes_of}
 use Rattle.rd_marks.specs.Books.{Mark, BookState}
+use Rattle.rd_trace.specs.Spelled.{items_by}
 use Rattle.rd_trace.specs.Names.{name_data, next_data}
-use Rattle.rd_script.specs.Actors.{label}
-use Rattle.rd_trace.specs.Events.{short_data, long_data, act_data, events_data}
-use Rattle.rd_trace.specs.Actors.{value_data, op_data, actor_data, actors_data}
-use Rattle.rd_trace.specs.Segments.{cell_data, cells_data, segment_data, segments_data, makers_data}
-use Rattle.rd_trace.specs.Arrays.{filled_slots, content_data, slots_data, array_data}
+use Rattle.rd_actor.specs.Labels.{label}
+use Rattle.rd_trace.specs.Events.{short_data, long_data, act_data, event_data}
+use Rattle.rd_trace.specs.Actors.{value_data, op_data, actor_data}
+use Rattle.rd_trace.specs.Segments.{cell_data, segment_data, list_data}
+use Rattle.rd_trace.specs.Arrays.{filled_slots, content_data, slot_data, array_data}
 use Rattle.rd_trace.specs.Starts.{IsStartData, fresh_data, parts_data}
-use Rattle.rd_trace.specs.Bookmarks.{mark_data, marks_data}
+use Rattle.rd_trace.specs.Bookmarks.{mark_data}
 use Rattle.rd_trace.specs.Saved.{book_data}
 
 -- a value has no float, and is at most so deep; so are items, and members
@@ -72,6 +73,10 @@ module _ (n : ℕ) where
   object_plain : {ms : Members} → AreMembersPlain n ms → IsPlain (suc n) (object ms)
   object_plain h = record { whole = h.whole; shallow = omega (arith, h.shallow) }
 
+each_plain : {X : Type 0} (n : ℕ) (datum : X → Data) → ((x : X) → IsPlain n (datum x)) → (xs : List X) → ArePlain n (items_by datum xs)
+each_plain n datum plain [] = none n
+each_plain n datum plain (x ∷ xs) = more n (plain x) (each_plain n datum plain xs)
+
 -- ---- names, values and events
 
 module _ (n : ℕ) where
@@ -100,9 +105,8 @@ module _ (n : ℕ) where
   act_plain actor Go = short_plain (codes "go") actor
   act_plain actor (Starve choice) = long_plain (codes "starve") actor (boolean_plain n choice)
 
-  events_plain : (es : List Event) → ArePlain (suc n) (events_data es)
-  events_plain [] = none (suc n)
-  events_plain (e ∷ es) = more (suc n) (act_plain e.actor e.act) (events_plain es)
+  events_plain : (es : List Event) → ArePlain (suc n) (items_by event_data es)
+  events_plain = each_plain (suc n) event_data (λ e. act_plain e.actor e.act)
 
 -- ---- actors
 
@@ -123,33 +127,20 @@ module _ (n : ℕ) where
       object_plain m
       (with_member m (boolean_plain m a.closed) (with_member m (name_plain n a.crq) (with_member m (number_plain m a.h) (with_member m (number_plain m a.idx) names))))
 
-  actors_plain : (xs : List Actor) → ArePlain (suc (suc n)) (actors_data xs)
-  actors_plain [] = none (suc (suc n))
-  actors_plain (a ∷ xs) = more (suc (suc n)) (actor_plain a) (actors_plain xs)
-
 -- ---- segments
 
 module _ (n : ℕ) where
   cell_plain : (c : Cell) → IsPlain (suc n) (cell_data c)
   cell_plain c = array_plain n (more n (boolean_plain n c.safe) (more n (number_plain n c.idx) (more n (value_plain n c.val) (none n))))
 
-  cells_plain : (cs : List Cell) → ArePlain (suc n) (cells_data cs)
-  cells_plain [] = none (suc n)
-  cells_plain (c ∷ cs) = more (suc n) (cell_plain c) (cells_plain cs)
-
   segment_plain : {R : ℕ} (s : SegmentParts R) → IsPlain (suc (suc (suc n))) (segment_data s)
   segment_plain s =
       let m = suc (suc n) in
       let ends = with_member m (next_plain (suc n) s.next) (with_member m (number_plain m s.tail) (no_member m)) in
-      object_plain m (with_member m (array_plain (suc n) (cells_plain s.cells)) (with_member m (boolean_plain m s.closed) (with_member m (number_plain m s.head) ends)))
+      object_plain m (with_member m (array_plain (suc n) (each_plain (suc n) cell_data cell_plain s.cells)) (with_member m (boolean_plain m s.closed) (with_member m (number_plain m s.head) ends)))
 
-  segments_plain : {R : ℕ} (ss : List (SegmentParts R)) → ArePlain (suc (suc (suc n))) (segments_data ss)
-  segments_plain [] = none (suc (suc (suc n)))
-  segments_plain (s ∷ ss) = more (suc (suc (suc n))) (segment_plain s) (segments_plain ss)
-
-  makers_plain : {R : ℕ} (lists : List (Vec (SegmentParts R) Global)) → ArePlain (suc (suc (suc (suc n)))) (makers_data lists)
-  makers_plain [] = none (suc (suc (suc (suc n))))
-  makers_plain (list ∷ lists) = more (suc (suc (suc (suc n)))) (array_plain (suc (suc (suc n))) (segments_plain list.items)) (makers_plain lists)
+  list_plain : {R : ℕ} (list : Vec (SegmentParts R) Global) → IsPlain (suc (suc (suc (suc n)))) (list_data list)
+  list_plain list = let m = suc (suc (suc n)) in array_plain m (each_plain m segment_data segment_plain list.items)
 
 -- ---- the array
 
@@ -159,21 +150,20 @@ module _ (n : ℕ) where
   content_plain Top = string_plain n (codes "top")
   content_plain (Value x) = number_plain n x
 
-  slots_plain : (ss : List (ℕ × ArrSlot)) → ArePlain (suc n) (slots_data ss)
-  slots_plain [] = none (suc n)
-  slots_plain (s ∷ ss) = more (suc n) (array_plain n (more n (number_plain n s.0) (more n (content_plain s.1) (none n)))) (slots_plain ss)
+  slot_plain : (s : ℕ × ArrSlot) → IsPlain (suc n) (slot_data s)
+  slot_plain s = array_plain n (more n (number_plain n s.0) (more n (content_plain s.1) (none n)))
 
   whole_array_plain : (a : ArrayParts) → IsPlain (suc (suc (suc n))) (array_data a)
   whole_array_plain a =
       let m = suc (suc n) in
-      object_plain m (with_member m (array_plain (suc n) (slots_plain (filled_slots 0 a.cells))) (with_member m (number_plain m a.head) (with_member m (number_plain m a.tail) (no_member m))))
+      object_plain m (with_member m (array_plain (suc n) (each_plain (suc n) slot_data slot_plain (filled_slots 0 a.cells))) (with_member m (number_plain m a.head) (with_member m (number_plain m a.tail) (no_member m))))
 
 -- ---- starts
 
 parts_plain : {R : ℕ} (p : Parts R) → IsPlain 6 (parts_data p)
 parts_plain p =
-    let names = with_member 5 (name_plain 4 p.qhead) (with_member 5 (name_plain 4 p.qtail) (with_member 5 (array_plain 4 (makers_plain 0 p.segments.items)) (no_member 5))) in
-    object_plain 5 (with_member 5 (array_plain 4 (actors_plain 2 p.actors.items)) (with_member 5 (whole_array_plain 2 p.array) names))
+    let names = with_member 5 (name_plain 4 p.qhead) (with_member 5 (name_plain 4 p.qtail) (with_member 5 (array_plain 4 (each_plain 4 list_data (list_plain 0) p.segments.items)) (no_member 5))) in
+    object_plain 5 (with_member 5 (array_plain 4 (each_plain 4 actor_data (actor_plain 2) p.actors.items)) (with_member 5 (whole_array_plain 2 p.array) names))
 
 fresh_plain : (count : ℕ) → IsPlain 6 (fresh_data count)
 fresh_plain count = object_plain 5 (with_member 5 (number_plain 5 count) (no_member 5))
@@ -189,15 +179,11 @@ mark_plain n m =
     let k = suc (suc n) in
     object_plain k (with_member k (array_plain (suc n) (events_plain n m.events)) (with_member k (string_plain k (bytes_of m.name)) (no_member k)))
 
-marks_plain : (n : ℕ) (ms : List Mark) → ArePlain (suc (suc (suc n))) (marks_data ms)
-marks_plain n [] = none (suc (suc (suc n)))
-marks_plain n (m ∷ ms) = more (suc (suc (suc n))) (mark_plain n m) (marks_plain n ms)
-
 book_plain : (R : ℕ) (start : Data) (b : BookState) → IsPlain 6 start → IsPlain 7 (book_data R start b)
 book_plain R start b h =
     let undone = with_member 6 (array_plain 5 (events_plain 4 b.session.undone)) (with_member 6 (number_plain 6 2) (no_member 6)) in
     let ring = with_member 6 (number_plain 6 R) (with_member 6 h undone) in
-    object_plain 6 (with_member 6 (array_plain 5 (events_plain 4 b.session.live)) (with_member 6 (array_plain 5 (marks_plain 2 b.marks)) ring))
+    object_plain 6 (with_member 6 (array_plain 5 (events_plain 4 b.session.live)) (with_member 6 (array_plain 5 (each_plain 5 mark_data (mark_plain 2) b.marks)) ring))
 
 -- no number of a book's value is a float
 pub whole_book : (R : ℕ) (start : Data) (b : BookState) → IsStartData R b.session.start start → has_float (book_data R start b) ≡ false

@@ -1,16 +1,13 @@
 -- Actors as values: an object with a member for each word of an actor's record.
-use Rattle.std.specs.Prelude.{◌≡◌, ℕ, List, [], ◌∷◌, codes, bytes_eq, if◌then◌else◌, Option, Some, None, option_map, option_and_then, Result, Ok, Err, Vec}
-use Rattle.std.specs.Global.{Global}
+use Rattle.std.specs.Prelude.{◌≡◌, ℕ, List, codes, bytes_eq, if◌then◌else◌, Option, Some, None, option_map, option_and_then}
 use Rattle.serde_json.specs.Data.{Data, null, boolean, number, string, array, object, unsigned, Items, no_items, item, no_members, member}
 use Rattle.serde_json.specs.Find.{get, as_str, as_u64}
 use Rattle.rd_actor.specs.declared.actors.Actor.{Actor}
 use Rattle.rd_actor.specs.declared.actors.Op.{Op}
 use Rattle.rd_actor.specs.declared.actors.Op.TheVariants.{Enq, Deq, AEnq, ADeq}
-use Rattle.rd_script.specs.Actors.{label}
-use Rattle.rd_trace.specs.Numbers.{whole_number, member_count, number_at, byte_at, bit_at, text_at, SpellEach}
+use Rattle.rd_actor.specs.Labels.{label}
+use Rattle.rd_trace.specs.Numbers.{whole_number, member_count, number_at, byte_at, bit_at, text_at}
 use Rattle.rd_trace.specs.Names.{name_at, name_data}
-use Rattle.rd_trace.specs.declared.faults.FormFault.{FormFault}
-use Rattle.rd_trace.specs.declared.faults.FormFault.TheVariants.{NoMemory, BadForm}
 
 -- the value of a cell or of an actor, or that there is none
 abbrev pub value_of : Data → Option (Option ℕ)
@@ -92,13 +89,3 @@ actor_data a = object (
     (member (codes "safe") (boolean a.safe)
     (member (codes "t") (number (unsigned a.t))
     (member (codes "val") (value_data a.val) no_members))))))))))))
-
-abbrev pub actors_data : List Actor → Items
-actors_data [] = no_items
-actors_data (a ∷ rest) = item (actor_data a) (actors_data rest)
-
--- what is read of a list of actors
-abbrev pub ReadsActors : Items → Result (Vec Actor Global) FormFault → Type 0
-ReadsActors ds (Ok actors) = SpellEach IsActor ds actors.items
-ReadsActors ds (Err NoMemory) = Unit {0}
-ReadsActors ds (Err BadForm) = (actors : List Actor) → SpellEach IsActor ds actors → ⊥

@@ -5,7 +5,8 @@ use Rattle.serde_json.specs.Find.{as_array, as_u64}
 use Rattle.rd_cell.specs.declared.contents.ArrSlot.{ArrSlot}
 use Rattle.rd_cell.specs.declared.contents.ArrSlot.TheVariants.{Empty, Top, Value}
 use Rattle.rd_segments.specs.declared.array.ArrayParts.{ArrayParts}
-use Rattle.rd_trace.specs.Numbers.{whole_number, member_count, number_at, list_at}
+use Rattle.rd_trace.specs.Numbers.{whole_number, member_count, number_at}
+use Rattle.rd_trace.specs.Spelled.{Gives, SpellEachAt, items_by}
 
 -- what a value says of a slot that isn't empty
 abbrev pub slot_content : Data → Option ArrSlot
@@ -26,11 +27,6 @@ slot_of_items (item i (item s (item more rest))) = None
 abbrev pub slot_of : Data → Option (ℕ × ArrSlot)
 slot_of d = option_and_then slot_of_items (as_array d)
 
--- those that values spell, each one in its place
-abbrev pub slots_of : Items → Option (List (ℕ × ArrSlot))
-slots_of no_items = Some []
-slots_of (item d ds) = option_and_then (λ s. option_map (λ ss. s ∷ ss) (slots_of ds)) (slot_of d)
-
 -- the slots that aren't empty with their positions, the first one standing at this position
 abbrev pub filled_slots : ℕ → List ArrSlot → List (ℕ × ArrSlot)
 filled_slots i [] = []
@@ -41,7 +37,7 @@ filled_slots i (Value x ∷ slots) = (i, Value x) ∷ filled_slots (suc i) slots
 -- a value is an object of three members: the counters, and the slots that aren't empty, their positions rising
 pub record IsArray (d : Data) (a : ArrayParts) : Type 0 where
   pub members : member_count d ≡ Some 3
-  pub cells : option_and_then slots_of (list_at (codes "cells") d) ≡ Some (filled_slots 0 a.cells)
+  pub cells : SpellEachAt (Gives slot_of) (codes "cells") d (filled_slots 0 a.cells)
   pub head : number_at (codes "head") d ≡ Some a.head
   pub tail : number_at (codes "tail") d ≡ Some a.tail
 
@@ -52,16 +48,12 @@ content_data Top = string (codes "top")
 content_data (Value x) = number (unsigned x)
 
 -- the value of a slot with its position
-abbrev pub slot_data : ℕ → ArrSlot → Data
-slot_data position slot = array (item (number (unsigned position)) (item (content_data slot) no_items))
-
-abbrev pub slots_data : List (ℕ × ArrSlot) → Items
-slots_data [] = no_items
-slots_data (s ∷ ss) = item (slot_data s.0 s.1) (slots_data ss)
+abbrev pub slot_data : ℕ × ArrSlot → Data
+slot_data s = array (item (number (unsigned s.0)) (item (content_data s.1) no_items))
 
 -- the value that the array is written as
 abbrev pub array_data : ArrayParts → Data
 array_data a = object (
-    member (codes "cells") (array (slots_data (filled_slots 0 a.cells)))
+    member (codes "cells") (array (items_by slot_data (filled_slots 0 a.cells)))
     (member (codes "head") (number (unsigned a.head))
     (member (codes "tail") (number (unsigned a.tail)) no_members)))

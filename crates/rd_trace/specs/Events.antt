@@ -1,14 +1,11 @@
 -- Events as values: which values spell which events, and the value that an event is written as.
-use Rattle.std.specs.Prelude.{◌≡◌, ℕ, List, [], ◌∷◌, codes, bytes_eq, if◌then◌else◌, Option, Some, None, option_map, option_and_then, Result, Ok, Err, Vec}
-use Rattle.std.specs.Global.{Global}
+use Rattle.std.specs.Prelude.{ℕ, List, codes, bytes_eq, if◌then◌else◌, Option, Some, None, option_map, option_and_then}
 use Rattle.serde_json.specs.Data.{Data, boolean, number, string, array, unsigned, Items, no_items, item}
 use Rattle.serde_json.specs.Find.{as_bool, as_str, as_array}
 use Rattle.rd_step.specs.Prelude.{Act}
 use Rattle.rd_actor.specs.declared.actors.Act.TheVariants.{Enq, Deq, AEnq, ADeq, Go, Starve}
 use Rattle.rd_step.specs.declared.entries.Event.{Event}
-use Rattle.rd_trace.specs.Numbers.{whole_number, byte_number, list_at}
-use Rattle.rd_trace.specs.declared.faults.FormFault.{FormFault}
-use Rattle.rd_trace.specs.declared.faults.FormFault.TheVariants.{NoMemory, BadForm}
+use Rattle.rd_trace.specs.Numbers.{whole_number, byte_number}
 
 -- the act that a word alone says
 abbrev pub act_of_word : List ℕ → Option Act
@@ -42,15 +39,6 @@ event_of_items (item word (item actor (item d (item more rest)))) = None
 abbrev pub event_of : Data → Option Event
 event_of d = option_and_then event_of_items (as_array d)
 
--- the events that values spell, each one in its place
-abbrev pub events_of : Items → Option (List Event)
-events_of no_items = Some []
-events_of (item d ds) = option_and_then (λ e. option_map (λ es. e ∷ es) (events_of ds)) (event_of d)
-
--- the events that the list at a key of an object spells
-abbrev pub events_at : List ℕ → Data → Option (List Event)
-events_at key d = option_and_then events_of (list_at key d)
-
 -- an event of a word alone
 abbrev pub short_data : List ℕ → ℕ → Data
 short_data word actor = array (item (string word) (item (number (unsigned actor)) no_items))
@@ -68,19 +56,6 @@ act_data actor ADeq = short_data (codes "adeq") actor
 act_data actor Go = short_data (codes "go") actor
 act_data actor (Starve choice) = long_data (codes "starve") actor (boolean choice)
 
--- the values of events
-abbrev pub events_data : List Event → Items
-events_data [] = no_items
-events_data (e ∷ es) = item (act_data e.actor e.act) (events_data es)
-
--- what is read of a list of events
-abbrev pub ReadsEvents : Items → Result (Vec Event Global) FormFault → Type 0
-ReadsEvents ds (Ok events) = events_of ds ≡ Some events.items
-ReadsEvents ds (Err NoMemory) = Unit {0}
-ReadsEvents ds (Err BadForm) = events_of ds ≡ None
-
--- what is read of the list at a key of an object
-abbrev pub ReadsEventsAt : List ℕ → Data → Result (Vec Event Global) FormFault → Type 0
-ReadsEventsAt key d (Ok events) = events_at key d ≡ Some events.items
-ReadsEventsAt key d (Err NoMemory) = Unit {0}
-ReadsEventsAt key d (Err BadForm) = events_at key d ≡ None
+-- the value that an event is written as
+abbrev pub event_data : Event → Data
+event_data e = act_data e.actor e.act

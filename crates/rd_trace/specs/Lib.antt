@@ -1,4 +1,5 @@
 pub mod Numbers
+pub mod Spelled
 pub mod Names
 pub mod Events
 pub mod Actors

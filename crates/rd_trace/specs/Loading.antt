@@ -1,5 +1,5 @@
 -- What loading a text gives: a book, or why there is none.
-use Rattle.std.specs.Prelude.{◌≡◌, ℕ, List, [], ◌++◌, ◌⊎◌, Some, None, Result, Ok, Err}
+use Rattle.std.specs.Prelude.{◌≡◌, ℕ, List, [], ◌++◌, Some, None, Result, Ok, Err}
 use Rattle.rd_marks.specs.Books.{BookState}
 use Rattle.rd_marks.specs.BookViews.{book_state}
 use Rattle.rd_marks.specs.declared.books.Book.{Book}
@@ -12,7 +12,7 @@ use Rattle.rd_trace.specs.declared.faults.FormFault.{FormFault}
 use Rattle.rd_trace.specs.declared.faults.FormFault.TheVariants.{NoMemory as FormNoMemory, BadForm}
 use Rattle.rd_step.specs.Starts.{fresh_world}
 use Rattle.rd_trace.specs.Starts.{start_world, start_flaw}
-use Rattle.rd_trace.specs.Saved.{Trace, IsFirstTrace, IsSecondTrace, IsTraceText, loaded_state, IsSameBook}
+use Rattle.rd_trace.specs.Saved.{Trace, IsEither, IsTraceText, loaded_state, IsSameBook}
 use Rattle.rd_marks.specs.Rules.{GoThrough, MarksGoThrough}
 use Rattle.rd_trace.specs.Traces.{IsRefusedAt, IsMarkRefusedAt}
 
@@ -64,8 +64,8 @@ Replays {R} IsBook t (Err (TraceStep n cause)) = HasMarks t × IsRefusedAt R (st
 -- what loading the value of a text gives
 abbrev pub LoadsValue : {R : ℕ} → Data → Result (Book R) LoadTraceFault → Type 0
 LoadsValue d (Err NoMemory) = Unit {0}
-LoadsValue {R} d (Err BadTrace) = (t : Trace R) → IsFirstTrace d t ⊎ IsSecondTrace d t → ⊥
-LoadsValue {R} d result = (t : Trace R) × (IsFirstTrace d t ⊎ IsSecondTrace d t) × Replays (λ (book : Book R). book_state book ≡ loaded_state t) t result
+LoadsValue {R} d (Err BadTrace) = (t : Trace R) → IsEither d t → ⊥
+LoadsValue {R} d result = (t : Trace R) × IsEither d t × Replays (λ (book : Book R). book_state book ≡ loaded_state t) t result
 
 -- what loading a text gives: what making the trace happen gives that the text is; BadTrace, if it is none
 abbrev pub LoadsTrace : List ℕ → Result AnyBook LoadTraceFault → Type 0

@@ -1,6 +1,6 @@
 -- Whole numbers, bits, texts and lists in values of serde_json. An object of serde_json has each key once.
-use Rattle.std.specs.Prelude.{◌≡◌, ℕ, List, [], ◌∷◌, nat_le, if◌then◌else◌, Bool, Option, Some, None, option_map, option_and_then}
-use Rattle.serde_json.specs.Data.{Data, Items, no_items, item}
+use Rattle.std.specs.Prelude.{ℕ, List, nat_le, if◌then◌else◌, Bool, Option, Some, None, option_map, option_and_then}
+use Rattle.serde_json.specs.Data.{Data, Items}
 use Rattle.serde_json.specs.Events.{members_len}
 use Rattle.serde_json.specs.Find.{get, as_bool, as_number, as_str, as_array, as_object, as_u64}
 
@@ -35,14 +35,3 @@ text_at key d = option_and_then as_str (get key d)
 
 abbrev pub list_at : List ℕ → Data → Option Items
 list_at key d = option_and_then as_array (get key d)
-
--- each value of a list spells the thing at its place, and there are as many
-abbrev pub SpellEach : {X : Type 0} → (Data → X → Type 0) → Items → List X → Type 0
-SpellEach Spells no_items [] = Unit {0}
-SpellEach Spells no_items (x ∷ xs) = ⊥
-SpellEach Spells (item d ds) [] = ⊥
-SpellEach Spells (item d ds) (x ∷ xs) = Spells d x × SpellEach Spells ds xs
-
--- each value of the list at a key does so
-abbrev pub SpellEachAt : {X : Type 0} → (Data → X → Type 0) → List ℕ → Data → List X → Type 0
-SpellEachAt Spells key d xs = (ds : Items) × (list_at key d ≡ Some ds) × SpellEach Spells ds xs

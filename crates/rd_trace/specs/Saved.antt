@@ -1,24 +1,21 @@
 -- Whole sessions as values and as texts: version 1, which is only read, and version 2, which is read and written.
-use Rattle.std.specs.Prelude.{◌≡◌, ◌⊎◌, ℕ, List, [], ◌∷◌, ◌++◌, map, codes, Some, None, Result, Ok, Err, IsUtf8}
+use Rattle.std.specs.Prelude.{◌≡◌, ◌⊎◌, ℕ, List, [], ◌∷◌, ◌++◌, map, codes, Some, None, IsUtf8}
 use Rattle.serde_json.specs.Data.{Data, number, array, object, unsigned, Items, no_members, member}
 use Rattle.serde_json.specs.Find.{get}
 use Rattle.serde_json.specs.Read.{read}
-use Rattle.serde_json.specs.View.{view}
 use Rattle.serde_json.specs.Written.{compact_text}
-use Rattle.serde_json.specs.declared.value.Value.{Value}
 use Rattle.rd_step.specs.declared.entries.Event.{Event}
 use Rattle.rd_marks.specs.Names.{bytes_of}
 use Rattle.rd_marks.specs.Books.{Mark, BookState}
 use Rattle.rd_trace.specs.Numbers.{member_count, number_at, list_at}
-use Rattle.rd_trace.specs.Events.{events_at, events_data}
+use Rattle.rd_trace.specs.Spelled.{Gives, SpellEachAt, items_by}
+use Rattle.rd_trace.specs.Events.{event_of, event_data}
 use Rattle.rd_trace.specs.Starts.{IsStart, IsActorCount, IsStartData, start_world, start_flaw}
-use Rattle.rd_trace.specs.Bookmarks.{AreMarks, marks_data, saved_mark}
+use Rattle.rd_trace.specs.Bookmarks.{AreMarks, mark_data, saved_mark}
 use Rattle.rd_trace.specs.Traces.{IsTraceRing}
 use Rattle.rd_trace.specs.declared.starts.Start.{Start}
 use Rattle.rd_trace.specs.declared.starts.Start.TheVariants.{Fresh}
 use Rattle.rd_trace.specs.declared.saved.SavedSession.{SavedSession}
-use Rattle.rd_trace.specs.declared.faults.FormFault.{FormFault}
-use Rattle.rd_trace.specs.declared.faults.FormFault.TheVariants.{NoMemory, BadForm}
 
 -- a session over rings of so many cells that is handed on: where it begins, its bookmarks, its live and its undone events
 pub record Trace (R : ℕ) : Type 0 where
@@ -54,7 +51,7 @@ pub record IsFirstTrace {R : ℕ} (d : Data) (t : Trace R) : Type 0 where
   pub version : number_at (codes "version") d ≡ Some 1
   pub ring : number_at (codes "ring") d ≡ Some R
   pub actors : (count : ℕ) × IsActorCount (codes "actors") d count × (t.start ≡ Fresh count)
-  pub live : events_at (codes "events") d ≡ Some t.live
+  pub live : SpellEachAt (Gives event_of) (codes "events") d t.live
   pub marks : t.marks ≡ []
   pub undone : t.undone ≡ []
 
@@ -65,12 +62,20 @@ pub record IsSecondTrace {R : ℕ} (d : Data) (t : Trace R) : Type 0 where
   pub ring : number_at (codes "ring") d ≡ Some R
   pub start : (e : Data) × (get (codes "start") d ≡ Some e) × IsStart e t.start
   pub marks : (ds : Items) × (list_at (codes "marks") d ≡ Some ds) × AreMarks ds t.marks
-  pub live : events_at (codes "events") d ≡ Some t.live
-  pub undone : events_at (codes "undone") d ≡ Some t.undone
+  pub live : SpellEachAt (Gives event_of) (codes "events") d t.live
+  pub undone : SpellEachAt (Gives event_of) (codes "undone") d t.undone
+
+-- a value is a trace of either version
+abbrev pub IsEither : {R : ℕ} → Data → Trace R → Type 0
+IsEither d t = IsFirstTrace d t ⊎ IsSecondTrace d t
 
 -- a value is a trace, over rings that a trace may have
 abbrev pub IsTrace : {R : ℕ} → Data → Trace R → Type 0
-IsTrace {R} d t = IsTraceRing R × (IsFirstTrace d t ⊎ IsSecondTrace d t)
+IsTrace {R} d t = IsTraceRing R × IsEither d t
+
+-- a text is JSON, and its value is this one
+abbrev pub HasValue : List ℕ → Data → Type 0
+HasValue text d = IsUtf8 text × (read text ≡ Some d)
 
 -- a text is a trace: it is JSON, and its value is one
 abbrev pub IsTraceText : {R : ℕ} → List ℕ → Trace R → Type 0
@@ -79,23 +84,6 @@ IsTraceText text t = IsUtf8 text × (d : Data) × (read text ≡ Some d) × IsTr
 -- a value is a trace of version 2 of this state, whose start has no flaw
 abbrev pub SpellsBook : ℕ → BookState → Data → Type 0
 SpellsBook R b d = (t : Trace R) × IsSecondTrace d t × (start_flaw t.start ≡ None) × (loaded_state t ≡ b)
-
--- what is read of a value that has this ring
-abbrev pub ReadsTrace : {R : ℕ} → Data → Result (SavedSession R) FormFault → Type 0
-ReadsTrace d (Ok s) = IsFirstTrace d (saved_trace s) ⊎ IsSecondTrace d (saved_trace s)
-ReadsTrace d (Err NoMemory) = Unit {0}
-ReadsTrace {R} d (Err BadForm) = (t : Trace R) → IsFirstTrace d t ⊎ IsSecondTrace d t → ⊥
-
--- what is read of one of version 1, and of one of version 2
-abbrev pub ReadsFirst : {R : ℕ} → Data → Result (SavedSession R) FormFault → Type 0
-ReadsFirst d (Ok s) = IsFirstTrace d (saved_trace s)
-ReadsFirst d (Err NoMemory) = Unit {0}
-ReadsFirst {R} d (Err BadForm) = (t : Trace R) → IsFirstTrace d t → ⊥
-
-abbrev pub ReadsSecond : {R : ℕ} → Data → Result (SavedSession R) FormFault → Type 0
-ReadsSecond d (Ok s) = IsSecondTrace d (saved_trace s)
-ReadsSecond d (Err NoMemory) = Unit {0}
-ReadsSecond {R} d (Err BadForm) = (t : Trace R) → IsSecondTrace d t → ⊥
 
 -- the object of the values of a book's parts
 abbrev pub book_object : Items → Items → ℕ → Data → Items → Data
@@ -109,14 +97,8 @@ book_object events marks cells start undone = object (
 
 -- the value that a book is written as, its start being written as this one
 abbrev pub book_data : ℕ → Data → BookState → Data
-book_data R start b = book_object (events_data b.session.live) (marks_data b.marks) R start (events_data b.session.undone)
+book_data R start b = book_object (items_by event_data b.session.live) (items_by mark_data b.marks) R start (items_by event_data b.session.undone)
 
 -- a text is what a book is written as: JSON without a space, its keys in the order of the alphabet, and a line feed
 abbrev pub IsWrittenAs : ℕ → BookState → List ℕ → Type 0
 IsWrittenAs R b text = (start : Data) × IsStartData R b.session.start start × (text ≡ compact_text (book_data R start b) ++ 10 ∷ [])
-
--- what is read of a text: the value that it is as JSON
-abbrev pub ReadsText : List ℕ → Result Value FormFault → Type 0
-ReadsText text (Ok value) = IsUtf8 text × (read text ≡ Some (view value))
-ReadsText text (Err NoMemory) = Unit {0}
-ReadsText text (Err BadForm) = (d : Data) → IsUtf8 text → read text ≡ Some d → ⊥

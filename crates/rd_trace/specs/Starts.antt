@@ -1,31 +1,21 @@
 -- The start of a session as a value: the fresh world of so many actors, or the parts of any other world.
-use Rattle.std.specs.Prelude.{◌≡◌, ◌≢◌, ◌≤◌, ◌<◌, ◌⊎◌, ℕ, suc, List, length, slice_get, slice_index_or, codes, Option, Some, None, Result, Ok, Err}
+use Rattle.std.specs.Prelude.{◌≡◌, ◌≤◌, ◌⊎◌, ℕ, List, codes, Option, Some, None}
 use Rattle.serde_json.specs.Data.{Data, number, array, object, unsigned, Items, no_members, member}
 use Rattle.serde_json.specs.Find.{get}
-use Rattle.rd_cell.specs.declared.cells.Cell.{Cell}
-use Rattle.rd_cell.specs.declared.places.SegName.{SegName}
-use Rattle.rd_cell.specs.declared.places.Place.{Place}
-use Rattle.rd_cell.specs.Places.{root}
-use Rattle.rd_cell.specs.Cells.{new_cell}
-use Rattle.rd_cell.specs.Contents.{fresh}
-use Rattle.rd_ring.specs.declared.parts.SegmentParts.{SegmentParts}
 use Rattle.rd_segments.specs.declared.array.ArrayParts.{ArrayParts}
-use Rattle.rd_segments.specs.Lists.{by_name}
-use Rattle.rd_segments.specs.Parts.{PartsOf, part_of_parts}
 use Rattle.rd_step.specs.Prelude.{World, MOST_ACTORS}
 use Rattle.rd_step.specs.Starts.{fresh_world}
 use Rattle.rd_step.specs.Parts.{world_of_parts, first_flaw}
 use Rattle.rd_step.specs.declared.parts.Parts.{Parts}
 use Rattle.rd_step.specs.declared.flaws.Flaw.{Flaw}
-use Rattle.rd_trace.specs.Numbers.{member_count, number_at, SpellEachAt}
+use Rattle.rd_trace.specs.Numbers.{member_count, number_at}
+use Rattle.rd_trace.specs.Spelled.{SpellEachAt, items_by}
 use Rattle.rd_trace.specs.Names.{name_at, name_data}
-use Rattle.rd_trace.specs.Actors.{IsActor, actors_data}
-use Rattle.rd_trace.specs.Segments.{IsSegmentList, makers_data}
+use Rattle.rd_trace.specs.Actors.{IsActor, actor_data}
+use Rattle.rd_trace.specs.Segments.{IsSegmentList, list_data}
 use Rattle.rd_trace.specs.Arrays.{IsArray, array_data}
 use Rattle.rd_trace.specs.declared.starts.Start.{Start}
 use Rattle.rd_trace.specs.declared.starts.Start.TheVariants.{Fresh, Parts as OfParts}
-use Rattle.rd_trace.specs.declared.faults.FormFault.{FormFault}
-use Rattle.rd_trace.specs.declared.faults.FormFault.TheVariants.{NoMemory, BadForm}
 
 -- this number, 1 to 16, of actors stands at a key of an object
 pub record IsActorCount (key : List ℕ) (d : Data) (count : ℕ) : Type 0 where
@@ -71,17 +61,6 @@ abbrev pub start_flaw : {R : ℕ} → Start R → Option Flaw
 start_flaw (Fresh count) = None
 start_flaw (OfParts p) = first_flaw p
 
--- what is read of a value
-abbrev pub ReadsStart : {R : ℕ} → Data → Result (Start R) FormFault → Type 0
-ReadsStart d (Ok start) = IsStart d start
-ReadsStart d (Err NoMemory) = Unit {0}
-ReadsStart {R} d (Err BadForm) = (start : Start R) → IsStart d start → ⊥
-
-abbrev pub ReadsParts : {R : ℕ} → Data → Result (Parts R) FormFault → Type 0
-ReadsParts d (Ok parts) = IsParts d parts
-ReadsParts d (Err NoMemory) = Unit {0}
-ReadsParts {R} d (Err BadForm) = (parts : Parts R) → IsParts d parts → ⊥
-
 -- a value spells a start that has no flaw, and whose world is this one
 abbrev pub SpellsWorld : ℕ → World → Data → Type 0
 SpellsWorld R w d = (start : Start R) × IsStart d start × (start_flaw start ≡ None) × (start_world start ≡ w)
@@ -101,26 +80,10 @@ parts_object actors slots qhead qtail segments = object (
 
 -- the value that parts are written as
 abbrev pub parts_data : {R : ℕ} → Parts R → Data
-parts_data p = parts_object (actors_data p.actors.items) (array_data p.array) (name_data p.qhead) (name_data p.qtail) (makers_data p.segments.items)
+parts_data p = parts_object (items_by actor_data p.actors.items) (array_data p.array) (name_data p.qhead) (name_data p.qtail) (items_by list_data p.segments.items)
 
 -- the value that a world is written as: as a fresh one just if it is the fresh world, and else as parts of it that have no flaw
 abbrev pub IsStartData : ℕ → World → Data → Type 0
 IsStartData R w d =
     ((count : ℕ) × (w ≡ fresh_world R count) × (1 ≤ count) × (count ≤ MOST_ACTORS) × (d ≡ fresh_data count))
     ⊎ (((count : ℕ) → w ≡ fresh_world R count → ⊥) × (p : Parts R) × (first_flaw p ≡ None) × (world_of_parts p ≡ w) × (d ≡ parts_data p))
-
--- ---- when parts are those of a fresh world. No public clause cites these
-
--- nothing was done to the cells of a ring
-abbrev pub AreFreshCells : List Cell → Type 0
-AreFreshCells cells = (k : ℕ) (d : Cell) → k < length cells → slice_index_or cells k d ≡ new_cell k None
-
--- there is just one segment, and nothing was done to it
-pub record IsFreshAlone {R : ℕ} (segments : List (SegmentParts R)) : Type 0 where
-  pub first : (q : Place) → part_of_parts (slice_get segments 0) q ≡ fresh R q
-  pub others : (n : ℕ) → slice_get segments (suc n) ≡ None
-
--- the root is the only segment, and nothing was done to it
-pub record HasFreshRootAlone {R : ℕ} (makers : List (PartsOf R)) : Type 0 where
-  pub at_root : (q : Place) → part_of_parts (by_name makers root) q ≡ fresh R q
-  pub alone : (s : SegName) → s ≢ root → by_name makers s ≡ None

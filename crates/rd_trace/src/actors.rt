@@ -3,21 +3,20 @@
 ghost use Rattle.std.specs.Prelude.{◌≡◌, Some, IfOk, OnOk, IfSome, IfNone};
 ghost use Rattle.serde_json.specs.Data.{number, string, unsigned};
 ghost use Rattle.serde_json.specs.Find.{as_str};
-ghost use Rattle.serde_json.specs.View.{view, items_view};
+ghost use Rattle.serde_json.specs.View.{view};
 ghost use Rattle.rd_actor.specs.declared.actors.Actor.{Actor};
 ghost use Rattle.rd_actor.specs.declared.actors.Pc.{Pc};
-ghost use Rattle.rd_script.specs.Actors.{label};
-ghost use Rattle.rd_trace.specs.Numbers.{byte_number, SpellEach};
-ghost use Rattle.rd_trace.specs.Actors.{op_of, short_op, long_op, op_data, value_of, IsActor, actor_data, actors_data, ReadsActors};
+ghost use Rattle.rd_actor.specs.Labels.{label};
+ghost use Rattle.rd_trace.specs.Numbers.{byte_number};
+ghost use Rattle.rd_trace.specs.Actors.{op_of, short_op, long_op, op_data, value_of, IsActor, actor_data};
 
 use super::faults::FormFault;
+use super::members::{bit_at, byte_in, member_count, number_at};
 use super::names::{name_in, name_value};
-use super::numbers::{bit_at, byte_in, member_count, number_at};
+use super::spelled::Spelled;
 use rd_actor::{Actor, Op, Pc};
-use rd_script::label_of;
 use serde_json::{Map, Value, json, put};
 use std::alloc::{AllocError, Global};
-use std::str;
 
 /// The members of an actor.
 const MEMBERS: usize = 12;
@@ -46,32 +45,18 @@ const T: &str = "t";
 
 const VAL: &str = "val";
 
-/// The actors that the values of a list spell, in their order.
-pub fn actors_in(alloc: Global, list: &Vec<Value>) -> Result<Vec<Actor>, FormFault>
-    ensures { ReadsActors (items_view list.now.items) result }
-{
-    let mut actors = Vec::with_capacity(alloc, list.len())?;
-    for value in list {
-        let Some(actor) = actor_in(value) else {
-            return Err(FormFault::BadForm);
-        };
-        if actors.push(actor).is_err() {
-            return Err(FormFault::NoMemory);
-        }
-    }
-    Ok(actors)
-}
+impl Spelled for Actor {
+    ghost spells = { IsActor };
 
-/// The values of actors, in order.
-pub fn actors_value(alloc: Global, actors: &[Actor]) -> Result<Vec<Value>, AllocError>
-    ensures values { IfOk result (λ values. items_view values.items ≡ actors_data actors.now) }
-    ensures spelled { OnOk result (SpellEach IsActor (actors_data actors.now) actors.now) }
-{
-    let mut values = Vec::with_capacity(alloc, actors.len())?;
-    for actor in actors {
-        values.push(actor_value(alloc, actor)?)?;
+    ghost datum = { actor_data };
+
+    fn read(_alloc: Global, value: &Value) -> Result<Actor, FormFault> {
+        actor_in(value).ok_or(FormFault::BadForm)
     }
-    Ok(values)
+
+    fn write(&self, alloc: Global) -> Result<Value, AllocError> {
+        actor_value(alloc, self)
+    }
 }
 
 /// The actor that a value spells.
@@ -189,64 +174,18 @@ fn op_value(alloc: Global, op: Option<Op>) -> Result<Value, AllocError>
     }
 }
 
-/// All control points.
-const POINTS: &[Pc] = &[
-    Pc::Idle,
-    Pc::E1,
-    Pc::E2,
-    Pc::E3,
-    Pc::E4,
-    Pc::E5,
-    Pc::E6,
-    Pc::E7,
-    Pc::E8,
-    Pc::E9,
-    Pc::E10,
-    Pc::E11,
-    Pc::E12,
-    Pc::E13,
-    Pc::E14,
-    Pc::Q1,
-    Pc::Q2,
-    Pc::Q3,
-    Pc::Q4,
-    Pc::Q5,
-    Pc::Q6,
-    Pc::Q7,
-    Pc::Q8,
-    Pc::Q9,
-    Pc::Q10,
-    Pc::Q11,
-    Pc::Q12,
-    Pc::Q13,
-    Pc::Q14,
-    Pc::A1,
-    Pc::A2,
-    Pc::B1,
-    Pc::B2,
-    Pc::B3,
-];
-
 /// The control point whose label a value is.
 fn pc_in(value: &Value) -> Option<Pc>
     ensures some { IfSome result (λ pc. as_str (view value.now) ≡ Some (label pc)) }
     ensures none { IfNone result ((pc : Pc) → as_str (view value.now) ≡ Some (label pc) → ⊥) }
 {
     let word = value.as_str()?;
-    for pc in POINTS {
-        if label_of(*pc) == word.as_bytes() {
-            return Some(*pc);
-        }
-    }
-    None
+    Pc::of_label(word)
 }
 
 /// The value of a control point: its label.
 fn pc_value(alloc: Global, pc: Pc) -> Result<Value, AllocError>
     ensures { IfOk result (λ value. view value ≡ string (label pc)) }
 {
-    match str::from_utf8(label_of(pc)) {
-        Err(_) => Ok(Value::Null),
-        Ok(label) => json!(in alloc; label),
-    }
+    Value::try_from_str(alloc, pc.label())
 }

@@ -1,13 +1,14 @@
 //! The array: an object with its counters and those of its slots that aren't empty, each with its position.
 
-ghost use Rattle.std.specs.Prelude.{◌≡◌, List, Some, IfOk, IfSome, IfNone, length};
+ghost use Rattle.std.specs.Prelude.{◌≡◌, List, IfOk, IfSome, IfNone, length};
 ghost use Rattle.serde_json.specs.View.{view, items_view};
 ghost use Rattle.rd_step.specs.Prelude.{SLOTS};
 ghost use Rattle.rd_cell.specs.declared.contents.ArrSlot.{ArrSlot};
 ghost use Rattle.rd_segments.specs.declared.array.ArrayParts.{ArrayParts};
-ghost use Rattle.rd_trace.specs.Arrays.{slot_content, slot_of, slots_of, content_data, slot_data, slots_data, filled_slots, IsArray, array_data};
+ghost use Rattle.rd_trace.specs.Spelled.{Gives, SpellEach, items_by};
+ghost use Rattle.rd_trace.specs.Arrays.{slot_content, slot_of, content_data, slot_data, filled_slots, IsArray, array_data};
 
-use super::numbers::{member_count, number_at};
+use super::members::{array_at, member_count, number_at};
 use rd_cell::ArrSlot;
 use rd_cell::limits::SLOTS;
 use rd_step::ArrayParts;
@@ -34,7 +35,7 @@ pub fn array_in(value: &Value) -> Option<ArrayParts>
     Some(ArrayParts {
         head: number_at(value, HEAD)?,
         tail: number_at(value, TAIL)?,
-        cells: slots_in(value.get(CELLS)?.as_array()?)?,
+        cells: slots_in(array_at(value, CELLS)?)?,
     })
 }
 
@@ -48,9 +49,9 @@ pub fn array_value(alloc: Global, array: &ArrayParts) -> Result<Value, AllocErro
 
 /// All slots, of which the values of a list spell those that aren't empty, their positions rising.
 fn slots_in(list: &Vec<Value>) -> Option<[ArrSlot; SLOTS]>
-    ensures some { IfSome result (λ slots. slots_of (items_view list.now.items) ≡ Some (filled_slots 0 slots)) }
+    ensures some { IfSome result (λ slots. SpellEach (Gives slot_of) (items_view list.now.items) (filled_slots 0 slots)) }
     ensures length { IfSome result (λ slots. length slots ≡ SLOTS) }
-    ensures none { IfNone result ((slots : List ArrSlot) → length slots ≡ SLOTS → slots_of (items_view list.now.items) ≡ Some (filled_slots 0 slots) → ⊥) }
+    ensures none { IfNone result ((slots : List ArrSlot) → length slots ≡ SLOTS → SpellEach (Gives slot_of) (items_view list.now.items) (filled_slots 0 slots) → ⊥) }
 {
     let mut slots = [ArrSlot::Empty; SLOTS];
     let mut free = 0;
@@ -67,7 +68,7 @@ fn slots_in(list: &Vec<Value>) -> Option<[ArrSlot; SLOTS]>
 
 /// The values of the slots that aren't empty, with their positions.
 fn slots_value(alloc: Global, slots: &[ArrSlot]) -> Result<Vec<Value>, AllocError>
-    ensures { IfOk result (λ values. items_view values.items ≡ slots_data (filled_slots 0 slots.now)) }
+    ensures { IfOk result (λ values. items_view values.items ≡ items_by slot_data (filled_slots 0 slots.now)) }
 {
     let mut values = Vec::new(alloc);
     for position in 0..slots.len() {
@@ -81,7 +82,7 @@ fn slots_value(alloc: Global, slots: &[ArrSlot]) -> Result<Vec<Value>, AllocErro
 
 /// The value of a slot with its position.
 fn slot_value(alloc: Global, position: usize, slot: ArrSlot) -> Result<Value, AllocError>
-    ensures { IfOk result (λ value. view value ≡ slot_data position slot) }
+    ensures { IfOk result (λ value. view value ≡ slot_data (position, slot)) }
 {
     let content = content_value(alloc, slot)?;
     json!(in alloc; [position as u64, content])

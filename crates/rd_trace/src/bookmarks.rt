@@ -1,6 +1,6 @@
 //! Bookmarks: an object with the name and the list of events.
 
-ghost use Rattle.std.specs.Prelude.{◌≡◌, Some, IfOk, OnOk, IfSome, IfNone, option_map};
+ghost use Rattle.std.specs.Prelude.{◌≡◌, IfOk, OnOk, IfSome, IfNone};
 ghost use Rattle.std.specs.List.{list_any};
 ghost use Rattle.serde_json.specs.View.{view, items_view};
 ghost use Rattle.rd_marks.specs.BookViews.{book_state};
@@ -8,13 +8,12 @@ ghost use Rattle.rd_marks.specs.Books.{mark_events};
 ghost use Rattle.rd_marks.specs.Names.{same_name};
 ghost use Rattle.rd_marks.specs.Rules.{KeepsRules};
 ghost use Rattle.rd_marks.specs.declared.names.MarkName.{MarkName};
-ghost use Rattle.rd_trace.specs.Numbers.{text_at};
-ghost use Rattle.rd_trace.specs.Events.{ReadsEventsAt};
-ghost use Rattle.rd_trace.specs.Bookmarks.{AreMarks, IsMark, ReadsMarks, ReadsMark, HasMarkName, marks_data, mark_data, mark_object};
+ghost use Rattle.rd_trace.specs.Spelled.{Reads, items_by};
+ghost use Rattle.rd_trace.specs.Bookmarks.{AreMarks, IsMark, HasMarkName, saved_mark, saved_marks, mark_data, mark_object};
 
-use super::events::{events_in, events_value};
 use super::faults::FormFault;
-use super::numbers::member_count;
+use super::members::{member_count, text_at};
+use super::spelled::{list_at, list_value};
 use rd_cell::limits::MOST_MARKS;
 use rd_marks::{Book, MarkName};
 use rd_step::Event;
@@ -39,7 +38,7 @@ pub struct SavedMark {
 
 /// The bookmarks that the values of a list spell, in their order: at most 64, with different names.
 pub fn marks_in(alloc: Global, list: &Vec<Value>) -> Result<Vec<SavedMark>, FormFault>
-    ensures { ReadsMarks (items_view list.now.items) result }
+    ensures { Reads saved_marks (AreMarks (items_view list.now.items)) result }
 {
     let count = list.len();
     if count > MOST_MARKS {
@@ -51,9 +50,7 @@ pub fn marks_in(alloc: Global, list: &Vec<Value>) -> Result<Vec<SavedMark>, Form
         if is_taken(&marks, mark.name) {
             return Err(FormFault::BadForm);
         }
-        if marks.push(mark).is_err() {
-            return Err(FormFault::NoMemory);
-        }
+        marks.push_reserved(mark);
     }
     Ok(marks)
 }
@@ -67,25 +64,15 @@ fn is_taken(marks: &[SavedMark], name: MarkName) -> bool
 
 /// The bookmark that a value spells.
 fn mark_in(alloc: Global, value: &Value) -> Result<SavedMark, FormFault>
-    ensures { ReadsMark (view value.now) result }
+    ensures { Reads saved_mark (IsMark (view value.now)) result }
 {
     let Some(name) = name_in(value) else {
         return Err(FormFault::BadForm);
     };
     Ok(SavedMark {
         name,
-        events: events_at(alloc, value, EVENTS)?,
+        events: list_at(alloc, value, EVENTS)?,
     })
-}
-
-/// The events that the list at a key of an object spells.
-pub fn events_at(alloc: Global, value: &Value, key: &str) -> Result<Vec<Event>, FormFault>
-    ensures { ReadsEventsAt key.now (view value.now) result }
-{
-    match value.get(key).and_then(Value::as_array) {
-        None => Err(FormFault::BadForm),
-        Some(list) => events_in(alloc, list),
-    }
 }
 
 /// The name of the bookmark that a value spells, if it has the members of one.
@@ -103,25 +90,19 @@ fn name_in(value: &Value) -> Option<MarkName>
     }
 }
 
-/// The text at a key of an object.
-fn text_at<'a>(value: &'a Value, key: &str) -> Option<&'a str>
-    ensures { option_map (λ text. text.now) result ≡ text_at key.now (view value.now) }
-{
-    value.get(key).and_then(Value::as_str)
-}
-
 /// The values of the bookmarks of a book, in order.
 pub fn marks_value<const R: usize>(alloc: Global, book: &Book<R>) -> Result<Vec<Value>, AllocError>
-    ensures values { IfOk result (λ values. items_view values.items ≡ marks_data (book_state book.now).marks) }
-    ensures spelled { OnOk result (AreMarks (marks_data (book_state book.now).marks) (book_state book.now).marks) }
+    ensures values { IfOk result (λ values. items_view values.items ≡ items_by mark_data (book_state book.now).marks) }
+    ensures spelled { OnOk result (AreMarks (items_by mark_data (book_state book.now).marks) (book_state book.now).marks) }
     ensures rules { KeepsRules R (book_state book.now) }
 {
     let count = book.marks();
     let mut values = Vec::with_capacity(alloc, count as usize)?;
     for i in 0..count {
-        if let Ok(mark) = book.mark_at(i + 1) {
-            values.push(mark_value(alloc, book, i + 1, mark.0)?)?;
-        }
+        let Ok((name, _)) = book.mark_at(i + 1) else {
+            unreachable!();
+        };
+        values.push_reserved(mark_value(alloc, book, i + 1, name)?);
     }
     Ok(values)
 }
@@ -139,7 +120,7 @@ fn mark_value<const R: usize>(
     let Ok(events) = book.mark_events(alloc, i) else {
         return Err(AllocError);
     };
-    let events = events_value(alloc, &events)?;
+    let events = list_value(alloc, &events)?;
     mark_object(alloc, events, name.as_str())
 }
 

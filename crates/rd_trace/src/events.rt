@@ -1,32 +1,32 @@
 //! Events: an array of a word and an actor, and of a number or a choice if the word takes one.
 
-ghost use Rattle.std.specs.Prelude.{◌≡◌, Some, IfOk, OnOk, option_and_then};
+ghost use Rattle.std.specs.Prelude.{◌≡◌, Some, IfOk, option_and_then};
 ghost use Rattle.serde_json.specs.Find.{as_str};
-ghost use Rattle.serde_json.specs.View.{view, items_view};
+ghost use Rattle.serde_json.specs.View.{view};
 ghost use Rattle.rd_trace.specs.Numbers.{byte_number};
-ghost use Rattle.rd_trace.specs.Events.{act_of_word, act_with, event_by, event_of, events_of, short_data, long_data, act_data, events_data, ReadsEvents};
+ghost use Rattle.rd_trace.specs.Spelled.{Gives};
+ghost use Rattle.rd_trace.specs.Events.{act_of_word, act_with, event_by, event_of, short_data, long_data, event_data};
 
 use super::faults::FormFault;
-use super::numbers::byte_in;
+use super::members::byte_in;
+use super::spelled::Spelled;
 use rd_actor::Act;
 use rd_step::Event;
 use serde_json::{Value, json};
 use std::alloc::{AllocError, Global};
 
-/// The events that the values of a list spell, in their order.
-pub fn events_in(alloc: Global, list: &Vec<Value>) -> Result<Vec<Event>, FormFault>
-    ensures { ReadsEvents (items_view list.now.items) result }
-{
-    let mut events = Vec::with_capacity(alloc, list.len())?;
-    for value in list {
-        let Some(event) = event_in(value) else {
-            return Err(FormFault::BadForm);
-        };
-        if events.push(event).is_err() {
-            return Err(FormFault::NoMemory);
-        }
+impl Spelled for Event {
+    ghost spells = { Gives event_of };
+
+    ghost datum = { event_data };
+
+    fn read(_alloc: Global, value: &Value) -> Result<Event, FormFault> {
+        event_in(value).ok_or(FormFault::BadForm)
     }
-    Ok(events)
+
+    fn write(&self, alloc: Global) -> Result<Value, AllocError> {
+        event_value(alloc, *self)
+    }
 }
 
 /// The event that a value spells.
@@ -88,22 +88,10 @@ fn act_with(word: &str, value: &Value) -> Option<Act>
     }
 }
 
-/// The values of events, in order.
-pub fn events_value(alloc: Global, events: &[Event]) -> Result<Vec<Value>, AllocError>
-    ensures values { IfOk result (λ values. items_view values.items ≡ events_data events.now) }
-    ensures spelled { OnOk result (events_of (events_data events.now) ≡ Some events.now) }
-{
-    let mut values = Vec::with_capacity(alloc, events.len())?;
-    for event in events {
-        values.push(event_value(alloc, *event)?)?;
-    }
-    Ok(values)
-}
-
 /// The value of an event.
 fn event_value(alloc: Global, event: Event) -> Result<Value, AllocError>
-    ensures value { IfOk result (λ value. view value ≡ act_data event.actor event.act) }
-    ensures spelled { event_of (act_data event.actor event.act) ≡ Some event }
+    ensures value { IfOk result (λ value. view value ≡ event_data event) }
+    ensures spelled { event_of (event_data event) ≡ Some event }
 {
     match event.act {
         Act::Enq(x) => long_value(alloc, "enq", event.actor, Value::from(x)),

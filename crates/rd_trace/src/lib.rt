@@ -14,12 +14,13 @@ mod events;
 mod faults;
 pub mod laws;
 mod load;
+mod members;
 mod names;
-mod numbers;
 mod replay;
 mod rings;
 mod saved;
 mod segments;
+mod spelled;
 mod starts;
 mod write;
 

@@ -6,7 +6,8 @@ ghost use Rattle.rd_step.specs.Prelude.{MOST_CELLS};
 ghost use Rattle.rd_marks.specs.Books.{BookState};
 ghost use Rattle.rd_trace.specs.Numbers.{number_at};
 ghost use Rattle.rd_trace.specs.Traces.{IsTraceRing};
-ghost use Rattle.rd_trace.specs.Saved.{ReadsText};
+ghost use Rattle.rd_trace.specs.Spelled.{Reads};
+ghost use Rattle.rd_trace.specs.Saved.{HasValue};
 ghost use Rattle.rd_trace.specs.Loading.{LoadsTrace, LoadsAgain, LoadsValue};
 ghost use Rattle.rd_trace.specs.Writing.{IsTextOf};
 
@@ -58,7 +59,7 @@ fn loaded(alloc: Global, text: &[u8]) -> Result<AnyBook, LoadTraceFault>
 ///
 /// `BadForm` if the text is no JSON; `NoMemory` if memory was refused.
 fn value_of(alloc: Global, text: &[u8]) -> Result<Value, FormFault>
-    ensures { ReadsText text.now result }
+    ensures { Reads view (HasValue text.now) result }
 {
     match Value::from_slice(alloc, text) {
         Ok(value) => Ok(value),

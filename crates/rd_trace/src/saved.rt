@@ -10,15 +10,17 @@ ghost use Rattle.rd_marks.specs.Rules.{GoThrough};
 ghost use Rattle.rd_trace.specs.Numbers.{member_count, number_at};
 ghost use Rattle.rd_trace.specs.Traces.{IsTraceRing, ring_length};
 ghost use Rattle.rd_trace.specs.Starts.{IsStartData, SpellsWorld};
-ghost use Rattle.rd_trace.specs.Saved.{ReadsTrace, ReadsFirst, ReadsSecond, SpellsBook, book_object, book_data};
+ghost use Rattle.rd_trace.specs.Spelled.{Reads, Gives, AreSpelled};
+ghost use Rattle.rd_trace.specs.Events.{event_of, event_data};
+ghost use Rattle.rd_trace.specs.Saved.{saved_trace, IsFirstTrace, IsSecondTrace, IsEither, SpellsBook, book_object, book_data};
 ghost use Rattle.rd_trace.specs.Loading.{IsReachable};
 
-use super::bookmarks::{SavedMark, events_at, marks_in, marks_value};
-use super::events::events_value;
+use super::bookmarks::{SavedMark, marks_in, marks_value};
 use super::faults::FormFault;
-use super::numbers::{member_count, number_at};
+use super::members::{array_at, member_count, number_at};
 use super::rings::Ring;
-use super::starts::{Start, actors_at, list_at, start_in, start_value};
+use super::spelled::{Spelled, list_at};
+use super::starts::{Start, actors_at, start_in, start_value};
 use rd_journal::Session;
 use rd_marks::Book;
 use rd_step::Event;
@@ -80,7 +82,7 @@ pub fn session_in<const R: usize>(
 ) -> Result<SavedSession<R>, FormFault>
     requires small { R ≤ MOST_CELLS }
     requires ring { number_at (codes "ring") (view value.now) ≡ Some R }
-    ensures { ReadsTrace (view value.now) result }
+    ensures { Reads saved_trace (IsEither (view value.now)) result }
 {
     match (number_at(value, VERSION), member_count(value)) {
         (Some(1), Some(FIRST_MEMBERS)) => first_session_in(alloc, value),
@@ -98,7 +100,7 @@ fn first_session_in<const R: usize>(
     requires members { member_count (view value.now) ≡ Some 4 }
     requires version { number_at (codes "version") (view value.now) ≡ Some 1 }
     requires ring { number_at (codes "ring") (view value.now) ≡ Some R }
-    ensures { ReadsFirst (view value.now) result }
+    ensures { Reads saved_trace (IsFirstTrace (view value.now)) result }
 {
     let Some(actors) = actors_at(value, ACTORS) else {
         return Err(FormFault::BadForm);
@@ -106,7 +108,7 @@ fn first_session_in<const R: usize>(
     Ok(SavedSession {
         start: Start::Fresh(actors),
         marks: Vec::new(alloc),
-        events: events_at(alloc, value, EVENTS)?,
+        events: list_at(alloc, value, EVENTS)?,
         undone: Vec::new(alloc),
     })
 }
@@ -120,19 +122,19 @@ fn second_session_in<const R: usize>(
     requires members { member_count (view value.now) ≡ Some 6 }
     requires version { number_at (codes "version") (view value.now) ≡ Some 2 }
     requires ring { number_at (codes "ring") (view value.now) ≡ Some R }
-    ensures { ReadsSecond (view value.now) result }
+    ensures { Reads saved_trace (IsSecondTrace (view value.now)) result }
 {
     let Some(start) = value.get(START) else {
         return Err(FormFault::BadForm);
     };
-    let Some(marks) = list_at(value, MARKS) else {
+    let Some(marks) = array_at(value, MARKS) else {
         return Err(FormFault::BadForm);
     };
     Ok(SavedSession {
         start: start_in(alloc, start)?,
         marks: marks_in(alloc, marks)?,
-        events: events_at(alloc, value, EVENTS)?,
-        undone: events_at(alloc, value, UNDONE)?,
+        events: list_at(alloc, value, EVENTS)?,
+        undone: list_at(alloc, value, UNDONE)?,
     })
 }
 
@@ -145,10 +147,10 @@ pub fn book_value<const R: usize>(alloc: Global, book: &Book<R>) -> Result<Value
 {
     let session = book.session();
     events_go_through(session);
-    let events = events_value(alloc, &live_events(alloc, session)?)?;
+    let events = live_value(alloc, session)?;
     let marks = marks_value(alloc, book)?;
     let start = start_of(alloc, session)?;
-    let undone = events_value(alloc, &undone_events(alloc, session)?)?;
+    let undone = undone_value(alloc, session)?;
     book_object(alloc, events, marks, R as u64, start, undone)
 }
 
@@ -188,40 +190,35 @@ fn start_of<const R: usize>(alloc: Global, session: &Session<R>) -> Result<Value
     let Ok(world) = session.start_world(alloc) else {
         return Err(AllocError);
     };
-    let Ok(parts) = world.parts(alloc) else {
-        return Err(AllocError);
-    };
-    start_value(alloc, &parts)
+    start_value(alloc, &world)
 }
 
-/// The live events of a session.
-fn live_events<const R: usize>(
-    alloc: Global,
-    session: &Session<R>,
-) -> Result<Vec<Event>, AllocError>
-    ensures { IfOk result (λ list. list.items ≡ (state session.now).live) }
+/// The values of the live events of a session.
+fn live_value<const R: usize>(alloc: Global, session: &Session<R>) -> Result<Vec<Value>, AllocError>
+    ensures { IfOk result (λ values. AreSpelled (Gives event_of) event_data values.items (state session.now).live) }
 {
     let live = session.live();
-    let mut events = Vec::with_capacity(alloc, live.len())?;
+    let mut values = Vec::with_capacity(alloc, live.len())?;
     for k in 0..live.len() {
-        events.push(live.at(k).event)?;
+        values.push_reserved(live.at(k).event.write(alloc)?);
     }
-    Ok(events)
+    Ok(values)
 }
 
-/// The undone events of a session, the one undone last first.
-fn undone_events<const R: usize>(
+/// The values of the undone events of a session, the one undone last first.
+fn undone_value<const R: usize>(
     alloc: Global,
     session: &Session<R>,
-) -> Result<Vec<Event>, AllocError>
-    ensures { IfOk result (λ list. list.items ≡ (state session.now).undone) }
+) -> Result<Vec<Value>, AllocError>
+    ensures { IfOk result (λ values. AreSpelled (Gives event_of) event_data values.items (state session.now).undone) }
 {
     let count = session.undone_len();
-    let mut events = Vec::with_capacity(alloc, count as usize)?;
+    let mut values = Vec::with_capacity(alloc, count as usize)?;
     for k in 0..count {
-        if let Some(event) = session.undone_event(k + 1) {
-            events.push(event)?;
-        }
+        let Some(event) = session.undone_event(k + 1) else {
+            unreachable!();
+        };
+        values.push_reserved(event.write(alloc)?);
     }
-    Ok(events)
+    Ok(values)
 }

@@ -1,17 +1,18 @@
 //! Segments: an object with a member for each word of a segment; its cells are arrays of three.
 
-ghost use Rattle.std.specs.Prelude.{◌≡◌, ◌≤◌, List, Some, IfOk, OnOk, IfSome, IfNone, length};
+ghost use Rattle.std.specs.Prelude.{◌≡◌, ◌≤◌, List, IfOk, OnOk, IfSome, IfNone, length};
 ghost use Rattle.serde_json.specs.View.{view, items_view};
 ghost use Rattle.rd_step.specs.Prelude.{MOST_CELLS};
 ghost use Rattle.rd_cell.specs.declared.cells.Cell.{Cell};
 ghost use Rattle.rd_ring.specs.declared.parts.SegmentParts.{SegmentParts};
-ghost use Rattle.rd_trace.specs.Numbers.{SpellEach};
-ghost use Rattle.rd_trace.specs.Segments.{cell_of, cells_of, cell_data, cells_data, IsSegment, IsSegmentList, segment_data, segments_data, makers_data, ReadsSegments, ReadsMakers};
+ghost use Rattle.rd_trace.specs.Spelled.{Gives, SpellEach};
+ghost use Rattle.rd_trace.specs.Segments.{cell_of, cell_data, IsSegment, IsSegmentList, segment_data, list_data};
 
 use super::actors::value_in;
 use super::faults::FormFault;
+use super::members::{array_at, bit_at, member_count, number_at};
 use super::names::{next_in, next_value};
-use super::numbers::{bit_at, member_count, number_at};
+use super::spelled::{Spelled, list_in, list_value};
 use rd_cell::Cell;
 use rd_step::SegmentParts;
 use serde_json::{Value, json};
@@ -30,81 +31,53 @@ const NEXT: &str = "next";
 
 const TAIL: &str = "tail";
 
-/// A cell that nothing was written to.
-const BLANK: Cell = Cell {
-    safe: true,
-    idx: 0,
-    val: None,
-};
+impl<const R: usize> Spelled for Vec<SegmentParts<R>> {
+    ghost spells = { IsSegmentList };
 
-/// The lists of segments that the values of a list spell, by their makers.
-pub fn makers_in<const R: usize>(
-    alloc: Global,
-    list: &Vec<Value>,
-) -> Result<Vec<Vec<SegmentParts<R>>>, FormFault>
-    requires { R ≤ MOST_CELLS }
-    ensures { ReadsMakers (items_view list.now.items) result }
-{
-    let mut makers = Vec::with_capacity(alloc, list.len())?;
-    for value in list {
-        let Some(segments) = value.as_array() else {
-            return Err(FormFault::BadForm);
-        };
-        if makers.push(segments_in(alloc, segments)?).is_err() {
-            return Err(FormFault::NoMemory);
+    ghost datum = { list_data };
+
+    ghost fits = { R ≤ MOST_CELLS };
+
+    fn read(alloc: Global, value: &Value) -> Result<Vec<SegmentParts<R>>, FormFault> {
+        match value.as_array() {
+            None => Err(FormFault::BadForm),
+            Some(list) => list_in(alloc, list),
         }
     }
-    Ok(makers)
+
+    fn write(&self, alloc: Global) -> Result<Value, AllocError> {
+        Ok(Value::Array(list_value(alloc, self)?))
+    }
 }
 
-/// The values of the makers' lists of segments.
-pub fn makers_value<const R: usize>(
-    alloc: Global,
-    makers: &[Vec<SegmentParts<R>>],
-) -> Result<Vec<Value>, AllocError>
-    ensures values { IfOk result (λ values. items_view values.items ≡ makers_data makers.now) }
-    ensures spelled { OnOk result (SpellEach IsSegmentList (makers_data makers.now) makers.now) }
-{
-    let mut values = Vec::with_capacity(alloc, makers.len())?;
-    for segments in makers {
-        values.push(Value::Array(segments_value(alloc, segments)?))?;
+impl<const R: usize> Spelled for SegmentParts<R> {
+    ghost spells = { IsSegment };
+
+    ghost datum = { segment_data };
+
+    ghost fits = { R ≤ MOST_CELLS };
+
+    fn read(_alloc: Global, value: &Value) -> Result<SegmentParts<R>, FormFault> {
+        segment_in(value).ok_or(FormFault::BadForm)
     }
-    Ok(values)
+
+    fn write(&self, alloc: Global) -> Result<Value, AllocError> {
+        segment_value(alloc, self)
+    }
 }
 
-/// The segments that the values of a list spell, in their order.
-fn segments_in<const R: usize>(
-    alloc: Global,
-    list: &Vec<Value>,
-) -> Result<Vec<SegmentParts<R>>, FormFault>
-    requires { R ≤ MOST_CELLS }
-    ensures { ReadsSegments (items_view list.now.items) result }
-{
-    let mut segments = Vec::with_capacity(alloc, list.len())?;
-    for value in list {
-        let Some(segment) = segment_in(value) else {
-            return Err(FormFault::BadForm);
-        };
-        if segments.push(segment).is_err() {
-            return Err(FormFault::NoMemory);
-        }
-    }
-    Ok(segments)
-}
+impl Spelled for Cell {
+    ghost spells = { Gives cell_of };
 
-/// The values of segments, in order.
-fn segments_value<const R: usize>(
-    alloc: Global,
-    segments: &[SegmentParts<R>],
-) -> Result<Vec<Value>, AllocError>
-    ensures values { IfOk result (λ values. items_view values.items ≡ segments_data segments.now) }
-    ensures spelled { OnOk result (SpellEach IsSegment (segments_data segments.now) segments.now) }
-{
-    let mut values = Vec::with_capacity(alloc, segments.len())?;
-    for segment in segments {
-        values.push(segment_value(alloc, segment)?)?;
+    ghost datum = { cell_data };
+
+    fn read(_alloc: Global, value: &Value) -> Result<Cell, FormFault> {
+        cell_in(value).ok_or(FormFault::BadForm)
     }
-    Ok(values)
+
+    fn write(&self, alloc: Global) -> Result<Value, AllocError> {
+        cell_value(alloc, self)
+    }
 }
 
 /// The segment that a value spells.
@@ -121,7 +94,7 @@ fn segment_in<const R: usize>(value: &Value) -> Option<SegmentParts<R>>
         tail: number_at(value, TAIL)?,
         closed: bit_at(value, CLOSED)?,
         next: next_in(value.get(NEXT)?)?,
-        cells: cells_in(value.get(CELLS)?.as_array()?)?,
+        cells: cells_in(array_at(value, CELLS)?)?,
     })
 }
 
@@ -133,7 +106,7 @@ fn segment_value<const R: usize>(
     ensures value { IfOk result (λ value. view value ≡ segment_data segment.now) }
     ensures spelled { OnOk result (IsSegment (segment_data segment.now) segment.now) }
 {
-    let cells = cells_value(alloc, &segment.cells)?;
+    let cells = list_value(alloc, &segment.cells[..])?;
     let next = next_value(alloc, segment.next)?;
     json!(in alloc; {
         CELLS: cells,
@@ -146,29 +119,18 @@ fn segment_value<const R: usize>(
 
 /// The cells that the values of a list spell, if there are as many as a ring has.
 fn cells_in<const R: usize>(list: &Vec<Value>) -> Option<[Cell; R]>
-    ensures some { IfSome result (λ cells. cells_of (items_view list.now.items) ≡ Some cells) }
+    ensures some { IfSome result (SpellEach (Gives cell_of) (items_view list.now.items)) }
     ensures length { IfSome result (λ cells. length cells ≡ R) }
-    ensures none { IfNone result ((cells : List Cell) → length cells ≡ R → cells_of (items_view list.now.items) ≡ Some cells → ⊥) }
+    ensures none { IfNone result ((cells : List Cell) → length cells ≡ R → SpellEach (Gives cell_of) (items_view list.now.items) cells → ⊥) }
 {
     if list.len() != R {
         return None;
     }
-    let mut cells = [BLANK; R];
+    let mut cells = [Cell::fresh(0); R];
     for i in 0..R {
         cells[i] = cell_in(&list[i])?;
     }
     Some(cells)
-}
-
-/// The values of the cells of a ring.
-fn cells_value(alloc: Global, cells: &[Cell]) -> Result<Vec<Value>, AllocError>
-    ensures { IfOk result (λ values. items_view values.items ≡ cells_data cells.now) }
-{
-    let mut values = Vec::with_capacity(alloc, cells.len())?;
-    for cell in cells {
-        values.push(cell_value(alloc, cell)?)?;
-    }
-    Ok(values)
 }
 
 /// The value of a cell.

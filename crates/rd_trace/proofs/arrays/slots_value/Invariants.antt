@@ -1,8 +1,9 @@
 use Rattle.std.proofs.Common.{◌≡◌, take}
 use Rattle.serde_json.specs.View.{items_view}
-use Rattle.rd_trace.specs.Arrays.{slots_data, filled_slots}
+use Rattle.rd_trace.specs.Spelled.{items_by}
+use Rattle.rd_trace.specs.Arrays.{slot_data, filled_slots}
 use Rattle.rd_trace.proofs.arrays.slots_value.Given as goal
 
 -- the values of the slots before this one
 abbrev pub invariant-loop-position : goal.invariant-loop-position
-invariant-loop-position l = items_view l.values.items ≡ slots_data (filled_slots 0 (take l.position l.slots))
+invariant-loop-position l = items_view l.values.items ≡ items_by slot_data (filled_slots 0 (take l.position l.slots))

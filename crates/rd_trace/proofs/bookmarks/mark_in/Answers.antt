@@ -1,17 +1,19 @@
+use Rattle.std.proofs.Common.{codes}
 use Rattle.serde_json.specs.View.{view}
-use Rattle.rd_trace.specs.Bookmarks.{ReadsMark}
-use Rattle.rd_trace.proofs.StartLemmas.{passed_up}
-use Rattle.rd_trace.proofs.MarkLemmas.{no_mark_events}
+use Rattle.rd_trace.specs.Spelled.{Gives, SpellEachAt, elements}
+use Rattle.rd_trace.specs.Events.{event_of}
+use Rattle.rd_trace.specs.Bookmarks.{IsMark, saved_mark}
+use Rattle.rd_trace.proofs.SpellLemmas.{part_passed_up}
 use Rattle.rd_trace.proofs.bookmarks.mark_in.Goals as goal
 
 pub returns-in_default : goal.returns-in_default
 returns-in_default c = λ m h. c.in_default.ensures.none m.name h.name
 
-pub returns-in_err-events_at : goal.returns-in_err-events_at
-returns-in_err-events_at c =
+pub returns-in_err-list_at : goal.returns-in_err-list_at
+returns-in_err-list_at c =
     let d = view c.args.value.now in
-    let fault = c.in_err-events_at.field-0.0 in
-    passed_up (ReadsMark d) fault c.from_residual.result c.from_residual.ensures.1 (no_mark_events d fault c.in_err-events_at.ensures)
+    part_passed_up elements saved_mark (SpellEachAt (Gives event_of) (codes "events") d) (IsMark d) (λ m h. (m.events, h.events)) c.in_err-list_at.field-0.0
+    c.from_residual.result c.from_residual.ensures.1 c.in_err-list_at.ensures
 
 pub returns : goal.returns
-returns c = record { name = c.in-Some.ensures.some; events = c.in_ok-events_at.ensures }
+returns c = record { name = c.in-Some.ensures.some; events = c.in_ok-list_at.ensures }

@@ -6,7 +6,8 @@ use Rattle.serde_json.specs.declared.value.Value.{Value}
 use Rattle.rd_step.specs.declared.entries.Event.{Event}
 use Rattle.rd_marks.specs.BookViews.{book_state}
 use Rattle.rd_marks.specs.Books.{mark_events, AnswersEvents}
-use Rattle.rd_trace.specs.Events.{events_of, events_data}
+use Rattle.rd_trace.specs.Spelled.{Gives, SpellEach, items_by}
+use Rattle.rd_trace.specs.Events.{event_of, event_data}
 use Rattle.rd_trace.specs.Bookmarks.{IsMark, mark_object, mark_data}
 use Rattle.rd_trace.proofs.StartLemmas.{on_ok}
 use Rattle.rd_trace.proofs.MarkLemmas.{mark_spelled}
@@ -20,7 +21,7 @@ of_answered (Some es) list P said h = subst P said h
 pub returns-clause-value : goal.returns-clause-value
 returns-clause-value g c =
     let name = c.args.name in
-    let list = c.in_ok-events.ensures.values ∙ ap events_data c.deref.ensures.value in
+    let list = c.in_ok-events.ensures.values ∙ ap (items_by event_data) c.deref.ensures.value in
     IfOk-weaker c.mark_object.result (λ (value : Value). view value ≡ mark_object (items_view c.in_ok-events.events.items) c.as_str.result.now)
     (λ value. IfSome (mark_events (book_state c.args.book.now) c.args.i) (λ es. view value ≡ mark_data (record { name = name; events = es })))
     (λ value e. of_answered (mark_events (book_state c.args.book.now) c.args.i) c.in-Ok.events
@@ -30,7 +31,7 @@ returns-clause-value g c =
 pub returns-clause-spelled : goal.returns-clause-spelled
 returns-clause-spelled g c =
     let name = c.args.name in
-    let back = subst (λ (es : List Event). events_of (events_data es) ≡ Some es) c.deref.ensures.value c.in_ok-events.ensures.spelled in
+    let back = subst (λ (es : List Event). SpellEach (Gives event_of) (items_by event_data es) es) c.deref.ensures.value c.in_ok-events.ensures.spelled in
     on_ok c.mark_object.result
     (of_answered (mark_events (book_state c.args.book.now) c.args.i) c.in-Ok.events
     (λ es. IsMark (mark_data (record { name = name; events = es })) (record { name = name; events = es })) c.in-Ok.ensures

@@ -1,33 +1,39 @@
-use Rattle.std.proofs.Common.{◌≡◌, ◌+◌, suc, ◌++◌, ◌∷◌, [], take, sym, ap, ◌∙◌, subst, arith}
+use Rattle.std.proofs.Common.{◌+◌, take, sym, ◌∙◌, subst, arith}
 use Rattle.rd_marks.specs.BookViews.{book_state}
-use Rattle.rd_trace.proofs.MarkLemmas.{AreWritten, none_written, next_written, some_mark, all_written}
+use Rattle.rd_trace.specs.Bookmarks.{IsMark, mark_data}
+use Rattle.rd_trace.proofs.SpellLemmas.{none_written}
+use Rattle.rd_trace.proofs.MarkLemmas.{AreWritten, next_written, some_mark, all_written}
 use Rattle.rd_trace.proofs.bookmarks.marks_value.Goals as goal
-use Rattle.rd_trace.proofs.bookmarks.marks_value.Goals.{in-Ok+in_ok-mark_value+in_ok-push, in_default}
 
 pub loop-i-init : goal.loop-i-init
-loop-i-init g c = none_written _ c.in_ok-values.ensures.items
+loop-i-init g c = (
+  none_written IsMark mark_data _ c.in_ok-values.ensures.items,
+  omega (arith, c.in_ok-values.ensures.len),
+  omega (arith, c.in_ok-values.ensures.capacity, c.marks-count.ensures.count),
+)
+
+pub unreachable-requires : goal.unreachable-requires
+unreachable-requires g c =
+    let i = c.loop-i.i in
+    absurd (some_mark (book_state c.args.book.now) i (i + 1) (omega arith) (omega (arith, c.marks-count.ensures.count)) (λ name len h. c.in_default.not-Ok (name, len) (c.mark_at.ensures ∙ h)))
 
 pub loop-i-preserved : goal.loop-i-preserved
 loop-i-preserved g c =
     let b = book_state c.args.book.now in
-    let i = c.loop-i.i in
-    let next : i + 1 ≡ suc i = omega arith in
-    elim c.match-mark_at.branch [
-      | in-Ok+in_ok-mark_value+in_ok-push w ↦
-          let vs : c.match-mark_at.values.items ≡ c.loop-i.values.items ++ w.in_ok-mark_value.field-0 ∷ [] = ap (λ v. v.items) w.values-is ∙ w.in_ok-push.ensures.items in
-          subst (λ ws. AreWritten ws (take (i + 1) b.marks)) (sym vs)
-          (next_written b i (i + 1) next c.loop-i.values.items w.in_ok-mark_value.field-0 w.in-Ok.mark.0 w.in-Ok.mark.1 c.loop-i.invariant
-          (sym c.mark_at.ensures ∙ w.in-Ok.is) w.in_ok-mark_value.ensures.value w.in_ok-mark_value.ensures.spelled)
-      | in_default w ↦
-          absurd (some_mark b i (i + 1) next (omega (arith, c.marks-count.ensures.count)) (λ name len h. w.in_default.not-Ok (name, len) (c.mark_at.ensures ∙ h)))
-    ]
+    let i = c.loop-i.i in (
+      subst (λ ws. AreWritten ws (take (i + 1) b.marks)) (sym c.push_reserved.ensures.items)
+          (next_written b i (i + 1) (omega arith) c.loop-i.values.items c.in_ok-mark_value.field-0 c.in-Ok.name c.in-Ok.field-0-1 c.loop-i.invariant.0
+          (sym c.mark_at.ensures ∙ c.in-Ok.is) c.in_ok-mark_value.ensures.value c.in_ok-mark_value.ensures.spelled),
+      omega arith,
+      omega arith,
+    )
 
 pub returns-clause-values : goal.returns-clause-values
 returns-clause-values g c =
     let b = book_state c.args.book.now in
-    (all_written g.row.R b c.loop-i.values.items c.loop-i.i (omega (arith, c.marks-count.ensures.count)) c.loop-i.invariant c.marks-count.ensures.rules).0
+    (all_written g.row.R b c.loop-i.values.items c.loop-i.i (omega (arith, c.marks-count.ensures.count)) c.loop-i.invariant.0 c.marks-count.ensures.rules).0
 
 pub returns-clause-spelled : goal.returns-clause-spelled
 returns-clause-spelled g c =
     let b = book_state c.args.book.now in
-    (all_written g.row.R b c.loop-i.values.items c.loop-i.i (omega (arith, c.marks-count.ensures.count)) c.loop-i.invariant c.marks-count.ensures.rules).1
+    (all_written g.row.R b c.loop-i.values.items c.loop-i.i (omega (arith, c.marks-count.ensures.count)) c.loop-i.invariant.0 c.marks-count.ensures.rules).1

@@ -4,7 +4,7 @@ use Rattle.rd_trace.specs.declared.rings.Ring.{Ring}
 use Rattle.rd_trace.specs.Traces.{ring_length}
 use Rattle.rd_trace.specs.Numbers.{number_at}
 use Rattle.rd_trace.specs.Loading.{LoadsTrace}
-use Rattle.rd_trace.proofs.ReplayLemmas.{passed_up}
+use Rattle.rd_trace.proofs.SpellLemmas.{passed_up}
 use Rattle.rd_trace.proofs.LoadLemmas.{loads_none}
 use Rattle.rd_trace.proofs.load.loaded.Goals as goal
 

@@ -6,7 +6,8 @@ use Rattle.rd_trace.specs.Bookmarks.{saved_mark}
 use Rattle.rd_trace.specs.Saved.{saved_trace, loaded_state}
 use Rattle.rd_trace.specs.Loading.{Replays}
 use Rattle.rd_trace.specs.Steps.{MakesLive, RefusesOne, SetsMarks}
-use Rattle.rd_trace.proofs.ReplayLemmas.{passed_up, no_marks, no_steps, plays}
+use Rattle.rd_trace.proofs.ReplayLemmas.{no_marks, no_steps, plays}
+use Rattle.rd_trace.proofs.SpellLemmas.{passed_up}
 use Rattle.rd_trace.proofs.replay.replay.Goals as goal
 
 pub returns-in_err-set_marks : goal.returns-in_err-set_marks

@@ -1,13 +1,13 @@
-use Rattle.std.proofs.Common.{◌≡◌, List, Some, sym, ap, ◌∙◌, subst}
+use Rattle.std.proofs.Common.{◌≡◌, sym, ap, ◌∙◌, subst}
 use Rattle.std.proofs.lemmas.Result.{IfOk-weaker}
 use Rattle.serde_json.specs.Data.{Data}
 use Rattle.serde_json.specs.View.{view, items_view}
 use Rattle.serde_json.specs.declared.value.Value.{Value}
-use Rattle.rd_step.specs.declared.entries.Event.{Event}
 use Rattle.rd_journal.specs.State.{State}
 use Rattle.rd_journal.specs.Sessions.{state}
 use Rattle.rd_marks.specs.BookViews.{book_state}
-use Rattle.rd_trace.specs.Events.{events_of, events_data}
+use Rattle.rd_trace.specs.Spelled.{Gives, SpellEach, items_by}
+use Rattle.rd_trace.specs.Events.{event_of, event_data}
 use Rattle.rd_trace.specs.Starts.{IsStartData, SpellsWorld}
 use Rattle.rd_trace.specs.Saved.{SpellsBook, book_object, book_data}
 use Rattle.rd_trace.proofs.StartLemmas.{on_ok}
@@ -19,8 +19,8 @@ returns-clause-value g c =
     let b = book_state c.args.book.now in
     let same = c.session-session.ensures.state in
     let start = view c.in_ok-start.start in
-    let live = c.in_ok-events.ensures.values ∙ ap events_data (c.deref.ensures.value ∙ c.in_ok-live_events.ensures ∙ ap (λ (s : State). s.live) same) in
-    let undone = c.in_ok-undone.ensures.values ∙ ap events_data (c.deref-2.ensures.value ∙ c.in_ok-undone_events.ensures ∙ ap (λ (s : State). s.undone) same) in
+    let live = c.in_ok-events.ensures.values ∙ ap (λ (s : State). items_by event_data s.live) same in
+    let undone = c.in_ok-undone.ensures.values ∙ ap (λ (s : State). items_by event_data s.undone) same in
     IfOk-weaker c.book_object.result
     (λ (value : Value). view value ≡ book_object (items_view c.in_ok-events.events.items) (items_view c.in_ok-marks.marks.items) g.row.R start (items_view c.in_ok-undone.undone.items))
     (λ value. (start : Data) × IsStartData g.row.R b.session.start start × (view value ≡ book_data g.row.R start b))
@@ -35,14 +35,12 @@ returns-clause-spelled g c =
     let b = book_state c.args.book.now in
     let same = c.session-session.ensures.state in
     let start = view c.in_ok-start.start in
-    let of_live = c.deref.ensures.value ∙ c.in_ok-live_events.ensures ∙ ap (λ (s : State). s.live) same in
-    let of_undone = c.deref-2.ensures.value ∙ c.in_ok-undone_events.ensures ∙ ap (λ (s : State). s.undone) same in
-    let live = c.in_ok-events.ensures.values ∙ ap events_data of_live in
-    let undone = c.in_ok-undone.ensures.values ∙ ap events_data of_undone in
+    let live = c.in_ok-events.ensures.values ∙ ap (λ (s : State). items_by event_data s.live) same in
+    let undone = c.in_ok-undone.ensures.values ∙ ap (λ (s : State). items_by event_data s.undone) same in
     let spelled =
     book_spelled g.row.R b start (subst (λ (s : State). SpellsWorld g.row.R s.start start) same c.in_ok-start.ensures.spelled)
-    (subst (λ (es : List Event). events_of (events_data es) ≡ Some es) of_live c.in_ok-events.ensures.spelled)
-    (subst (λ (es : List Event). events_of (events_data es) ≡ Some es) of_undone c.in_ok-undone.ensures.spelled) c.in_ok-marks.ensures.spelled in
+    (subst (λ (s : State). SpellEach (Gives event_of) (items_by event_data s.live) s.live) same c.in_ok-events.ensures.spelled)
+    (subst (λ (s : State). SpellEach (Gives event_of) (items_by event_data s.undone) s.undone) same c.in_ok-undone.ensures.spelled) c.in_ok-marks.ensures.spelled in
     IfOk-weaker c.book_object.result
     (λ (value : Value). view value ≡ book_object (items_view c.in_ok-events.events.items) (items_view c.in_ok-marks.marks.items) g.row.R start (items_view c.in_ok-undone.undone.items))
     (λ value. SpellsBook g.row.R b (view value))

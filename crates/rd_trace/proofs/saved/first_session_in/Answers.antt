@@ -1,14 +1,16 @@
+use Rattle.std.proofs.Common.{codes}
 use Rattle.serde_json.specs.View.{view}
-use Rattle.rd_trace.specs.Saved.{ReadsFirst}
-use Rattle.rd_trace.proofs.StartLemmas.{passed_up}
-use Rattle.rd_trace.proofs.SavedLemmas.{no_count, no_events}
+use Rattle.rd_trace.specs.Spelled.{Gives, SpellEachAt, elements}
+use Rattle.rd_trace.specs.Events.{event_of}
+use Rattle.rd_trace.specs.Saved.{saved_trace, IsFirstTrace}
+use Rattle.rd_trace.proofs.SpellLemmas.{part_passed_up}
 use Rattle.rd_trace.proofs.saved.first_session_in.Goals as goal
 
 pub returns-in_default : goal.returns-in_default
-returns-in_default g c = no_count g.row.R (view c.args.value.now) c.in_default.ensures.none
+returns-in_default g c = λ t h. c.in_default.ensures.none h.actors.0 h.actors.1
 
-pub returns-in_err-events_at : goal.returns-in_err-events_at
-returns-in_err-events_at g c =
+pub returns-in_err-list_at : goal.returns-in_err-list_at
+returns-in_err-list_at g c =
     let d = view c.args.value.now in
-    let fault = c.in_err-events_at.field-0.0 in
-    passed_up (ReadsFirst {R = g.row.R} d) fault c.from_residual.result c.from_residual.ensures.1 (no_events g.row.R d fault c.in_err-events_at.ensures)
+    part_passed_up elements (saved_trace {R = g.row.R}) (SpellEachAt (Gives event_of) (codes "events") d) (IsFirstTrace d) (λ t h. (t.live, h.live)) c.in_err-list_at.field-0.0
+    c.from_residual.result c.from_residual.ensures.1 c.in_err-list_at.ensures

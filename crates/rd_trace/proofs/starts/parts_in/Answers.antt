@@ -1,22 +1,23 @@
-use Rattle.std.proofs.Common.{sym}
-use Rattle.serde_json.specs.View.{view, items_view}
-use Rattle.rd_trace.specs.Starts.{ReadsParts}
-use Rattle.rd_trace.proofs.StartLemmas.{passed_up, no_array, no_actors_in, no_makers_in}
+use Rattle.std.proofs.Common.{codes}
+use Rattle.serde_json.specs.View.{view}
+use Rattle.rd_trace.specs.Spelled.{SpellEachAt, itself, elements}
+use Rattle.rd_trace.specs.Actors.{IsActor}
+use Rattle.rd_trace.specs.Segments.{IsSegmentList}
+use Rattle.rd_trace.specs.Starts.{IsParts}
+use Rattle.rd_trace.proofs.SpellLemmas.{part_passed_up}
 use Rattle.rd_trace.proofs.starts.parts_in.Goals as goal
 
-pub returns-in_err-actors_in : goal.returns-in_err-actors_in
-returns-in_err-actors_in g c =
+pub returns-in_err-list_at : goal.returns-in_err-list_at
+returns-in_err-list_at g c =
     let d = view c.args.value.now in
-    let fault = c.in_err-actors_in.field-0.0 in
-    passed_up (ReadsParts {R = g.row.R} d) fault c.from_residual.result c.from_residual.ensures.1
-    (no_actors_in g.row.R d (items_view c.in-Some-list_at.actors.now.items) (sym c.in-Some-list_at.ensures) fault c.in_err-actors_in.ensures)
+    part_passed_up elements itself (SpellEachAt IsActor (codes "actors") d) (IsParts {R = g.row.R} d) (λ p h. (p.actors.items, h.actors)) c.in_err-list_at.field-0.0
+    c.from_residual.result c.from_residual.ensures.1 c.in_err-list_at.ensures
 
-pub returns-in_err-makers_in : goal.returns-in_err-makers_in
-returns-in_err-makers_in g c =
+pub returns-in_err-list_at-2 : goal.returns-in_err-list_at-2
+returns-in_err-list_at-2 g c =
     let d = view c.args.value.now in
-    let fault = c.in_err-makers_in.field-0.0 in
-    passed_up (ReadsParts {R = g.row.R} d) fault c.from_residual-in_err-makers_in.result c.from_residual-in_err-makers_in.ensures.1
-    (no_makers_in g.row.R d (items_view c.in-Some-list_at-2.segments.now.items) (sym c.in-Some-list_at-2.ensures) fault c.in_err-makers_in.ensures)
+    part_passed_up elements itself (SpellEachAt IsSegmentList (codes "segments") d) (IsParts {R = g.row.R} d) (λ p h. (p.segments.items, h.segments)) c.in_err-list_at-2.field-0.0
+    c.from_residual-in_err-list_at-2.result c.from_residual-in_err-list_at-2.ensures.1 c.in_err-list_at-2.ensures
 
-pub returns-in_default-array_at : goal.returns-in_default-array_at
-returns-in_default-array_at g c = no_array (view c.args.value.now) c.in_default-array_at.ensures.none
+pub returns-in_default-slots_at : goal.returns-in_default-slots_at
+returns-in_default-slots_at g c = λ p h. c.in_default-slots_at.ensures.none p.array h.array

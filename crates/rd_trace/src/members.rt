@@ -1,0 +1,66 @@
+//! Whole numbers in values of serde_json, and the members of objects.
+
+ghost use Rattle.std.specs.Prelude.{◌≡◌, option_map};
+ghost use Rattle.serde_json.specs.View.{view, items_view};
+ghost use Rattle.rd_trace.specs.Numbers.{member_count, number_at, bit_at, text_at, list_at, byte_number, word_number};
+
+use serde_json::Value;
+
+/// The number of members of an object.
+pub fn member_count(value: &Value) -> Option<usize>
+    ensures { result ≡ member_count (view value.now) }
+{
+    Some(value.as_object()?.len())
+}
+
+/// The whole number at a key of an object.
+pub fn number_at(value: &Value, key: &str) -> Option<u64>
+    ensures { result ≡ number_at key.now (view value.now) }
+{
+    value.get(key).and_then(Value::as_u64)
+}
+
+/// The bit at a key of an object.
+pub fn bit_at(value: &Value, key: &str) -> Option<bool>
+    ensures { result ≡ bit_at key.now (view value.now) }
+{
+    value.get(key).and_then(Value::as_bool)
+}
+
+/// The text at a key of an object.
+pub fn text_at<'a>(value: &'a Value, key: &str) -> Option<&'a str>
+    ensures { option_map (λ text. text.now) result ≡ text_at key.now (view value.now) }
+{
+    value.get(key).and_then(Value::as_str)
+}
+
+/// The values of the list at a key of an object.
+pub fn array_at<'a>(value: &'a Value, key: &str) -> Option<&'a Vec<Value>>
+    ensures { option_map (λ list. items_view list.now.items) result ≡ list_at key.now (view value.now) }
+{
+    value.get(key).and_then(Value::as_array)
+}
+
+/// The number of 8 bits that a value is.
+pub fn byte_in(value: &Value) -> Option<u8>
+    ensures { result ≡ byte_number (view value.now) }
+{
+    let number = value.as_u64()?;
+    if number <= u8::MAX as u64 {
+        Some(number as u8)
+    } else {
+        None
+    }
+}
+
+/// The number of 32 bits that a value is.
+pub fn word_in(value: &Value) -> Option<u32>
+    ensures { result ≡ word_number (view value.now) }
+{
+    let number = value.as_u64()?;
+    if number <= u32::MAX as u64 {
+        Some(number as u32)
+    } else {
+        None
+    }
+}

@@ -1,0 +1,79 @@
+//! What a trace has lists of: which values spell each, and how it, and a list of it, is read and written.
+
+ghost use Rattle.std.specs.Prelude.{◌≡◌, IfOk, OnOk};
+ghost use Rattle.serde_json.specs.Data.{Data};
+ghost use Rattle.serde_json.specs.View.{view, items_view};
+ghost use Rattle.rd_trace.specs.Spelled.{Reads, itself, elements, SpellEach, SpellEachAt, AreSpelled};
+
+use super::faults::FormFault;
+use super::members::array_at;
+use serde_json::Value;
+use std::alloc::{AllocError, Global};
+
+/// What values of a trace spell.
+pub trait Spelled: Sized + Drop {
+    /// Which values spell which.
+    ghost spells: { Data → Self → Type 0 };
+
+    /// The value that each is written as.
+    ghost datum: { Self → Data };
+
+    /// What holds where one is read.
+    ghost fits: { Type 0 } = { Unit {0} };
+
+    /// The one that a value spells.
+    ///
+    /// # Errors
+    ///
+    /// `BadForm` if it spells none; `NoMemory` if memory was refused.
+    fn read(alloc: Global, value: &Value) -> Result<Self, FormFault>
+        requires { fits }
+        ensures { Reads itself (spells (view value.now)) result };
+
+    /// The value of one.
+    fn write(&self, alloc: Global) -> Result<Value, AllocError>
+        ensures value { IfOk result (λ value. view value ≡ datum self.now) }
+        ensures spelled { OnOk result (spells (datum self.now) self.now) };
+}
+
+/// Those that the values of a list spell, in their order.
+///
+/// # Errors
+///
+/// `BadForm` if one spells none; `NoMemory` if memory was refused.
+pub fn list_in<T: Spelled>(alloc: Global, list: &Vec<Value>) -> Result<Vec<T>, FormFault>
+    requires { T.fits }
+    ensures { Reads elements (SpellEach T.spells (items_view list.now.items)) result }
+{
+    let mut things = Vec::with_capacity(alloc, list.len())?;
+    for value in list {
+        things.push_reserved(T::read(alloc, value)?);
+    }
+    Ok(things)
+}
+
+/// Those that the list at a key of an object spells.
+///
+/// # Errors
+///
+/// As `list_in`, and `BadForm` if there is no list.
+pub fn list_at<T: Spelled>(alloc: Global, value: &Value, key: &str) -> Result<Vec<T>, FormFault>
+    requires { T.fits }
+    ensures { Reads elements (SpellEachAt T.spells key.now (view value.now)) result }
+{
+    match array_at(value, key) {
+        None => Err(FormFault::BadForm),
+        Some(list) => list_in(alloc, list),
+    }
+}
+
+/// The values of a list, in order.
+pub fn list_value<T: Spelled>(alloc: Global, things: &[T]) -> Result<Vec<Value>, AllocError>
+    ensures { IfOk result (λ values. AreSpelled T.spells T.datum values.items things.now) }
+{
+    let mut values = Vec::with_capacity(alloc, things.len())?;
+    for thing in things {
+        values.push_reserved(thing.write(alloc)?);
+    }
+    Ok(values)
+}
