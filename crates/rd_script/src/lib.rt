@@ -24,6 +24,5 @@ pub use reading::commands::command_in;
 pub use reading::whole_texts::lines;
 pub use script::{run, write_answer};
 pub use writing::headings::{Heading, set_heading};
-pub use writing::labels::label_of;
 pub use writing::lines::set_text;
 pub use writing::texts::Text;

@@ -5,7 +5,6 @@ mod actors;
 mod contents;
 mod events;
 pub mod headings;
-pub mod labels;
 pub mod lines;
 mod numbers;
 mod places;

@@ -4,7 +4,6 @@ ghost use Rattle.rd_script.specs.Puts.{PutsUpTo};
 ghost use Rattle.rd_script.specs.Actors.{op_words, call_words, segment_words, position_words, read_words, actor_words};
 
 use super::contents::{put_name, put_value};
-use super::labels::label_of;
 use super::numbers::{bit_number, put_counted};
 use super::texts::{Text, put};
 use rd_actor::{Actor, Op};
@@ -24,7 +23,7 @@ fn put_call(text: &mut Text, actor: &Actor)
     ensures { PutsUpTo 40 text.old.items text.new.items (call_words actor.now) }
 {
     put(text, b"actor ");
-    put(text, label_of(actor.pc));
+    put(text, actor.pc.label().as_bytes());
     put(text, b" ");
     put_op(text, actor.op);
 }
