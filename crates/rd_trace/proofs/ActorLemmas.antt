@@ -28,7 +28,8 @@ pub value_spelled : (val : Option ℕ) → value_of (value_data val) ≡ Some va
 value_spelled None = refl
 value_spelled (Some x) = refl
 
--- the value of an actor spells it, since its pass is a number of 8 bits and its names are of their ranges
+-- the value of an actor spells it, since its pass is a number of 8 bits and its names are of their
+-- ranges
 pub actor_spelled : (a : Actor) → byte_number (number (unsigned a.pass)) ≡ Some a.pass → name_of (name_data a.crq) ≡ Some a.crq → name_of (name_data a.new) ≡ Some a.new → name_of (name_data a.next) ≡ Some a.next
     → IsActor (actor_data a) a
 actor_spelled a pass crq new next = record {

@@ -58,7 +58,7 @@ filled_first i Empty ss h = absurd h
 filled_first i Top ss h = refl
 filled_first i (Held x) ss h = refl
 
--- one more slot is filled, behind all that were
+-- one more slot is filled, after all that were
 filled_set : (i k j : ℕ) (ss : List ArrSlot) (s : ArrSlot) → j ≡ i + k → k < length ss → AreEmptyFrom k ss → IsFilled s → filled_slots i (set ss k s) ≡ filled_slots i ss ++ (j, s) ∷ []
 filled_set i k j [] s at within h filled = absurd (omega arith)
 filled_set i zero j (x ∷ ss) s at within h filled =
@@ -83,7 +83,7 @@ filled_rises i end (Empty ∷ ss) le = rises_from i (suc i) end (filled_slots (s
 filled_rises i end (Top ∷ ss) le = (omega arith, omega arith, filled_rises (suc i) end ss (omega arith))
 filled_rises i end (Held x ∷ ss) le = (omega arith, omega arith, filled_rises (suc i) end ss (omega arith))
 
--- the lowest position that may stand behind these
+-- the lowest position that may be after these
 abbrev pub next_position : ℕ → List (ℕ × ArrSlot) → ℕ
 next_position i [] = i
 next_position i (p ∷ ps) = next_position (suc p.0) ps

@@ -1,4 +1,5 @@
--- A line feed behind printed tokens changes none of them, so that the text of a value is read the same with one behind it.
+-- A line feed after printed tokens changes none of them, so that the text of a value is read the
+-- same with one after it.
 use Rattle.std.proofs.Common.{◌≡◌, ℕ, Bool, true, false, cond, ◌&&◌, List, [], ◌∷◌, ◌++◌, option_and_then, refl, sym, ap, ap₂, ◌∙◌, subst, append_assoc, append-nil}
 use Rattle.json.specs.Token.{Token, begin_object, end_object, begin_array, end_array, key, string, number, boolean, null, bad}
 use Rattle.json.specs.Word.{ends_word, word}
@@ -17,7 +18,7 @@ use Rattle.serde_json.specs.Read.{of_json, read, max_depth}
 use Rattle.serde_json.specs.Written.{IsInOrder, has_float, outline}
 use Rattle.serde_json.proofs.Texts.{tokens_from_order}
 
--- behind a value stands a comma, a closing bracket, or what is behind the tokens
+-- after a value is a comma, a closing bracket, or what is after the tokens
 ends_before : (ts : List Token) (z : List ℕ) → ends_word z ≡ true → ends_word (print_from true ts ++ z) ≡ true
 unfolding print_from
 ends_before [] z h = h
@@ -36,7 +37,7 @@ lex-string : (s r : List ℕ) → lex between (quoted s ++ r) ≡ token (string 
 unfolding lex
 lex-string s r = ap (λ l. lex between (34 ∷ l)) (append_assoc (escape s) (34 ∷ []) r) ∙ ap₂ (λ o l. token (string_token o) ∷ l) (content-escape s r) (lex-escape s r)
 
--- the lexemes of a token, which do not depend on what is behind it
+-- the lexemes of a token, which do not depend on what is after it
 lexemes_of : Token → List Lexeme
 lexemes_of begin_object = token begin_object ∷ []
 lexemes_of end_object = token end_object ∷ []
@@ -69,7 +70,7 @@ lex-comma true r = refl
 lex-comma false r = refl
 
 module _ (c : Bool) (t : Token) (ts : List Token) where
-  -- what is behind the tokens shows in nothing but the last lexemes
+  -- what is after the tokens shows in nothing but the last lexemes
   lex-first : (z : List ℕ) → ends_word z ≡ true → IsPrintable t
       → lex between (print_from c (t ∷ ts) ++ z) ≡ cond (c && begins t) (comma ∷ []) [] ++ (lexemes_of t ++ lex between (print_from (ends t) ts ++ z))
   unfolding print_from
@@ -86,7 +87,7 @@ same_lexemes c (t ∷ ts) y z ended_y ended_z same h =
     lex-first c t ts y ended_y h.0 ∙ ap (λ l. cond (c && begins t) (comma ∷ []) [] ++ (lexemes_of t ++ l)) (same_lexemes (ends t) ts y z ended_y ended_z same h.1)
     ∙ sym (lex-first c t ts z ended_z h.0)
 
--- the tokens of printed ones with a line feed behind them
+-- the tokens of printed ones with a line feed after them
 pub tokens-line : (ts : List Token) → ArePrintable ts → tokens (print ts ++ 10 ∷ []) ≡ ts
 unfolding lex
 tokens-line ts h =
@@ -122,7 +123,7 @@ module _ (text : List ℕ) (d : Data) (order : IsInOrder text d) (whole : has_fl
       let same = tokens_from_order text d order whole in
       subst ArePrintable (sym same) (ArePrintable-json_tokens (outline d) (numbers_of (outline d) (subst ArePrintableOrBad same (ArePrintableOrBad-tokens text))))
 
-  -- the text of a value has the same tokens with a line feed behind it
+  -- the text of a value has the same tokens with a line feed after it
   pub same_tokens : text ≡ print (tokens text) → tokens (text ++ 10 ∷ []) ≡ tokens text
   same_tokens compact = ap (λ s. tokens (s ++ 10 ∷ [])) compact ∙ tokens-line (tokens text) printable
 

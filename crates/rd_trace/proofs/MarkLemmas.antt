@@ -54,7 +54,8 @@ mark_spelled m events = record { name = record { members = refl; text = refl }; 
 
 -- ---- lists that are read
 
--- a bookmark that differs by its name from those behind it differs from the one that a value among these spells
+-- a bookmark that differs by its name from those after it differs from the one that a value among
+-- these spells
 apart_later : (q o : Mark) (xs ws : List Value) (v : Value) → IsMark (view v) o → (ms : List Mark) → SpellEach IsMark (items_view (xs ++ v ∷ ws)) ms
     → AllByRecursion (λ name. same_name q.name name ≡ false) (map (λ m. m.name) ms) → bytes_of q.name ≡ bytes_of o.name → ⊥
 apart_later q o [] ws v is [] h apart same = h

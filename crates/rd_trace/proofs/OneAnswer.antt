@@ -28,7 +28,7 @@ module _ {X : Type 0} where
   behind [] = []
   behind (y ∷ ys) = ys
 
-  -- two elements stand at one place, or one of them stands before the other
+  -- two elements are at one place, or one of them is before the other
   abbrev Places : List X → X → List X → X → Type 0
   Places before x front y =
       ((before ≡ front) × (x ≡ y)) ⊎ (((rest : List X) × (front ≡ before ++ x ∷ rest)) ⊎ ((rest : List X) × (before ≡ front ++ y ∷ rest)))
@@ -202,7 +202,8 @@ module _ (R : ℕ) (t u : Trace R) (same : IsSameTrace t u) where
 
 -- ---- texts
 
--- the text is no trace, and so the answer says; or it is one, and the answer is what its trace gives
+-- the text is no trace, and so the answer says; or it is one, and the answer is what its trace
+-- gives
 abbrev Answers : List ℕ → Result AnyBook LoadTraceFault → Type 0
 Answers text r =
     ((r ≡ Err BadTrace) × ((R : ℕ) (t : Trace R) → IsTraceText text t → ⊥))

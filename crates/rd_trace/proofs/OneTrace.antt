@@ -76,7 +76,7 @@ same_actor d a b h k =
 
 -- ---- the array
 
--- what stands in front, and what is behind it
+-- what is in front, and what is after it
 abbrev front_number : List (ℕ × ArrSlot) → ℕ
 front_number [] = 0
 front_number (s ∷ ss) = s.0
@@ -388,7 +388,8 @@ module _ (none_refused : NoneRefused) (R : ℕ) (u : Trace R) (flawless : start_
   again_loaded text is (Err (TraceMark m n cause)) h = again_over text h.0 h.1 is h.2 (Err (TraceMark m n cause)) (λ e. cc) h.3
   again_loaded text is (Err (TraceStep n cause)) h = again_over text h.0 h.1 is h.2 (Err (TraceStep n cause)) (λ e. cc) h.3
 
--- a text that a book is written as gives the same book again, whatever loading it gives, unless memory was refused
+-- a text that a book is written as gives the same book again, whatever loading it gives, unless
+-- memory was refused
 pub loads_again : NoneRefused → (text : List ℕ) (r : Result AnyBook LoadTraceFault) → LoadsTrace text r → (R : ℕ) (b : BookState) → IsTraceRing R → IsTextOf R b text → LoadsAgain R b r
 loads_again none_refused text r loads R b ring is =
     let h = is.loads ring in

@@ -69,7 +69,8 @@ one_step : (R : ℕ) (o : Result Stepped Refusal) → IsOk o → IsOk (run_from_
 one_step R (Err refusal) h = h
 one_step R (Ok s) h = refl
 
--- a run goes on with a step from its last world, if that is so from each world that its first step leads to
+-- a run goes on with a step from its last world, if that is so from each world that its first step
+-- leads to
 run_on : (R : ℕ) (es : List Event) (e : Event) → ((w : World) → IsOk (step_after R (run R w es) e) → IsOk (run R w (es ++ e ∷ []))) → (o : Result Stepped Refusal)
     → IsOk (step_after R (run_from_step (λ v. run R v es) o) e) → IsOk (run_from_step (λ v. run R v (es ++ e ∷ [])) o)
 run_on R es e from (Err refusal) h = h
@@ -132,7 +133,7 @@ is_memory : (refusal : Refusal) → (refusal ≡ OutOfMemory) ⊎ (refusal ≢ O
 is_memory OutOfMemory = inl refl
 is_memory refusal = inr (λ e. cc)
 
--- what is undone behind steps: nothing, if there was one
+-- what is undone after steps: nothing, if there was one
 abbrev pub undone_behind : List Event → List Event → List Event
 undone_behind undone [] = undone
 undone_behind undone (e ∷ es) = []
@@ -141,7 +142,7 @@ none_behind : (undone xs : List Event) (e : Event) → undone_behind undone (xs 
 none_behind undone [] e = refl
 none_behind undone (x ∷ xs) e = refl
 
--- these events were put behind the live ones so far
+-- these events were put after the live ones so far
 pub record HasStepped (R : ℕ) (old now : BookState) (done : List Event) : Type 0 where
   pub start : now.session.start ≡ old.session.start
   pub live : now.session.live ≡ old.session.live ++ done
@@ -289,7 +290,7 @@ pub can_go_back : (b after : BookState) (n : ℕ) (cause : Refusal) → n ≤ le
 can_go_back b after n cause within h =
     cc (ap (λ (a : Answered). a.answer) h, ap (λ (o : Result State Refusal). (move_answer b o).answer) (goes_back b.session n within))
 
--- so many times back, k events are still live
+-- this many times back, k events are still live
 back_parts : (n k : ℕ) (s : State) → n + k ≡ length s.live → times n back_one s ≡ record { start = s.start; live = take k s.live; undone = drop k s.live ++ s.undone }
 back_parts zero k s h =
     same_state s (record { start = s.start; live = take k s.live; undone = drop k s.live ++ s.undone }) refl (sym (take_all k s.live (omega arith)))
@@ -334,7 +335,7 @@ shared_less j k es fs h same = sym (take-take k j es h) ∙ ap (λ (gs : List Ev
 
 -- Making just these events live
 
--- behind some live events all others of a list are made
+-- after some live events all others of a list are made
 goes_on : (R : ℕ) (old mid new : BookState) (es rest : List Event) (r : Result (Unit {0}) RefusedEvent) → mid.session.start ≡ old.session.start → mid.marks ≡ old.marks
     → mid.session.live ++ rest ≡ es → 1 ≤ length rest → StepsAll R mid rest new r → GoesTo R old es new r
 goes_on R old mid new es [] r start marks all some h = absurd (omega arith)
@@ -362,7 +363,7 @@ pub some_in : (es : List Event) → false ≡ (length es == 0) → 1 ≤ length 
 some_in [] h = absurd (cc h)
 some_in (e ∷ es) h = omega arith
 
--- all that is behind the first events
+-- all that is after the first events
 pub rest_of : (k : ℕ) (es : List Event) → take (length es - k) (drop k es) ≡ drop k es
 rest_of k es = take_all (length es - k) (drop k es) (omega (arith, length-drop k es))
 
@@ -371,7 +372,7 @@ pub to_none : (R : ℕ) (old new : BookState) (es : List Event) → es ≡ [] �
 to_none R old new es none h =
     subst (λ (fs : List Event). GoesTo R old fs new (Ok tt)) (sym none) (h, none_go R old.session.start)
 
--- And undone ones behind them
+-- And undone ones after them
 
 refused_before : (R : ℕ) (w : World) (es fs : List Event) (n : ℕ) (cause : Refusal) → IsRefusedAt R w es n cause → IsRefusedAt R w (es ++ fs) n cause
 refused_before R w es fs n cause h = record {
@@ -411,7 +412,7 @@ back_to w es fs t goes =
     ∙ same_state (record { start = w; live = take (length es) (es ++ fs); undone = drop (length es) (es ++ fs) ++ [] }) (record { start = w; live = es; undone = fs }) refl
     (take-append_seam es fs) (append-nil (drop (length es) (es ++ fs)) ∙ drop-append_seam es fs)
 
--- so many events are live that those behind can be undone
+-- this many events are live that those after can be undone
 pub enough_live : (R : ℕ) (old mid now : BookState) (es fs : List Event) → IsAt old es mid → GoThrough R old.session.start es → StepsAll R mid fs now (Ok tt)
     → length fs ≤ length now.session.live
 enough_live R old mid now es fs at through h =

@@ -33,7 +33,7 @@ no_second : {R : ℕ} (d : Data) → member_count d ≡ Some 6 → ((t : Trace R
 no_second d six none t (inl k) = let e : 4 ≡ 6 = same_Some 4 6 (sym k.members ∙ six) in omega (arith, e)
 no_second d six none t (inr k) = none t k
 
--- a value of so many members is a trace of one version at most
+-- a value of this many members is a trace of one version at most
 pub first_read : {R : ℕ} (d : Data) → member_count d ≡ Some 4 → (r : Result (SavedSession R) FormFault) → Reads saved_trace (IsFirstTrace d) r → Reads saved_trace (IsEither d) r
 first_read d four (Ok s) h = inl h
 first_read d four (Err NoMemory) h = tt

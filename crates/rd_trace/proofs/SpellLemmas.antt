@@ -1,4 +1,5 @@
--- What is read of a value by what is read of a part of it; and lists of values: what they spell, and how many they are.
+-- What is read of a value by what is read of a part of it; and lists of values: what they spell,
+-- and how many they are.
 use Rattle.std.proofs.Common.{◌≡◌, ℕ, suc, ◌+◌, ◌<◌, List, [], ◌∷◌, ◌++◌, length, take, drop, get_or, Option, Some, None, IfSome, IfNone, ok_or, Result, Ok, Err, Vec, Global, refl, sym, ap, ap₂, ◌∙◌, subst, map, map-id}
 use Rattle.std.specs.Result.{IsErrAnd}
 use Rattle.std.proofs.lemmas.Option.{same_Some, none-some}
@@ -46,7 +47,7 @@ module _ {X : Type 0} (o : Option X) (r : Result X FormFault) (is : r ≡ ok_or 
 
 -- ---- lists of values
 
--- items with one more behind them
+-- items with one more after them
 abbrev then_item : Items → Data → Items
 then_item no_items d = item d no_items
 then_item (item x xs) d = item x (then_item xs d)
@@ -59,7 +60,7 @@ items_by-last : {X : Type 0} (datum : X → Data) (xs : List X) (x : X) → item
 items_by-last datum [] x = refl
 items_by-last datum (y ∷ xs) x = ap (item (datum y)) (items_by-last datum xs x)
 
--- the value at a place, with those before it and those behind it
+-- the value at a place, with those before it and those after it
 pub split_at : {X : Type 0} (xs : List X) (i : ℕ) (x : X) → i < length xs → x ≡ get_or xs i x → xs ≡ take i xs ++ x ∷ drop (i + 1) xs
 split_at xs i x within is = sym (take-append-drop i xs) ∙ ap (λ ys. take i xs ++ ys) (drop_more xs i x within ∙ ap (λ y. y ∷ drop (i + 1) xs) (sym is))
 

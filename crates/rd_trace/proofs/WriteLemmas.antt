@@ -23,7 +23,7 @@ pub record AreBytesOf (bytes : List ℕ) (d : Data) : Type 0 where
   pub order : IsInOrder bytes d
   pub reads_back : depth d ≤ max_depth → read bytes ≡ Some d
 
--- the bytes of the value of a book are its text, with a line feed behind them
+-- the bytes of the value of a book are its text, with a line feed after them
 pub text_of_book : (R : ℕ) (b : BookState) (d : Data) (bytes text : List ℕ) → (start : Data) × IsStartData R b.session.start start × (d ≡ book_data R start b) → SpellsBook R b d → IsReachable R b
     → AreBytesOf bytes d → text ≡ bytes ++ 10 ∷ [] → IsTextOf R b text
 text_of_book R b d bytes text (start, is_start, is) (t, second, flawless, same) reachable written ended =

@@ -1,4 +1,5 @@
--- The array as a value: an object with its counters and those of its slots that aren't empty, each with its position.
+-- The array as a value: an object with its counters and those of its slots that aren't empty, each
+-- with its position.
 use Rattle.std.specs.Prelude.{◌≡◌, ℕ, suc, List, [], ◌∷◌, codes, bytes_eq, if◌then◌else◌, Option, Some, None, option_map, option_and_then}
 use Rattle.serde_json.specs.Data.{Data, null, boolean, number, string, array, object, unsigned, Items, no_items, item, no_members, member}
 use Rattle.serde_json.specs.Find.{as_array, as_u64}
@@ -34,7 +35,8 @@ filled_slots i (Empty ∷ slots) = filled_slots (suc i) slots
 filled_slots i (Top ∷ slots) = (i, Top) ∷ filled_slots (suc i) slots
 filled_slots i (Value x ∷ slots) = (i, Value x) ∷ filled_slots (suc i) slots
 
--- a value is an object of three members: the counters, and the slots that aren't empty, their positions rising
+-- a value is an object of three members: the counters, and the slots that aren't empty, their
+-- positions rising
 pub record IsArray (d : Data) (a : ArrayParts) : Type 0 where
   pub members : member_count d ≡ Some 3
   pub cells : SpellEachAt (Gives slot_of) (codes "cells") d (filled_slots 0 a.cells)

@@ -27,7 +27,8 @@ act_with word d =
 abbrev pub event_by : Option Act → Option ℕ → Option Event
 event_by act actor = option_and_then (λ known. option_map (λ n. record { actor = n; act = known }) actor) act
 
--- an event is a list of its word and its actor, and of the number or the choice if its word takes one
+-- an event is a list of its word and its actor, and of the number or the choice if its word takes
+-- one
 abbrev pub event_of_items : Items → Option Event
 event_of_items no_items = None
 event_of_items (item word no_items) = None

@@ -37,7 +37,7 @@ form_fault BadForm = BadTrace
 abbrev pub fresh_state : ℕ → ℕ → BookState
 fresh_state R actors = record { session = record { start = fresh_world R actors; live = []; undone = [] }; marks = [] }
 
--- the book is in this state, over rings of so many cells
+-- the book is in this state, over rings of this many cells
 abbrev pub IsBookIn : ℕ → BookState → AnyBook → Type 0
 IsBookIn R b book = (any_ring book ≡ R) × (any_state book ≡ b)
 
@@ -46,13 +46,14 @@ pub record HasMarks {R : ℕ} (t : Trace R) : Type 0 where
   pub flawless : start_flaw t.start ≡ None
   pub marks : MarksGoThrough R (start_world t.start) t.marks
 
--- so do its live events, with its undone ones behind them
+-- so do its live events, with its undone ones after them
 pub record IsPlayable {R : ℕ} (t : Trace R) : Type 0 where
   pub marks : HasMarks t
   pub through : GoThrough R (start_world t.start) (t.live ++ t.undone)
 
--- what making a trace happen gives: its book; or, in this order, the first flaw of its start; the first event of the first bookmark
--- of which one is refused; the first of its live and undone events that is refused
+-- what making a trace happen gives: its book; or, in this order, the first flaw of its start; the
+-- first event of the first bookmark of which one is refused; the first of its live and undone
+-- events that is refused
 abbrev pub Replays : {R : ℕ} {B : Type 0} → (B → Type 0) → Trace R → Result B LoadTraceFault → Type 0
 Replays IsBook t (Ok book) = IsPlayable t × IsBook book
 Replays IsBook t (Err NoMemory) = Unit {0}
@@ -67,7 +68,8 @@ LoadsValue d (Err NoMemory) = Unit {0}
 LoadsValue {R} d (Err BadTrace) = (t : Trace R) → IsEither d t → ⊥
 LoadsValue {R} d result = (t : Trace R) × IsEither d t × Replays (λ (book : Book R). book_state book ≡ loaded_state t) t result
 
--- what loading a text gives: what making the trace happen gives that the text is; BadTrace, if it is none
+-- what loading a text gives: what making the trace happen gives that the text is; BadTrace, if it
+-- is none
 abbrev pub LoadsTrace : List ℕ → Result AnyBook LoadTraceFault → Type 0
 LoadsTrace text (Err NoMemory) = Unit {0}
 LoadsTrace text (Err BadTrace) = (R : ℕ) (t : Trace R) → IsTraceText text t → ⊥
@@ -80,7 +82,8 @@ IsSameAnswer (Ok book) (Err fault) = ⊥
 IsSameAnswer (Err fault) (Ok book) = ⊥
 IsSameAnswer (Err one) (Err other) = one ≡ other
 
--- the events of each bookmark, and the live events with the undone ones behind them, go through from the start of this state
+-- the events of each bookmark, and the live events with the undone ones after them, go through from
+-- the start of this state
 pub record IsReachable (R : ℕ) (b : BookState) : Type 0 where
   pub marks : MarksGoThrough R b.session.start b.marks
   pub through : GoThrough R b.session.start (b.session.live ++ b.session.undone)
@@ -90,7 +93,8 @@ pub record IsLoadable (R : ℕ) (b : BookState) (text : List ℕ) : Type 0 where
   pub reachable : IsReachable R b
   pub reads : (t : Trace R) × IsTraceText text t × (start_flaw t.start ≡ None) × (loaded_state t ≡ b)
 
--- what loading gives of a text that a book in this state is written as: the same book, unless memory was refused
+-- what loading gives of a text that a book in this state is written as: the same book, unless
+-- memory was refused
 abbrev pub LoadsAgain : ℕ → BookState → Result AnyBook LoadTraceFault → Type 0
 LoadsAgain R b (Ok book) = (any_ring book ≡ R) × IsSameBook (any_state book) b
 LoadsAgain R b (Err fault) = fault ≡ NoMemory

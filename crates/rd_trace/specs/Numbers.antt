@@ -1,4 +1,5 @@
--- Whole numbers, bits, texts and lists in values of serde_json. An object of serde_json has each key once.
+-- Whole numbers, bits, texts and lists in values of serde_json. An object of serde_json has each
+-- key once.
 use Rattle.std.specs.Prelude.{ℕ, List, nat_le, if◌then◌else◌, Bool, Option, Some, None, option_map, option_and_then}
 use Rattle.serde_json.specs.Data.{Data, Items}
 use Rattle.serde_json.specs.Events.{members_len}
@@ -20,7 +21,7 @@ word_number d = option_and_then (λ n. if nat_le n 4294967295 then Some n else N
 abbrev pub member_count : Data → Option ℕ
 member_count d = option_map members_len (as_object d)
 
--- what stands at a key of an object, if it is of that kind
+-- what is at a key of an object, if it is of that kind
 abbrev pub number_at : List ℕ → Data → Option ℕ
 number_at key d = option_and_then whole_number (get key d)
 

@@ -1,4 +1,5 @@
--- Whole sessions as values and as texts: version 1, which is only read, and version 2, which is read and written.
+-- Whole sessions as values and as texts: version 1, which is only read, and version 2, which is
+-- read and written.
 use Rattle.std.specs.Prelude.{◌≡◌, ◌⊎◌, ℕ, List, [], ◌∷◌, ◌++◌, map, codes, Some, None, IsUtf8}
 use Rattle.serde_json.specs.Data.{Data, number, array, object, unsigned, Items, no_members, member}
 use Rattle.serde_json.specs.Find.{get}
@@ -17,7 +18,8 @@ use Rattle.rd_trace.specs.declared.starts.Start.{Start}
 use Rattle.rd_trace.specs.declared.starts.Start.TheVariants.{Fresh}
 use Rattle.rd_trace.specs.declared.saved.SavedSession.{SavedSession}
 
--- a session over rings of so many cells that is handed on: where it begins, its bookmarks, its live and its undone events
+-- a session over rings of this many cells that is handed on: where it begins, its bookmarks, its
+-- live and its undone events
 pub record Trace (R : ℕ) : Type 0 where
   pub start : Start R
   pub marks : List Mark
@@ -35,17 +37,19 @@ loaded_state t = record {
   marks = t.marks;
 }
 
--- a bookmark as it is spelled: the bytes of its name, and its events. Names with the same bytes are equal, though the room that
--- is left behind the bytes may differ, which no call shows
+-- a bookmark as it is spelled: the bytes of its name, and its events. Names with the same bytes are
+-- equal, though the room that is left after the bytes may differ, which no call shows
 abbrev pub seen_mark : Mark → List ℕ × List Event
 seen_mark m = (bytes_of m.name, m.events)
 
--- two books are the same: they have one session, and bookmarks with equal names and the same events in the same order
+-- two books are the same: they have one session, and bookmarks with equal names and the same events
+-- in the same order
 pub record IsSameBook (a b : BookState) : Type 0 where
   pub session : a.session ≡ b.session
   pub marks : map seen_mark a.marks ≡ map seen_mark b.marks
 
--- a value is a trace of version 1: an object of four members; nothing is undone, and there is no bookmark
+-- a value is a trace of version 1: an object of four members; nothing is undone, and there is no
+-- bookmark
 pub record IsFirstTrace {R : ℕ} (d : Data) (t : Trace R) : Type 0 where
   pub members : member_count d ≡ Some 4
   pub version : number_at (codes "version") d ≡ Some 1
@@ -99,6 +103,7 @@ book_object events marks cells start undone = object (
 abbrev pub book_data : ℕ → Data → BookState → Data
 book_data R start b = book_object (items_by event_data b.session.live) (items_by mark_data b.marks) R start (items_by event_data b.session.undone)
 
--- a text is what a book is written as: JSON without a space, its keys in the order of the alphabet, and a line feed
+-- a text is what a book is written as: JSON without a space, its keys in the order of the alphabet,
+-- and a line feed
 abbrev pub IsWrittenAs : ℕ → BookState → List ℕ → Type 0
 IsWrittenAs R b text = (start : Data) × IsStartData R b.session.start start × (text ≡ compact_text (book_data R start b) ++ 10 ∷ [])

@@ -1,4 +1,5 @@
--- Segments as values: an object with a member for each word of a segment; its cells are arrays of three.
+-- Segments as values: an object with a member for each word of a segment; its cells are arrays of
+-- three.
 use Rattle.std.specs.Prelude.{◌≡◌, ℕ, codes, Option, Some, None, option_map, option_and_then, Vec}
 use Rattle.std.specs.Global.{Global}
 use Rattle.serde_json.specs.Data.{Data, boolean, number, array, object, unsigned, Items, no_items, item, no_members, member}
@@ -25,7 +26,8 @@ cell_of d = option_and_then cell_of_items (as_array d)
 abbrev pub cell_data : Cell → Data
 cell_data c = array (item (boolean c.safe) (item (number (unsigned c.idx)) (item (value_data c.val) no_items)))
 
--- a value is an object of five members, one for each word of the segment, and so of no other. Parts of rings of `R` cells have `R` cells
+-- a value is an object of five members, one for each word of the segment, and so of no other. Parts
+-- of rings of `R` cells have `R` cells
 pub record IsSegment {R : ℕ} (d : Data) (s : SegmentParts R) : Type 0 where
   pub members : member_count d ≡ Some 5
   pub cells : SpellEachAt (Gives cell_of) (codes "cells") d s.cells

@@ -1,4 +1,5 @@
--- What values spell: what is read of one, lists of values, and the values that a list is written as.
+-- What values spell: what is read of one, lists of values, and the values that a list is written
+-- as.
 use Rattle.std.specs.Prelude.{◌≡◌, ℕ, List, [], ◌∷◌, Option, Some, Result, Ok, Err, Vec}
 use Rattle.std.specs.Global.{Global}
 use Rattle.serde_json.specs.Data.{Data, Items, no_items, item}
@@ -8,7 +9,8 @@ use Rattle.rd_trace.specs.Numbers.{list_at}
 use Rattle.rd_trace.specs.declared.faults.FormFault.{FormFault}
 use Rattle.rd_trace.specs.declared.faults.FormFault.TheVariants.{NoMemory, BadForm}
 
--- what is read: a thing that is spelled; or nothing, without memory; or nothing, since none is spelled
+-- what is read: a thing that is spelled; or nothing, without memory; or nothing, since none is
+-- spelled
 abbrev pub Reads : {V X : Type 0} → (V → X) → (X → Type 0) → Result V FormFault → Type 0
 Reads seen IsSpelled (Ok v) = IsSpelled (seen v)
 Reads seen IsSpelled (Err NoMemory) = Unit {0}

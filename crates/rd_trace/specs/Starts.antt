@@ -1,4 +1,5 @@
--- The start of a session as a value: the fresh world of so many actors, or the parts of any other world.
+-- The start of a session as a value: the fresh world of this many actors, or the parts of any other
+-- world.
 use Rattle.std.specs.Prelude.{◌≡◌, ◌≤◌, ◌⊎◌, ℕ, List, codes, Option, Some, None}
 use Rattle.serde_json.specs.Data.{Data, number, array, object, unsigned, Items, no_members, member}
 use Rattle.serde_json.specs.Find.{get}
@@ -17,7 +18,7 @@ use Rattle.rd_trace.specs.Arrays.{IsArray, array_data}
 use Rattle.rd_trace.specs.declared.starts.Start.{Start}
 use Rattle.rd_trace.specs.declared.starts.Start.TheVariants.{Fresh, Parts as OfParts}
 
--- this number, 1 to 16, of actors stands at a key of an object
+-- this number, 1 to 16, of actors is at a key of an object
 pub record IsActorCount (key : List ℕ) (d : Data) (count : ℕ) : Type 0 where
   pub number : number_at key d ≡ Some count
   pub some : 1 ≤ count
@@ -33,7 +34,7 @@ abbrev pub HasActorCount : {R : ℕ} → Start R → Type 0
 HasActorCount (Fresh count) = (1 ≤ count) × (count ≤ MOST_ACTORS)
 HasActorCount (OfParts p) = Unit {0}
 
--- the array stands in an object
+-- the array is in an object
 abbrev pub IsArrayAt : Data → ArrayParts → Type 0
 IsArrayAt d a = (e : Data) × (get (codes "array") d ≡ Some e) × IsArray e a
 
@@ -82,7 +83,8 @@ parts_object actors slots qhead qtail segments = object (
 abbrev pub parts_data : {R : ℕ} → Parts R → Data
 parts_data p = parts_object (items_by actor_data p.actors.items) (array_data p.array) (name_data p.qhead) (name_data p.qtail) (items_by list_data p.segments.items)
 
--- the value that a world is written as: as a fresh one just if it is the fresh world, and else as parts of it that have no flaw
+-- the value that a world is written as: as a fresh one just if it is the fresh world, and else as
+-- parts of it that have no flaw
 abbrev pub IsStartData : ℕ → World → Data → Type 0
 IsStartData R w d =
     ((count : ℕ) × (w ≡ fresh_world R count) × (1 ≤ count) × (count ≤ MOST_ACTORS) × (d ≡ fresh_data count))

@@ -30,7 +30,7 @@ IsAt old live new = new ≡ with_session old (session_at old.session.start live)
 abbrev pub RefusesOne : ℕ → World → List Event → RefusedEvent → Type 0
 RefusesOne R start events refused = (refused.cause ≡ NoMemoryRefused) ⊎ ((refused.cause ≢ NoMemoryRefused) × IsRefusedAt R start events refused.step refused.cause)
 
--- events were put behind the live ones; without any the undone ones stay
+-- events were put after the live ones; without any the undone ones stay
 abbrev pub StepsAll : ℕ → BookState → List Event → BookState → Result (Unit {0}) RefusedEvent → Type 0
 StepsAll R old [] new result = (result ≡ Ok tt) × (new ≡ old)
 StepsAll R old events new (Ok _) = IsAt old (old.session.live ++ events) new × GoThrough R old.session.start (old.session.live ++ events)

@@ -22,7 +22,8 @@ ring_length Eight = 8
 abbrev pub session_at : World → List Event → State
 session_at start live = record { start = start; live = live; undone = [] }
 
--- the n-th of these events is the first that is refused, with this cause: those before it go through
+-- the n-th of these events is the first that is refused, with this cause: those before it go
+-- through
 pub record IsRefusedAt (R : ℕ) (start : World) (events : List Event) (n : ℕ) (cause : Refusal) : Type 0 where
   pub before : List Event
   pub event : Event
@@ -32,7 +33,8 @@ pub record IsRefusedAt (R : ℕ) (start : World) (events : List Event) (n : ℕ)
   pub through : GoThrough R start before
   pub refused : apply R (session_at start before) event ≡ Err cause
 
--- the m-th bookmark is the first of which an event is refused, and the n-th event the first of its, with this cause
+-- the m-th bookmark is the first of which an event is refused, and the n-th event the first of its,
+-- with this cause
 pub record IsMarkRefusedAt (R : ℕ) (start : World) (marks : List Mark) (m n : ℕ) (cause : Refusal) : Type 0 where
   pub before : List Mark
   pub mark : Mark

@@ -88,7 +88,7 @@ fn actor_value(alloc: Global, actor: &Actor) -> Result<Value, AllocError>
     ensures value { IfOk result (λ value. view value ≡ actor_data actor.now) }
     ensures spelled { OnOk result (IsActor (actor_data actor.now) actor.now) }
 {
-    // Each member has a step of its own here, which the proof can name; it cannot name those of `json!`.
+    // Each member has its own step here, which the proof can name; it cannot name those of `json!`.
     let mut members = Map::new(alloc);
     put(&mut members, alloc, CLOSED, Value::from(actor.closed))?;
     put(&mut members, alloc, CRQ, name_value(alloc, actor.crq)?)?;

@@ -30,7 +30,8 @@ pub enum AnyBook {
 }
 
 impl AnyBook {
-    /// A book over the fresh world of so many actors and this ring: no step was made, and there is no bookmark.
+    /// A book over the fresh world of this many actors and this ring: no step was made, and there
+    /// is no bookmark.
     pub fn fresh(alloc: Global, ring: Ring, actors: u8) -> Result<AnyBook, AllocError>
         requires some { 1 ≤ actors }
         requires few { actors ≤ MOST_ACTORS }
@@ -43,7 +44,7 @@ impl AnyBook {
         }
     }
 
-    /// Runs a script over the book. Answers the number of its lines.
+    /// Runs a script over the book. Returns the number of its lines.
     ///
     /// # Errors
     ///
@@ -71,7 +72,8 @@ impl AnyBook {
     ///
     /// # Errors
     ///
-    /// `NoMemory` if memory was refused: nothing was written. `Write` if the sink failed: it took a beginning of the text.
+    /// `NoMemory` if memory was refused: nothing was written. `Write` if the sink failed: it took a
+    /// beginning of the text.
     pub fn write_trace<K: Sink>(&self, alloc: Global, writer: &mut K) -> Result<(), WriteTraceFault>
         requires { K.has_failed writer.old ≡ false }
         ensures writes { WritesTrace (any_ring self.now) (any_state self.now) (K.contents writer.old) (K.contents writer.new) result }
@@ -85,7 +87,7 @@ impl AnyBook {
     }
 }
 
-/// A book over the fresh world of so many actors.
+/// A book over the fresh world of this many actors.
 fn fresh_book<const R: usize>(alloc: Global, actors: u8) -> Result<Book<R>, AllocError>
     requires some { 1 ≤ actors }
     requires few { actors ≤ MOST_ACTORS }

@@ -1,4 +1,5 @@
-//! The array: an object with its counters and those of its slots that aren't empty, each with its position.
+//! The array: an object with its counters and those of its slots that aren't empty, each with its
+//! position.
 
 ghost use Rattle.std.specs.Prelude.{◌≡◌, List, IfOk, IfSome, IfNone, length};
 ghost use Rattle.serde_json.specs.View.{view, items_view};

@@ -11,11 +11,13 @@ use std::alloc::AllocError;
 pub enum LoadTraceFault {
     /// 20: memory was refused.
     NoMemory,
-    /// 26: the text is a trace, and its start is no well-formed world: the first condition that fails.
+    /// 26: the text is a trace, and its start is no well-formed world: the first condition that
+    /// fails.
     Flawed(Flaw),
     /// 27: the text is no trace of version 1 or 2.
     BadTrace,
-    /// 28: the text is a trace, and one of its live events, or of its undone ones behind them, is refused.
+    /// 28: the text is a trace, and one of its live events, or of its undone ones after them, is
+    /// refused.
     TraceStep {
         /// The number of the first event that is refused, from 1; the undone events are counted on.
         step: u64,

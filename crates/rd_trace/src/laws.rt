@@ -14,7 +14,8 @@ pub fn a_text_is_one_trace_at_most()
         → (R ≡ Q) × (start_flaw t.start ≡ start_flaw u.start) × IsSameBook (loaded_state t) (loaded_state u) }
 {}
 
-/// A text has one answer, unless memory is refused: one book, or one fault with its flaw, its numbers and its cause.
+/// A text has one answer, unless memory is refused: one book, or one fault with its flaw, its
+/// numbers and its cause.
 pub fn a_text_has_one_answer()
     ensures { (text : List ℕ) (one other : Result AnyBook LoadTraceFault) → LoadsTrace text one → LoadsTrace text other
         → one ≢ Err NoMemory → other ≢ Err NoMemory → IsSameAnswer one other }

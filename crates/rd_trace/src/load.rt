@@ -1,4 +1,5 @@
-//! Loading a trace: a text is read whole, its value is dropped, and then the session that it spells is made to happen.
+//! Loading a trace: a text is read whole, its value is dropped, and then the session that it spells
+//! is made to happen.
 
 ghost use Rattle.std.specs.Prelude.{◌≡◌, ◌≤◌, ℕ, Some, codes};
 ghost use Rattle.serde_json.specs.View.{view};
@@ -20,15 +21,18 @@ use rd_marks::Book;
 use serde_json::Value;
 use std::alloc::Global;
 
-/// Loads a text of version 1 or 2: the book whose start, live events, undone events and bookmarks are those that the text spells. One
-/// of version 1 has a fresh start, nothing undone and no bookmark. White space and the order of the keys don't matter.
+/// Loads a text of version 1 or 2: the book whose start, live events, undone events and bookmarks
+/// are those that the text spells. One of version 1 has a fresh start, nothing undone and no
+/// bookmark. White space and the order of the keys don't matter.
 ///
 /// # Errors
 ///
-/// In this order: `BadTrace` if the text is no trace; `Flawed` if its start is no well-formed world, with the first condition that
-/// fails; `TraceMark` if an event of a bookmark is refused, with the numbers of the first bookmark and of its first such event;
-/// `TraceStep` if a live event or an undone one is refused, with its number, the undone ones being counted on. The cause is `TooLong` at
-/// the event behind the `MOST_STEPS`-th of a list. `NoMemory` if memory was refused, at any point.
+/// In this order: `BadTrace` if the text is no trace; `Flawed` if its start is no well-formed
+/// world, with the first condition that fails; `TraceMark` if an event of a bookmark is refused,
+/// with the numbers of the first bookmark and of its first such event; `TraceStep` if a live event
+/// or an undone one is refused, with its number, the undone ones being counted on. The cause is
+/// `TooLong` at the event after the `MOST_STEPS`-th of a list. `NoMemory` if memory was refused, at
+/// any point.
 pub fn load_trace(alloc: Global, text: &[u8]) -> Result<AnyBook, LoadTraceFault>
     ensures loads { LoadsTrace text.now result }
     ensures again { (R : ℕ) (b : BookState) → IsTraceRing R → IsTextOf R b text.now → LoadsAgain R b result }
@@ -71,7 +75,8 @@ fn value_of(alloc: Global, text: &[u8]) -> Result<Value, FormFault>
     }
 }
 
-/// The book of the session that a value spells. The value is dropped before the first event happens.
+/// The book of the session that a value spells. The value is dropped before the first event
+/// happens.
 ///
 /// # Errors
 ///

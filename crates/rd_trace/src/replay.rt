@@ -1,4 +1,5 @@
-//! A session that was read, made to happen: its bookmarks one after another, then its live events, then its undone ones.
+//! A session that was read, made to happen: its bookmarks one after another, then its live events,
+//! then its undone ones.
 
 ghost use Rattle.std.specs.Prelude.{◌≡◌, ◌≤◌, ◌↔◌, [], map, length, take, Ok, IsTrue};
 ghost use Rattle.rd_step.specs.Prelude.{MOST_CELLS};
@@ -26,7 +27,7 @@ use std::alloc::Global;
 /// An event that was refused.
 #[derive(Clone, Copy)]
 struct RefusedEvent {
-    /// Its number in its list, from 1; that of an undone event is counted on behind the live ones.
+    /// Its number in its list, from 1; that of an undone event is counted on after the live ones.
     step: u64,
     /// Why it was refused.
     cause: Refusal,
@@ -36,8 +37,9 @@ struct RefusedEvent {
 ///
 /// # Errors
 ///
-/// In this order: `Flawed` if its start is no well-formed world; `TraceMark` if an event of a bookmark is refused; `TraceStep` if a
-/// live event, or an undone one behind them, is refused. `NoMemory` if memory was refused.
+/// In this order: `Flawed` if its start is no well-formed world; `TraceMark` if an event of a
+/// bookmark is refused; `TraceStep` if a live event, or an undone one after them, is refused.
+/// `NoMemory` if memory was refused.
 pub fn replay<const R: usize>(
     alloc: Global,
     session: SavedSession<R>,
@@ -99,7 +101,7 @@ fn set_marks<const R: usize>(book: &mut Book<R>, marks: &[SavedMark]) -> Result<
     Ok(())
 }
 
-/// Makes just these events live, and then undoes those behind them.
+/// Makes just these events live, and then undoes those after them.
 fn make_live<const R: usize>(
     book: &mut Book<R>,
     events: &[Event],
@@ -113,7 +115,8 @@ fn make_live<const R: usize>(
     Ok(())
 }
 
-/// Makes just these events live, with nothing undone: what is live is undone as far as the two lists differ.
+/// Makes just these events live, with nothing undone: what is live is undone as far as the two
+/// lists differ.
 fn go_to<const R: usize>(book: &mut Book<R>, events: &[Event]) -> Result<(), RefusedEvent>
     ensures { GoesTo R (book_state book.old) events.now (book_state book.new) result }
 {
@@ -149,7 +152,7 @@ fn is_same(event: &Event, other: &Event) -> bool
     *event == *other
 }
 
-/// Undoes so many of the live steps.
+/// Undoes this many of the live steps.
 fn go_back<const R: usize>(book: &mut Book<R>, n: u64)
     requires { n ≤ length (book_state book.old).session.live }
     ensures session { back (book_state book.old).session n ≡ Ok (book_state book.new).session }

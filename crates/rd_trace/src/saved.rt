@@ -1,4 +1,5 @@
-//! Whole sessions: the object of version 1, which is only read, and that of version 2, which is read and written.
+//! Whole sessions: the object of version 1, which is only read, and that of version 2, which is
+//! read and written.
 
 ghost use Rattle.std.specs.Prelude.{◌≡◌, ◌≤◌, ◌++◌, ℕ, Some, codes, IfOk, OnOk, IfSome, IfNone};
 ghost use Rattle.serde_json.specs.Data.{Data};
@@ -91,7 +92,8 @@ pub fn session_in<const R: usize>(
     }
 }
 
-/// The session that the members of a trace of version 1 spell: over a fresh world, with nothing undone and no bookmark.
+/// The session that the members of a trace of version 1 spell: over a fresh world, with nothing
+/// undone and no bookmark.
 fn first_session_in<const R: usize>(
     alloc: Global,
     value: &Value,
@@ -175,7 +177,8 @@ fn book_object(
     })
 }
 
-/// A session's live events and then its undone ones go through from its start: the contract of its world says so.
+/// A session's live events and then its undone ones go through from its start: the contract of its
+/// world says so.
 fn events_go_through<const R: usize>(session: &Session<R>)
     ensures { GoThrough R (state session.now).start ((state session.now).live ++ (state session.now).undone) }
 {

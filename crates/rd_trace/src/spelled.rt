@@ -1,4 +1,5 @@
-//! What a trace has lists of: which values spell each, and how it, and a list of it, is read and written.
+//! What a trace has lists of: which values spell each, and how it, and a list of it, is read and
+//! written.
 
 ghost use Rattle.std.specs.Prelude.{◌≡◌, IfOk, OnOk};
 ghost use Rattle.serde_json.specs.Data.{Data};

@@ -1,4 +1,4 @@
-//! The start of a session: the fresh world of so many actors, or the parts of any other world.
+//! The start of a session: the fresh world of this many actors, or the parts of any other world.
 
 ghost use Rattle.std.specs.Prelude.{◌≡◌, ◌≤◌, ℕ, Some, IfOk, OnOk, IfSome, IfNone};
 ghost use Rattle.serde_json.specs.View.{view, items_view};
@@ -41,7 +41,7 @@ const SEGMENTS: &str = "segments";
 /// Where a session begins.
 #[derive(Drop)]
 pub enum Start<const R: usize> {
-    /// In the fresh world of so many actors, 1 to 16.
+    /// In the fresh world of this many actors, 1 to 16.
     Fresh(u8),
     /// In the world of these parts, of which nothing is known yet.
     Parts(Parts<R>),
@@ -78,7 +78,7 @@ pub fn actors_at(value: &Value, key: &str) -> Option<u8>
     Some(actors as u8)
 }
 
-/// The parts that a value of so many members spells.
+/// The parts that a value of this many members spells.
 fn parts_in<const R: usize>(alloc: Global, value: &Value) -> Result<Parts<R>, FormFault>
     requires small { R ≤ MOST_CELLS }
     requires members { member_count (view value.now) ≡ Some 5 }

@@ -10,13 +10,14 @@ use rd_marks::Book;
 use rd_script::{Sink, hand_over};
 use std::alloc::{AllocError, Global};
 
-/// Writes a book as a trace of version 2, with a line feed behind it: its start, live events, undone events and bookmarks, and the
-/// number of cells of its rings, also where `load_trace` takes no such ring. Where it does, the text loaded gives the book again, unless
-/// memory is refused.
+/// Writes a book as a trace of version 2, with a line feed after it: its start, live events, undone
+/// events and bookmarks, and the number of cells of its rings, also where `load_trace` takes no
+/// such ring. Where it does, the text loaded gives the book again, unless memory is refused.
 ///
 /// # Errors
 ///
-/// `NoMemory` if memory was refused: nothing was written. `Write` if the sink failed: it took a beginning of the text.
+/// `NoMemory` if memory was refused: nothing was written. `Write` if the sink failed: it took a
+/// beginning of the text.
 pub fn write_trace<K: Sink, const R: usize>(
     alloc: Global,
     writer: &mut K,

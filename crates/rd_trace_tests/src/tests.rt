@@ -22,7 +22,8 @@ use std::alloc::Global;
 use std::process::Abort;
 use std::test::Fail;
 
-/// A book over a fresh world of four actors, in which each of these lines was played so many times.
+/// A book over a fresh world of four actors, in which each of these lines was played this many
+/// times.
 fn played<const R: usize>(alloc: Global, lines: &[(&str, u64)]) -> Result<Book<R>, Fail>
     requires positive { 1 ≤ R }
     requires small { R ≤ 64 }

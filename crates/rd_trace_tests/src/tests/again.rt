@@ -17,7 +17,8 @@ fn same_records<const R: usize>(one: &Book<R>, other: &Book<R>) -> bool {
     other.session().len() == one.session().len()
 }
 
-/// A loaded book has the live records of another one, as many undone steps and bookmarks, and its trace.
+/// A loaded book has the live records of another one, as many undone steps and bookmarks, and its
+/// trace.
 fn are_alike<const R: usize>(
     rt: &impl Abort,
     alloc: Global,

@@ -9,7 +9,7 @@ use std::io::Write;
 use std::process::Abort;
 use std::test::Fail;
 
-/// Takes a few bytes a call, so many times; the calls behind them fail.
+/// Takes a few bytes a call, this many times; the calls after them fail.
 #[derive(Drop)]
 struct TestWriter<'a> {
     taken: &'a mut Vec<u8>,
@@ -37,7 +37,8 @@ impl<'a> Write for TestWriter<'a> {
 const TRACE: &[u8] =
     b"{\"events\":[[\"deq\",1]],\"marks\":[],\"ring\":2,\"start\":{\"fresh\":4},\"undone\":[],\"version\":2}\n";
 
-/// Writes the trace to each writer of so many good writes of so many bytes, and compares the answer and how many bytes were taken.
+/// Writes the trace to each writer of this many good writes of this many bytes, and compares the
+/// answer and how many bytes were taken.
 fn writes_are(
     rt: &impl Abort,
     alloc: Global,

@@ -7,14 +7,15 @@ use std::alloc::{AllocError, Global};
 use std::process::Abort;
 use std::test::Fail;
 
-/// A dequeue of an empty queue, with a comma behind each event.
+/// A dequeue of an empty queue, with a comma after each event.
 const DEQUEUE: &str =
     "[\"deq\",1],[\"go\",1],[\"go\",1],[\"go\",1],[\"go\",1],[\"go\",1],[\"go\",1],[\"go\",1],[\"go\",1],[\"go\",1],[\"go\",1],[\"go\",1],";
 
-/// The three events that fill a session behind those of 5461 dequeues.
+/// The three events that fill a session after those of 5461 dequeues.
 const FILLING: &str = "[\"deq\",1],[\"go\",1],[\"go\",1]";
 
-/// As many events as a session has at most less three, those of 5461 dequeues, and these behind them.
+/// As many events as a session has at most less three, those of 5461 dequeues, and these after
+/// them.
 fn dequeues(alloc: Global, last: &str) -> Result<String, AllocError> {
     let calls = DEQUEUE.repeat(alloc, 5461)?;
     format!(in alloc; "{calls}{last}")
@@ -27,7 +28,7 @@ fn trace_of(alloc: Global, live: &str, marked: &str, undone: &str) -> Result<Str
     )
 }
 
-/// A trace is loaded as so many live steps, and written again.
+/// A trace is loaded as this many live steps, and written again.
 fn is_whole(rt: &impl Abort, alloc: Global, text: &str, live: u64) -> Result<(), Fail> {
     let AnyBook::Four(book) = load_trace(alloc, text.as_bytes())? else {
         panic!(rt; "the ring has changed");
@@ -60,7 +61,7 @@ fn a_bookmark_has_as_many_events_as_a_session(rt: HostRuntime) -> Result<(), Fai
     is_whole(&rt, alloc, &text, 1)
 }
 
-/// The fault of the 65,536th of the live events and the undone ones behind them.
+/// The fault of the 65,536th of the live events and the undone ones after them.
 const TOO_LONG: LoadTraceFault = LoadTraceFault::TraceStep {
     step: 65_536,
     cause: Refusal::TooLong,

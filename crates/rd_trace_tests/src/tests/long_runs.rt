@@ -1,4 +1,5 @@
-//! Traces of long scripts of lines in an order that looks like chance: memory is there, and each is loaded and written again.
+//! Traces of long scripts of lines in an order that looks like chance: memory is there, and each is
+//! loaded and written again.
 
 ghost use Rattle.std.specs.Prelude.{◌≤◌};
 
@@ -16,7 +17,8 @@ fn next(number: u64) -> u64 {
         .wrapping_add(1_442_695_040_888_963_407)
 }
 
-/// Puts a line of a kind behind a script: `A` stands for an actor, and `K` for a number. Which ones they are is as the number has it.
+/// Puts a line of a kind after a script: `A` stands for an actor, and `K` for a number. Which ones
+/// they are is as the number has it.
 fn put_line(script: &mut String, kind: &str, actors: u64, number: u64) -> Result<(), Fail>
     requires { 1 ≤ actors }
 {
@@ -35,7 +37,7 @@ fn put_line(script: &mut String, kind: &str, actors: u64, number: u64) -> Result
     Ok(())
 }
 
-/// A script of 300 lines of these kinds for so many actors, of which most are steps.
+/// A script of 300 lines of these kinds for this many actors, of which most are steps.
 fn long_script(alloc: Global, kinds: &[&str], actors: u64) -> Result<String, Fail>
     requires { 1 ≤ actors }
 {
@@ -59,7 +61,8 @@ fn trace_of(alloc: Global, book: &AnyBook) -> Result<Vec<u8>, Fail> {
     Ok(text)
 }
 
-/// The text that is written of the book of a script over the fresh world of so many actors and this ring.
+/// The text that is written of the book of a script over the fresh world of this many actors and
+/// this ring.
 fn trace_of_script(alloc: Global, script: &str, ring: Ring, actors: u8) -> Result<Vec<u8>, Fail>
     requires some { 1 ≤ actors }
     requires few { actors ≤ 16 }

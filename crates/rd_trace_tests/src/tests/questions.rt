@@ -1,4 +1,5 @@
-//! What a book answers to each line that asks, the book that what was written of it is loaded as answers too.
+//! What a book answers to each line that asks, the book that what was written of it is loaded as
+//! answers too.
 
 ghost use Rattle.std.specs.Prelude.{◌≤◌};
 

@@ -173,7 +173,8 @@ const REFUSED: &str = "[\"go\",0]";
 
 const NO_EVENT: &str = "[\"hop\",0]";
 
-/// The start, the events of a bookmark, the live and the undone ones of a trace, and why it is not loaded.
+/// The start, the events of a bookmark, the live and the undone ones of a trace, and why it is not
+/// loaded.
 const FAULTS: &[(&str, &str, &str, &str, LoadTraceFault)] = &[
     (FLAWED, NO_EVENT, "", "", LoadTraceFault::BadTrace),
     (FLAWED, REFUSED, NO_EVENT, "", LoadTraceFault::BadTrace),
@@ -236,7 +237,7 @@ fn bad_forms_flaws_bookmarks_live_and_undone_events_are_refused_in_this_order(
     Ok(())
 }
 
-/// A trace of so many bookmarks at one step, and of one behind them at none.
+/// A trace of this many bookmarks at one step, and of one after them at none.
 fn with_bookmarks(alloc: Global, number: u64) -> Result<String, Fail> {
     let mut marks = String::new(alloc);
     for i in 0..number {

@@ -69,7 +69,7 @@ fn a_poised_world_is_written_as_its_parts(rt: HostRuntime) -> Result<(), Fail> {
     text_is(&rt, alloc, &book, &trace_with(alloc, "", "")?)
 }
 
-/// The actor of the start above, what stands there behind it, and a list of no segment.
+/// The actor of the start above, what is there after it, and a list of no segment.
 const ACTOR: &str =
     "{\"closed\":false,\"crq\":[0,0],\"h\":0,\"idx\":0,\"new\":[0,0],\"next\":[0,0],\"op\":[\"enq\",1],\"pass\":0,\"pc\":\"E4\",\"safe\":false,\"t\":0,\"val\":null}";
 
@@ -94,7 +94,8 @@ fn a_start_of_parts_comes_back(rt: HostRuntime) -> Result<(), Fail> {
     is_written_as(&rt, rt.alloc(), &text, &text)
 }
 
-/// The parts of the fresh world of one actor over rings of two cells, and how a trace spells that start.
+/// The parts of the fresh world of one actor over rings of two cells, and how a trace spells that
+/// start.
 const FRESH_PARTS: &str =
     "{\"actors\":[{\"closed\":false,\"crq\":[0,0],\"h\":0,\"idx\":0,\"new\":[0,0],\"next\":[0,0],\"op\":null,\"pass\":0,\"pc\":\"Idle\",\"safe\":false,\"t\":0,\"val\":null}],\"array\":{\"cells\":[],\"head\":0,\"tail\":0},\"qhead\":[0,0],\"qtail\":[0,0],\"segments\":[[{\"cells\":[[true,0,null],[true,1,null]],\"closed\":false,\"head\":0,\"next\":null,\"tail\":0}],[]]}";
 
@@ -106,7 +107,8 @@ fn parts_of_a_fresh_world_are_written_as_fresh(rt: HostRuntime) -> Result<(), Fa
     is_written_as(&rt, rt.alloc(), &text, &trace_of(rt.alloc(), FRESH)?)
 }
 
-/// Parts of a text of the fresh world's parts, and what stands for each in the parts of a world that is another.
+/// Parts of a text of the fresh world's parts, and what stands for each in the parts of a world
+/// that is another.
 const NEARLY_FRESH: &[(&str, &str)] = &[
     ("\"cells\":[],", "\"cells\":[[63,\"top\"]],"),
     ("\"head\":0,\"tail\":0", "\"head\":1,\"tail\":0"),
@@ -138,7 +140,8 @@ fn parts_of_any_other_world_are_written_as_parts(rt: HostRuntime) -> Result<(), 
     Ok(())
 }
 
-/// The control points at which an actor with this call and pass may stand, with this head position and this value.
+/// The control points at which an actor with this call and pass may be, with this head position and
+/// this value.
 const POINTS: &[(&[&str], &str, u64, &str)] = &[
     (
         &[
@@ -173,7 +176,8 @@ const POINTS: &[(&[&str], &str, u64, &str)] = &[
     ),
 ];
 
-/// A start whose actor stands at this control point, with these words, is loaded, shown with it and written again.
+/// A start whose actor is at this control point, with these words, is loaded, shown with it and
+/// written again.
 fn stands_at(
     rt: &impl Abort,
     alloc: Global,
