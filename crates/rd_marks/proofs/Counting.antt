@@ -222,9 +222,9 @@ module _ (ss : List Stretch) (rule : AreNested ss) where
             let b : Begins es (events (records_at ss p)) =
             subst (λ (xs : List Entry). Begins es (events xs)) (sym (ap (λ (x : MarkName × List Entry). x.1) named.2))
             (subst (λ (k : Mark). Begins es k.events) (sym found.2) h.begins) in
-            let taken = sym (length-take (length es) (events (records_at ss p))) ∙ ap length b in
             let its = length-map (records_at ss p) (λ (x : Entry). x.event) ∙ length-take p.number (list_of ss p.stretch) in
-            let whole = begun_taken es (records_at ss p) (list_of ss p.stretch) (take-take (length es) p.number (list_of ss p.stretch) (omega (arith, taken, its))) b in
+            let short : length es ≤ p.number = omega (arith, length-take (length es) (events (records_at ss p)), ap length b, its) in
+            let whole = begun_taken es (records_at ss p) (list_of ss p.stretch) (take-take (length es) p.number (list_of ss p.stretch) short) b in
             let l = owner p.stretch es h.some whole in
             elim (cases_lt l.0 (length ss)) [
               | inl inside ↦ is_listed (length ss) l.0 es inside l.2 l.3

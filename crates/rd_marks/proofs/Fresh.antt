@@ -16,16 +16,11 @@ event_of x = x.event
 -- Along events
 
 pub along_within : (ss : List Stretch) (i n : ℕ) (es : List Event) → IsAlong ss i n es → n ≤ length (list_of ss i)
-along_within ss i n es a =
-    let both = sym (length-take n (events (list_of ss i))) ∙ ap length a.alike ∙ length-take n es in
-    let its = length-map (list_of ss i) event_of in
-    let enough = a.enough in
-    omega (arith, both, its, enough)
+along_within ss i n es a = omega (arith, length-take n (events (list_of ss i)), ap length a.alike, length-take n es, length-map (list_of ss i) event_of, a.enough)
 
 pub along_less : (ss : List Stretch) (i m n : ℕ) (es : List Event) → m ≤ n → IsAlong ss i n es → IsAlong ss i m es
 along_less ss i m n es h a =
-    let enough = a.enough in
-    record { enough = omega (arith, h, enough); alike = sym (take-take m n (events (list_of ss i)) h) ∙ ap (take m) a.alike ∙ take-take m n es h }
+    record { enough = omega (arith, h, a.enough); alike = sym (take-take m n (events (list_of ss i)) h) ∙ ap (take m) a.alike ∙ take-take m n es h }
 
 -- so is each list that begins alike
 pub along_taken : (ss rs : List Stretch) (i m n : ℕ) (es : List Event) → take n (list_of ss i) ≡ take n (list_of rs m) → IsAlong rs m n es → IsAlong ss i n es
@@ -40,25 +35,19 @@ along_itself ss i n h = let its = length-map (list_of ss i) event_of in record {
 -- two that are along the same are along each other
 along_both : (ss rs : List Stretch) (i m n : ℕ) (es : List Event) → IsAlong ss i n es → IsAlong rs m n es → IsAlong ss i n (events (list_of rs m))
 along_both ss rs i m n es a b =
-    let within = along_within rs m n es b in
-    let its = length-map (list_of rs m) event_of in
-    record { enough = omega (arith, its, within); alike = a.alike ∙ sym b.alike }
+    record { enough = omega (arith, length-map (list_of rs m) event_of, along_within rs m n es b); alike = a.alike ∙ sym b.alike }
 
 -- beginning with the first events of a list is going along it
 pub opened : (ss : List Stretch) (i n : ℕ) (es : List Event) → n ≤ length (list_of ss i) → Begins (take n (events (list_of ss i))) es → IsAlong ss i n es
 opened ss i n es h b =
-    let its = length-map (list_of ss i) event_of in
-    let long : length (take n (events (list_of ss i))) ≡ n = length-take-le n (events (list_of ss i)) (omega (arith, its, h)) in
+    let long : length (take n (events (list_of ss i))) ≡ n = length-take-le n (events (list_of ss i)) (omega (arith, length-map (list_of ss i) event_of, h)) in
     let same : take n es ≡ take n (events (list_of ss i)) = ap (λ (m : ℕ). take m es) (sym long) ∙ b in
-    let taken = sym (length-take n es) ∙ ap length same ∙ long in
-    record { enough = omega (arith, taken); alike = sym same }
+    record { enough = omega (arith, length-take n es, ap length same, long); alike = sym same }
 
 opens : (ss : List Stretch) (i n : ℕ) (es : List Event) → IsAlong ss i n es → Begins (take n (events (list_of ss i))) es
 opens ss i n es a =
-    let within = along_within ss i n es a in
-    let its = length-map (list_of ss i) event_of in
-    let long : length (take n (events (list_of ss i))) ≡ n = length-take-le n (events (list_of ss i)) (omega (arith, its, within)) in
-    ap (λ (m : ℕ). take m es) long ∙ sym a.alike
+    let inside : n ≤ length (events (list_of ss i)) = omega (arith, length-map (list_of ss i) event_of, along_within ss i n es a) in
+    ap (λ (m : ℕ). take m es) (length-take-le n (events (list_of ss i)) inside) ∙ sym a.alike
 
 -- what freshness says of lists along the same events
 abbrev pub AreApart : List Stretch → Type 0
@@ -68,7 +57,7 @@ pub apart : (ss : List Stretch) → AreFresh ss → AreApart ss
 apart ss fresh i j h k a = fresh i j h k (opens ss i (suc (shared_at ss i)) (events (list_of ss j)) a)
 
 pub fresh_apart : (ss : List Stretch) → AreNested ss → AreApart ss → AreFresh ss
-fresh_apart ss rule apart i j h k b = apart i j h k (opened ss i (suc (shared_at ss i)) (events (list_of ss j)) (let some = rule.some i k in omega (arith, some)) b)
+fresh_apart ss rule apart i j h k b = apart i j h k (opened ss i (suc (shared_at ss i)) (events (list_of ss j)) (omega (arith, rule.some i k)) b)
 
 module _ (ss : List Stretch) (rule : AreNested ss) (fresh : AreFresh ss) where
   pub not_both : (i j n : ℕ) (es : List Event) → j < i → i < length ss → shared_at ss i < n → IsAlong ss i n es → IsAlong ss j n es → ⊥
@@ -108,12 +97,9 @@ module _ (ss : List Stretch) (rule : AreNested ss) (fresh : AreFresh ss) (es : L
   follows_start at n owned a = record {
     along = a;
     shared = λ j low high. absurd (omega (arith, low, high));
-    none = λ j h b. elim owned [
-      | inl first ↦ omega (arith, first, h)
-      | inr own ↦ elim (cases_lt at (length ss)) [
-        | inl inside ↦ not_both ss rule fresh at j n es h inside own a (along_less ss j n (suc n) es (omega arith) b)
-        | inr past ↦ let none = ap length (list_past ss at past) in let within = along_within ss at n es a in omega (arith, none, within, own)
-      ]
+    none = λ j h b. elim (cases_lt at (length ss)) [
+      | inl inside ↦ grind (arith, owned, not_both ss rule fresh at j n es h inside, along_less ss j n (suc n) es)
+      | inr past ↦ omega (arith, owned, h, ap length (list_past ss at past), along_within ss at n es a)
     ];
   }
 
@@ -122,10 +108,7 @@ module _ (ss : List Stretch) (rule : AreNested ss) (fresh : AreFresh ss) (es : L
   follows_here k at n f h here =
       elim here [
         | inl same ↦ subst (λ (i : ℕ). IsAlong ss i n es) same f.along
-        | inr less ↦ along_taken ss ss k at n es (shared_records ss rule at k n h (λ j low high. elim (cases_eq j k) [
-          | inl last ↦ subst (λ (i : ℕ). n ≤ shared_at ss i) (sym last) less
-          | inr earlier ↦ f.shared j low (omega (arith, high, earlier))
-        ])) f.along
+        | inr less ↦ along_taken ss ss k at n es (shared_records ss rule at k n h (λ j low high. grind (arith, less, f.shared j low))) f.along
       ]
 
   -- the stretch branches off further on than that
@@ -133,10 +116,7 @@ module _ (ss : List Stretch) (rule : AreNested ss) (fresh : AreFresh ss) (es : L
   follows_skipped zero at n f h less = absurd (omega (arith, h))
   follows_skipped (suc k) at n f h less = record {
     along = f.along;
-    shared = λ j low high. elim (cases_eq j (suc k)) [
-      | inl last ↦ subst (λ (i : ℕ). n ≤ shared_at ss i) (sym last) (omega (arith, less))
-      | inr earlier ↦ f.shared j low (omega (arith, high, earlier))
-    ];
+    shared = λ j low high. grind (arith, less, f.shared j low);
     none = λ j high a. elim (cases_eq j (suc k)) [
       | inl last ↦
           f.none k (omega arith) (along_taken ss ss k (suc k) (suc n) es (sym (begins_shared ss rule (suc k) (suc n) (omega (arith, less))))
@@ -150,27 +130,15 @@ module _ (ss : List Stretch) (rule : AreNested ss) (fresh : AreFresh ss) (es : L
   follows_compared k at n m f h a most = record {
     along = a;
     shared = λ j low high. absurd (omega (arith, low, high));
-    none = λ j high b. elim (cases_eq j k) [
-      | inl last ↦ most (subst (λ (i : ℕ). IsAlong ss i (suc m) es) last b)
-      | inr earlier ↦ f.none j (omega (arith, high, earlier)) (along_less ss j (suc n) (suc m) es (omega (arith, h)) b)
-    ];
+    none = λ j high b. grind (arith, f.none j, most, along_less ss j (suc n) (suc m) es, cases_eq j k);
   }
 
   -- the stretch branches off just there, to another event
   pub follows_parted : (k at n : ℕ) → Follows ss es k at n → (at ≡ k) ⊎ (shared_at ss k ≡ n) → (IsAlong ss k (suc n) es → ⊥) → Follows ss es (suc k) at n
   follows_parted k at n f here most = record {
     along = f.along;
-    shared = λ j low high. elim (cases_eq j k) [
-      | inl last ↦ elim here [
-        | inl first ↦ absurd (omega (arith, low, last, first))
-        | inr off ↦ subst (λ (i : ℕ). n ≤ shared_at ss i) (sym last) (omega (arith, off))
-      ]
-      | inr earlier ↦ f.shared j low (omega (arith, high, earlier))
-    ];
-    none = λ j high b. elim (cases_eq j k) [
-      | inl last ↦ most (subst (λ (i : ℕ). IsAlong ss i (suc n) es) last b)
-      | inr earlier ↦ f.none j (omega (arith, high, earlier)) b
-    ];
+    shared = λ j low high. grind (arith, here, f.shared j low);
+    none = λ j high b. grind (arith, f.none j, most, cases_eq j k);
   }
 
   -- where the stretches end, or one shares fewer, no list has one more
@@ -180,9 +148,7 @@ module _ (ss : List Stretch) (rule : AreNested ss) (fresh : AreFresh ss) (es : L
         | inl earlier ↦ f.none j earlier a
         | inr later ↦
             let stopped = stop (omega (arith, later, h)) in
-            let shared = between ss rule fresh at j n es h f.along (along_less ss j n (suc n) es (omega arith) a) k stopped.0 later in
-            let less = stopped.1 in
-            omega (arith, shared, less)
+            omega (arith, between ss rule fresh at j n es h f.along (along_less ss j n (suc n) es (omega arith) a) k stopped.0 later, stopped.1)
       ]
 
   -- no later stretch opens as those events do

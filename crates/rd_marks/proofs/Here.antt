@@ -37,20 +37,16 @@ closure_leaves (suc n) (x ∷ xs) = ap (λ (ys : List Entry). x ∷ ys) (closure
 pub roll_leaves : (k n : ℕ) (old new : Journal) → n ≡ k - 1 → IsRolledBack k old new → take n new.live ≡ take n old.live
 roll_leaves zero zero old new its rolled = refl
 roll_leaves zero (suc n) old new its rolled = absurd (omega (arith, its))
-roll_leaves (suc k) n old new its rolled =
-    let same : n ≡ k = omega (arith, its) in
-    ap (take n) rolled.live ∙ ap (λ (m : ℕ). take m (unmarked (closure old.live (suc k)) old.live)) same ∙ closure_leaves k old.live
-    ∙ ap (λ (m : ℕ). take m old.live) (sym same)
+roll_leaves (suc k) n old new its rolled = let same : n ≡ k = omega (arith, its) in rw (rolled.live, same) (closure_leaves k old.live)
 
 pub added_leaves : (n : ℕ) (x : Entry) (old new : Journal) → n ≡ length old.live → IsLengthened x old new → take n new.live ≡ take n old.live
 added_leaves n x old new all more =
-    ap (λ (m : ℕ). take m new.live) all ∙ ap (take (length old.live)) more.live ∙ take-append_seam old.live (x ∷ [])
-    ∙ sym (ap (λ (m : ℕ). take m old.live) all ∙ take-length old.live)
+    rw (all, more.live) (take-append_seam old.live (x ∷ []) ∙ sym (take-length old.live))
 
 -- What was undone by its number was there
 
 within_by : {X Y : Type 0} (b : Bool) (i l : ℕ) (r : Result X Y) (e : Y) (x : X) → nat_lt i l ≡ b → (if b then r else Err e) ≡ Ok x → suc i ≤ l
-within_by true i l r e x below h = let lt = ltb-true i l below in omega arith
+within_by true i l r e x below h = omega (arith, ltb-true i l below)
 within_by false i l r e x below h = cc
 
 pub undone_within : (R : ℕ) (s : State) (k : ℕ) (t : State) → undo_at R s k ≡ Ok t → k ≤ length s.live
@@ -61,29 +57,24 @@ pub rolled_within : (R : ℕ) (s : State) (k : ℕ) (t : State) → roll R s k �
 rolled_within R s zero t h = omega arith
 rolled_within R s (suc i) t h = within_by (nat_lt i (length s.live)) i (length s.live) _ _ t refl h
 
--- no more than the first n, which stayed
-here_cut : (es : List Event) (n : ℕ) (old new : List Event) → Begins es old → length es ≤ n → take n new ≡ take n old → Begins es new
-here_cut es n old new begins short same =
-    sym (take-take (length es) n new short) ∙ ap (take (length es)) same ∙ take-take (length es) n old short ∙ begins
-
 module _ (here there : List Entry) (begins : Begins there here) where
-  event_count : length (events there) ≡ length there
-  event_count = length-map there (λ (x : Entry). x.event)
+  -- what begins it begins the same track
+  pub still_begins : (steps : List Event) → Begins (events here) steps → Begins (events there) steps
+  still_begins steps stands = begins_trans (events there) (events here) steps (begins_events there here begins) stands
 
   -- where the first n live steps stayed, whatever is ahead
   pub track_cut : (n : ℕ) (old new : Journal) (old_ahead new_ahead : List Event) → Begins (events here) (events old.live ++ old_ahead)
       → length there ≤ n → n ≤ length old.live → take n new.live ≡ take n old.live → Begins (events there) (events new.live ++ new_ahead)
   track_cut n old new old_ahead new_ahead stands short within same =
       let event = λ (x : Entry). x.event in
-      let long : length (take n new.live) ≡ length (take n old.live) = ap length same in
-      let few : n ≤ length new.live = omega (arith, long, within, length-take n old.live, length-take n new.live) in
-      let old_first : take n (events old.live ++ old_ahead) ≡ take n (events old.live) =
-      take-append-le n (events old.live) old_ahead (omega (arith, within, length-map old.live event)) in
-      let new_first : take n (events new.live ++ new_ahead) ≡ take n (events new.live) =
-      take-append-le n (events new.live) new_ahead (omega (arith, few, length-map new.live event)) in
-      here_cut (events there) n (events old.live ++ old_ahead) (events new.live ++ new_ahead)
-      (begins_trans (events there) (events here) (events old.live ++ old_ahead) (begins_events there here begins) stands) (omega (arith, short, event_count))
-      (new_first ∙ take-map event n new.live ∙ ap events same ∙ sym (take-map event n old.live) ∙ sym old_first)
+      let few : n ≤ length new.live = omega (arith, ap length same, within, length-take n old.live, length-take n new.live) in
+      let old_first = take-append-le n (events old.live) old_ahead (omega (arith, within, length-map old.live event)) in
+      let new_first = take-append-le n (events new.live) new_ahead (omega (arith, few, length-map new.live event)) in
+      let k = length (events there) in
+      let fewer : k ≤ n = omega (arith, short, length-map there event) in
+      sym (take-take k n (events new.live ++ new_ahead) fewer)
+      ∙ ap (take k) (new_first ∙ take-map event n new.live ∙ ap events same ∙ sym (take-map event n old.live) ∙ sym old_first)
+      ∙ take-take k n (events old.live ++ old_ahead) fewer ∙ still_begins (events old.live ++ old_ahead) stands
 
   -- where steps were taken out behind them, if the call was not refused
   pub after_out : {X P Q : Type 0} (r : Result X Refusal) (n : ℕ) (old new : Journal) (old_ahead new_ahead : List Event)
@@ -92,13 +83,7 @@ module _ (here there : List Entry) (begins : Begins there here) where
       → (Q → take n new.live ≡ take n old.live) → Begins (events there) (events new.live ++ new_ahead)
   after_out (Ok x) n old new old_ahead new_ahead stands short unchanged done within left leaves =
       track_cut n old new old_ahead new_ahead stands short (within done) (leaves left)
-  after_out (Err e) n old new old_ahead new_ahead stands short unchanged done within left leaves =
-      begins_trans (events there) (events here) (events new.live ++ new_ahead) (begins_events there here begins)
-      (subst (λ (es : List Event). Begins (events here) es) (sym unchanged) stands)
-
-  -- what begins it begins the same track
-  pub still_begins : (steps : List Event) → Begins (events here) steps → Begins (events there) steps
-  still_begins steps stands = begins_trans (events there) (events here) steps (begins_events there here begins) stands
+  after_out (Err e) n old new old_ahead new_ahead stands short unchanged done within left leaves = rw unchanged (still_begins (events old.live ++ old_ahead) stands)
 
 -- records with the events of the live steps begin the track
 pub live_begin : {R : ℕ} (session : Session R) (xs : List Entry) → events xs ≡ (state session).live → Begins (events xs) (track session)

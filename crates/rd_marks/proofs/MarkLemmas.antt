@@ -1,5 +1,5 @@
 -- The marks that a list of names with records is: looking one up, putting one last, taking one away.
-use Rattle.std.proofs.Common.{◌↔◌, IsTrue, true≢false, ◌⊎◌, inr, ◌≢◌, suc, ◌==◌, Result, Ok, Err, IsOk, IfErr, OnOk, ne_eqb, ◌≡◌, ℕ, ◌≤◌, Bool, true, false, if◌then◌else◌, cond, map, refl, sym, ap, ◌∙◌, subst, List, [], ◌∷◌, ◌++◌, length, is_some, option_map, Option, Some, None, All, slice_get, arith}
+use Rattle.std.proofs.Common.{◌↔◌, IsTrue, true≢false, ◌⊎◌, inr, ◌≢◌, suc, Result, Ok, Err, IsOk, IfErr, OnOk, ne_eqb, ◌≡◌, ℕ, Bool, true, false, if◌then◌else◌, cond, map, refl, sym, ap, ◌∙◌, subst, List, [], ◌∷◌, ◌++◌, length, is_some, option_map, Option, Some, None, All, slice_get}
 use Rattle.std.specs.Map.{lookup, remove_entry}
 use Rattle.indexmap.specs.IndexMap.{insert_entry}
 use Rattle.std.proofs.lemmas.List.Elements.{All-cons, All-head, All-tail}
@@ -8,7 +8,7 @@ use Rattle.rd_step.specs.declared.entries.Event.{Event}
 use Rattle.rd_journal.specs.Journal.{events}
 use Rattle.rd_marks.specs.declared.names.MarkName.{MarkName}
 use Rattle.rd_marks.specs.Names.{same_name}
-use Rattle.std.proofs.lemmas.Bool.{cond-false, cond-true, eq-eqb}
+use Rattle.std.proofs.lemmas.Bool.{eq-eqb}
 use Rattle.std.proofs.lemmas.List.{length-map}
 use Rattle.std.proofs.lemmas.Option.{get_or_from_slice_get, slice_get-map, slice_get_within}
 use Rattle.rd_step.specs.Prelude.{Refusal, World, NoMark, NoMemory, MarkTaken, TooManyMarks}
@@ -43,22 +43,16 @@ pub all_found : {K V : Type 0} (test : K → Bool) (P : V → Type 0) (ms : List
 all_found test P [] v h found = cc
 all_found {V = V} test P (m ∷ ms) v h found =
     (elim (test m.0) as (λ b. cond b (Some m.1) (lookup test ms) ≡ Some v → P v) [
-      | true ↦ λ k. (let same : m.1 ≡ v = cc in subst (λ (u : V). P u) same (All-head (λ m. P m.1) m ms h))
+      | true ↦ λ k. (let same : m.1 ≡ v = cc in subst P same (All-head (λ m. P m.1) m ms h))
       | false ↦ λ k. all_found test P ms v (All-tail (λ m. P m.1) m ms h) k
     ]) found
 
 pub all_at : {X : Type 0} (P : X → Type 0) (xs : List X) (k : ℕ) (x : X) → All P xs → slice_get xs k ≡ Some x → P x
 all_at P xs k x h at = subst P (get_or_from_slice_get xs k x x at) (h k x (slice_get_within xs k x at))
 
--- without an entry there are no more
-pub shorter : {K V : Type 0} (test : K → Bool) (ms : List (K × V)) → length (remove_entry test ms) ≤ length ms
-shorter test [] = omega arith
-shorter test (m ∷ ms) =
-    let rest : length (remove_entry test ms) ≤ length ms = shorter test ms in
-    elim (test m.0) as (λ b. length (cond b ms (m ∷ remove_entry test ms)) ≤ suc (length ms)) [
-      | true ↦ omega arith
-      | false ↦ omega arith
-    ]
+is_some_map : {X Y : Type 0} (f : X → Y) (o : Option X) → is_some (option_map f o) ≡ is_some o
+is_some_map f None = refl
+is_some_map f (Some x) = refl
 
 module _ (name : MarkName) where
   -- what is found under a name is the events of its mark
@@ -73,11 +67,7 @@ module _ (name : MarkName) where
 
   -- something is found exactly if there is a mark of that name
   pub found_marked : (ls : List (MarkName × List Entry)) → is_some (marked_events (marks_of ls) name) ≡ is_some (lookup (same_name name) ls)
-  found_marked ls = ap is_some (found_events ls) ∙ is_some_map (lookup (same_name name) ls)
-    where
-      is_some_map : (o : Option (List Entry)) → is_some (option_map (λ xs. events xs) o) ≡ is_some o
-      is_some_map None = refl
-      is_some_map (Some xs) = refl
+  found_marked ls = ap is_some (found_events ls) ∙ is_some_map (λ xs. events xs) (lookup (same_name name) ls)
 
   -- without the entry of a name, the marks are without its mark
   pub marks_without : (ls : List (MarkName × List Entry)) → marks_of (remove_entry (same_name name) ls) ≡ without_mark (marks_of ls) name
@@ -92,11 +82,7 @@ module _ (name : MarkName) where
 -- whether something is found
 module _ {X : Type 0} (f : X → List Entry) (name : MarkName) (ls : List (MarkName × List Entry)) (o : Option X) (b : Bool) (found : option_map f o ≡ lookup (same_name name) ls) (is : b ≡ is_some o) where
   pub found_at : is_some (marked_events (marks_of ls) name) ≡ b
-  found_at = found_marked name ls ∙ ap is_some (sym found) ∙ is_some_map o ∙ sym is
-    where
-      is_some_map : (p : Option X) → is_some (option_map f p) ≡ is_some p
-      is_some_map None = refl
-      is_some_map (Some x) = refl
+  found_at = found_marked name ls ∙ ap is_some (sym found) ∙ is_some_map f o ∙ sym is
 
   pub none_at : b ≡ false → lookup (same_name name) ls ≡ None
   none_at none = sym found ∙ by o (sym is ∙ none)
@@ -118,25 +104,17 @@ insert_last {V} name v (m ∷ ms) h =
 -- a mark is set if its name is new and there is room
 pub mark_goes : (b : BookState) (name : MarkName) → is_some (marked_events b.marks name) ≡ false → length b.marks ≢ MOST_MARKS
     → mark b name ≡ Ok (with_marks b (b.marks ++ record { name = name; events = b.session.live } ∷ []))
-mark_goes b name new few =
-    let no : (length b.marks == MOST_MARKS) ≡ false = ne_eqb (length b.marks) MOST_MARKS few in
-    let done : Result BookState Refusal = Ok (with_marks b (b.marks ++ record { name = name; events = b.session.live } ∷ [])) in
-    cond-false (is_some (marked_events b.marks name)) (Err MarkTaken) (if length b.marks == MOST_MARKS then Err TooManyMarks else done) new
-    ∙ cond-false (length b.marks == MOST_MARKS) (Err TooManyMarks) done no
+mark_goes b name new few = rw (new, ne_eqb (length b.marks) MOST_MARKS few) refl
 
 -- a mark is dropped if it is there
 pub drop_goes : (b : BookState) (name : MarkName) (ls left : List (MarkName × List Entry)) → b.marks ≡ marks_of ls → is_some (lookup (same_name name) ls) ≡ true
     → left ≡ remove_entry (same_name name) ls → drop_mark b name ≡ Ok (with_marks b (marks_of left))
 drop_goes b name ls left same there e =
-    let goes : without_mark b.marks name ≡ marks_of left = ap (λ (xs : List Mark). without_mark xs name) same ∙ sym (marks_without name ls) ∙ ap marks_of (sym e) in
-    let is : is_some (marked_events b.marks name) ≡ true = ap (λ (xs : List Mark). is_some (marked_events xs name)) same ∙ found_marked name ls ∙ there in
-    cond-true (is_some (marked_events b.marks name)) (Ok (with_marks b (without_mark b.marks name))) (Err NoMark) is
-    ∙ ap (λ (xs : List Mark). Ok (with_marks b xs)) goes
+    rw (same, found_marked name ls, there, e, marks_without name ls) refl
 
 pub drop_missing : (b : BookState) (name : MarkName) (ls : List (MarkName × List Entry)) → b.marks ≡ marks_of ls → is_some (lookup (same_name name) ls) ≡ false → drop_mark b name ≡ Err NoMark
 drop_missing b name ls same none =
-    cond-false (is_some (marked_events b.marks name)) (Ok (with_marks b (without_mark b.marks name))) (Err NoMark)
-    (ap (λ (xs : List Mark). is_some (marked_events xs name)) same ∙ found_marked name ls ∙ none)
+    rw (same, found_marked name ls, none) refl
 
 -- which leaves all as it is
 pub none_removed : {K V : Type 0} (test : K → Bool) (ms : List (K × V)) → is_some (lookup test ms) ≡ false → remove_entry test ms ≡ ms
@@ -171,17 +149,13 @@ goto_not_done (Err e) b name es there h goes = inr (h, (es, there, λ (begins : 
 
 module _ (R : ℕ) (w : World) (o p : Option (List Event)) where
   pub first_missing : o ≡ None → AnswersSame R w o p (Err NoMark)
-  first_missing h = subst (λ (x : Option (List Event)). AnswersSame R w x p (Err NoMark)) (sym h) refl
+  first_missing h = rw h refl
 
   pub second_missing : (es : List Event) → o ≡ Some es → p ≡ None → AnswersSame R w o p (Err NoMark)
-  second_missing es h k =
-      subst (λ (x : Option (List Event)). AnswersSame R w x p (Err NoMark)) (sym h)
-      (subst (λ (x : Option (List Event)). AnswersSame R w (Some es) x (Err NoMark)) (sym k) refl)
+  second_missing es h k = rw (h, k) refl
 
   pub both_there : (es fs : List Event) (said : Result Bool Refusal) → o ≡ Some es → p ≡ Some fs → AnswersSame R w (Some es) (Some fs) said → AnswersSame R w o p said
-  both_there es fs said h k a =
-      subst (λ (x : Option (List Event)). AnswersSame R w x p said) (sym h)
-      (subst (λ (x : Option (List Event)). AnswersSame R w (Some es) x said) (sym k) a)
+  both_there es fs said h k a = rw (h, k) a
 
 -- records that are those of runs from the start are compared from there
 pub decided : (R : ℕ) (w : World) (xs ys : List Entry) (same : Bool) → IsRecordOfRun R w xs → IsRecordOfRun R w ys
@@ -211,12 +185,7 @@ length_said name n xs long = ap (λ (k : ℕ). Ok (name, k)) (sym long ∙ sym (
 
 -- a mark whose name is taken, or one too many
 pub mark_taken : (b : BookState) (name : MarkName) → is_some (marked_events b.marks name) ≡ true → mark b name ≡ Err MarkTaken
-mark_taken b name h =
-    cond-true (is_some (marked_events b.marks name)) (Err MarkTaken)
-    (if length b.marks == MOST_MARKS then Err TooManyMarks else Ok (with_marks b (b.marks ++ record { name = name; events = b.session.live } ∷ []))) h
+mark_taken b name h = rw h refl
 
 pub mark_too_many : (b : BookState) (name : MarkName) → is_some (marked_events b.marks name) ≡ false → length b.marks ≡ MOST_MARKS → mark b name ≡ Err TooManyMarks
-mark_too_many b name new h =
-    cond-false (is_some (marked_events b.marks name)) (Err MarkTaken)
-    (if length b.marks == MOST_MARKS then Err TooManyMarks else Ok (with_marks b (b.marks ++ record { name = name; events = b.session.live } ∷ []))) new
-    ∙ cond-true (length b.marks == MOST_MARKS) (Err TooManyMarks) (Ok (with_marks b (b.marks ++ record { name = name; events = b.session.live } ∷ []))) (eq-eqb (length b.marks) MOST_MARKS h)
+mark_too_many b name new h = rw (new, eq-eqb (length b.marks) MOST_MARKS h) refl

@@ -1,9 +1,9 @@
 -- What the bookmarks are after one was put, and after stretches were shrunk.
-use Rattle.std.proofs.Common.{◌≡◌, ℕ, zero, suc, ◌*◌, ◌^◌, ◌<◌, ◌≤◌, inl, inr, refl, sym, ap, ◌∙◌, subst, List, [], ◌∷◌, ◌++◌, map, length, take, drop, length-append, option_map, Option, Some, None, All, arith}
+use Rattle.std.proofs.Common.{◌≡◌, ℕ, zero, suc, ◌^◌, ◌<◌, ◌≤◌, inl, inr, refl, sym, ap, ◌∙◌, subst, List, [], ◌∷◌, ◌++◌, map, length, take, drop, length-append, option_map, Option, Some, None, All, arith}
 use Rattle.std.proofs.lemmas.Bool.{cases_lt}
 use Rattle.std.proofs.lemmas.List.Sums.{sum_by-le}
 use Rattle.std.proofs.lemmas.List.{length-map, map-append, take-append-drop}
-use Rattle.std.proofs.lemmas.List.Elements.{All-append, All-contains, All-cons, All-head, All-map, All-nil, All-tail}
+use Rattle.std.proofs.lemmas.List.Elements.{All-push, All-contains, All-cons, All-head, All-map, All-nil, All-tail}
 use Rattle.rd_step.specs.Prelude.{World, MOST_STEPS}
 use Rattle.rd_step.specs.Run.{events}
 use Rattle.rd_step.specs.declared.entries.Event.{Event}
@@ -28,18 +28,10 @@ use Rattle.std.proofs.lemmas.Bool.Decides.{nat_tests}
 abbrev pub shifted : Shift → List (MarkName × Place) → List (MarkName × Place)
 shifted shift ms = map (λ (m : MarkName × Place). (m.0, moved shift m.1)) ms
 
-shifted_length : (shift : Shift) (ms : List (MarkName × Place)) → length (shifted shift ms) ≡ length ms
-shifted_length shift [] = refl
-shifted_length shift (m ∷ ms) = ap suc (shifted_length shift ms)
-
 -- the names of the lists
 pub names_same : (ss : List Stretch) (ms : List (MarkName × Place)) → map (λ (l : MarkName × List Entry). l.0) (lists_of ss ms) ≡ map (λ (m : MarkName × Place). m.0) ms
 names_same ss [] = refl
 names_same ss (m ∷ ms) = ap (λ (names : List MarkName). m.0 ∷ names) (names_same ss ms)
-
-lists_length : (ss : List Stretch) (ms : List (MarkName × Place)) → length (lists_of ss ms) ≡ length ms
-lists_length ss [] = refl
-lists_length ss (m ∷ ms) = ap suc (lists_length ss ms)
 
 pub places_shifted : (shift : Shift) (ms : List (MarkName × Place)) → places_of (shifted shift ms) ≡ map (moved shift) (places_of ms)
 places_shifted shift [] = refl
@@ -75,21 +67,18 @@ module _ (old new : List Stretch) (at : Place) (live : List Entry) (grown : Grow
 
   pub within_put : All (λ (m : MarkName × Place). IsWithin new m.1) put
   within_put =
-      All-append (λ (m : MarkName × Place). IsWithin new m.1) (shifted grown.shift ms) ((name, grown.place) ∷ []) (within_shifted old new grown.shift ms stay)
-      (All-cons (λ (m : MarkName × Place). IsWithin new m.1) (name, grown.place) [] grows.within (All-nil (λ (m : MarkName × Place). IsWithin new m.1)))
+      All-push (λ (m : MarkName × Place). IsWithin new m.1) (shifted grown.shift ms) (name, grown.place) (within_shifted old new grown.shift ms stay) grows.within
 
   pub needed_put : AreNeeded old (places_of ms) → AreNeeded new (places_of put)
   needed_put needed =
-      subst (λ (ps : List Place). AreNeeded new ps)
-      (sym (map-append (λ (m : MarkName × Place). m.1) (shifted grown.shift ms) ((name, grown.place) ∷ []) ∙ ap (λ (ps : List Place). ps ++ grown.place ∷ []) (places_shifted grown.shift ms)))
-      (grows.needed (places_of ms) needed)
+      rw (map-append (λ (m : MarkName × Place). m.1) (shifted grown.shift ms) ((name, grown.place) ∷ []), places_shifted grown.shift ms) (grows.needed (places_of ms) needed)
 
   -- the rule is kept
   pub kept_put : (here there : Place) → IsKept old ms here → length ms < MOST_MARKS → (es : List (MarkName × Place)) → es ≡ put → IsWithin new there → IsKept new es there
   kept_put here there kept fewer es its lies =
       subst (λ (fs : List (MarkName × Place)). IsKept new fs there) (sym its) (record {
         few =
-            omega (arith, fewer, length-append (shifted grown.shift ms) ((name, grown.place) ∷ []), shifted_length grown.shift ms);
+            omega (arith, fewer, length-append (shifted grown.shift ms) ((name, grown.place) ∷ []), length-map {B = MarkName × Place} ms (λ m. (m.0, moved grown.shift m.1)));
         within = within_put;
         needed = needed_put kept.needed;
         lies = lies;
@@ -100,11 +89,8 @@ module _ (old new : List Stretch) (at : Place) (live : List Entry) (grown : Grow
       → (here.number ≤ n → there ≡ grown.place) → (n < here.number → there ≡ moved grown.shift here) → IsWithin new there × Begins (events (records_at new there)) steps
   here_put here there n steps lies stands begins near far =
       elim (cases_lt n here.number) [
-        | inl over ↦
-            let stays = grows.stays here lies in
-            subst (λ (p : Place). IsWithin new p × Begins (events (records_at new p)) steps) (sym (far over))
-            (stays.within, subst (λ (xs : List Entry). Begins (events xs) steps) (sym stays.same) stands)
-        | inr short ↦ subst (λ (p : Place). IsWithin new p × Begins (events (records_at new p)) steps) (sym (near short)) (grows.within, begins)
+        | inl over ↦ let stays = grows.stays here lies in rw (far over) (stays.within, rw stays.same stands)
+        | inr short ↦ rw (near short) (grows.within, begins)
       ]
 
 -- Nothing was put
@@ -138,17 +124,12 @@ same_records R w ss rule ms needed runs at within live run along = by at.number 
     by : (n : ℕ) → at.number ≡ n → records_at ss at ≡ take at.number live
     by zero none = ap (λ (k : ℕ). take k (list_of ss at.stretch)) none ∙ sym (ap (λ (k : ℕ). take k live) none)
     by (suc n) some =
-        let inside = stretch_within ss at within (omega (arith, some)) in
-        let r = begins_one ss rule ms needed at.stretch at.number inside within in
+        let r = begins_one ss rule ms needed at.stretch at.number (stretch_within ss at within (omega (arith, some))) within in
         let xs = records_at ss r.0.1 in
         let all = All-contains (λ (l : MarkName × List Entry). IsRecordOfRun R w l.1) (lists_of ss ms) (r.0.0, xs) runs (contains_mapped (λ (m : MarkName × Place). (m.0, records_at ss m.1)) ms r.0 r.1) in
         let alike : take at.number (events xs) ≡ take at.number (events live) =
         events_of_first at.number xs ∙ ap events r.2 ∙ sym (events_of_first at.number (list_of ss at.stretch)) ∙ along.alike in
         sym r.2 ∙ begin_alike R at.number w xs live all.ran run alike
-
--- so with the others behind them they are all of these
-pub all_records : (n : ℕ) (xs ys live : List Entry) → ys ≡ xs ++ drop n live → xs ≡ take n live → ys ≡ live
-all_records n xs ys live put first = put ∙ ap (λ (zs : List Entry). zs ++ drop n live) first ∙ take-append-drop n live
 
 -- Shrinking
 
@@ -162,7 +143,7 @@ greatest_of i (m ∷ ms) =
 module _ (old new : List Stretch) (i n : ℕ) (shift : Shift) (shrunk : IsShrunk old new i n shift) (ms : List (MarkName × Place)) (its : n ≡ needed_at old (places_of ms) i)
     (within : All (λ (m : MarkName × Place). IsWithin old m.1) ms) (needed : AreNeededFrom (suc i) old (places_of ms)) where
   stay_left : All (λ (m : MarkName × Place). Stays old new shift m.1) ms
-  stay_left = λ k d inside. shrunk.stays _ (within k d inside) (λ here. let least = greatest_of i ms k d inside here in omega (arith, least, its))
+  stay_left = λ k d inside. shrunk.stays _ (within k d inside) (λ here. omega (arith, greatest_of i ms k d inside here, its))
 
   -- what the bookmarks and a place are then
   pub pruned : (here kept : Place) → IsWithin old here → kept.stretch ≡ here.stretch → kept.number ≤ here.number → (kept.stretch ≡ i → kept.number ≤ n)
@@ -203,7 +184,7 @@ pruned_on i k a b c ms ns ls p q r first second = record {
 number_few : (ss : List Stretch) → AreNested ss → (p : Place) → IsWithin ss p → p.number ≤ MOST_STEPS
 number_few ss rule p within =
     elim (cases_lt 0 p.number) [
-      | inl some ↦ let few = rule.few p.stretch (stretch_within ss p within some) in omega (arith, few, within)
+      | inl some ↦ omega (arith, rule.few p.stretch (stretch_within ss p within some), within)
       | inr none ↦ omega (arith, none)
     ]
 
@@ -211,37 +192,19 @@ number_few ss rule p within =
 pub count_fits : (ss : List Stretch) → AreNested ss → (ms : List (MarkName × Place)) → AreNeeded ss (places_of ms) → All (λ (m : MarkName × Place). IsWithin ss m.1) ms
     → length ms ≤ MOST_MARKS → count_of ss < 2 ^ 64
 count_fits ss rule ms needed within few =
-    let all : All (λ (p : Place). p.number ≤ MOST_STEPS) (places_of ms) =
-    All-map (λ (p : Place). p.number ≤ MOST_STEPS) (λ (m : MarkName × Place). m.1) ms (λ k d inside. number_few ss rule _ (within k d inside)) in
-    let bound = count_bounded ss rule (places_of ms) needed in
-    let most = sum_by-le (λ (p : Place). p.number) MOST_STEPS (places_of ms) all in
-    let same = length-map ms (λ (m : MarkName × Place). m.1) in
-    times (length (places_of ms)) (omega (arith, same, few)) (omega (arith, bound, most))
-  where
-    times : (n : ℕ) → n ≤ 64 → count_of ss ≤ n * 65535 → count_of ss < 2 ^ 64
-    times n h k = omega (arith, h, k)
+    let all = All-map (λ (p : Place). p.number ≤ MOST_STEPS) (λ (m : MarkName × Place). m.1) ms (λ k d inside. number_few ss rule _ (within k d inside)) in
+    omega (arith, count_bounded ss rule (places_of ms) needed, sum_by-le (λ (p : Place). p.number) MOST_STEPS (places_of ms) all, length-map ms (λ (m : MarkName × Place). m.1), few)
 
 -- The records of the new list are those of a run as well
 
 pub runs_put : (R : ℕ) (w : World) (ls ms : List (MarkName × List Entry)) (name : MarkName) (xs : List Entry) → AreRuns R w ls → IsRecordOfRun R w xs → ms ≡ ls ++ (name, xs) ∷ [] → AreRuns R w ms
 runs_put R w ls ms name xs runs run its =
-    subst (λ (ks : List (MarkName × List Entry)). AreRuns R w ks) (sym its)
-    (All-append (λ (l : MarkName × List Entry). IsRecordOfRun R w l.1) ls ((name, xs) ∷ []) runs
-    (All-cons (λ (l : MarkName × List Entry). IsRecordOfRun R w l.1) (name, xs) [] run (All-nil (λ (l : MarkName × List Entry). IsRecordOfRun R w l.1))))
+    rw its (All-push (λ (l : MarkName × List Entry). IsRecordOfRun R w l.1) ls (name, xs) runs run)
 
 -- a name that none of the lists has is none of the names
 pub none_named : (f : Place → List Entry) (o : Option Place) → option_map f o ≡ None → o ≡ None
 none_named f None h = refl
 none_named f (Some p) h = cc
-
--- after all stretches were shrunk the rule is kept
-pub kept_pruned : (old new : List Stretch) (ms es : List (MarkName × Place)) (here there : Place) → length ms ≤ MOST_MARKS → IsPruned 0 old new ms es here there → IsKept new es there
-kept_pruned old new ms es here there few p = record {
-  few = omega (arith, few, ap length p.lists, lists_length old ms, lists_length new es);
-  within = p.within;
-  needed = λ i inside. p.needed i (omega arith) inside;
-  lies = p.lies;
-}
 
 -- Setting a bookmark
 
@@ -260,15 +223,14 @@ module _ (R : ℕ) (w : World) (old : List Stretch) (rule : AreNested old) (ms :
       → IsSet R w old new ms es name live steps there
   is_set new grown grows name mid es reserved its there n near far =
       let all : records_at new grown.place ≡ live =
-      all_records at.number (records_at old at) (records_at new grown.place) live grows.put (same_records R w old rule ms kept.needed runs at within live run.ran along) in
-      let put_now : es ≡ shifted grown.shift ms ++ (name, grown.place) ∷ [] =
-      its ∙ ap (λ (fs : List (MarkName × Place)). shifted grown.shift fs ++ (name, grown.place) ∷ []) reserved in
+      grows.put ∙ ap (λ (xs : List Entry). xs ++ drop at.number live) (same_records R w old rule ms kept.needed runs at within live run.ran along) ∙ take-append-drop at.number live in
+      let put_now = its ∙ ap (λ (fs : List (MarkName × Place)). shifted grown.shift fs ++ (name, grown.place) ∷ []) reserved in
       let lists : lists_of new es ≡ lists_of old ms ++ (name, live) ∷ [] =
       ap (lists_of new) put_now ∙ lists_put old new at live grown grows name ms kept.within ∙ ap (λ (xs : List Entry). lists_of old ms ++ (name, xs) ∷ []) all in
       let lies =
       here_put old new at live grown grows name ms kept.within here there n steps kept.lies stands (subst (λ (xs : List Entry). Begins (events xs) steps) (sym all) began) near far in
       record {
-        kept = kept_put old new at live grown grows name ms kept.within here there kept (omega (arith, fewer, lists_length old ms)) es put_now lies.0;
+        kept = kept_put old new at live grown grows name ms kept.within here there kept (omega (arith, fewer, length-map {B = MarkName × List Entry} ms (λ m. (m.0, records_at old m.1)))) es put_now lies.0;
         lists = lists;
         runs = runs_put R w (lists_of old ms) (lists_of new es) name live runs run lists;
         stands = lies.1;

@@ -1,9 +1,9 @@
 -- Reading the records of a place, and what the stretches have in common with other records.
-use Rattle.std.proofs.Common.{◌≡◌, ◌⊎◌, ℕ, zero, suc, ◌+◌, ◌-◌, ◌<◌, ◌≤◌, min, inl, inr, refl, sym, ap, ◌∙◌, subst, List, [], ◌∷◌, ◌++◌, length, take, drop, get_or, reverse, slice_get, option_map, Some, None, arith}
-use Rattle.std.proofs.Math.Seq.{drop-cons, take-append-add, drop-append_seam}
+use Rattle.std.proofs.Common.{◌≡◌, ◌⊎◌, ℕ, zero, suc, ◌+◌, ◌-◌, ◌<◌, ◌≤◌, min, inl, inr, refl, sym, ap, ◌∙◌, subst, List, [], ◌∷◌, ◌++◌, length, take, drop, get_or, reverse, slice_get, option_map, Some, arith}
+use Rattle.std.proofs.Math.Seq.{drop-cons, take-append-add}
 use Rattle.std.proofs.lemmas.Bool.{cases_eq, cases_lt}
 use Rattle.std.proofs.lemmas.List.{append_assoc, drop-take, length-map, length-take-le, reverse-append, take-append-drop, take-take}
-use Rattle.std.proofs.lemmas.Option.{slice_get-map, slice_get_past, slice_get_read, slice_get_within}
+use Rattle.std.proofs.lemmas.Option.{slice_get-map, slice_get_read, slice_get_within}
 use Rattle.rd_step.specs.Run.{events}
 use Rattle.rd_step.specs.declared.entries.Event.{Event}
 use Rattle.rd_step.specs.declared.entries.Entry.{Entry}
@@ -31,8 +31,7 @@ slice_get_drop (x ∷ xs) (suc m) n = slice_get_drop xs m n ∙ ap (slice_get (x
 -- the first n + m are the first n and m of the others
 take_parts : {X : Type 0} (n m : ℕ) (xs : List X) → n ≤ length xs → take (n + m) xs ≡ take n xs ++ take m (drop n xs)
 take_parts {X} n m xs h =
-    let long : length (take n xs) ≡ n = length-take-le n xs h in
-    ap (take (n + m)) (sym (take-append-drop n xs)) ∙ ap (λ (k : ℕ). take (k + m) (take n xs ++ drop n xs)) (sym long) ∙ take-append-add (take n xs) (drop n xs) m
+    ap (take (n + m)) (sym (take-append-drop n xs)) ∙ ap (λ (k : ℕ). take (k + m) (take n xs ++ drop n xs)) (sym (length-take-le n xs h)) ∙ take-append-add (take n xs) (drop n xs) m
 
 -- one more element
 pub one_more : {X : Type 0} (xs : List X) (n : ℕ) (x : X) → slice_get xs n ≡ Some x → take (suc n) xs ≡ take n xs ++ x ∷ []
@@ -54,11 +53,10 @@ alike_no_further : {X : Type 0} (n m : ℕ) (xs ys : List X) → suc (n + m) ≤
     → ((x : X) → slice_get (drop n xs) m ≡ Some x → slice_get (drop n ys) m ≡ Some x → ⊥) → ⊥
 alike_no_further n m xs ys long same apart =
     let found = there_is ys (n + m) long in
-    let there : slice_get (drop n ys) m ≡ Some found.0 = slice_get_drop ys n m ∙ found.1 in
-    let here : slice_get (drop n xs) m ≡ Some found.0 =
+    let here =
     slice_get_drop xs n m ∙ sym (slice_get_take xs (suc (n + m)) (n + m) (omega arith)) ∙ ap (λ (zs : List _). slice_get zs (n + m)) same
     ∙ slice_get_take ys (suc (n + m)) (n + m) (omega arith) ∙ found.1 in
-    apart found.0 here there
+    apart found.0 here (slice_get_drop ys n m ∙ found.1)
 
 -- one event more, and no more than there are
 pub alike_on : (xs ys : List Entry) (n : ℕ) (x y : Entry) → n < length xs → n < length ys → x ≡ get_or xs n x → y ≡ get_or ys n y → x.event ≡ y.event
@@ -67,8 +65,7 @@ alike_on xs ys n x y inside inside_too its its_too same alike =
     let here = slice_get-map (λ (z : Entry). z.event) xs n ∙ ap (option_map (λ (z : Entry). z.event)) (slice_get_read xs (length xs) n x refl inside its) in
     let there = slice_get-map (λ (z : Entry). z.event) ys n ∙ ap (option_map (λ (z : Entry). z.event)) (slice_get_read ys (length ys) n y refl inside_too its_too) in
     let e : n + 1 ≡ suc n = omega arith in
-    ap (λ (k : ℕ). take k (events xs)) e ∙ one_more (events xs) n x.event here ∙ (λ i. alike i ++ same i ∷ []) ∙ sym (one_more (events ys) n y.event there)
-    ∙ ap (λ (k : ℕ). take k (events ys)) (sym e)
+    rw e (one_more (events xs) n x.event here ∙ (λ i. alike i ++ same i ∷ []) ∙ sym (one_more (events ys) n y.event there))
 
 pub alike_past : (xs ys : List Entry) (n : ℕ) → min (length xs) (length ys) ≤ n → (e : Event) → slice_get (events xs) n ≡ Some e → slice_get (events ys) n ≡ Some e → ⊥
 alike_past xs ys n past e here there =
@@ -79,18 +76,7 @@ alike_past xs ys n past e here there =
 -- one more record read
 pub read_on : {X : Type 0} (ps qs rs xs : List X) (x : X) → ps ≡ qs ++ x ∷ [] → xs ≡ ps ++ reverse rs → xs ≡ qs ++ reverse (rs ++ x ∷ [])
 read_on {X} ps qs rs xs x h k =
-    k ∙ ap (λ (ys : List X). ys ++ reverse rs) h ∙ append_assoc qs (x ∷ []) (reverse rs)
-    ∙ ap (λ (ys : List X). qs ++ ys) (sym (reverse-append rs (x ∷ [])))
-
--- all of those behind the first
-pub all_read : {X : Type 0} (ps rs xs : List X) (n : ℕ) → length ps ≡ n → xs ≡ ps ++ reverse rs → reverse rs ≡ drop n xs
-all_read ps rs xs n h k = sym (ap (λ (m : ℕ). drop m xs) (sym h) ∙ ap (drop (length ps)) k ∙ drop-append_seam ps (reverse rs))
-
--- an event by its number, from 1: none stands at 0 or past the end
-pub event_past : (es : List Event) (n : ℕ) → (n ≡ 0) ⊎ (length es < n) → None ≡ event_at es n
-event_past es zero h = refl
-event_past es (suc n) (inl e) = absurd (omega (arith, e))
-event_past es (suc n) (inr past) = sym (slice_get_past es n (omega (arith, past)))
+    k ∙ ap (λ (ys : List X). ys ++ reverse rs) h ∙ append_assoc qs (x ∷ []) (reverse rs) ∙ ap (λ (ys : List X). qs ++ ys) (sym (reverse-append rs (x ∷ [])))
 
 -- the last record of a beginning is of the event whose number is its length
 pub event_there : (xs : List Entry) (m n k : ℕ) (x : Entry) → 1 ≤ n → m ≡ n → k ≡ m - 1 → slice_get (take m xs) k ≡ Some x → (l : ℕ) → n ≤ l → Some x.event ≡ event_at (events (take l xs)) n
@@ -121,9 +107,7 @@ count_on ss i s inside its =
 module _ (ss : List Stretch) (rule : AreNested ss) where
   -- a place none of whose records is its stretch's own, and that in the stretch before
   pub one_down : (k n : ℕ) → n ≤ shared_at ss (suc k) → (n ≤ length (list_of ss k)) × (take n (list_of ss k) ≡ take n (list_of ss (suc k)))
-  one_down k n h =
-      let there = shared_within ss rule (suc k) in
-      (omega (arith, h, there), sym (begins_shared ss rule (suc k) n h))
+  one_down k n h = (omega (arith, h, shared_within ss rule (suc k)), sym (begins_shared ss rule (suc k) n h))
 
   pub down : (p : Place) → 0 < p.stretch → p.number ≤ shared_at ss p.stretch
       → IsWithin ss (record { stretch = p.stretch - 1; number = p.number }) × (records_at ss (record { stretch = p.stretch - 1; number = p.number }) ≡ records_at ss p)
@@ -138,26 +122,26 @@ module _ (ss : List Stretch) (rule : AreNested ss) where
   common_on one i c d less shared same =
       begins_shared ss rule (suc i) d shared ∙ sym (take-take d c (list_of ss i) less) ∙ ap (take d) same ∙ take-take d c (list_of ss one) less
 
-  -- the number of a place in its own stretch is no less than what is shared
-  pub own_number : (p : Place) → IsOwn ss p → shared_at ss p.stretch ≤ p.number
-  own_number p own = by p.stretch own
-    where
-      by : (k : ℕ) → (0 < k → shared_at ss k < p.number) → shared_at ss k ≤ p.number
-      by zero h = let least = shared_within ss rule 0 in omega (arith, least)
-      by (suc k) h = let less = h (omega arith) in omega (arith, less)
-
-  pub own_less : (p : Place) → IsOwn ss p → 0 < p.number → shared_at ss p.stretch < p.number
-  own_less p own some = by p.stretch own
-    where
-      by : (k : ℕ) → (0 < k → shared_at ss k < p.number) → shared_at ss k < p.number
-      by zero h = let least = shared_within ss rule 0 in omega (arith, least, some)
-      by (suc k) h = h (omega arith)
-
   pub own_cases : (p : Place) → IsOwn ss p → (p.stretch ≡ 0) ⊎ (shared_at ss p.stretch < p.number)
   own_cases p own =
       elim (cases_lt 0 p.stretch) [
         | inl some ↦ inr (own some)
         | inr none ↦ inl (omega (arith, none))
+      ]
+
+  -- the number of a place in its own stretch is no less than what is shared
+  pub own_number : (p : Place) → IsOwn ss p → shared_at ss p.stretch ≤ p.number
+  own_number p own =
+      elim (own_cases p own) [
+        | inl first ↦ omega (arith, shared_within ss rule 0, ap (shared_at ss) first)
+        | inr less ↦ omega (arith, less)
+      ]
+
+  pub own_less : (p : Place) → IsOwn ss p → 0 < p.number → shared_at ss p.stretch < p.number
+  own_less p own some =
+      elim (own_cases p own) [
+        | inl first ↦ omega (arith, shared_within ss rule 0, some, ap (shared_at ss) first)
+        | inr less ↦ less
       ]
 
   -- a place has one record more than that of one fewer
@@ -185,8 +169,8 @@ module _ (ss : List Stretch) (rule : AreNested ss) where
       let n = shared_at ss p.stretch in
       let k = p.number - n - 1 in
       let at : p.number - 1 ≡ n + k = omega (arith, less) in
-      let own : drop n (list_of ss p.stretch) ≡ own_at ss p.stretch =
-      behind_shared ss rule p.stretch n (omega arith) ∙ (let none : n - n ≡ 0 = omega arith in ap (λ (m : ℕ). drop m (own_at ss p.stretch)) none) in
+      let none : n - n ≡ 0 = omega arith in
+      let own = behind_shared ss rule p.stretch n (omega arith) ∙ ap (λ (m : ℕ). drop m (own_at ss p.stretch)) none in
       slice_get_take (list_of ss p.stretch) p.number (p.number - 1) (omega (arith, less)) ∙ ap (slice_get (list_of ss p.stretch)) at
       ∙ sym (slice_get_drop (list_of ss p.stretch) n k) ∙ ap (λ (xs : List Entry). slice_get xs k) own ∙ its
 
@@ -196,15 +180,13 @@ module _ (ss : List Stretch) (rule : AreNested ss) where
     own_events = sym (events_behind n (list_of ss i)) ∙ ap events (behind_shared ss rule i n shared)
 
     long : n ≤ length (events (list_of ss i))
-    long = let within = along_within ss i n es along in let its = length-map (list_of ss i) (λ (x : Entry). x.event) in omega (arith, within, its)
+    long = omega (arith, along_within ss i n es along, length-map (list_of ss i) (λ (x : Entry). x.event))
 
     pub along_further : m ≤ length es - n → take m (events (drop (n - shared_at ss i) (own_at ss i))) ≡ take m (drop n es) → IsAlong ss i (n + m) es
-    along_further few same =
-        let enough = along.enough in
-        record {
-          enough = omega (arith, few, enough);
-          alike = alike_further n m (events (list_of ss i)) es long enough along.alike (ap (take m) own_events ∙ same);
-        }
+    along_further few same = record {
+      enough = omega (arith, few, along.enough);
+      alike = alike_further n m (events (list_of ss i)) es long along.enough along.alike (ap (take m) own_events ∙ same);
+    }
 
     pub along_no_further : ((e : Event) → slice_get (events (drop (n - shared_at ss i) (own_at ss i))) m ≡ Some e → slice_get (drop n es) m ≡ Some e → ⊥) → IsAlong ss i (suc (n + m)) es → ⊥
     along_no_further apart further =
@@ -219,8 +201,7 @@ module _ (ss : List Stretch) (rule : AreNested ss) (fresh : AreFresh ss) (es : L
   step_compared low shared m h along most next more others =
       elim (cases_lt at.number m) [
         | inl further ↦
-            subst (λ (p : Place). Follows ss es (suc k) p.stretch p.number × (p.stretch ≤ k)) (sym (more further))
-            (follows_compared ss rule fresh es k at.stretch at.number m f h along most, omega arith)
+            rw (more further) (follows_compared ss rule fresh es k at.stretch at.number m f h along most, omega arith)
         | inr no_further ↦
             let same : m ≡ at.number = omega (arith, h, no_further) in
             let which : (at.stretch ≡ k) ⊎ (shared_at ss k ≡ at.number) =
@@ -228,14 +209,13 @@ module _ (ss : List Stretch) (rule : AreNested ss) (fresh : AreFresh ss) (es : L
               | inl here ↦ inl here
               | inr less ↦ inr (omega (arith, less, shared))
             ] in
-            subst (λ (p : Place). Follows ss es (suc k) p.stretch p.number × (p.stretch ≤ k)) (sym (others same))
-            (follows_parted ss rule fresh es k at.stretch at.number f which (subst (λ (n : ℕ). IsAlong ss k (suc n) es → ⊥) same most), high)
+            rw (others same) (follows_parted ss rule fresh es k at.stretch at.number f which (subst (λ (n : ℕ). IsAlong ss k (suc n) es → ⊥) same most), high)
       ]
 
   pub step_skipped : (at.stretch ≡ k → shared_at ss k ≤ at.number) → at.number < shared_at ss k → Follows ss es (suc k) at.stretch at.number × (at.stretch ≤ k)
   step_skipped own more =
       elim (cases_eq at.stretch k) [
-        | inl here ↦ absurd (let less = own here in omega (arith, less, more))
+        | inl here ↦ absurd (omega (arith, own here, more))
         | inr apart ↦ (follows_skipped ss rule fresh es k at.stretch at.number f (omega (arith, high, apart)) more, high)
       ]
 
@@ -247,9 +227,8 @@ module _ (ss : List Stretch) (rule : AreNested ss) (fresh : AreFresh ss) (one ot
   common_most zero h l same k low high = omega arith
   common_most (suc n) h l same k low high =
       let es = events (list_of ss other.stretch) in
-      let its = length-map (list_of ss other.stretch) (λ (x : Entry). x.event) in
       between ss rule fresh one.stretch other.stretch (suc n) es (stretch_within ss other within_too (omega (arith, l)))
-      (record { enough = omega (arith, its, within_too, l); alike = sym (first_events ss one (suc n) h) ∙ same ∙ first_events ss other (suc n) l })
+      (record { enough = omega (arith, length-map (list_of ss other.stretch) (λ (x : Entry). x.event), within_too, l); alike = sym (first_events ss one (suc n) h) ∙ same ∙ first_events ss other (suc n) l })
       (along_itself ss other.stretch (suc n) (omega (arith, within_too, l))) k low high
 
 -- The next stretch that no longer goes on as a place's does
@@ -261,32 +240,23 @@ pub record Reaches (ss : List Stretch) (at : Place) (i : ℕ) : Type 0 where
 
 module _ (ss : List Stretch) (rule : AreNested ss) (at : Place) (within : IsWithin ss at) where
   reaches_first : (i : ℕ) → at.stretch ≡ i → Reaches ss at (suc i)
-  reaches_first i here = record {
-    enough = subst (λ (k : ℕ). at.number ≤ length (list_of ss k)) here within;
-    same = ap (λ (k : ℕ). take at.number (list_of ss k)) (sym here);
-  }
+  reaches_first i here = record { enough = rw (sym here) within; same = ap (λ (k : ℕ). take at.number (list_of ss k)) (sym here) }
 
   pub reaches_on : (i : ℕ) → (at.stretch ≡ i) ⊎ (at.number < shared_at ss i) → (at.stretch < i → Reaches ss at i) → at.stretch ≤ i → Reaches ss at (suc i)
   reaches_on i (inl here) before high = reaches_first i here
   reaches_on i (inr less) before high =
       elim (cases_lt at.stretch i) [
         | inl low ↦
-            let r = before low in
-            let all = total ss rule i in
-            record { enough = omega (arith, all, less); same = begins_shared ss rule i at.number (omega (arith, less)) ∙ r.same }
+            record { enough = omega (arith, total ss rule i, less); same = begins_shared ss rule i at.number (omega (arith, less)) ∙ (before low).same }
         | inr same ↦ reaches_first i (omega (arith, same, high))
       ]
 
   -- behind the last one
-  pub reaches_end : (at.stretch < length ss → Reaches ss at (length ss)) → Reaches ss at (length ss)
-  reaches_end before =
+  pub reaches_end : (i n : ℕ) → n ≡ length ss → (at.stretch < length ss → i ≡ n) → (at.stretch < i → Reaches ss at i) → Reaches ss at n
+  reaches_end i n all end before =
       elim (cases_lt at.stretch (length ss)) [
-        | inl inside ↦ before inside
+        | inl inside ↦ subst (λ (k : ℕ). Reaches ss at k) (end inside) (before (omega (arith, inside, all, end inside)))
         | inr past ↦
-            let none = ap length (list_past ss at.stretch past) in
-            let no_records : at.number ≡ 0 = omega (arith, none, within) in
-            record {
-              enough = omega (arith, no_records);
-              same = ap (λ (k : ℕ). take k (list_before ss (length ss))) no_records ∙ sym (ap (λ (k : ℕ). take k (list_of ss at.stretch)) no_records);
-            }
+            let no_records : at.number ≡ 0 = omega (arith, ap length (list_past ss at.stretch past), within) in
+            record { enough = omega (arith, no_records); same = rw no_records refl }
       ]

@@ -1,6 +1,6 @@
 -- The records of a session's live steps, and that they are those of a run.
-use Rattle.std.proofs.Common.{◌≡◌, ℕ, zero, suc, drop, ◌+◌, ◌≤◌, refl, sym, ap, subst, ◌∙◌, List, [], ◌∷◌, ◌++◌, length, take, ◌-◌, Result, Ok, Err, OnOk, length-drop, length-append, arith}
-use Rattle.std.proofs.Math.Seq.{take-length, take-append_seam}
+use Rattle.std.proofs.Common.{◌≡◌, ℕ, zero, suc, drop, ◌+◌, ◌≤◌, refl, sym, ap, subst, ◌∙◌, List, [], ◌∷◌, ◌++◌, length, take, ◌-◌, Result, Ok, Err, OnOk, length-drop, arith}
+use Rattle.std.proofs.Math.Seq.{take-length}
 use Rattle.rd_step.specs.Prelude.{Refusal, MOST_STEPS, World, Stepped, step, Ran, run}
 use Rattle.rd_step.specs.Run.{run_preceded_by, run_from_step}
 use Rattle.rd_step.specs.declared.entries.Event.{Event}
@@ -8,18 +8,7 @@ use Rattle.std.proofs.lemmas.List.{take-append-drop, drop-map}
 use Rattle.rd_step.specs.declared.entries.Entry.{Entry}
 use Rattle.rd_journal.specs.State.{State, state_of, switch}
 use Rattle.rd_journal.specs.Journal.{Journal, start_of, events, run_entries, IsRunFrom}
-use Rattle.rd_journal.proofs.Ahead.{first_run}
 use Rattle.rd_marks.specs.Layout.{IsRecordOfRun}
-
--- the first events of some records are those of the first records
-take_events : (n : ℕ) (xs : List Entry) → take n (events xs) ≡ events (take n xs)
-take_events zero xs = refl
-take_events (suc n) [] = refl
-take_events (suc n) (x ∷ xs) = ap (λ (es : List Event). x.event ∷ es) (take_events n xs)
-
--- what records have in common at their beginning, their events have
-pub common_events : (n : ℕ) (es : List Event) (xs ys : List Entry) → events xs ≡ es → events (take n xs) ≡ events (take n ys) → take n es ≡ take n (events ys)
-common_events n es xs ys same h = ap (take n) (sym same) ∙ take_events n xs ∙ h ∙ sym (take_events n ys)
 
 -- A start and its events determine the records of a run
 
@@ -32,10 +21,7 @@ pub record Began (R : ℕ) (w : World) (x : Entry) (xs : List Entry) : Type 0 wh
 
 preceded : (y x : Entry) (xs : List Entry) (q : Result Ran Refusal) → run_entries (run_preceded_by y q) ≡ Ok (x ∷ xs) → (y ≡ x) × (run_entries q ≡ Ok xs)
 preceded y x xs (Err e) h = cc
-preceded y x xs (Ok ran) h =
-    let first : y ≡ x = cc in
-    let rest : ran.entries ≡ xs = cc in
-    (first, ap (λ (es : List Entry). Ok es) rest)
+preceded y x xs (Ok ran) h = (cc, let rest : ran.entries ≡ xs = cc in ap (λ (es : List Entry). Ok es) rest)
 
 began_by : (R : ℕ) (w : World) (x : Entry) (xs : List Entry) (r : Result Stepped Refusal) → step R w x.event ≡ r
     → run_entries (run_from_step (λ v. run R v (events xs)) r) ≡ Ok (x ∷ xs) → Began R w x xs
@@ -62,19 +48,14 @@ begin_alike R (suc n) w (x ∷ xs) (y ∷ ys) p q h =
     let both : Ok a.stepped ≡ Ok b.stepped = sym a.goes ∙ ap (step R w) event ∙ b.goes in
     let stepped : a.stepped ≡ b.stepped = cc in
     let entry : x ≡ y = sym a.entry ∙ ap (λ (s : Stepped). s.entry) stepped ∙ b.entry in
-    let on : run_entries (run R b.stepped.world (events xs)) ≡ Ok xs =
-    ap (λ (s : Stepped). run_entries (run R s.world (events xs))) (sym stepped) ∙ a.rest in
-    let rest : take n xs ≡ take n ys = begin_alike R n b.stepped.world xs ys on b.rest events_on in
-    (λ i. entry i ∷ rest i)
+    let on = ap (λ (s : Stepped). run_entries (run R s.world (events xs))) (sym stepped) ∙ a.rest in
+    (λ i. entry i ∷ begin_alike R n b.stepped.world xs ys on b.rest events_on i)
 
 -- a list from a position to its end
 pub to_the_end : {X : Type 0} (n : ℕ) (xs : List X) → take (length xs - n) (drop n xs) ≡ drop n xs
 to_the_end {X} n xs = ap (λ (k : ℕ). take k (drop n xs)) (sym (length-drop n xs)) ∙ take-length (drop n xs)
 
--- the first live records with those that a run has behind them
-pub joined : (n : ℕ) (xs ys : List Entry) → take n xs ≡ take n ys → take n xs ++ drop n ys ≡ ys
-joined n xs ys h = ap (λ (zs : List Entry). zs ++ drop n ys) h ∙ take-append-drop n ys
-
+-- the first live events with those that a run has behind them
 pub joined_events : (n : ℕ) (es : List Event) (ys : List Entry) → take n es ≡ take n (events ys) → take n es ++ events (drop n ys) ≡ events ys
 joined_events n es ys h =
     ap (λ (zs : List Event). zs ++ events (drop n ys)) h ∙ ap (λ (zs : List Event). take n (events ys) ++ zs) (sym (drop-map (λ (x : Entry). x.event) n ys))
@@ -93,17 +74,7 @@ pub may_switch : (R : ℕ) (j : Journal) (n : ℕ) (zs ys : List Entry) → zs �
     → take n (state_of j).live ≡ take n (events ys) → IsRunFrom R (start_of j) (take n j.live ++ zs)
 may_switch R j n zs ys given ran kept h =
     let alike : take n j.live ≡ take n ys = begin_alike R n (start_of j) j.live ys ran kept.ran h in
-    let all : take n j.live ++ zs ≡ ys = ap (λ (xs : List Entry). take n j.live ++ xs) given ∙ joined n j.live ys alike in
-    subst (λ (xs : List Entry). IsRunFrom R (start_of j) xs) (sym all) kept.ran
+    subst (λ (xs : List Entry). IsRunFrom R (start_of j) xs) (sym ((λ i. alike i ++ given i) ∙ take-append-drop n ys)) kept.ran
 
 pub few_enough : (n : ℕ) (zs ys : List Entry) → zs ≡ drop n ys → n ≤ length ys → length ys ≤ MOST_STEPS → n + length zs ≤ MOST_STEPS
-few_enough n zs ys given h k =
-    let rest : length zs ≡ length ys - n = ap length given ∙ length-drop n ys in
-    omega arith
-
--- the beginning of a run is a run
-pub begins_record : (R : ℕ) (w : World) (xs ys : List Entry) → IsRecordOfRun R w (xs ++ ys) → IsRecordOfRun R w xs
-begins_record R w xs ys h = record {
-  few = omega (arith, h.few, length-append xs ys);
-  ran = subst (λ (zs : List Entry). IsRunFrom R w zs) (take-append_seam xs ys) (first_run R (length xs) w (xs ++ ys) h.ran);
-}
+few_enough n zs ys given h k = omega (arith, ap length given, length-drop n ys)

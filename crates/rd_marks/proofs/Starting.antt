@@ -1,8 +1,8 @@
 -- Lists that begin others, and the records up to a place.
-use Rattle.std.proofs.Common.{◌≡◌, ℕ, ◌<◌, ◌≤◌, inl, inr, sym, ap, ◌∙◌, subst, List, ◌++◌, length, take, drop, length-append, arith}
-use Rattle.std.proofs.Math.Seq.{take-append_seam, take-length}
+use Rattle.std.proofs.Common.{◌≡◌, ℕ, ◌<◌, ◌≤◌, inl, inr, sym, ap, ◌∙◌, List, length, take, length-take, arith}
+use Rattle.std.proofs.Math.Seq.{take-length}
 use Rattle.std.proofs.lemmas.Bool.{cases_lt}
-use Rattle.std.proofs.lemmas.List.{length-map, length-take-le, take-map, take-take, take-append-drop}
+use Rattle.std.proofs.lemmas.List.{length-map, length-take-le, take-map, take-take}
 use Rattle.rd_step.specs.Run.{events}
 use Rattle.rd_step.specs.declared.entries.Entry.{Entry}
 use Rattle.rd_depend.specs.Beginnings.{Begins}
@@ -11,25 +11,14 @@ use Rattle.rd_marks.specs.declared.stretches.Stretch.{Stretch}
 use Rattle.rd_marks.specs.Stretches.{list_of, records_at, IsWithin}
 use Rattle.rd_marks.proofs.StretchLists.{list_past}
 
--- a list that begins with another is that and a rest
-begun : {X : Type 0} (xs ys : List X) → Begins xs ys → ys ≡ xs ++ drop (length xs) ys
-begun {X} xs ys h = sym (take-append-drop (length xs) ys) ∙ ap (λ (zs : List X). zs ++ drop (length xs) ys) h
-
 pub begins_itself : {X : Type 0} (xs : List X) → Begins xs xs
 begins_itself xs = take-length xs
 
-pub begins_with : {X : Type 0} (xs ys rest : List X) → ys ≡ xs ++ rest → Begins xs ys
-begins_with xs ys rest h = ap (take (length xs)) h ∙ take-append_seam xs rest
-
 pub begins_shorter : {X : Type 0} (xs ys : List X) → Begins xs ys → length xs ≤ length ys
-begins_shorter xs ys h =
-    let all = ap length (begun xs ys h) ∙ length-append xs (drop (length xs) ys) in
-    omega (arith, all)
+begins_shorter xs ys h = omega (arith, ap length h, length-take (length xs) ys)
 
 pub begins_trans : {X : Type 0} (xs ys zs : List X) → Begins xs ys → Begins ys zs → Begins xs zs
-begins_trans xs ys zs h k =
-    let short = begins_shorter xs ys h in
-    sym (take-take (length xs) (length ys) zs short) ∙ ap (take (length xs)) k ∙ h
+begins_trans xs ys zs h k = sym (take-take (length xs) (length ys) zs (begins_shorter xs ys h)) ∙ ap (take (length xs)) k ∙ h
 
 event_length : (xs : List Entry) → length (events xs) ≡ length xs
 event_length xs = length-map xs (λ (x : Entry). x.event)
@@ -55,7 +44,7 @@ module _ (ss : List Stretch) where
   stretch_within p within some =
       elim (cases_lt p.stretch (length ss)) [
         | inl inside ↦ inside
-        | inr past ↦ let none = ap length (list_past ss p.stretch past) in absurd (omega (arith, none, within, some))
+        | inr past ↦ absurd (omega (arith, ap length (list_past ss p.stretch past), within, some))
       ]
 
   -- the first of them are the first of the list
@@ -68,8 +57,7 @@ module _ (ss : List Stretch) where
   -- those up to a place of the same list with no greater number begin them
   pub fewer_begin : (p q : Place) → IsWithin ss p → q.stretch ≡ p.stretch → q.number ≤ p.number → IsWithin ss q × Begins (records_at ss q) (records_at ss p)
   fewer_begin p q within same fewer =
-      let there : q.number ≤ length (list_of ss p.stretch) = omega (arith, within, fewer) in
-      let is : IsWithin ss q = subst (λ (i : ℕ). q.number ≤ length (list_of ss i)) (sym same) there in (
+      let is : IsWithin ss q = omega (arith, within, fewer, ap (λ (i : ℕ). length (list_of ss i)) same) in (
         is,
         ap (λ (n : ℕ). take n (records_at ss p)) (records_length q is) ∙ first_records p q.number fewer ∙ ap (λ (i : ℕ). take q.number (list_of ss i)) (sym same),
       )

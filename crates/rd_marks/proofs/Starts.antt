@@ -1,6 +1,6 @@
 -- No call of a session moves its start, so the marks of a book stay runs from there.
-use Rattle.std.proofs.Common.{◌≡◌, ℕ, zero, suc, ◌==◌, nat_lt, Bool, true, false, if◌then◌else◌, refl, sym, ap, ◌∙◌, subst, List, [], length, Option, Some, None, Result, Ok, Err, OnOk, OnErr}
-use Rattle.rd_step.specs.Prelude.{Refusal, TooLong, NothingToUndo, NothingToRedo, NoSuchStep, World, Stepped}
+use Rattle.std.proofs.Common.{◌≡◌, ℕ, zero, suc, ◌==◌, nat_lt, Bool, true, false, if◌then◌else◌, refl, sym, ap, ◌∙◌, List, [], length, Option, Some, None, Result, Ok, Err, OnOk, OnErr}
+use Rattle.rd_step.specs.Prelude.{Refusal, World, Stepped}
 use Rattle.rd_step.specs.declared.entries.Event.{Event}
 use Rattle.rd_step.specs.declared.entries.Entry.{Entry}
 use Rattle.rd_journal.specs.Journal.{Journal, start_of}
@@ -9,20 +9,23 @@ use Rattle.rd_marks.specs.declared.names.MarkName.{MarkName}
 use Rattle.rd_marks.specs.Layout.{AreRuns}
 
 of_ok : (s t : State) (r : Result State Refusal) → r ≡ Ok s → r ≡ Ok t → t.start ≡ s.start
-of_ok s t r k h =
-    let e : s ≡ t = cc in
-    ap (λ (u : State). u.start) (sym e)
+of_ok s t r k h = let e : s ≡ t = cc in ap (λ (u : State). u.start) (sym e)
+
+-- a call that is refused in one case starts where it starts in the other
+unless_start : (s t : State) (b : Bool) (e : Refusal) (r : Result State Refusal) → (r ≡ Ok t → t.start ≡ s.start) → (if b then Err e else r) ≡ Ok t → t.start ≡ s.start
+unless_start s t true e r f h = cc
+unless_start s t false e r f h = f h
+
+if_start : (s t : State) (b : Bool) (e : Refusal) (r : Result State Refusal) → (r ≡ Ok t → t.start ≡ s.start) → (if b then r else Err e) ≡ Ok t → t.start ≡ s.start
+if_start s t true e r f h = f h
+if_start s t false e r f h = cc
 
 with_event_start : (s : State) (e : Event) (r : Result Stepped Refusal) (t : State) → with_event s e r ≡ Ok t → t.start ≡ s.start
 with_event_start s e (Err refusal) t h = cc
 with_event_start s e (Ok stepped) t h = of_ok _ t _ refl h
 
 pub apply_start : (R : ℕ) (s : State) (e : Event) (t : State) → apply R s e ≡ Ok t → t.start ≡ s.start
-apply_start R s e t =
-    elim (length s.live == 65535) as (λ b. (if b then Err TooLong else with_event s e (step_after R (run_of R s) e)) ≡ Ok t → t.start ≡ s.start) [
-      | true ↦ λ h. cc
-      | false ↦ λ h. with_event_start s e (step_after R (run_of R s) e) t h
-    ]
+apply_start R s e t h = unless_start s t (length s.live == 65535) _ _ (with_event_start s e (step_after R (run_of R s) e) t) h
 
 times_back_start : (n : ℕ) (s : State) → (times n back_one s).start ≡ s.start
 times_back_start zero s = refl
@@ -33,54 +36,28 @@ times_forward_start zero s = refl
 times_forward_start (suc n) s = times_forward_start n s
 
 pub back_start : (s : State) (n : ℕ) (t : State) → back s n ≡ Ok t → t.start ≡ s.start
-back_start s n t =
-    elim (nat_lt (length s.live) n) as (λ b. (if b then Err (NothingToUndo (length s.live)) else Ok (times n back_one s)) ≡ Ok t → t.start ≡ s.start) [
-      | true ↦ λ h. cc
-      | false ↦ λ h. of_ok _ t _ refl h ∙ times_back_start n s
-    ]
+back_start s n t h = unless_start s t (nat_lt (length s.live) n) _ _ (λ k. of_ok (times n back_one s) t _ refl k ∙ times_back_start n s) h
 
 pub forward_start : (s : State) (n : ℕ) (t : State) → forward s n ≡ Ok t → t.start ≡ s.start
-forward_start s n t =
-    elim (nat_lt (length s.undone) n) as (λ b. (if b then Err NothingToRedo else Ok (times n forward_one s)) ≡ Ok t → t.start ≡ s.start) [
-      | true ↦ λ h. cc
-      | false ↦ λ h. of_ok _ t _ refl h ∙ times_forward_start n s
-    ]
+forward_start s n t h = unless_start s t (nat_lt (length s.undone) n) _ _ (λ k. of_ok (times n forward_one s) t _ refl k ∙ times_forward_start n s) h
 
 pub undo_start : (s t : State) → undo s ≡ Ok t → t.start ≡ s.start
-undo_start s t =
-    elim (length s.live == 0) as (λ b. (if b then Err (NothingToUndo 0) else Ok (back_one s)) ≡ Ok t → t.start ≡ s.start) [
-      | true ↦ λ h. cc
-      | false ↦ λ h. of_ok _ t _ refl h
-    ]
+undo_start s t h = unless_start s t (length s.live == 0) _ _ (of_ok (back_one s) t _ refl) h
 
 pub redo_start : (s t : State) → redo s ≡ Ok t → t.start ≡ s.start
-redo_start s t =
-    elim (length s.undone == 0) as (λ b. (if b then Err NothingToRedo else Ok (forward_one s)) ≡ Ok t → t.start ≡ s.start) [
-      | true ↦ λ h. cc
-      | false ↦ λ h. of_ok _ t _ refl h
-    ]
+redo_start s t h = unless_start s t (length s.undone == 0) _ _ (of_ok (forward_one s) t _ refl) h
 
 one_out_start : (s : State) (k : ℕ) (o : Option ℕ) (t : State) → one_out_unless s k o ≡ Ok t → t.start ≡ s.start
 one_out_start s k (Some j) t h = cc
 one_out_start s k None t h = of_ok _ t _ refl h
 
-undo_within_start : (s : State) (k : ℕ) (o : Option ℕ) (b : Bool) (t : State)
-    → (if b then one_out_unless s k o else Err (NoSuchStep (length s.live))) ≡ Ok t → t.start ≡ s.start
-undo_within_start s k o true t h = one_out_start s k o t h
-undo_within_start s k o false t h = cc
-
 pub undo_at_start : (R : ℕ) (s : State) (k : ℕ) (t : State) → undo_at R s k ≡ Ok t → t.start ≡ s.start
 undo_at_start R s zero t h = cc
-undo_at_start R s (suc i) t h = undo_within_start s (suc i) (dependant_in (suc i) (run_of R s)) (nat_lt i (length s.live)) t h
-
-rolled_start : (s u : State) (k : ℕ) (b : Bool) (t : State) → u.start ≡ s.start
-    → (if b then Ok u else Err (NoSuchStep (length s.live))) ≡ Ok t → t.start ≡ s.start
-rolled_start s u k true t same h = of_ok u t _ refl h ∙ same
-rolled_start s u k false t same h = cc
+undo_at_start R s (suc i) t h = if_start s t (nat_lt i (length s.live)) _ _ (one_out_start s (suc i) (dependant_in (suc i) (run_of R s)) t) h
 
 pub roll_start : (R : ℕ) (s : State) (k : ℕ) (t : State) → roll R s k ≡ Ok t → t.start ≡ s.start
 roll_start R s zero t h = cc
-roll_start R s (suc i) t h = rolled_start s (marked_out s (closure_in (suc i) (run_of R s))) (suc i) (nat_lt i (length s.live)) t refl h
+roll_start R s (suc i) t h = if_start s t (nat_lt i (length s.live)) _ _ (of_ok (marked_out s (closure_in (suc i) (run_of R s))) t _ refl) h
 
 -- the start stays, whatever a call answered
 pub start_stays : {X : Type 0} (r : Result X Refusal) (i j : Journal) (moved : Result State Refusal)
@@ -95,5 +72,4 @@ start_kept (Err e) i j es h g = ap start_of g
 
 -- so the bookmarks' records stay runs from it
 pub runs_stay : (R : ℕ) (v w : World) (lists kept : List (MarkName × List Entry)) → w ≡ v → kept ≡ lists → AreRuns R v lists → AreRuns R w kept
-runs_stay R v w lists kept e same runs =
-    subst (λ (u : World). AreRuns R u kept) (sym e) (subst (λ (ls : List (MarkName × List Entry)). AreRuns R v ls) (sym same) runs)
+runs_stay R v w lists kept e same runs = rw (e, same) runs

@@ -43,6 +43,8 @@ record IsMoved (old new : List Stretch) (j more i k : ℕ) : Type 0 where
   inside : k < length old
   list : list_of new i ≡ list_of old k
   shared : shared_at new i ≡ shared_at old k
+  next : shared_at old (suc k) ≤ shared_at new (suc i)
+  fits : shared_at old (suc k) ≤ length (list_of old k) → shared_at new (suc i) ≤ length (list_of old k)
   place : ((i < j) × (k ≡ i)) ⊎ ((j < i) × (i ≡ more + k))
 
 module _ (old new : List Stretch) (j more : ℕ) (change : IsChanged old new j more) where
@@ -50,52 +52,53 @@ module _ (old new : List Stretch) (j more : ℕ) (change : IsChanged old new j m
   moved i other h =
       elim (cases_lt i j) [
         | inl low ↦
-            let its = change.below i low in
-            (i, record { inside = omega (arith, change.within, low); list = its.0; shared = its.1; place = inl (low, refl) })
+            let its = change.below i low in (
+              i,
+              record {
+                inside = omega (arith, change.within, low);
+                list = its.0;
+                shared = its.1;
+                next = grind (arith, cases_order (suc i) j, change.below (suc i), change.less);
+                fits = λ was. grind (arith, cases_order (suc i) j, change.below (suc i), change.there, was);
+                place = inl (low, refl);
+              },
+            )
         | inr high ↦
             let after : j < i = omega (arith, other, high) in
             let parts : i ≡ more + (i - more) = omega (arith, change.small, after) in
             let its = change.above i (i - more) parts after in
-            (i - more, record { inside = omega (arith, change.count, parts, h); list = its.0; shared = its.1; place = inr (after, parts) })
+            let then = (change.above (suc i) (suc (i - more)) (omega (arith, parts)) (omega (arith, after))).1 in (
+              i - more,
+              record {
+                inside = omega (arith, change.count, parts, h);
+                list = its.0;
+                shared = its.1;
+                next = omega (arith, then);
+                fits = λ was. omega (arith, then, was);
+                place = inr (after, parts);
+              },
+            )
       ]
 
-  pub before_here : (i : ℕ) → i ≤ j → list_before new i ≡ list_before old i
-  before_here zero h = refl
-  before_here (suc i) h = (change.below i (omega (arith, h))).0
+  nested_changed : AreNested old → shared_at new j < length (list_of new j) → length (list_of new j) ≤ MOST_STEPS → shared_at new (suc j) ≤ length (list_of new j) → AreNested new
+  nested_changed rule some few next = record { within = within; some = λ i h. (every i h).0; few = λ i h. (every i h).1 }
+    where
+      every : (i : ℕ) → i < length new → (shared_at new i < length (list_of new i)) × (length (list_of new i) ≤ MOST_STEPS) × (shared_at new (suc i) ≤ length (list_of new i))
+      every i h =
+          elim (cases_eq i j) [
+            | inl same ↦ (grind (arith, same, some), grind (arith, same, few), grind (arith, same, next))
+            | inr other ↦
+                let m = moved i other h in
+                let list = ap length m.1.list in (
+                  omega (arith, rule.some m.0 m.1.inside, list, m.1.shared),
+                  omega (arith, rule.few m.0 m.1.inside, list),
+                  omega (arith, m.1.fits (shared_within old rule (suc m.0)), list),
+                )
+          ]
 
-  before_moved : (i k : ℕ) → (i ≡ suc j → ⊥) → IsMoved old new j more i k → list_before new i ≡ list_before old k
-  before_moved zero k next m = let at : 0 ≡ k = omega (arith, m.place) in ap (list_before old) at
-  before_moved (suc i) k next m =
-      elim (cases_lt (suc i) j) [
-        | inl low ↦ let at : suc i ≡ k = omega (arith, m.place, low) in before_here (suc i) (omega (arith, low)) ∙ ap (list_before old) at
-        | inr high ↦
-            let one : suc (k - 1) ≡ k = omega (arith, change.small, m.place, high, next) in
-            (change.above i (k - 1) (omega (arith, m.place, high, one)) (omega (arith, m.place, high, next))).0 ∙ ap (list_before old) one
-      ]
-
-  nested_changed : AreNested old → shared_at new j < length (list_of new j) → length (list_of new j) ≤ MOST_STEPS
-      → ((k : ℕ) → suc j ≡ more + k → shared_at old k ≤ length (list_of new j)) → AreNested new
-  nested_changed rule some few next = record {
-    within = λ i h. elim (cases_order i j) [
-      | inl same ↦ grind (arith, same, change.there, ap length (before_here j (omega arith)))
-      | inr other ↦ (
-          let m = moved i (omega (arith, other)) h in
-          elim (cases_eq i (suc j)) [
-            | inl one ↦
-                let before : list_before new i ≡ list_of new j = ap (list_before new) one in
-                omega (arith, m.1.shared, next m.0 (omega (arith, m.1.place, one)), ap length before)
-            | inr apart ↦ omega (arith, m.1.shared, shared_within old rule m.0, ap length (before_moved i m.0 apart m.1))
-          ])
-    ];
-    some = λ i h. elim (cases_eq i j) [
-      | inl same ↦ grind (arith, same, some)
-      | inr other ↦ (let m = moved i other h in omega (arith, rule.some m.0 m.1.inside, ap length m.1.list, m.1.shared))
-    ];
-    few = λ i h. elim (cases_eq i j) [
-      | inl same ↦ grind (arith, same, few)
-      | inr other ↦ (let m = moved i other h in omega (arith, rule.few m.0 m.1.inside, ap length m.1.list))
-    ];
-  }
+      within : (i : ℕ) → i < length new → shared_at new i ≤ length (list_before new i)
+      within zero h = grind (arith, cases_order 0 j, change.below 0, change.there, shared_within old rule 0)
+      within (suc i) h = (every i (omega (arith, h))).2
 
   -- if no earlier list opens as the changed one, and it opens as no later one
   fresh_changed : AreFresh old → AreNested new → ((m : ℕ) → m < j → IsAlong new j (suc (shared_at new j)) (events (list_of old m)) → ⊥)
@@ -131,17 +134,7 @@ module _ (old new : List Stretch) (j more : ℕ) (change : IsChanged old new j m
   needed_changed ps qs i h needed own places =
       elim (cases_eq i j) [
         | inl same ↦ grind (arith, same, own)
-        | inr other ↦
-            let m = moved i other h in
-            let next : shared_at old (suc m.0) ≤ shared_at new (suc i) =
-            elim (cases_order (suc i) j) [
-              | inl last ↦ (let at : suc m.0 ≡ j = omega (arith, m.1.place, last) in grind (arith, at, last, change.less))
-              | inr further ↦ elim further [
-                | inl low ↦ (let at : m.0 ≡ i = omega (arith, m.1.place, low) in grind (arith, at, (change.below (suc i) low).1))
-                | inr high ↦ (let parts : suc i ≡ more + suc m.0 = omega (arith, m.1.place, high) in omega (arith, (change.above (suc i) (suc m.0) parts high).1))
-              ]
-            ] in
-            omega (arith, needed m.0 m.1, places m.0 m.1, next, ap length m.1.list)
+        | inr other ↦ let m = moved i other h in omega (arith, needed m.0 m.1, places m.0 m.1, m.1.next, ap length m.1.list)
       ]
 
 -- A stretch comes or goes
@@ -149,29 +142,23 @@ module _ (old new : List Stretch) (j more : ℕ) (change : IsChanged old new j m
 module _ (old new : List Stretch) (j : ℕ) (s : Stretch) (change : IsInserted old new j s) where
   pub nested_inserted : AreNested old → s.shared < length (list_of new j) → length (list_of new j) ≤ MOST_STEPS → AreNested new
   nested_inserted rule some few =
-      nested_changed old new j 1 change.changed rule (omega (arith, change.here.1, some)) few (λ k next. (
-      let at : j ≡ k = omega (arith, next) in
-      omega (arith, ap (shared_at old) at, change.changed.less, change.here.1, some)
-      ))
+      let then = (change.changed.above (suc j) j (omega arith) (omega arith)).1 in
+      nested_changed old new j 1 change.changed rule (omega (arith, change.here.1, some)) few (omega (arith, then, change.changed.less, change.here.1, some))
 
   -- the new list goes on as none did behind what it shares
   pub fresh_inserted : AreNested old → AreFresh old → AreNested new → (at : ℕ) (es : List Event) → events (list_of new j) ≡ es → (0 < length old → at < j)
       → IsAlong old at s.shared es → IsDeepest old s.shared es → AreFresh new
   fresh_inserted rule fresh after at es its low along deepest =
       fresh_changed old new j 1 change.changed fresh after own
-      (λ k high there a. (
-      let lower = low (omega (arith, there)) in
-      later_apart old rule fresh es at s.shared k (omega (arith, lower, high)) there along deepest (subst (λ (fs : List Event). IsAlong old k (suc (shared_at old k)) fs) its a)
-      ))
+      (λ k high there a. later_apart old rule fresh es at s.shared k (omega (arith, low (omega (arith, there)), high)) there along deepest
+      (subst (λ (fs : List Event). IsAlong old k (suc (shared_at old k)) fs) its a))
     where
       own : (m : ℕ) → m < j → IsAlong new j (suc (shared_at new j)) (events (list_of old m)) → ⊥
       own m h a =
-          let within = change.changed.within in
           let d = suc s.shared in
           let b : IsAlong new j d (events (list_of old m)) = subst (λ (n : ℕ). IsAlong new j (suc n) (events (list_of old m))) change.here.1 a in
-          let long = along_within new j d (events (list_of old m)) b in
-          let all = sym (length-map (list_of new j) (λ (x : Entry). x.event)) ∙ ap length its in
-          deepest m (omega (arith, h, within)) (record { enough = omega (arith, long, all); alike = sym b.alike ∙ ap (take d) its })
+          let long : d ≤ length es = omega (arith, along_within new j d (events (list_of old m)) b, length-map (list_of new j) (λ (x : Entry). x.event), ap length its) in
+          deepest m (omega (arith, h, change.changed.within)) (record { enough = omega (arith, long); alike = sym b.alike ∙ ap (take d) its })
 
   -- the end of the new one is needed by a place there
   pub needed_inserted : (ps : List Place) (n : ℕ) → length (list_of new j) ≤ n → AreNeeded old ps → AreNeeded new (with_place (map (raised j) ps) j n)
@@ -194,24 +181,22 @@ module _ (old new : List Stretch) (j : ℕ) (s : Stretch) (change : IsInserted o
             (suc k, omega (arith, change.changed.count, h), its.0, its.1, inr (high, refl))
       ]
 
-  before_up : (k : ℕ) → j < k → list_before new (suc k) ≡ list_before old k
-  before_up zero h = absurd (omega (arith, h))
-  before_up (suc k) h = (change.changed.above (suc k) k (omega arith) (omega (arith, h))).0
-
   pub nested_removed : AreNested new → AreNested old
   nested_removed rule = record {
-    within = λ k h. elim (cases_order k j) [
-      | inl same ↦ grind (arith, same, change.changed.less, change.changed.there)
-      | inr other ↦ elim other [
-        | inl low ↦
-            omega (arith, (change.changed.below k low).1, ap length (before_here old new j 1 change.changed k (omega (arith, low))), shared_within new rule k)
-        | inr high ↦
-            omega (arith, (change.changed.above (suc k) k (omega arith) (omega (arith, high))).1, ap length (before_up k high), shared_within new rule (suc k))
-      ]
-    ];
+    within = within;
     some = λ k h. (let to = up k h in omega (arith, rule.some to.0 to.1, ap length to.2, to.3));
     few = λ k h. (let to = up k h in omega (arith, rule.few to.0 to.1, ap length to.2));
   }
+    where
+      within : (i : ℕ) → i < length old → shared_at old i ≤ length (list_before old i)
+      within zero h = grind (arith, cases_order 0 j, change.changed.below 0, change.changed.less, change.changed.there, shared_within new rule 0)
+      within (suc k) h =
+          elim (cases_lt k j) [
+            | inl low ↦
+                grind (arith, change.changed.below k low, change.changed.below (suc k), cases_order (suc k) j, change.changed.less, change.changed.there, shared_within new rule (suc k))
+            | inr high ↦
+                grind (arith, change.changed.above (suc k) k (omega arith), change.changed.above (suc (suc k)) (suc k) (omega arith), shared_within new rule (suc (suc k)))
+          ]
 
   pub fresh_removed : AreNested old → AreFresh new → AreFresh old
   fresh_removed rule fresh = fresh_apart old rule (λ i m h l a. (
@@ -243,24 +228,17 @@ module _ (old new : List Stretch) (j : ℕ) (s : Stretch) (change : IsInserted o
       above : (q n : ℕ) → j ≤ q → (q ≡ j → n ≤ s.shared) → take n (list_of new q) ≡ take n (list_of old (q - 1))
       above zero n high own =
           let first : 0 ≡ j = omega (arith, high) in
-          let before = ap (λ (k : ℕ). length (list_before old k)) first in
-          let none : n ≡ 0 = omega (arith, change.changed.there, change.here.1, before, own first) in
+          let none : n ≡ 0 = grind (arith, change.changed.there, change.here.1, first, own) in
           ap (λ (k : ℕ). take k (list_of new 0)) none ∙ sym (ap (λ (k : ℕ). take k (list_of old (0 - 1))) none)
       above (suc q) n high own =
           let down : q ≡ suc q - 1 = omega arith in
-          elim (cases_eq (suc q) j) [
-            | inl same ↦
-                ap (λ (k : ℕ). take n (list_of new k)) same ∙ ap (take n) change.here.0
-                ∙ goes_back (list_before old j) s n (own same) (omega (arith, change.changed.there, change.here.1))
-                ∙ ap (λ (k : ℕ). take n (list_before old k)) (sym same)
-            | inr further ↦ ap (take n) (change.changed.above (suc q) q (omega arith) (omega (arith, high, further))).0
-          ] ∙ ap (λ (k : ℕ). take n (list_of old k)) down
+          let back = goes_back (list_before old j) s n in
+          grind (arith, down, cases_order (suc q) j, own, change.here.0, back, change.changed.there, change.here.1, change.changed.above (suc q) q (omega arith))
 
 -- a place with the same records is within
 pub within_at : (old new : List Stretch) (p q : Place) → q.number ≡ p.number → records_at new q ≡ records_at old p → IsWithin old p → IsWithin new q
 within_at old new p q same records h =
-    let both = sym (length-take q.number (list_of new q.stretch)) ∙ ap length records ∙ length-take p.number (list_of old p.stretch) in
-    omega (arith, both, same, h)
+    omega (arith, length-take q.number (list_of new q.stretch), ap length records, length-take p.number (list_of old p.stretch), same, h)
 
 -- A stretch has more records, or fewer
 
@@ -268,8 +246,8 @@ module _ (old new : List Stretch) (j : ℕ) (change : IsReplaced old new j) wher
   pub nested_replaced : AreNested old → shared_at old j < length (list_of new j) → shared_at old (suc j) ≤ length (list_of new j) → length (list_of new j) ≤ MOST_STEPS
       → AreNested new
   nested_replaced rule some next few =
-      nested_changed old new j 0 change.changed rule (omega (arith, change.shared, some)) few
-      (λ k at. (let one : k ≡ suc j = omega (arith, at) in omega (arith, ap (shared_at old) one, next)))
+      let then = (change.changed.above (suc j) (suc j) (omega arith) (omega arith)).1 in
+      nested_changed old new j 0 change.changed rule (omega (arith, change.shared, some)) few (omega (arith, then, next))
 
   -- if it begins as before up to the first record of its own, and opens as no later one
   fresh_replaced : AreFresh old → AreNested new → take (suc (shared_at old j)) (list_of old j) ≡ take (suc (shared_at old j)) (list_of new j)
@@ -286,8 +264,7 @@ module _ (old new : List Stretch) (j : ℕ) (change : IsReplaced old new j) wher
   pub fresh_appended : AreNested old → AreFresh old → AreNested new → (rest : List Entry) (es : List Event) → list_of new j ≡ list_of old j ++ rest
       → events (list_of new j) ≡ es → IsAlong old j (length (list_of old j)) es → IsDeepest old (length (list_of old j)) es → AreFresh new
   fresh_appended rule fresh after rest es its all along deepest =
-      let some = rule.some j change.inside in
-      fresh_replaced fresh after (sym (ap (take (suc (shared_at old j))) its ∙ take-append-le (suc (shared_at old j)) (list_of old j) rest (omega (arith, some))))
+      fresh_replaced fresh after (sym (ap (take (suc (shared_at old j))) its ∙ take-append-le (suc (shared_at old j)) (list_of old j) rest (omega (arith, rule.some j change.inside))))
       (λ k h l a. later_apart old rule fresh es j (length (list_of old j)) k h l along deepest
       (subst (λ (fs : List Event). IsAlong old k (suc (shared_at old k)) fs) all a))
 
@@ -296,12 +273,10 @@ module _ (old new : List Stretch) (j : ℕ) (change : IsReplaced old new j) wher
       fresh_replaced fresh after (sym (ap (take (suc (shared_at old j))) its ∙ take-take (suc (shared_at old j)) n (list_of old j) (omega (arith, less))))
       (λ k h l a. (
       let d = suc (shared_at old k) in
-      let enough = a.enough in
       let long = length-map (list_of new j) (λ (x : Entry). x.event) ∙ ap length its ∙ length-take n (list_of old j) in
-      let all = length-map (list_of old j) (λ (x : Entry). x.event) in
       let cut : events (list_of new j) ≡ take n (events (list_of old j)) = ap events its ∙ sym (take-map (λ (x : Entry). x.event) n (list_of old j)) in
       apart old fresh k j h l
-      (record { enough = omega (arith, enough, long, all); alike = a.alike ∙ ap (take d) cut ∙ take-take d n (events (list_of old j)) (omega (arith, enough, long)) })
+      (record { enough = omega (arith, a.enough, long, length-map (list_of old j) (λ (x : Entry). x.event)); alike = a.alike ∙ ap (take d) cut ∙ take-take d n (events (list_of old j)) (omega (arith, a.enough, long)) })
       ))
 
   pub needed_appended : (ps : List Place) (n : ℕ) → length (list_of new j) ≤ n → AreNeeded old ps → AreNeeded new (with_place ps j n)
@@ -323,10 +298,8 @@ module _ (old new : List Stretch) (j : ℕ) (change : IsReplaced old new j) wher
 
   pub records_appended : (rest : List Entry) → list_of new j ≡ list_of old j ++ rest → (p : Place) → IsWithin old p → records_at new p ≡ records_at old p
   records_appended rest its p h =
-      records_replaced p (λ same. (
-      let long = ap (λ (k : ℕ). length (list_of old k)) same in
-      ap (take p.number) its ∙ take-append-le p.number (list_of old j) rest (omega (arith, long, h))
-      ))
+      records_replaced p
+      (λ same. ap (take p.number) its ∙ take-append-le p.number (list_of old j) rest (omega (arith, ap (λ (k : ℕ). length (list_of old k)) same, h)))
 
   pub records_cut : (n : ℕ) → list_of new j ≡ take n (list_of old j) → (p : Place) → (p.stretch ≡ j → p.number ≤ n) → records_at new p ≡ records_at old p
   records_cut n its p own = records_replaced p (λ same. ap (take p.number) its ∙ take-take p.number n (list_of old j) (own same))

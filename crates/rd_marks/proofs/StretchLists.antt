@@ -66,9 +66,7 @@ module _ (ss : List Stretch) (rule : AreNested ss) where
   front_length i = length-take-le (shared_at ss i) (list_before ss i) (shared_within i)
 
   pub total : (i : ℕ) → length (list_of ss i) ≡ shared_at ss i + length (own_at ss i)
-  total i =
-      let all = ap length (splits ss i) ∙ length-append (take (shared_at ss i) (list_before ss i)) (own_at ss i) in
-      omega (arith, all, front_length i)
+  total i = omega (arith, ap length (splits ss i), length-append (take (shared_at ss i) (list_before ss i)) (own_at ss i), front_length i)
 
   -- what is shared
   pub begins_shared : (i n : ℕ) → n ≤ shared_at ss i → take n (list_of ss i) ≡ take n (list_before ss i)

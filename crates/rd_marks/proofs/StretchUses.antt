@@ -12,7 +12,7 @@ use Rattle.rd_marks.specs.declared.stretches.Place.{Place}
 use Rattle.rd_marks.specs.declared.stretches.Stretch.{Stretch}
 use Rattle.rd_marks.specs.declared.stretches.changes.Shift.{Shift}
 use Rattle.rd_marks.specs.declared.stretches.changes.Shift.TheVariants.{Same, Up, Down}
-use Rattle.rd_marks.specs.Stretches.{greatest_in, list_of, list_before, shared_at, records_at, IsWithin, IsEnd, IsAlong, IsDeepest, AreNested, AreFresh, AreNeeded, AreNeededFrom, raised, lowered}
+use Rattle.rd_marks.specs.Stretches.{greatest_in, list_of, list_before, shared_at, records_at, IsWithin, IsEnd, IsAlong, IsDeepest, AreNested, AreFresh, raised, lowered}
 use Rattle.rd_marks.specs.Changes.{moved, IsLow, IsGrown, IsShrunk, IsUnchanged}
 use Rattle.rd_marks.proofs.StretchLists.{own_at, shared_within, inserted_at, removed_at, appended_at, cut_at}
 use Rattle.rd_marks.proofs.Fresh.{along_taken}
@@ -21,13 +21,7 @@ use Rattle.rd_marks.proofs.Starting.{stretch_within}
 
 -- a place in few stretches has a next number
 pub is_low : (ss : List Stretch) → length ss < 2 ^ 64 → (p : Place) → IsWithin ss p → IsLow p
-is_low ss few p within some = let inside = stretch_within ss p within some in omega (arith, few, inside)
-
-raised_number : (j : ℕ) (p : Place) → (raised j p).number ≡ p.number
-raised_number j p = grind (arith, nat_tests)
-
-lowered_number : (j : ℕ) (p : Place) → (lowered j p).number ≡ p.number
-lowered_number j p = grind (arith, nat_tests)
+is_low ss few p within some = omega (arith, few, stretch_within ss p within some)
 
 moved_same : (ps : List Place) → map (moved Same) ps ≡ ps
 moved_same [] = refl
@@ -39,19 +33,12 @@ joined_events xs ys zs n its same =
     ap events its ∙ map-append (λ (x : Entry). x.event) xs (drop n ys) ∙ ap (λ (es : List Event). es ++ events (drop n ys)) (same ∙ take-map (λ (x : Entry). x.event) n ys)
     ∙ sym (map-append (λ (x : Entry). x.event) (take n ys) (drop n ys)) ∙ ap events (take-append-drop n ys)
 
--- nothing changed
-pub unchanged : (old new : List Stretch) → new ≡ old → IsUnchanged old new
-unchanged old new same =
-    subst (λ (ss : List Stretch). IsUnchanged old ss) (sym same) (record { stays = λ p within. record { within = within; same = refl }; needed = λ places needed. needed })
-
 -- all that is put is there
 pub all_there : (ss : List Stretch) (few : length ss < 2 ^ 64) (at : Place) (live : List Entry) → IsWithin ss at → at.number ≡ length live
     → IsGrown ss ss at live (record { place = at; shift = Same })
 all_there ss few at live within all = record {
   within = within;
-  put =
-      sym (append-nil (records_at ss at))
-      ∙ ap (λ (xs : List Entry). records_at ss at ++ xs) (sym (drop-length live) ∙ ap (λ (n : ℕ). drop n live) (sym all));
+  put = sym (append-nil (records_at ss at)) ∙ (λ i. records_at ss at ++ (sym (drop-length live) ∙ ap (λ (n : ℕ). drop n live) (sym all)) i);
   low = is_low ss few;
   stays = λ p is. record { within = is; same = refl };
   needed = λ places needed i inside.
@@ -60,7 +47,7 @@ all_there ss few at live within all = record {
   where
     greatest_more : (i : ℕ) (ps qs : List Place) → greatest_in i ps ≤ greatest_in i (ps ++ qs)
     greatest_more i [] qs = omega arith
-    greatest_more i (p ∷ ps) qs = let rest = greatest_more i ps qs in omega (arith, rest)
+    greatest_more i (p ∷ ps) qs = omega (arith, greatest_more i ps qs)
 
 -- what a change leaves
 pub record Grows (old new : List Stretch) (at : Place) (records : List Entry) (shift : Shift) (place : Place) : Type 0 where
@@ -81,19 +68,17 @@ module _ (ss : List Stretch) (few : length ss < 2 ^ 64) (rule : AreNested ss) (f
       let both = appended_at ss rule j end.there t shared rest its in
       let change = both.0 in
       let list = both.1 in
-      let all = end.all in
-      let whole : take n (list_of ss j) ≡ list_of ss j = take_all n (list_of ss j) (omega (arith, all)) in
+      let whole : take n (list_of ss j) ≡ list_of ss j = take_all n (list_of ss j) (omega (arith, end.all)) in
       let start : events (list_of ss j) ≡ take n (events live) = ap events (sym whole) ∙ sym (take-map (λ (x : Entry). x.event) n (list_of ss j)) ∙ along.alike in
       let same : events (list_of new j) ≡ events live = joined_events (list_of ss j) live (list_of new j) n list start in
       let long : length (list_of new j) ≡ length live = sym (length-map (list_of new j) (λ (x : Entry). x.event)) ∙ ap length same ∙ length-map live (λ (x : Entry). x.event) in
-      let some = rule.some j end.there in
-      let next = shared_within ss rule (suc j) in
-      let nested = nested_replaced ss new j change rule (omega (arith, some, all, more, long)) (omega (arith, next, all, more, long)) (omega (arith, most, long)) in
+      let nested =
+      nested_replaced ss new j change rule (omega (arith, rule.some j end.there, end.all, more, long)) (omega (arith, shared_within ss rule (suc j), end.all, more, long)) (omega (arith, most, long)) in
       record {
         nested = nested;
         fresh =
-            fresh_appended ss new j change rule fresh nested rest (events live) list same (subst (λ (m : ℕ). IsAlong ss j m (events live)) all along)
-            (subst (λ (m : ℕ). IsDeepest ss m (events live)) all deepest);
+            fresh_appended ss new j change rule fresh nested rest (events live) list same (subst (λ (m : ℕ). IsAlong ss j m (events live)) end.all along)
+            (subst (λ (m : ℕ). IsDeepest ss m (events live)) end.all deepest);
         grown = record {
           within = omega (arith, long);
           put = take_all (length live) (list_of new j) (omega (arith, long)) ∙ list ∙ ap (λ (xs : List Entry). xs ++ rest) (sym whole);
@@ -102,8 +87,7 @@ module _ (ss : List Stretch) (few : length ss < 2 ^ 64) (rule : AreNested ss) (f
               (let kept = records_appended ss new j change rest list p within in
               record { within = within_at ss new p p refl kept within; same = kept });
           needed = λ places needed.
-              subst (λ (ps : List Place). AreNeeded new (ps ++ record { stretch = j; number = length live } ∷ [])) (sym (moved_same places))
-              (needed_appended ss new j change places (length live) (omega (arith, long)) needed);
+              rw (moved_same places) (needed_appended ss new j change places (length live) (omega (arith, long)) needed);
         };
       }
 
@@ -133,7 +117,7 @@ module _ (ss : List Stretch) (few : length ss < 2 ^ 64) (rule : AreNested ss) (f
           low = is_low ss few;
           stays = λ p is.
               (let kept = records_raised ss new j s change p in
-              record { within = within_at ss new p (raised j p) (raised_number j p) kept is; same = kept });
+              record { within = within_at ss new p (raised j p) (grind (arith, nat_tests)) kept is; same = kept });
           needed = λ places needed. needed_inserted ss new j s change places (length live) (omega (arith, long)) needed;
         };
       }
@@ -141,7 +125,7 @@ module _ (ss : List Stretch) (few : length ss < 2 ^ 64) (rule : AreNested ss) (f
       -- the list before it begins with them
       before : (j : ℕ) → (0 < length ss → 0 < j) → take at.number (list_before ss j) ≡ records_at ss at
           → {X : Type 0} → ((k : ℕ) → (0 < length ss → k < j) → IsAlong ss k at.number (events live) → X) → X
-      before zero first begins go = go 0 (λ some. let no = first some in omega (arith, no)) (none begins)
+      before zero first begins go = go 0 (λ some. omega (arith, first some)) (none begins)
         where
           none : take at.number [] ≡ records_at ss at → IsAlong ss 0 at.number (events live)
           none h = along_taken ss ss 0 at.stretch at.number (events live) (grind arith) along
@@ -160,18 +144,16 @@ module _ (ss : List Stretch) (few : length ss < 2 ^ 64) (rule : AreNested ss) (f
       let new = remove ss j in
       let s = found.0 in
       let change = found.2 in
-      let count = change.changed.count in
-      let shared = change.here.1 in
       let nested = nested_removed new ss j s change rule in
       record {
         nested = nested;
         fresh = fresh_removed new ss j s change nested fresh;
         shrunk = record {
-          below = omega (arith, count, inside);
+          below = omega (arith, change.changed.count, inside);
           low = is_low ss few;
           stays = λ p within own.
-              (let kept = records_lowered new ss j s change p (λ here. let most = own here in omega (arith, most, none, shared)) in
-              record { within = within_at ss new p (lowered j p) (lowered_number j p) kept within; same = kept });
+              (let kept = records_lowered new ss j s change p (λ here. omega (arith, own here, none, change.here.1)) in
+              record { within = within_at ss new p (lowered j p) (grind (arith, nat_tests)) kept within; same = kept });
           needed = λ places needed its. needed_removed new ss j s change places needed;
         };
       }
@@ -182,20 +164,19 @@ module _ (ss : List Stretch) (few : length ss < 2 ^ 64) (rule : AreNested ss) (f
       let new = set ss j t in
       let both = appended_at ss rule j inside t shared [] (its ∙ sym (append-nil (own_at ss j))) in
       let change = both.0 in
-      let list : list_of new j ≡ list_of ss j = both.1 ∙ append-nil (list_of ss j) in
-      let all : list_of new j ≡ take (length (list_of ss j)) (list_of ss j) = list ∙ sym (take_all (length (list_of ss j)) (list_of ss j) (omega arith)) in
+      let list = both.1 ∙ append-nil (list_of ss j) in
+      let all = list ∙ sym (take_all (length (list_of ss j)) (list_of ss j) (omega arith)) in
       let both_same : (i : ℕ) → (list_of new i ≡ list_of ss i) × (shared_at new i ≡ shared_at ss i) =
       (λ i. elim (cases_lt i j) [
         | inl low ↦ change.changed.below i low
         | inr high ↦ elim (cases_eq i j) [
-          | inl same ↦ subst (λ (k : ℕ). (list_of new k ≡ list_of ss k) × (shared_at new k ≡ shared_at ss k)) (sym same) (list, change.shared)
+          | inl same ↦ rw same (list, change.shared)
           | inr other ↦ change.changed.above i i (omega arith) (omega (arith, high, other))
         ]
       ]) in
       let some = rule.some j inside in
-      let follows = shared_within ss rule (suc j) in
-      let nested =
-      nested_replaced ss new j change rule (omega (arith, some, ap length list)) (omega (arith, follows, ap length list)) (omega (arith, rule.few j inside, ap length list)) in (
+      let long = ap length list in
+      let nested = nested_replaced ss new j change rule (omega (arith, some, long)) (omega (arith, shared_within ss rule (suc j), long)) (omega (arith, rule.few j inside, long)) in (
         nested,
         fresh_cut ss new j change fresh nested (length (list_of ss j)) some all,
         record {
@@ -214,23 +195,19 @@ module _ (ss : List Stretch) (few : length ss < 2 ^ 64) (rule : AreNested ss) (f
       let both = cut_at ss rule j inside t shared n (omega (arith, some)) next its in
       let change = both.0 in
       let list = both.1 in
-      let count = change.changed.count in
       let long = ap length list ∙ length-take n (list_of ss j) in
-      let had = rule.some j inside in
-      let few_had = rule.few j inside in
-      let follows = shared_within ss rule (suc j) in
-      let nested = nested_replaced ss new j change rule (omega (arith, long, some, had)) (omega (arith, long, next, follows)) (omega (arith, long, few_had)) in
+      let nested =
+      nested_replaced ss new j change rule (omega (arith, long, some, rule.some j inside)) (omega (arith, long, next, shared_within ss rule (suc j))) (omega (arith, long, rule.few j inside)) in
       record {
         nested = nested;
         fresh = fresh_cut ss new j change fresh nested n some list;
         shrunk = record {
-          below = omega (arith, count, inside);
+          below = omega (arith, change.changed.count, inside);
           low = is_low ss few;
           stays = λ p within own.
               (let kept = records_cut ss new j change n list p own in
               record { within = within_at ss new p p refl kept within; same = kept });
-          needed = λ places needed its.
-              subst (λ (ps : List Place). AreNeededFrom j new ps) (sym (moved_same places)) (needed_cut ss new j change places (omega (arith, long, its)) needed);
+          needed = λ places needed its. rw (moved_same places) (needed_cut ss new j change places (omega (arith, long, its)) needed);
         };
       }
 
@@ -243,4 +220,4 @@ extended_or_not (Err e) P own more records ok err f g = g err
 -- whatever the number of the live steps is called
 pub grown_of_length : (old new : List Stretch) (at : Place) (live : List Entry) (shift : Shift) (i n : ℕ) → n ≡ length live
     → IsGrown old new at live (record { place = record { stretch = i; number = length live }; shift = shift }) → IsGrown old new at live (record { place = record { stretch = i; number = n }; shift = shift })
-grown_of_length old new at live shift i n e grown = subst (λ (m : ℕ). IsGrown old new at live (record { place = record { stretch = i; number = m }; shift = shift })) (sym e) grown
+grown_of_length old new at live shift i n e grown = rw e grown

@@ -36,12 +36,9 @@ module _ (ss : List Stretch) where
       along : n < place.number → IsAlong ss place.stretch (suc n) es
       along further =
           let long = events_length ss place is in
-          let short = begins_shorter (events (records_at ss place)) es h in
           record {
-            enough = omega (arith, further, long, short);
-            alike =
-                sym (first_events ss place (suc n) (omega (arith, further))) ∙ ap (take (suc n)) (sym h)
-                ∙ take-take (suc n) (length (events (records_at ss place))) es (omega (arith, long, further));
+            enough = omega (arith, further, long, begins_shorter (events (records_at ss place)) es h);
+            alike = sym (first_events ss place (suc n) (omega (arith, further))) ∙ ap (take (suc n)) (sym h) ∙ take-take (suc n) (length (events (records_at ss place))) es (omega (arith, long, further));
           }
 
   -- so records with which the live steps begin have all in common with them
@@ -55,5 +52,4 @@ module _ (ss : List Stretch) where
       let alike : take d (events (records_at ss b)) ≡ take d (events (records_at ss place)) =
       first_events ss b d shallow ∙ sym (take-take d b.number (events (list_of ss b.stretch)) shallow) ∙ ap (take d) along.alike ∙ take-take d b.number es shallow
       ∙ ap (λ (m : ℕ). take m es) (sym long) ∙ h ∙ sym (ap (λ (m : ℕ). take m (events (records_at ss place))) (sym long) ∙ take-length (events (records_at ss place))) in
-      let all = most d shallow (omega arith) alike in
-      omega (arith, all, within)
+      omega (arith, most d shallow (omega arith) alike, within)

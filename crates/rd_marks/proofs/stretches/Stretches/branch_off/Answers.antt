@@ -1,10 +1,7 @@
-use Rattle.std.proofs.Common.{◌≡◌, ◌++◌, ◌∙◌, List, length, true, is_ok, insert, sym, ap, subst, drop, arith}
+use Rattle.std.proofs.Common.{◌≡◌, ◌++◌, ◌∙◌, List, true, is_ok, insert, ap, drop, arith}
 use Rattle.std.proofs.lemmas.Bool.{cond-true}
 use Rattle.rd_marks.specs.declared.stretches.Stretch.{Stretch}
-use Rattle.rd_marks.specs.declared.stretches.changes.Shift.TheVariants.{Up}
-use Rattle.rd_marks.specs.Changes.{IsGrown}
-use Rattle.rd_marks.specs.Stretches.{AreNested, AreFresh}
-use Rattle.rd_marks.proofs.StretchUses.{branched, grown_of_length}
+use Rattle.rd_marks.proofs.StretchUses.{branched}
 use Rattle.rd_marks.proofs.stretches.Stretches.branch_off.Goals as goal
 
 pub invariant_of-self-2 : goal.invariant_of-self-2
@@ -21,10 +18,7 @@ invariant_of-self-2 c =
     let all =
     branched ss (omega (arith, c.args.self.now.list.ok, c.args.self.now.list.small)) c.args.self.now.nested c.args.self.now.fresh c.args.live.now c.requires.few c.args.at c.requires.more c.requires.along
     c.requires.deepest c.requires.within i said.there said.first said.shares said.within said.same s (λ k. c.args.at.number) its in
-    record {
-      nested = subst (λ (qs : List Stretch). AreNested qs) (sym items) all.nested;
-      fresh = subst (λ (qs : List Stretch). AreFresh qs) (sym items) all.fresh;
-    }
+    record { nested = rw items all.nested; fresh = rw items all.fresh }
 
 pub returns-clause-ok : goal.returns-clause-ok
 returns-clause-ok c =
@@ -40,5 +34,4 @@ returns-clause-ok c =
     let all =
     branched ss (omega (arith, c.args.self.now.list.ok, c.args.self.now.list.small)) c.args.self.now.nested c.args.self.now.fresh c.args.live.now c.requires.few c.args.at c.requires.more c.requires.along
     c.requires.deepest c.requires.within i said.there said.first said.shares said.within said.same s (λ k. c.args.at.number) its in
-    grown_of_length ss c.insert.new.self.items c.args.at c.args.live.now (Up i) i c.len.result c.len.ensures
-    (subst (λ (qs : List Stretch). IsGrown ss qs c.args.at c.args.live.now (record { place = record { stretch = i; number = length c.args.live.now }; shift = Up i })) (sym items) all.grown)
+    rw (c.len.ensures, items) all.grown

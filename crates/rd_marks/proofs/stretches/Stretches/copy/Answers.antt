@@ -18,9 +18,8 @@ loop-at-preserved c =
     record {
       within = omega (arith, said.within);
       read =
-          read_on (records_at ss own) (records_at ss below) rs (records_at ss c.args.of) x whole
-          (inv.read ∙ ap (λ (ys : List Entry). ys ++ reverse rs) (sym said.same))
-          ∙ ap (λ (ys : List Entry). records_at ss below ++ reverse ys) (sym c.push_reserved.ensures.items);
+          rw c.push_reserved.ensures.items
+          (read_on (records_at ss own) (records_at ss below) rs (records_at ss c.args.of) x whole (inv.read ∙ ap (λ (ys : List Entry). ys ++ reverse rs) (sym said.same)));
       least = omega (arith, said.number, c.loop-at-test.true);
       len = omega (arith, c.push_reserved.ensures.len, inv.len, said.number, c.loop-at-test.true);
       capacity = omega (arith, c.push_reserved.ensures.capacity, inv.capacity);

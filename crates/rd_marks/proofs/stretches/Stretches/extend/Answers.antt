@@ -1,10 +1,9 @@
 use Rattle.std.proofs.Common.{◌++◌, ◌∙◌, ◌<◌, ◌^◌, length, set, refl, sym, arith}
 use Rattle.rd_step.proofs.PassedUp.{fact_passed_up}
 use Rattle.rd_marks.specs.declared.stretches.Stretch.{Stretch}
-use Rattle.rd_marks.specs.declared.stretches.changes.Shift.TheVariants.{Same}
 use Rattle.rd_marks.specs.Stretches.{AreNested, AreFresh}
 use Rattle.rd_marks.proofs.Reading.{stretch_at}
-use Rattle.rd_marks.proofs.StretchUses.{extended, extended_or_not, grown_of_length, same_left}
+use Rattle.rd_marks.proofs.StretchUses.{extended, extended_or_not, same_left}
 use Rattle.rd_marks.proofs.stretches.Stretches.extend.Goals as goal
 
 pub invariant_of-self : goal.invariant_of-self
@@ -44,4 +43,4 @@ returns-clause-ok c =
     let all =
     extended ss (omega (arith, c.args.self.now.list.ok, c.args.self.now.list.small)) c.args.self.now.nested c.args.self.now.fresh c.args.live.now c.requires.few c.args.at c.requires.more c.requires.along
     c.requires.deepest c.requires.end t (sym at.1) (c.in_ok-append.ensures.ok ∙ (λ i. sym at.2 i ++ c.behind-rest.ensures i)) in
-    grown_of_length ss (set ss c.args.at.stretch t) c.args.at c.args.live.now Same c.args.at.stretch c.len.result c.len.ensures all.grown
+    rw c.len.ensures all.grown

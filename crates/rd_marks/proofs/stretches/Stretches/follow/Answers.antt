@@ -58,16 +58,13 @@ loop-i-preserved c =
     let on : Follows ss es (suc i) next.stretch next.number × (next.stretch ≤ i) =
     elim c.if-shared-at-2.branch [
       | then-shared-at-2 w ↦
-          let step =
-          step_compared ss rule fresh es i at inv.follows inv.high low (omega (arith, w.if-shared-at-2.true, c.shared-shared.ensures)) w.along.result w.along.ensures.more w.along.ensures.along
-          w.along.ensures.most w.farther-at.result w.farther-at.ensures.more w.farther-at.ensures.others in
-          subst (λ p. Follows ss es (suc i) p.stretch p.number × (p.stretch ≤ i)) (sym w.at-is) step
+          rw w.at-is (step_compared ss rule fresh es i at inv.follows inv.high low (omega (arith, w.if-shared-at-2.true, c.shared-shared.ensures)) w.along.result w.along.ensures.more
+          w.along.ensures.along w.along.ensures.most w.farther-at.result w.farther-at.ensures.more w.farther-at.ensures.others)
       | else-shared-at-2 w ↦
-          let step = step_skipped ss rule fresh es i at inv.follows inv.high inv.own (omega (arith, w.if-shared-at-2.false, c.shared-shared.ensures)) in
-          subst (λ p. Follows ss es (suc i) p.stretch p.number × (p.stretch ≤ i)) (sym w.at-is) step
+          rw w.at-is (step_skipped ss rule fresh es i at inv.follows inv.high inv.own (omega (arith, w.if-shared-at-2.false, c.shared-shared.ensures)))
     ] in
     record {
-      follows = subst (λ (k : ℕ). Follows ss es k next.stretch next.number) (sym e) on.0;
+      follows = rw e on.0;
       high = omega (arith, on.1);
       own = λ here. absurd (omega (arith, here, on.1));
     }

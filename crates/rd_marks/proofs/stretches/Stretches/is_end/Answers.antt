@@ -6,17 +6,15 @@ use Rattle.rd_marks.proofs.stretches.Stretches.is_end.Goals as goal
 
 pub overflow_add-result : goal.overflow_add-result
 overflow_add-result c =
-    let ss = c.args.self.now.list.items in
     let found = c.in-Some.ensures.lookup in
-    let t = stretch_at ss c.deref.result.now c.args.at.stretch c.in-Some.stretch.now c.deref.ensures.value found.3.0 found.1 in
-    omega (arith, c.len.ensures, t.1, ap length t.2, total ss c.args.self.now.nested c.args.at.stretch, c.args.self.now.nested.few c.args.at.stretch t.0)
+    let t = stretch_at c.args.self.now.list.items c.deref.result.now c.args.at.stretch c.in-Some.stretch.now c.deref.ensures.value found.3.0 found.1 in
+    omega (arith, c.len.ensures, t.1, ap length t.2, total c.args.self.now.list.items c.args.self.now.nested c.args.at.stretch, c.args.self.now.nested.few c.args.at.stretch t.0)
 
 pub returns-in-Some : goal.returns-in-Some
 returns-in-Some c =
-    let ss = c.args.self.now.list.items in
     let found = c.in-Some.ensures.lookup in
-    let t = stretch_at ss c.deref.result.now c.args.at.stretch c.in-Some.stretch.now c.deref.ensures.value found.3.0 found.1 in
-    let all = total ss c.args.self.now.nested c.args.at.stretch in (
-      λ h. (let same = eqb-true _ _ h in record { there = t.0; all = omega (arith, same, c.len.ensures, t.1, ap length t.2, all) }),
+    let t = stretch_at c.args.self.now.list.items c.deref.result.now c.args.at.stretch c.in-Some.stretch.now c.deref.ensures.value found.3.0 found.1 in
+    let all = total c.args.self.now.list.items c.args.self.now.nested c.args.at.stretch in (
+      λ h. record { there = t.0; all = omega (arith, eqb-true _ _ h, c.len.ensures, t.1, ap length t.2, all) },
       λ end. eq-eqb _ _ (omega (arith, end.all, c.len.ensures, t.1, ap length t.2, all)),
     )

@@ -1,7 +1,7 @@
-use Rattle.std.proofs.Common.{◌≡◌, ◌⊎◌, ◌+◌, ◌<◌, ℕ, suc, inl, inr, subst, sym, length, arith}
+use Rattle.std.proofs.Common.{◌≡◌, ◌⊎◌, ◌+◌, ◌<◌, suc, inl, inr, arith}
 use Rattle.rd_marks.specs.Stretches.{shared_at}
 use Rattle.rd_marks.proofs.StretchLists.{shared_past}
-use Rattle.rd_marks.proofs.Reading.{Reaches, reaches_on, reaches_end}
+use Rattle.rd_marks.proofs.Reading.{reaches_on, reaches_end}
 use Rattle.rd_marks.proofs.stretches.Stretches.next_off.Goals.{else-shared-at-via-then-shared-at+else-i-at, else-shared-at-via-else-shared-at}
 use Rattle.rd_marks.proofs.stretches.Stretches.next_off.Goals as goal
 
@@ -11,34 +11,23 @@ loop-i-preserved c =
     let inv = c.loop-i.invariant in
     let i = c.loop-i.i in
     let at = c.args.at in
-    let e : i + 1 ≡ suc i = omega arith in
     let which : (at.stretch ≡ i) ⊎ (at.number < shared_at ss i) =
     elim c.else-shared-at.branch [
       | else-shared-at-via-then-shared-at+else-i-at w ↦ inl (omega (arith, w.if-i-at.false, inv.high))
       | else-shared-at-via-else-shared-at w ↦ inr (omega (arith, w.if-shared-at.false, c.shared.ensures))
     ] in
-    record {
-      high = omega (arith, inv.high);
-      reaches = λ h. subst (λ (k : ℕ). Reaches ss at k) (sym e) (reaches_on ss c.args.self.now.nested at c.requires i which inv.reaches inv.high);
-    }
+    let e : i + 1 ≡ suc i = omega arith in
+    record { high = omega (arith, inv.high); reaches = λ h. rw e (reaches_on ss c.args.self.now.nested at c.requires i which inv.reaches inv.high) }
 
 pub returns-clause-shares : goal.returns-clause-shares
 returns-clause-shares c = omega (arith, shared_past c.args.self.now.list.items c.len.result (omega (arith, c.len.ensures)))
 
 pub returns-clause-within : goal.returns-clause-within
 returns-clause-within c =
-    let ss = c.args.self.now.list.items in
-    let all : length ss ≡ c.len.result = omega (arith, c.len.ensures) in
-    let r = reaches_end ss c.args.self.now.nested c.args.at c.requires (λ inside.
-    let at_end : c.loop-i.i ≡ length ss = omega (arith, inside, c.loop-i-test.false, c.loop-i.auto.i, c.loop-i.auto.i-end, c.len-i-end.ensures, c.loop-i.invariant.high) in
-    subst (λ (k : ℕ). Reaches ss c.args.at k) at_end (c.loop-i.invariant.reaches (omega (arith, inside, at_end)))) in
-    (subst (λ (k : ℕ). Reaches ss c.args.at k) all r).enough
+    (reaches_end c.args.self.now.list.items c.args.self.now.nested c.args.at c.requires c.loop-i.i c.len.result (omega (arith, c.len.ensures))
+    (λ inside. omega (arith, inside, c.loop-i-test.false, c.loop-i.auto.i, c.loop-i.auto.i-end, c.len.ensures, c.len-i-end.ensures, c.loop-i.invariant.high)) c.loop-i.invariant.reaches).enough
 
 pub returns-clause-same : goal.returns-clause-same
 returns-clause-same c =
-    let ss = c.args.self.now.list.items in
-    let all : length ss ≡ c.len.result = omega (arith, c.len.ensures) in
-    let r = reaches_end ss c.args.self.now.nested c.args.at c.requires (λ inside.
-    let at_end : c.loop-i.i ≡ length ss = omega (arith, inside, c.loop-i-test.false, c.loop-i.auto.i, c.loop-i.auto.i-end, c.len-i-end.ensures, c.loop-i.invariant.high) in
-    subst (λ (k : ℕ). Reaches ss c.args.at k) at_end (c.loop-i.invariant.reaches (omega (arith, inside, at_end)))) in
-    (subst (λ (k : ℕ). Reaches ss c.args.at k) all r).same
+    (reaches_end c.args.self.now.list.items c.args.self.now.nested c.args.at c.requires c.loop-i.i c.len.result (omega (arith, c.len.ensures))
+    (λ inside. omega (arith, inside, c.loop-i-test.false, c.loop-i.auto.i, c.loop-i.auto.i-end, c.len.ensures, c.len-i-end.ensures, c.loop-i.invariant.high)) c.loop-i.invariant.reaches).same

@@ -8,5 +8,4 @@ returns-in-None c = sym (shared_past c.args.self.now.list.items c.args.i (omega 
 
 pub returns-in-Some : goal.returns-in-Some
 returns-in-Some c =
-    let found = c.in-Some.ensures.lookup in
-    sym (stretch_at c.args.self.now.list.items c.deref.result.now c.args.i c.in-Some.stretch.now c.deref.ensures.value found.3.0 found.1).1
+    sym (stretch_at c.args.self.now.list.items c.deref.result.now c.args.i c.in-Some.stretch.now c.deref.ensures.value c.in-Some.ensures.lookup.3.0 c.in-Some.ensures.lookup.1).1

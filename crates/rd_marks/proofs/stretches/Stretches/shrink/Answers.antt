@@ -1,8 +1,5 @@
-use Rattle.std.proofs.Common.{◌-◌, ◌∙◌, List, refl, sym, take, arith, subst}
+use Rattle.std.proofs.Common.{◌-◌, ◌∙◌, refl, sym, take, arith}
 use Rattle.rd_marks.specs.declared.stretches.Stretch.{Stretch}
-use Rattle.rd_marks.specs.declared.stretches.changes.Shift.TheVariants.{Down}
-use Rattle.rd_marks.specs.Changes.{IsShrunk}
-use Rattle.rd_marks.specs.Stretches.{AreNested, AreFresh}
 use Rattle.rd_marks.proofs.Reading.{stretch_at}
 use Rattle.rd_marks.proofs.StretchUses.{gone, left}
 use Rattle.rd_marks.proofs.stretches.Stretches.shrink.Goals as goal
@@ -13,18 +10,13 @@ invariant_of-self c =
     let all =
     gone ss (omega (arith, c.args.self.now.list.ok, c.args.self.now.list.small)) c.args.self.now.nested c.args.self.now.fresh c.args.i c.requires.there c.args.n c.requires.next
     (omega (arith, c.if-n-shared.true, c.shared-shared.ensures)) in
-    record {
-      nested = subst (λ (qs : List Stretch). AreNested qs) (sym c.remove-gone.ensures.items) all.nested;
-      fresh = subst (λ (qs : List Stretch). AreFresh qs) (sym c.remove-gone.ensures.items) all.fresh;
-    }
+    rw c.remove-gone.ensures.items (record { nested = all.nested; fresh = all.fresh })
 
 pub returns-then-n-shared : goal.returns-then-n-shared
 returns-then-n-shared c =
     let ss = c.args.self.now.list.items in
-    let all =
-    gone ss (omega (arith, c.args.self.now.list.ok, c.args.self.now.list.small)) c.args.self.now.nested c.args.self.now.fresh c.args.i c.requires.there c.args.n c.requires.next
-    (omega (arith, c.if-n-shared.true, c.shared-shared.ensures)) in
-    subst (λ (qs : List Stretch). IsShrunk ss qs c.args.i c.args.n (Down c.args.i)) (sym c.remove-gone.ensures.items) all.shrunk
+    rw c.remove-gone.ensures.items (gone ss (omega (arith, c.args.self.now.list.ok, c.args.self.now.list.small)) c.args.self.now.nested c.args.self.now.fresh c.args.i c.requires.there c.args.n
+    c.requires.next (omega (arith, c.if-n-shared.true, c.shared-shared.ensures))).shrunk
 
 pub invariant_of-self-2 : goal.invariant_of-self-2
 invariant_of-self-2 c =
