@@ -1,4 +1,5 @@
--- The records of the stretches are as many as the lists that begin the events of a bookmark, the empty one apart.
+-- The records of the stretches are as many as the lists that begin the events of a bookmark, the
+-- empty one apart.
 use Rattle.std.proofs.Common.{◌≡◌, ℕ, zero, suc, ◌+◌, ◌-◌, ◌<◌, ◌≤◌, inl, inr, refl, sym, ap, ◌∙◌, subst, List, [], ◌∷◌, ◌++◌, length, take, map, sum_by, Contains, length-append, length-take, arith}
 use Rattle.std.specs.List.{range_with_len}
 use Rattle.std.proofs.Math.Seq.{take-length}

@@ -85,7 +85,8 @@ module _ (ss : List Stretch) (rule : AreNested ss) (fresh : AreFresh ss) where
 
 -- Following the stretches along events
 
--- before stretch k: n events are in common with the list of one stretch, all from there on share as many, and none has one more
+-- before stretch k: n events are in common with the list of one stretch, all from there on share as
+-- many, and none has one more
 pub record Follows (ss : List Stretch) (es : List Event) (k at n : ℕ) : Type 0 where
   pub along : IsAlong ss at n es
   pub shared : (j : ℕ) → at < j → j < k → n ≤ shared_at ss j

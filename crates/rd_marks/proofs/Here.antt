@@ -76,7 +76,7 @@ module _ (here there : List Entry) (begins : Begins there here) where
       ∙ ap (take k) (new_first ∙ take-map event n new.live ∙ ap events same ∙ sym (take-map event n old.live) ∙ sym old_first)
       ∙ take-take k n (events old.live ++ old_ahead) fewer ∙ still_begins (events old.live ++ old_ahead) stands
 
-  -- where steps were taken out behind them, if the call was not refused
+  -- where steps were taken out after them, if the call was not refused
   pub after_out : {X P Q : Type 0} (r : Result X Refusal) (n : ℕ) (old new : Journal) (old_ahead new_ahead : List Event)
       → Begins (events here) (events old.live ++ old_ahead) → OnOk r (length there ≤ n)
       → OnErr r (events new.live ++ new_ahead ≡ events old.live ++ old_ahead) → OnOk r P → (P → n ≤ length old.live) → OnOk r Q
@@ -94,7 +94,7 @@ live_begin session xs its =
 -- The place of the records of a list with which the live steps begin
 
 module _ (ss : List Stretch) where
-  -- where they stand: no further than they are, at the place where their track lies
+  -- where they are: no further than they are, at the place where their track lies
   pub live_along : {R : ℕ} (session : Session R) (here at : Place) (xs : List Entry) → events xs ≡ (state session).live → IsWithin ss here
       → Begins (events (records_at ss here)) (track session) → at.stretch ≡ here.stretch → at.number ≤ here.number → at.number ≤ length xs
       → IsWithin ss at × IsAlong ss at.stretch at.number (events xs)

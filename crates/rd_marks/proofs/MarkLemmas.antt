@@ -1,4 +1,5 @@
--- The marks that a list of names with records is: looking one up, putting one last, taking one away.
+-- The marks that a list of names with records is: looking one up, putting one last, taking one
+-- away.
 use Rattle.std.proofs.Common.{◌↔◌, IsTrue, true≢false, ◌⊎◌, inr, ◌≢◌, suc, Result, Ok, Err, IsOk, IfErr, OnOk, ne_eqb, ◌≡◌, ℕ, Bool, true, false, if◌then◌else◌, cond, map, refl, sym, ap, ◌∙◌, subst, List, [], ◌∷◌, ◌++◌, length, is_some, option_map, Option, Some, None, All, slice_get}
 use Rattle.std.specs.Map.{lookup, remove_entry}
 use Rattle.indexmap.specs.IndexMap.{insert_entry}
@@ -164,7 +165,7 @@ decided R w xs ys same p q d = d R w p.ran q.ran
 
 -- The mark of a number
 
--- what stands there
+-- what is there
 mark_there : (b : BookState) (ls : List (MarkName × List Entry)) (j : ℕ) (o : Option (MarkName × List Entry)) → b.marks ≡ marks_of ls → slice_get ls j ≡ o
     → slice_get b.marks j ≡ option_map mark_of o
 mark_there b ls j o same h = ap (λ (xs : List Mark). slice_get xs j) same ∙ slice_get-map mark_of ls j ∙ ap (option_map mark_of) h

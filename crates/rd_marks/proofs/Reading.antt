@@ -86,7 +86,7 @@ event_there xs m (suc n) k x some same at h l fewer =
     let here : slice_get xs n ≡ Some x = sym (slice_get_take xs m n (omega (arith, same))) ∙ ap (slice_get (take m xs)) (sym its) ∙ h in
     sym (slice_get-map (λ (y : Entry). y.event) (take l xs) n ∙ ap (option_map (λ (y : Entry). y.event)) (slice_get_take xs l n (omega (arith, fewer)) ∙ here))
 
--- events behind the first are those of the records behind the first
+-- events after the first are those of the records after the first
 pub events_behind : (k : ℕ) (xs : List Entry) → events (drop k xs) ≡ drop k (events xs)
 events_behind zero xs = refl
 events_behind (suc k) [] = refl
@@ -152,7 +152,7 @@ module _ (ss : List Stretch) (rule : AreNested ss) where
       ap (λ (n : ℕ). take n (list_of ss p.stretch)) parts
       ∙ one_more (list_of ss p.stretch) (p.number - 1) x (sym (slice_get_take (list_of ss p.stretch) p.number (p.number - 1) (omega (arith, some))) ∙ its)
 
-  -- the records behind the first n, where they are the stretch's own
+  -- the records after the first n, where they are the stretch's own
   pub lent : (p : Place) (n : ℕ) → IsWithin ss p → shared_at ss p.stretch ≤ n → n ≤ p.number
       → take (p.number - shared_at ss p.stretch - (n - shared_at ss p.stretch)) (drop (n - shared_at ss p.stretch) (own_at ss p.stretch)) ≡ drop n (records_at ss p)
   lent p n within shared fewer =
@@ -251,7 +251,7 @@ module _ (ss : List Stretch) (rule : AreNested ss) (at : Place) (within : IsWith
         | inr same ↦ reaches_first i (omega (arith, same, high))
       ]
 
-  -- behind the last one
+  -- after the last one
   pub reaches_end : (i n : ℕ) → n ≡ length ss → (at.stretch < length ss → i ≡ n) → (at.stretch < i → Reaches ss at i) → Reaches ss at n
   reaches_end i n all end before =
       elim (cases_lt at.stretch (length ss)) [

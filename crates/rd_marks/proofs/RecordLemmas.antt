@@ -55,7 +55,7 @@ begin_alike R (suc n) w (x ∷ xs) (y ∷ ys) p q h =
 pub to_the_end : {X : Type 0} (n : ℕ) (xs : List X) → take (length xs - n) (drop n xs) ≡ drop n xs
 to_the_end {X} n xs = ap (λ (k : ℕ). take k (drop n xs)) (sym (length-drop n xs)) ∙ take-length (drop n xs)
 
--- the first live events with those that a run has behind them
+-- the first live events with those that a run has after them
 pub joined_events : (n : ℕ) (es : List Event) (ys : List Entry) → take n es ≡ take n (events ys) → take n es ++ events (drop n ys) ≡ events ys
 joined_events n es ys h =
     ap (λ (zs : List Event). zs ++ events (drop n ys)) h ∙ ap (λ (zs : List Event). take n (events ys) ++ zs) (sym (drop-map (λ (x : Entry). x.event) n ys))

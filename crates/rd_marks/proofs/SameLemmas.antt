@@ -55,7 +55,7 @@ module _ (ones others : List Entry) (m n c : ℕ) (long : length ones ≡ m) (lo
         tested ∙ eq-eqb m n (omega (arith, as_long, long, long_too))),
   )
 
-  -- an answer for what is behind what they have in common is one for the lists
+  -- an answer for what is after what they have in common is one for the lists
   pub decided_behind : c ≤ m → c ≤ n → (same : Bool) (xs ys : List Entry) → xs ≡ drop c ones → ys ≡ drop c others → DecidesEquivalence xs ys same → DecidesEquivalence ones others same
   decided_behind first second same xs ys one other decided =
       right_behind ones others c same (omega (arith, long, first)) (omega (arith, long_too, second)) (ap events alike)

@@ -1,4 +1,5 @@
--- The rule of the stretches is kept, and each place keeps its records, where a stretch comes, goes or changes.
+-- The rule of the stretches is kept, and each place keeps its records, where a stretch comes, goes
+-- or changes.
 use Rattle.std.proofs.Common.{◌≡◌, ◌⊎◌, ℕ, zero, suc, ◌+◌, ◌-◌, ◌<◌, ◌≤◌, inl, inr, refl, sym, ap, ◌∙◌, subst, List, [], ◌∷◌, ◌++◌, map, length, take, length-take, arith}
 use Rattle.std.proofs.lemmas.Bool.{cases_lt, cases_eq, cases_order}
 use Rattle.std.proofs.lemmas.Bool.Decides.{nat_tests}
@@ -145,7 +146,7 @@ module _ (old new : List Stretch) (j : ℕ) (s : Stretch) (change : IsInserted o
       let then = (change.changed.above (suc j) j (omega arith) (omega arith)).1 in
       nested_changed old new j 1 change.changed rule (omega (arith, change.here.1, some)) few (omega (arith, then, change.changed.less, change.here.1, some))
 
-  -- the new list goes on as none did behind what it shares
+  -- the new list goes on as none did after what it shares
   pub fresh_inserted : AreNested old → AreFresh old → AreNested new → (at : ℕ) (es : List Event) → events (list_of new j) ≡ es → (0 < length old → at < j)
       → IsAlong old at s.shared es → IsDeepest old s.shared es → AreFresh new
   fresh_inserted rule fresh after at es its low along deepest =

@@ -1,4 +1,5 @@
--- The lists of stretches: how each goes on from the one before, and what stays when a stretch comes, goes or changes.
+-- The lists of stretches: how each goes on from the one before, and what stays when a stretch
+-- comes, goes or changes.
 use Rattle.std.proofs.Common.{◌≡◌, ℕ, zero, suc, ◌+◌, ◌-◌, ◌<◌, ◌≤◌, inl, inr, refl, sym, ap, ◌∙◌, subst, List, [], ◌∷◌, ◌++◌, length, take, drop, get_or, set, insert, remove, length-append, length-set, arith}
 use Rattle.std.proofs.Math.Seq.{take-append-add, drop-append-add}
 use Rattle.std.proofs.lemmas.Bool.{cases_lt, cases_eq}
@@ -8,7 +9,7 @@ use Rattle.rd_step.specs.declared.entries.Entry.{Entry}
 use Rattle.rd_marks.specs.declared.stretches.Stretch.{Stretch}
 use Rattle.rd_marks.specs.Stretches.{continued, list_after, list_of, list_before, shared_at, AreNested}
 
--- the records of the stretch of this number; none behind the last
+-- the records of the stretch of this number; none after the last
 abbrev pub own_at : List Stretch → ℕ → List Entry
 own_at [] i = []
 own_at (s ∷ ss) zero = s.records.items
@@ -50,7 +51,7 @@ past_after x [] i h = refl
 past_after x (s ∷ ss) zero h = absurd (omega (arith, h))
 past_after x (s ∷ ss) (suc i) h = past_after (continued x s) ss i (omega (arith, h))
 
--- behind the last stretch there is nothing
+-- after the last stretch there is nothing
 pub list_past : (ss : List Stretch) (i : ℕ) → length ss ≤ i → list_of ss i ≡ []
 list_past ss i h = past_after [] ss i h
 
@@ -92,7 +93,7 @@ module _ (ss : List Stretch) (rule : AreNested ss) where
             ∙ shared_records i m n (omega (arith, h, apart)) (λ k low high. all k low (omega (arith, high)))
       ]
 
--- Lists that differ behind what the first stretch shares are followed by the same lists
+-- Lists that differ after what the first stretch shares are followed by the same lists
 
 pub lists_common : (ss : List Stretch) (x y : List Entry) (i : ℕ) → take (shared_at ss 0) x ≡ take (shared_at ss 0) y → list_after x ss i ≡ list_after y ss i
 lists_common [] x y i h = refl
@@ -105,8 +106,8 @@ goes_back x s n h there =
 
 -- One stretch more, or one changed
 
--- the second stretches are the first ones but for that of this number: it is one more, or stands for one. It shares no less than the one
--- there did, and no more than there is
+-- the second stretches are the first ones but for that of this number: it is one more, or stands
+-- for one. It shares no less than the one there did, and no more than there is
 pub record IsChanged (old new : List Stretch) (j more : ℕ) : Type 0 where
   pub small : more ≤ 1
   pub count : length new ≡ more + length old
@@ -191,7 +192,7 @@ left_after x (r ∷ ss) (suc j) h =
     let rest = left_after (continued x r) ss j (omega (arith, h)) in
     (sym (one_on x r (remove ss j) j) ∙ rest.0 ∙ one_on x r ss j, rest.1, ap suc rest.2)
 
--- removing is inserting, seen from behind
+-- removing is inserting, the other way round
 pub removed_at : (ss : List Stretch) (j : ℕ) → AreNested ss → j < length ss → shared_at ss (suc j) ≤ shared_at ss j
     → (s : Stretch) × (s.shared ≡ shared_at ss j) × IsInserted (remove ss j) ss j s
 removed_at ss j rule h less =
@@ -257,7 +258,7 @@ module _ (ss : List Stretch) (rule : AreNested ss) (j : ℕ) (h : j < length ss)
         shared_replaced ss j t i shared,
       )
 
-  -- with more records behind its own
+  -- with more records after its own
   pub appended_at : (rest : List Entry) → t.records.items ≡ own_at ss j ++ rest → IsReplaced ss (set ss j t) j × (list_of (set ss j t) j ≡ list_of ss j ++ rest)
   appended_at rest its =
       replaced_at (list_of ss j ++ rest)

@@ -27,7 +27,7 @@ moved_same : (ps : List Place) → map (moved Same) ps ≡ ps
 moved_same [] = refl
 moved_same (p ∷ ps) = ap (λ (qs : List Place). p ∷ qs) (moved_same ps)
 
--- the events of a list with those of others behind it
+-- the events of a list with those of others after it
 joined_events : (xs ys zs : List Entry) (n : ℕ) → zs ≡ xs ++ drop n ys → events xs ≡ take n (events ys) → events zs ≡ events ys
 joined_events xs ys zs n its same =
     ap events its ∙ map-append (λ (x : Entry). x.event) xs (drop n ys) ∙ ap (λ (es : List Event). es ++ events (drop n ys)) (same ∙ take-map (λ (x : Entry). x.event) n ys)

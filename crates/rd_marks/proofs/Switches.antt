@@ -13,14 +13,15 @@ use Rattle.rd_marks.specs.Stretches.{list_of, records_at, IsWithin, IsAlong, IsD
 use Rattle.rd_marks.proofs.Starting.{begins_shorter, stretch_within, records_length, events_length, events_of_first, first_events}
 
 module _ (ss : List Stretch) where
-  -- the live events have as many in common with the records of a place as those that they begin with have
+  -- the live events have as many in common with the records of a place as those that they begin
+  -- with have
   pub common_live : (b place : Place) (n : ℕ) (es live : List Event) → es ≡ live → n ≤ b.number → IsAlong ss b.stretch b.number es
       → take n (records_at ss b) ≡ take n (records_at ss place) → take n live ≡ take n (events (records_at ss place))
   common_live b place n es live same within along alike =
       ap (take n) (sym same) ∙ sym (take-take n b.number es within) ∙ ap (take n) (sym along.alike) ∙ take-take n b.number (events (list_of ss b.stretch)) within
       ∙ sym (first_events ss b n within) ∙ events_of_first n (records_at ss b) ∙ ap events alike ∙ sym (events_of_first n (records_at ss place))
 
-  -- behind as many as its number says, a place has no records
+  -- after as many as its number says, a place has no records
   pub none_behind : (place : Place) (n : ℕ) (zs : List Entry) → IsWithin ss place → place.number ≡ n → zs ≡ drop n (records_at ss place) → zs ≡ []
   none_behind place n zs is all given =
       given ∙ ap (λ (m : ℕ). drop m (records_at ss place)) (sym all ∙ sym (records_length ss place is)) ∙ drop-length (records_at ss place)

@@ -38,8 +38,8 @@ abbrev pub without_mark : List Mark → MarkName → List Mark
 without_mark [] name = []
 without_mark (m ∷ ms) name = if same_name name m.name then ms else m ∷ without_mark ms name
 
--- setting a mark: it has the live events and is the last one; refused if there is one of its name, and else if there are as
--- many as there may be
+-- setting a mark: it has the live events and is the last one; refused if there is one of its name,
+-- and else if there are as many as there may be
 abbrev pub mark : BookState → MarkName → Result BookState Refusal
 mark b name =
     if is_some (marked_events b.marks name) then Err MarkTaken
@@ -63,8 +63,8 @@ goto_mark b name = at_events b (marked_events b.marks name)
 abbrev pub MakesSteps : BookState → MarkName → Type 0
 MakesSteps b name = (es : List Event) × (marked_events b.marks name ≡ Some es) × (Begins es b.session.live → ⊥)
 
--- what may be answered of the events of two marks: whether they are causally equivalent from the start; that a mark is missing; or,
--- if neither list begins the other, that memory was refused
+-- what may be answered of the events of two marks: whether they are causally equivalent from the
+-- start; that a mark is missing; or, if neither list begins the other, that memory was refused
 abbrev pub AnswersSame : ℕ → World → Option (List Event) → Option (List Event) → Result Bool Refusal → Type 0
 AnswersSame R start (Some es) (Some fs) (Ok same) = IsTrue same ↔ IsEquivalent R start es fs
 AnswersSame R start (Some es) (Some fs) (Err refusal) = (refusal ≡ NoMemory) × IsBegunByNeither es fs
@@ -85,7 +85,8 @@ event_in (Some es) n = event_at es n
 abbrev pub mark_event : BookState → ℕ → ℕ → Option Event
 mark_event b i n = event_in (mark_events b i) n
 
--- what may be answered of the events of a mark: these; that there is no such mark; or, if it has any, that memory was refused
+-- what may be answered of the events of a mark: these; that there is no such mark; or, if it has
+-- any, that memory was refused
 abbrev pub AnswersEvents : Option (List Event) → Result (Vec Event Global) Refusal → Type 0
 AnswersEvents None said = said ≡ Err NoMark
 AnswersEvents (Some es) (Ok list) = list.items ≡ es

@@ -28,7 +28,7 @@ pub record IsUnchanged (old new : List Stretch) : Type 0 where
   pub stays : (p : Place) → IsWithin old p → Stays old new Same p
   pub needed : (places : List Place) → AreNeeded old places → AreNeeded new places
 
--- after the records of a place were put, with those of the others behind them
+-- after the records of a place were put, with those of the others after them
 pub record IsGrown (old new : List Stretch) (at : Place) (records : List Entry) (grown : Grown) : Type 0 where
   pub within : IsWithin new grown.place
   pub put : records_at new grown.place ≡ records_at old at ++ drop at.number records
@@ -36,7 +36,7 @@ pub record IsGrown (old new : List Stretch) (at : Place) (records : List Entry) 
   pub stays : (p : Place) → IsWithin old p → Stays old new grown.shift p
   pub needed : (places : List Place) → AreNeeded old places → AreNeeded new (map (moved grown.shift) places ++ grown.place ∷ [])
 
--- after a stretch was cut to the first so many records of its list, or taken away
+-- after a stretch was cut to a number of records of its list, or taken away
 pub record IsShrunk (old new : List Stretch) (i n : ℕ) (shift : Shift) : Type 0 where
   pub below : i ≤ length new
   pub low : (p : Place) → IsWithin old p → IsLow p

@@ -1,5 +1,5 @@
--- What each command answers and leaves, by the state of the book alone. The queries look at the run of the live events; there
--- is no inverse and no old content here.
+-- What each command answers and leaves, by the state of the book alone. The queries look at the run
+-- of the live events; there is no inverse and no old content here.
 use Rattle.std.specs.Prelude.{◌≡◌, ℕ, zero, suc, ◌<◌, ◌⊎◌, Bool, List, [], ◌∷◌, length, slice_get, ok_or, Option, Result, Ok, Err, IsOk}
 use Rattle.rd_step.specs.Prelude.{Refusal, NoActor, NoSuchPlace, NoSuchStep, NoMemory, Place, Content, content_at, Actor as Words, OpReply, Act, Ran, MOST_STEPS}
 use Rattle.rd_actor.specs.declared.actors.Act.TheVariants.{Enq as CallsEnq, Deq as CallsDeq, AEnq as CallsArrayEnq, ADeq as CallsArrayDeq, Go as GoesOn, Starve as Starves}
@@ -36,7 +36,8 @@ event actor act = record { actor = actor; act = act }
 abbrev pub step_counts : State → Reply
 step_counts s = At (length s.live) (length s.undone)
 
--- an event is answered by the number of its step, the last live one, and by the reply of the call that it ends, if it ends one
+-- an event is answered by the number of its step, the last live one, and by the reply of the call
+-- that it ends, if it ends one
 abbrev pub event_answer : BookState → Option OpReply → Result State Refusal → Answered
 event_answer b reply (Err refusal) = refused b refusal
 event_answer b reply (Ok s) = record { answer = Ok (Applied (length s.live) reply); state = with_session b s }
@@ -80,13 +81,13 @@ record_in k (Ok ran) = record_at ran.entries k
 abbrev pub happens : ℕ → BookState → Event → Answered
 happens R b e = event_answer b (reply_to R b.session e) (apply R b.session e)
 
--- what an event may be answered, and what it may leave: what happens, or, where fewer steps are live than may be, NoMemory with nothing
--- changed
+-- what an event may be answered, and what it may leave: what happens, or, where fewer steps are
+-- live than may be, NoMemory with nothing changed
 abbrev pub Happened : ℕ → BookState → Event → Answered → Type 0
 Happened R b e answered = (answered ≡ happens R b e) ⊎ ((length b.session.live < MOST_STEPS) × (answered ≡ refused b NoMemory))
 
--- what setting or going to a mark may be answered, and what it may leave: what it makes, or, only if it asks for room, NoMemory with
--- nothing changed
+-- what setting or going to a mark may be answered, and what it may leave: what it makes, or, only
+-- if it asks for room, NoMemory with nothing changed
 abbrev pub IsMade : BookState → (BookState → Reply) → Result BookState Refusal → Type 0 → Answered → Type 0
 IsMade b reply made AsksForRoom answered = (answered ≡ mark_answer b reply made) ⊎ (AsksForRoom × (answered ≡ refused b NoMemory))
 

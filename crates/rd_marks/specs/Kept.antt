@@ -1,4 +1,5 @@
--- What a book's bookmarks are seen as: each name with its records, and the records where the session's track lies.
+-- What a book's bookmarks are seen as: each name with its records, and the records where the
+-- session's track lies.
 use Rattle.std.specs.Prelude.{List}
 use Rattle.rd_step.specs.declared.entries.Entry.{Entry}
 use Rattle.rd_marks.specs.declared.names.MarkName.{MarkName}

@@ -1,5 +1,5 @@
--- How a book keeps its bookmarks: the place of the records of each, which are those of a run from the session's start; and no record
--- is kept that no bookmark needs.
+-- How a book keeps its bookmarks: the place of the records of each, which are those of a run from
+-- the session's start; and no record is kept that no bookmark needs.
 use Rattle.std.specs.Prelude.{◌≡◌, ℕ, ◌≤◌, List, map, length}
 use Rattle.std.specs.List.{All}
 use Rattle.rd_step.specs.Prelude.{World, MOST_STEPS}
@@ -29,16 +29,16 @@ AreRuns R start lists = All (λ l. IsRecordOfRun R start l.1) lists
 abbrev pub places_of : List (MarkName × Place) → List Place
 places_of names = map (λ m. m.1) names
 
--- no more bookmarks than there may be, each at records that are there, as is the place where the session's track lies; and no record is
--- kept that no bookmark needs
+-- no more bookmarks than there may be, each at records that are there, as is the place where the
+-- session's track lies; and no record is kept that no bookmark needs
 pub record IsKept (ss : List Stretch) (names : List (MarkName × Place)) (here : Place) : Type 0 where
   pub few : length names ≤ MOST_MARKS
   pub within : All (λ m. IsWithin ss m.1) names
   pub needed : AreNeeded ss (places_of names)
   pub lies : IsWithin ss here
 
--- after stretches from this one on were shrunk to what is needed: the bookmarks have their records, and a place elsewhere has a beginning
--- of those that it had
+-- after stretches from this one on were shrunk to what is needed: the bookmarks have their records,
+-- and a place elsewhere has a beginning of those that it had
 pub record IsPruned (from : ℕ) (old new : List Stretch) (names left : List (MarkName × Place)) (here there : Place) : Type 0 where
   pub lists : lists_of new left ≡ lists_of old names
   pub within : All (λ m. IsWithin new m.1) left

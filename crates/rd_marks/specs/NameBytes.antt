@@ -4,7 +4,7 @@ use Rattle.std.specs.List.{list_all}
 use Rattle.std.specs.Char.{is_ascii_lowercase, is_ascii_digit}
 pub use Rattle.rd_cell.specs.declared.limits.TheConstants.{MOST_MARKS, MOST_NAME_BYTES}
 
--- whether this byte may stand in a name: a-z, 0-9 and the hyphen
+-- whether this byte may be in a name: a-z, 0-9 and the hyphen
 abbrev pub is_name_byte : ℕ → Bool
 is_name_byte b = is_ascii_lowercase b || is_ascii_digit b || (b == 45)
 

@@ -1,4 +1,5 @@
--- What holds of the bookmarks of every book: there are no more than may be, with different names, and the events of each are those of a run.
+-- What holds of the bookmarks of every book: there are no more than may be, with different names,
+-- and the events of each are those of a run.
 use Rattle.std.specs.Prelude.{◌≤◌, ℕ, List, [], ◌∷◌, map, length, IsOk}
 use Rattle.std.specs.List.{IsDistinct}
 use Rattle.rd_step.specs.Prelude.{World, run, MOST_STEPS}

@@ -1,5 +1,5 @@
--- How the records of the bookmarks are kept: by front coding. Each stretch tells how many records its list shares with the list of the
--- stretch before it, and has the rest.
+-- How the records of the bookmarks are kept: by front coding. Each stretch tells how many records
+-- its list shares with the list of the stretch before it, and has the rest.
 use Rattle.std.specs.Prelude.{◌≡◌, ◌==◌, if◌then◌else◌, ℕ, zero, suc, ◌+◌, ◌-◌, ◌<◌, ◌≤◌, nat_le, max, List, [], ◌∷◌, ◌++◌, length, take}
 use Rattle.rd_step.specs.Prelude.{MOST_STEPS}
 use Rattle.rd_step.specs.Run.{events}
@@ -13,7 +13,8 @@ use Rattle.rd_marks.specs.declared.stretches.Place.{Place}
 abbrev pub continued : List Entry → Stretch → List Entry
 continued before s = take s.shared before ++ s.records.items
 
--- the list of the stretch of this number, where the first comes after this list; there is nothing behind the last
+-- the list of the stretch of this number, where the first comes after this list; there is nothing
+-- after the last
 abbrev pub list_after : List Entry → List Stretch → ℕ → List Entry
 list_after before [] i = []
 list_after before (s ∷ ss) zero = continued before s
@@ -28,7 +29,7 @@ abbrev pub list_before : List Stretch → ℕ → List Entry
 list_before ss zero = []
 list_before ss (suc i) = list_of ss i
 
--- how many records it shares with that; none behind the last
+-- how many records it shares with that; none after the last
 abbrev pub shared_at : List Stretch → ℕ → ℕ
 shared_at [] i = 0
 shared_at (s ∷ ss) zero = s.shared
@@ -38,7 +39,7 @@ shared_at (s ∷ ss) (suc i) = shared_at ss i
 abbrev pub records_at : List Stretch → Place → List Entry
 records_at ss p = take p.number (list_of ss p.stretch)
 
--- the list has so many records
+-- the list has this many records
 abbrev pub IsWithin : List Stretch → Place → Type 0
 IsWithin ss p = p.number ≤ length (list_of ss p.stretch)
 
@@ -74,7 +75,8 @@ abbrev pub greatest_in : ℕ → List Place → ℕ
 greatest_in i [] = 0
 greatest_in i (p ∷ ps) = max (number_in i p) (greatest_in i ps)
 
--- how many records of a stretch's list are needed: by the next stretch, which shares them, or up to a place
+-- how many records of a stretch's list are needed: by the next stretch, which shares them, or up to
+-- a place
 abbrev pub needed_at : List Stretch → List Place → ℕ → ℕ
 needed_at ss places i = max (shared_at ss (suc i)) (greatest_in i places)
 
@@ -86,7 +88,7 @@ AreNeeded ss places = (i : ℕ) → i < length ss → length (list_of ss i) ≤ 
 abbrev pub AreNeededFrom : ℕ → List Stretch → List Place → Type 0
 AreNeededFrom k ss places = (i : ℕ) → k ≤ i → i < length ss → length (list_of ss i) ≤ needed_at ss places i
 
--- the list of a stretch begins with the first so many of these events
+-- the list of a stretch begins with this many of these events
 pub record IsAlong (ss : List Stretch) (i n : ℕ) (es : List Event) : Type 0 where
   pub enough : n ≤ length es
   pub alike : take n (events (list_of ss i)) ≡ take n es

@@ -1,5 +1,5 @@
-//! The bookmarks: their names in the order in which they were set, each with where its records are, and where the session's track lies
-//! among those.
+//! The bookmarks: their names in the order in which they were set, each with where its records are,
+//! and where the session's track lies among those.
 
 ghost use Rattle.std.specs.Prelude.{◌≡◌, ◌<◌, ◌≤◌, ◌++◌, [], ◌∷◌, None, map, length, slice_get, is_some, option_map, IsOk, IfOk, IfSome, OnOk, OnErr};
 ghost use Rattle.std.specs.List.{IsDistinct};
@@ -31,8 +31,8 @@ pub(crate) struct Bookmarks {
     /// The place of each bookmark's records.
     names: IndexMap<MarkName, Place>,
     stretches: Stretches,
-    /// The place of records whose steps begin the session's track, which is the live steps with those ahead of them. Setting a bookmark
-    /// and going to one begin there, and not at the start.
+    /// The place of records whose steps begin the session's track, which is the live steps with
+    /// those ahead of them. Setting a bookmark and going to one begin there, and not at the start.
     here: Place,
     ghost kept: { IsKept stretches.list.items names.entries here },
 }
@@ -115,8 +115,8 @@ impl Bookmarks {
         self.stretches.events(alloc, of)
     }
 
-    /// Sets a bookmark of this name, which none has, at the live steps. It is the last one. What is there of its records stays; all
-    /// memory for the others is asked for before the first is put.
+    /// Sets a bookmark of this name, which none has, at the live steps. It is the last one. What is
+    /// there of its records stays; all memory for the others is asked for before the first is put.
     ///
     /// # Errors
     ///
@@ -145,8 +145,8 @@ impl Bookmarks {
         Ok(())
     }
 
-    /// Drops the bookmark of this name, and gives back the records that no other one has. The others keep their order. Returns whether
-    /// there was one. It takes no memory.
+    /// Drops the bookmark of this name, and gives back the records that no other one has. The
+    /// others keep their order. Returns whether there was one. It takes no memory.
     pub(crate) fn drop(&mut self, name: &MarkName) -> bool
         ensures found { result ≡ is_some (lookup (same_name name.now) (lists_in self.old)) }
         ensures lists { lists_in self.new ≡ remove_entry (same_name name.now) (lists_in self.old) }
@@ -161,7 +161,8 @@ impl Bookmarks {
         }
     }
 
-    /// Whether the records of two places are of equivalent events. What they have in common is not looked at.
+    /// Whether the records of two places are of equivalent events. What they have in common is not
+    /// looked at.
     ///
     /// # Errors
     ///
@@ -186,7 +187,8 @@ impl Bookmarks {
         are_equivalent(alloc, &ones, &others)
     }
 
-    /// After a call that takes steps out of the track has answered: if it was not refused, the first `n` of those before it stayed.
+    /// After a call that takes steps out of the track has answered: if it was not refused, the
+    /// first `n` of those before it stayed.
     pub(crate) fn cut_back(&mut self, done: &Result<(), Refusal>, n: u64)
         ensures lists { lists_in self.new ≡ lists_in self.old }
         ensures begins { Begins (here_in self.new) (here_in self.old) }

@@ -1,10 +1,11 @@
 //! A book: a session with bookmarks, in the order in which they were set.
 //!
-//! A mark keeps the records of the steps that were live when it was set, which are those of a run from the session's start.
-//! Nothing outside this crate may know that.
+//! A mark keeps the records of the steps that were live when it was set, which are those of a run
+//! from the session's start. Nothing outside this crate may know that.
 //!
-//! The calls of a book are here; what each command answers is in `books/`: `obeying` has the commands, `moves` the events, undos and redos,
-//! `bookmarks` the bookmarks, and `queries` the rest; `saving` has what saves a book and loads it again.
+//! The calls of a book are here; what each command answers is in `books/`: `obeying` has the
+//! commands, `moves` the events, undos and redos, `bookmarks` the bookmarks, and `queries` the
+//! rest; `saving` has what saves a book and loads it again.
 
 mod bookmarks;
 mod moves;
@@ -36,8 +37,8 @@ pub struct Book<const R: usize> {
     ghost stands: { Begins (events (here_in bookmarks)) (track session) },
 }
 
-/// Written out and not derived, so that a proof of a function in which a book ends has one step for that, and not one for
-/// each list inside.
+/// Written out and not derived, so that a proof of a function in which a book ends has one step for
+/// that, and not one for each list inside.
 impl<const R: usize> Drop for Book<R> {
     fn drop(self) {
         let Book {
@@ -77,8 +78,9 @@ impl<const R: usize> Book<R> {
     ///
     /// # Errors
     ///
-    /// In this order: `MarkTaken` if there is one of that name; `TooManyMarks` if there are `MOST_MARKS`; `NoMemory` if the
-    /// room for its records or for itself was refused. Nothing has changed then.
+    /// In this order: `MarkTaken` if there is one of that name; `TooManyMarks` if there are
+    /// `MOST_MARKS`; `NoMemory` if the room for its records or for itself was refused. Nothing has
+    /// changed then.
     pub fn mark(&mut self, name: MarkName) -> Result<(), Refusal>
         ensures ok { OnOk result (mark (book_state self.old) name ≡ Ok (book_state self.new)) }
         ensures err { IfErr result (λ refusal. (mark (book_state self.old) name ≡ Err refusal)
@@ -114,13 +116,15 @@ impl<const R: usize> Book<R> {
         }
     }
 
-    /// Goes to the bookmark of this name: its steps are live, and none is undone. The steps that the live ones begin with in
-    /// common with it stay; the others are undone, and the rest of the bookmark's steps are made again.
+    /// Goes to the bookmark of this name: its steps are live, and none is undone. The steps that
+    /// the live ones begin with in common with it stay; the others are undone, and the rest of the
+    /// bookmark's steps are made again.
     ///
     /// # Errors
     ///
-    /// In this order: `NoMark` if there is none of that name; `NoMemory` if room for the steps that are made again was refused, so not if
-    /// the live steps begin with the bookmark's. Nothing has changed then.
+    /// In this order: `NoMark` if there is none of that name; `NoMemory` if room for the steps that
+    /// are made again was refused, so not if the live steps begin with the bookmark's. Nothing has
+    /// changed then.
     pub fn goto_mark(&mut self, name: MarkName) -> Result<(), Refusal>
         ensures ok { OnOk result (goto_mark (book_state self.old) name ≡ Ok (book_state self.new)) }
         ensures err { IfErr result (λ refusal. (goto_mark (book_state self.old) name ≡ Err refusal)
@@ -133,13 +137,13 @@ impl<const R: usize> Book<R> {
         self.bookmarks.go_to(self.alloc, &mut self.session, place)
     }
 
-    /// Whether the steps of two bookmarks are causally equivalent: one list is the other up to the order of steps that do not
-    /// depend on each other. Equivalent lists lead to the same world.
+    /// Whether the steps of two bookmarks are causally equivalent: one list is the other up to the
+    /// order of steps that do not depend on each other. Equivalent lists lead to the same world.
     ///
     /// # Errors
     ///
-    /// `NoMark` if one of the bookmarks is not there; `NoMemory` if memory was refused for the comparison, which lists of which
-    /// one begins the other do not ask for.
+    /// `NoMark` if one of the bookmarks is not there; `NoMemory` if memory was refused for the
+    /// comparison, which lists of which one begins the other do not ask for.
     pub fn same(&self, one: MarkName, other: MarkName) -> Result<bool, Refusal>
         ensures { AnswersSame R (book_state self.now).session.start (marked_events (book_state self.now).marks one)
             (marked_events (book_state self.now).marks other) result }
@@ -156,7 +160,8 @@ impl<const R: usize> Book<R> {
         }
     }
 
-    /// How many bookmarks there are: at most `MOST_MARKS`, with different names, each at events that go through from the session's start.
+    /// How many bookmarks there are: at most `MOST_MARKS`, with different names, each at events
+    /// that go through from the session's start.
     pub fn marks(&self) -> u64
         ensures count { result ≡ length (book_state self.now).marks }
         ensures rules { KeepsRules R (book_state self.now) }
@@ -164,15 +169,16 @@ impl<const R: usize> Book<R> {
         self.bookmarks.len() as u64
     }
 
-    /// How many different lists there are that begin the steps of some bookmark, the empty one apart: so many nodes has the tree that is
-    /// kept for the bookmarks. It takes no memory.
+    /// How many different lists there are that begin the steps of some bookmark, the empty one
+    /// apart: this many records are kept for the bookmarks. It takes no memory.
     pub fn nodes(&self) -> u64
         ensures { CountsBeginnings (book_state self.now).marks result }
     {
         self.bookmarks.nodes() as u64
     }
 
-    /// The name of the bookmark of this number, from 1, and how many steps were live when it was set.
+    /// The name of the bookmark of this number, from 1, and how many steps were live when it was
+    /// set.
     ///
     /// # Errors
     ///

@@ -19,7 +19,7 @@ pub enum Command {
     ArrayEnq(u8, u64),
     /// `adeq A`: the actor calls a dequeue on the array.
     ArrayDeq(u8),
-    /// `go A`: the actor makes the step of the row at which it stands.
+    /// `go A`: the actor makes the step of the row at which it is.
     Go(u8),
     /// `starve A yes`, `starve A no`: the actor chooses whether it starves.
     Starve(u8, bool),
@@ -27,7 +27,8 @@ pub enum Command {
     Undo,
     /// `undo K`: the live step of this number is undone alone, if no later one depends on it.
     UndoAt(u64),
-    /// `roll K`: the live step of this number is undone, and just the later ones that depend on it, directly or through others.
+    /// `roll K`: the live step of this number is undone, and just the later ones that depend on it,
+    /// directly or through others.
     Roll(u64),
     /// `back N`: the last N live steps are undone, all or none.
     Back(u64),

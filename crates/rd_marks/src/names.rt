@@ -9,7 +9,8 @@ use rd_cell::Refusal;
 use rd_cell::limits::MOST_NAME_BYTES;
 use std::str;
 
-/// The name of a bookmark: 1 to 16 bytes of a-z, 0-9 and `-`. Two names are equal if their bytes are.
+/// The name of a bookmark: 1 to 16 bytes of a-z, 0-9 and `-`. Two names are equal if their bytes
+/// are.
 #[derive(Clone, Copy, Debug, PartialEq, Eq, Hash)]
 pub struct MarkName {
     text: ArrayString<MOST_NAME_BYTES>,
@@ -58,14 +59,14 @@ fn is_mark_name(text: &[u8]) -> bool
     !text.is_empty() && text.len() <= MOST_NAME_BYTES && are_name_bytes(text)
 }
 
-/// Whether each of these bytes may stand in a name.
+/// Whether each of these bytes may be in a name.
 fn are_name_bytes(text: &[u8]) -> bool
     ensures { result ≡ list_all is_name_byte text.now }
 {
     text.iter().all(|b| is_name_byte(*b))
 }
 
-/// Whether this byte may stand in a name.
+/// Whether this byte may be in a name.
 fn is_name_byte(byte: u8) -> bool
     ensures { result ≡ is_name_byte byte }
 {

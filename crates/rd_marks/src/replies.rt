@@ -16,18 +16,18 @@ pub enum Reply {
         /// What the call replied that the step ended, if it ended one.
         reply: Option<OpReply>,
     },
-    /// So many steps are live and so many undone.
+    /// This many steps are live and this many undone.
     At {
         /// The number of live steps.
         live: u64,
         /// The number of undone steps.
         undone: u64,
     },
-    /// A bookmark was set at so many live steps.
+    /// A bookmark was set at this many live steps.
     Marked(u64),
     /// A bookmark went.
     Dropped,
-    /// There are so many bookmarks.
+    /// There are this many bookmarks.
     Marks(u64),
     /// A bookmark.
     Mark {

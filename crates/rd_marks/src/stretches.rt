@@ -1,8 +1,10 @@
-//! The records of the bookmarks, by front coding: each stretch tells how many records its list shares with the list of the stretch
-//! before it, and has the rest. So lists that begin alike share what they have in common.
+//! The records of the bookmarks, by front coding: each stretch tells how many records its list
+//! shares with the list of the stretch before it, and has the rest. So lists that begin alike share
+//! what they have in common.
 //!
-//! A place is a number of records from the start, of the list of one stretch. No list goes on as one before it does where it no longer
-//! shares, so what two places have in common is known by the numbers that the stretches between them share.
+//! A place is a number of records from the start, of the list of one stretch. No list goes on as
+//! one before it does where it no longer shares, so what two places have in common is known by the
+//! numbers that the stretches between them share.
 
 ghost use Rattle.std.specs.Prelude.{◌≡◌, ◌<◌, ◌≤◌, ◌^◌, ℕ, [], length, take, min};
 ghost use Rattle.rd_step.specs.Run.{events};
@@ -20,13 +22,14 @@ use std::alloc::Global;
 /// The part of a list that is not shared with the one before it.
 #[derive(Drop)]
 struct Stretch {
-    /// How many records its list shares with the list of the stretch before it; the first one shares none.
+    /// How many records its list shares with the list of the stretch before it; the first one
+    /// shares none.
     shared: usize,
     /// The records after those.
     records: Vec<Entry>,
 }
 
-/// So many records from the start, of the list of a stretch. Where no stretch is, they are none.
+/// This many records from the start, of the list of a stretch. Where no stretch is, they are none.
 #[derive(Clone, Copy, PartialEq, Eq)]
 pub(crate) struct Place {
     /// The number of the stretch, from 0.
@@ -93,7 +96,8 @@ impl Stretches {
         count
     }
 
-    /// How many records the list of this stretch shares with that of the one before it; none behind the last.
+    /// How many records the list of this stretch shares with that of the one before it; none after
+    /// the last.
     pub(crate) fn shared(&self, i: usize) -> usize
         ensures { result ≡ shared_at self.now.list.items i }
     {
@@ -103,7 +107,8 @@ impl Stretches {
         }
     }
 
-    /// The place of the same records in the first stretch that has them, of which the last is its own.
+    /// The place of the same records in the first stretch that has them, of which the last is its
+    /// own.
     pub(crate) fn own_place(&self, of: Place) -> Place
         requires within { IsWithin self.now.list.items of }
         ensures number { result.number ≡ of.number }

@@ -16,12 +16,14 @@ use std::alloc::Global;
 impl Bookmarks {
     ghost use Rattle.rd_marks.specs.Kept.{lists_in, records_in, here_in, IsIn};
 
-    /// Makes the steps of a place the live ones, with none undone. If they lie on the session's track, it goes along it; else what they
-    /// begin with in common with the live ones stays, and the track is theirs then.
+    /// Makes the steps of a place the live ones, with none undone. If they lie on the session's
+    /// track, it goes along it; else what they begin with in common with the live ones stays, and
+    /// the track is theirs then.
     ///
     /// # Errors
     ///
-    /// `NoMemory` if room for the others was refused, so not if there are none. Nothing has changed then.
+    /// `NoMemory` if room for the others was refused, so not if there are none. Nothing has changed
+    /// then.
     pub(crate) fn go_to<const R: usize>(
         &mut self,
         alloc: Global,
@@ -49,12 +51,13 @@ impl Bookmarks {
     }
 }
 
-/// The same, wherever they lie. What the live ones have in common with the bookmarks is looked for from where they stand among those. The
-/// others are copied if they can't be lent.
+/// The same, wherever they lie. What the live ones have in common with the bookmarks is looked for
+/// from where they are among those. The others are copied if they can't be lent.
 ///
 /// # Errors
 ///
-/// `NoMemory` if room for the others was refused, so not if there are none. Nothing has changed then.
+/// `NoMemory` if room for the others was refused, so not if there are none. Nothing has changed
+/// then.
 fn exchange<const R: usize>(
     stretches: &Stretches,
     alloc: Global,

@@ -1,4 +1,5 @@
-//! Putting a bookmark last, giving back the records that no bookmark has, and keeping places where their stretches are.
+//! Putting a bookmark last, giving back the records that no bookmark has, and keeping places where
+//! their stretches are.
 
 ghost use Rattle.std.specs.Prelude.{◌≡◌, ◌<◌, ◌≤◌, ◌++◌, [], ◌∷◌, None, suc, map, length};
 ghost use Rattle.std.specs.List.{All};
@@ -27,7 +28,8 @@ pub(super) fn put(names: &mut IndexMap<MarkName, Place>, name: MarkName, grown: 
     }
 }
 
-/// Where the session's track lies after so many live steps got a place: there, or further on where it lay.
+/// Where the session's track lies after this many live steps got a place: there, or further on
+/// where it lay.
 pub(super) fn here_after(here: Place, len: usize, grown: Grown) -> Place
     requires { IsLow here }
     ensures near { here.number ≤ len → result ≡ grown.place }
@@ -40,8 +42,8 @@ pub(super) fn here_after(here: Place, len: usize, grown: Grown) -> Place
     }
 }
 
-/// Takes away the records that no bookmark needs, and the stretches that have none left, from the last stretch down. What lay on a record
-/// that goes lies at the last one before it that is left.
+/// Takes away the records that no bookmark needs, and the stretches that have none left, from the
+/// last stretch down. What lay on a record that goes lies at the last one before it that is left.
 pub(super) fn prune(
     stretches: &mut Stretches,
     names: &mut IndexMap<MarkName, Place>,

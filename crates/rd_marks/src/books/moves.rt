@@ -12,7 +12,8 @@ impl<const R: usize> Book<R> {
     ghost use Rattle.rd_marks.specs.BookViews.{book_state};
     ghost use Rattle.rd_marks.specs.Commands.{Happened, move_answer, step_counts};
 
-    /// Makes an event happen, and answers the number of its step and the reply of the call that it ends.
+    /// Makes an event happen, and answers the number of its step and the reply of the call that it
+    /// ends.
     pub(super) fn answer_event(&mut self, event: Event) -> Result<Reply, Refusal>
         ensures { Happened R (book_state self.old) event (record { answer = result; state = book_state self.new }) }
     {
@@ -24,7 +25,7 @@ impl<const R: usize> Book<R> {
         })
     }
 
-    /// Undoes the last live step. Answers how many steps are live and undone then.
+    /// Undoes the last live step. Returns how many steps are live and undone then.
     pub(super) fn answer_undo(&mut self) -> Result<Reply, Refusal>
         ensures { record { answer = result; state = book_state self.new } ≡ move_answer (book_state self.old) (undo (book_state self.old).session) }
     {
@@ -32,7 +33,7 @@ impl<const R: usize> Book<R> {
         self.counts_after(done)
     }
 
-    /// Undoes the live step of this number alone. Answers how many steps are live and undone then.
+    /// Undoes the live step of this number alone. Returns how many steps are live and undone then.
     pub(super) fn answer_undo_at(&mut self, k: u64) -> Result<Reply, Refusal>
         ensures { record { answer = result; state = book_state self.new } ≡ move_answer (book_state self.old) (undo_at R (book_state self.old).session k) }
     {
@@ -41,8 +42,8 @@ impl<const R: usize> Book<R> {
         self.counts_after(done)
     }
 
-    /// Undoes the live step of this number and just the later ones that depend on it. Answers how many steps are live and
-    /// undone then.
+    /// Undoes the live step of this number and just the later ones that depend on it. Returns how
+    /// many steps are live and undone then.
     pub(super) fn answer_roll(&mut self, k: u64) -> Result<Reply, Refusal>
         ensures { record { answer = result; state = book_state self.new } ≡ move_answer (book_state self.old) (roll R (book_state self.old).session k) }
     {
@@ -51,7 +52,8 @@ impl<const R: usize> Book<R> {
         self.counts_after(done)
     }
 
-    /// Undoes the last `n` live steps, all or none. Answers how many steps are live and undone then.
+    /// Undoes the last `n` live steps, all or none. Returns how many steps are live and undone
+    /// then.
     pub(super) fn answer_back(&mut self, n: u64) -> Result<Reply, Refusal>
         ensures { record { answer = result; state = book_state self.new } ≡ move_answer (book_state self.old) (back (book_state self.old).session n) }
     {
@@ -59,7 +61,7 @@ impl<const R: usize> Book<R> {
         self.counts_after(done)
     }
 
-    /// Makes the step again that was undone last. Answers how many steps are live and undone then.
+    /// Makes the step again that was undone last. Returns how many steps are live and undone then.
     pub(super) fn answer_redo(&mut self) -> Result<Reply, Refusal>
         ensures { record { answer = result; state = book_state self.new } ≡ move_answer (book_state self.old) (redo (book_state self.old).session) }
     {
@@ -67,7 +69,8 @@ impl<const R: usize> Book<R> {
         self.counts_after(done)
     }
 
-    /// Makes the `n` steps again that were undone last, all or none. Answers how many steps are live and undone then.
+    /// Makes the `n` steps again that were undone last, all or none. Returns how many steps are
+    /// live and undone then.
     pub(super) fn answer_forward(&mut self, n: u64) -> Result<Reply, Refusal>
         ensures { record { answer = result; state = book_state self.new } ≡ move_answer (book_state self.old) (forward (book_state self.old).session n) }
     {

@@ -29,11 +29,13 @@ impl<const R: usize> Book<R> {
         }
     }
 
-    /// Obeys commands one after another, and answers each. A refused command changes nothing, and the next one is obeyed.
+    /// Obeys commands one after another, and answers each. A refused command changes nothing, and
+    /// the next one is obeyed.
     ///
     /// # Errors
     ///
-    /// `NoMemory` if the room for the answers was refused, so not if there is no command. No command was obeyed then.
+    /// `NoMemory` if the room for the answers was refused, so not if there is no command. No
+    /// command was obeyed then.
     pub fn apply_all(
         &mut self,
         alloc: Global,

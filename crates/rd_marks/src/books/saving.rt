@@ -1,4 +1,5 @@
-//! The events of a book's bookmarks, and going to the start: what saves a book and loads it again needs them.
+//! The events of a book's bookmarks, and going to the start: what saves a book and loads it again
+//! needs them.
 
 ghost use Rattle.std.specs.Prelude.{◌≡◌};
 
@@ -11,8 +12,9 @@ impl<const R: usize> Book<R> {
     ghost use Rattle.rd_marks.specs.BookViews.{book_state};
     ghost use Rattle.rd_marks.specs.Books.{mark_events, mark_event, to_start, AnswersEvents};
 
-    /// The event of this number, from 1, of the bookmark of this number, from 1, if there is one. It takes no memory, and time that grows with
-    /// the number of steps behind it; `mark_events` gives all of them at once.
+    /// The event of this number, from 1, of the bookmark of this number, from 1, if there is one.
+    /// It takes no memory, and time that grows with the number of steps after it; `mark_events`
+    /// gives all of them at once.
     pub fn mark_event(&self, i: u64, n: u64) -> Option<Event>
         ensures { result ≡ mark_event (book_state self.now) i n }
     {
@@ -25,12 +27,13 @@ impl<const R: usize> Book<R> {
         }
     }
 
-    /// The events of the bookmark of this number, from 1: those that were live when it was set. It takes time that grows with their number.
+    /// The events of the bookmark of this number, from 1: those that were live when it was set. It
+    /// takes time that grows with their number.
     ///
     /// # Errors
     ///
-    /// `NoMark` if `i` is not from 1 to the number of bookmarks; else `NoMemory` if memory was refused for the events, so not if there
-    /// are none.
+    /// `NoMark` if `i` is not from 1 to the number of bookmarks; else `NoMemory` if memory was
+    /// refused for the events, so not if there are none.
     pub fn mark_events(&self, alloc: Global, i: u64) -> Result<Vec<Event>, Refusal>
         ensures { AnswersEvents (mark_events (book_state self.now) i) result }
     {
@@ -46,7 +49,8 @@ impl<const R: usize> Book<R> {
         }
     }
 
-    /// Goes to the start: no step is live, and none is undone. The bookmarks stay. It takes no memory.
+    /// Goes to the start: no step is live, and none is undone. The bookmarks stay. It takes no
+    /// memory.
     pub fn to_start(&mut self)
         ensures { book_state self.new ≡ to_start (book_state self.old) }
     {

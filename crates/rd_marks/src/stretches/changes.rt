@@ -76,8 +76,8 @@ impl Stretches {
     ghost use Rattle.rd_marks.specs.Stretches.{list_before, shared_at, records_at, IsWithin, IsEnd, IsAlong, IsDeepest};
     ghost use Rattle.rd_marks.specs.Changes.{IsGrown, IsShrunk, IsUnchanged};
 
-    /// Has the records of a place, with which the live steps begin, go on with those of the others, as no list does: at the end of
-    /// their stretch, or in a new one.
+    /// Has the records of a place, with which the live steps begin, go on with those of the others,
+    /// as no list does: at the end of their stretch, or in a new one.
     ///
     /// # Errors
     ///
@@ -119,7 +119,8 @@ impl Stretches {
         }
     }
 
-    /// Puts the other records of the live steps at the end of the stretch whose list ends at a place.
+    /// Puts the other records of the live steps at the end of the stretch whose list ends at a
+    /// place.
     ///
     /// # Errors
     ///
@@ -183,7 +184,8 @@ impl Stretches {
         }
     }
 
-    /// The first stretch after that of a place whose list does not go on as the place's stretch does behind it; their number if each does.
+    /// The first stretch after that of a place whose list does not go on as the place's stretch
+    /// does after it; their number if each does.
     fn next_off(&self, at: Place) -> usize
         requires { IsWithin self.now.list.items at }
         ensures there { result ≤ length self.now.list.items }
@@ -200,8 +202,9 @@ impl Stretches {
         self.list.len()
     }
 
-    /// Takes away the records of a stretch's list behind the first `n`, none of which is shared by the next one, and gives their room
-    /// back; all of the stretch if none of its own are left. Returns what became of the numbers of the stretches.
+    /// Takes away the records of a stretch's list after the first `n`, none of which is shared by
+    /// the next one, and gives their room back; all of the stretch if none of its own are left.
+    /// Returns what became of the numbers of the stretches.
     pub(crate) fn shrink(&mut self, i: usize, n: usize) -> Shift
         requires there { i < length self.old.list.items }
         requires next { shared_at self.old.list.items (suc i) ≤ n }
@@ -217,7 +220,7 @@ impl Stretches {
     }
 }
 
-/// Puts records behind others.
+/// Puts records after others.
 ///
 /// # Errors
 ///

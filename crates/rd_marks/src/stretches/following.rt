@@ -11,7 +11,8 @@ use rd_step::{Entry, Event};
 impl Stretches {
     ghost use Rattle.rd_marks.specs.Stretches.{shared_at, IsWithin, IsAlong, IsDeepest};
 
-    /// The place of as many of the live steps as any list begins with, found from one that they begin with.
+    /// The place of as many of the live steps as any list begins with, found from one that they
+    /// begin with.
     pub(crate) fn follow(&self, from: Place, live: &LiveRecords) -> Place
         requires within { IsWithin self.now.list.items from }
         requires along { IsAlong self.now.list.items from.stretch from.number (events live.now) }
@@ -32,7 +33,8 @@ impl Stretches {
         at
     }
 
-    /// How many of the live steps the list of a stretch begins with, of which the first `n` are known and the others are its own.
+    /// How many of the live steps the list of a stretch begins with, of which the first `n` are
+    /// known and the others are its own.
     fn along(&self, i: usize, n: usize, live: &LiveRecords) -> usize
         requires there { i < length self.now.list.items }
         requires own { shared_at self.now.list.items i ≤ n }
@@ -78,7 +80,7 @@ fn alike(records: &[Entry], live: &LiveRecords) -> usize
     most
 }
 
-/// The records behind the first `n`.
+/// The records after the first `n`.
 fn own_behind(records: &[Entry], n: usize) -> &[Entry]
     requires { n ≤ length records.now }
     ensures { result.now ≡ drop n records.now }

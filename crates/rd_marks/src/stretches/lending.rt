@@ -35,7 +35,8 @@ impl Stretches {
         &stretch.records[of.number - stretch.shared - 1]
     }
 
-    /// The records of a place behind the first `n`: lent if they are of one stretch, as for most places they are, and else copied.
+    /// The records of a place after the first `n`: lent if they are of one stretch, as for most
+    /// places they are, and else copied.
     ///
     /// # Errors
     ///
@@ -72,7 +73,7 @@ impl Stretches {
         Some(&stretch.records[n - stretch.shared..of.number - stretch.shared])
     }
 
-    /// A copy of the records of a place behind the first `n`.
+    /// A copy of the records of a place after the first `n`.
     ///
     /// # Errors
     ///

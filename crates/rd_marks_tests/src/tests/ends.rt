@@ -1,5 +1,5 @@
-//! Events at the ends of counters, of a maker's segments and of the array: refused through a session and through a book, with nothing
-//! changed.
+//! Events at the ends of counters, of a maker's segments and of the array: refused through a
+//! session and through a book, with nothing changed.
 
 use rd_actor::{Act, Actor, Op, Pc};
 use rd_cell::{Cell, Refusal, SegName};
@@ -38,7 +38,7 @@ const FULL_RING: SegmentParts<1> = SegmentParts {
     }; 1],
 };
 
-/// A world whose one actor stands where its next step is at an end.
+/// A world whose one actor is where its next step is at an end.
 #[derive(Clone, Copy, Debug)]
 struct End {
     pc: Pc,

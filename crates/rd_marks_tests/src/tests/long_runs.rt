@@ -1,4 +1,5 @@
-//! Long runs of all commands, chosen at random, none of which is refused memory that is there; and lists of commands of several lengths.
+//! Long runs of all commands, chosen at random, none of which is refused memory that is there; and
+//! lists of commands of several lengths.
 
 ghost use Rattle.std.specs.Prelude.{◌≤◌};
 ghost use Rattle.rd_step.specs.Prelude.{MOST_CELLS};
@@ -21,7 +22,7 @@ fn next(number: u64) -> u64 {
         .wrapping_add(1_442_695_040_888_963_407)
 }
 
-/// An event of an actor that stands at this control point, as the number has it.
+/// An event of an actor that is at this control point, as the number has it.
 fn event(pc: Pc, actor: u8, number: u64) -> Command {
     match (pc, (number >> 40) % 5) {
         (Pc::Idle, 0 | 1) => Command::Enq(actor, number >> 50),
@@ -77,7 +78,7 @@ fn command<const R: usize>(book: &Book<R>, actors: u8, number: u64) -> Result<Co
     }
 }
 
-/// Whether a run of commands over a fresh world of so many actors is refused memory anywhere.
+/// Whether a run of commands over a fresh world of this many actors is refused memory anywhere.
 fn is_refused_memory<const R: usize>(alloc: Global, actors: u8) -> Result<bool, Refusal>
     requires some { 1 ≤ actors }
     requires few { actors ≤ 16 }
@@ -117,7 +118,8 @@ fn no_command_is_refused_memory_that_is_there(rt: HostRuntime) -> Result<(), Fai
     Ok(())
 }
 
-/// Whether a list of so many calls of a dequeue is answered call by call: the first happens, and the actor is not idle for the others.
+/// Whether a list of this many calls of a dequeue is answered call by call: the first happens, and
+/// the actor is not idle for the others.
 fn are_answered(alloc: Global, calls: usize) -> Result<bool, Refusal> {
     let session = Session::open(alloc, World::<2>::fresh(alloc, 2)?);
     let mut book = Book::open(alloc, session);

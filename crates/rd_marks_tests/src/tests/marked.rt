@@ -1,4 +1,5 @@
-//! The events of bookmarks by their numbers and all at once, going to the start, and events as commands.
+//! The events of bookmarks by their numbers and all at once, going to the start, and events as
+//! commands.
 
 use rd_actor::Act;
 use rd_cell::Refusal;
@@ -9,7 +10,8 @@ use std::alloc::Global;
 use std::process::Abort;
 use std::test::Fail;
 
-/// The steps of the first bookmark, and what leads from it to the steps of the second, which shares two of them.
+/// The steps of the first bookmark, and what leads from it to the steps of the second, which shares
+/// two of them.
 const FIRST: [Command; 4] = [
     Command::Enq(1, 7),
     Command::Deq(2),
@@ -69,7 +71,7 @@ fn obey_all(book: &mut Book<4>, commands: &[Command]) -> Result<(), Refusal> {
     Ok(())
 }
 
-/// A book with two bookmarks that share two steps behind one at no step, and one undone step.
+/// A book with two bookmarks that share two steps after one at no step, and one undone step.
 fn marked_book(alloc: Global) -> Result<Book<4>, Refusal> {
     let session = Session::open(alloc, World::<4>::fresh(alloc, 4)?);
     let mut book = Book::open(alloc, session);

@@ -83,7 +83,7 @@ fn a_chain_of_bookmarks_keeps_the_steps_of_the_last(rt: HostRuntime) -> Result<(
 /// How many steps each branch has.
 const STEPS: u64 = 100;
 
-/// Sets 64 bookmarks that have two steps in common, and other ones behind those.
+/// Sets 64 bookmarks that have two steps in common, and other ones after those.
 fn branch(rt: &impl Abort, book: &mut Book<4>) -> Result<(), Refusal> {
     step(book, 1)?;
     step(book, 1)?;
