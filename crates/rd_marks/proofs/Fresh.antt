@@ -69,19 +69,8 @@ module _ (ss : List Stretch) (rule : AreNested ss) (fresh : AreFresh ss) where
   pub between : (i m n : ℕ) (es : List Event) → m < length ss → IsAlong ss i n es → IsAlong ss m n es → (k : ℕ) → i < k → k ≤ m → n ≤ shared_at ss k
   between i zero n es h a b k low high = absurd (omega (arith, low, high))
   between i (suc m) n es h a b k low high =
-      elim (cases_eq k (suc m)) [
-        | inl same ↦ subst (λ (d : ℕ). n ≤ shared_at ss d) (sym same) last
-        | inr other ↦
-            between i m n es (omega (arith, h)) a (along_taken ss ss m (suc m) n es (sym (begins_shared ss rule (suc m) n last)) b) k low
-            (omega (arith, high, other))
-      ]
-    where
-      last : n ≤ shared_at ss (suc m)
-      last =
-          elim (cases_lt (shared_at ss (suc m)) n) [
-            | inl less ↦ absurd (not_both (suc m) i n es (omega (arith, low, high)) h less b a)
-            | inr fine ↦ fine
-          ]
+      let last : n ≤ shared_at ss (suc m) = grind (arith, not_both (suc m) i n es (omega (arith, low, high)) h, a, b) in
+      grind (arith, last, between i m n es (omega (arith, h)) a (along_taken ss ss m (suc m) n es (sym (begins_shared ss rule (suc m) n last)) b) k low)
 
 -- Following the stretches along events
 
@@ -118,12 +107,10 @@ module _ (ss : List Stretch) (rule : AreNested ss) (fresh : AreFresh ss) (es : L
   follows_skipped (suc k) at n f h less = record {
     along = f.along;
     shared = λ j low high. grind (arith, less, f.shared j low);
-    none = λ j high a. elim (cases_eq j (suc k)) [
-      | inl last ↦
-          f.none k (omega arith) (along_taken ss ss k (suc k) (suc n) es (sym (begins_shared ss rule (suc k) (suc n) (omega (arith, less))))
-          (subst (λ (i : ℕ). IsAlong ss i (suc n) es) last a))
-      | inr earlier ↦ f.none j (omega (arith, high, earlier)) a
-    ];
+    none = λ j high a. (
+        let same = sym (begins_shared ss rule (suc k) (suc n) (omega (arith, less))) in
+        grind (arith, cases_eq j (suc k), f.none j, f.none k (omega arith), along_taken ss ss k (suc k) (suc n) es same)
+        );
   }
 
   -- the stretch is along m, and no more
@@ -145,17 +132,10 @@ module _ (ss : List Stretch) (rule : AreNested ss) (fresh : AreFresh ss) (es : L
   -- where the stretches end, or one shares fewer, no list has one more
   pub follows_stopped : (k at n : ℕ) → Follows ss es k at n → (k < length ss → (at < k) × (shared_at ss k < n)) → IsDeepest ss n es
   follows_stopped k at n f stop j h a =
-      elim (cases_lt j k) [
-        | inl earlier ↦ f.none j earlier a
-        | inr later ↦
-            let stopped = stop (omega (arith, later, h)) in
-            omega (arith, between ss rule fresh at j n es h f.along (along_less ss j n (suc n) es (omega arith) a) k stopped.0 later, stopped.1)
-      ]
+      grind (arith, f.none j, stop, between ss rule fresh at j n es h f.along (along_less ss j n (suc n) es (omega arith) a) k)
 
   -- no later stretch opens as those events do
   pub later_apart : (at n k : ℕ) → at < k → k < length ss → IsAlong ss at n es → IsDeepest ss n es → IsAlong ss k (suc (shared_at ss k)) es → ⊥
   later_apart at n k h inside a deepest b =
-      elim (cases_lt (shared_at ss k) n) [
-        | inl less ↦ not_both ss rule fresh k at (suc (shared_at ss k)) es h inside (omega arith) b (along_less ss at (suc (shared_at ss k)) n es (omega (arith, less)) a)
-        | inr more ↦ deepest k inside (along_less ss k (suc n) (suc (shared_at ss k)) es (omega (arith, more)) b)
-      ]
+      let d = suc (shared_at ss k) in
+      grind (arith, not_both ss rule fresh k at d es h inside (omega arith) b, along_less ss at d n es, deepest k inside, along_less ss k (suc n) d es)

@@ -15,7 +15,7 @@ use Rattle.rd_journal.specs.State.{State, undo_at, roll}
 use Rattle.rd_marks.specs.declared.stretches.Place.{Place}
 use Rattle.rd_marks.specs.declared.stretches.Stretch.{Stretch}
 use Rattle.rd_marks.specs.Stretches.{list_of, records_at, IsWithin, IsAlong}
-use Rattle.rd_marks.proofs.Starting.{begins_events, begins_shorter, begins_trans, events_length, fewer_begin, first_events}
+use Rattle.rd_marks.proofs.Starting.{begins_events, begins_shorter, begins_trans, events_length, events_of_first, fewer_begin, records_length}
 
 -- What a call leaves of the first live records
 
@@ -100,28 +100,21 @@ module _ (ss : List Stretch) where
       → IsWithin ss at × IsAlong ss at.stretch at.number (events xs)
   live_along session here at xs its within stands same fewer few =
       let first = fewer_begin ss here at within same fewer in
-      let es = events (records_at ss at) in
-      let long : length es ≡ at.number = events_length ss at first.0 in
-      let ahead = events (ahead_records session.records) in
       let n = at.number in
-      let all : length (events xs) ≡ length xs = length-map xs (λ (x : Entry). x.event) in
-      let begins : Begins es (track session) = still_begins (records_at ss here) (records_at ss at) first.1 (track session) stands in
-      let live : take n (events xs ++ ahead) ≡ take n (events xs) = take-append-le n (events xs) ahead (omega (arith, few, all)) in
-      let whole : take n es ≡ es = ap (λ (m : ℕ). take m es) (sym long) ∙ take-length es in
-      let alike : take n (events (list_of ss at.stretch)) ≡ take n (events xs) =
-      sym (first_events ss at n (omega arith)) ∙ whole ∙ sym begins ∙ ap (λ (m : ℕ). take m (track session)) long
-      ∙ ap (λ (es : List Event). take n (es ++ ahead)) (sym its) ∙ live in
+      let ahead = events (ahead_records session.records) in
+      let all = length-map xs (λ (x : Entry). x.event) in
+      let alike =
+      events_of_first n (list_of ss at.stretch) ∙ sym (still_begins (records_at ss here) (records_at ss at) first.1 (track session) stands)
+      ∙ ap (λ (m : ℕ). take m (track session)) (events_length ss at first.0) ∙ ap (λ (es : List Event). take n (es ++ ahead)) (sym its)
+      ∙ take-append-le n (events xs) ahead (omega (arith, few, all)) in
       (first.0, record { enough = omega (arith, few, all); alike = alike })
 
   -- so its steps are the first ones of the track
   pub along_to : (at here : Place) (steps : List Event) → IsWithin ss at → IsWithin ss here → Begins (events (records_at ss here)) steps → (n : ℕ) → n ≡ at.number → n ≤ here.number
       → take n (records_at ss here) ≡ take n (records_at ss at) → (n ≤ length steps) × (take n steps ≡ events (records_at ss at))
   along_to at here steps is within stands n all fewer alike =
-      let event = λ (x : Entry). x.event in
-      let short = begins_shorter (events (records_at ss here)) steps stands in
-      let long = events_length ss here within in
-      let whole = events_length ss at is in (
-        omega (arith, short, long, fewer),
-        sym (take-take n (length (events (records_at ss here))) steps (omega (arith, long, fewer))) ∙ ap (take n) stands ∙ take-map event n (records_at ss here) ∙ ap events alike
-            ∙ sym (take-map event n (records_at ss at)) ∙ ap (λ (m : ℕ). take m (events (records_at ss at))) (all ∙ sym whole) ∙ take-length (events (records_at ss at)),
+      let long = events_length ss here within in (
+        omega (arith, begins_shorter (events (records_at ss here)) steps stands, long, fewer),
+        sym (take-take n (length (events (records_at ss here))) steps (omega (arith, long, fewer))) ∙ ap (take n) stands ∙ events_of_first n (records_at ss here) ∙ ap events alike
+            ∙ ap (λ (m : ℕ). events (take m (records_at ss at))) (all ∙ sym (records_length ss at is)) ∙ ap events (take-length (records_at ss at)),
       )

@@ -126,17 +126,13 @@ none_removed {K} {V} test (m ∷ ms) h =
       | false ↦ λ k. ap (λ (rest : List (K × V)). m ∷ rest) (none_removed test ms k)
     ]) h
 
--- going to a mark that is there
-pub goto_goes : (b : BookState) (name : MarkName) (es : List Event) (s : State) → marked_events b.marks name ≡ Some es
-    → s ≡ record { start = b.session.start; live = es; undone = [] } → goto_mark b name ≡ Ok (with_session b s)
-goto_goes b name es s there same = ap (at_events b) there ∙ ap (λ (t : State). Ok (with_session b t)) (sym same)
-
+-- going to a mark
 pub goto_missing : (b : BookState) (name : MarkName) → marked_events b.marks name ≡ None → goto_mark b name ≡ Err NoMark
 goto_missing b name none = ap (at_events b) none
 
 pub goto_done : {X : Type 0} (r : Result X Refusal) (b c : BookState) (name : MarkName) (es : List Event) → marked_events b.marks name ≡ Some es → c ≡ with_session b c.session
     → OnOk r (c.session ≡ record { start = b.session.start; live = es; undone = [] }) → OnOk r (goto_mark b name ≡ Ok c)
-goto_done (Ok x) b c name es there marks same = goto_goes b name es c.session there same ∙ ap (λ (d : BookState). Ok d) (sym marks)
+goto_done (Ok x) b c name es there marks same = ap (at_events b) there ∙ ap (λ (t : State). Ok (with_session b t)) (sym same) ∙ ap (λ (d : BookState). Ok d) (sym marks)
 goto_done (Err e) b c name es there marks same = tt
 
 -- which only memory for its steps can refuse

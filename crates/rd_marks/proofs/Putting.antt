@@ -162,13 +162,8 @@ module _ (old new : List Stretch) (i n : ℕ) (shift : Shift) (shrunk : IsShrunk
 -- nothing pruned yet, and once more
 pub not_pruned : (ss : List Stretch) (ms : List (MarkName × Place)) (here : Place) → All (λ (m : MarkName × Place). IsWithin ss m.1) ms → IsWithin ss here
     → IsPruned (length ss) ss ss ms ms here here
-not_pruned ss ms here within lies = record {
-  lists = refl;
-  within = within;
-  needed = λ i high inside. absurd (omega (arith, high, inside));
-  lies = lies;
-  begins = begins_itself (records_at ss here);
-}
+not_pruned ss ms here within lies =
+    record { lists = refl; within = within; needed = λ i high inside. absurd (omega (arith, high, inside)); lies = lies; begins = begins_itself (records_at ss here) }
 
 pub pruned_on : (i k : ℕ) (a b c : List Stretch) (ms ns ls : List (MarkName × Place)) (p q r : Place) → IsPruned k a b ms ns p q → IsPruned i b c ns ls q r → IsPruned i a c ms ls p r
 pruned_on i k a b c ms ns ls p q r first second = record {

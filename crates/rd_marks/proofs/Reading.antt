@@ -1,8 +1,8 @@
 -- Reading the records of a place, and what the stretches have in common with other records.
 use Rattle.std.proofs.Common.{◌≡◌, ◌⊎◌, ℕ, zero, suc, ◌+◌, ◌-◌, ◌<◌, ◌≤◌, min, inl, inr, refl, sym, ap, ◌∙◌, subst, List, [], ◌∷◌, ◌++◌, length, take, drop, get_or, reverse, slice_get, option_map, Some, arith}
-use Rattle.std.proofs.Math.Seq.{drop-cons, take-append-add}
+use Rattle.std.proofs.Math.Seq.{drop-cons, take-add}
 use Rattle.std.proofs.lemmas.Bool.{cases_eq, cases_lt}
-use Rattle.std.proofs.lemmas.List.{append_assoc, drop-take, length-map, length-take-le, reverse-append, take-append-drop, take-take}
+use Rattle.std.proofs.lemmas.List.{append_assoc, drop-map, drop-take, length-map, reverse-append, take-take}
 use Rattle.std.proofs.lemmas.Option.{slice_get-map, slice_get_read, slice_get_within}
 use Rattle.rd_step.specs.Run.{events}
 use Rattle.rd_step.specs.declared.entries.Event.{Event}
@@ -12,7 +12,7 @@ use Rattle.rd_marks.specs.declared.stretches.Place.{Place}
 use Rattle.rd_marks.specs.declared.stretches.Stretch.{Stretch}
 use Rattle.rd_marks.specs.Stretches.{count_of, list_of, list_before, shared_at, records_at, IsWithin, IsOwn, IsAlong, AreNested, AreFresh}
 use Rattle.rd_marks.proofs.StretchLists.{own_at, stretch_there, total, shared_within, begins_shared, behind_shared, list_past}
-use Rattle.rd_marks.proofs.Fresh.{Follows, follows_compared, follows_parted, follows_skipped, along_within, along_itself, between}
+use Rattle.rd_marks.proofs.Fresh.{Follows, follows_compared, follows_parted, follows_skipped, along_itself, between}
 use Rattle.rd_marks.proofs.Starting.{first_events, stretch_within}
 
 -- Positions in lists
@@ -28,11 +28,6 @@ slice_get_drop xs zero n = ap (slice_get xs) (let e : n ≡ 0 + n = omega arith 
 slice_get_drop [] (suc m) n = refl
 slice_get_drop (x ∷ xs) (suc m) n = slice_get_drop xs m n ∙ ap (slice_get (x ∷ xs)) (let e : suc (m + n) ≡ suc m + n = omega arith in e)
 
--- the first n + m are the first n and m of the others
-take_parts : {X : Type 0} (n m : ℕ) (xs : List X) → n ≤ length xs → take (n + m) xs ≡ take n xs ++ take m (drop n xs)
-take_parts {X} n m xs h =
-    ap (take (n + m)) (sym (take-append-drop n xs)) ∙ ap (λ (k : ℕ). take (k + m) (take n xs ++ drop n xs)) (sym (length-take-le n xs h)) ∙ take-append-add (take n xs) (drop n xs) m
-
 -- one more element
 pub one_more : {X : Type 0} (xs : List X) (n : ℕ) (x : X) → slice_get xs n ≡ Some x → take (suc n) xs ≡ take n xs ++ x ∷ []
 one_more [] n x h = cc
@@ -44,11 +39,7 @@ there_is [] n h = absurd (omega (arith, h))
 there_is (x ∷ xs) zero h = (x, refl)
 there_is (x ∷ xs) (suc n) h = there_is xs n (omega (arith, h))
 
--- lists that begin alike, and go on alike or not
-alike_further : {X : Type 0} (n m : ℕ) (xs ys : List X) → n ≤ length xs → n ≤ length ys → take n xs ≡ take n ys → take m (drop n xs) ≡ take m (drop n ys)
-    → take (n + m) xs ≡ take (n + m) ys
-alike_further n m xs ys h k first second = take_parts n m xs h ∙ (λ i. first i ++ second i) ∙ sym (take_parts n m ys k)
-
+-- lists that begin alike and do not go on alike
 alike_no_further : {X : Type 0} (n m : ℕ) (xs ys : List X) → suc (n + m) ≤ length ys → take (suc (n + m)) xs ≡ take (suc (n + m)) ys
     → ((x : X) → slice_get (drop n xs) m ≡ Some x → slice_get (drop n ys) m ≡ Some x → ⊥) → ⊥
 alike_no_further n m xs ys long same apart =
@@ -88,9 +79,7 @@ event_there xs m (suc n) k x some same at h l fewer =
 
 -- events after the first are those of the records after the first
 pub events_behind : (k : ℕ) (xs : List Entry) → events (drop k xs) ≡ drop k (events xs)
-events_behind zero xs = refl
-events_behind (suc k) [] = refl
-events_behind (suc k) (x ∷ xs) = events_behind k xs
+events_behind k xs = sym (drop-map (λ (x : Entry). x.event) k xs)
 
 -- a stretch that was read
 pub stretch_at : (ss xs : List Stretch) (i : ℕ) (s : Stretch) → xs ≡ ss → i < length xs → s ≡ get_or xs i s → (i < length ss) × (shared_at ss i ≡ s.shared) × (own_at ss i ≡ s.records.items)
@@ -179,13 +168,10 @@ module _ (ss : List Stretch) (rule : AreNested ss) where
     own_events : drop n (events (list_of ss i)) ≡ events (drop (n - shared_at ss i) (own_at ss i))
     own_events = sym (events_behind n (list_of ss i)) ∙ ap events (behind_shared ss rule i n shared)
 
-    long : n ≤ length (events (list_of ss i))
-    long = omega (arith, along_within ss i n es along, length-map (list_of ss i) (λ (x : Entry). x.event))
-
     pub along_further : m ≤ length es - n → take m (events (drop (n - shared_at ss i) (own_at ss i))) ≡ take m (drop n es) → IsAlong ss i (n + m) es
     along_further few same = record {
       enough = omega (arith, few, along.enough);
-      alike = alike_further n m (events (list_of ss i)) es long along.enough along.alike (ap (take m) own_events ∙ same);
+      alike = take-add n m (events (list_of ss i)) ∙ (λ k. along.alike k ++ (ap (take m) own_events ∙ same) k) ∙ sym (take-add n m es);
     }
 
     pub along_no_further : ((e : Event) → slice_get (events (drop (n - shared_at ss i) (own_at ss i))) m ≡ Some e → slice_get (drop n es) m ≡ Some e → ⊥) → IsAlong ss i (suc (n + m)) es → ⊥

@@ -166,10 +166,7 @@ module _ (old new : List Stretch) (j : ℕ) (s : Stretch) (change : IsInserted o
   needed_inserted ps n all needed i h =
       needed_changed old new j 1 change.changed ps (with_place (map (raised j) ps) j n) i h (λ k m. needed k m.inside)
       (omega (arith, greatest_last j n (map (raised j) ps), all))
-      (λ k m. (
-      let more = greatest_raised k j ps (record { stretch = j; number = n } ∷ []) in
-      elim m.place [ inl low ↦ grind (arith, low, more.0) | inr high ↦ (let parts : i ≡ suc k = omega (arith, high) in grind (arith, high, parts, more.1)) ]
-      ))
+      (λ k m. grind (arith, m.place, greatest_raised k j ps (record { stretch = j; number = n } ∷ [])))
 
   -- the other way round
   up : (k : ℕ) → k < length old
@@ -192,12 +189,10 @@ module _ (old new : List Stretch) (j : ℕ) (s : Stretch) (change : IsInserted o
       within : (i : ℕ) → i < length old → shared_at old i ≤ length (list_before old i)
       within zero h = grind (arith, cases_order 0 j, change.changed.below 0, change.changed.less, change.changed.there, shared_within new rule 0)
       within (suc k) h =
-          elim (cases_lt k j) [
-            | inl low ↦
-                grind (arith, change.changed.below k low, change.changed.below (suc k), cases_order (suc k) j, change.changed.less, change.changed.there, shared_within new rule (suc k))
-            | inr high ↦
-                grind (arith, change.changed.above (suc k) k (omega arith), change.changed.above (suc (suc k)) (suc k) (omega arith), shared_within new rule (suc (suc k)))
-          ]
+          let its = change.changed in
+          let above = λ (i : ℕ). its.above (suc i) i (omega arith) in
+          let were = shared_within new rule in
+          grind (arith, cases_order (suc k) j, its.below k, its.below (suc k), its.less, its.there, above k, above (suc k), were (suc k), were (suc (suc k)))
 
   pub fresh_removed : AreNested old → AreFresh new → AreFresh old
   fresh_removed rule fresh = fresh_apart old rule (λ i m h l a. (
@@ -211,9 +206,8 @@ module _ (old new : List Stretch) (j : ℕ) (s : Stretch) (change : IsInserted o
 
   pub needed_removed : (ps : List Place) → AreNeededFrom (suc j) new ps → AreNeededFrom j old (map (lowered j) ps)
   needed_removed ps needed k high h =
-      let list = ap length (change.changed.above (suc k) k (omega arith) (omega (arith, high))).0 in
-      let next = (change.changed.above (suc (suc k)) (suc k) (omega arith) (omega (arith, high))).1 in
-      omega (arith, needed (suc k) (omega (arith, high)) (omega (arith, change.changed.count, h)), list, next, greatest_lowered k j ps high)
+      let above = λ (i : ℕ). change.changed.above (suc i) i (omega arith) in
+      grind (arith, needed (suc k), change.changed.count, above k, above (suc k), greatest_lowered k j ps high)
 
   -- each place has its records
   pub records_raised : (p : Place) → records_at new (raised j p) ≡ records_at old p
@@ -221,10 +215,7 @@ module _ (old new : List Stretch) (j : ℕ) (s : Stretch) (change : IsInserted o
 
   pub records_lowered : (p : Place) → (p.stretch ≡ j → p.number ≤ s.shared) → records_at old (lowered j p) ≡ records_at new p
   records_lowered p own =
-      elim (cases_lt p.stretch j) [
-        | inl low ↦ grind (arith, nat_tests, change.changed.below p.stretch)
-        | inr high ↦ (let its = above p.stretch p.number high own in grind (arith, nat_tests, its))
-      ]
+      grind (arith, nat_tests, change.changed.below p.stretch, λ (high : j ≤ p.stretch). above p.stretch p.number high own)
     where
       above : (q n : ℕ) → j ≤ q → (q ≡ j → n ≤ s.shared) → take n (list_of new q) ≡ take n (list_of old (q - 1))
       above zero n high own =
@@ -283,10 +274,7 @@ module _ (old new : List Stretch) (j : ℕ) (change : IsReplaced old new j) wher
   pub needed_appended : (ps : List Place) (n : ℕ) → length (list_of new j) ≤ n → AreNeeded old ps → AreNeeded new (with_place ps j n)
   needed_appended ps n all needed i h =
       needed_changed old new j 0 change.changed ps (with_place ps j n) i h (λ k m. needed k m.inside) (omega (arith, greatest_last j n ps, all))
-      (λ k m. (
-      let at : k ≡ i = omega (arith, m.place) in
-      grind (arith, at, greatest_left i ps (record { stretch = j; number = n } ∷ []))
-      ))
+      (λ k m. grind (arith, m.place, greatest_left i ps (record { stretch = j; number = n } ∷ [])))
 
   pub needed_cut : (ps : List Place) → length (list_of new j) ≤ needed_at old ps j → AreNeededFrom (suc j) old ps → AreNeededFrom j new ps
   needed_cut ps all needed i low h =

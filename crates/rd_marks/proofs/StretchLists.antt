@@ -57,11 +57,7 @@ list_past ss i h = past_after [] ss i h
 
 module _ (ss : List Stretch) (rule : AreNested ss) where
   pub shared_within : (i : ℕ) → shared_at ss i ≤ length (list_before ss i)
-  shared_within i =
-      elim (cases_lt i (length ss)) [
-        | inl inside ↦ rule.within i inside
-        | inr past ↦ omega (arith, shared_past ss i past)
-      ]
+  shared_within i = grind (arith, cases_lt i (length ss), rule.within i, shared_past ss i)
 
   front_length : (i : ℕ) → length (take (shared_at ss i) (list_before ss i)) ≡ shared_at ss i
   front_length i = length-take-le (shared_at ss i) (list_before ss i) (shared_within i)
@@ -86,12 +82,8 @@ module _ (ss : List Stretch) (rule : AreNested ss) where
   pub shared_records : (i m n : ℕ) → i ≤ m → ((k : ℕ) → i < k → k ≤ m → n ≤ shared_at ss k) → take n (list_of ss m) ≡ take n (list_of ss i)
   shared_records i zero n h all = let same : 0 ≡ i = omega (arith, h) in ap (λ (k : ℕ). take n (list_of ss k)) same
   shared_records i (suc m) n h all =
-      elim (cases_eq (suc m) i) [
-        | inl same ↦ ap (λ (k : ℕ). take n (list_of ss k)) same
-        | inr apart ↦
-            begins_shared (suc m) n (all (suc m) (omega (arith, h, apart)) (omega arith))
-            ∙ shared_records i m n (omega (arith, h, apart)) (λ k low high. all k low (omega (arith, high)))
-      ]
+      let earlier = λ (low : i ≤ m). shared_records i m n low (λ k low high. all k low (omega (arith, high))) in
+      grind (arith, cases_eq (suc m) i, all (suc m), begins_shared (suc m) n, earlier)
 
 -- Lists that differ after what the first stretch shares are followed by the same lists
 
@@ -162,17 +154,11 @@ inserted_at ss j s within less there =
         less = omega (arith, its.1, less);
         there = omega (arith, its.1, there);
         below = λ i h. below_inserted [] ss j s i h within;
-        above = above;
+        above = λ i k parts high.
+            grind (arith, parts, above_inserted [] ss j s k (omega (arith, parts, high)) within less (omega (arith, there, ap length (before_is ss j))));
       };
       here = (its.0 ∙ ap (λ (y : List Entry). continued y s) (before_is ss j), its.1);
     }
-  where
-    above : (i k : ℕ) → i ≡ 1 + k → j < i → (list_of (insert ss j s) i ≡ list_of ss k) × (shared_at (insert ss j s) i ≡ shared_at ss k)
-    above zero k parts h = absurd (omega (arith, h))
-    above (suc i) k parts h =
-        let same : i ≡ k = omega (arith, parts) in
-        let rest = above_inserted [] ss j s i (omega (arith, h)) within less (omega (arith, there, ap length (before_is ss j))) in
-        (rest.0 ∙ ap (list_of ss) same, rest.1 ∙ ap (shared_at ss) same)
 
 -- One stretch less
 
@@ -198,12 +184,12 @@ pub removed_at : (ss : List Stretch) (j : ℕ) → AreNested ss → j < length s
 removed_at ss j rule h less =
     let back = put_back ss j h in
     let left = left_after [] ss j h in
-    let before = ap length (sym (before_is (remove ss j) j) ∙ left.0 ∙ before_is ss j) in (
+    let before = sym (before_is (remove ss j) j) ∙ left.0 ∙ before_is ss j in (
       back.0,
       back.2,
       subst (λ (rs : List Stretch). IsInserted (remove ss j) rs j back.0) back.1
           (inserted_at (remove ss j) j back.0 (omega (arith, left.2, h)) (omega (arith, left.1, back.2, less))
-          (omega (arith, before, back.2, shared_within ss rule j))),
+          (omega (arith, ap length before, back.2, shared_within ss rule j))),
     )
 
 shared_replaced : (ss : List Stretch) (j : ℕ) (t : Stretch) (i : ℕ) → t.shared ≡ shared_at ss j → shared_at (set ss j t) i ≡ shared_at ss i
@@ -240,11 +226,7 @@ module _ (ss : List Stretch) (rule : AreNested ss) (j : ℕ) (h : j < length ss)
             less = omega (arith, here);
             there = omega (arith, here, shared_within ss rule j);
             below = λ i low. others i (λ at. omega (arith, at, low));
-            above = λ i k parts high. (
-                let at : i ≡ k = omega (arith, parts) in
-                let rest = others i (λ here. omega (arith, here, high)) in
-                (rest.0 ∙ ap (list_of ss) at, rest.1 ∙ ap (shared_at ss) at)
-                );
+            above = λ i k parts high. grind (arith, parts, others i (λ here. omega (arith, here, high)));
           };
           inside = h;
           shared = here;

@@ -3,7 +3,7 @@ use Rattle.std.proofs.Common.{◌≡◌, ℕ, zero, suc, ◌-◌, ◌<◌, ◌�
 use Rattle.std.proofs.Math.Seq.{drop-length}
 use Rattle.std.proofs.lemmas.Bool.{cases_eq, cases_lt}
 use Rattle.std.proofs.lemmas.Bool.Decides.{nat_tests}
-use Rattle.std.proofs.lemmas.List.{append-nil, length-map, map-append, take-append-drop, take-map, take_all}
+use Rattle.std.proofs.lemmas.List.{append-nil, length-map, map-append, map-id, take-append-drop, take-map, take_all}
 use Rattle.rd_step.specs.Prelude.{MOST_STEPS}
 use Rattle.rd_step.specs.Run.{events}
 use Rattle.rd_step.specs.declared.entries.Event.{Event}
@@ -24,8 +24,7 @@ pub is_low : (ss : List Stretch) → length ss < 2 ^ 64 → (p : Place) → IsWi
 is_low ss few p within some = omega (arith, few, stretch_within ss p within some)
 
 moved_same : (ps : List Place) → map (moved Same) ps ≡ ps
-moved_same [] = refl
-moved_same (p ∷ ps) = ap (λ (qs : List Place). p ∷ qs) (moved_same ps)
+moved_same ps = map-id ps
 
 -- the events of a list with those of others after it
 joined_events : (xs ys zs : List Entry) (n : ℕ) → zs ≡ xs ++ drop n ys → events xs ≡ take n (events ys) → events zs ≡ events ys
@@ -216,8 +215,3 @@ pub extended_or_not : {X Y : Type 0} (r : Result X Y) (P : Type 0) (own more rec
     → (records ≡ own ++ more → P) → (records ≡ own → P) → P
 extended_or_not (Ok x) P own more records ok err f g = f ok
 extended_or_not (Err e) P own more records ok err f g = g err
-
--- whatever the number of the live steps is called
-pub grown_of_length : (old new : List Stretch) (at : Place) (live : List Entry) (shift : Shift) (i n : ℕ) → n ≡ length live
-    → IsGrown old new at live (record { place = record { stretch = i; number = length live }; shift = shift }) → IsGrown old new at live (record { place = record { stretch = i; number = n }; shift = shift })
-grown_of_length old new at live shift i n e grown = rw e grown

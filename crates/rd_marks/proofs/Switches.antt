@@ -1,5 +1,5 @@
 -- Going to a place: what its records have in common with the live steps.
-use Rattle.std.proofs.Common.{◌≡◌, ℕ, suc, ◌<◌, ◌≤◌, inl, inr, sym, ap, ◌∙◌, List, [], length, take, drop, arith}
+use Rattle.std.proofs.Common.{◌≡◌, ℕ, suc, ◌≤◌, inl, inr, sym, ap, ◌∙◌, List, [], length, take, drop, arith}
 use Rattle.std.proofs.Math.Seq.{take-length, drop-length}
 use Rattle.std.proofs.lemmas.Bool.{cases_lt}
 use Rattle.std.proofs.lemmas.List.{take-take}
@@ -31,16 +31,13 @@ module _ (ss : List Stretch) where
   no_deeper place n es is deepest h =
       elim (cases_lt n place.number) [
         | inr shallow ↦ shallow
-        | inl further ↦ absurd (deepest place.stretch (stretch_within ss place is (omega (arith, further))) (along further))
+        | inl further ↦
+            let long = events_length ss place is in
+            absurd (deepest place.stretch (stretch_within ss place is (omega (arith, further))) (record {
+              enough = omega (arith, further, long, begins_shorter (events (records_at ss place)) es h);
+              alike = sym (first_events ss place (suc n) (omega (arith, further))) ∙ ap (take (suc n)) (sym h) ∙ take-take (suc n) (length (events (records_at ss place))) es (omega (arith, long, further));
+            }))
       ]
-    where
-      along : n < place.number → IsAlong ss place.stretch (suc n) es
-      along further =
-          let long = events_length ss place is in
-          record {
-            enough = omega (arith, further, long, begins_shorter (events (records_at ss place)) es h);
-            alike = sym (first_events ss place (suc n) (omega (arith, further))) ∙ ap (take (suc n)) (sym h) ∙ take-take (suc n) (length (events (records_at ss place))) es (omega (arith, long, further));
-          }
 
   -- so records with which the live steps begin have all in common with them
   pub whole_common : (b place : Place) (n : ℕ) (es : List Event) → IsWithin ss place → IsAlong ss b.stretch b.number es → IsDeepest ss b.number es

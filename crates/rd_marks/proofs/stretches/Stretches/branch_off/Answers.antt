@@ -1,5 +1,4 @@
-use Rattle.std.proofs.Common.{◌≡◌, ◌++◌, ◌∙◌, List, true, is_ok, insert, ap, drop, arith}
-use Rattle.std.proofs.lemmas.Bool.{cond-true}
+use Rattle.std.proofs.Common.{◌≡◌, ◌++◌, ◌∙◌, true, is_ok, insert, refl, drop, arith}
 use Rattle.rd_marks.specs.declared.stretches.Stretch.{Stretch}
 use Rattle.rd_marks.proofs.StretchUses.{branched}
 use Rattle.rd_marks.proofs.stretches.Stretches.branch_off.Goals as goal
@@ -11,9 +10,7 @@ invariant_of-self-2 c =
     let said = c.next_off-i.ensures in
     let s : Stretch = record { shared = c.args.at.number; records = c.append.new.records } in
     let goes : is_ok c.insert.result ≡ true = c.insert.ensures.succeeds (omega (arith, c.in_ok-reserve.ensures.ok, c.reserve.ensures.len)) in
-    let rs = c.reserve.new.self.items in
-    let items : c.insert.new.self.items ≡ insert ss i s =
-    c.insert.ensures.items ∙ cond-true (is_ok c.insert.result) (insert rs i s) rs goes ∙ ap (λ (qs : List Stretch). insert qs i s) c.reserve.ensures.items in
+    let items : c.insert.new.self.items ≡ insert ss i s = rw (c.insert.ensures.items, goes, c.reserve.ensures.items) refl in
     let its : c.append.new.records.items ≡ drop c.args.at.number c.args.live.now = c.in_ok-append.ensures.ok ∙ (λ k. c.new-records.ensures.items k ++ c.behind.ensures k) in
     let all =
     branched ss (omega (arith, c.args.self.now.list.ok, c.args.self.now.list.small)) c.args.self.now.nested c.args.self.now.fresh c.args.live.now c.requires.few c.args.at c.requires.more c.requires.along
@@ -27,9 +24,7 @@ returns-clause-ok c =
     let said = c.next_off-i.ensures in
     let s : Stretch = record { shared = c.args.at.number; records = c.append.new.records } in
     let goes : is_ok c.insert.result ≡ true = c.insert.ensures.succeeds (omega (arith, c.in_ok-reserve.ensures.ok, c.reserve.ensures.len)) in
-    let rs = c.reserve.new.self.items in
-    let items : c.insert.new.self.items ≡ insert ss i s =
-    c.insert.ensures.items ∙ cond-true (is_ok c.insert.result) (insert rs i s) rs goes ∙ ap (λ (qs : List Stretch). insert qs i s) c.reserve.ensures.items in
+    let items : c.insert.new.self.items ≡ insert ss i s = rw (c.insert.ensures.items, goes, c.reserve.ensures.items) refl in
     let its : c.append.new.records.items ≡ drop c.args.at.number c.args.live.now = c.in_ok-append.ensures.ok ∙ (λ k. c.new-records.ensures.items k ++ c.behind.ensures k) in
     let all =
     branched ss (omega (arith, c.args.self.now.list.ok, c.args.self.now.list.small)) c.args.self.now.nested c.args.self.now.fresh c.args.live.now c.requires.few c.args.at c.requires.more c.requires.along
