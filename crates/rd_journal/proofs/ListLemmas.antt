@@ -6,12 +6,6 @@ use Rattle.std.proofs.Math.ListN.{drop_of_length-le}
 use Rattle.std.proofs.lemmas.List.{append-nil, take_all, append_assoc, take-append-drop, length-take-le, take-take, drop-take, drop-append-le, drop-drop}
 use Rattle.rd_depend.specs.Moved.{moved_behind}
 
--- all but the last
-pub front_of : {X : Type 0} (l : List X) (x : X) → take (length (l ++ x ∷ []) - 1) (l ++ x ∷ []) ≡ l
-front_of {X} l x =
-    let e : length (l ++ x ∷ []) - 1 ≡ length l = omega (arith, length-append l (x ∷ [])) in
-    ap (λ (k : ℕ). take k (l ++ x ∷ [])) e ∙ take-append_seam l (x ∷ [])
-
 -- the last alone
 pub last_of : {X : Type 0} (l : List X) (x : X) → drop (length (l ++ x ∷ []) - 1) (l ++ x ∷ []) ≡ x ∷ []
 last_of {X} l x =

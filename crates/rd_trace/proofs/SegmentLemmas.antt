@@ -1,17 +1,16 @@
 -- Segments as values: which cells are read, and what is written is read again.
-use Rattle.std.proofs.Common.{◌≡◌, ℕ, ◌+◌, ◌<◌, ◌≤◌, List, [], ◌∷◌, ◌++◌, length, take, set, get_or, Some, None, option_map, Vec, Global, refl, sym, ap, ◌∙◌, subst, arith, add-one}
+use Rattle.std.proofs.Common.{◌≡◌, ℕ, ◌+◌, ◌<◌, ◌≤◌, List, [], ◌∷◌, ◌++◌, length, take, set, get_or, Some, None, option_map, refl, sym, ap, ◌∙◌, subst, arith, add-one}
 use Rattle.std.proofs.Math.Seq.{take-suc-set}
 use Rattle.std.proofs.lemmas.List.{length-set, take_all}
 use Rattle.std.proofs.lemmas.Option.{none-some}
 use Rattle.serde_json.specs.Data.{Data}
-use Rattle.serde_json.specs.Find.{as_array}
 use Rattle.serde_json.specs.View.{view, items_view}
 use Rattle.serde_json.specs.declared.value.Value.{Value}
 use Rattle.rd_cell.specs.declared.cells.Cell.{Cell}
 use Rattle.rd_ring.specs.declared.parts.SegmentParts.{SegmentParts}
 use Rattle.rd_trace.specs.Spelled.{Gives, SpellEach, items_by}
 use Rattle.rd_trace.specs.Names.{next_of, next_data}
-use Rattle.rd_trace.specs.Segments.{cell_of_items, cell_of, cell_data, IsSegment, IsSegmentList, segment_data}
+use Rattle.rd_trace.specs.Segments.{cell_of_items, cell_of, cell_data, IsSegment, segment_data}
 use Rattle.rd_trace.proofs.SpellLemmas.{spell_each-more, spell_each-none}
 use Rattle.rd_trace.proofs.ActorLemmas.{value_spelled}
 
@@ -47,10 +46,6 @@ module _ (n : ℕ) (vs : List Value) (cells : List Cell) (i : ℕ) (h : AreRead 
   all_cells past count =
       subst (SpellEach (Gives cell_of) (items_view vs)) (take_all i cells (omega (arith, h.count)))
       (subst (λ ws. SpellEach (Gives cell_of) (items_view ws) (take i cells)) (take_all i vs past) h.so_far)
-
--- a value that is no array is no list of segments
-pub no_list : {R : ℕ} (d : Data) (list : Vec (SegmentParts R) Global) → None ≡ as_array d → IsSegmentList d list → ⊥
-no_list d list none h = let other : Some h.0 ≡ None = sym h.1 ∙ sym none in absurd (cc)
 
 -- ---- what is written is read again
 
