@@ -1,18 +1,19 @@
 //! A causal reversible debugger for LCRQ.
 //!
-//! `lcrqdb run FILE` runs a script over a fresh world: one command a line is read, and one reply a
-//! line is written to standard output before the next line is read. `lcrqdb load TRACE` runs the
-//! script on standard input over the run of a trace. `lcrqdb view FILE..` runs several scripts at
-//! once over one fresh world, each by a viewer in its own thread.
+//! `lcrqdb run FILE` runs a script over a fresh world: each line is one command, whose reply is
+//! written as one line to standard output before the next line is read. `lcrqdb load TRACE` runs
+//! the script on standard input over the run of a trace. `lcrqdb view FILE..` runs several scripts
+//! at once over one fresh world, each by a viewer in its own thread.
 //!
-//! All of it is in the library `rd_command_line`, which gets the words, the files and the three
-//! streams from here. Standard output has no buffer, so that a reply goes out at once.
+//! All of this is done by the library `rd_command_line`, which gets the words, the files and the
+//! three streams from `main`. Standard output has no buffer, so that a reply is written at once.
 #![tactic(auto)]
 
 use rd_command_line::{perform, words_of};
 use rd_script::{ReadSource, WriteSink};
 use std::process::ExitCode;
 
+/// Does what the command line asks for, and returns the exit status.
 fn main(rt: HostRuntime) -> ExitCode {
     perform(
         &rt,

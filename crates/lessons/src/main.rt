@@ -1,10 +1,10 @@
 //! The lessons for teachers and the guide: runs the scripts of each as the program does, and
 //! compares the replies with those on its page.
 //!
-//! A lesson's page has its script beside the replies in its own table. The guide, and a lesson over
-//! two starts, have several tables and traces, and no other ones than those that their scripts
-//! give, in this order. The sessions of the README and the manual have a report beside each script.
-//! One line for each page or report says whether they are the same.
+//! A lesson's page has a table with its script beside the replies. The guide, and a lesson over two
+//! starts, have several tables and traces: just those that their scripts give, in this order. The
+//! sessions of the README and the manual have a report beside each script. For each page or report,
+//! one line that is printed states whether it is as the scripts give it.
 #![tactic(auto)]
 
 use anyhow::Result;
@@ -39,7 +39,7 @@ const LESSONS: [&str; 14] = [
 const GUIDE: &str = "guide";
 
 /// The session of README.md and the examples of docs/MANUAL.md: each has a script and a report of
-/// this name, and may run over the trace of it.
+/// this name. The second part is whether it runs over the trace of this name.
 const SESSIONS: [(&str, bool); 6] = [
     ("session", false),
     ("manual-1", false),
@@ -49,7 +49,7 @@ const SESSIONS: [(&str, bool); 6] = [
     ("manual-5", true),
 ];
 
-/// Mistakes in the guide's own start: what is written there, and what is written in its place.
+/// Mistakes in the guide's start: the text that is there, and the wrong text in its place.
 const MISTAKES: [(&str, &str); 6] = [
     ("\"ring\": 2", "\"ring\": 4"),
     ("\"qtail\": [0, 0]", "\"qtail\": [1, 0]"),
@@ -91,6 +91,8 @@ const TRACE_HEAD: &str = "```json\n";
 /// The line after a trace.
 const TRACE_END: &str = "```\n";
 
+/// Runs all lessons, the guide and the sessions, and prints a line for each. Fails if one is not as
+/// its page states.
 fn main(rt: HostRuntime) -> Result<ExitCode> {
     let mut status = ExitCode::SUCCESS;
     for name in LESSONS {
@@ -115,7 +117,7 @@ fn main(rt: HostRuntime) -> Result<ExitCode> {
     Ok(status)
 }
 
-/// Prints whether the replies are those of the page of this name.
+/// Prints a line that states whether the replies are those of the page of this name.
 fn print_whether<R: Print>(rt: &R, name: &str, right: bool) -> Result<()> {
     if right {
         println!(rt; "{name}: as its page says")?;
@@ -138,7 +140,7 @@ fn is_as_its_page_says<R: Files + Alloc<A = Global> + Threads + Wait + Sync>(
     }
     if page.contains(TWO_STARTS) {
         let blocks = blocks_of_starts(rt, alloc, name)?;
-        return Ok(has_just(page.as_str(), blocks.as_slice()));
+        return Ok(has_exactly(page.as_str(), blocks.as_slice()));
     }
     let script = fs::read_to_string(rt, format!(in alloc; "{name}.script")?.as_str())?;
     let replies = if page.contains(TRACE) {
@@ -175,7 +177,7 @@ fn is_as_its_report_says<R: Files + Alloc<A = Global>>(
     Ok(replies.as_str() == report.as_str())
 }
 
-/// The traces and the tables of a lesson over two starts, in order.
+/// Returns the traces and the tables of a lesson over two starts, in order.
 fn blocks_of_starts<R: Files + Alloc<A = Global>>(
     rt: &R,
     alloc: Global,
@@ -199,14 +201,14 @@ fn is_guide_as_it_says<R: Files + Alloc<A = Global> + Threads + Wait + Sync>(
 ) -> Result<bool> {
     let page = fs::read_to_string(rt, "guide.md")?;
     let blocks = guide_blocks(rt, alloc)?;
-    Ok(has_just(page.as_str(), blocks.as_slice()))
+    Ok(has_exactly(page.as_str(), blocks.as_slice()))
 }
 
-/// Whether a page has these blocks in this order, and no other ones.
-fn has_just(page: &str, blocks: &[String]) -> bool {
+/// Whether a page has these tables and traces in this order, and no other ones.
+fn has_exactly(page: &str, blocks: &[String]) -> bool {
     let mut rest = page;
     for block in blocks {
-        let Some(behind) = text_behind(rest, block.as_str()) else {
+        let Some(behind) = text_after(rest, block.as_str()) else {
             return false;
         };
         rest = behind;
@@ -214,7 +216,7 @@ fn has_just(page: &str, blocks: &[String]) -> bool {
     !has_block(rest)
 }
 
-/// The tables and the traces that the guide must have, in order.
+/// Returns the tables and the traces that the guide must have, in order.
 fn guide_blocks<R: Files + Alloc<A = Global> + Threads + Wait + Sync>(
     rt: &R,
     alloc: Global,
@@ -233,8 +235,8 @@ fn guide_blocks<R: Files + Alloc<A = Global> + Threads + Wait + Sync>(
     Ok(blocks)
 }
 
-/// What a text has after a block, if it has the block, and no other block before it.
-fn text_behind<'a>(text: &'a str, block: &str) -> Option<&'a str> {
+/// Returns the text after a table or trace, if the text has it and no other one before it.
+fn text_after<'a>(text: &'a str, block: &str) -> Option<&'a str> {
     let (before, behind) = text.split_once(block)?;
     if has_block(before) {
         return None;
@@ -247,8 +249,8 @@ fn has_block(text: &str) -> bool {
     text.contains(TABLE_HEAD) || text.contains(MISTAKES_HEAD) || text.contains(TRACE_HEAD)
 }
 
-/// Runs a script over the fresh world, pushes its table and the trace of its run, and gives the
-/// trace.
+/// Runs a script over the fresh world, pushes its table and the trace of its run to the blocks, and
+/// returns the trace.
 fn push_run<R: Files + Alloc<A = Global>>(
     rt: &R,
     alloc: Global,
@@ -266,7 +268,7 @@ fn push_run<R: Files + Alloc<A = Global>>(
     Ok(trace)
 }
 
-/// Runs a script over the run of a trace, and pushes its table.
+/// Runs a script over the run of a trace, and pushes its table to the blocks.
 fn push_run_over<R: Files + Alloc<A = Global>>(
     rt: &R,
     alloc: Global,
@@ -280,12 +282,12 @@ fn push_run_over<R: Files + Alloc<A = Global>>(
     Ok(())
 }
 
-/// A trace as a page shows it.
+/// Returns a trace as a page shows it.
 fn block_of(alloc: Global, trace: &str) -> Result<String> {
     Ok(format!(in alloc; "{TRACE_HEAD}{trace}{TRACE_END}")?)
 }
 
-/// The table of mistakes in a trace, and the empty line after it.
+/// Returns the table of mistakes in a trace, and the empty line after it.
 fn table_of_mistakes(alloc: Global, trace: &str) -> Result<String> {
     let mut table = String::from_str(alloc, MISTAKES_HEAD)?;
     for (right, wrong) in MISTAKES {
@@ -293,7 +295,7 @@ fn table_of_mistakes(alloc: Global, trace: &str) -> Result<String> {
             None => String::new(alloc),
             Some((before, behind)) => {
                 let mistaken = format!(in alloc; "{before}{wrong}{behind}")?;
-                answer_to(alloc, &mistaken)?
+                load_message(alloc, &mistaken)?
             }
         };
         for line in answer.lines() {
@@ -304,8 +306,8 @@ fn table_of_mistakes(alloc: Global, trace: &str) -> Result<String> {
     Ok(table)
 }
 
-/// What `load` writes to standard error for a trace.
-fn answer_to(alloc: Global, trace: &str) -> Result<String> {
+/// Returns what `load` writes to standard error for a trace.
+fn load_message(alloc: Global, trace: &str) -> Result<String> {
     let mut replies = Vec::new(alloc);
     let outcome = resume(
         alloc,
@@ -318,7 +320,7 @@ fn answer_to(alloc: Global, trace: &str) -> Result<String> {
     Ok(String::from_utf8(errors)?)
 }
 
-/// The replies to a script over the run of a trace.
+/// Returns the replies to a script over the run of a trace.
 fn replies_over(alloc: Global, trace: &str, script: &str) -> Result<String> {
     let mut written = Vec::new(alloc);
     resume(
@@ -330,7 +332,8 @@ fn replies_over(alloc: Global, trace: &str, script: &str) -> Result<String> {
     Ok(String::from_utf8(written)?)
 }
 
-/// The report of a script over a fresh world, with the trace of the run after it or without.
+/// Returns the report of a script over a fresh world, and if `traced` the trace of the run after
+/// it.
 fn report_from_start(alloc: Global, ring: Ring, script: &str, traced: bool) -> Result<String> {
     let mut written = Vec::new(alloc);
     play(
@@ -346,7 +349,7 @@ fn report_from_start(alloc: Global, ring: Ring, script: &str, traced: bool) -> R
     Ok(String::from_utf8(written)?)
 }
 
-/// The table of a script's lines and the replies to them, and the empty line after it.
+/// Returns the table of a script's lines and the replies to them, and the empty line after it.
 fn table_of(alloc: Global, script: &str, replies: &str) -> Result<String> {
     let mut table = String::from_str(alloc, TABLE_HEAD)?;
     for (line, reply) in script.lines().zip(replies.lines()) {
@@ -356,8 +359,8 @@ fn table_of(alloc: Global, script: &str, replies: &str) -> Result<String> {
     Ok(table)
 }
 
-/// The table of two viewers: for each the file, its heading, and its lines with what is certain of
-/// the replies; and last how many calls were recorded.
+/// Returns the table of two viewers: for each the file, its heading, and its lines with those parts
+/// of the replies that every run gives; and last the number of recorded calls.
 fn table_of_viewers<R: Files + Alloc<A = Global> + Threads + Wait + Sync>(
     rt: &R,
     alloc: Global,
@@ -388,8 +391,8 @@ fn table_of_viewers<R: Files + Alloc<A = Global> + Threads + Wait + Sync>(
     table_of(alloc, &lines, &replies)
 }
 
-/// Writes a reply with letters in the place of the numbers that another order of the viewers' calls
-/// would change: those of steps, how many are live, and a tail's counter.
+/// Appends a reply to the text, with letters in place of the numbers that another order of the
+/// viewers' calls would change: those of steps, how many are live, and a tail's counter.
 fn write_certain(text: &mut String, reply: &str) -> Result<()> {
     if let Some(rest) = reply.strip_prefix("ok ") {
         match rest.split_once(' ') {
@@ -406,7 +409,7 @@ fn write_certain(text: &mut String, reply: &str) -> Result<()> {
     Ok(())
 }
 
-/// The two counts of a reply that says how many steps are live and how many are undone.
+/// Returns the two counts of a reply `at`, of live and of undone steps; none for any other reply.
 fn counts_of(reply: &str) -> Option<(&str, &str)> {
     reply.strip_prefix("at ")?.split_once(' ')
 }

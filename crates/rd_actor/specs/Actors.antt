@@ -24,7 +24,7 @@ idle = record {
   pass = 0;
 }
 
--- the record of an actor whose next step draws a position for this value on the root
+-- the record of an actor in an enqueue of this value, whose next step draws a position on the root
 abbrev pub poised : ℕ → Actor
 poised value = record idle { pc = E4; op = Some (Enq value) }
 

@@ -28,24 +28,25 @@ use Rattle.rd_actor.specs.declared.actors.Pc.TheVariants.{Idle, E1, E2, E3, E4, 
 use Rattle.rd_actor.specs.Actors.{idle, calling}
 
 -- the value that an enqueue is to put, on either queue
-abbrev pub value_of : Option Op → ℕ
-value_of (Some (Enqueue x)) = x
-value_of (Some (EnqueueInArray x)) = x
-value_of _ = 0
+abbrev pub value_to_put : Option Op → ℕ
+value_to_put (Some (Enqueue x)) = x
+value_to_put (Some (EnqueueInArray x)) = x
+value_to_put _ = 0
 
--- the cell that an enqueue works on, or a half of it, by the kind of place, and the same for a
--- dequeue
+-- the cell at the tail position of an actor, where an enqueue works, or a half of it, by the kind
 abbrev pub at_tail : ℕ → (SegName → ℕ → Place) → Actor → Place
 at_tail R kind a = kind a.crq (a.t % R)
 
+-- the cell at the head position of an actor, where a dequeue works, or a half of it, by the kind
 abbrev pub at_head : ℕ → (SegName → ℕ → Place) → Actor → Place
 at_head R kind a = kind a.crq (a.h % R)
 
 -- a cell of these words
-abbrev pub cell_of : Bool → ℕ → Option ℕ → Cell
-cell_of safe idx val = record { safe = safe; idx = idx; val = val }
+abbrev pub cell_with : Bool → ℕ → Option ℕ → Cell
+cell_with safe idx val = record { safe = safe; idx = idx; val = val }
 
--- what an actor at this control point asks for
+-- the access that an actor at this control point asks for, over rings of R cells, or why it has
+-- none
 abbrev pub need_at : ℕ → Pc → Actor → Result Access Refusal
 need_at R E1 a = Ok (At QTail Read)
 need_at R E2 a = Ok (At (Next a.crq) Read)
@@ -54,20 +55,20 @@ need_at R E4 a = Ok (At (Tail a.crq) Add)
 need_at R E5 a = Ok (At (at_tail R ValAt a) ReadValue)
 need_at R E6 a = Ok (At (at_tail R IdxAt a) ReadSafeAndIndex)
 need_at R E7 a = Ok (At (Head a.crq) Read)
-need_at R E8 a = Ok (At (at_tail R CellAt a) (Cas2 (cell_of a.safe a.idx None) (cell_of true a.t (Some (value_of a.op)))))
+need_at R E8 a = Ok (At (at_tail R CellAt a) (Cas2 (cell_with a.safe a.idx None) (cell_with true a.t (Some (value_to_put a.op)))))
 need_at R E9 a = Ok (At (Head a.crq) Read)
 need_at R E10 a = Err NeedsChoice
 need_at R E11 a = Ok (At (Tail a.crq) Close)
-need_at R E12 a = Ok (Make (value_of a.op))
+need_at R E12 a = Ok (Make (value_to_put a.op))
 need_at R E13 a = Ok (At (Next a.crq) (CasNext a.new))
 need_at R E14 a = Ok (At QTail (CasName a.crq a.new))
 need_at R Q1 a = Ok (At QHead Read)
 need_at R Q2 a = Ok (At (Head a.crq) Add)
 need_at R Q3 a = Ok (At (at_head R ValAt a) ReadValue)
 need_at R Q4 a = Ok (At (at_head R IdxAt a) ReadSafeAndIndex)
-need_at R Q5 a = Ok (At (at_head R CellAt a) (Cas2 (cell_of a.safe a.idx a.val) (cell_of a.safe (a.h + R) None)))
-need_at R Q6 a = Ok (At (at_head R CellAt a) (Cas2 (cell_of a.safe a.idx a.val) (cell_of false a.idx a.val)))
-need_at R Q7 a = Ok (At (at_head R CellAt a) (Cas2 (cell_of a.safe a.idx None) (cell_of a.safe (a.h + R) None)))
+need_at R Q5 a = Ok (At (at_head R CellAt a) (Cas2 (cell_with a.safe a.idx a.val) (cell_with a.safe (a.h + R) None)))
+need_at R Q6 a = Ok (At (at_head R CellAt a) (Cas2 (cell_with a.safe a.idx a.val) (cell_with false a.idx a.val)))
+need_at R Q7 a = Ok (At (at_head R CellAt a) (Cas2 (cell_with a.safe a.idx None) (cell_with a.safe (a.h + R) None)))
 need_at R Q8 a = Ok (At (Tail a.crq) Read)
 need_at R Q9 a = Ok (At (Tail a.crq) Read)
 need_at R Q10 a = Ok (At (Head a.crq) Read)
@@ -76,18 +77,19 @@ need_at R Q12 a = Ok (At (Tail a.crq) (CasTail a.t a.h))
 need_at R Q13 a = Ok (At (Next a.crq) Read)
 need_at R Q14 a = Ok (At QHead (CasName a.crq a.next))
 need_at R A1 a = Ok (At ArrTail AddArray)
-need_at R A2 a = Ok (At (ArrCell a.t) (Swap (Held (value_of a.op))))
+need_at R A2 a = Ok (At (ArrCell a.t) (Swap (Held (value_to_put a.op))))
 need_at R B1 a = Ok (At ArrHead AddArray)
 need_at R B2 a = Ok (At (ArrCell a.h) (Swap Top))
 need_at R B3 a = Ok (At ArrTail Read)
 need_at R Idle a = Err IsIdle
 
--- a call needs an idle actor, and accesses no place
+-- what a call asks for at this control point: it needs an idle actor, and accesses no place
 abbrev pub need_call : Pc → Result Access Refusal
 need_call Idle = Ok NoPlace
 need_call _ = Err NotIdle
 
--- a choice needs an actor that is to make one, and accesses no place
+-- what a choice asks for at this control point: it needs an actor that has to make one, and
+-- accesses no place
 abbrev pub need_choice : Pc → Result Access Refusal
 need_choice Idle = Err IsIdle
 need_choice E10 = Ok NoPlace
@@ -102,8 +104,8 @@ need R a ADeq = need_call a.pc
 need R a Go = need_at R a.pc a
 need R a (Starve b) = need_choice a.pc
 
--- the numbers that this row's access names are within the words of the program: the index of a cell
--- that is moved on to its next round is below 2^64, and the number of a slot of the array is a byte
+-- the numbers in this row's access fit the words of the program: the index of a cell that is moved
+-- on to its next round is below 2^64, and the number of a slot of the array is a byte
 abbrev pub IsRepresentableAt : ℕ → Pc → Actor → Type 0
 IsRepresentableAt R Q5 a = a.h + R < 2 ^ 64
 IsRepresentableAt R Q7 a = a.h + R < 2 ^ 64
@@ -111,12 +113,13 @@ IsRepresentableAt R A2 a = a.t < 2 ^ 8
 IsRepresentableAt R B2 a = a.h < 2 ^ 8
 IsRepresentableAt R _ a = Unit {0}
 
--- the same of what an actor asks for when it is told this act: calls and choices name no number
+-- the numbers in the access that an actor asks for by this act fit the words of the program; calls
+-- and choices have no number
 abbrev pub IsRepresentable : ℕ → Actor → Act → Type 0
 IsRepresentable R a Go = IsRepresentableAt R a.pc a
 IsRepresentable R a _ = Unit {0}
 
--- the actor at this control point, its other words as they are
+-- the actor moved to this control point, with its other words as they are
 abbrev pub with_pc : Pc → Actor → Actor
 with_pc pc a = record a { pc = pc }
 
@@ -147,31 +150,33 @@ after_dequeue_reads_index a safe idx = record a {
 }
 
 -- an enqueue that read the head because its cell is unsafe tries the cell if its position is not
--- behind the head
+-- below the head, and else checks whether the ring is full
 abbrev pub after_unsafe_check : Actor → ℕ → Actor
 after_unsafe_check a g = record a { pc = if nat_le g a.t then E8 else E9 }
 
--- an enqueue that read the head closes the ring if that is full, else is to choose
+-- an enqueue that read the head closes the ring if that is full, else it has to choose whether it
+-- starves
 abbrev pub after_full_check : ℕ → Actor → ℕ → Actor
 after_full_check R a g = record a { h = g; pc = if nat_le (g + R) a.t then E11 else E10 }
 
--- a dequeue that read the tail goes to repair it if nothing is enqueued behind its position, else
+-- a dequeue that read the tail goes on to repair it if nothing is enqueued after its position, else
 -- it draws the next one
 abbrev pub after_empty_check : Actor → ℕ → Actor
 after_empty_check a count = record a { t = count; pc = if nat_le count (a.h + 1) then Q9 else Q2 }
 
--- a repair that read the tail again starts over if the tail changed, ends if it is closed or not
--- behind the head, and else tries to move it
+-- a repair that read the tail again starts over if the tail changed, ends if the tail is closed or
+-- not below the head, and else tries to move it
 abbrev pub after_repair_check : Actor → Bool → ℕ → Actor
 after_repair_check a closed count =
     record a { pc = if is_bit closed a.closed && (count == a.t) then (if a.closed || nat_le a.h a.t then pc_after_empty_pass a else Q12) else Q9 }
 
--- a dequeue that took this value replies it, and its call is over
+-- a dequeue that took this value replies it, and its call is over; without a value it stays as it
+-- is
 abbrev pub after_take : Option ℕ → Actor → Actor × Option OpReply
 after_take (Some v) a = (idle, Some (Dequeued v))
 after_take None a = (a, None)
 
--- an enqueue on the array that swapped its value in is over if nobody had come to the slot yet,
+-- an enqueue on the array that swapped its value in is over if nobody had been at the slot before,
 -- else it draws the next position
 abbrev pub after_swap_in : Actor → ArrSlot → Actor × Option OpReply
 after_swap_in a NobodyYet = (idle, Some Enqueued)
@@ -183,8 +188,8 @@ abbrev pub after_swap_out : Actor → ArrSlot → Actor × Option OpReply
 after_swap_out a (Held v) = (idle, Some (Dequeued v))
 after_swap_out a _ = (with_pc B3 a, None)
 
--- a dequeue on the array that read the tail is over if nothing is enqueued behind its position,
--- else it draws the next one
+-- a dequeue on the array that read the tail is over if nothing is enqueued after its position, else
+-- it draws the next one
 abbrev pub after_array_empty_check : Actor → ℕ → Actor × Option OpReply
 after_array_empty_check a count = if nat_le count (a.h + 1) then (idle, Some Empty) else (with_pc B1 a, None)
 

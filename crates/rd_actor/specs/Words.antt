@@ -8,43 +8,43 @@ use Rattle.rd_actor.specs.declared.actors.Op.TheVariants.{Enq, Deq, AEnq, ADeq}
 use Rattle.rd_actor.specs.declared.actors.Pc.{Pc}
 use Rattle.rd_actor.specs.declared.actors.Pc.TheVariants.{Idle, E1, E2, E3, E4, E5, E6, E7, E8, E9, E10, E11, E12, E13, E14, Q1, Q2, Q3, Q4, Q5, Q6, Q7, Q8, Q9, Q10, Q11, Q12, Q13, Q14, A1, A2, B1, B2, B3}
 
--- whether the call is an enqueue
+-- whether there is a call, and it is an enqueue
 abbrev pub enqueues : Option Op → Bool
 enqueues (Some (Enq x)) = true
 enqueues _ = false
 
--- whether the call is a dequeue
+-- whether there is a call, and it is a dequeue
 abbrev pub dequeues : Option Op → Bool
 dequeues (Some Deq) = true
 dequeues _ = false
 
--- whether the call is an enqueue on the array
+-- whether there is a call, and it is an enqueue on the array
 abbrev pub array_enqueues : Option Op → Bool
 array_enqueues (Some (AEnq x)) = true
 array_enqueues _ = false
 
--- whether the call is a dequeue on the array
+-- whether there is a call, and it is a dequeue on the array
 abbrev pub array_dequeues : Option Op → Bool
 array_dequeues (Some ADeq) = true
 array_dequeues _ = false
 
--- whether the words, the control point apart, are those of the idle record
-abbrev pub is_idle : Actor → Bool
-is_idle a =
+-- whether the words, except the control point, are those of the idle record
+abbrev pub has_idle_words : Actor → Bool
+has_idle_words a =
     is_none a.op && is_name a.crq root && is_name a.new root && is_name a.next root && (a.t == 0) && (a.h == 0)
     && not a.closed && is_none a.val && not a.safe && (a.idx == 0) && (a.pass == 0)
 
--- whether this is an enqueue, which is in no pass
+-- whether the actor is in an enqueue, and so in no pass
 abbrev pub enqueue_fits : Actor → Bool
 enqueue_fits a = enqueues a.op && (a.pass == 0)
 
--- whether this is a dequeue in its first or second pass over a segment
+-- whether the actor is in a dequeue, in its first or second pass over a segment
 abbrev pub pass_fits : Actor → Bool
 pass_fits a = dequeues a.op && ((a.pass == 1) || (a.pass == 2))
 
--- whether the words fit this control point
+-- whether an actor's words fit this control point
 abbrev pub words_fit_at : Pc → Actor → Bool
-words_fit_at Idle a = is_idle a
+words_fit_at Idle a = has_idle_words a
 words_fit_at E1 a = enqueue_fits a
 words_fit_at E2 a = enqueue_fits a
 words_fit_at E3 a = enqueue_fits a

@@ -5,7 +5,7 @@ ghost use Rattle.rd_actor.specs.Actors.{idle, poised, calling};
 
 use rd_cell::SegName;
 
-/// A control point: the label of the row of the table that an actor does next.
+/// A control point: the label of the row of the table that an actor executes next.
 #[derive(Clone, Copy, Debug, PartialEq, Eq)]
 pub enum Pc {
     /// In no call.
@@ -50,7 +50,7 @@ pub enum Pc {
     Q5,
     /// Dequeue: tries to mark the cell unsafe.
     Q6,
-    /// Dequeue: tries to move the empty cell on.
+    /// Dequeue: tries to move the empty cell on to its next round.
     Q7,
     /// Dequeue: reads the tail, to see whether the ring is empty.
     Q8,
@@ -72,7 +72,7 @@ pub enum Pc {
     A2,
     /// Dequeue on the array: fetch-and-add on its head.
     B1,
-    /// Dequeue on the array: swaps the slot out, and leaves top.
+    /// Dequeue on the array: swaps the slot out, and leaves `Top`.
     B2,
     /// Dequeue on the array: reads its tail.
     B3,
@@ -91,7 +91,7 @@ pub enum Op {
     ADeq,
 }
 
-/// What an actor is told to do in one step.
+/// What an actor is to do in one step.
 #[derive(Clone, Copy, Debug, PartialEq, Eq)]
 pub enum Act {
     /// The call of an enqueue of this value.
@@ -102,13 +102,13 @@ pub enum Act {
     AEnq(u64),
     /// The call of a dequeue on the array.
     ADeq,
-    /// The step of the row at which it is.
+    /// The step of the control point where the actor is.
     Go,
     /// The choice whether an enqueue starves and closes the ring.
     Starve(bool),
 }
 
-/// What a call answers when it is over.
+/// What a call replies when it is over.
 #[derive(Clone, Copy, Debug, PartialEq, Eq)]
 pub enum OpReply {
     /// The value was enqueued.
@@ -150,7 +150,8 @@ pub struct Actor {
 }
 
 impl Actor {
-    /// The record of an actor in no call: all names the root, all numbers 0, all bits 0, no value.
+    /// Returns the record of an actor in no call: all names the root, all numbers 0, all bits 0, no
+    /// value.
     pub fn idle() -> Actor
         ensures { result ≡ idle }
     {
@@ -170,16 +171,15 @@ impl Actor {
         }
     }
 
-    /// Whether it is the record of an actor in no call: one that was in none, or whose calls were
-    /// all undone.
+    /// Whether this is the record of an actor in no call.
     pub fn is_idle(&self) -> bool
         ensures { IsTrue result ↔ (self.now ≡ idle) }
     {
         *self == Actor::idle()
     }
 
-    /// The record of an actor that is at the fetch-and-add of an enqueue of this value, on the
-    /// root.
+    /// Returns the record of an actor in an enqueue of this value, at its fetch-and-add on the
+    /// root's tail.
     pub fn poised(value: u64) -> Actor
         ensures { result ≡ poised value }
     {
@@ -190,7 +190,7 @@ impl Actor {
         }
     }
 
-    /// The record of an actor that begins this call at this control point.
+    /// Returns the record of an actor that begins this call at this control point.
     pub fn calling(pc: Pc, op: Op) -> Actor
         ensures { result ≡ calling pc op }
     {

@@ -45,7 +45,7 @@ impl Pc {
         Pc::B3,
     ];
 
-    /// The control point of this label.
+    /// Returns the control point of this label, or none.
     pub fn of_label(word: &str) -> Option<Pc>
         ensures some { IfSome result (λ pc. label pc ≡ word.now) }
         ensures none { IfNone result ((pc : Point) → label pc ≢ word.now) }
@@ -58,7 +58,7 @@ impl Pc {
         None
     }
 
-    /// Its label, as the table has it.
+    /// Returns the label of the control point, as the table has it.
     pub fn label(self) -> &'static str
         ensures name { result.now ≡ label self }
         ensures len { length result.now ≤ 4 }

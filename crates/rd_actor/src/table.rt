@@ -9,13 +9,13 @@ ghost use Rattle.rd_cell.specs.declared.limits.TheConstants.{MOST_CELLS};
 ghost use Rattle.rd_cell.specs.declared.places.Place.TheVariants.{Cell as CellAt, ArrCell};
 ghost use Rattle.rd_cell.specs.declared.operations.Operation.TheVariants.{CasName, CasTail, Cas2, Swap};
 ghost use Rattle.rd_cell.specs.declared.contents.ArrSlot.TheVariants.{Value as Held};
-ghost use Rattle.rd_actor.specs.Table.{value_of, cell_of, need, need_at, IsRepresentable, IsRepresentableAt, after, after_at, with_pc, pc_after_empty_pass, after_take, after_swap_in, after_swap_out, after_array_empty_check, after_tail_add, after_enqueue_reads_index, after_dequeue_reads_index, after_unsafe_check, after_full_check, after_empty_check, after_repair_check};
+ghost use Rattle.rd_actor.specs.Table.{value_to_put, cell_with, need, need_at, IsRepresentable, IsRepresentableAt, after, after_at, with_pc, pc_after_empty_pass, after_take, after_swap_in, after_swap_out, after_array_empty_check, after_tail_add, after_enqueue_reads_index, after_dequeue_reads_index, after_unsafe_check, after_full_check, after_empty_check, after_repair_check};
 
 use super::actors::{Act, Actor, Op, OpReply, Pc};
 use rd_cell::{Access, Answer, ArrSlot, Cell, Content, Operation, Place, Refusal, SegName};
 
-/// The one access that the actor's next step makes, over rings of `R` cells. The actors of a world
-/// name only indexes and slots that fit their words; for others two rows do not
+/// Returns the one access that the actor's next step makes, over rings of `R` cells. The actors of
+/// a world name only indexes and slots that fit their words; for others two rows may not
 /// (`IsRepresentable`).
 ///
 /// # Errors
@@ -39,7 +39,7 @@ pub fn need<const R: usize>(actor: &Actor, act: Act) -> Result<Access, Refusal>
     }
 }
 
-/// What an actor asks for at its control point.
+/// Returns the access that an actor asks for at its control point, or why it has none.
 fn need_at<const R: usize>(actor: &Actor) -> Result<Access, Refusal>
     requires positive { 1 ≤ R }
     requires small { R ≤ MOST_CELLS }
@@ -63,7 +63,7 @@ fn need_at<const R: usize>(actor: &Actor) -> Result<Access, Refusal>
         Pc::E8 => Ok(Access::At(cell_at::<R>(actor, actor.t), put_value(actor))),
         Pc::E10 => Err(Refusal::NeedsChoice),
         Pc::E11 => Ok(Access::At(Place::Tail(crq), Operation::Close)),
-        Pc::E12 => Ok(Access::Make(value_of(actor.op))),
+        Pc::E12 => Ok(Access::Make(value_to_put(actor.op))),
         Pc::E13 => Ok(Access::At(Place::Next(crq), Operation::CasNext(actor.new))),
         Pc::E14 => Ok(Access::At(Place::QTail, cas_name(actor, actor.new))),
         Pc::Q1 => Ok(Access::At(Place::QHead, Operation::Read)),
@@ -91,8 +91,8 @@ fn need_at<const R: usize>(actor: &Actor) -> Result<Access, Refusal>
     }
 }
 
-/// The actor's record after a step, by what the access answered, and what the call replies if that
-/// ended it.
+/// Returns the actor's record after a step, by what the access answered, and what the call replies
+/// if the step ended it.
 pub fn after<const R: usize>(actor: &Actor, act: Act, answer: Answer) -> (Actor, Option<OpReply>)
     requires { R ≤ MOST_CELLS }
     ensures { result ≡ after R actor.now act answer }
@@ -107,15 +107,15 @@ pub fn after<const R: usize>(actor: &Actor, act: Act, answer: Answer) -> (Actor,
     }
 }
 
-/// How an actor at its control point goes on. An answer that its row's access never gives leaves it
-/// as it is.
+/// Returns how an actor at its control point goes on: its next record, and its reply if its call is
+/// over. An answer that its row's access never gives leaves it as it is.
 fn after_at<const R: usize>(actor: &Actor, answer: Answer) -> (Actor, Option<OpReply>)
     requires { R ≤ MOST_CELLS }
     ensures { result ≡ after_at R actor.now.pc actor.now answer }
 {
     let next = match (actor.pc, answer) {
-        (Pc::E1, Answer::Found(Content::Name(name))) => at_tail(actor, name),
-        (Pc::E2, Answer::Found(Content::Next(Some(name)))) => behind_tail(actor, name),
+        (Pc::E1, Answer::Found(Content::Name(name))) => with_tail_segment(actor, name),
+        (Pc::E2, Answer::Found(Content::Next(Some(name)))) => help_tail(actor, name),
         (Pc::E2, Answer::Found(Content::Next(None))) => with_pc(actor, Pc::E4),
         (Pc::E3, _) => with_pc(actor, Pc::E1),
         (Pc::E4, Answer::Found(Content::Tail { closed, count })) => after_tail_add(
@@ -132,7 +132,7 @@ fn after_at<const R: usize>(actor: &Actor, answer: Answer) -> (Actor, Option<OpR
         (Pc::E13, Answer::Won) => with_pc(actor, Pc::E14),
         (Pc::E13, Answer::Lost) => with_pc(actor, Pc::E1),
         (Pc::E14, _) => return (Actor::idle(), Some(OpReply::Enqueued)),
-        (Pc::Q1, Answer::Found(Content::Name(name))) => at_head(actor, name),
+        (Pc::Q1, Answer::Found(Content::Name(name))) => with_head_segment(actor, name),
         (Pc::Q2, Answer::Found(Content::Number(head))) => with_head(actor, head, Pc::Q3),
         (Pc::Q3, Answer::Value(val)) => with_value(actor, val, Pc::Q4),
         (Pc::Q4, Answer::SafeAndIndex { safe, idx }) => after_dequeue_reads_index(actor, safe, idx),
@@ -168,15 +168,15 @@ fn after_at<const R: usize>(actor: &Actor, answer: Answer) -> (Actor, Option<OpR
     (next, None)
 }
 
-/// The actor at this control point, its other words as they are.
+/// Returns the actor moved to this control point, with its other words as they are.
 fn with_pc(actor: &Actor, pc: Pc) -> Actor
     ensures { result ≡ with_pc pc actor.now }
 {
     Actor { pc, ..*actor }
 }
 
-/// E1: the enqueue works on the segment at the tail.
-fn at_tail(actor: &Actor, name: SegName) -> Actor
+/// After E1: returns the enqueue's record, which works on this segment, at the queue's tail.
+fn with_tail_segment(actor: &Actor, name: SegName) -> Actor
     ensures { result ≡ record actor.now { crq = name; pc = Pc.E2 } }
 {
     Actor {
@@ -186,8 +186,9 @@ fn at_tail(actor: &Actor, name: SegName) -> Actor
     }
 }
 
-/// E2: the tail is behind, and the enqueue helps it on to this segment.
-fn behind_tail(actor: &Actor, name: SegName) -> Actor
+/// After E2: returns the enqueue's record, which goes on to move the lagging tail of the queue to
+/// this next segment.
+fn help_tail(actor: &Actor, name: SegName) -> Actor
     ensures { result ≡ record actor.now { next = name; pc = Pc.E3 } }
 {
     Actor {
@@ -197,7 +198,8 @@ fn behind_tail(actor: &Actor, name: SegName) -> Actor
     }
 }
 
-/// E4: the actor drew a position, and goes to its cell, or to make a segment if the ring is closed.
+/// After E4: returns the enqueue's record, which drew this position and goes on to its cell, or to
+/// make a segment if the ring is closed.
 fn after_tail_add(actor: &Actor, closed: bool, count: u64) -> Actor
     ensures { result ≡ after_tail_add actor.now closed count }
 {
@@ -208,15 +210,16 @@ fn after_tail_add(actor: &Actor, closed: bool, count: u64) -> Actor
     }
 }
 
-/// E5, Q3: the actor read a cell's value.
+/// After E5 or Q3: returns the record of an actor that read this value in a cell, and goes on to
+/// `pc`.
 fn with_value(actor: &Actor, val: Option<u64>, pc: Pc) -> Actor
     ensures { result ≡ record actor.now { val = val; pc = pc } }
 {
     Actor { val, pc, ..*actor }
 }
 
-/// E6: the enqueue tries the cell if it is empty and its index is not past the position; an unsafe
-/// cell only after a look at the head.
+/// After E6: returns the enqueue's record, which tries the cell if it is empty and its index is not
+/// past the position; an unsafe cell only after a look at the head.
 fn after_enqueue_reads_index(actor: &Actor, safe: bool, idx: u64) -> Actor
     ensures { result ≡ after_enqueue_reads_index actor.now safe idx }
 {
@@ -233,7 +236,8 @@ fn after_enqueue_reads_index(actor: &Actor, safe: bool, idx: u64) -> Actor
     }
 }
 
-/// E7: the enqueue tries the unsafe cell if its position is not behind the head.
+/// After E7: returns the enqueue's record, which tries the unsafe cell if its position is not below
+/// this head.
 fn after_unsafe_check(actor: &Actor, head: u64) -> Actor
     ensures { result ≡ after_unsafe_check actor.now head }
 {
@@ -241,7 +245,8 @@ fn after_unsafe_check(actor: &Actor, head: u64) -> Actor
     Actor { pc, ..*actor }
 }
 
-/// E9: the enqueue closes the ring if it is full, else it is to choose.
+/// After E9: returns the enqueue's record, which closes the ring if it is full, else has to choose
+/// whether it starves.
 fn after_full_check<const R: usize>(actor: &Actor, head: u64) -> Actor
     requires { R ≤ MOST_CELLS }
     ensures { result ≡ after_full_check R actor.now head }
@@ -256,7 +261,7 @@ fn after_full_check<const R: usize>(actor: &Actor, head: u64) -> Actor
     }
 }
 
-/// E12: the enqueue made this segment.
+/// After E12: returns the enqueue's record, which goes on to link this segment that it made.
 fn with_new(actor: &Actor, name: SegName) -> Actor
     ensures { result ≡ record actor.now { new = name; pc = Pc.E13 } }
 {
@@ -267,8 +272,9 @@ fn with_new(actor: &Actor, name: SegName) -> Actor
     }
 }
 
-/// Q1: the dequeue begins its first pass over the segment at the head.
-fn at_head(actor: &Actor, name: SegName) -> Actor
+/// After Q1: returns the dequeue's record, which begins its first pass over this segment, at the
+/// queue's head.
+fn with_head_segment(actor: &Actor, name: SegName) -> Actor
     ensures { result ≡ record actor.now { crq = name; pass = 1; pc = Pc.Q2 } }
 {
     Actor {
@@ -279,7 +285,8 @@ fn at_head(actor: &Actor, name: SegName) -> Actor
     }
 }
 
-/// Q2, Q10: the actor drew or read a head position.
+/// After Q2 or Q10: returns the record of an actor that drew or read this head position, and goes
+/// on to `pc`.
 fn with_head(actor: &Actor, head: u64, pc: Pc) -> Actor
     ensures { result ≡ record actor.now { h = head; pc = pc } }
 {
@@ -290,8 +297,9 @@ fn with_head(actor: &Actor, head: u64, pc: Pc) -> Actor
     }
 }
 
-/// Q4: the dequeue takes the value of its position, marks the cell unsafe if the value is older,
-/// moves an empty cell on to the next round, and passes by a cell whose index is past its position.
+/// After Q4: returns the dequeue's record. It takes the value of its position, marks the cell
+/// unsafe if the value is older, moves an empty cell on to the next round, and passes by a cell
+/// whose index is past its position.
 fn after_dequeue_reads_index(actor: &Actor, safe: bool, idx: u64) -> Actor
     ensures { result ≡ after_dequeue_reads_index actor.now safe idx }
 {
@@ -312,7 +320,7 @@ fn after_dequeue_reads_index(actor: &Actor, safe: bool, idx: u64) -> Actor
     }
 }
 
-/// Q5: the dequeue took the value that it had read.
+/// After Q5: returns the record of a dequeue that took the value which it had read, and the reply.
 fn after_take(actor: &Actor) -> (Actor, Option<OpReply>)
     ensures { result ≡ after_take actor.now.val actor.now }
 {
@@ -322,8 +330,8 @@ fn after_take(actor: &Actor) -> (Actor, Option<OpReply>)
     }
 }
 
-/// Q8: the dequeue goes to repair the tail if nothing is enqueued behind its position, else it
-/// draws the next one.
+/// After Q8: returns the dequeue's record, which goes on to repair the tail if nothing is enqueued
+/// after its position, else draws the next position.
 fn after_empty_check(actor: &Actor, count: u64) -> Actor
     ensures { result ≡ after_empty_check actor.now count }
 {
@@ -337,7 +345,7 @@ fn after_empty_check(actor: &Actor, count: u64) -> Actor
     }
 }
 
-/// Q9: the repair read the tail.
+/// After Q9: returns the record of a dequeue whose repair read this tail.
 fn with_repair_tail(actor: &Actor, closed: bool, count: u64) -> Actor
     ensures { result ≡ record actor.now { closed = closed; t = count; pc = Pc.Q10 } }
 {
@@ -349,8 +357,8 @@ fn with_repair_tail(actor: &Actor, closed: bool, count: u64) -> Actor
     }
 }
 
-/// Q11: the repair starts over if the tail changed, ends if it is closed or not behind the head,
-/// and else tries to move it.
+/// After Q11: returns the dequeue's record, whose repair starts over if the tail changed, ends if
+/// the tail is closed or not below the head, and else tries to move it.
 fn after_repair_check(actor: &Actor, closed: bool, count: u64) -> Actor
     ensures { result ≡ after_repair_check actor.now closed count }
 {
@@ -366,15 +374,16 @@ fn after_repair_check(actor: &Actor, closed: bool, count: u64) -> Actor
     Actor { pc, ..*actor }
 }
 
-/// The control point after a pass that found its segment empty: the first pass reads the next
-/// segment, the second moves the queue's head.
+/// Returns the control point after a pass that found its segment empty: the first pass reads the
+/// next segment, the second moves the queue's head.
 fn pc_after_empty_pass(actor: &Actor) -> Pc
     ensures { result ≡ pc_after_empty_pass actor.now }
 {
     if actor.pass == 1 { Pc::Q13 } else { Pc::Q14 }
 }
 
-/// Q13: a segment follows, and the dequeue passes over its own a second time.
+/// After Q13: returns the dequeue's record, which passes over its segment a second time, as this
+/// segment follows.
 fn second_pass(actor: &Actor, name: SegName) -> Actor
     ensures { result ≡ record actor.now { next = name; pass = 2; pc = Pc.Q2 } }
 {
@@ -386,7 +395,7 @@ fn second_pass(actor: &Actor, name: SegName) -> Actor
     }
 }
 
-/// A1: the enqueue on the array drew a position.
+/// After A1: returns the record of an enqueue on the array that drew this position.
 fn with_tail(actor: &Actor, tail: u64) -> Actor
     ensures { result ≡ record actor.now { t = tail; pc = Pc.A2 } }
 {
@@ -397,8 +406,8 @@ fn with_tail(actor: &Actor, tail: u64) -> Actor
     }
 }
 
-/// A2: the enqueue on the array is over if nobody had come to its slot yet, else it draws the next
-/// position.
+/// After A2: returns the record and reply of an enqueue on the array, which is over if nobody had
+/// been at its slot before, else draws the next position.
 fn after_swap_in(actor: &Actor, slot: ArrSlot) -> (Actor, Option<OpReply>)
     ensures { result ≡ after_swap_in actor.now slot }
 {
@@ -408,7 +417,8 @@ fn after_swap_in(actor: &Actor, slot: ArrSlot) -> (Actor, Option<OpReply>)
     }
 }
 
-/// B2: the dequeue on the array replies the value that it found, else it looks at the tail.
+/// After B2: returns the record and reply of a dequeue on the array, which replies the value that
+/// it found, else looks at the tail.
 fn after_swap_out(actor: &Actor, slot: ArrSlot) -> (Actor, Option<OpReply>)
     ensures { result ≡ after_swap_out actor.now slot }
 {
@@ -418,8 +428,8 @@ fn after_swap_out(actor: &Actor, slot: ArrSlot) -> (Actor, Option<OpReply>)
     }
 }
 
-/// B3: the dequeue on the array is over if nothing is enqueued behind its position, else it draws
-/// the next one.
+/// After B3: returns the record and reply of a dequeue on the array, which is over if nothing is
+/// enqueued after its position, else draws the next one.
 fn after_array_empty_check(actor: &Actor, count: u64) -> (Actor, Option<OpReply>)
     ensures { result ≡ after_array_empty_check actor.now count }
 {
@@ -431,9 +441,9 @@ fn after_array_empty_check(actor: &Actor, count: u64) -> (Actor, Option<OpReply>
     }
 }
 
-/// The value that an enqueue is to put, on either queue.
-fn value_of(op: Option<Op>) -> u64
-    ensures { result ≡ value_of op }
+/// Returns the value that an enqueue is to put, on either queue.
+fn value_to_put(op: Option<Op>) -> u64
+    ensures { result ≡ value_to_put op }
 {
     match op {
         Some(Op::Enq(value) | Op::AEnq(value)) => value,
@@ -441,7 +451,7 @@ fn value_of(op: Option<Op>) -> u64
     }
 }
 
-/// The cell of this position on the actor's segment.
+/// Returns the cell of this position in the actor's segment.
 fn cell_at<const R: usize>(actor: &Actor, position: u64) -> Place
     requires positive { 1 ≤ R }
     requires small { R ≤ MOST_CELLS }
@@ -450,7 +460,7 @@ fn cell_at<const R: usize>(actor: &Actor, position: u64) -> Place
     Place::Cell(actor.crq, index_of::<R>(position))
 }
 
-/// The index of this position's cell in a ring.
+/// Returns the index, in a ring of `R` cells, of the cell of this position.
 fn index_of<const R: usize>(position: u64) -> u8
     requires positive { 1 ≤ R }
     requires small { R ≤ MOST_CELLS }
@@ -459,21 +469,21 @@ fn index_of<const R: usize>(position: u64) -> u8
     (position % R as u64) as u8
 }
 
-/// The slot of the array at this position, which is 0 to 63 for the actors of a world.
+/// Returns the slot of the array at this position, which is 0 to 63 for the actors of a world.
 fn slot_at(position: u64) -> Place
     ensures { position < 2 ^ 8 → result ≡ ArrCell position }
 {
     Place::ArrCell(u8::try_from(position).unwrap_or(u8::MAX))
 }
 
-/// A2: the enqueue's value is put into the slot.
+/// Returns the operation of A2: the enqueue's value is swapped into the slot.
 fn swap_in(actor: &Actor) -> Operation
-    ensures { result ≡ Swap (Held (value_of actor.now.op)) }
+    ensures { result ≡ Swap (Held (value_to_put actor.now.op)) }
 {
-    Operation::Swap(ArrSlot::Value(value_of(actor.op)))
+    Operation::Swap(ArrSlot::Value(value_to_put(actor.op)))
 }
 
-/// A compare-and-swap of a name from the actor's segment.
+/// Returns a compare-and-swap from the name of the actor's segment to another name.
 fn cas_name(actor: &Actor, new: SegName) -> Operation
     ensures { result ≡ CasName actor.now.crq new }
 {
@@ -483,9 +493,10 @@ fn cas_name(actor: &Actor, new: SegName) -> Operation
     }
 }
 
-/// E8: from the empty cell that was read to the value at the actor's position.
+/// Returns the operation of E8: a compare-and-swap from the empty cell that was read to the value
+/// at the actor's position.
 fn put_value(actor: &Actor) -> Operation
-    ensures { result ≡ Cas2 (cell_of actor.now.safe actor.now.idx None) (cell_of true actor.now.t (Some (value_of actor.now.op))) }
+    ensures { result ≡ Cas2 (cell_with actor.now.safe actor.now.idx None) (cell_with true actor.now.t (Some (value_to_put actor.now.op))) }
 {
     Operation::Cas2 {
         old: Cell {
@@ -496,16 +507,17 @@ fn put_value(actor: &Actor) -> Operation
         new: Cell {
             safe: true,
             idx: actor.t,
-            val: Some(value_of(actor.op)),
+            val: Some(value_to_put(actor.op)),
         },
     }
 }
 
-/// Q5, Q7: from the cell that was read, with this value, to an empty one for the next round.
+/// Returns the operation of Q5 and Q7: a compare-and-swap from the cell that was read, with this
+/// value, to an empty one for the next round.
 fn move_on<const R: usize>(actor: &Actor, val: Option<u64>) -> Operation
     requires { R ≤ MOST_CELLS }
     ensures { actor.now.h + R < 2 ^ 64
-        → result ≡ Cas2 (cell_of actor.now.safe actor.now.idx val) (cell_of actor.now.safe (actor.now.h + R) None) }
+        → result ≡ Cas2 (cell_with actor.now.safe actor.now.idx val) (cell_with actor.now.safe (actor.now.h + R) None) }
 {
     Operation::Cas2 {
         old: Cell {
@@ -521,9 +533,10 @@ fn move_on<const R: usize>(actor: &Actor, val: Option<u64>) -> Operation
     }
 }
 
-/// Q6: from the cell that was read to the same, marked unsafe.
+/// Returns the operation of Q6: a compare-and-swap from the cell that was read to the same cell,
+/// marked unsafe.
 fn mark_unsafe(actor: &Actor) -> Operation
-    ensures { result ≡ Cas2 (cell_of actor.now.safe actor.now.idx actor.now.val) (cell_of false actor.now.idx actor.now.val) }
+    ensures { result ≡ Cas2 (cell_with actor.now.safe actor.now.idx actor.now.val) (cell_with false actor.now.idx actor.now.val) }
 {
     Operation::Cas2 {
         old: Cell {
@@ -539,7 +552,7 @@ fn mark_unsafe(actor: &Actor) -> Operation
     }
 }
 
-/// Q12: the tail moves up to the head.
+/// Returns the operation of Q12: a compare-and-swap that moves the tail up to the head.
 fn move_tail(actor: &Actor) -> Operation
     ensures { result ≡ CasTail actor.now.t actor.now.h }
 {

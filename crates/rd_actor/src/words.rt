@@ -1,8 +1,8 @@
-//! Which words fit an actor's control point, one row a control point. Every step keeps an actor so,
-//! and no other actor comes into a world.
+//! Which words fit an actor's control point, one row a control point. Every step keeps this, and no
+//! actor whose words do not fit comes into a world.
 
 ghost use Rattle.std.specs.Prelude.{◌≡◌};
-ghost use Rattle.rd_actor.specs.Words.{words_fit, is_idle, enqueues, dequeues, array_enqueues, array_dequeues, enqueue_fits, pass_fits};
+ghost use Rattle.rd_actor.specs.Words.{words_fit, has_idle_words, enqueues, dequeues, array_enqueues, array_dequeues, enqueue_fits, pass_fits};
 
 use super::actors::{Actor, Op, Pc};
 use rd_cell::SegName;
@@ -14,7 +14,7 @@ impl Actor {
         ensures { result ≡ words_fit self.now }
     {
         match self.pc {
-            Pc::Idle => is_idle(self),
+            Pc::Idle => has_idle_words(self),
             Pc::E1 | Pc::E2 | Pc::E3 | Pc::E4 | Pc::E5 | Pc::E6 => enqueue_fits(self),
             Pc::E7 => enqueue_fits(self) && self.val.is_none() && !self.safe && self.idx <= self.t,
             Pc::E8 => enqueue_fits(self) && self.val.is_none() && self.idx <= self.t,
@@ -36,9 +36,9 @@ impl Actor {
     }
 }
 
-/// Whether the words, the control point apart, are those of an actor in no call.
-fn is_idle(actor: &Actor) -> bool
-    ensures { result ≡ is_idle actor.now }
+/// Whether the words, except the control point, are those of an actor in no call.
+fn has_idle_words(actor: &Actor) -> bool
+    ensures { result ≡ has_idle_words actor.now }
 {
     actor.op.is_none()
         && actor.crq == SegName::ROOT
@@ -53,42 +53,42 @@ fn is_idle(actor: &Actor) -> bool
         && actor.pass == 0
 }
 
-/// Whether this is an enqueue, which is in no pass.
+/// Whether the actor is in an enqueue, and so in no pass.
 fn enqueue_fits(actor: &Actor) -> bool
     ensures { result ≡ enqueue_fits actor.now }
 {
     enqueues(actor.op) && actor.pass == 0
 }
 
-/// Whether this is a dequeue in its first or second pass over a segment.
+/// Whether the actor is in a dequeue, in its first or second pass over a segment.
 fn pass_fits(actor: &Actor) -> bool
     ensures { result ≡ pass_fits actor.now }
 {
     dequeues(actor.op) && (actor.pass == 1 || actor.pass == 2)
 }
 
-/// Whether the call is an enqueue.
+/// Whether there is a call, and it is an enqueue.
 fn enqueues(op: Option<Op>) -> bool
     ensures { result ≡ enqueues op }
 {
     matches!(op, Some(Op::Enq(_)))
 }
 
-/// Whether the call is a dequeue.
+/// Whether there is a call, and it is a dequeue.
 fn dequeues(op: Option<Op>) -> bool
     ensures { result ≡ dequeues op }
 {
     matches!(op, Some(Op::Deq))
 }
 
-/// Whether the call is an enqueue on the array.
+/// Whether there is a call, and it is an enqueue on the array.
 fn array_enqueues(op: Option<Op>) -> bool
     ensures { result ≡ array_enqueues op }
 {
     matches!(op, Some(Op::AEnq(_)))
 }
 
-/// Whether the call is a dequeue on the array.
+/// Whether there is a call, and it is a dequeue on the array.
 fn array_dequeues(op: Option<Op>) -> bool
     ensures { result ≡ array_dequeues op }
 {

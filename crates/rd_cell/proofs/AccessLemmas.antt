@@ -155,7 +155,7 @@ number_made_from-same zero at at' maker n same = refl
 number_made_from-same (suc more) at at' maker n same =
     ap₂ (λ (t : Bool) (m : ℕ). if t then m else n) (same n) (number_made_from-same more at at' maker (n + 1) same)
 
-pub number_made-same : (at at' : Contents) (maker : ℕ)
+number_made-same : (at at' : Contents) (maker : ℕ)
     → ((k : ℕ) → is_some (at (Head (record { maker = maker; n = k }))) ≡ is_some (at' (Head (record { maker = maker; n = k }))))
     → number_made at maker ≡ number_made at' maker
 unfolding number_made
@@ -259,7 +259,7 @@ place_of (Make x) = None
 
 -- if an access finds the same content at its place, and its actor has made as many segments, it
 -- does the same
-pub perform_same : (R actor : ℕ) (at at' : Contents) (x : Access)
+perform_same : (R actor : ℕ) (at at' : Contents) (x : Access)
     → ((p : Place) → place_of x ≡ Some p → operand at p ≡ operand at' p) → number_made at actor ≡ number_made at' actor
     → perform R actor at x ≡ perform R actor at' x
 perform_same R actor at at' NoPlace same count = refl

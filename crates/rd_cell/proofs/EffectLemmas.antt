@@ -54,7 +54,7 @@ lift looked_at p does does' done old new old' new' same place agrees h = record 
 }
 
 -- so is an operation
-pub lift_operation : (looked_at : Place → Bool) (p : Place) (op : Operation) (o : Option Content) (done : Done) (old new old' new' : Contents)
+lift_operation : (looked_at : Place → Bool) (p : Place) (op : Operation) (o : Option Content) (done : Done) (old new old' new' : Contents)
     → operand old' p ≡ o → Agrees looked_at p old new old' new' → HasEffect looked_at (operate p op o) done old new
     → Operates everywhere p op done old' new'
 lift_operation looked_at p op o done old new old' new' found agrees h =

@@ -19,8 +19,8 @@ use Rattle.rd_cell.specs.Places.{is_place, written}
 use Rattle.rd_cell.specs.Contents.{Contents, share, after_write_at, restore, operand, holding}
 use Rattle.rd_cell.specs.Operations.{Effect, effect, wrote_by}
 
--- what an access did: its place and what that had, if there is one, its answer, what it wrote of
--- its place, and what each place that it wrote was given
+-- what an access did: its place and that place's old content, if there is one, its answer, which
+-- part of the place it wrote, and the new content of each place that it wrote
 pub record Performed : Type 0 where
   pub place : Option Place
   pub old : Option Content
@@ -28,7 +28,7 @@ pub record Performed : Type 0 where
   pub wrote : Wrote
   pub given : Contents
 
--- the contents after an access
+-- the contents of all places after an access that did this
 abbrev pub contents_after : Performed → Contents → Contents
 contents_after did = after_write_at (written did.place did.wrote) did.given
 
@@ -36,7 +36,8 @@ contents_after did = after_write_at (written did.place did.wrote) did.given
 abbrev pub done_of : Performed → Done
 done_of did = record { place = did.place; old = did.old; answer = did.answer; wrote = did.wrote }
 
--- how many of the maker's segments are there, from the n-th on, looking at this many names at most
+-- the number of the maker's first segment, from the n-th on, that is not there; at most this many
+-- names are looked at
 unfoldable pub number_made_from : ℕ → Contents → ℕ → ℕ → ℕ
 number_made_from zero at maker n = n
 number_made_from (suc more) at maker n =
@@ -46,69 +47,71 @@ number_made_from (suc more) at maker n =
 unfoldable pub number_made : Contents → ℕ → ℕ
 number_made at maker = number_made_from MOST_SEGMENTS at maker 0
 
--- no access
+-- what a step without an access did: nothing
 abbrev pub no_access : Performed
 no_access = record { place = None; old = None; answer = Nothing; wrote = WroteNothing; given = λ q. None }
 
--- an operation with this effect at a place that had this content
+-- what an operation with this effect did at a place that had this content
 abbrev pub effect_at : Place → Content → Effect → Performed
 effect_at p c e = record { place = Some p; old = Some c; answer = e.answer; wrote = wrote_by c e.writes; given = share p e.writes }
 
--- an operation at a place that had this content, with this effect or refused
+-- what an operation did at a place that had this content, by its effect there, or its refusal
 abbrev pub perform_effect : Place → Content → Result Effect Refusal → Result Performed Refusal
 perform_effect p c (Err refusal) = Err refusal
 perform_effect p c (Ok e) = Ok (effect_at p c e)
 
--- an operation at a place with this content, or with none
+-- what an operation does at a place with this content; it is refused if the place has none
 abbrev pub operate : Place → Operation → Option Content → Result Performed Refusal
 operate p op None = Err NoSuchPlace
 operate p op (Some c) = perform_effect p c (effect op c)
 
--- the making of this segment, with R cells and holding x, which writes all of its places
+-- what the making of this segment does: it writes all places of the segment, which has R cells and
+-- holds x; refused if a maker may have no segment of this number
 abbrev pub make : ℕ → SegName → ℕ → Result Performed Refusal
 make R s x =
     if nat_lt s.n MOST_SEGMENTS
     then Ok (record { place = Some (Whole s); old = None; answer = Made s; wrote = WrotePlace; given = holding R x })
     else Err SegmentsEnd
 
--- what an access by this actor does if each place has what `at` says
+-- what an access by this actor does, over rings of R cells, where `at` is the content of each place
 abbrev pub perform : ℕ → ℕ → Contents → Access → Result Performed Refusal
 perform R actor at NoPlace = Ok no_access
 perform R actor at (At p op) = operate p op (operand at p)
 perform R actor at (Make x) = make R (record { maker = actor; n = number_made at actor }) x
 
--- an access that does this had its effect on the places that are looked at: they have now what it
--- leaves there, and this is what the entry of its step records
+-- an access that does this took place: each place that is looked at has now what the access leaves
+-- there, and `done` is what the entry of its step records
 pub record HasEffect (looked_at : Place → Bool) (does : Result Performed Refusal) (done : Done) (old new : Contents) : Type 0 where
   pub performed : Performed
   pub performs : does ≡ Ok performed
   pub keeps : done_of performed ≡ done
   pub leaves : (q : Place) → looked_at q ≡ true → new q ≡ contents_after performed old q
 
--- all places
+-- the test of places to look at that holds of every place
 abbrev pub everywhere : Place → Bool
 everywhere q = true
 
--- the operation had its effect at this place, on the places that are looked at
+-- the operation was done at this place: each place that is looked at has now what the operation
+-- leaves there
 abbrev pub Operates : (Place → Bool) → Place → Operation → Done → Contents → Contents → Type 0
 Operates looked_at p op done old new = HasEffect looked_at (operate p op (operand old p)) done old new
 
--- the operation had its effect on the one content of this place
+-- the operation was done at this place, which has the new content where it had the old one
 abbrev pub OperatesOn : Place → Operation → Done → Content → Content → Type 0
 OperatesOn p op done old new = HasEffect (is_place p) (operate p op (Some old)) done (λ q. Some old) (λ q. Some new)
 
--- this segment was made, with R cells and holding x
+-- this segment was made, with R cells and x enqueued already, and no other place changed
 abbrev pub Makes : ℕ → SegName → ℕ → Contents → Contents → Type 0
 Makes R s x old new =
     HasEffect everywhere (make R s x) (record { place = Some (Whole s); old = None; answer = Made s; wrote = WrotePlace }) old new
 
--- this content was put back at the place, or its places were taken away, on the places that are
--- looked at
+-- this old content was put back at the place, or, if it is none, the places that this place covers
+-- were taken away, as seen at the places that are looked at
 abbrev pub Restores : (Place → Bool) → Place → Option Content → Contents → Contents → Type 0
 Restores looked_at p o old new = (q : Place) → looked_at q ≡ true → new q ≡ restore (Some p) o old q
 
--- no further segment is made: as many have been made as one maker may make, or there is no room for
--- one more
+-- why no further segment is made: `SegmentsEnd` if the maker has made as many as it may, else
+-- `NoMemory` if there is no room for one more
 abbrev pub RefusesMaking : ℕ → ℕ → Refusal → Type 0
 RefusesMaking number room SegmentsEnd = MOST_SEGMENTS ≤ number
 RefusesMaking number room NoMemory = (number < MOST_SEGMENTS) × (room ≡ 0)

@@ -18,10 +18,10 @@ is_value _ _ = false
 abbrev pub is_cell : Cell → Cell → Bool
 is_cell a b = is_bit a.safe b.safe && (a.idx == b.idx) && is_value a.val b.val
 
--- the cell u of a new segment, with this value
+-- cell u of a new segment, with this value: safe and at index u
 abbrev pub new_cell : ℕ → Option ℕ → Cell
 new_cell u val = record { safe = true; idx = u; val = val }
 
--- the value in cell u of a new segment that holds x: x is in cell 0
+-- the value in cell u of a new segment that holds x: x in cell 0, and none in any other
 abbrev pub value_in_cell : ℕ → ℕ → Option ℕ
 value_in_cell x u = if u == 0 then Some x else None

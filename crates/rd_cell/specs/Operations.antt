@@ -22,21 +22,22 @@ pub record Effect : Type 0 where
   pub answer : Answer
   pub writes : Option Content
 
--- an operation that answers this and writes nothing
+-- the effect of an operation that answers this and writes nothing
 abbrev pub reads : Answer → Result Effect Refusal
 reads answer = Ok (record { answer = answer; writes = None })
 
--- an operation that answers this and writes this content
+-- the effect of an operation that answers this and writes this content
 abbrev pub writes : Answer → Content → Result Effect Refusal
 writes answer c = Ok (record { answer = answer; writes = Some c })
 
--- a compare-and-swap: if the test holds it wins and writes this content, else it loses and writes
--- nothing
+-- the effect of a compare-and-swap: if the test holds it wins and writes this content, else it
+-- loses and writes nothing
 abbrev pub swaps : Bool → Content → Result Effect Refusal
 swaps true c = writes Won c
 swaps false c = reads Lost
 
--- a fetch-and-add on a counter at n, which ends at the limit
+-- the effect of a fetch-and-add on a counter at n: it answers the old content and writes the new
+-- one, or is refused where n is the limit
 abbrev pub adds : ℕ → ℕ → Refusal → Content → Content → Result Effect Refusal
 adds limit n refusal old new = if nat_lt n limit then writes (Found old) new else Err refusal
 
@@ -66,8 +67,8 @@ effect _ _ = Err NoSuchPlace
 abbrev pub wrote_cell : Words → Words → Wrote
 wrote_cell old new = if is_value old.val new.val then Index else AllOfPlace
 
--- what writing a new content over an old one writes: all of its place, but for a cell that keeps
--- its value
+-- what writing a new content over an old one writes: all of its place, or the index half alone of a
+-- cell that keeps its value
 abbrev pub wrote_content : Content → Content → Wrote
 wrote_content (Cell old) (Cell new) = wrote_cell old new
 wrote_content _ _ = AllOfPlace
@@ -77,7 +78,8 @@ abbrev pub wrote_by : Content → Option Content → Wrote
 wrote_by old None = Nothing
 wrote_by old (Some new) = wrote_content old new
 
--- what a read answers on a content of its kind
+-- what a read answers on this content; none if the content is of another kind, or if this is no
+-- read
 abbrev pub read_answer : Operation → Content → Option Answer
 read_answer Read (Name s) = Some (Found (Name s))
 read_answer Read (Number n) = Some (Found (Number n))
@@ -98,6 +100,6 @@ abbrev pub suits_array : Operation → Bool
 suits_array Add = false
 suits_array _ = true
 
--- whether an operation is one for this place, and puts no counter past its end
+-- whether an operation is one for this kind of place, and puts no counter past its end
 abbrev pub suits : Place → Operation → Bool
 suits p op = if is_array p then suits_array op else suits_segments op

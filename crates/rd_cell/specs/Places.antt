@@ -14,7 +14,7 @@ root = record { maker = 0; n = 0 }
 abbrev pub is_name : SegName → SegName → Bool
 is_name s t = (s.maker == t.maker) && (s.n == t.n)
 
--- whether the place is one of the segment's, or the whole of it
+-- whether a place belongs to this segment, or is the whole of it
 abbrev pub is_of : SegName → Place → Bool
 is_of s (Head t) = is_name s t
 is_of s (Tail t) = is_name s t
@@ -25,14 +25,14 @@ is_of s (Idx t i) = is_name s t
 is_of s (Whole t) = is_name s t
 is_of s _ = false
 
--- whether the place is one of a cell's two halves, or the cell itself
+-- whether a place is one of this cell's two halves, or the cell itself
 abbrev pub is_of_cell : SegName → ℕ → Place → Bool
 is_of_cell s i (Cell t j) = is_name s t && (i == j)
 is_of_cell s i (Val t j) = is_name s t && (i == j)
 is_of_cell s i (Idx t j) = is_name s t && (i == j)
 is_of_cell s i _ = false
 
--- whether a place is one of the segment that the first is of
+-- whether the second place belongs to the segment to which the first belongs
 abbrev pub is_of_same_segment : Place → Place → Bool
 is_of_same_segment (Head s) q = is_of s q
 is_of_same_segment (Tail s) q = is_of s q
@@ -53,7 +53,7 @@ segment_of (Val s i) = Some s
 segment_of (Idx s i) = Some s
 segment_of _ = None
 
--- whether the place is one of the array's
+-- whether a place is one of the array's
 abbrev pub is_array : Place → Bool
 is_array ArrHead = true
 is_array ArrTail = true
@@ -107,14 +107,14 @@ abbrev pub index_half : Place → Place
 index_half (Cell s i) = Idx s i
 index_half p = p
 
--- the place whose places an access at p wrote
+-- the place that names what an access at p wrote, or none if it only read
 abbrev pub written_at : Place → Wrote → Option Place
 written_at p Nothing = None
 written_at p AllOfPlace = Some p
 written_at p Index = Some (index_half p)
 
--- the same of an access that has a place or none. Which places of the map an access touches is what
--- its place covers, and which of them it wrote is what this one covers
+-- the place that names what an access wrote, or none if it only read or had no place. The access
+-- touched each place of the map that its own place covers, and wrote each that this one covers
 abbrev pub written : Option Place → Wrote → Option Place
 written None w = None
 written (Some p) w = written_at p w

@@ -28,14 +28,15 @@ pub struct Done {
     pub old: Option<Content>,
     /// What the access answered.
     pub answer: Answer,
-    /// What it wrote of its place: all of it, but for reads and compare-and-swaps that lost, which
-    /// write nothing, and for a double-word compare-and-swap that won and left the cell's value as
-    /// it was, which writes the index half.
+    /// What it wrote of its place. A read, and a compare-and-swap that lost, wrote nothing. A
+    /// double-word compare-and-swap that won and left the cell's value as it was wrote the index
+    /// half. All others wrote all of the place.
     pub wrote: Wrote,
 }
 
 impl Done {
-    /// An operation that found this content, answered this, and wrote this of its place.
+    /// Returns the record of an operation that found this content, answered this, and wrote this of
+    /// its place.
     pub fn at(place: Place, found: Content, answer: Answer, wrote: Wrote) -> Done
         ensures { result ≡ record { place = Some place; old = Some found; answer = answer; wrote = wrote } }
     {
@@ -47,7 +48,8 @@ impl Done {
         }
     }
 
-    /// A compare-and-swap that found this content, and lost, or won and wrote this of its place.
+    /// Returns the record of a compare-and-swap that found this content, and lost, or won and wrote
+    /// this of its place.
     pub fn swapped(place: Place, found: Content, won: bool, written: Wrote) -> Done
         ensures { result ≡ record { place = Some place; old = Some found; answer = if won then Won else Lost; wrote = if won then written else WroteNothing } }
     {

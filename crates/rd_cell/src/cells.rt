@@ -12,14 +12,15 @@ use super::places::Wrote;
 pub struct Cell {
     /// Whether an enqueue may use the cell without looking at the ring's head.
     pub safe: bool,
-    /// The position in the queue that the cell stands for, at most 2^62 plus the ring's size.
+    /// The cell's index: the position in the queue that it serves next, at most 2^62 plus the
+    /// ring's size.
     pub idx: u64,
     /// The value that waits here, or none.
     pub val: Option<u64>,
 }
 
 impl Cell {
-    /// The cell of this index in a fresh segment: it is safe, at its index, and empty.
+    /// Returns the cell of this index in a fresh segment: it is safe, at its index, and empty.
     pub fn fresh(index: u64) -> Cell
         ensures { result ≡ new_cell index None }
     {
@@ -30,8 +31,8 @@ impl Cell {
         }
     }
 
-    /// What putting `new` over this cell writes: its index half always, and its value half if the
-    /// values differ.
+    /// Returns what putting `new` over this cell writes: the index half alone if the values are
+    /// equal, else the whole cell.
     pub fn wrote(self, new: Cell) -> Wrote
         ensures { result ≡ wrote_cell self new }
     {
@@ -42,9 +43,9 @@ impl Cell {
         }
     }
 
-    /// Compare-and-swap of the whole cell (CAS2): if the cell equals `old` it becomes `new` and the
-    /// answer is true, even if `old` and `new` are equal; else it stays as it is and the answer is
-    /// false.
+    /// Compare-and-swap of the whole cell (CAS2). If the cell equals `old`, it becomes `new`, and
+    /// the result is true, even if `old` and `new` are equal; else the cell does not change, and
+    /// the result is false.
     pub fn cas2(&mut self, old: Cell, new: Cell) -> bool
         ensures won { IsTrue result ↔ (self.old ≡ old) }
         ensures swapped { OnTrue result (self.new ≡ new) }

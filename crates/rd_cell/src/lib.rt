@@ -1,6 +1,6 @@
 //! The words of the machine: cells, segment names, places, contents, accesses, refusals and limits.
 //!
-//! Everything here is plain `Copy` data. The definitions in `specs/` say when two places overlap,
+//! Everything here is plain `Copy` data. The definitions in `specs/` state when two places overlap,
 //! what each operation does to one content, and what an access leaves at each place; the crates
 //! above execute just that.
 #![tactic(auto)]

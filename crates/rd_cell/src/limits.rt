@@ -1,4 +1,4 @@
-//! The limits of counters, lists and numbers: each is said here once, for the code and for the
+//! The limits of counters, lists and numbers: each is defined here once, for the code and for the
 //! definitions.
 
 /// The end of a segment's counters: 2^62.

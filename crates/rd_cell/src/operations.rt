@@ -49,7 +49,7 @@ pub enum Operation {
     Swap(ArrSlot),
 }
 
-/// What an access tells the actor.
+/// What an access answers to its actor.
 #[derive(Clone, Copy, Debug, PartialEq, Eq)]
 pub enum Answer {
     /// Nothing: there was no access.
@@ -77,8 +77,8 @@ pub enum Answer {
 }
 
 impl Operation {
-    /// What a read answers on this content; none if the content is of another kind, or if this is
-    /// no read.
+    /// Returns what a read answers on this content; none if the content is of another kind, or if
+    /// this is no read.
     pub fn read(self, content: Content) -> Option<Answer>
         ensures { result ≡ read_answer self content }
     {

@@ -71,8 +71,8 @@ impl Wrote {
 }
 
 impl Place {
-    /// The segment that has this place; none for the queue's ends, the array's places and the whole
-    /// of a segment.
+    /// Returns the segment that has this place; none for the queue's ends, the array's places and
+    /// the whole of a segment.
     pub fn segment(self) -> Option<SegName>
         ensures { result ≡ segment_of self }
     {
@@ -94,7 +94,7 @@ impl Place {
         matches!(self, Place::ArrHead | Place::ArrTail | Place::ArrCell(_))
     }
 
-    /// The index half of a cell, and any other place itself.
+    /// Returns the index half of a cell, and any other place unchanged.
     pub fn index_half(self) -> Place
         ensures { result ≡ index_half self }
     {
@@ -105,9 +105,8 @@ impl Place {
     }
 }
 
-/// The place whose places an access wrote, or none if it only read or had no place. What an access
-/// touches is what its place names, and what it wrote is what this one names: dependence is defined
-/// by these two alone.
+/// Returns the place that names what an access wrote, or none if it only read or had no place. What
+/// an access touches is what its own place names. Dependence is defined by these two alone.
 #[inline(always)]
 pub fn written(place: Option<Place>, wrote: Wrote) -> Option<Place>
     ensures { result ≡ written place wrote }
@@ -121,8 +120,8 @@ pub fn written(place: Option<Place>, wrote: Wrote) -> Option<Place>
 }
 
 /// Whether two places overlap: they are equal, or one is the cell of which the other is a half, or
-/// the whole of the segment that the other belongs to. A scan for a dependant asks this of each
-/// step, so each place is looked at once if it can be.
+/// the whole of the segment that the other belongs to. A scan for a dependant asks this for each
+/// step, so it looks at each place only once where it can.
 #[inline(always)]
 pub fn overlaps(a: Place, b: Place) -> bool
     ensures { result ≡ overlaps a b }
@@ -146,7 +145,7 @@ fn covers(a: Place, b: Place) -> bool
     }
 }
 
-/// Whether the place is a half of the cell, or the cell itself.
+/// Whether a place is one of this cell's two halves, or the cell itself.
 fn is_of_cell(name: SegName, i: u8, place: Place) -> bool
     ensures { result ≡ is_of_cell name i place }
 {
@@ -156,7 +155,7 @@ fn is_of_cell(name: SegName, i: u8, place: Place) -> bool
     }
 }
 
-/// Whether the place is one of the segment's, or the whole of it.
+/// Whether a place belongs to this segment, or is the whole of it.
 fn is_of(name: SegName, place: Place) -> bool
     ensures { result ≡ is_of name place }
 {
@@ -172,7 +171,7 @@ fn is_of(name: SegName, place: Place) -> bool
     }
 }
 
-/// The constant is the root of the definitions: what maker 0 made first.
+/// The constant `ROOT` is the root of the definitions: segment 0 of maker 0.
 pub fn the_root_is_the_first_of_no_maker()
     ensures { ROOT ≡ root }
 {}

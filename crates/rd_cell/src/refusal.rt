@@ -49,7 +49,7 @@ pub enum Refusal {
     NoMemory,
 }
 
-/// Memory that was refused is a refusal like the others.
+/// An allocation that failed becomes the refusal `NoMemory`.
 impl From<AllocError> for Refusal {
     ghost use Rattle.rd_cell.specs.declared.refusal.Refusal.TheVariants.{NoMemory};
 

@@ -6,7 +6,7 @@ use Rattle.rd_script.specs.Script.{Devices}
 use Rattle.rd_program.specs.declared.faults.ProgramFault.{ProgramFault}
 use Rattle.rd_program.specs.Program.{PlaysScript}
 use Rattle.rd_command_line.specs.declared.outcomes.Outcome.{Outcome}
-use Rattle.rd_command_line.specs.Answering.{Answers, HasOutcome, PlaysFile}
+use Rattle.rd_command_line.specs.Answering.{ComesTo, HasOutcome, PlaysFile}
 
 -- the script in a file was played
 pub plays_file : (R actors : ℕ) (traced : Bool) (d : Devices) (r : Result ℕ ProgramFault) → PlaysScript R actors traced d r → PlaysFile R actors traced d.out_before d.out_after d.out_failed r
@@ -14,6 +14,6 @@ plays_file R actors traced d r plays = inr (d, refl, refl, refl, plays)
 
 -- what was done for words that could be taken
 pub has_outcome : {S : Type 0} (text : S → Text) (words : Result (Vec S Global) Outcome) (taken : Vec S Global) (slice : List S) (d : Devices) (outcome : Outcome)
-    → words ≡ Ok taken → slice ≡ taken.items → Answers (map text slice) d outcome → HasOutcome text words d outcome
+    → words ≡ Ok taken → slice ≡ taken.items → ComesTo (map text slice) d outcome → HasOutcome text words d outcome
 has_outcome text words taken slice d outcome is same answers =
-    subst (λ w. HasOutcome text w d outcome) (sym is) (subst (λ xs. Answers (map text xs) d outcome) same answers)
+    subst (λ w. HasOutcome text w d outcome) (sym is) (subst (λ xs. ComesTo (map text xs) d outcome) same answers)

@@ -12,7 +12,7 @@ use Rattle.clap.specs.declared.error.kind.ErrorKind.TheVariants as kind
 use Rattle.clap.specs.declared.parser.matches.ArgMatches.{ArgMatches}
 use Rattle.rd_command_line.specs.declared.requests.Options.{Options}
 use Rattle.rd_command_line.specs.Options.{fault_by, options_fault}
-use Rattle.rd_command_line.specs.CommandLine.{AreRings, BothNames, EndsFor, HasFault, Reads, Tells, TellsNothing, is_request, program_app}
+use Rattle.rd_command_line.specs.CommandLine.{AreRings, BothNames, EndsFor, HasFault, GivesOptions, GivesSubcommand, GivesNothing, is_request, program_app}
 
 -- clap's clauses on matches are exact of the program's command
 pub program_is_simple : (names : BothNames) → is_simple (program_app names) ≡ true
@@ -31,7 +31,7 @@ EndsFor-fault_by words _ e is fault = (ap is_request is, inl (subst (HasFault wo
 
 -- the program's fault at an error of clap's: memory ran out, or the kind is one that clap has for
 -- the words
-pub EndsFor-options_fault : (words : List Text) (names : BothNames) (e : Error) → AreRings names → HasKind (fault_of (program_app names) words) e → EndsFor words (options_fault e)
+EndsFor-options_fault : (words : List Text) (names : BothNames) (e : Error) → AreRings names → HasKind (fault_of (program_app names) words) e → EndsFor words (options_fault e)
 EndsFor-options_fault words names e rings (inl memory) = subst (λ k. EndsFor words (fault_by k e)) (sym memory) tt
 EndsFor-options_fault words names e rings (inr among) =
     EndsFor-fault_by words (kind_of e) e refl (record { names = names; rings = rings; among = among })
@@ -44,22 +44,22 @@ EndsFor-error words app names e rings is kinds =
 
 -- matches of the program's command that tell these options
 pub Reads-matches : (words : List Text) (app : App) (names : BothNames) (m : ArgMatches) (o : Options) → AreRings names → app ≡ program_app names
-    → (is_simple_and_free app ≡ true → fault_of app words ≡ []) → HasMatchesOf app words m → Tells (subcommand_rows_of m) o → Reads words o
+    → (is_simple_and_free app ≡ true → fault_of app words ≡ []) → HasMatchesOf app words m → GivesSubcommand (subcommand_rows_of m) o → GivesOptions words o
 Reads-matches words app names m o rings is faultless matches tells = record {
   names = names;
   rings = rings;
   faultless = subst (λ a. is_simple_and_free a ≡ true → fault_of a words ≡ []) is faultless (program_is_free names);
-  told = subst (λ met. Tells met o) (subst (λ a. HasMatchesOf a words m) is matches (program_is_simple names)).1 tells;
+  told = subst (λ met. GivesSubcommand met o) (subst (λ a. HasMatchesOf a words m) is matches (program_is_simple names)).1 tells;
 }
 
 -- matches of the program's command that tell no options
-pub TellsNothing-matches : (words : List Text) (app : App) (names : BothNames) (m : ArgMatches) → AreRings names → app ≡ program_app names
-    → (is_simple_and_free app ≡ true → fault_of app words ≡ []) → HasMatchesOf app words m → ((o : Options) → Tells (subcommand_rows_of m) o → ⊥) → TellsNothing words
-TellsNothing-matches words app names m rings is faultless matches nothing = record {
+pub GivesNothing-matches : (words : List Text) (app : App) (names : BothNames) (m : ArgMatches) → AreRings names → app ≡ program_app names
+    → (is_simple_and_free app ≡ true → fault_of app words ≡ []) → HasMatchesOf app words m → ((o : Options) → GivesSubcommand (subcommand_rows_of m) o → ⊥) → GivesNothing words
+GivesNothing-matches words app names m rings is faultless matches nothing = record {
   names = names;
   rings = rings;
   faultless = subst (λ a. is_simple_and_free a ≡ true → fault_of a words ≡ []) is faultless (program_is_free names);
-  nothing = λ o tells. nothing o (subst (λ met. Tells met o) (sym (subst (λ a. HasMatchesOf a words m) is matches (program_is_simple names)).1) tells);
+  nothing = λ o tells. nothing o (subst (λ met. GivesSubcommand met o) (sym (subst (λ a. HasMatchesOf a words m) is matches (program_is_simple names)).1) tells);
 }
 
 -- a command that got a subcommand, of commands that are known

@@ -12,7 +12,7 @@ use Rattle.rd_command_line.specs.declared.requests.Options.TheVariants.{Run, Vie
 use Rattle.rd_cell.specs.declared.limits.TheConstants.{MOST_ACTORS}
 use Rattle.rd_trace.specs.declared.rings.Ring.{Ring}
 use Rattle.rd_command_line.specs.Options.{ring_text, flag_text}
-use Rattle.rd_command_line.specs.CommandLine.{IsNumber, TellsWorld, TellsRun, TellsView, TellsLoad}
+use Rattle.rd_command_line.specs.CommandLine.{IsNumber, GivesWorld, GivesRun, GivesView, GivesLoad}
 
 -- what is nothing is not something
 pub none_some : {X : Type 0} (o : Option X) (x : X) → o ≡ None → o ≡ Some x → ⊥
@@ -43,18 +43,18 @@ pub same_value : (m : ArgMatches) (id v w : Text) → Some v ≡ first_value (fo
 same_value m id v w given some = some_same (first_of id (rows_of (found_of m))) v w (sym (first_value-rows (found_of m) id) ∙ sym given) some
 
 -- a world that rows tell has a ring
-pub no_ring : (m : ArgMatches) → None ≡ first_value (found_of m) (codes "ring") → (actors : ℕ) (ring : Ring) → TellsWorld (rows_of (found_of m)) actors ring → ⊥
+pub no_ring : (m : ArgMatches) → None ≡ first_value (found_of m) (codes "ring") → (actors : ℕ) (ring : Ring) → GivesWorld (rows_of (found_of m)) actors ring → ⊥
 no_ring m none actors ring tells = no_value m (codes "ring") (ring_text ring) none tells.spelled
 
 -- of one of the spellings
 pub no_spelling : (m : ArgMatches) (v : Text) → Some v ≡ first_value (found_of m) (codes "ring")
-    → ((ring : Ring) → v ≡ ring_text ring → ⊥) → (actors : ℕ) (ring : Ring) → TellsWorld (rows_of (found_of m)) actors ring → ⊥
+    → ((ring : Ring) → v ≡ ring_text ring → ⊥) → (actors : ℕ) (ring : Ring) → GivesWorld (rows_of (found_of m)) actors ring → ⊥
 no_spelling m v given none actors ring tells = none ring (same_value m (codes "ring") v (ring_text ring) given tells.spelled)
 
 -- and a number of actors
 pub no_number : (m : ArgMatches)
     → ((t : Text) → one_text (found_of m) (codes "actors") ≡ Some t → IsNumeral 10 (without_leading_plus t) × (digits_value 10 (without_leading_plus t) < 2 ^ 8) → ⊥)
-    → (actors : ℕ) (ring : Ring) → TellsWorld (rows_of (found_of m)) actors ring → ⊥
+    → (actors : ℕ) (ring : Ring) → GivesWorld (rows_of (found_of m)) actors ring → ⊥
 no_number m none actors ring tells =
     let text = tells.counted.0 in
     let few : digits_value 10 (without_leading_plus text) ≤ MOST_ACTORS = subst (λ n. n ≤ MOST_ACTORS) (sym tells.counted.2.1) tells.few in
@@ -63,7 +63,7 @@ no_number m none actors ring tells =
 -- that is from 1 to 16
 pub out_of_range : (m : ArgMatches) (n : ℕ)
     → ((t : Text) → one_text (found_of m) (codes "actors") ≡ Some t → n ≡ digits_value 10 (without_leading_plus t))
-    → ((1 ≤ n) → (n ≤ MOST_ACTORS) → ⊥) → (actors : ℕ) (ring : Ring) → TellsWorld (rows_of (found_of m)) actors ring → ⊥
+    → ((1 ≤ n) → (n ≤ MOST_ACTORS) → ⊥) → (actors : ℕ) (ring : Ring) → GivesWorld (rows_of (found_of m)) actors ring → ⊥
 out_of_range m n read out actors ring tells =
     let is : n ≡ actors = read tells.counted.0 (one_text-rows (found_of m) (codes "actors") ∙ tells.counted.1) ∙ tells.counted.2.1 in
     out (subst (λ k. 1 ≤ k) (sym is) tells.some) (subst (λ k. k ≤ MOST_ACTORS) (sym is) tells.few)
@@ -73,23 +73,23 @@ pub first_value_is : (m : ArgMatches) (id v : Text) → Some v ≡ first_value (
 first_value_is m id v given = sym (first_value-rows (found_of m) id) ∙ sym given
 
 -- options that the rows of `run` tell have a file
-pub no_file : (m : ArgMatches) → None ≡ first_value (found_of m) (codes "file") → (o : Options) → TellsRun (rows_of (found_of m)) o → ⊥
+pub no_file : (m : ArgMatches) → None ≡ first_value (found_of m) (codes "file") → (o : Options) → GivesRun (rows_of (found_of m)) o → ⊥
 no_file m none (Run file actors ring trace) tells = no_value m (codes "file") file.now none tells.0
 no_file m none _ tells = tells
 
 -- and a world
-pub no_run_world : (m : ArgMatches) → ((actors : ℕ) (ring : Ring) → TellsWorld (rows_of (found_of m)) actors ring → ⊥) → (o : Options) → TellsRun (rows_of (found_of m)) o → ⊥
+pub no_run_world : (m : ArgMatches) → ((actors : ℕ) (ring : Ring) → GivesWorld (rows_of (found_of m)) actors ring → ⊥) → (o : Options) → GivesRun (rows_of (found_of m)) o → ⊥
 no_run_world m none (Run file actors ring trace) tells = none actors ring tells.1
 no_run_world m none _ tells = tells
 
 -- and a choice of the trace
-pub no_trace : (m : ArgMatches) → None ≡ first_value (found_of m) (codes "trace") → (o : Options) → TellsRun (rows_of (found_of m)) o → ⊥
+pub no_trace : (m : ArgMatches) → None ≡ first_value (found_of m) (codes "trace") → (o : Options) → GivesRun (rows_of (found_of m)) o → ⊥
 no_trace m none (Run file actors ring trace) tells = no_value m (codes "trace") (flag_text trace) none tells.2
 no_trace m none _ tells = tells
 
 -- by one of its texts
 pub no_choice : (m : ArgMatches) (v : Text) → Some v ≡ first_value (found_of m) (codes "trace")
-    → ((choice : Bool) → v ≡ flag_text choice → ⊥) → (o : Options) → TellsRun (rows_of (found_of m)) o → ⊥
+    → ((choice : Bool) → v ≡ flag_text choice → ⊥) → (o : Options) → GivesRun (rows_of (found_of m)) o → ⊥
 no_choice m v given none (Run file actors ring trace) tells = none trace (same_value m (codes "trace") v (flag_text trace) given tells.2)
 no_choice m v given none _ tells = tells
 
@@ -98,14 +98,14 @@ pub files_are : (m : ArgMatches) (names : List Text) → Some names ≡ option_m
 files_are m names given = sym (raw_values-rows (found_of m) (codes "files")) ∙ sym given
 
 -- options that the rows of `view` tell have files
-pub no_files : (m : ArgMatches) → None ≡ option_map raw_values (matched_of (found_of m) (codes "files")) → (o : Options) → TellsView (rows_of (found_of m)) o → ⊥
+pub no_files : (m : ArgMatches) → None ≡ option_map raw_values (matched_of (found_of m) (codes "files")) → (o : Options) → GivesView (rows_of (found_of m)) o → ⊥
 no_files m none (View files actors ring) tells =
     none_some (all_of (codes "files") (rows_of (found_of m))) (map (λ (file : Bor Text). file.now) files.items) (sym (raw_values-rows (found_of m) (codes "files")) ∙ sym none) tells.0
 no_files m none _ tells = tells
 
 -- at least one
 pub empty_files : (m : ArgMatches) (names : List (Bor Text)) → Some (map (λ (file : Bor Text). file.now) names) ≡ option_map raw_values (matched_of (found_of m) (codes "files")) → length names ≡ 0
-    → (o : Options) → TellsView (rows_of (found_of m)) o → ⊥
+    → (o : Options) → GivesView (rows_of (found_of m)) o → ⊥
 empty_files m names given empty (View files actors ring) tells =
     let texts = λ (xs : List (Bor Text)). map (λ (file : Bor Text). file.now) xs in
     let same : texts names ≡ texts files.items = some_same (all_of (codes "files") (rows_of (found_of m))) (texts names) (texts files.items) (files_are m (texts names) given) tells.0 in
@@ -115,11 +115,11 @@ empty_files m names given empty (View files actors ring) tells =
 empty_files m names given empty _ tells = tells
 
 -- and a world
-pub no_view_world : (m : ArgMatches) → ((actors : ℕ) (ring : Ring) → TellsWorld (rows_of (found_of m)) actors ring → ⊥) → (o : Options) → TellsView (rows_of (found_of m)) o → ⊥
+pub no_view_world : (m : ArgMatches) → ((actors : ℕ) (ring : Ring) → GivesWorld (rows_of (found_of m)) actors ring → ⊥) → (o : Options) → GivesView (rows_of (found_of m)) o → ⊥
 no_view_world m none (View files actors ring) tells = none actors ring tells.2
 no_view_world m none _ tells = tells
 
 -- options that the rows of `load` tell have a file
-pub no_load_file : (m : ArgMatches) → None ≡ first_value (found_of m) (codes "file") → (o : Options) → TellsLoad (rows_of (found_of m)) o → ⊥
+pub no_load_file : (m : ArgMatches) → None ≡ first_value (found_of m) (codes "file") → (o : Options) → GivesLoad (rows_of (found_of m)) o → ⊥
 no_load_file m none (Load file) tells = no_value m (codes "file") file.now none tells
 no_load_file m none _ tells = tells

@@ -16,65 +16,65 @@ use Rattle.rd_command_line.specs.declared.requests.OptionsFault.{OptionsFault}
 use Rattle.rd_command_line.specs.declared.outcomes.Outcome.{Outcome}
 use Rattle.rd_command_line.specs.declared.outcomes.Outcome.TheVariants.{Done}
 use Rattle.rd_command_line.specs.Outcomes.{Ends, IsOutcomeOf}
-use Rattle.rd_command_line.specs.CommandLine.{EndsFor, Reads}
+use Rattle.rd_command_line.specs.CommandLine.{EndsFor, GivesOptions}
 
--- a file could not be opened, and the output is as it was; or the script in it was played, whatever
--- the file gave
+-- the script in a file was played, whatever text the file gave; or the file could not be opened,
+-- and the output is as it was
 abbrev pub PlaysFile : ℕ → ℕ → Bool → Option (List ℕ) → Option (List ℕ) → Bool → Result ℕ ProgramFault → Type 0
 PlaysFile R actors traced output output' failed result =
     ((result ≡ Err program.Read) × Keeps output output' × (failed ≡ false))
     ⊎ ((d : Devices) × (d.out_before ≡ output) × (d.out_after ≡ output') × (d.out_failed ≡ failed) × PlaysScript R actors traced d result)
 
--- a file could not be opened or read, and neither stream was touched; or some text was loaded,
--- whatever the file gave, and the script on the input was run over its trace
+-- some text of a file was loaded, whatever the file gave, and the script on the input was run over
+-- its trace; or the file could not be opened or read, and neither stream was used
 abbrev pub LoadsFile : Devices → Result ℕ ProgramFault → Type 0
 LoadsFile d result =
     (((fault : ProgramFault) × (result ≡ Err fault) × IsUnread fault) × TouchesNothing d)
     ⊎ ((text : List ℕ) × ResumesTrace text d result)
 
--- a file could not be opened or read, and the output is as it was; or the scripts in this many
--- files were viewed, whatever the files gave
+-- the scripts in this many files were viewed, whatever the files gave; or a file could not be
+-- opened or read, and the output is as it was
 abbrev pub ViewsFiles : ℕ → ℕ → ℕ → Option (List ℕ) → Option (List ℕ) → Bool → Result ℕ ProgramFault → Type 0
 ViewsFiles count R actors output output' failed result =
     (((fault : ProgramFault) × (result ≡ Err fault) × IsUnread fault) × Keeps output output' × (failed ≡ false))
     ⊎ ((scripts : List (Vec ℕ Global)) × (length scripts ≡ count) × ViewsOver R (fresh_state R actors) scripts output output' failed result)
 
--- the input was not touched
+-- the input was not used: no byte was read, and it has not failed
 abbrev pub LeavesInput : Devices → Type 0
 LeavesInput d = Keeps d.in_before d.in_after × (d.in_failed ≡ false)
 
--- the script on the input was played if the name is `-`, else the one in the file of this name,
--- with the input left alone
+-- the script of this name was played: that on the input if the name is `-`, else that in the file
+-- of this name, with the input not used
 abbrev pub PlaysNamed : Text → ℕ → ℕ → Bool → Devices → Result ℕ ProgramFault → Type 0
 PlaysNamed name R actors traced d result =
     ((name ≡ codes "-") × PlaysScript R actors traced d result)
     ⊎ ((name ≢ codes "-") × LeavesInput d × PlaysFile R actors traced d.out_before d.out_after d.out_failed result)
 
--- what was done for the options
+-- what the program did for these options, by the result
 abbrev pub DoesOptions : Options → Devices → Result ℕ ProgramFault → Type 0
 DoesOptions (Run file actors ring trace) d result = PlaysNamed file.now (ring_length ring) actors trace d result
 DoesOptions (View files actors ring) d result = LeavesInput d × ViewsFiles (length files.items) (ring_length ring) actors d.out_before d.out_after d.out_failed result
 DoesOptions (Load file) d result = LoadsFile d result
 
--- what the words come to: what the options ask for that they give was done; or they give none, and
--- nothing was
-abbrev pub Answers : List Text → Devices → Outcome → Type 0
-Answers words d outcome =
-    ((options : Options) × (done : Result ℕ ProgramFault) × Reads words options × DoesOptions options d done × (outcome ≡ Done done))
+-- the outcome of a command line of these words: they give options, and what the options ask for was
+-- done; or they give none, and neither stream was used
+abbrev pub ComesTo : List Text → Devices → Outcome → Type 0
+ComesTo words d outcome =
+    ((options : Options) × (done : Result ℕ ProgramFault) × GivesOptions words options × DoesOptions options d done × (outcome ≡ Done done))
     ⊎ ((reason : OptionsFault) × EndsFor words reason × IsOutcomeOf reason outcome × TouchesNothing d)
 
--- the outcome of a command line: what its words come to; or, if they could not be taken, what that
--- comes to, and neither stream was touched
+-- the outcome of a command line: that of its words; or, if the words could not be taken from the
+-- system, the outcome of that, with neither stream used
 abbrev pub HasOutcome : {S : Type 0} → (S → Text) → Result (Vec S Global) Outcome → Devices → Outcome → Type 0
-HasOutcome text (Ok words) d outcome = Answers (map text words.items) d outcome
+HasOutcome text (Ok words) d outcome = ComesTo (map text words.items) d outcome
 HasOutcome text (Err taken) d outcome = (outcome ≡ taken) × TouchesNothing d
 
--- what the program did from its words to its end: an outcome, with what it left on the output, and
--- then the end of that outcome
+-- what the program did from its words to its end: it came to an outcome, with what that left on the
+-- output, and then ended as after that outcome
 pub record Performs {S : Type 0} (text : S → Text) (words : Result (Vec S Global) Outcome) (status : ℕ) (d : Devices)
     (errors errors' : Option (List ℕ)) (errors_failed : Bool) : Type 0 where
   pub outcome : Outcome
-  -- what the output had when the outcome was there, and whether it had failed
+  -- the bytes that the output had at the outcome, and whether it had failed
   pub reported : Option (List ℕ)
   pub report_failed : Bool
   pub does : HasOutcome text words (record d { out_after = reported; out_failed = report_failed }) outcome

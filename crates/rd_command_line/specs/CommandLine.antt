@@ -1,4 +1,4 @@
--- What clap is told of the program's command line, and which words give which options.
+-- The program's command as clap is given it, and which words give which options.
 use Rattle.std.specs.Prelude.{◌≡◌, ◌≤◌, ◌⊎◌, ℕ, ⊤, true, false, Bool, List, [], ◌∷◌, Option, None, Some, codes, length, map, pos}
 use Rattle.std.specs.Borrow.{Bor}
 use Rattle.std.specs.Str.Parse.{IsNumeral, digits_value, without_leading_plus}
@@ -18,23 +18,23 @@ use Rattle.rd_cell.specs.declared.limits.TheConstants.{MOST_ACTORS}
 use Rattle.rd_trace.specs.declared.rings.Ring.{Ring}
 use Rattle.rd_command_line.specs.Options.{HasManyFiles, ring_text, flag_text}
 
--- names of values, as clap is given them
+-- the type of a list of names of values, as clap is given it
 abbrev pub ValueNames : Type 0
 ValueNames = Bor (List (Bor Text))
 
--- these are the numbers of cells that a ring may have
+-- these names are the numbers of cells that a ring may have: 2, 4 and 8
 abbrev pub IsRings : ValueNames → Type 0
 IsRings names = map (λ name. name.now) names.now ≡ codes "2" ∷ codes "4" ∷ codes "8" ∷ []
 
--- the file, which has to be there
+-- the argument `file`, which is required
 abbrev pub file_rule : Rule
 file_rule = record (new_rule (codes "file")) { value_names = 1; required = true }
 
--- the files of the viewers, of which there has to be one
+-- the argument `files`, the files of the viewers, of which at least one is required
 abbrev pub files_rule : Rule
 files_rule = record (new_rule (codes "files")) { range = Some (record { start_inclusive = 1; end_inclusive = usize_max }); value_names = 1; required = true }
 
--- `--actors`, a number from 1 to 16, and 4 where it is left out
+-- the option `--actors`, a number from 1 to 16, by default 4
 abbrev pub actors_rule : Rule
 actors_rule = record (new_rule (codes "actors")) {
   long = Some (codes "actors");
@@ -43,7 +43,7 @@ actors_rule = record (new_rule (codes "actors")) {
   defaults = codes "4" ∷ [];
 }
 
--- `--ring`, one of these names, and 4 where it is left out
+-- the option `--ring`, one of these names, by default 4
 abbrev pub ring_rule : ValueNames → Rule
 ring_rule names = record (new_rule (codes "ring")) {
   long = Some (codes "ring");
@@ -52,31 +52,31 @@ ring_rule names = record (new_rule (codes "ring")) {
   defaults = codes "4" ∷ [];
 }
 
--- `--trace`, which takes no value
+-- the flag `--trace`, which takes no value
 abbrev pub trace_rule : Rule
 trace_rule = record (new_rule (codes "trace")) { long = Some (codes "trace"); action = Some SetTrue }
 
--- the subcommand `run` but for `--trace`: what is run, and over which world
+-- the subcommand `run` except `--trace`: the file that is run, and the world over which it runs
 abbrev pub run_over_app : ValueNames → App
 run_over_app names = with_rule (with_rule (with_rule (new_app (codes "run")) file_rule) actors_rule) (ring_rule names)
 
--- the subcommand `run`
+-- the subcommand `run`, with `--trace`
 abbrev pub run_app : ValueNames → App
 run_app names = with_rule (run_over_app names) trace_rule
 
--- the subcommand `view`
+-- the subcommand `view`: the files of the viewers, and the world over which they run
 abbrev pub view_app : ValueNames → App
 view_app names = with_rule (with_rule (with_rule (new_app (codes "view")) files_rule) actors_rule) (ring_rule names)
 
--- the subcommand `load`
+-- the subcommand `load`: the file of the trace
 abbrev pub load_app : App
 load_app = with_rule (new_app (codes "load")) file_rule
 
--- the names of the rings, as clap is given them for `run` and for `view`
+-- the type of the names of the rings, as clap is given them for `run` and for `view`
 abbrev pub BothNames : Type 0
 BothNames = ValueNames × ValueNames
 
--- both are the numbers of cells that a ring may have
+-- both lists of names are the numbers of cells that a ring may have
 abbrev pub AreRings : BothNames → Type 0
 AreRings names = IsRings names.0 × IsRings names.1
 
@@ -90,71 +90,72 @@ program_app names = with_subcommand
     (view_app names.1).top)
     load_app.top
 
--- the number in decimal digits, which a plus may precede
+-- the text is this number in decimal digits, with or without a plus before them
 abbrev pub IsNumber : Text → ℕ → Type 0
 IsNumber text n = IsNumeral 10 (without_leading_plus text) × (digits_value 10 (without_leading_plus text) ≡ n)
 
--- what was found for `--actors` and `--ring` tells this world
-pub record TellsWorld (rows : List Row) (actors : ℕ) (ring : Ring) : Type 0 where
+-- the values that clap found for `--actors` and `--ring` give this world
+pub record GivesWorld (rows : List Row) (actors : ℕ) (ring : Ring) : Type 0 where
   pub counted : (text : Text) × (one_of (codes "actors") rows ≡ Some text) × IsNumber text actors
   pub some : 1 ≤ actors
   pub few : actors ≤ MOST_ACTORS
   pub spelled : first_of (codes "ring") rows ≡ Some (ring_text ring)
 
--- what was found for the arguments of `run` tells these options
-abbrev pub TellsRun : List Row → Options → Type 0
-TellsRun rows (Run file actors ring trace) =
-    (first_of (codes "file") rows ≡ Some file.now) × TellsWorld rows actors ring × (first_of (codes "trace") rows ≡ Some (flag_text trace))
-TellsRun rows _ = ⊥
+-- the values that clap found for the arguments of `run` give these options
+abbrev pub GivesRun : List Row → Options → Type 0
+GivesRun rows (Run file actors ring trace) =
+    (first_of (codes "file") rows ≡ Some file.now) × GivesWorld rows actors ring × (first_of (codes "trace") rows ≡ Some (flag_text trace))
+GivesRun rows _ = ⊥
 
--- what was found for the arguments of `view` tells these options
-abbrev pub TellsView : List Row → Options → Type 0
-TellsView rows (View files actors ring) =
-    (all_of (codes "files") rows ≡ Some (map (λ file. file.now) files.items)) × (1 ≤ length files.items) × TellsWorld rows actors ring
-TellsView rows _ = ⊥
+-- the values that clap found for the arguments of `view` give these options
+abbrev pub GivesView : List Row → Options → Type 0
+GivesView rows (View files actors ring) =
+    (all_of (codes "files") rows ≡ Some (map (λ file. file.now) files.items)) × (1 ≤ length files.items) × GivesWorld rows actors ring
+GivesView rows _ = ⊥
 
--- what was found for the argument of `load` tells these options
-abbrev pub TellsLoad : List Row → Options → Type 0
-TellsLoad rows (Load file) = first_of (codes "file") rows ≡ Some file.now
-TellsLoad rows _ = ⊥
+-- the value that clap found for the argument of `load` gives these options
+abbrev pub GivesLoad : List Row → Options → Type 0
+GivesLoad rows (Load file) = first_of (codes "file") rows ≡ Some file.now
+GivesLoad rows _ = ⊥
 
--- the subcommand that was found, with what was found for its arguments, tells these options
-abbrev pub Tells : Option (Text × List Row) → Options → Type 0
-Tells None options = ⊥
-Tells (Some met) options =
-    ((met.0 ≡ codes "run") × TellsRun met.1 options)
-    ⊎ (((met.0 ≡ codes "view") × TellsView met.1 options)
-    ⊎ ((met.0 ≡ codes "load") × TellsLoad met.1 options))
+-- the subcommand that clap found, with the values for its arguments, gives these options
+abbrev pub GivesSubcommand : Option (Text × List Row) → Options → Type 0
+GivesSubcommand None options = ⊥
+GivesSubcommand (Some met) options =
+    ((met.0 ≡ codes "run") × GivesRun met.1 options)
+    ⊎ (((met.0 ≡ codes "view") × GivesView met.1 options)
+    ⊎ ((met.0 ≡ codes "load") × GivesLoad met.1 options))
 
--- the words give these options: clap finds no fault in them, and what it finds tells the options
-pub record Reads (words : List Text) (options : Options) : Type 0 where
+-- the words give these options: clap finds no fault in them, and the values that it finds give the
+-- options
+pub record GivesOptions (words : List Text) (options : Options) : Type 0 where
   pub names : BothNames
   pub rings : AreRings names
   pub faultless : fault_of (program_app names) words ≡ []
-  pub told : Tells (subcommand_of (program_app names) words) options
+  pub told : GivesSubcommand (subcommand_of (program_app names) words) options
 
--- help or the version was asked for
+-- whether an error of this kind is a request for help or for the version
 abbrev pub is_request : ErrorKind → Bool
 is_request DisplayHelp = true
 is_request DisplayVersion = true
 is_request _ = false
 
--- clap names a fault of this kind in the words
+-- clap finds a fault of this kind in the words
 pub record HasFault (words : List Text) (kind : ErrorKind) : Type 0 where
   pub names : BothNames
   pub rings : AreRings names
   pub among : IsAmong kind (fault_of (program_app names) words)
 
--- clap finds no fault in the words, but what it finds tells no options
-pub record TellsNothing (words : List Text) : Type 0 where
+-- clap finds no fault in the words, but the values that it finds give no options
+pub record GivesNothing (words : List Text) : Type 0 where
   pub names : BothNames
   pub rings : AreRings names
   pub faultless : fault_of (program_app names) words ≡ []
-  pub nothing : (options : Options) → Tells (subcommand_of (program_app names) words) options → ⊥
+  pub nothing : (options : Options) → GivesSubcommand (subcommand_of (program_app names) words) options → ⊥
 
 -- why these words give no options
 abbrev pub EndsFor : List Text → OptionsFault → Type 0
 EndsFor words NoMemory = ⊤
-EndsFor words TooManyFiles = (options : Options) × Reads words options × HasManyFiles options
+EndsFor words TooManyFiles = (options : Options) × GivesOptions words options × HasManyFiles options
 EndsFor words (Shown error) = (is_request (kind_of error) ≡ true) × HasFault words (kind_of error)
-EndsFor words (Refused error) = (is_request (kind_of error) ≡ false) × (HasFault words (kind_of error) ⊎ TellsNothing words)
+EndsFor words (Refused error) = (is_request (kind_of error) ≡ false) × (HasFault words (kind_of error) ⊎ GivesNothing words)

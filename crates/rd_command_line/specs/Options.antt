@@ -13,48 +13,48 @@ use Rattle.rd_command_line.specs.declared.requests.Options.TheVariants.{Run, Vie
 use Rattle.rd_command_line.specs.declared.requests.OptionsFault.{OptionsFault}
 use Rattle.rd_command_line.specs.declared.requests.OptionsFault.TheVariants.{Shown, Refused, TooManyFiles, NoMemory}
 
--- how the command line spells a ring
+-- the text by which the command line spells a ring
 abbrev pub ring_text : Ring → List ℕ
 ring_text Two = codes "2"
 ring_text Four = codes "4"
 ring_text Eight = codes "8"
 
--- the text that clap keeps of a flag
+-- the text that clap keeps for a flag that is set, or not
 abbrev pub flag_text : Bool → List ℕ
 flag_text true = codes "true"
 flag_text false = codes "false"
 
--- the number of actors that is asked for is one that a world may have, and that of the files one
--- that there may be viewers
+-- the numbers in these options are in their ranges: that of actors is one that a world may have,
+-- and that of files one that there may be of viewers
 abbrev pub AreInRange : Options → Type 0
 AreInRange (Run file actors ring trace) = (1 ≤ actors) × (actors ≤ MOST_ACTORS)
 AreInRange (View files actors ring) = ((1 ≤ actors) × (actors ≤ MOST_ACTORS)) × ((1 ≤ length files.items) × (length files.items ≤ MOST_VIEWERS))
 AreInRange (Load file) = ⊤
 
--- more files are named than there may be viewers
+-- these options name more files than there may be viewers
 abbrev pub HasManyFiles : Options → Type 0
 HasManyFiles (Run file actors ring trace) = ⊥
 HasManyFiles (View files actors ring) = MOST_VIEWERS < length files.items
 HasManyFiles (Load file) = ⊥
 
--- and not more
+-- these options name no more files than there may be viewers
 abbrev pub HasFewFiles : Options → Type 0
 HasFewFiles (Run file actors ring trace) = ⊤
 HasFewFiles (View files actors ring) = length files.items ≤ MOST_VIEWERS
 HasFewFiles (Load file) = ⊤
 
--- the fault of a command line at which clap fails by an error of this kind
+-- the fault of a command line for which clap gives this error, by the error's kind
 abbrev pub fault_by : ErrorKind → Error → OptionsFault
 fault_by DisplayHelp error = Shown error
 fault_by DisplayVersion error = Shown error
 fault_by OutOfMemory error = NoMemory
 fault_by _ error = Refused error
 
--- the fault of a command line at which clap fails by this error
+-- the fault of a command line for which clap gives this error
 abbrev pub options_fault : Error → OptionsFault
 options_fault error = fault_by (kind_of error) error
 
--- the command line is refused by a mistake of this kind, or for want of memory
+-- the command line is refused for a mistake of this kind, or because memory was refused
 abbrev pub IsMistake : ErrorKind → OptionsFault → Type 0
 IsMistake kind (Refused error) = kind_of error ≡ kind
 IsMistake kind (Shown error) = ⊥

@@ -1,4 +1,4 @@
--- What a command line comes to that gives no options, and how the program ends after each outcome.
+-- The outcome of a command line that gives no options, and how the program ends after each outcome.
 use Rattle.std.specs.Prelude.{◌≡◌, ◌⊎◌, ℕ, Bool, true, false, List, codes, string_bytes, Option, Err, String}
 use Rattle.std.specs.Global.{Global}
 use Rattle.rd_program.specs.declared.faults.ProgramFault.TheVariants as program
@@ -8,21 +8,21 @@ use Rattle.rd_command_line.specs.declared.requests.OptionsFault.TheVariants as o
 use Rattle.rd_command_line.specs.declared.outcomes.Outcome.{Outcome}
 use Rattle.rd_command_line.specs.declared.outcomes.Outcome.TheVariants.{Done, Shown, Refused, TooManyFiles}
 
--- what a command line comes to that gives no options: a text for standard output or for standard
--- error, unless memory for it was refused
+-- the outcome of a command line that gives no options for this reason: a text for standard output
+-- or for standard error, unless memory for it was refused
 abbrev pub IsOutcomeOf : OptionsFault → Outcome → Type 0
 IsOutcomeOf options.NoMemory outcome = outcome ≡ Done (Err program.NoMemory)
 IsOutcomeOf options.TooManyFiles outcome = outcome ≡ TooManyFiles
 IsOutcomeOf (options.Shown error) outcome = (outcome ≡ Done (Err program.NoMemory)) ⊎ ((text : String Global) × (outcome ≡ Shown text))
 IsOutcomeOf (options.Refused error) outcome = (outcome ≡ Done (Err program.NoMemory)) ⊎ ((text : String Global) × (outcome ≡ Refused text))
 
--- whether the end has a text for standard output
+-- whether an outcome has a text for standard output
 abbrev pub is_shown : Outcome → Bool
 is_shown (Shown text) = true
 is_shown _ = false
 
--- the status after an outcome, and what standard output and standard error have then: a text is on
--- one of them alone
+-- how the program ends after an outcome: the status, and what standard output and standard error
+-- then have; at most one of them gets a text
 abbrev pub Ends : Outcome → ℕ → Bool → Option (List ℕ) → Option (List ℕ) → Bool → Option (List ℕ) → Option (List ℕ) → Type 0
 Ends (Done done) status output_failed output output' errors_failed errors errors' = EndsAs done status errors_failed errors errors' × (output' ≡ output)
 Ends (Shown text) status output_failed output output' errors_failed errors errors' =

@@ -11,7 +11,7 @@ ghost use Rattle.rd_program.specs.declared.faults.ProgramFault.TheVariants.{Read
 ghost use Rattle.rd_program.specs.Program.{IsUnread};
 ghost use Rattle.rd_command_line.specs.Options.{AreInRange, IsMistake};
 ghost use Rattle.rd_command_line.specs.Outcomes.{IsOutcomeOf, is_shown};
-ghost use Rattle.rd_command_line.specs.Answering.{Answers, DoesOptions, HasOutcome, LoadsFile, Performs, PlaysFile, PlaysNamed, ViewsFiles};
+ghost use Rattle.rd_command_line.specs.Answering.{ComesTo, DoesOptions, HasOutcome, LoadsFile, Performs, PlaysFile, PlaysNamed, ViewsFiles};
 
 use super::command_line::{not_text, options};
 use super::outcomes::Outcome;
@@ -28,8 +28,8 @@ use std::sync::Wait;
 use std::thread::Threads;
 
 /// Does what the words of a command line ask for over the files and the three streams, writes the
-/// messages of the end, and answers its status. Words that could not be taken come to an outcome of
-/// their own.
+/// messages of the end, and returns the exit status. If the words could not be taken from the
+/// system, `words` has the outcome of that.
 pub fn perform<R: Files + Threads + Wait + Sync, S: AsStr + Drop, I: Source, O: Sink, E: Sink>(
     rt: &R,
     alloc: Global,
@@ -49,7 +49,8 @@ pub fn perform<R: Files + Threads + Wait + Sync, S: AsStr + Drop, I: Source, O: 
     outcome.end(output, errors)
 }
 
-/// Does what the words ask for.
+/// Does what the words ask for, and returns the outcome; if they could not be taken, returns the
+/// outcome of that.
 fn outcome_of<R: Files + Threads + Wait + Sync, S: AsStr + Drop, I: Source, O: Sink>(
     rt: &R,
     alloc: Global,
@@ -69,8 +70,8 @@ fn outcome_of<R: Files + Threads + Wait + Sync, S: AsStr + Drop, I: Source, O: S
     }
 }
 
-/// Does what the words of a command line ask for, of which the first is the program's name. It may
-/// wait, in `view`.
+/// Does what the words of a command line ask for, of which the first is the program's name, and
+/// returns the outcome. It may wait, in `view`.
 pub fn answer<R: Files + Threads + Wait + Sync, S: AsStr, I: Source, O: Sink>(
     rt: &R,
     alloc: Global,
@@ -80,7 +81,7 @@ pub fn answer<R: Files + Threads + Wait + Sync, S: AsStr, I: Source, O: Sink>(
 ) -> Outcome
     requires input_works { I.has_failed input.old ≡ false }
     requires output_works { O.has_failed output.old ≡ false }
-    ensures answers { Answers (map S.text words.now)
+    ensures answers { ComesTo (map S.text words.now)
         (devices I.Source O.Sink input.old input.new output.old output.new) result }
     ensures shown { is_shown result ≡ true → O.has_failed output.new ≡ false }
 {
@@ -129,7 +130,8 @@ fn do_options<R: Files + Threads + Wait + Sync, I: Source, O: Sink>(
     }
 }
 
-/// Runs the script on the input if the name is `-`, else the one in the file of this name.
+/// Runs the script on the input if the name is `-`, else that in the file of this name. Returns the
+/// number of its lines.
 fn play_named<R: Files, I: Source, O: Sink>(
     rt: &R,
     alloc: Global,
@@ -150,7 +152,7 @@ fn play_named<R: Files, I: Source, O: Sink>(
     }
 }
 
-/// Runs the script in the file of this name.
+/// Runs the script in the file of this name, and returns the number of its lines.
 fn play_file<R: Files, O: Sink>(
     rt: &R,
     alloc: Global,
@@ -162,12 +164,12 @@ fn play_file<R: Files, O: Sink>(
     requires output_works { O.has_failed output.old ≡ false }
     ensures { PlaysFile (ring_length setup.ring) setup.actors trace (O.contents output.old) (O.contents output.new) (O.has_failed output.new) result }
 {
-    let file = opened(rt, name)?;
+    let file = open_file(rt, name)?;
     play(alloc, &mut ReadSource::new(file), output, setup, trace)
 }
 
-/// Runs the scripts in the files of these names, each by its own viewer. All are read before the
-/// first command.
+/// Runs the scripts in the files of these names, each by its own viewer, and returns the number of
+/// recorded calls. All files are read before the first command.
 fn view_files<R: Files + Threads + Wait + Sync, O: Sink>(
     rt: &R,
     alloc: Global,
@@ -185,7 +187,8 @@ fn view_files<R: Files + Threads + Wait + Sync, O: Sink>(
     view(rt, alloc, scripts.as_slice(), output, setup)
 }
 
-/// The whole texts of the files of these names, in order.
+/// Returns the whole texts of the files of these names, in order; fails if one can't be opened or
+/// read, or if memory is refused.
 fn whole_files<R: Files>(
     rt: &R,
     alloc: Global,
@@ -196,7 +199,7 @@ fn whole_files<R: Files>(
 {
     let mut texts = Vec::new(alloc);
     for name in names {
-        let mut file = opened(rt, name)?;
+        let mut file = open_file(rt, name)?;
         let text = whole_text(alloc, &mut file)?;
         let Ok(()) = texts.push(text) else {
             return Err(ProgramFault::NoMemory);
@@ -205,7 +208,8 @@ fn whole_files<R: Files>(
     Ok(texts)
 }
 
-/// Loads the trace in the file of this name, and runs the script that the input gives over it.
+/// Loads the trace in the file of this name, and runs the script on the input over it. Returns the
+/// number of the script's lines.
 fn load_file<R: Files, I: Source, O: Sink>(
     rt: &R,
     alloc: Global,
@@ -217,13 +221,13 @@ fn load_file<R: Files, I: Source, O: Sink>(
     requires output_works { O.has_failed output.old ≡ false }
     ensures { LoadsFile (devices I.Source O.Sink input.old input.new output.old output.new) result }
 {
-    let mut file = opened(rt, name)?;
+    let mut file = open_file(rt, name)?;
     let text = whole_text(alloc, &mut file)?;
     resume(alloc, text.as_slice(), input, output)
 }
 
-/// The file of this name, opened for reading.
-fn opened<R: Files>(rt: &R, name: &str) -> Result<R::File, ProgramFault>
+/// Returns the file of this name, opened for reading; `Read` if it can't be opened.
+fn open_file<R: Files>(rt: &R, name: &str) -> Result<R::File, ProgramFault>
     ensures { IfErr result (λ fault. fault ≡ Read) }
 {
     match fs::open(rt, name) {
@@ -232,11 +236,11 @@ fn opened<R: Files>(rt: &R, name: &str) -> Result<R::File, ProgramFault>
     }
 }
 
-/// The words of the program's command line.
+/// Returns the words of the program's command line.
 ///
 /// # Errors
 ///
-/// That memory was refused; else `Refused`, since a word is no text.
+/// An outcome that memory was refused, or `Refused` if a word is no text.
 pub fn words_of<R: Env + Alloc<A = Global>>(rt: &R) -> Result<Vec<String>, Outcome>
     ensures err { IfErr result (λ outcome. (reason : OptionsFault) × IsMistake InvalidValue reason × IsOutcomeOf reason outcome) }
 {

@@ -1,15 +1,15 @@
 //! The command line of the program, read by `clap`.
 //!
-//! The contracts speak of the command that `clap` is told as a value of its specification
-//! (`program_app`), and of what `clap` makes of that command and the words: the rows of matches, or
-//! the kinds of fault that it may name.
+//! The contracts are about the command that `clap` is given, as a value of its specification
+//! (`program_app`), and about what `clap` finds for that command and the words: the rows of
+//! matches, or the kinds of fault.
 
 ghost use Rattle.std.specs.Prelude.{◌≡◌, ◌≢◌, ℕ, IfOk, IfErr, IfSome, IsNone, Bool, map, false};
 ghost use Rattle.clap.specs.Words.{app_of, found_of, kind_of, rows_of, rule_of, subcommand_rows_of};
 ghost use Rattle.clap.specs.declared.builder.command.Command.TheViews.{out-Command};
 ghost use Rattle.clap.specs.declared.error.kind.ErrorKind.TheVariants.{InvalidValue};
 ghost use Rattle.rd_command_line.specs.Options.{IsMistake, AreInRange, flag_text};
-ghost use Rattle.rd_command_line.specs.CommandLine.{AreRings, BothNames, IsRings, Tells, TellsWorld, TellsRun, TellsView, TellsLoad, Reads, EndsFor};
+ghost use Rattle.rd_command_line.specs.CommandLine.{AreRings, BothNames, IsRings, GivesSubcommand, GivesWorld, GivesRun, GivesView, GivesLoad, GivesOptions, EndsFor};
 ghost use Rattle.rd_command_line.specs.CommandLine.{file_rule, files_rule, actors_rule, ring_rule, trace_rule, run_over_app, run_app, view_app, load_app, program_app};
 
 use super::requests::{Options, OptionsFault, ring_of};
@@ -26,8 +26,8 @@ const VERSION: &str = "0.1.0";
 /// The numbers of cells that a ring may have, as the command line spells them.
 static RINGS: [&str; 3] = ["2", "4", "8"];
 
-/// What the help of `run` and `load` ends with: the lines of a script in six rows, and where the
-/// manual is.
+/// The end of the help of `run` and `load`: the lines of a script in six rows, and where the manual
+/// is.
 const LINES: &str = "Lines of a script:\n  \
     calls      enq A X, deq A, aenq A X, adeq A\n  \
     steps      go A, starve A yes, starve A no\n  \
@@ -37,9 +37,10 @@ const LINES: &str = "Lines of a script:\n  \
     places     qhead, qtail, head M.S, tail M.S, next M.S, cell M.S I, value M.S I, index M.S I, whole M.S, ahead, atail, acell I\n\n\
     The manual is docs/MANUAL.md in the repository of lcrqdb";
 
-/// Reads the words of a command line, of which the first is the program's name.
+/// Reads the words of a command line, of which the first is the program's name, and returns its
+/// options, or why it gives none.
 pub fn options<'a, S: AsStr>(alloc: Global, words: &'a [S]) -> Result<Options<'a>, OptionsFault>
-    ensures ok { IfOk result (Reads (map S.text words.entry.now)) }
+    ensures ok { IfOk result (GivesOptions (map S.text words.entry.now)) }
     ensures err { IfErr result (EndsFor (map S.text words.entry.now)) }
     ensures actors { IfOk result AreInRange }
 {
@@ -55,7 +56,7 @@ pub fn options<'a, S: AsStr>(alloc: Global, words: &'a [S]) -> Result<Options<'a
     Ok(options)
 }
 
-/// The fault of a command line of which a word is no text.
+/// Returns the fault of a command line in which a word is no text.
 pub fn not_text(alloc: Global) -> OptionsFault
     ensures { IsMistake InvalidValue result }
 {
@@ -65,7 +66,7 @@ pub fn not_text(alloc: Global) -> OptionsFault
     }
 }
 
-/// The text of `clap` on a word that is no text.
+/// Returns the error of `clap` for a word that is no text.
 fn mistake_in_text(alloc: Global) -> Result<Error, AllocError>
     ensures { IfOk result (λ error. kind_of error ≡ InvalidValue) }
 {
@@ -76,13 +77,13 @@ fn mistake_in_text(alloc: Global) -> Result<Error, AllocError>
     )
 }
 
-/// The options from the matches of the whole command.
+/// Returns the options from the matches of the whole command, or why it gives none.
 fn options_from<'a>(
     alloc: Global,
     matches: &ArgMatches<'a>,
 ) -> Result<Option<Options<'a>>, AllocError>
-    ensures some { IfOk result (λ asked. IfSome asked (Tells (subcommand_rows_of matches.now))) }
-    ensures none { IfOk result (λ asked. IsNone asked → (o : Options) → Tells (subcommand_rows_of matches.now) o → ⊥) }
+    ensures some { IfOk result (λ asked. IfSome asked (GivesSubcommand (subcommand_rows_of matches.now))) }
+    ensures none { IfOk result (λ asked. IsNone asked → (o : Options) → GivesSubcommand (subcommand_rows_of matches.now) o → ⊥) }
 {
     if let Some(run) = matches.subcommand_matches("run") {
         return Ok(run_from(run));
@@ -96,10 +97,11 @@ fn options_from<'a>(
     }
 }
 
-/// The options from the matches of `run`.
+/// Returns the options from the matches of `run`, or none if a value is missing or not one that the
+/// program takes.
 fn run_from<'a>(run: &ArgMatches<'a>) -> Option<Options<'a>>
-    ensures some { IfSome result (TellsRun (rows_of (found_of run.now))) }
-    ensures none { IsNone result → (o : Options) → TellsRun (rows_of (found_of run.now)) o → ⊥ }
+    ensures some { IfSome result (GivesRun (rows_of (found_of run.now))) }
+    ensures none { IsNone result → (o : Options) → GivesRun (rows_of (found_of run.now)) o → ⊥ }
 {
     let file = run.get_str("file")?;
     let (actors, ring) = world_from(run)?;
@@ -112,10 +114,11 @@ fn run_from<'a>(run: &ArgMatches<'a>) -> Option<Options<'a>>
     })
 }
 
-/// The options from the matches of `view`.
+/// Returns the options from the matches of `view`, or none if a value is missing or not one that
+/// the program takes. Fails only if memory is refused.
 fn view_from<'a>(alloc: Global, view: &ArgMatches<'a>) -> Result<Option<Options<'a>>, AllocError>
-    ensures some { IfOk result (λ asked. IfSome asked (TellsView (rows_of (found_of view.now)))) }
-    ensures none { IfOk result (λ asked. IsNone asked → (o : Options) → TellsView (rows_of (found_of view.now)) o → ⊥) }
+    ensures some { IfOk result (λ asked. IfSome asked (GivesView (rows_of (found_of view.now)))) }
+    ensures none { IfOk result (λ asked. IsNone asked → (o : Options) → GivesView (rows_of (found_of view.now)) o → ⊥) }
 {
     let Some(files) = view.get_strs("files") else {
         return Ok(None);
@@ -134,10 +137,11 @@ fn view_from<'a>(alloc: Global, view: &ArgMatches<'a>) -> Result<Option<Options<
     }))
 }
 
-/// The actors and the ring from matches.
+/// Returns the number of actors and the ring from matches, or none if a value is missing or not one
+/// that the program takes.
 fn world_from<'a>(matches: &ArgMatches<'a>) -> Option<(u8, Ring)>
-    ensures some { IfSome result (λ world. TellsWorld (rows_of (found_of matches.now)) world.0 world.1) }
-    ensures none { IsNone result → (actors : ℕ) (ring : Ring) → TellsWorld (rows_of (found_of matches.now)) actors ring → ⊥ }
+    ensures some { IfSome result (λ world. GivesWorld (rows_of (found_of matches.now)) world.0 world.1) }
+    ensures none { IsNone result → (actors : ℕ) (ring : Ring) → GivesWorld (rows_of (found_of matches.now)) actors ring → ⊥ }
 {
     let actors = matches.get_one::<u8>("actors")?;
     let ring = ring_of(matches.get_str("ring")?)?;
@@ -148,16 +152,16 @@ fn world_from<'a>(matches: &ArgMatches<'a>) -> Option<(u8, Ring)>
     }
 }
 
-/// The options from the matches of `load`.
+/// Returns the options from the matches of `load`, or none if the file is missing.
 fn load_from<'a>(load: &ArgMatches<'a>) -> Option<Options<'a>>
-    ensures some { IfSome result (TellsLoad (rows_of (found_of load.now))) }
-    ensures none { IsNone result → (o : Options) → TellsLoad (rows_of (found_of load.now)) o → ⊥ }
+    ensures some { IfSome result (GivesLoad (rows_of (found_of load.now))) }
+    ensures none { IsNone result → (o : Options) → GivesLoad (rows_of (found_of load.now)) o → ⊥ }
 {
     let file = load.get_str("file")?;
     Some(Options::Load { file })
 }
 
-/// The choice that the text of a flag spells.
+/// Returns the choice that the text of a flag spells, or none if it spells none.
 fn choice_of(text: &str) -> Option<bool>
     ensures some { IfSome result (λ choice. text.now ≡ flag_text choice) }
     ensures none { IsNone result → (choice : Bool) → text.now ≢ flag_text choice }
@@ -169,7 +173,7 @@ fn choice_of(text: &str) -> Option<bool>
     }
 }
 
-/// The program's command, with its subcommands.
+/// Returns the program's command for `clap`, with its subcommands. Fails only if memory is refused.
 fn program<'a>(alloc: Global) -> Result<Command<'a>, AllocError>
     ensures { IfOk result (λ c. (names : BothNames) × AreRings names × (app_of c ≡ program_app names)) }
 {
@@ -182,7 +186,7 @@ fn program<'a>(alloc: Global) -> Result<Command<'a>, AllocError>
         .subcommand(load(alloc)?)
 }
 
-/// The subcommand `run`.
+/// Returns the subcommand `run` for `clap`, with `--trace`. Fails only if memory is refused.
 fn run<'a>(alloc: Global) -> Result<Command<'a>, AllocError>
     ensures app { IfOk result (λ c. (names : _) × IsRings names × (app_of c ≡ run_app names)) }
     ensures local { IfOk result (λ c. (out-Command c).has_globals ≡ false) }
@@ -190,7 +194,7 @@ fn run<'a>(alloc: Global) -> Result<Command<'a>, AllocError>
     run_over(alloc)?.arg(trace(alloc))
 }
 
-/// The subcommand `run` but for `--trace`.
+/// Returns the subcommand `run` for `clap`, except `--trace`. Fails only if memory is refused.
 fn run_over<'a>(alloc: Global) -> Result<Command<'a>, AllocError>
     ensures app { IfOk result (λ c. (names : _) × IsRings names × (app_of c ≡ run_over_app names)) }
     ensures local { IfOk result (λ c. (out-Command c).has_globals ≡ false) }
@@ -203,7 +207,7 @@ fn run_over<'a>(alloc: Global) -> Result<Command<'a>, AllocError>
         .arg(ring(alloc))
 }
 
-/// The subcommand `view`.
+/// Returns the subcommand `view` for `clap`. Fails only if memory is refused.
 fn view<'a>(alloc: Global) -> Result<Command<'a>, AllocError>
     ensures app { IfOk result (λ c. (names : _) × IsRings names × (app_of c ≡ view_app names)) }
     ensures local { IfOk result (λ c. (out-Command c).has_globals ≡ false) }
@@ -215,7 +219,7 @@ fn view<'a>(alloc: Global) -> Result<Command<'a>, AllocError>
         .arg(ring(alloc))
 }
 
-/// The subcommand `load`.
+/// Returns the subcommand `load` for `clap`. Fails only if memory is refused.
 fn load<'a>(alloc: Global) -> Result<Command<'a>, AllocError>
     ensures app { IfOk result (λ c. app_of c ≡ load_app) }
     ensures local { IfOk result (λ c. (out-Command c).has_globals ≡ false) }
@@ -226,14 +230,14 @@ fn load<'a>(alloc: Global) -> Result<Command<'a>, AllocError>
         .arg(file(alloc, "TRACE").help("A trace, as run --trace writes it"))
 }
 
-/// The argument that names a file.
+/// Returns the argument that names a file.
 fn file<'a>(alloc: Global, name: &'a str) -> Arg<'a>
     ensures { (rule_of result ≡ file_rule) × (result.global ≡ false) }
 {
     Arg::new(alloc, "file").value_name(name).required(true)
 }
 
-/// The argument that names the files of the viewers.
+/// Returns the argument that names the files of the viewers.
 fn files<'a>(alloc: Global) -> Arg<'a>
     ensures { (rule_of result ≡ files_rule) × (result.global ≡ false) }
 {

@@ -1,4 +1,4 @@
-//! What a command line comes to, and how the program ends then.
+//! The outcome of a command line, and how the program ends after it.
 
 ghost use Rattle.std.specs.Prelude.{◌≡◌, false, true};
 ghost use Rattle.std.specs.Process.{exit_status};
@@ -7,29 +7,29 @@ ghost use Rattle.rd_command_line.specs.Outcomes.{Ends, IsOutcomeOf, is_shown};
 
 use super::requests::OptionsFault;
 use rd_program::ProgramFault;
-use rd_script::{Sink, hand_over};
+use rd_script::{Sink, write_all};
 use std::alloc::Global;
 use std::process::ExitCode;
 
-/// The text on a command line with more files than there may be viewers.
+/// The message for a command line with more files than there may be viewers.
 const TOO_MANY_FILES: &str = "lcrqdb: 1 to 64 files\n";
 
-/// What a command line comes to.
+/// The outcome of a command line.
 #[derive(Debug, Drop)]
 pub enum Outcome {
-    /// What it asks for was done: the number of the script's lines, or for `view` that of the
-    /// recorded calls. Or it was not all done.
+    /// What the command line asks for was done, with the number of the script's lines, or for
+    /// `view` that of the recorded calls; or it was not all done, and why.
     Done(Result<u64, ProgramFault>),
-    /// It asks for help or for the version: the text of it.
+    /// The command line asks for help or for the version; this is the text.
     Shown(String),
-    /// It is not one that the program takes: the text on the mistake.
+    /// The command line is not one that the program takes; this is the message on the mistake.
     Refused(String),
-    /// It names more files than there may be viewers.
+    /// The command line names more files than there may be viewers.
     TooManyFiles,
 }
 
 impl Outcome {
-    /// What a command line comes to that gives no options.
+    /// Returns the outcome of a command line that gives no options for this reason.
     pub fn of(alloc: Global, fault: OptionsFault) -> Outcome
         ensures { IsOutcomeOf fault result }
     {
@@ -47,8 +47,8 @@ impl Outcome {
         }
     }
 
-    /// Ends the program: writes what is to be written for the outcome, and answers the status,
-    /// which a stream that fails leaves. A stream for which there is nothing is not called.
+    /// Ends the program: writes what is to be written for the outcome, and returns the exit status,
+    /// which is the same if a stream fails. A stream for which there is nothing is not called.
     pub fn end<O: Sink, E: Sink>(&self, output: &mut O, errors: &mut E) -> ExitCode
         requires output_works { is_shown self.now ≡ true → O.has_failed output.old ≡ false }
         requires errors_work { E.has_failed errors.old ≡ false }
@@ -74,10 +74,10 @@ impl Outcome {
     }
 }
 
-/// Writes a text to a stream, as far as it takes it.
+/// Writes a text to a stream, as far as the stream takes it.
 fn show<K: Sink>(stream: &mut K, text: &str)
     requires { K.has_failed stream.old ≡ false }
     ensures { Takes (K.has_failed stream.new) (K.contents stream.old) (K.contents stream.new) text.now }
 {
-    let _ = hand_over(stream, text.as_bytes());
+    let _ = write_all(stream, text.as_bytes());
 }

@@ -10,7 +10,7 @@ use rd_desk::MOST_VIEWERS;
 use rd_trace::Ring;
 use std::alloc::AllocError;
 
-/// The ring that a text of the command line spells.
+/// Returns the ring that a text of the command line spells, or none if it spells none.
 pub fn ring_of(text: &str) -> Option<Ring>
     ensures some { IfSome result (λ ring. text.now ≡ ring_text ring) }
     ensures none { IsNone result → (ring : Ring) → text.now ≢ ring_text ring }
@@ -69,19 +69,20 @@ impl<'a> Options<'a> {
 /// Why the command line gives no options.
 #[derive(Debug, Drop)]
 pub enum OptionsFault {
-    /// It asks for help or for the version: the text of `clap`.
+    /// The command line asks for help or for the version; with the text of `clap`.
     Shown(Error),
-    /// It is not one that the program takes: the text of `clap` on the mistake.
+    /// The command line is not one that the program takes; with the text of `clap` on the mistake.
     Refused(Error),
-    /// It names more files than there may be viewers.
+    /// The command line names more files than there may be viewers.
     TooManyFiles,
-    /// There was no memory to read it.
+    /// Memory to read the command line was refused.
     NoMemory,
 }
 
 impl From<Error> for OptionsFault {
     ghost from_gives = { λ error fault. fault ≡ options_fault error };
 
+    /// Returns the reason why the command line gives no options, by the error of `clap`.
     fn from(error: Error) -> OptionsFault {
         match error.kind() {
             ErrorKind::DisplayHelp | ErrorKind::DisplayVersion => OptionsFault::Shown(error),
@@ -94,6 +95,7 @@ impl From<Error> for OptionsFault {
 impl From<AllocError> for OptionsFault {
     ghost from_gives = { λ _ fault. fault ≡ NoMemory };
 
+    /// Memory that was refused is the reason `NoMemory`.
     fn from(_error: AllocError) -> OptionsFault {
         OptionsFault::NoMemory
     }

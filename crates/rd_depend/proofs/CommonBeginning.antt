@@ -2,7 +2,7 @@
 use Rattle.std.proofs.Common.{◌≡◌, ℕ, zero, suc, ◌<◌, ◌≤◌, arith, List, [], ◌∷◌, length, get_or, take, drop, ◌-◌, length-take}
 use Rattle.rd_step.specs.declared.entries.Entry.{Entry}
 use Rattle.rd_step.specs.Run.{events}
-use Rattle.rd_depend.specs.Beginnings.{Begins, IsBegunByNeither}
+use Rattle.rd_depend.specs.Beginnings.{Begins, NeitherIsPrefix}
 
 -- a list that begins another is no longer than it
 pub begins_within : (a b : List Entry) → Begins (events a) (events b) → length a ≤ length b
@@ -20,7 +20,7 @@ differ_there (x ∷ xs) (y ∷ ys) (suc n) c d within_a within_b other h = diffe
 
 -- where both lists go on after what they have in common at most, neither begins the other
 pub neither_begins : (a b : List Entry) (n : ℕ) → (Begins (events a) (events b) → n ≡ length a) → (Begins (events b) (events a) → n ≡ length b)
-    → 1 ≤ length (take (length a - n) (drop n a)) → 1 ≤ length (take (length b - n) (drop n b)) → IsBegunByNeither (events a) (events b)
+    → 1 ≤ length (take (length a - n) (drop n a)) → 1 ≤ length (take (length b - n) (drop n b)) → NeitherIsPrefix (events a) (events b)
 neither_begins a b n first second more_a more_b = (
   λ h. omega (arith, first h, length-take (length a - n) (drop n a)),
   λ h. omega (arith, second h, length-take (length b - n) (drop n b)),

@@ -7,7 +7,7 @@ use Rattle.rd_step.specs.declared.entries.Entry.{Entry}
 use Rattle.rd_depend.specs.declared.index.keys.Key.{Key}
 use Rattle.rd_depend.specs.declared.last_writers.Reached.{Reached}
 use Rattle.rd_depend.specs.Equivalence.{DecidesEquivalence}
-use Rattle.rd_depend.specs.LastWriters.{Placed, enumerated, by_actor, nothing_reached, moved, with_steps, KeepsOrder}
+use Rattle.rd_depend.specs.LastWriters.{Placed, by_actor, nothing_reached, moved, with_steps, KeepsOrder, enumerated}
 use Rattle.rd_depend.specs.ComparedSteps.{GoesOn, StandsElsewhere}
 use Rattle.rd_depend.proofs.KeepingOrder.{kept_taken, taken_kept}
 use Rattle.rd_depend.proofs.RunsAgree.{taken_equivalent, untaken_different}

@@ -12,7 +12,8 @@ use Rattle.rd_cell.specs.Places.{is_name, is_of, is_of_cell, is_place, segment_o
 use Rattle.rd_cell.proofs.PlaceLemmas.{is_name-true, is_name-refl, is_place-true, is_place-refl, is_of-name, is_of_cell-of, Covering, itself, as_cell, as_whole, covers_cases, covers_at}
 use Rattle.rd_step.specs.declared.entries.Entry.{Entry}
 use Rattle.rd_step.specs.Prelude.{Wrote, WroteNothing, WrotePlace, WroteIndex}
-use Rattle.rd_step.specs.Dependence.{first_from, first_after, first_dependant, numbered, depends, depends_on_one}
+use Rattle.rd_step.specs.Dependence.{first_from, first_after, first_dependant, depends, depends_on_one}
+use Rattle.rd_step.specs.Lists.{numbered}
 use Rattle.rd_step.proofs.Symmetry.{symmetric}
 use Rattle.rd_depend.specs.declared.index.DependIndex.{DependIndex}
 use Rattle.rd_depend.specs.declared.index.keys.Key.{Key}

@@ -7,7 +7,7 @@ use Rattle.rd_step.specs.declared.entries.Entry.{Entry}
 use Rattle.rd_depend.specs.declared.index.keys.Key.{Key}
 use Rattle.rd_depend.specs.declared.last_writers.Reached.{Reached}
 use Rattle.rd_depend.specs.Keys.{is_under}
-use Rattle.rd_depend.specs.LastWriters.{wrote_under, bound, passed, nothing_reached, moved, IsInOrder, AreAlike, Placed, enumerated, by_actor, with_steps, KeepsOrder}
+use Rattle.rd_depend.specs.LastWriters.{wrote_under, bound, passed, nothing_reached, moved, IsInOrder, AreAlike, Placed, by_actor, with_steps, KeepsOrder, enumerated}
 use Rattle.rd_depend.proofs.FirstOfActor.{HasNoneBy}
 use Rattle.rd_depend.proofs.TouchedKeys.{wrote_touched}
 use Rattle.rd_depend.proofs.TakingOut.{alike-sym, touched-alike, wrote-alike, AreApart, IsApartFrom, TakesAll}

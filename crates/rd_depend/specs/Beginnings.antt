@@ -6,5 +6,5 @@ abbrev pub Begins : {X : Type 0} → List X → List X → Type 0
 Begins xs ys = take (length xs) ys ≡ xs
 
 -- neither list begins with the other one
-abbrev pub IsBegunByNeither : {X : Type 0} → List X → List X → Type 0
-IsBegunByNeither xs ys = (Begins xs ys → ⊥) × (Begins ys xs → ⊥)
+abbrev pub NeitherIsPrefix : {X : Type 0} → List X → List X → Type 0
+NeitherIsPrefix xs ys = (Begins xs ys → ⊥) × (Begins ys xs → ⊥)

@@ -10,8 +10,8 @@ use Rattle.rd_depend.specs.Keys.{place_key, value_key, segment_key}
 use Rattle.rd_depend.specs.Lists.{spare_at, one_if, up_to, IsAscending, IsMoved}
 use Rattle.rd_depend.specs.Tables.{AreReady}
 
--- the list is as before where the entry is not to be kept, and has one more position at its end
--- where it is
+-- the index got this entry: each list that is to keep it has one more position at its end, and each
+-- other list is as before
 pub record Adds (x : Entry) (old new : DependIndex) : Type 0 where
   pub lists : (t : Touch) → kept new t ≡ (if touches t x then kept old t ++ (old.len + 1) ∷ [] else kept old t)
   pub room : (t : Touch) → spare old t ≤ spare new t + one_if (touches t x)
@@ -23,7 +23,7 @@ pub record Keeps (old new : DependIndex) : Type 0 where
   pub room : (t : Touch) → spare old t ≤ spare new t
   pub len : new.len ≡ old.len
 
--- the keys under which an entry is kept
+-- the keys under which an entry is kept, each with whether it is kept there as a write
 abbrev pub homes_of : Entry → Homes
 homes_of x = record {
   place = record { key = place_key x.place; wrote = not (is_nothing x.wrote) };
@@ -31,20 +31,22 @@ homes_of x = record {
   segment = record { key = segment_key x.place; wrote = not (is_nothing x.wrote) };
 }
 
--- there is room for the entry's position wherever it is to be kept, and the keys have these indices
+-- there is room for the entry's position in each list that is to keep it, and its keys have these
+-- indices
 pub record IsReadyFor (index : DependIndex) (x : Entry) (homes : Homes) (slots : Slots) : Type 0 where
   pub actor : 0 < spare_at index.by_actor.items x.event.actor
   pub place : AreReady index.by_key homes.place.key homes.place.wrote slots.place
   pub value : AreReady index.by_key homes.value.key homes.value.wrote slots.value
   pub segment : AreReady index.by_key homes.segment.key homes.segment.wrote slots.segment
 
--- the list is as before where the entry is not kept, and lost its last position where it is
+-- the index lost its last entry, this one: each list that kept it lost its last position, and each
+-- other list is as before
 pub record Drops (x : Entry) (old new : DependIndex) : Type 0 where
   pub lists : (t : Touch) → kept new t ≡ (if touches t x then take (length (kept old t) - 1) (kept old t) else kept old t)
   pub room : (t : Touch) → spare new t ≡ spare old t + one_if (touches t x)
   pub len : new.len + 1 ≡ old.len
 
--- in each list position k, if it was there, is after those up to n, and these are one less
+-- in each list, position k, if it was there, was moved after those up to n, and these are one less
 pub record MovesAll (k n : ℕ) (old new : DependIndex) : Type 0 where
   pub lists : (t : Touch) → IsMoved k n (kept old t) (kept new t)
   pub capacity_stays : (t : Touch) → capacity new t ≡ capacity old t
@@ -55,7 +57,7 @@ pub record EndsWith (index : DependIndex) (last : List Entry) : Type 0 where
   pub before : List Entry
   pub is : IsIndexOf index (before ++ last)
 
--- the positions above n are gone from each list
+-- each list lost its positions above n
 pub record CutsAll (n : ℕ) (old new : DependIndex) : Type 0 where
   pub lists : (t : Touch) → IsAscending (kept old t) → kept new t ≡ up_to n (kept old t)
   pub capacity_stays : (t : Touch) → capacity new t ≡ capacity old t

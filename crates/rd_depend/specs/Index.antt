@@ -3,15 +3,15 @@
 use Rattle.std.specs.Prelude.{◌≡◌, ℕ, ◌+◌, ◌≤◌, Bool, true, false, ◌==◌, if◌then◌else◌, List, [], ◌∷◌, ◌++◌, length, Option, Some}
 use Rattle.rd_step.specs.Prelude.{Place, Wrote, WrotePlace, written}
 use Rattle.rd_step.specs.declared.entries.Entry.{Entry}
-use Rattle.rd_step.specs.Dependence.{numbered}
+use Rattle.rd_step.specs.Lists.{numbered}
 use Rattle.rd_depend.specs.declared.index.DependIndex.{DependIndex}
 use Rattle.rd_depend.specs.declared.index.keys.Key.{Key}
 use Rattle.rd_depend.specs.Keys.{is_under}
 use Rattle.rd_depend.specs.Lists.{list_at, capacity_at, one_if, spare_at}
 use Rattle.rd_depend.specs.Tables.{kept_in, capacity_in, spare_in}
 
--- what a list of positions is kept for: an actor, or a place or a segment, of all steps that
--- touched it or of those that wrote it
+-- what a list of positions is kept for: the steps of an actor, or those at a place or a segment,
+-- either all that touched it or only those that wrote it
 pub data Touch : Type 0 where
   By : ℕ → Touch
   Under : Bool → Key → Touch
@@ -21,7 +21,7 @@ abbrev pub reached : Bool → Entry → Option Place
 reached false x = x.place
 reached true x = written x.place x.wrote
 
--- whether an entry is to be kept there
+-- whether an entry is to be kept in the list for this
 abbrev pub touches : Touch → Entry → Bool
 touches (By a) x = a == x.event.actor
 touches (Under w k) x = is_under k (reached w x)
@@ -31,7 +31,7 @@ abbrev pub is_value_written : Wrote → Bool
 is_value_written WrotePlace = true
 is_value_written _ = false
 
--- the positions of the entries that pass the test, the first entry being at n
+-- the positions of the entries that pass the test, where the first entry is at position n
 abbrev pub positions_from : (Entry → Bool) → ℕ → List Entry → List ℕ
 positions_from test n [] = []
 positions_from test n (x ∷ xs) = if test x then n ∷ positions_from test (n + 1) xs else positions_from test (n + 1) xs
@@ -45,23 +45,23 @@ abbrev pub number_of : (Entry → Bool) → List Entry → ℕ
 number_of test [] = 0
 number_of test (x ∷ xs) = one_if (test x) + number_of test xs
 
--- the positions that the index keeps there
+-- the positions that the index keeps in the list for this
 abbrev pub kept : DependIndex → Touch → List ℕ
 kept index (By a) = list_at index.by_actor.items a
 kept index (Under w k) = kept_in index.by_key w k
 
--- how many more it has room for there
+-- how many more positions the index has room for in the list for this
 abbrev pub spare : DependIndex → Touch → ℕ
 spare index (By a) = spare_at index.by_actor.items a
 spare index (Under w k) = spare_in index.by_key w k
 
--- the index is that of these entries: it keeps just the positions of those that are to be kept at
--- each list
+-- the index is that of these entries: each list has just the positions of those entries that it is
+-- to keep
 pub record IsIndexOf (index : DependIndex) (entries : List Entry) : Type 0 where
   pub lists : (t : Touch) → kept index t ≡ positions (touches t) entries
   pub len : index.len ≡ length entries
 
--- in each list there is room for the positions of these entries
+-- each list has room for the positions of those of these entries that it is to keep
 pub record HasRoomFor (index : DependIndex) (entries : List Entry) : Type 0 where
   pub lists : (t : Touch) → number_of (touches t) entries ≤ spare index t
 
@@ -81,7 +81,7 @@ pub record IsIndex (index : DependIndex) : Type 0 where
   pub entries : List Entry
   pub is : IsIndexOf index entries
 
--- how many positions it can have there before it has to grow
+-- how many positions the list for this can have before it has to grow
 abbrev pub capacity : DependIndex → Touch → ℕ
 capacity index (By a) = capacity_at index.by_actor.items a
 capacity index (Under w k) = capacity_in index.by_key w k

@@ -8,7 +8,7 @@ use Rattle.rd_depend.specs.declared.index.keys.Key.{Key}
 use Rattle.rd_depend.specs.declared.index.keys.Key.TheVariants.{At, In}
 use Rattle.rd_depend.specs.Keys.{is_key, key_number}
 
--- the test answers true for one key alone
+-- the test of equality holds only of equal keys
 pub is_key-true : (k q : Key) → is_key k q ≡ true → k ≡ q
 is_key-true (At p) (At r) h = ap At (is_place-true p r h)
 is_key-true (In s) (In t) h = ap In (is_name-true s t h)
@@ -19,7 +19,7 @@ pub is_key-refl : (k : Key) → is_key k k ≡ true
 is_key-refl (At p) = is_place-refl p
 is_key-refl (In s) = is_name-refl s
 
--- the same either way round
+-- the test of equality is symmetric
 pub is_key-sym : (k q : Key) → is_key k q ≡ is_key q k
 is_key-sym k q = both_ways (is_key k q) (is_key q k)
     (λ h. subst (λ (x : Key). is_key x k ≡ true) (is_key-true k q h) (is_key-refl k))

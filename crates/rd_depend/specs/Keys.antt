@@ -15,24 +15,24 @@ is_key (At p) (At q) = is_place p q
 is_key (In s) (In t) = is_name s t
 is_key _ _ = false
 
--- whether a key, if there is one, is equal to the first
+-- whether the second key, if there is one, is equal to the first
 abbrev pub is_that : Key → Option Key → Bool
 is_that q None = false
 is_that q (Some k) = is_key q k
 
--- whether a place is kept under the key of another: it is that place, or the cell of which that is
--- a half
+-- whether a step at place q is kept under the key of place p: the two are equal, or q is the cell
+-- of which p is a half
 abbrev pub is_kept_at : Place → Place → Bool
 is_kept_at p (Cell s i) = is_place p (Idx s i) || is_place p (Val s i)
 is_kept_at p q = is_place p q
 
--- whether a place, if there is one, is kept under the key
+-- whether a step at this place, if it has one, is kept under the key
 abbrev pub is_under : Key → Option Place → Bool
 is_under k None = false
 is_under (At p) (Some q) = is_kept_at p q
 is_under (In s) (Some q) = is_of s q
 
--- the same of a key that may be there
+-- whether a step at this place, if it has one, is kept under this key, if there is one
 abbrev pub is_under_some : Option Key → Option Place → Bool
 is_under_some None o = false
 is_under_some (Some k) o = is_under k o
@@ -42,17 +42,17 @@ abbrev pub place_key : Option Place → Option Key
 place_key None = None
 place_key (Some p) = Some (At (index_half p))
 
--- the key of a cell's value half
+-- the key of the value half of this place, if that is a cell
 abbrev pub value_of_place : Place → Option Key
 value_of_place (Cell s i) = Some (At (Val s i))
 value_of_place _ = None
 
--- the same of a place, if there is one
+-- the key of the value half of this place, if there is a place and it is a cell
 abbrev pub value_key : Option Place → Option Key
 value_key None = None
 value_key (Some p) = value_of_place p
 
--- the key of the segment that a place is one of, or the whole of
+-- the key of the segment to which a place belongs, or of which it is the whole
 abbrev pub segment_of_place : Place → Option Key
 segment_of_place (Head s) = Some (In s)
 segment_of_place (Tail s) = Some (In s)
@@ -63,13 +63,13 @@ segment_of_place (Idx s i) = Some (In s)
 segment_of_place (Whole s) = Some (In s)
 segment_of_place _ = None
 
--- the same of a place, if there is one
+-- the key of the segment to which a place belongs, or of which it is the whole, if there is one
 abbrev pub segment_key : Option Place → Option Key
 segment_key None = None
 segment_key (Some p) = segment_of_place p
 
--- the key of the places that a place names, but for the value half of a cell: of the whole of a
--- segment the segment's
+-- the key of all places that a place names, except the value half of a cell: for the whole of a
+-- segment the segment's, else the place's
 abbrev pub own_key : Place → Key
 own_key (Whole s) = In s
 own_key p = At (index_half p)
@@ -83,11 +83,11 @@ abbrev pub slot_in : List Key → Key → Option ℕ
 slot_in [] k = None
 slot_in (q ∷ qs) k = if is_key k q then Some 0 else option_map (λ i. suc i) (slot_in qs k)
 
--- a number for a part of a segment
+-- a number for a part of a segment: its kind, the segment's name and an index
 abbrev pub packed : ℕ → SegName → ℕ → ℕ
 packed part s i = ((part * 256 + i) * 256 + s.maker) * 4294967296 + s.n
 
--- the number that the key of a place is hashed as
+-- the number as which the key of a place is hashed
 abbrev pub place_number : Place → ℕ
 place_number QHead = 0
 place_number QTail = 1
@@ -102,7 +102,7 @@ place_number (ArrCell i) = packed 9 root i
 place_number (Val s i) = packed 11 s i
 place_number (Idx s i) = packed 12 s i
 
--- the number that a key is hashed as
+-- the number as which a key is hashed
 abbrev pub key_number : Key → ℕ
 key_number (At p) = place_number p
 key_number (In s) = packed 10 s 0

@@ -17,9 +17,9 @@ abbrev pub is_whole_of : SegName → Option Place → Bool
 is_whole_of s (Some (Whole t)) = is_name s t
 is_whole_of s _ = false
 
--- whether a step at this place that wrote this wrote under the key: a place by a write of it, a
--- segment by its making. So a making is a write of its segment, and each step at a place of the
--- segment a read of it
+-- whether a step at this place that wrote this counts as a write under the key: of a place if it
+-- wrote that, of a segment if it made that; so each other step at a place of the segment counts as
+-- a read of it
 abbrev pub wrote_under : Key → Option Place → Wrote → Bool
 wrote_under (At p) place wrote = is_under (At p) (written place wrote)
 wrote_under (In s) place wrote = is_whole_of s place
@@ -29,33 +29,35 @@ abbrev pub is_making : Option Place → Bool
 is_making (Some (Whole t)) = true
 is_making _ = false
 
--- the last place that a step under a key has to be after: of those that touched it if the step
--- writes, else of those that wrote it
+-- the last position after which a step under a key has to be: that of the steps that touched it if
+-- this one writes, else that of the steps that wrote it
 abbrev pub bound : Reached → Bool → ℕ
 bound r wrote = if wrote then r.touched else r.wrote
 
--- after a step at this place
+-- how far the steps reached under a key after one more, at position i of the other run
 abbrev pub passed : Reached → Bool → ℕ → Reached
 passed r wrote i = record { touched = max r.touched i; wrote = if wrote then max r.wrote i else r.wrote }
 
--- no step yet, under any key
+-- how far the steps reached under each key before the first step: nowhere
 abbrev pub nothing_reached : Key → Reached
 nothing_reached k = record { touched = 0; wrote = 0 }
 
--- after a step at this place, under all keys
+-- how far the steps reached under each key after one more, at position i of the other run
 abbrev pub moved : (Key → Reached) → Entry → ℕ → Key → Reached
 moved s x i k = if is_under k x.place then passed (s k) (wrote_under k x.place x.wrote) i else s k
 
--- a step at this place is after those before it on which it depends
+-- in the other run the step is, at position i, after all earlier ones on which it depends
 abbrev pub IsInOrder : (Key → Reached) → Entry → ℕ → Type 0
 IsInOrder s x i = (k : Key) → is_under k x.place ≡ true → bound (s k) (wrote_under k x.place x.wrote) < i
 
--- the same of one key, if there is one
+-- position i is after all earlier steps under this key, if there is one, on which such a step
+-- depends
 abbrev pub IsBehind : (Key → Reached) → Option Key → Bool → ℕ → Type 0
 IsBehind s None wrote i = Unit {0}
 IsBehind s (Some k) wrote i = bound (s k) wrote < i
 
--- after a step at this place, under all keys, if it is under this one alone
+-- how far the steps reached under each key after one more, at position i of the other run, that is
+-- under this key alone
 abbrev pub moved_under : Option Key → Bool → ℕ → (Key → Reached) → Key → Reached
 moved_under key wrote i s k = if is_that k key then passed (s k) wrote i else s k
 
@@ -74,12 +76,12 @@ abbrev pub enumerated : ℕ → List Entry → List Placed
 enumerated i [] = []
 enumerated i (x ∷ xs) = (i, x) ∷ enumerated (suc i) xs
 
--- those of one actor
+-- those of the numbered steps that this actor made
 abbrev pub by_actor : ℕ → List Placed → List Placed
 by_actor n [] = []
 by_actor n (p ∷ ps) = if n == p.1.event.actor then p ∷ by_actor n ps else by_actor n ps
 
--- the steps of each actor, with these as those of this one
+-- the steps of each actor, where this actor has these now
 abbrev pub with_steps : (ℕ → List Placed) → ℕ → List Placed → ℕ → List Placed
 with_steps left n rest m = if m == n then rest else left m
 
@@ -87,14 +89,15 @@ with_steps left n rest m = if m == n then rest else left m
 abbrev pub with_first : (ℕ → List Placed) → ℕ → Placed → ℕ → List Placed
 with_first left n p m = if m == n then p ∷ left m else left m
 
--- of the steps that are left of each actor, the first one of the actor of x is p; it is like x, and
--- is in order
+-- the next step of the actor of x among those left is p, it is like x and in order, and `rest` are
+-- the actor's others
 pub record IsNext (s : Key → Reached) (x : Entry) (left : ℕ → List Placed) (p : Placed) (rest : List Placed) : Type 0 where
   pub first : left x.event.actor ≡ p ∷ rest
   pub alike : AreAlike x p.1
   pub order : IsInOrder s x p.0
 
--- these steps are the ones that are left, each actor's in the same order, and each is in order
+-- these steps are just the ones that are left: each actor's are in the same order, and each step is
+-- in order
 abbrev pub KeepsOrder : (Key → Reached) → List Entry → (ℕ → List Placed) → Type 0
 KeepsOrder s [] left = (n : ℕ) → left n ≡ []
 KeepsOrder s (x ∷ xs) left =

@@ -1,10 +1,11 @@
--- Dependence in the words of the map from places to contents: what two records touched of it, and
--- what they wrote.
+-- Dependence in terms of the map from places to contents: what two records touched of it, and what
+-- they wrote.
 use Rattle.std.specs.Prelude.{◌≡◌, Bool, true, false, not, ◌||◌}
 use Rattle.rd_step.specs.Prelude.{Place, CellAt, WholeOf, some_covers, written, is_nothing}
 use Rattle.rd_step.specs.declared.entries.Entry.{Entry}
 
--- whether a place is one of the map: a cell and the whole of a segment are names for several
+-- whether a place is one of the map: a cell and the whole of a segment are not, but names for
+-- several of its places
 abbrev pub is_of_map : Place → Bool
 is_of_map (CellAt s i) = false
 is_of_map (WholeOf s) = false
@@ -14,7 +15,7 @@ is_of_map _ = true
 abbrev pub touched : Entry → Place → Bool
 touched x q = some_covers x.place q
 
--- whether it wrote that place
+-- whether a record wrote a place of the map
 abbrev pub wrote : Entry → Place → Bool
 wrote x q = some_covers (written x.place x.wrote) q
 
@@ -26,6 +27,6 @@ pub record SharesPlace (x y : Entry) : Type 0 where
   pub second : touched y place ≡ true
   pub one_wrote : (wrote x place || wrote y place) ≡ true
 
--- one of two records wrote anything
+-- whether at least one of two records wrote anything
 abbrev pub one_wrote : Entry → Entry → Bool
 one_wrote x y = not (is_nothing x.wrote) || not (is_nothing y.wrote)

@@ -3,8 +3,8 @@ use Rattle.std.specs.Prelude.{ℕ, suc, Bool, if◌then◌else◌, List, [], ◌
 use Rattle.rd_step.specs.Prelude.{Place, some_overlap, written}
 use Rattle.rd_step.specs.declared.entries.Entry.{Entry}
 
--- a position in a list with one more element in front, of which this says whether it is one of
--- those sought
+-- a position found in the rest of a list, as one in the whole list; if none was found, the first
+-- element's if `first` holds
 abbrev pub behind : Bool → Option ℕ → Option ℕ
 behind first (Some n) = Some (suc n)
 behind first None = if first then Some 1 else None

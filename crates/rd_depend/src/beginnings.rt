@@ -25,7 +25,7 @@ pub(crate) fn common_beginning(a: &[Entry], b: &[Entry]) -> usize
     shorter
 }
 
-/// Whether the two are one event.
+/// Whether two events are equal.
 pub(crate) fn is_same(a: &Event, b: &Event) -> bool
     ensures { IsTrue result ↔ (a.now ≡ b.now) }
 {

@@ -8,9 +8,9 @@ use rd_cell::{Place, overlaps};
 use rd_step::Entry;
 
 /// Whether two steps depend on each other: they have one actor, or there is a place that both
-/// touched and one of them wrote. It is the same either way round, so a write depends on a read
-/// before it as a read on a write. Who wrote is asked before the places are compared, and what was
-/// written of them last: most steps that a scan meets only read, or were made elsewhere.
+/// touched and one of them wrote. This is symmetric, so a write depends on an earlier read as a
+/// read does on a write. Whether a step wrote is looked at before the places are compared, and
+/// which part it wrote last, as most steps that a scan meets only read, or were made elsewhere.
 #[inline(always)]
 pub fn depends(a: &Entry, b: &Entry) -> bool
     ensures { result ≡ depends a.now b.now }
@@ -18,7 +18,7 @@ pub fn depends(a: &Entry, b: &Entry) -> bool
     a.event.actor == b.event.actor || interfere(a, b)
 }
 
-/// Whether there is a place that both touched and one of them wrote.
+/// Whether there is a place that both steps touched and one of them wrote.
 #[inline(always)]
 fn interfere(a: &Entry, b: &Entry) -> bool
     ensures { result ≡ interfere a.now.place a.now.wrote b.now.place b.now.wrote }

@@ -6,7 +6,7 @@
 
 ghost use Rattle.std.specs.Prelude.{◌≡◌, ◌≤◌, length, true, false, IfOk, OnErr};
 ghost use Rattle.rd_step.specs.Run.{events};
-ghost use Rattle.rd_depend.specs.Beginnings.{IsBegunByNeither};
+ghost use Rattle.rd_depend.specs.Beginnings.{NeitherIsPrefix};
 ghost use Rattle.rd_depend.specs.Equivalence.{DecidesEquivalence};
 ghost use Rattle.rd_depend.specs.ComparedSteps.{GoesOn, StandsElsewhere, left_of, reached_of};
 
@@ -22,16 +22,16 @@ use std::alloc::{AllocError, Global};
 ///
 /// # Errors
 ///
-/// If memory was refused; not for lists of which one begins the other.
+/// `AllocError` if memory was refused, which is not asked for if one list begins the other.
 pub fn are_equivalent(alloc: Global, a: &[Entry], b: &[Entry]) -> Result<bool, AllocError>
     ensures answer { IfOk result (DecidesEquivalence a.now b.now) }
-    ensures memory { OnErr result (IsBegunByNeither (events a.now) (events b.now)) }
+    ensures memory { OnErr result (NeitherIsPrefix (events a.now) (events b.now)) }
 {
     let common = common_beginning(a, b);
     compare(alloc, &a[common..], &b[common..])
 }
 
-/// Whether the lists are equivalent: one pass over each.
+/// Whether the lists are equivalent, by one pass over each. Fails only if memory was refused.
 fn compare(alloc: Global, a: &[Entry], b: &[Entry]) -> Result<bool, AllocError>
     ensures answer { IfOk result (DecidesEquivalence a.now b.now) }
     ensures memory { OnErr result ((1 ≤ length a.now) × (1 ≤ length b.now)) }
@@ -52,8 +52,8 @@ fn compare(alloc: Global, a: &[Entry], b: &[Entry]) -> Result<bool, AllocError>
     Ok(left.is_empty())
 }
 
-/// Whether the next step of the other run by the actor of this one is like it, and is there in
-/// order; both go on over it then.
+/// Whether the next step of the other run by the actor of this one is like it, and is in order
+/// there. If so, both runs go on over it. Fails only if memory was refused.
 fn goes_on(
     left: &mut StepsByActor,
     reached: &mut ReachedByKey,

@@ -2,12 +2,12 @@
 //! of a scan.
 //!
 //! For each actor, each place and each segment it keeps the positions of the entries that touch it,
-//! from 1 and ascending, and apart from these the positions that wrote. It holds no entries, so who
-//! calls it gives those that it speaks of.
+//! from 1 and ascending, and apart from these the positions that wrote. It keeps no entries, so its
+//! callers give those that are meant.
 
 ghost use Rattle.std.specs.Prelude.{◌≡◌, ◌+◌, ◌-◌, ◌<◌, ◌≤◌, ◌^◌, ◌++◌, ◌∷◌, [], length, take, drop, List, Some, IsOk, OnOk, OnErr};
 ghost use Rattle.rd_step.specs.declared.entries.Entry.{Entry as Record};
-ghost use Rattle.rd_step.specs.Dependence.{numbered, without};
+ghost use Rattle.rd_step.specs.Lists.{numbered, without};
 ghost use Rattle.rd_step.specs.Prelude.{first_dependant, depends_on_one};
 ghost use Rattle.rd_depend.specs.Index.{IsIndexOf, IsIndex, IsHeld, IsLast, HasRoomFor};
 ghost use Rattle.rd_depend.specs.Moved.{moved_behind};
@@ -43,7 +43,7 @@ pub struct DependIndex {
 }
 
 impl DependIndex {
-    /// The index of no entries. It takes no memory.
+    /// Returns the index of no entries. It takes no memory.
     pub fn new(alloc: Global) -> DependIndex
         ensures { IsIndexOf result [] }
     {
@@ -55,7 +55,7 @@ impl DependIndex {
         }
     }
 
-    /// How many positions are held.
+    /// Returns the number of positions, which is that of the entries.
     pub fn len(&self) -> u64
         ensures { result ≡ self.now.len }
     {
@@ -67,7 +67,7 @@ impl DependIndex {
     ///
     /// # Errors
     ///
-    /// If memory was refused. No position has changed then.
+    /// `AllocError` if memory was refused. No position has changed then.
     pub fn push(&mut self, entry: &Entry) -> Result<(), AllocError>
         requires { self.old.len < MOST_STEPS }
         ensures ok { OnOk result ((es : List Record) → IsIndexOf self.old es → IsIndexOf self.new (es ++ entry.now ∷ [])) }
@@ -79,7 +79,7 @@ impl DependIndex {
         self.add(entry)
     }
 
-    /// Takes the last position away, which is the entry's. It makes room for that entry again, and
+    /// Removes the last position, which is the entry's. It makes room for that entry again, and
     /// takes no memory.
     pub fn pop(&mut self, entry: &Entry)
         requires { IsLast self.old entry.now }
@@ -89,7 +89,7 @@ impl DependIndex {
         self.drop_last(entry);
     }
 
-    /// Takes position k away, which is the entry's; later positions are one less. It goes over all
+    /// Removes position k, which is the entry's; later positions are one less. It goes over all
     /// lists, makes room for that entry again, and takes no memory.
     pub fn remove(&mut self, k: u64, entry: &Entry)
         requires held { IsHeld self.old k entry.now }
@@ -101,7 +101,7 @@ impl DependIndex {
         self.drop_last(entry);
     }
 
-    /// Moves position k after the later ones up to `n`, which are one less then. It goes over all
+    /// Moves position k after the later ones up to `n`, which become one less. It goes over all
     /// lists, and takes no memory.
     pub fn move_behind(&mut self, k: u64, n: u64)
         requires index { IsIndex self.old }
@@ -115,8 +115,8 @@ impl DependIndex {
         self.move_position(k as u32, n as u32);
     }
 
-    /// Takes all positions above the `n`-th away. It goes over all lists, makes room for the
-    /// entries that were there, and takes no memory.
+    /// Removes all positions above `n`. It goes over all lists, makes room for the entries that
+    /// were there, and takes no memory.
     pub fn truncate(&mut self, n: u64)
         requires few { self.old.len ≤ MOST_STEPS }
         ensures left { (es : List Record) → IsIndexOf self.old es → IsIndexOf self.new (take n es) }
@@ -128,12 +128,12 @@ impl DependIndex {
     }
 
     /// Makes room for these entries: pushing them in order, at once or after positions were taken
-    /// away, is not refused. Room that there was stays.
+    /// away, is then not refused. No room is lost.
     ///
     /// # Errors
     ///
-    /// If memory was refused, which is not asked for where the room is there. No position has
-    /// changed then.
+    /// `AllocError` if memory was refused, which is asked for only if room is missing. No position
+    /// has changed then.
     pub fn make_room(&mut self, entries: &[Entry]) -> Result<(), AllocError>
         requires index { IsIndex self.old }
         requires few { self.old.len + length entries.now ≤ MOST_STEPS }
@@ -151,8 +151,8 @@ impl DependIndex {
     ///
     /// # Errors
     ///
-    /// If memory was refused, which is not asked for where the room is there. No position has
-    /// changed then, and room that there was stays.
+    /// `AllocError` if memory was refused, which is asked for only if room is missing. No position
+    /// has changed then, and room that there was stays.
     pub fn push_all(&mut self, entries: &[Entry]) -> Result<(), AllocError>
         requires index { IsIndex self.old }
         requires few { self.old.len + length entries.now ≤ MOST_STEPS }
@@ -165,7 +165,7 @@ impl DependIndex {
         self.add_all(entries)
     }
 
-    /// Whether an entry depends on one of those after the first `n`. It takes no memory.
+    /// Whether an entry depends on one of the entries after the first `n`. It takes no memory.
     pub fn depends_behind(&self, n: u64, entry: &Entry) -> bool
         requires few { self.now.len ≤ MOST_STEPS }
         requires within { n ≤ self.now.len }
@@ -175,8 +175,9 @@ impl DependIndex {
         self.is_one_above(n as u32, entry, &mut probes)
     }
 
-    /// The first position after k whose entry depends on that at k, which is the entry given, or
-    /// none. It makes at least one probe and at most 96, and takes no memory.
+    /// Returns the first position after k whose entry depends on the given one, which must be that
+    /// at k; none if there is no such position. It makes at least one probe and at most 96, and
+    /// takes no memory.
     pub fn first(&self, k: u64, entry: &Entry, probes: &mut Probes) -> Option<u64>
         requires held { IsHeld self.now k entry.now }
         requires few { self.now.len ≤ MOST_STEPS }
@@ -189,7 +190,7 @@ impl DependIndex {
     }
 
     /// The last position up to `n` whose entry wrote this place, or one of the places that it
-    /// names; none if there is none. It makes at least one probe and at most 57, and takes no
+    /// names; none if no such entry did. It makes at least one probe and at most 57, and takes no
     /// memory.
     pub fn last_writer(&self, n: u64, place: Place, probes: &mut Probes) -> Option<u64>
         requires within { n ≤ self.now.len }

@@ -10,7 +10,7 @@
 
 ghost use Rattle.std.specs.Prelude.{◌≡◌, ◌↔◌, ◌<◌, [], ℕ, length, Some, None, IsTrue, IfOk, OnOk, MatchOption};
 ghost use Rattle.rd_depend.specs.declared.index.keys.Key.{Key as KeyOf};
-ghost use Rattle.rd_depend.specs.LastWriters.{AreAlike, IsBehind, IsInOrder, bound, by_actor, is_making, moved, moved_under, nothing_reached, passed, enumerated, with_first};
+ghost use Rattle.rd_depend.specs.LastWriters.{AreAlike, IsBehind, IsInOrder, bound, by_actor, is_making, moved, moved_under, nothing_reached, passed, with_first, enumerated};
 ghost use Rattle.rd_depend.specs.ComparedSteps.{left_of, reached_of};
 ghost use Rattle.rd_depend.specs.Lists.{list_at};
 
@@ -35,8 +35,8 @@ pub(crate) struct Reached {
 }
 
 impl Reached {
-    /// Goes on over a step at this place of the other run, and gives whether it is after those
-    /// before it on which it depends.
+    /// Goes on over a step at this position of the other run, and returns whether it is there after
+    /// all earlier ones on which it depends.
     fn pass(&mut self, wrote: bool, at: usize) -> bool
         ensures order { IsTrue result ↔ (bound self.old wrote < at) }
         ensures reached { self.new ≡ passed self.old wrote at }
@@ -57,7 +57,7 @@ pub(crate) struct ReachedByKey {
 }
 
 impl ReachedByKey {
-    /// Before the first step. It takes no memory.
+    /// Returns how far the steps reached before the first one: nowhere. It takes no memory.
     pub(crate) fn new(alloc: Global) -> ReachedByKey
         ensures { (k : KeyOf) → reached_of result k ≡ nothing_reached k }
     {
@@ -66,12 +66,12 @@ impl ReachedByKey {
         }
     }
 
-    /// Goes on over a step at this place of the other run, and gives whether it is after those
-    /// before it on which it depends.
+    /// Goes on over a step at this position of the other run, and returns whether it is there after
+    /// all earlier ones on which it depends.
     ///
     /// # Errors
     ///
-    /// If memory was refused.
+    /// `AllocError` if memory was refused.
     pub(crate) fn pass(&mut self, entry: &Entry, at: usize) -> Result<bool, AllocError>
         ensures order { IfOk result (λ ok. IsTrue ok ↔ IsInOrder (reached_of self.old) entry.now at) }
         ensures reached { OnOk result (reached_of self.new ≡ moved (reached_of self.old) entry.now at) }
@@ -84,7 +84,8 @@ impl ReachedByKey {
         Ok(place & value & segment)
     }
 
-    /// The same under one key, if there is one.
+    /// Goes on over a step at this position of the other run under one key, if there is one, and
+    /// returns whether it is there after all earlier ones on which it depends.
     fn pass_under(&mut self, key: Option<Key>, wrote: bool, at: usize) -> Result<bool, AllocError>
         ensures order { IfOk result (λ ok. IsTrue ok ↔ IsBehind (reached_of self.old) key wrote at) }
         ensures reached { OnOk result ((k : KeyOf) → reached_of self.new k ≡ moved_under key wrote at (reached_of self.old) k) }
@@ -130,11 +131,11 @@ pub(crate) struct StepsByActor<'a> {
 }
 
 impl<'a> StepsByActor<'a> {
-    /// The steps of the entries.
+    /// Returns the steps of these entries, by their actors.
     ///
     /// # Errors
     ///
-    /// If memory was refused.
+    /// `AllocError` if memory was refused.
     pub(crate) fn of(alloc: Global, entries: &'a [Entry]) -> Result<StepsByActor<'a>, AllocError>
         ensures { IfOk result (λ steps. (n : ℕ) → left_of steps n ≡ by_actor n (enumerated 1 entries.entry.now)) }
     {
@@ -149,7 +150,7 @@ impl<'a> StepsByActor<'a> {
         Ok(steps)
     }
 
-    /// One more step, before all others.
+    /// Adds one more step, which is before all others.
     fn push(&mut self, at: usize, entry: &'a Entry) -> Result<(), AllocError>
         requires { length self.old.steps.items ≡ ACTORS }
         ensures number { length self.new.steps.items ≡ ACTORS }
@@ -159,7 +160,7 @@ impl<'a> StepsByActor<'a> {
         Ok(())
     }
 
-    /// Takes the actor's first step, if there is one.
+    /// Removes and returns the actor's first step, if there is one.
     pub(crate) fn pop(&mut self, actor: u8) -> Option<PlacedStep<'a>>
         ensures { MatchOption result (left_of self.old actor ≡ []) (λ p. (n : ℕ) → left_of self.old n ≡ with_first (left_of self.new) actor (p.at, p.entry.now) n) }
     {
@@ -169,7 +170,7 @@ impl<'a> StepsByActor<'a> {
         }
     }
 
-    /// Whether none is left.
+    /// Whether no step is left.
     pub(crate) fn is_empty(&self) -> bool
         ensures { IsTrue result ↔ ((n : ℕ) → left_of self.now n ≡ []) }
     {
@@ -189,7 +190,7 @@ pub(crate) fn is_alike(a: &Entry, b: &Entry) -> bool
     a.event == b.event && a.place == b.place && a.wrote == b.wrote
 }
 
-/// An empty list for each number that an actor may have.
+/// Returns an empty list for each number that an actor may have, or fails if memory was refused.
 fn empty_lists<'a>(alloc: Global) -> Result<Vec<Vec<PlacedStep<'a>>>, AllocError>
     ensures { IfOk result (λ lists. (length lists.items ≡ ACTORS) × ((n : ℕ) → list_at lists.items n ≡ [])) }
 {

@@ -13,12 +13,12 @@ pub fn records_depend_where_they_share_an_actor_or_a_place()
     ensures { (x y : Record) → (depends x y ≡ true) ↔ ((x.event.actor ≡ y.event.actor) ⊎ SharesPlace x y) }
 {}
 
-/// Dependence is the same either way round.
+/// Dependence is symmetric.
 pub fn dependence_is_symmetric()
     ensures { (x y : Record) → depends x y ≡ depends y x }
 {}
 
-/// Causal equivalence of two runs from one start is the same either way round.
+/// Causal equivalence of two runs from one start is symmetric.
 pub fn equivalence_is_symmetric()
     ensures { (R : ℕ) (w : World) (es fs : List Event) (r q : Ran) → run R w es ≡ Ok r → run R w fs ≡ Ok q → IsEquivalent R w es fs
         → IsEquivalent R w fs es }

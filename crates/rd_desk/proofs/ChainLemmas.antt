@@ -5,7 +5,8 @@ use Rattle.rd_cell.specs.declared.refusal.Refusal.{Refusal}
 use Rattle.rd_marks.specs.declared.commands.Command.{Command}
 use Rattle.rd_marks.specs.declared.replies.Reply.{Reply}
 use Rattle.rd_desk.specs.declared.gates.DeskRefusal.{DeskRefusal}
-use Rattle.rd_desk.specs.Viewers.{Pairs, IsChain}
+use Rattle.rd_desk.specs.Viewers.{IsChain}
+use Rattle.std.specs.List.{AllZip}
 
 module _ {P : Type 0} (told : P → Command → Result (Result Reply Refusal) DeskRefusal → P → Type 0) where
   -- one more command was asked
@@ -18,14 +19,14 @@ module _ {P : Type 0} (told : P → Command → Result (Result Reply Refusal) De
 
 module _ {A B : Type 0} (R : A → B → Type 0) where
   -- one more pair
-  pub one_more_pair : (xs : List A) (ys : List B) (x : A) (y : B) → Pairs R xs ys → R x y → Pairs R (xs ++ x ∷ []) (ys ++ y ∷ [])
+  pub one_more_pair : (xs : List A) (ys : List B) (x : A) (y : B) → AllZip R xs ys → R x y → AllZip R (xs ++ x ∷ []) (ys ++ y ∷ [])
   one_more_pair [] [] x y h k = (k, tt)
   one_more_pair [] (b ∷ ys) x y h k = absurd h
   one_more_pair (a ∷ xs) [] x y h k = absurd h
   one_more_pair (a ∷ xs) (b ∷ ys) x y h k = (h.0, one_more_pair xs ys x y h.1 k)
 
   -- the last pair
-  pub last_pair : (xs : List A) (ys : List B) (x : A) (y : B) → Pairs R (xs ++ x ∷ []) (ys ++ y ∷ []) → Pairs R xs ys × R x y
+  pub last_pair : (xs : List A) (ys : List B) (x : A) (y : B) → AllZip R (xs ++ x ∷ []) (ys ++ y ∷ []) → AllZip R xs ys × R x y
   last_pair [] [] x y h = (tt, h.0)
   last_pair [] (b ∷ []) x y h = absurd h.1
   last_pair [] (b ∷ c ∷ ys) x y h = absurd h.1
@@ -34,22 +35,22 @@ module _ {A B : Type 0} (R : A → B → Type 0) where
   last_pair (a ∷ xs) (b ∷ ys) x y h = let r = last_pair xs ys x y h.1 in ((h.0, r.0), r.1)
 
   -- who has a last element has a partner for it
-  pub none_alone : (xs : List A) (x : A) → Pairs R (xs ++ x ∷ []) [] → ⊥
+  pub none_alone : (xs : List A) (x : A) → AllZip R (xs ++ x ∷ []) [] → ⊥
   none_alone [] x h = h
   none_alone (a ∷ xs) x h = h
 
   -- who is paired with nobody is nobody
-  pub alone : (xs : List A) → Pairs R xs [] → xs ≡ []
+  pub alone : (xs : List A) → AllZip R xs [] → xs ≡ []
   alone [] h = refl
   alone (x ∷ xs) h = absurd h
 
   -- pairs are of lists of one length
-  pub pairs_length : (xs : List A) (ys : List B) → Pairs R xs ys → length xs ≡ length ys
+  pub pairs_length : (xs : List A) (ys : List B) → AllZip R xs ys → length xs ≡ length ys
   pairs_length [] [] h = refl
   pairs_length [] (y ∷ ys) h = absurd h
   pairs_length (x ∷ xs) [] h = absurd h
   pairs_length (x ∷ xs) (y ∷ ys) h = ap suc (pairs_length xs ys h.1)
 
   -- room for all of one list is room for all of the other, turned round
-  pub room_for_all : (xs : List A) (ys : List B) (N : Type 0) (room : ℕ) → Pairs R xs (reverse ys) → N × (length xs ≤ room) → N × (length ys ≤ room)
+  pub room_for_all : (xs : List A) (ys : List B) (N : Type 0) (room : ℕ) → AllZip R xs (reverse ys) → N × (length xs ≤ room) → N × (length ys ≤ room)
   room_for_all xs ys N room h k = let same = pairs_length xs (reverse ys) h in let turned = length-reverse ys in let few = k.1 in (k.0, omega arith)

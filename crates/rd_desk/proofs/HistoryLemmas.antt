@@ -7,10 +7,10 @@ use Rattle.rd_marks.specs.Commands.{IsObeyed}
 use Rattle.rd_marks.specs.declared.commands.Command.{Command}
 use Rattle.rd_marks.specs.declared.replies.Reply.{Reply}
 use Rattle.rd_desk.specs.declared.histories.Call.{Call}
-use Rattle.rd_desk.specs.Histories.{entry, Leaves, IsLegal, IsLeftBy}
+use Rattle.rd_desk.specs.Histories.{viewer_entry, Leaves, IsLegal, IsLeftBy}
 
 pub one_more : (R viewer : ℕ) (b m t : BookState) (es : List (ℕ × Call)) (c : Command) (answer : Result Reply Refusal)
-    → Leaves R b es m → IsObeyed R m c (record { answer = answer; state = t }) → Leaves R b (es ++ entry viewer c answer ∷ []) t
+    → Leaves R b es m → IsObeyed R m c (record { answer = answer; state = t }) → Leaves R b (es ++ viewer_entry viewer c answer ∷ []) t
 one_more R viewer b m t [] c answer h k = (t, subst (λ (s : BookState). IsObeyed R s c (record { answer = answer; state = t })) h k, refl)
 one_more R viewer b m t (e ∷ es) c answer h k = (h.0, h.1, one_more R viewer h.0 m t es c answer h.2 k)
 
@@ -19,7 +19,7 @@ nothing_yet R b last es none same = ∣ subst (λ (xs : List (ℕ × Call)). Lea
 
 -- one more call is recorded
 pub one_recorded : (R viewer : ℕ) (b m t : BookState) (old new : List (ℕ × Call)) (c : Command) (answer : Result Reply Refusal)
-    → IsLeftBy R b old m → IsObeyed R m c (record { answer = answer; state = t }) → new ≡ old ++ entry viewer c answer ∷ [] → IsLeftBy R b new t
+    → IsLeftBy R b old m → IsObeyed R m c (record { answer = answer; state = t }) → new ≡ old ++ viewer_entry viewer c answer ∷ [] → IsLeftBy R b new t
 one_recorded R viewer b m t old new c answer h k is =
     ∥∥₁_map h (λ l. subst (λ (xs : List (ℕ × Call)). Leaves R b xs t) (sym is) (one_more R viewer b m t old c answer l k))
 

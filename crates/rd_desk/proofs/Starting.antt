@@ -5,7 +5,7 @@ use Rattle.std.proofs.lemmas.List.{append-nil, reverse-append}
 use Rattle.std.specs.declared.alloc.Global.{Global}
 use Rattle.std.specs.declared.thread.PromisedHandle.{PromisedHandle}
 use Rattle.rd_cell.specs.declared.refusal.Refusal.{Refusal}
-use Rattle.rd_lock.specs.Histories.{Every}
+use Rattle.std.specs.List.{AllByRecursion, AllZip}
 use Rattle.rd_marks.specs.declared.commands.Command.{Command}
 use Rattle.rd_marks.specs.declared.replies.Reply.{Reply}
 use Rattle.rd_desk.specs.declared.gates.DeskRefusal.{DeskRefusal}
@@ -14,19 +14,19 @@ use Rattle.rd_desk.specs.declared.viewers.Ran.{Ran}
 use Rattle.rd_desk.specs.declared.viewers.Ran.TheVariants.{Answered}
 use Rattle.rd_desk.specs.Rooms.{IsRoomFor}
 use Rattle.rd_desk.specs.Threads.{IsStarted}
-use Rattle.rd_desk.specs.Viewers.{Pairs, IsChain, IsRan}
+use Rattle.rd_desk.specs.Viewers.{IsChain, IsRan}
 use Rattle.rd_desk.proofs.ChainLemmas.{one_more_pair, last_pair, none_alone, alone}
 
 module _ {A : Type 0} where
-  pub every_front : (P : A → Type 0) (xs ys : List A) → Every P (xs ++ ys) → Every P xs
+  pub every_front : (P : A → Type 0) (xs ys : List A) → AllByRecursion P (xs ++ ys) → AllByRecursion P xs
   every_front P [] ys h = tt
   every_front P (x ∷ xs) ys h = (h.0, every_front P xs ys h.1)
 
-  pub every_back : (P : A → Type 0) (xs ys : List A) → Every P (xs ++ ys) → Every P ys
+  pub every_back : (P : A → Type 0) (xs ys : List A) → AllByRecursion P (xs ++ ys) → AllByRecursion P ys
   every_back P [] ys h = h
   every_back P (x ∷ xs) ys h = every_back P xs ys h.1
 
-  pub every_more : (P : A → Type 0) (xs : List A) (x : A) → Every P xs → P x → Every P (xs ++ x ∷ [])
+  pub every_more : (P : A → Type 0) (xs : List A) (x : A) → AllByRecursion P xs → P x → AllByRecursion P (xs ++ x ∷ [])
   every_more P [] x h k = (k, tt)
   every_more P (y ∷ xs) x h k = (h.0, every_more P xs x h.1 k)
 
@@ -47,31 +47,31 @@ module _ {G P T A : Type 0} (takes : P → Type 0) (gate : G) where
   pub record IsStarting (all work : List (P × Vec Command Global)) (answers : List (Vec A Global)) (started : List (Option (PromisedHandle T (Asked G P)))) : Type 0 where
     pub gone : List (P × Vec Command Global)
     pub parts : work ++ gone ≡ all
-    pub own : Every (λ viewer. takes viewer.0) work
-    pub rooms : Pairs IsRoomFor work answers
-    pub begun : Pairs (IsStarted gate) gone (reverse started)
+    pub own : AllByRecursion (λ viewer. takes viewer.0) work
+    pub rooms : AllZip IsRoomFor work answers
+    pub begun : AllZip (IsStarted gate) gone (reverse started)
 
   pub begins : (all : List (P × Vec Command Global)) (answers : List (Vec A Global)) (started : List (Option (PromisedHandle T (Asked G P))))
-      → Every (λ viewer. takes viewer.0) all → Pairs IsRoomFor all answers → started ≡ [] → IsStarting all all answers started
+      → AllByRecursion (λ viewer. takes viewer.0) all → AllZip IsRoomFor all answers → started ≡ [] → IsStarting all all answers started
   begins all answers started own rooms none = record {
     gone = [];
     parts = append-nil all;
     own = own;
     rooms = rooms;
-    begun = subst (λ hs. Pairs (IsStarted gate) [] (reverse hs)) (sym none) tt;
+    begun = subst (λ hs. AllZip (IsStarted gate) [] (reverse hs)) (sym none) tt;
   }
 
   -- the last viewer that isn't started has a pass that the gate takes, and room
   pub next_is_ready : (all work new : List (P × Vec Command Global)) (answers left : List (Vec A Global)) (started : List (Option (PromisedHandle T (Asked G P)))) (viewer : P × Vec Command Global) (room : Vec A Global)
       → IsStarting all work answers started → work ≡ new ++ viewer ∷ [] → answers ≡ left ++ room ∷ [] → takes viewer.0 × IsRoomFor viewer room
   next_is_ready all work new answers left started viewer room i is also = (
-    (every_back (λ viewer. takes viewer.0) new (viewer ∷ []) (subst (Every (λ viewer. takes viewer.0)) is i.own)).0,
-    (last_pair IsRoomFor new left viewer room (subst (λ ws. Pairs IsRoomFor ws (left ++ room ∷ [])) is (subst (Pairs IsRoomFor work) also i.rooms))).1,
+    (every_back (λ viewer. takes viewer.0) new (viewer ∷ []) (subst (AllByRecursion (λ viewer. takes viewer.0)) is i.own)).0,
+    (last_pair IsRoomFor new left viewer room (subst (λ ws. AllZip IsRoomFor ws (left ++ room ∷ [])) is (subst (AllZip IsRoomFor work) also i.rooms))).1,
   )
 
   pub room_is_there : (all work new : List (P × Vec Command Global)) (answers : List (Vec A Global)) (started : List (Option (PromisedHandle T (Asked G P)))) (viewer : P × Vec Command Global)
       → IsStarting all work answers started → work ≡ new ++ viewer ∷ [] → answers ≡ [] → ⊥
-  room_is_there all work new answers started viewer i is none = none_alone (IsRoomFor {P = P} {C = Command} {A = A} {Z = Global} {Y = Global}) new viewer (subst (λ ws. Pairs (IsRoomFor {P = P} {C = Command} {A = A} {Z = Global} {Y = Global}) ws []) is (subst (Pairs (IsRoomFor {P = P} {C = Command} {A = A} {Z = Global} {Y = Global}) work) none i.rooms))
+  room_is_there all work new answers started viewer i is none = none_alone (IsRoomFor {P = P} {C = Command} {A = A} {Z = Global} {Y = Global}) new viewer (subst (λ ws. AllZip (IsRoomFor {P = P} {C = Command} {A = A} {Z = Global} {Y = Global}) ws []) is (subst (AllZip (IsRoomFor {P = P} {C = Command} {A = A} {Z = Global} {Y = Global}) work) none i.rooms))
 
   -- one more viewer is started
   pub one_started : (all work new : List (P × Vec Command Global)) (answers left : List (Vec A Global)) (started grown : List (Option (PromisedHandle T (Asked G P)))) (viewer : P × Vec Command Global) (room : Vec A Global) (handle : Option (PromisedHandle T (Asked G P)))
@@ -79,25 +79,25 @@ module _ {G P T A : Type 0} (takes : P → Type 0) (gate : G) where
   one_started all work new answers left started grown viewer room handle i is also more begun = record {
     gone = viewer ∷ i.gone;
     parts = sym (append_assoc new (viewer ∷ []) i.gone) ∙ (ap (λ ws. ws ++ i.gone) (sym is) ∙ i.parts);
-    own = every_front (λ viewer. takes viewer.0) new (viewer ∷ []) (subst (Every (λ viewer. takes viewer.0)) is i.own);
-    rooms = (last_pair IsRoomFor new left viewer room (subst (λ ws. Pairs IsRoomFor ws (left ++ room ∷ [])) is (subst (Pairs IsRoomFor work) also i.rooms))).0;
-    begun = subst (Pairs (IsStarted gate) (viewer ∷ i.gone)) (sym (ap reverse more ∙ last_first started handle)) (begun, i.begun);
+    own = every_front (λ viewer. takes viewer.0) new (viewer ∷ []) (subst (AllByRecursion (λ viewer. takes viewer.0)) is i.own);
+    rooms = (last_pair IsRoomFor new left viewer room (subst (λ ws. AllZip IsRoomFor ws (left ++ room ∷ [])) is (subst (AllZip IsRoomFor work) also i.rooms))).0;
+    begun = subst (AllZip (IsStarted gate) (viewer ∷ i.gone)) (sym (ap reverse more ∙ last_first started handle)) (begun, i.begun);
   }
 
 module _ {G P T : Type 0} (takes : G → P → Type 0) (told : G → P → Command → Result (Result Reply Refusal) DeskRefusal → P → Type 0) where
   -- whichever viewers were started, what became of the first of them is known, and the others are
   -- still waited for
   pub record IsJoining (all started : List (Option (PromisedHandle T (Asked G P)))) (rans : List (Ran P)) : Type 0 where
-    pub each : (gate : G) (work : List (P × Vec Command Global)) → Pairs (IsStarted gate) work (reverse all)
-        → (done : List (P × Vec Command Global)) × (left : List (P × Vec Command Global)) × (done ++ left ≡ work) × Pairs (IsRan (takes gate) (told gate)) done rans × Pairs (IsStarted gate) left (reverse started)
+    pub each : (gate : G) (work : List (P × Vec Command Global)) → AllZip (IsStarted gate) work (reverse all)
+        → (done : List (P × Vec Command Global)) × (left : List (P × Vec Command Global)) × (done ++ left ≡ work) × AllZip (IsRan (takes gate) (told gate)) done rans × AllZip (IsStarted gate) left (reverse started)
 
   pub joins : (all : List (Option (PromisedHandle T (Asked G P)))) (rans : List (Ran P)) → rans ≡ [] → IsJoining all all rans
-  joins all rans none = record { each = λ gate work h. ([], work, refl, subst (Pairs (IsRan {Z = Global} (takes gate) (told gate)) []) (sym none) tt, h) }
+  joins all rans none = record { each = λ gate work h. ([], work, refl, subst (AllZip (IsRan {Z = Global} (takes gate) (told gate)) []) (sym none) tt, h) }
 
   one_of_them : (gate : G) (work left : List (P × Vec Command Global)) (done : List (P × Vec Command Global)) (started : List (Option (PromisedHandle T (Asked G P)))) (handle : Option (PromisedHandle T (Asked G P))) (rans : List (Ran P)) (ran : Ran P)
-      → done ++ left ≡ work → Pairs (IsRan (takes gate) (told gate)) done rans → Pairs (IsStarted gate) left (handle ∷ started)
+      → done ++ left ≡ work → AllZip (IsRan (takes gate) (told gate)) done rans → AllZip (IsStarted gate) left (handle ∷ started)
       → ((viewer : P × Vec Command Global) → IsStarted gate viewer handle → IsRan (takes gate) (told gate) viewer ran)
-      → (done' : List (P × Vec Command Global)) × (left' : List (P × Vec Command Global)) × (done' ++ left' ≡ work) × Pairs (IsRan (takes gate) (told gate)) done' (rans ++ ran ∷ []) × Pairs (IsStarted gate) left' started
+      → (done' : List (P × Vec Command Global)) × (left' : List (P × Vec Command Global)) × (done' ++ left' ≡ work) × AllZip (IsRan (takes gate) (told gate)) done' (rans ++ ran ∷ []) × AllZip (IsStarted gate) left' started
   one_of_them gate work [] done started handle rans ran parts ran_so_far begun f = absurd begun
   one_of_them gate work (viewer ∷ left) done started handle rans ran parts ran_so_far begun f = (
     done ++ viewer ∷ [],
@@ -112,9 +112,9 @@ module _ {G P T : Type 0} (takes : G → P → Type 0) (told : G → P → Comma
       → IsJoining all started rans → started ≡ new ++ handle ∷ [] → grown ≡ rans ++ ran ∷ [] → ((gate : G) (viewer : P × Vec Command Global) → IsStarted gate viewer handle → IsRan (takes gate) (told gate) viewer ran) → IsJoining all new grown
   one_joined all started new handle rans grown ran i is more f = record {
     each = λ gate work h. let e = i.each gate work h in
-        let begun = subst (Pairs (IsStarted gate) e.1) (ap reverse is ∙ last_first new handle) e.4 in
+        let begun = subst (AllZip (IsStarted gate) e.1) (ap reverse is ∙ last_first new handle) e.4 in
         let r = one_of_them gate work e.1 e.0 (reverse new) handle rans ran e.2 e.3 begun (f gate) in
-        (r.0, r.1, r.2, subst (Pairs (IsRan (takes gate) (told gate)) r.0) (sym more) r.3, r.4);
+        (r.0, r.1, r.2, subst (AllZip (IsRan (takes gate) (told gate)) r.0) (sym more) r.3, r.4);
   }
 
   -- what a thread that kept its promise comes to
@@ -129,7 +129,7 @@ module _ {G P T : Type 0} (takes : G → P → Type 0) (told : G → P → Comma
   )
 
   pub all_joined : (all started : List (Option (PromisedHandle T (Asked G P)))) (rans : List (Ran P)) → IsJoining all started rans → started ≡ []
-      → (gate : G) (work : List (P × Vec Command Global)) → Pairs (IsStarted gate) work (reverse all) → Pairs (IsRan (takes gate) (told gate)) work rans
+      → (gate : G) (work : List (P × Vec Command Global)) → AllZip (IsStarted gate) work (reverse all) → AllZip (IsRan (takes gate) (told gate)) work rans
   all_joined all started rans i none gate work h = let e = i.each gate work h in
-      let gone = alone (IsStarted gate) e.1 (subst (Pairs (IsStarted gate) e.1) (ap reverse none) e.4) in
-      let same : e.0 ≡ work = sym (append-nil e.0) ∙ (ap (λ ws. e.0 ++ ws) (sym gone) ∙ e.2) in subst (λ ws. Pairs (IsRan (takes gate) (told gate)) ws rans) same e.3
+      let gone = alone (IsStarted gate) e.1 (subst (AllZip (IsStarted gate) e.1) (ap reverse none) e.4) in
+      let same : e.0 ≡ work = sym (append-nil e.0) ∙ (ap (λ ws. e.0 ++ ws) (sym gone) ∙ e.2) in subst (λ ws. AllZip (IsRan (takes gate) (told gate)) ws rans) same e.3

@@ -12,30 +12,30 @@ use Rattle.rd_marks.specs.declared.replies.Reply.{Reply}
 use Rattle.rd_desk.specs.declared.gates.DeskRefusal.{DeskRefusal}
 use Rattle.rd_desk.specs.declared.gates.DeskRefusal.TheVariants.{HistoryFull, NotRecorded, TicketsEnded, Busy}
 use Rattle.rd_desk.specs.declared.histories.Call.{Call}
-use Rattle.rd_desk.specs.Histories.{MOST_CALLS, entry, IsLegal, IsUnrecorded}
+use Rattle.rd_desk.specs.Histories.{MOST_CALLS, viewer_entry, IsLegal, IsUnrecorded}
 
--- this refusal is not for want of waiting
+-- the refusal is not `Busy`, with which only a call that never waits is refused
 abbrev pub IsNotBusy : DeskRefusal → Type 0
 IsNotBusy (Busy words) = ⊥
 IsNotBusy _ = Unit {0}
 
 module _ {T O : Type 0} {K : Ghosts T Call O} (R : ℕ) (opened : BookState) (old new : Pass T Call O K) where
-  -- What the viewer has seen begins with all that it had seen, ends with just this call, and is a
-  -- legal history of the book that was opened. The viewer's own entries are those there that name
-  -- it: the ones that it had, and this one.
+  -- after a call that the book answered: what the viewer has seen begins with all that it had seen,
+  -- ends with just this call, and is a legal history of the book that was opened; the viewer's own
+  -- entries are those there that name it, the ones that it had and this one
   pub record HasAsked (command : Command) (answer : Result Reply Refusal) : Type 0 where
     pub same_number : number new ≡ number old
     pub between : List (ℕ × Call)
-    pub has_seen : seen new ≡ (seen old ++ between) ++ entry (number old) command answer ∷ []
+    pub has_seen : seen new ≡ (seen old ++ between) ++ viewer_entry (number old) command answer ∷ []
     pub room : length (seen old ++ between) < MOST_CALLS
     pub legal : IsLegal R opened (seen new)
     pub has_own : own new ≡ named (number old) 0 (seen new)
-    pub has_grown : own new ≡ own old ++ (length (seen old ++ between), (entry (number old) command answer).1) ∷ []
+    pub has_grown : own new ≡ own old ++ (length (seen old ++ between), (viewer_entry (number old) command answer).1) ∷ []
     pub words : (next_seen old ≤ next_seen new) × (served_seen old ≤ served_seen new)
 
-  -- The viewer has seen the history that it found, which begins with all that it had seen and is a
-  -- legal history of the book that was opened. Its own entries are as before, and those there that
-  -- name it.
+  -- after a call that found the history but was not recorded: the viewer has seen that history,
+  -- which begins with all that it had seen and is a legal history of the book that was opened; its
+  -- own entries are as before, and are those there that name it
   pub record HasFound : Type 0 where
     pub same_number : number new ≡ number old
     pub extends : IsPrefix (seen old) (seen new)
@@ -44,15 +44,15 @@ module _ {T O : Type 0} {K : Ghosts T Call O} (R : ℕ) (opened : BookState) (ol
     pub same_own : own new ≡ own old
     pub words : (next_seen old ≤ next_seen new) × (served_seen old ≤ served_seen new)
 
-  -- what a viewer knows that was refused: the history found, with its length, or, if the lock gave
-  -- nothing, what it had seen
-  abbrev pub IsRefused : DeskRefusal → Type 0
-  IsRefused HistoryFull = HasFound × IsUnrecorded (seen new) HistoryFull
-  IsRefused NotRecorded = HasFound × IsUnrecorded (seen new) NotRecorded
-  IsRefused TicketsEnded = IsSamePass old new × (next_seen new ≡ 2 ^ 63)
-  IsRefused (Busy words) = IsSamePass old new × (words.next ≡ next_seen new) × (words.served ≡ served_seen new) × (words.served < words.next) × (words.next < 2 ^ 63)
+  -- what a viewer knows after a refusal: the history that it found, whose length explains the
+  -- refusal, or, if the lock was not taken, what it had seen before
+  abbrev pub KnowsAfterRefusal : DeskRefusal → Type 0
+  KnowsAfterRefusal HistoryFull = HasFound × IsUnrecorded (seen new) HistoryFull
+  KnowsAfterRefusal NotRecorded = HasFound × IsUnrecorded (seen new) NotRecorded
+  KnowsAfterRefusal TicketsEnded = IsSamePass old new × (next_seen new ≡ 2 ^ 63)
+  KnowsAfterRefusal (Busy words) = IsSamePass old new × (words.next ≡ next_seen new) × (words.served ≡ served_seen new) × (words.served < words.next) × (words.next < 2 ^ 63)
 
-  -- what a viewer knows after a call that may wait
-  abbrev pub IsTold : Command → Result (Result Reply Refusal) DeskRefusal → Type 0
-  IsTold command (Ok answer) = HasAsked command answer
-  IsTold command (Err refusal) = IsRefused refusal × IsNotBusy refusal
+  -- what a viewer knows after a call that may wait, by the outcome of the call
+  abbrev pub KnowsAfterCall : Command → Result (Result Reply Refusal) DeskRefusal → Type 0
+  KnowsAfterCall command (Ok answer) = HasAsked command answer
+  KnowsAfterCall command (Err refusal) = KnowsAfterRefusal refusal × IsNotBusy refusal

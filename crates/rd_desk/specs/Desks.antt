@@ -1,11 +1,12 @@
--- What contracts say of a desk and of its passes. A pass is the lock's: what it has seen and asked
--- are `seen` and `own` of the lock.
+-- What contracts state of a desk and of its passes. A pass is one of the lock, and what it has seen
+-- and asked are the lock's `seen` and `own`.
 use Rattle.std.specs.Prelude.{◌≡◌, ℕ, List, [], map}
 use mathlib.Core.List.{IsPrefix}
 use Rattle.rd_lock.specs.declared.views.Recorded.{Ghosts}
 use Rattle.rd_lock.specs.declared.passes.Pass.{Pass}
-use Rattle.rd_lock.specs.Histories.{Every, named, numbers, NamesUpTo}
-use Rattle.rd_lock.specs.Locks.{number, seen, own, next_seen, served_seen, seats, root, IsOut, IsPassOf}
+use Rattle.rd_lock.specs.Histories.{named, NamesUpTo, numbers}
+use Rattle.std.specs.List.{AllByRecursion}
+use Rattle.rd_lock.specs.Locks.{number, seen, own, next_seen, served_seen, seats, opened_origin, IsOut, IsPassOf}
 use Rattle.rd_marks.specs.Books.{BookState}
 use Rattle.rd_marks.specs.BookViews.{book_state}
 use Rattle.rd_marks.specs.declared.books.Book.{Book}
@@ -22,14 +23,14 @@ module _ {R : ℕ} where
 
   -- the state of the book that the desk was opened with
   abbrev pub opened_state : Desk R → BookState
-  opened_state desk = book_state (root (λ kept. kept.opened.value) desk.lock)
+  opened_state desk = book_state (opened_origin (λ kept. kept.opened.value) desk.lock)
 
   module _ {K : Ghosts (BookWithHistory R) Call (Book R)} where
-    -- the pass is one of the desk's, and is in no call
+    -- the pass is one of this desk's, and is in no call
     abbrev pub IsViewerOf : Desk R → Pass (BookWithHistory R) Call (Book R) K → Type 0
     IsViewerOf desk pass = IsPassOf desk.lock pass × IsOut pass
 
-    -- a pass of a desk that has just been opened, with both words of its lock at 0
+    -- a pass of a desk that was just opened, with both words of its lock at 0
     pub record IsNewViewer (desk : Desk R) (pass : Pass (BookWithHistory R) Call (Book R) K) : Type 0 where
       pub is_viewer : IsViewerOf desk pass
       pub has_seen : seen pass ≡ []
@@ -37,22 +38,22 @@ module _ {R : ℕ} where
       pub next : next_seen pass ≡ 0
       pub served : served_seen pass ≡ 0
 
-    -- the desk has this book and this many viewers, and its passes are new and have the numbers
-    -- from 1 on
+    -- the desk was opened: it has this book and this many viewers, and its passes are new and have
+    -- the numbers from 1 on
     pub record IsOpened (book : Book R) (count : ℕ) (desk : Desk R) (passes : List (Pass (BookWithHistory R) Call (Book R) K)) : Type 0 where
       pub counted : viewers desk ≡ count
       pub state : opened_state desk ≡ book_state book
-      pub are_new : Every (IsNewViewer desk) passes
+      pub are_new : AllByRecursion (IsNewViewer desk) passes
       pub numbered : map number passes ≡ numbers 1 count
 
-    -- the history begins with what the pass had seen, and its entries that name the pass are its
-    -- own
-    abbrev pub Tells : History → Pass (BookWithHistory R) Call (Book R) K → Type 0
-    Tells history pass = IsPrefix (seen pass) (entries history) × (own pass ≡ named (number pass) 0 (entries history))
+    -- the history agrees with the pass: it begins with what the pass had seen, and its entries that
+    -- name the pass are those that the pass asked
+    abbrev pub AgreesWith : History → Pass (BookWithHistory R) Call (Book R) K → Type 0
+    AgreesWith history pass = IsPrefix (seen pass) (entries history) × (own pass ≡ named (number pass) 0 (entries history))
 
-    -- The history is legal from the book that was opened and leaves this book; each entry names a
-    -- viewer of the desk; and it tells of each pass that was handed in.
+    -- the history is legal from the book that was opened and leaves this book; each entry names a
+    -- viewer of the desk; and the history agrees with each pass that was handed in
     pub record IsClosedOver (desk : Desk R) (passes : List (Pass (BookWithHistory R) Call (Book R) K)) (book : Book R) (history : History) : Type 0 where
       pub leaves : IsLeftBy R (opened_state desk) (entries history) (book_state book)
       pub names : NamesUpTo (viewers desk) (entries history)
-      pub tells : Every (Tells history) passes
+      pub tells : AllByRecursion (AgreesWith history) passes

@@ -1,5 +1,5 @@
 -- The history of a desk: what its entries are, which of them are legal, and what they leave.
-use Rattle.std.specs.Prelude.{◌≡◌, ◌<◌, ℕ, zero, suc, List, map, length, slice_get, Option, None, Result}
+use Rattle.std.specs.Prelude.{◌≡◌, ◌<◌, ℕ, List, map, length, Result}
 use Rattle.rd_cell.specs.declared.refusal.Refusal.{Refusal}
 use Rattle.rd_marks.specs.Books.{BookState}
 use Rattle.rd_marks.specs.Commands.{AreObeyed}
@@ -15,31 +15,26 @@ pub use Rattle.rd_desk.specs.declared.histories.TheConstants.{MOST_CALLS}
 abbrev pub entries : History → List (ℕ × Call)
 entries history = history.entries.items
 
--- a viewer's command with what it is answered, as an entry
-abbrev pub entry : ℕ → Command → Result Reply Refusal → ℕ × Call
-entry viewer command answer = (viewer, record { command = command; answer = answer })
+-- the entry of a history for a viewer's command and the answer to it
+abbrev pub viewer_entry : ℕ → Command → Result Reply Refusal → ℕ × Call
+viewer_entry viewer command answer = (viewer, record { command = command; answer = answer })
 
--- the entry of this number, from 1
-abbrev pub entry_at : List (ℕ × Call) → ℕ → Option (ℕ × Call)
-entry_at es zero = None
-entry_at es (suc k) = slice_get es k
-
--- what the entries leave of a book of this state: one after another, each command is answered as
--- its entry says
+-- the entries lead from a book in this state to one in the last: each command in turn may be
+-- answered as its entry records
 abbrev pub Leaves : ℕ → BookState → List (ℕ × Call) → BookState → Type 0
 Leaves R b es last = AreObeyed R b (map (λ e. e.1.command) es) (map (λ e. e.1.answer) es) last
 
--- The entries are a legal history of a book of this state: they leave something. The bars say that
--- the states between the commands are there, and not which.
+-- the entries are a legal history of a book in this state: they lead to some last state (the bars
+-- mean that there are states between the commands, but not which)
 abbrev pub IsLegal : ℕ → BookState → List (ℕ × Call) → Type 0
 IsLegal R b es = ∥ ((last : BookState) × Leaves R b es last) ∥₁
 
--- the entries are a legal history, and this is what they leave
+-- the entries are a legal history of a book in this state, and lead to this last state
 abbrev pub IsLeftBy : ℕ → BookState → List (ℕ × Call) → BookState → Type 0
 IsLeftBy R b es last = ∥ Leaves R b es last ∥₁
 
--- why a call is not recorded in this history: it is full; or it is not, and the room for one more
--- was refused
+-- why a call is not recorded in this history: the history is full, or it is not full, and the room
+-- for one more call was refused
 abbrev pub IsUnrecorded : List (ℕ × Call) → DeskRefusal → Type 0
 IsUnrecorded es HistoryFull = length es ≡ MOST_CALLS
 IsUnrecorded es NotRecorded = length es < MOST_CALLS

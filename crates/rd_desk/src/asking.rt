@@ -1,12 +1,12 @@
 //! The calls of a desk: a viewer asks one command.
 //!
-//! A call takes the lock, has the book obey the command and record the call, and puts the book
+//! A call takes the lock, lets the book obey the command and record the call, and puts the book
 //! back. The call happens as it is put back, at the one add to the word `served`.
 
 ghost use Rattle.std.specs.Prelude.{◌≡◌, ◌^◌, Err, IfOk, IfErr};
 ghost use Rattle.rd_lock.specs.Locks.{next_seen, IsPassOf, IsTaken};
 ghost use Rattle.rd_desk.specs.Desks.{opened_state, viewers, IsViewerOf};
-ghost use Rattle.rd_desk.specs.Asking.{HasAsked, IsRefused, IsNotBusy};
+ghost use Rattle.rd_desk.specs.Asking.{HasAsked, KnowsAfterRefusal, IsNotBusy};
 
 use super::desks::{Desk, DeskPass};
 use super::gates::DeskRefusal;
@@ -19,13 +19,13 @@ use std::sync::Wait;
 impl<const R: usize> Desk<R> {
     ghost use Rattle.rd_desk.specs.declared.gates.DeskRefusal.TheVariants.{TicketsEnded};
 
-    /// Asks one command. It waits for the viewers before it.
+    /// Asks one command and returns the answer. It waits for the viewers before it.
     ///
     /// # Errors
     ///
-    /// `TicketsEnded` if all tickets of the lock are drawn, as this pass saw it. Under the lock, in
+    /// `TicketsEnded` if this pass saw that all tickets of the lock are drawn. Under the lock, in
     /// this order: `HistoryFull` if the history has `MOST_CALLS` calls; `NotRecorded` if the room
-    /// for one more was refused. The book has not changed then.
+    /// for one more was refused. The book is then unchanged.
     pub fn ask<W: Wait>(
         &self,
         rt: &W,
@@ -35,7 +35,7 @@ impl<const R: usize> Desk<R> {
         requires own { IsViewerOf self.now pass.old }
         ensures own { IsViewerOf self.now pass.new }
         ensures ok { IfOk result (λ answer. HasAsked R (opened_state self.now) pass.old pass.new command answer) }
-        ensures err { IfErr result (λ refusal. IsRefused R (opened_state self.now) pass.old pass.new refusal) }
+        ensures err { IfErr result (λ refusal. KnowsAfterRefusal R (opened_state self.now) pass.old pass.new refusal) }
         ensures ended { next_seen pass.old ≡ 2 ^ 63 → result ≡ Err TicketsEnded }
         ensures waits { IfErr result IsNotBusy }
     {
@@ -45,7 +45,7 @@ impl<const R: usize> Desk<R> {
         }
     }
 
-    /// Asks one command if the lock is free. It waits for nobody.
+    /// Asks one command if the lock is free, and returns the answer. It never waits.
     ///
     /// # Errors
     ///
@@ -58,7 +58,7 @@ impl<const R: usize> Desk<R> {
         requires own { IsViewerOf self.now pass.old }
         ensures own { IsViewerOf self.now pass.new }
         ensures ok { IfOk result (λ answer. HasAsked R (opened_state self.now) pass.old pass.new command answer) }
-        ensures err { IfErr result (λ refusal. IsRefused R (opened_state self.now) pass.old pass.new refusal) }
+        ensures err { IfErr result (λ refusal. KnowsAfterRefusal R (opened_state self.now) pass.old pass.new refusal) }
         ensures ended { next_seen pass.old ≡ 2 ^ 63 → result ≡ Err TicketsEnded }
         ensures succeeds { viewers self.now ≡ 1 → IfErr result IsNotBusy }
     {
@@ -69,8 +69,8 @@ impl<const R: usize> Desk<R> {
         }
     }
 
-    /// Has the book that the pass took obey a command, records the call if there is room, and puts
-    /// the book back.
+    /// Lets the book that the pass took obey a command, records the call if there is room, puts the
+    /// book back, and returns the answer, or why the call was not recorded.
     fn record_and_put_back(
         &self,
         pass: &mut DeskPass<R>,
@@ -81,7 +81,7 @@ impl<const R: usize> Desk<R> {
         requires taken { IsTaken self.now.lock pass.old pass.old kept }
         ensures own { IsViewerOf self.now pass.new }
         ensures ok { IfOk result (λ answer. HasAsked R (opened_state self.now) pass.old pass.new command answer) }
-        ensures err { IfErr result (λ refusal. IsRefused R (opened_state self.now) pass.old pass.new refusal) }
+        ensures err { IfErr result (λ refusal. KnowsAfterRefusal R (opened_state self.now) pass.old pass.new refusal) }
         ensures waits { IfErr result IsNotBusy }
     {
         let answer = kept.record(pass.number(), command);

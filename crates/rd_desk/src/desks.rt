@@ -2,7 +2,8 @@
 //! are in `asking`.
 
 ghost use Rattle.std.specs.Prelude.{◌≡◌, ◌<◌, ◌≤◌, ◌^◌, map, IfOk, IfErr, IsOk};
-ghost use Rattle.rd_lock.specs.Histories.{AreAll, Every};
+ghost use Rattle.rd_lock.specs.Histories.{AreAll};
+ghost use Rattle.std.specs.List.{AllByRecursion};
 ghost use Rattle.rd_lock.specs.Locks.{number as number_of, served_seen, IsSamePass};
 ghost use Rattle.rd_lock.specs.Opening.{AreInLine, HasSeenUpTo};
 ghost use Rattle.rd_desk.specs.Desks.{IsViewerOf, IsOpened, IsClosedOver, viewers as viewers_of};
@@ -13,7 +14,7 @@ use rd_lock::{Busy, NoMemory, Pass, TicketLock};
 use rd_marks::Book;
 use std::alloc::Global;
 
-/// A desk has no more viewers than these.
+/// How many viewers a desk may have.
 pub const MOST_VIEWERS: u64 = 64;
 
 /// A viewer's right to ask: a pass of the desk's lock. Its number is the viewer's, from 1.
@@ -26,7 +27,8 @@ pub struct Desk<const R: usize> {
 }
 
 impl<const R: usize> Desk<R> {
-    /// A desk over the book, with an empty history, and a pass for each viewer, numbered from 1 on.
+    /// Returns a desk over the book, with an empty history, and a pass for each viewer, numbered
+    /// from 1.
     ///
     /// # Errors
     ///
@@ -54,8 +56,9 @@ impl<const R: usize> Desk<R> {
         }
     }
 
-    /// Two passes learn that of what they have seen one begins the other. The number is that of the
-    /// ticket that is served then, at least each that either of the two had seen served.
+    /// Lets two passes learn that what one of them has seen is a beginning of what the other has
+    /// seen. Returns the ticket that is served then, which is at least each that either of the two
+    /// had seen served, and the two passes.
     pub fn meet(&self, one: DeskPass<R>, other: DeskPass<R>) -> (u64, DeskPass<R>, DeskPass<R>)
         requires own { IsViewerOf self.now one × IsViewerOf self.now other }
         ensures own { IsViewerOf self.now result.1 × IsViewerOf self.now result.2 }
@@ -67,18 +70,18 @@ impl<const R: usize> Desk<R> {
         self.lock.meet(one, other)
     }
 
-    /// Ends the desk, and gives the book and the history that leaves it.
+    /// Ends the desk, and returns the book and the history that led to it.
     ///
     /// # Errors
     ///
-    /// `Busy` with two words of the lock that differ, neither below what a pass that was handed in
-    /// has seen: a pass that wasn't handed in waits, or was lost inside a call. It never comes with
-    /// all passes. Book and history are lost then.
+    /// `Busy` if a pass that wasn't handed in waits, or was lost inside a call, with the two words
+    /// of the lock, which then differ. Neither is below what a pass that was handed in has seen.
+    /// This never happens if all passes are handed in. Book and history are then lost.
     pub fn close(self, passes: Vec<DeskPass<R>>) -> Result<(Book<R>, History), Busy>
-        requires own { Every (IsViewerOf self) passes.items }
+        requires own { AllByRecursion (IsViewerOf self) passes.items }
         ensures ok { IfOk result (λ closed. IsClosedOver self.entry passes.entry.items closed.0 closed.1) }
         ensures err { IfErr result (λ words. (words.served < words.next) × (words.next ≤ 2 ^ 63)) }
-        ensures newest { IfErr result (λ words. Every (HasSeenUpTo words) passes.entry.items) }
+        ensures newest { IfErr result (λ words. AllByRecursion (HasSeenUpTo words) passes.entry.items) }
         ensures succeeds { AreAll (viewers_of self.entry) (map number_of passes.entry.items) → IsOk result }
     {
         let Desk { lock } = self;

@@ -1,4 +1,4 @@
-//! What viewers ask: a desk, or what is in its place.
+//! What viewers ask: a desk, or another type in its place.
 
 ghost use Rattle.std.specs.Prelude.{Result};
 ghost use Rattle.rd_cell.specs.declared.refusal.Refusal.{Refusal};
@@ -12,7 +12,7 @@ use rd_lock::Busy;
 use rd_marks::{Command, Reply};
 use std::sync::Wait;
 
-/// Why a desk did not have its book obey a command.
+/// Why a desk did not let its book obey a command.
 #[derive(Clone, Copy, Debug, PartialEq, Eq)]
 pub enum DeskRefusal {
     /// 21: the history has as many calls as it may have.
@@ -21,23 +21,23 @@ pub enum DeskRefusal {
     NotRecorded,
     /// 29: all tickets of the lock are drawn.
     TicketsEnded,
-    /// 30: the lock isn't free. Only `try_ask` answers it.
+    /// 30: the lock isn't free. Only `try_ask` returns it.
     Busy(Busy),
 }
 
-/// What a viewer is answered: by the book, or that the desk refused.
+/// What a viewer is answered: the book's answer, or the desk's refusal.
 pub type Answer = Result<Result<Reply, Refusal>, DeskRefusal>;
 
 /// What viewers can ask, each with its own pass.
 pub trait Gate {
-    /// What a viewer asks with.
+    /// The right that a viewer needs in order to ask.
     type Pass: Send + Drop;
 
     ghost takes: { Self → Self.Pass → Type 0 };
 
     ghost told: { Self → Self.Pass → Command → Result (Result Reply Refusal) DeskRefusal → Self.Pass → Type 0 };
 
-    /// Asks one command. It may wait.
+    /// Asks one command and returns the answer. It may wait.
     fn ask<R: Wait>(
         &self,
         rt: &R,
@@ -51,14 +51,15 @@ pub trait Gate {
 
 impl<const N: usize> Gate for Desk<N> {
     ghost use Rattle.rd_desk.specs.Desks.{opened_state, IsViewerOf};
-    ghost use Rattle.rd_desk.specs.Asking.{IsTold};
+    ghost use Rattle.rd_desk.specs.Asking.{KnowsAfterCall};
 
     type Pass = DeskPass<N>;
 
     ghost takes = { λ desk pass. IsViewerOf desk pass };
 
-    ghost told = { λ desk pass command answer after. IsTold N (opened_state desk) pass after command answer };
+    ghost told = { λ desk pass command answer after. KnowsAfterCall N (opened_state desk) pass after command answer };
 
+    /// Asks one command as `Desk::ask` does, and returns the answer.
     fn ask<R: Wait>(
         &self,
         rt: &R,

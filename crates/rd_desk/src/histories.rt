@@ -6,7 +6,7 @@ use rd_cell::Refusal;
 use rd_marks::{Command, Reply};
 use std::alloc::{AllocError, Global};
 
-/// A history has no more calls than these.
+/// How many calls a history may have.
 pub const MOST_CALLS: usize = 100_000;
 
 /// One call: a command, and what the book answered. It is plain data: copying it takes no memory.
@@ -26,20 +26,20 @@ pub struct History {
 }
 
 impl History {
-    ghost use Rattle.rd_desk.specs.Histories.{entries, entry_at};
-    ghost use Rattle.rd_desk.specs.Histories.{entry as recorded};
+    ghost use Rattle.rd_desk.specs.Histories.{entries, viewer_entry as recorded};
+    ghost use Rattle.rd_step.specs.Lists.{numbered};
 
-    /// How many calls there are.
+    /// Returns the number of calls in the history.
     pub fn len(&self) -> u64
         ensures { result ≡ length (entries self.now) }
     {
         self.entries.len() as u64
     }
 
-    /// The call of this number, from 1, with its viewer. None if the number is 0 or above the
-    /// number of calls.
+    /// Returns the call of this number, from 1, with the number of its viewer; none if the number
+    /// is 0 or above that of the calls.
     pub fn entry(&self, number: u64) -> Option<(u64, Call)>
-        ensures { result ≡ entry_at (entries self.now) number }
+        ensures { result ≡ numbered (entries self.now) number }
     {
         if number == 0 {
             return None;
@@ -47,7 +47,7 @@ impl History {
         self.entries.get(number as usize - 1).copied()
     }
 
-    /// A history with no call.
+    /// Returns a history without any call.
     pub(crate) fn new(alloc: Global) -> History
         ensures { entries result ≡ [] }
     {
@@ -56,14 +56,14 @@ impl History {
         }
     }
 
-    /// Whether there are as many calls as there may be.
+    /// Whether the history has as many calls as it may have.
     pub(crate) fn is_full(&self) -> bool
         ensures { result ≡ (length (entries self.now) == MOST_CALLS) }
     {
         self.entries.len() == MOST_CALLS
     }
 
-    /// Makes room for one more call.
+    /// Makes room for one more call, or fails if memory was refused.
     pub(crate) fn make_room(&mut self) -> Result<(), AllocError>
         ensures entries { entries self.new ≡ entries self.old }
         ensures ok { OnOk result (vec_len self.new.entries < vec_capacity self.new.entries) }
@@ -71,7 +71,7 @@ impl History {
         self.entries.reserve(1)
     }
 
-    /// Records one more call, for which there is room.
+    /// Records one more call, for which there must be room.
     pub(crate) fn push(&mut self, viewer: u64, command: Command, answer: Result<Reply, Refusal>)
         requires room { vec_len self.old.entries < vec_capacity self.old.entries }
         ensures { entries self.new ≡ entries self.old ++ recorded viewer command answer ∷ [] }

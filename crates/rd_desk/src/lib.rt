@@ -1,9 +1,9 @@
-//! The desk: several viewers share one debugger, and each may rely on what its contract says of the
-//! one history that all of them made.
+//! The desk: several viewers share one debugger, and each may rely on what its contract states of
+//! the one history that all of them made.
 //!
 //! A call is one command that the book obeys under the lock, and one entry of the history. A
-//! viewer's contract says how the history that it has seen grows, whatever the other viewers did in
-//! between.
+//! viewer's contract states how the history that it has seen grows, whatever the other viewers did
+//! in between.
 #![tactic(auto)]
 
 mod asking;

@@ -1,14 +1,13 @@
-//! What the lock guards: a book, and the history that leaves it.
+//! What the lock guards: a book, and the history that led to it.
 //!
 //! That the history is legal from the book that was opened, and leaves the book that is there, is a
 //! fact of the type, so it holds whenever the lock is taken. A command is obeyed only where there
-//! is room to record it. The book lies in a box, so that a call moves a few words into the lock and
-//! out of it, and not the book.
+//! is room to record it. The book is kept in a box, so that a call moves a few words into the lock
+//! and out of it, and not the book.
 
 ghost use Rattle.std.specs.Prelude.{◌≡◌, ◌<◌, ◌≤◌, ◌++◌, ◌∷◌, [], length, IfOk, IfErr, OnOk, OnErr};
 ghost use Rattle.rd_marks.specs.BookViews.{book_state};
-ghost use Rattle.rd_desk.specs.Histories.{MOST_CALLS, entries, IsLeftBy, IsUnrecorded};
-ghost use Rattle.rd_desk.specs.Histories.{entry as recorded};
+ghost use Rattle.rd_desk.specs.Histories.{MOST_CALLS, entries, IsLeftBy, IsUnrecorded, viewer_entry as recorded};
 
 use super::gates::DeskRefusal;
 use super::histories::{Call, History};
@@ -39,11 +38,11 @@ impl<const R: usize> Recorded for BookWithHistory<R> {
 }
 
 impl<const R: usize> BookWithHistory<R> {
-    /// A book with no history yet.
+    /// Returns a book with an empty history.
     ///
     /// # Errors
     ///
-    /// The book, if the room for it was refused.
+    /// The book comes back if the room for it was refused.
     pub(crate) fn new(alloc: Global, book: Book<R>) -> Result<BookWithHistory<R>, Book<R>>
         ensures book { IfOk result (λ kept. kept.book.value ≡ book.entry) }
         ensures opened { IfOk result (λ kept. kept.opened.value ≡ book.entry) }
@@ -61,12 +60,12 @@ impl<const R: usize> BookWithHistory<R> {
         }
     }
 
-    /// Has the book obey a command, and records the call as the viewer's.
+    /// Lets the book obey a command, records the call as the viewer's, and returns the answer.
     ///
     /// # Errors
     ///
     /// In this order: `HistoryFull` if there are `MOST_CALLS` calls; `NotRecorded` if the room for
-    /// one more was refused. Book and history have not changed then.
+    /// one more was refused. Book and history are then unchanged.
     pub(crate) fn record(
         &mut self,
         viewer: u64,

@@ -1,7 +1,7 @@
 //! The room that a run of viewers takes, all of it made before the first command is asked.
 
 ghost use Rattle.std.specs.Prelude.{◌≡◌, ◌≤◌, [], length, vec_capacity, IfOk};
-ghost use Rattle.rd_desk.specs.Viewers.{Pairs};
+ghost use Rattle.std.specs.List.{AllZip};
 ghost use Rattle.rd_desk.specs.Rooms.{IsRoomFor};
 
 use super::gates::{DeskRefusal, Gate};
@@ -11,9 +11,9 @@ use rd_cell::Refusal;
 use rd_marks::{Command, Reply};
 use std::alloc::{AllocError, Global};
 
-/// Room for what a run of viewers makes.
+/// The lists that a run of viewers fills, with their room.
 pub(crate) struct Room<G: Gate> {
-    /// Of each viewer, for its answers.
+    /// For the answers of each viewer.
     pub(crate) answers: Vec<Vec<Result<Result<Reply, Refusal>, DeskRefusal>>>,
     /// For the handles of the threads.
     pub(crate) started: Vec<Started<G>>,
@@ -21,12 +21,13 @@ pub(crate) struct Room<G: Gate> {
     pub(crate) rans: Vec<Ran<G::Pass>>,
 }
 
-/// Makes all the room that a run of these viewers takes.
+/// Returns empty lists with all the room that a run of these viewers takes, or fails if memory was
+/// refused.
 pub(crate) fn make_rooms<G: Gate>(
     alloc: Global,
     work: &Vec<(G::Pass, Vec<Command>)>,
 ) -> Result<Room<G>, AllocError>
-    ensures answers { IfOk result (λ room. Pairs IsRoomFor work.now.items room.answers.items) }
+    ensures answers { IfOk result (λ room. AllZip IsRoomFor work.now.items room.answers.items) }
     ensures started { IfOk result (λ room. (room.started.items ≡ []) × (length work.now.items ≤ vec_capacity room.started)) }
     ensures rans { IfOk result (λ room. (room.rans.items ≡ []) × (length work.now.items ≤ vec_capacity room.rans)) }
 {

@@ -4,8 +4,8 @@
 //! given, and which commands.
 
 ghost use Rattle.std.specs.Prelude.{◌≡◌, ◌≤◌, List, [], length, reverse, vec_capacity};
-ghost use Rattle.rd_lock.specs.Histories.{Every};
-ghost use Rattle.rd_desk.specs.Viewers.{Pairs, IsChain, IsRan};
+ghost use Rattle.std.specs.List.{AllByRecursion, AllZip};
+ghost use Rattle.rd_desk.specs.Viewers.{IsChain, IsRan};
 ghost use Rattle.rd_desk.specs.Rooms.{IsRoomFor};
 ghost use Rattle.rd_desk.specs.Threads.{IsStarted};
 
@@ -40,7 +40,7 @@ impl<G: Gate> Promise<Done<G>> for Asked<G> {
     ghost kept_by = { λ asked done. G.takes asked.gate.value done.0 × IsChain (G.told asked.gate.value) asked.pass.value asked.commands.value.items done.1.items done.0 };
 }
 
-/// Asks each command in order.
+/// Asks each command in order, and returns the pass and the answers.
 fn ask_all<R: Wait, G: Gate>(
     rt: &R,
     gate: &G,
@@ -61,8 +61,8 @@ fn ask_all<R: Wait, G: Gate>(
     (pass, answers)
 }
 
-/// Starts a thread for each viewer, from the last one to the first. One whose thread is refused is
-/// asked nothing.
+/// Starts a thread for each viewer, from the last one to the first. A viewer whose thread is
+/// refused asks nothing.
 fn start_all<'s, E: 's, R: Threads + Wait + Sync, G: Gate + Sync>(
     scope: &'s Scope<'s, E>,
     rt: &'s R,
@@ -71,10 +71,10 @@ fn start_all<'s, E: 's, R: Threads + Wait + Sync, G: Gate + Sync>(
     mut answers: Vec<Vec<Result<Result<Reply, Refusal>, DeskRefusal>>>,
     mut started: Vec<Started<G>>,
 ) -> Vec<Started<G>>
-    requires own { Every (λ viewer. G.takes gate.now viewer.0) work.items }
-    requires answers { Pairs IsRoomFor work.items answers.items }
+    requires own { AllByRecursion (λ viewer. G.takes gate.now viewer.0) work.items }
+    requires answers { AllZip IsRoomFor work.items answers.items }
     requires started { (started.items ≡ []) × (length work.items ≤ vec_capacity started) }
-    ensures { Pairs (IsStarted gate.now) work.items (reverse result.items) }
+    ensures { AllZip (IsStarted gate.now) work.items (reverse result.items) }
 {
     while let Some((pass, commands)) = work.pop() {
         let Some(room) = answers.pop() else {
@@ -98,15 +98,15 @@ fn start_all<'s, E: 's, R: Threads + Wait + Sync, G: Gate + Sync>(
     started
 }
 
-/// Waits for each thread, from the last one that was started to the first, and gives what became of
-/// the viewers.
+/// Waits for each thread, from the last one that was started to the first, and adds what became of
+/// its viewer to `rans`.
 fn join_all<R: Threads, G: Gate>(
     rt: &R,
     mut started: Vec<Started<G>>,
     mut rans: Vec<Ran<G::Pass>>,
 ) -> Vec<Ran<G::Pass>>
     requires rans { (rans.items ≡ []) × (length started.items ≤ vec_capacity rans) }
-    ensures { (gate : G) (work : List _) → Pairs (IsStarted gate) work (reverse started.items) → Pairs (IsRan (G.takes gate) (G.told gate)) work result.items }
+    ensures { (gate : G) (work : List _) → AllZip (IsStarted gate) work (reverse started.items) → AllZip (IsRan (G.takes gate) (G.told gate)) work result.items }
 {
     while let Some(handle) = started.pop() {
         let ran = match handle {
@@ -121,18 +121,18 @@ fn join_all<R: Threads, G: Gate>(
     rans
 }
 
-/// Runs all viewers in one scope.
+/// Runs all viewers, each in its own thread of one scope, and returns what became of them.
 pub(crate) fn run_all<R: Threads + Wait + Sync, G: Gate + Sync>(
     rt: &R,
     gate: &G,
     work: Vec<(G::Pass, Vec<Command>)>,
     room: Room<G>,
 ) -> Vec<Ran<G::Pass>>
-    requires own { Every (λ viewer. G.takes gate.now viewer.0) work.items }
-    requires answers { Pairs IsRoomFor work.items room.answers.items }
+    requires own { AllByRecursion (λ viewer. G.takes gate.now viewer.0) work.items }
+    requires answers { AllZip IsRoomFor work.items room.answers.items }
     requires started { (room.started.items ≡ []) × (length work.items ≤ vec_capacity room.started) }
     requires rans { (room.rans.items ≡ []) × (length work.items ≤ vec_capacity room.rans) }
-    ensures { Pairs (IsRan (G.takes gate.now) (G.told gate.now)) work.items result.items }
+    ensures { AllZip (IsRan (G.takes gate.now) (G.told gate.now)) work.items result.items }
 {
     let Room {
         answers,
@@ -143,11 +143,11 @@ pub(crate) fn run_all<R: Threads + Wait + Sync, G: Gate + Sync>(
         thread::scope_env(),
         rt,
         move |scope| -> Vec<Ran<G::Pass>>
-            requires own { Every (λ viewer. G.takes gate.now viewer.0) work.items }
-            requires answers { Pairs IsRoomFor work.items answers.items }
+            requires own { AllByRecursion (λ viewer. G.takes gate.now viewer.0) work.items }
+            requires answers { AllZip IsRoomFor work.items answers.items }
             requires started { (started.items ≡ []) × (length work.items ≤ vec_capacity started) }
             requires rans { (rans.items ≡ []) × (length work.items ≤ vec_capacity rans) }
-            ensures { Pairs (IsRan (G.takes gate.entry.now) (G.told gate.entry.now)) work.items result.items }
+            ensures { AllZip (IsRan (G.takes gate.entry.now) (G.told gate.entry.now)) work.items result.items }
         {
             let started = start_all(scope, rt, gate, work, answers, started);
             join_all(rt, started, rans)

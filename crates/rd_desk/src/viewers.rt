@@ -5,8 +5,8 @@
 //! back in the viewers' order.
 
 ghost use Rattle.std.specs.Prelude.{◌≡◌, IfOk, IfErr};
-ghost use Rattle.rd_lock.specs.Histories.{Every};
-ghost use Rattle.rd_desk.specs.Viewers.{Pairs, IsRan};
+ghost use Rattle.std.specs.List.{AllByRecursion, AllZip};
+ghost use Rattle.rd_desk.specs.Viewers.{IsRan};
 
 use super::gates::{DeskRefusal, Gate};
 use super::rooms::make_rooms;
@@ -28,23 +28,24 @@ pub enum Ran<P> {
         /// The answers, one for each command, in order.
         answers: Vec<Result<Result<Reply, Refusal>, DeskRefusal>>,
     },
-    /// 20: its thread was refused. It was asked nothing, and its pass is dropped.
+    /// 20: its thread was refused. It asked nothing, and its pass is dropped.
     NoMemory,
 }
 
-/// Asks each viewer's commands in order, each viewer in its own thread, and waits for all of them.
+/// Asks each viewer's commands in order, each viewer in its own thread, waits for all of them, and
+/// returns what became of each.
 ///
 /// # Errors
 ///
-/// `NoMemory` with the work if the room for the answers was refused. Nobody was asked then.
+/// `NoMemory` with the work if the room for the answers was refused. No command was asked then.
 pub fn run_viewers<R: Threads + Wait + Sync, G: Gate + Sync>(
     rt: &R,
     alloc: Global,
     gate: &G,
     work: Vec<(G::Pass, Vec<Command>)>,
 ) -> Result<Vec<Ran<G::Pass>>, (NoMemory, Vec<(G::Pass, Vec<Command>)>)>
-    requires own { Every (λ viewer. G.takes gate.now viewer.0) work.items }
-    ensures ok { IfOk result (λ rans. Pairs (IsRan (G.takes gate.now) (G.told gate.now)) work.items rans.items) }
+    requires own { AllByRecursion (λ viewer. G.takes gate.now viewer.0) work.items }
+    ensures ok { IfOk result (λ rans. AllZip (IsRan (G.takes gate.now) (G.told gate.now)) work.items rans.items) }
     ensures err { IfErr result (λ refused. refused.1 ≡ work) }
 {
     match make_rooms(alloc, &work) {

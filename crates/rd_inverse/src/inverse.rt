@@ -8,12 +8,12 @@ ghost use Rattle.rd_step.specs.Laws.{WasStepped, IsTakenOut};
 use rd_step::{Entry, World};
 
 /// Undoes the step of an entry: puts back the old content of its place and the old words of its
-/// actor, and changes nothing else. It can't fail, and takes no memory. What a read found is still
-/// there, so its place isn't touched.
+/// actor, and changes nothing else. It can't fail, and takes no memory. The place of a read is not
+/// touched, as what the read found is still there.
 ///
-/// The step was made in a run that gave this world, and no step that was made after it and remains
-/// depends on it (Danos and Krivine 2004). What is left is the run without it, whichever run that
-/// was.
+/// The step must have been made in a run that reached this world, and no later step of that run
+/// that remains may depend on it (Danos and Krivine 2004). What is left is the run without it,
+/// whichever run that was.
 pub fn unstep<const R: usize>(world: &mut World<R>, entry: &Entry)
     requires { WasStepped R (model world.old) entry.now }
     ensures back { model world.new ≡ unstep (model world.old) entry.now }

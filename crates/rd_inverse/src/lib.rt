@@ -1,6 +1,6 @@
 //! Undoing one step, even if others were made after it.
 //!
-//! A step is undone from the words that its entry keeps: nothing is replayed, and no step but it is
+//! A step is undone from the words that its entry keeps. Nothing is replayed, and no other step is
 //! looked at.
 #![tactic(auto)]
 

@@ -3,7 +3,8 @@
 use Rattle.std.proofs.Common.{◌≡◌, ◌≢◌, ℕ, zero, suc, ◌+◌, ◌-◌, ◌<◌, ◌≤◌, ◌==◌, ◌||◌, inl, inr, Bool, true, false, nat_lt, if◌then◌else◌, refl, sym, ◌∙◌, ap, subst, arith, List, [], ◌∷◌, ◌++◌, length, get_or, take, drop, slice_get, Option, Some, None, eq-eqb, ne_eqb}
 use Rattle.std.proofs.lemmas.Bool.{cases_Bool, cases_eq, cond-true, cond-false, lt-ltb, le-ltb, ltb-true, ltb-false}
 use Rattle.rd_step.specs.Prelude.{depends, IsFree, first_dependant, depends_on_one, closure, closure_of, without_closure, marked, unmarked}
-use Rattle.rd_step.specs.Dependence.{numbered, IsInClosure, closure_from, first_from, first_after, AreLoneUndos, number_after}
+use Rattle.rd_step.specs.Dependence.{IsInClosure, closure_from, first_from, first_after, AreLoneUndos, number_after}
+use Rattle.rd_step.specs.Lists.{numbered}
 use Rattle.rd_step.specs.Dependence.IsInClosure.{itself, dependant}
 use Rattle.rd_step.specs.declared.entries.Entry.{Entry}
 use Rattle.rd_journal.specs.Journal.{Journal}

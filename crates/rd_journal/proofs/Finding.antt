@@ -4,7 +4,8 @@ use Rattle.std.proofs.Common.{◌≡◌, ℕ, zero, suc, ◌+◌, ◌-◌, ◌<�
 use Rattle.std.proofs.lemmas.Bool.{lt-ltb, le-ltb}
 use Rattle.std.proofs.lemmas.List.{append_assoc, length-take-le, take_at, take-append-le, drop-append-le, get_or_append_left}
 use Rattle.std.proofs.lemmas.Option.{slice_get-get_or}
-use Rattle.rd_step.specs.Dependence.{numbered, first_from, first_after, first_dependant, depends, closure_from}
+use Rattle.rd_step.specs.Dependence.{first_from, first_after, first_dependant, depends, closure_from}
+use Rattle.rd_step.specs.Lists.{numbered}
 use Rattle.rd_step.specs.Prelude.{closure_of, without_closure, unmarked}
 use Rattle.rd_step.specs.declared.entries.Entry.{Entry}
 use Rattle.rd_journal.proofs.Gathering.{cut_at}

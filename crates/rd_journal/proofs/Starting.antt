@@ -6,7 +6,7 @@ use Rattle.rd_step.specs.Prelude.{World, Ran, run, unstep, IsWellFormed}
 use Rattle.rd_step.specs.Laws.{WasStepped}
 use Rattle.rd_step.specs.declared.entries.Entry.{Entry}
 use Rattle.rd_journal.specs.Journal.{Journal, events, world_before, start_of, IsRun, LeadsTo}
-use Rattle.rd_journal.specs.State.{event_at}
+use Rattle.rd_step.specs.Lists.{numbered}
 use Rattle.rd_journal.proofs.ListLemmas.{drop_one_less}
 use Rattle.rd_journal.proofs.Runs.{as_ok, as_ok-same, goes_back, world_before-last, shrunk}
 
@@ -56,7 +56,7 @@ one_before {X} xs n x some within here =
 -- The event of an undone step
 
 -- none has this number
-pub event_missing : (xs : List Entry) (i : ℕ) → (i ≡ 0) ⊎ (length xs < i) → None ≡ event_at (events xs) i
+pub event_missing : (xs : List Entry) (i : ℕ) → (i ≡ 0) ⊎ (length xs < i) → None ≡ numbered (events xs) i
 event_missing xs zero h = refl
 event_missing xs (suc n) (inl e) = absurd (omega arith)
 event_missing xs (suc n) (inr past) =
@@ -64,7 +64,7 @@ event_missing xs (suc n) (inr past) =
     ∙ ap (λ (o : Option Entry). option_map (λ (y : Entry). y.event) o) (slice_get_past xs n (omega arith)))
 
 -- it is that of the record at its place
-pub event_found : (xs : List Entry) (i : ℕ) (x : Entry) → 1 ≤ i → i ≤ length xs → x ≡ get_or xs (i - 1) x → Some x.event ≡ event_at (events xs) i
+pub event_found : (xs : List Entry) (i : ℕ) (x : Entry) → 1 ≤ i → i ≤ length xs → x ≡ get_or xs (i - 1) x → Some x.event ≡ numbered (events xs) i
 event_found xs zero x some within here = absurd (omega arith)
 event_found xs (suc n) x some within here =
     let same : suc n - 1 ≡ n = omega arith in

@@ -16,7 +16,7 @@ abbrev pub world_before : World → List Entry → World
 world_before w [] = w
 world_before w (x ∷ xs) = unstep (world_before w xs) x
 
--- the world that the live steps began in: it is stored nowhere, and is what putting back their old
+-- the world in which the live steps began: it is stored nowhere, and is what putting back their old
 -- words gives
 abbrev pub start_of : Journal → World
 start_of j = world_before j.world j.live

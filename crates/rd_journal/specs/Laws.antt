@@ -1,4 +1,4 @@
--- What the laws of the journal say.
+-- What the laws of the journal state.
 use Rattle.std.specs.Prelude.{◌≡◌, ℕ, ◌-◌, ◌++◌, Some, take, drop, Ok}
 use Rattle.rd_step.specs.Prelude.{Place, operand, World, step, closure_of, without_closure, run}
 use Rattle.rd_step.specs.declared.entries.Entry.{Entry}

@@ -4,17 +4,18 @@ use Rattle.rd_step.specs.Prelude.{Refusal, NoSuchStep, Depended, first_dependant
 use Rattle.rd_step.specs.declared.entries.Entry.{Entry}
 use Rattle.rd_journal.specs.Journal.{Journal, start_of, events}
 
--- one more step is live, the last, and none is undone
+-- the journal got one more live record, the last, and none is undone
 pub record IsLengthened (x : Entry) (old new : Journal) : Type 0 where
   pub live : new.live ≡ old.live ++ x ∷ []
   pub undone : new.undone ≡ []
 
--- the last n live records are the front of the undone ones, in their order, and no record changed
+-- the last n live records became the front of the undone ones, in their order, and no record
+-- changed
 pub record IsMovedBack (n : ℕ) (old new : Journal) : Type 0 where
   pub live : new.live ≡ take (length old.live - n) old.live
   pub undone : new.undone ≡ drop (length old.live - n) old.live ++ old.undone
 
--- the first n undone records are the last live ones, in their order, and no record changed
+-- the first n undone records became the last live ones, in their order, and no record changed
 pub record IsMovedForward (n : ℕ) (old new : Journal) : Type 0 where
   pub live : new.live ≡ old.live ++ take n old.undone
   pub undone : new.undone ≡ drop n old.undone
@@ -24,8 +25,8 @@ abbrev pub IsBeforeLast : ℕ → ℕ → Journal → Journal → Type 0
 IsBeforeLast R n old new =
     run R (start_of old) (take (length old.live - n) (events old.live)) ≡ Ok (record { world = new.world; entries = new.live })
 
--- the k-th live record is the front of the undone ones, all others are as they were, and no record
--- changed
+-- the k-th live record became the front of the undone ones, all others are as they were, and no
+-- record changed
 pub record IsTakenOutAt (k : ℕ) (old new : Journal) : Type 0 where
   pub live : new.live ≡ take (k - 1) old.live ++ drop k old.live
   pub undone : new.undone ≡ take 1 (drop (k - 1) old.live) ++ old.undone
@@ -34,23 +35,23 @@ pub record IsTakenOutAt (k : ℕ) (old new : Journal) : Type 0 where
 abbrev pub IsWithout : ℕ → ℕ → Journal → Journal → Type 0
 IsWithout R k old new = run R (start_of old) (without (events old.live) k) ≡ Ok (record { world = new.world; entries = new.live })
 
--- undoing a step alone answers that it is done, or the first step that depends on it
+-- the answer to undoing a step alone: done, or `Depended` with the first step that depends on it
 abbrev pub answer_unless : Option ℕ → Result Unit Refusal
 answer_unless None = Ok tt
 answer_unless (Some j) = Err (Depended j)
 
--- what undoing the k-th live step alone answers: that there is none, or that the first live step
--- that depends on it is this, or that it is done
+-- the answer to undoing the k-th live step alone: `NoSuchStep` if there is no such step, `Depended`
+-- with the first live step that depends on it if there is one, else done
 abbrev pub answer_at : Journal → ℕ → Result Unit Refusal
 answer_at j zero = Err (NoSuchStep (length j.live))
 answer_at j (suc i) = if nat_lt i (length j.live) then answer_unless (first_dependant j.live (suc i)) else Err (NoSuchStep (length j.live))
 
--- the first n live records stay, these are after them, and none is undone
+-- the first n live records stayed, the given ones are after them now, and none is undone
 pub record IsSwitched (n : ℕ) (given : List Entry) (old new : Journal) : Type 0 where
   pub live : new.live ≡ take n old.live ++ given
   pub undone : new.undone ≡ []
 
--- the records of the causal closure of k are the front of the undone ones, in their order, all
+-- the records of the causal closure of k became the front of the undone ones, in their order, all
 -- others are as they were, and no record changed
 pub record IsRolledBack (k : ℕ) (old new : Journal) : Type 0 where
   pub live : new.live ≡ without_closure old.live k
@@ -61,7 +62,7 @@ abbrev pub IsWithoutClosure : ℕ → ℕ → Journal → Journal → Type 0
 IsWithoutClosure R k old new =
     run R (start_of old) (unmarked (closure old.live k) (events old.live)) ≡ Ok (record { world = new.world; entries = new.live })
 
--- what rolling back the k-th live step answers: that there is none, or that it is done
+-- the answer to rolling back the k-th live step: `NoSuchStep` if there is no such step, else done
 abbrev pub roll_answer : Journal → ℕ → Result Unit Refusal
 roll_answer j zero = Err (NoSuchStep (length j.live))
 roll_answer j (suc i) = if nat_lt i (length j.live) then Ok tt else Err (NoSuchStep (length j.live))

@@ -1,4 +1,4 @@
--- Entries by the numbers of the slots that they are kept in, and orders of such numbers.
+-- Entries by the numbers of the slots in which they are kept, and orders of such numbers.
 use Rattle.std.specs.Prelude.{◌≡◌, ℕ, ◌==◌, nat_lt, if◌then◌else◌, List, length, take, drop}
 use Rattle.std.specs.List.{flat_map, count_by}
 

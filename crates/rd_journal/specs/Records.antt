@@ -13,15 +13,15 @@ all_records r = at_numbers r.slots.items r.order.items
 abbrev pub live_records : Records → List Entry
 live_records r = take r.live (all_records r)
 
--- those of the steps ahead of them: the undone ones, the one undone last in front, and after them
--- those that the live ones went back over
+-- the records of the steps ahead of the live ones: first the undone ones, the one undone last in
+-- front, then those that the live ones went back over
 abbrev pub ahead_records : Records → List Entry
 ahead_records r = take r.ahead (drop r.live (all_records r))
 
--- the live ones, and after them those ahead
+-- the records of the live steps, and after them those of the steps ahead
 abbrev pub kept_records : Records → List Entry
 kept_records r = live_records r ++ ahead_records r
 
--- for how many records, live ones and those ahead, there is room
+-- how many records, live ones and those ahead, there is room for
 abbrev pub records_capacity : Records → ℕ
 records_capacity r = min (vec_capacity r.slots) (min (vec_capacity r.order) (vec_capacity r.gathered))

@@ -14,15 +14,16 @@ abbrev pub room_returned_by : List Entry → ℕ → ℕ
 room_returned_by [] m = 0
 room_returned_by (x ∷ xs) m = room_returned x.place x.old_content m + room_returned_by xs m
 
--- there is that much room for each maker: redoing these records takes no memory
+-- each maker has the room that undoing these records gave back, so that redoing them takes no
+-- memory
 pub record HasRoom (undone : List Entry) (room : ℕ → ℕ) : Type 0 where
   pub at : (m : ℕ) → room_returned_by undone m ≤ room m
 
--- there is that much room for each maker that is an actor of the world
+-- each maker that is an actor of the world has the room that undoing these records gave back
 pub record HasRoomForAll (w : World) (given : List Entry) (room : ℕ → ℕ) : Type 0 where
   pub at : (m : ℕ) → IsSome (w.actor m) → room_returned_by given m ≤ room m
 
--- the index has no room for all of these, put after those that it is of
+-- the index has no room for all of these records after its own
 abbrev pub LacksIndexRoom : DependIndex → List Entry → Type 0
 LacksIndexRoom index given = HasRoomFor index given → ⊥
 
@@ -40,11 +41,11 @@ pub record IsOutOfMemory (R : ℕ) (j : Journal) (capacity : ℕ) (room : ℕ �
   pub asked : ((j.undone ≡ []) × (capacity ≡ length j.live)) ⊎ FindsNoRoom (step R j.world e) (makes_segment R j.world e) (room e.actor)
       ⊎ IsNotIndexed (step R j.world e) index
 
--- what the step itself is refused for is answered only where there is room for its record
+-- the refusal of the step itself is answered only where there is room for its record
 abbrev pub ComesAfterRoom : ℕ → ℕ → Refusal → Type 0
 ComesAfterRoom live capacity refusal = (refusal ≡ TooLong) ⊎ (refusal ≡ NoMemory) ⊎ (live < capacity)
 
--- the room of each maker once these records are undone
+-- the room of each maker after these records were undone
 abbrev pub room_without : List Entry → (ℕ → ℕ) → ℕ → ℕ
 room_without dropped room m = room m + room_returned_by dropped m
 
@@ -52,8 +53,8 @@ room_without dropped room m = room m + room_returned_by dropped m
 abbrev pub LacksRoomForMakings : List Entry → (ℕ → ℕ) → Type 0
 LacksRoomForMakings given room = (m : ℕ) × (room m < room_returned_by given m)
 
--- after the first n records there is no room for these, or some maker has none for the makings
--- among them, once the others are undone, or the index has none
+-- room is missing for a switch: for the given records after the first n, or, once the others are
+-- undone, for the makings among them at some maker, or in the index
 abbrev pub LacksRoom : ℕ → List Entry → List Entry → ℕ → (ℕ → ℕ) → DependIndex → Type 0
 LacksRoom n live given capacity room index =
     (capacity < n + length given) ⊎ LacksRoomForMakings given (room_without (drop n live) room) ⊎ LacksIndexRoom index given

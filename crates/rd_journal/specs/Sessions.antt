@@ -19,19 +19,19 @@ abbrev pub state : {R : ℕ} → Session R → State
 state s = state_of (journal s)
 
 -- the events of the session's track, along which it goes back and forth: those of the live steps,
--- and of the ones ahead of them, which are kept to be made again as they are: the undone ones, and
--- after these those that it went back over
+-- and after them those of the steps ahead, which can be made again as they are (the undone ones,
+-- and then those that it went back over)
 abbrev pub track : {R : ℕ} → Session R → List Event
 track s = (state s).live ++ events (ahead_records s.records)
 
--- how many makings of an actor can't be refused for memory
+-- how many more segments an actor can make without memory being asked for
 abbrev pub room : {R : ℕ} → Session R → ℕ → ℕ
 room s m = world_room s.world m
 
--- for how many records, live and undone ones, there is room
+-- how many records, live and undone ones, there is room for
 abbrev pub capacity : {R : ℕ} → Session R → ℕ
 capacity s = records_capacity s.records
 
--- the index of dependants: that of the live steps and, after them, of those ahead
+-- the session's index of dependants: that of the live steps and, after them, of those ahead
 abbrev pub index : {R : ℕ} → Session R → DependIndex
 index s = s.index

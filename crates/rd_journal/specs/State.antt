@@ -1,6 +1,6 @@
--- What a session is to its callers: a start world, the live events and the undone events. No
--- record, no old word and no place in a run is in it: it knows only the run of a list.
-use Rattle.std.specs.Prelude.{ℕ, zero, suc, Bool, ◌-◌, ◌==◌, nat_lt, if◌then◌else◌, List, [], ◌∷◌, ◌++◌, length, take, drop, slice_get, Option, Some, None, Result, Ok, Err}
+-- What a session is to its callers: a start world, the live events and the undone events. It has no
+-- record, no old word and no position in a run, and its definitions use only the run of a list.
+use Rattle.std.specs.Prelude.{ℕ, zero, suc, Bool, ◌-◌, ◌==◌, nat_lt, if◌then◌else◌, List, [], ◌∷◌, ◌++◌, length, take, drop, Option, Some, None, Result, Ok, Err}
 use Rattle.rd_step.specs.Prelude.{Refusal, TooLong, NothingToUndo, NothingToRedo, NoSuchStep, Depended, OpReply, World, Stepped, step, Ran, run, first_dependant, without, closure, marked, unmarked, MOST_STEPS}
 use Rattle.rd_step.specs.declared.entries.Event.{Event}
 use Rattle.rd_journal.specs.Journal.{Journal, start_of, events}
@@ -11,12 +11,7 @@ pub record State : Type 0 where
   pub live : List Event
   pub undone : List Event
 
--- the event of this number in a list, from 1, if there is one
-abbrev pub event_at : List Event → ℕ → Option Event
-event_at es zero = None
-event_at es (suc k) = slice_get es k
-
--- the state that a journal is of
+-- the state of a journal
 abbrev pub state_of : Journal → State
 state_of j = record { start = start_of j; live = events j.live; undone = events j.undone }
 
@@ -29,12 +24,12 @@ abbrev pub step_after : ℕ → Result Ran Refusal → Event → Result Stepped 
 step_after R (Err refusal) e = Err refusal
 step_after R (Ok r) e = step R r.world e
 
--- what a step replies, if it ends a call
+-- what a step's call replies, if the step ends one
 abbrev pub reply_in : Result Stepped Refusal → Option OpReply
 reply_in (Err refusal) = None
 reply_in (Ok stepped) = stepped.entry.reply
 
--- what the event replies in the last world of the live events
+-- what the event's call replies in the last world of the live events, if the event ends one
 abbrev pub reply_to : ℕ → State → Event → Option OpReply
 reply_to R s e = reply_in (step_after R (run_of R s) e)
 
@@ -43,12 +38,12 @@ abbrev pub with_event : State → Event → Result Stepped Refusal → Result St
 with_event s e (Err refusal) = Err refusal
 with_event s e (Ok stepped) = Ok (record { start = s.start; live = s.live ++ e ∷ []; undone = [] })
 
--- an event: refused if as many steps are live as may be, and else as its step is refused in the
--- last world of the live events
+-- the state after an event: refused if as many steps are live as may be, else as its step is
+-- refused in the last world of the live events
 abbrev pub apply : ℕ → State → Event → Result State Refusal
 apply R s e = if length s.live == MOST_STEPS then Err TooLong else with_event s e (step_after R (run_of R s) e)
 
--- the last of live becomes the front of undone, if there is one
+-- the state where the last of live became the front of undone, if there was one
 abbrev pub back_one : State → State
 back_one s = record {
   start = s.start;
@@ -56,28 +51,28 @@ back_one s = record {
   undone = drop (length s.live - 1) s.live ++ s.undone;
 }
 
--- the front of undone becomes the last of live, if there is one
+-- the state where the front of undone became the last of live, if there was one
 abbrev pub forward_one : State → State
 forward_one s = record { start = s.start; live = s.live ++ take 1 s.undone; undone = drop 1 s.undone }
 
--- this many times
+-- the state after a change was made this many times
 abbrev pub times : ℕ → (State → State) → State → State
 times zero f s = s
 times (suc n) f s = f (times n f s)
 
--- undoing the last live step
+-- the state after undoing the last live step; refused if there is none
 abbrev pub undo : State → Result State Refusal
 undo s = if length s.live == 0 then Err (NothingToUndo 0) else Ok (back_one s)
 
--- n times undo, all or none
+-- the state after n undos of the last live step; refused if fewer are live
 abbrev pub back : State → ℕ → Result State Refusal
 back s n = if nat_lt (length s.live) n then Err (NothingToUndo (length s.live)) else Ok (times n back_one s)
 
--- redoing the step that was undone last
+-- the state after redoing the step that was undone last; refused if there is none
 abbrev pub redo : State → Result State Refusal
 redo s = if length s.undone == 0 then Err NothingToRedo else Ok (forward_one s)
 
--- n times redo, all or none
+-- the state after n redos; refused if fewer steps are undone
 abbrev pub forward : State → ℕ → Result State Refusal
 forward s n = if nat_lt (length s.undone) n then Err NothingToRedo else Ok (times n forward_one s)
 
@@ -86,7 +81,7 @@ abbrev pub dependant_in : ℕ → Result Ran Refusal → Option ℕ
 dependant_in k (Err refusal) = None
 dependant_in k (Ok r) = first_dependant r.entries k
 
--- the k-th of live becomes the front of undone, and all others stay in their order
+-- the state where the k-th of live became the front of undone, and all others stay in their order
 abbrev pub one_out : State → ℕ → State
 one_out s k = record { start = s.start; live = without s.live k; undone = take 1 (drop (k - 1) s.live) ++ s.undone }
 
@@ -95,30 +90,30 @@ abbrev pub one_out_unless : State → ℕ → Option ℕ → Result State Refusa
 one_out_unless s k (Some j) = Err (Depended j)
 one_out_unless s k None = Ok (one_out s k)
 
--- undoing the k-th live step alone: refused if there is none, and with the number of the first live
--- step that depends on it, if there is one
+-- the state after undoing the k-th live step alone: refused if there is none, and with the number
+-- of the first live step that depends on it, if there is one
 abbrev pub undo_at : ℕ → State → ℕ → Result State Refusal
 undo_at R s zero = Err (NoSuchStep (length s.live))
 undo_at R s (suc i) =
     if nat_lt i (length s.live) then one_out_unless s (suc i) (dependant_in (suc i) (run_of R s)) else Err (NoSuchStep (length s.live))
 
--- of each step of a run, whether it is in the causal closure of the k-th
+-- for each step of a run, whether it is in the causal closure of the k-th
 abbrev pub closure_in : ℕ → Result Ran Refusal → List Bool
 closure_in k (Err refusal) = []
 closure_in k (Ok r) = closure r.entries k
 
--- the marked live events become the front of undone, in their order, and all others stay in their
--- order
+-- the state where the marked live events became the front of undone, in their order, and all others
+-- stay in their order
 abbrev pub marked_out : State → List Bool → State
 marked_out s marks = record { start = s.start; live = unmarked marks s.live; undone = marked marks s.live ++ s.undone }
 
--- rolling back the k-th live step: it and just the later ones that depend on it, directly or
--- through others, become the front of undone; refused if there is none
+-- the state after rolling back the k-th live step: it and just the later ones that depend on it,
+-- directly or through others, became the front of undone; refused if there is none
 abbrev pub roll : ℕ → State → ℕ → Result State Refusal
 roll R s zero = Err (NoSuchStep (length s.live))
 roll R s (suc i) =
     if nat_lt i (length s.live) then Ok (marked_out s (closure_in (suc i) (run_of R s))) else Err (NoSuchStep (length s.live))
 
--- live becomes its first n events and then these, and nothing is undone
+-- the state whose live events are the first n from before and then these, with nothing undone
 abbrev pub switch : State → ℕ → List Event → State
 switch s n es = record { start = s.start; live = take n s.live ++ es; undone = [] }

@@ -16,16 +16,16 @@ use rd_depend::DependIndex;
 use rd_step::Entry;
 use std::alloc::AllocError;
 
-/// How many positions are taken out of the index one by one at most.
-const FEW: usize = 1_000;
+/// The most positions that are taken out of the index one by one.
+const MOST_SINGLE_REMOVALS: usize = 1_000;
 
-/// Has the index of the records be that of the first `n` of them and, after these, of the given
+/// Makes the index of the records that of the first `n` of them and, after these, of the given
 /// ones.
 ///
 /// # Errors
 ///
-/// If memory was refused, which is asked for only where the room is missing after the first `n`.
-/// The index is as before then.
+/// `AllocError` if memory was refused, which is asked for only where the room is missing after the
+/// first `n`. The index is as before then.
 pub(crate) fn index_instead(
     index: &mut DependIndex,
     records: &Records,
@@ -55,7 +55,7 @@ pub(crate) fn cut_index(index: &mut DependIndex, records: &Records, n: usize)
     ensures left { IsIndexOf index.new (take n (kept_records records.now)) }
     ensures room { (rest : List Record) → HasRoomFor index.old rest → HasRoomFor index.new (drop n (kept_records records.now) ++ rest) }
 {
-    if records.kept_len() - n > FEW {
+    if records.kept_len() - n > MOST_SINGLE_REMOVALS {
         index.truncate(n as u64);
     } else {
         pop_behind(index, records, n);
@@ -74,7 +74,7 @@ fn pop_behind(index: &mut DependIndex, records: &Records, n: usize)
     }
 }
 
-/// Puts the records after those that the index is of into it. There is room for them.
+/// Puts the records after those in the index into it. There must be room for them.
 pub(crate) fn fill_index(index: &mut DependIndex, records: &Records)
     requires indexed { IsIndexOf index.old (take index.old.len (kept_records records.now)) }
     requires room { HasRoomFor index.old (drop index.old.len (kept_records records.now)) }
@@ -85,7 +85,7 @@ pub(crate) fn fill_index(index: &mut DependIndex, records: &Records)
     }
 }
 
-/// Puts an entry into the index, in which there is room for it.
+/// Puts an entry into the index, which must have room for it.
 pub(crate) fn put_back(index: &mut DependIndex, entry: &Entry)
     requires few { index.old.len < MOST_STEPS }
     requires room { HasRoomFor index.old (entry.now ∷ []) }

@@ -4,7 +4,8 @@
 ghost use Rattle.std.specs.Prelude.{◌≡◌, ◌≤◌, ◌↔◌, ℕ, true, List, length, None, Some, Ok};
 ghost use Rattle.rd_step.specs.declared.entries.Entry.{Entry as Record};
 ghost use Rattle.rd_step.specs.Prelude.{closure, closure_of};
-ghost use Rattle.rd_step.specs.Dependence.{numbered, IsInClosure, AreLoneUndos, number_after};
+ghost use Rattle.rd_step.specs.Dependence.{IsInClosure, AreLoneUndos, number_after};
+ghost use Rattle.rd_step.specs.Lists.{numbered};
 ghost use Rattle.rd_journal.specs.Journal.{Journal, IsRun};
 ghost use Rattle.rd_journal.specs.Laws.{IsMovedLast, IsClosureLast, IsOneRun};
 ghost use Rattle.rd_journal.specs.State.{State, state_of, undo_at, back, redo, forward, roll};
@@ -16,20 +17,21 @@ pub fn forward_after_back_gives_the_state_back()
 {}
 
 /// A start, live events and undone events determine the world and every record: what a call does to
-/// the state says what it does to the whole session.
+/// the state determines what it does to the whole session.
 pub fn a_state_has_one_journal()
     ensures { (R : ℕ) (i j : Journal) → IsRun R i → IsRun R j → state_of i ≡ state_of j → i ≡ j }
 {}
 
 /// The loop lemma: going back and then forward as far gives the world and every record, live and
-/// undone, from before. Of the words of one step it is in the laws of rd_step, as
+/// undone, from before. For one step it is among the laws of rd_step, as
 /// `entries_undo_their_steps`.
 pub fn forward_after_back_gives_the_journal_back()
     ensures { (R : ℕ) (i j k : Journal) (n : ℕ) → IsRun R i → IsRun R k → back (state_of i) n ≡ Ok (state_of j)
         → forward (state_of j) n ≡ Ok (state_of k) → k ≡ i }
 {}
 
-/// Live followed by undone is one run from the start. So the front of undone can always be redone.
+/// The live events followed by the undone ones are one run from the start. So the front of the
+/// undone ones can always be redone.
 pub fn live_and_undone_are_one_run()
     ensures { (R : ℕ) (j : Journal) → IsRun R j → IsOneRun R j }
 {}
@@ -56,15 +58,15 @@ pub fn the_closure_is_the_least_set()
         → ((numbered (closure entries k) j ≡ Some true) ↔ IsInClosure entries k j) }
 {}
 
-/// Whichever lone undos, none refused, take a step out of a run, they take all of its closure out:
-/// `Session::roll` takes no step out that could stay.
+/// If undos of single steps, none refused, take a step out of a run, they take out all of its
+/// closure. So `Session::roll` takes out no step that could stay.
 pub fn lone_undos_that_take_a_step_out_take_its_closure_out()
     ensures { (entries : List Record) (ns : List ℕ) (k j : ℕ) → AreLoneUndos ns entries → number_after ns k ≡ None
         → IsInClosure entries k j → number_after ns j ≡ None }
 {}
 
-/// If all that a rollback undid is redone, the world is that from before it, no record has changed,
-/// and what was redone is last, in its order.
+/// If all steps that a rollback undid are redone, the world is that from before it, no record has
+/// changed, and the redone steps are the last ones, in their order.
 pub fn a_closure_rolled_back_and_redone_is_last()
     ensures { (R : ℕ) (i j k : Journal) (n : ℕ) → IsRun R i → IsRun R k → roll R (state_of i) n ≡ Ok (state_of j)
         → forward (state_of j) (length (closure_of i.live n)) ≡ Ok (state_of k) → IsClosureLast n i k }

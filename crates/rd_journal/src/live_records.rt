@@ -29,7 +29,7 @@ impl<'a> Model for LiveRecords<'a> {
 }
 
 impl<'a> LiveRecords<'a> {
-    /// Those in the slots of these numbers.
+    /// Returns the records in the slots of these numbers.
     pub(crate) fn new(slots: &'a [Entry], numbers: &'a [u32]) -> LiveRecords<'a>
         requires { All (λ n. n < length slots.now) numbers.now }
         ensures { result ≡ at_numbers slots.now numbers.now }
@@ -37,7 +37,7 @@ impl<'a> LiveRecords<'a> {
         LiveRecords { slots, numbers }
     }
 
-    /// How many there are.
+    /// Returns the number of records.
     pub fn len(&self) -> usize
         ensures { result ≡ length self.now }
     {
@@ -63,7 +63,7 @@ impl<'a> LiveRecords<'a> {
         }
     }
 
-    /// Those after the first `n`.
+    /// Returns the records after the first `n`.
     pub fn behind(&self, n: usize) -> LiveRecords<'a>
         requires { n ≤ length self.now }
         ensures { result ≡ drop n self.now }
@@ -72,7 +72,7 @@ impl<'a> LiveRecords<'a> {
     }
 }
 
-/// The entry in the slot whose number is at this position.
+/// Returns the entry in the slot whose number is at this position, from 0, of the numbers.
 pub(crate) fn entry_at<'a>(slots: &'a [Entry], numbers: &[u32], position: usize) -> &'a Entry
     requires within { position < length numbers.now }
     requires below { All (λ n. n < length slots.now) numbers.now }
@@ -81,7 +81,7 @@ pub(crate) fn entry_at<'a>(slots: &'a [Entry], numbers: &[u32], position: usize)
     &slots[numbers[position] as usize]
 }
 
-/// The numbers after the first `n`.
+/// Returns the numbers of slots after the first `n`.
 fn numbers_behind(numbers: &[u32], n: usize) -> &[u32]
     requires { n ≤ length numbers.now }
     ensures { result.now ≡ drop n numbers.now }

@@ -34,7 +34,8 @@ pub(crate) struct Records {
     slots: Vec<Entry>,
     /// The numbers of the slots: of the live records, of those ahead, and of the discarded ones.
     order: Vec<u32>,
-    /// The numbers that a rollback gathers; none but then. There is room for one of each slot.
+    /// The numbers that a rollback gathers; none at any other time. There is room for one of each
+    /// slot.
     gathered: Vec<u32>,
     /// How many are live.
     live: usize,
@@ -50,7 +51,7 @@ pub(crate) struct Records {
 impl Records {
     ghost use Rattle.rd_journal.specs.Records.{all_records, live_records, ahead_records, kept_records, records_capacity};
 
-    /// No record. It takes no memory.
+    /// Returns records with none in them. It takes no memory.
     pub(crate) fn new(alloc: Global) -> Records
         ensures live { live_records result ≡ [] }
         ensures ahead { ahead_records result ≡ [] }
@@ -65,14 +66,14 @@ impl Records {
         }
     }
 
-    /// Those of the live steps.
+    /// Returns the records of the live steps.
     pub(crate) fn live(&self) -> LiveRecords<'_>
         ensures { result ≡ live_records self.now }
     {
         self.first(self.live)
     }
 
-    /// The first `n` of those ahead.
+    /// Returns the first `n` records of the steps ahead.
     pub(crate) fn ahead(&self, n: usize) -> LiveRecords<'_>
         requires within { n ≤ length (ahead_records self.now) }
         ensures { result ≡ take n (ahead_records self.now) }
@@ -80,7 +81,7 @@ impl Records {
         self.first(self.live + n).behind(self.live)
     }
 
-    /// The first `n` of all.
+    /// Returns the first `n` records, live or ahead.
     fn first(&self, n: usize) -> LiveRecords<'_>
         requires within { n ≤ self.now.live + self.now.ahead }
         ensures { result ≡ take n (all_records self.now) }
@@ -110,7 +111,8 @@ impl Records {
         self.at(position)
     }
 
-    /// The record at this position, from 0, of the live ones and of those ahead of them.
+    /// Returns the record at this position, from 0, in the list of the live records and those
+    /// ahead.
     pub(crate) fn kept_at(&self, position: usize) -> &Entry
         requires within { position < length (kept_records self.now) }
         ensures { result.now ≡ get_or (kept_records self.now) position result.now }
@@ -126,7 +128,7 @@ impl Records {
         self.at(self.live + position)
     }
 
-    /// The record whose slot's number is at this place of the order.
+    /// Returns the record in the slot whose number is at this place of the order.
     fn at(&self, place: usize) -> &Entry
         requires { place < length (all_records self.now) }
         ensures { result.now ≡ get_or (all_records self.now) place result.now }
@@ -201,7 +203,7 @@ impl Records {
         )
     }
 
-    /// Makes room for this many records. Room that is there is not asked for.
+    /// Makes room for this many records. Memory is asked for only if the room is missing.
     pub(crate) fn make_room_for(&mut self, needed: usize) -> Result<(), AllocError>
         ensures live { live_records self.new ≡ live_records self.old }
         ensures ahead { ahead_records self.new ≡ ahead_records self.old }
@@ -214,8 +216,8 @@ impl Records {
         make_room_in(&mut self.gathered, needed)
     }
 
-    /// Keeps the first `n` live records, and puts these after them, inside the room that there is;
-    /// all of them are live then, and none is ahead.
+    /// Keeps the first `n` live records, and puts the given ones after them, in room that must be
+    /// there. All of these are then live, and none is ahead.
     pub(crate) fn exchange(&mut self, n: usize, given: &[Entry])
         requires within { n ≤ length (live_records self.old) }
         requires room { n + length given.now ≤ records_capacity self.old }

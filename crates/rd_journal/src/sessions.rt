@@ -8,12 +8,12 @@
 //! Beside the records is their index of dependants, at every moment that of the live ones and,
 //! after them, of those ahead: a dependant that it finds after the live ones is none.
 //!
-//! The live steps with those ahead of them are the session's track. Who knows what lies on it goes
-//! along it: what that leaves ahead stays there, though it is not undone for any caller, and can be
-//! made again with no record copied and the index as it is.
+//! The live steps with those ahead of them are the session's track. A caller that knows which steps
+//! are on it goes along it: the steps that this leaves ahead stay there, though no caller sees them
+//! as undone, and can be made again with no record copied and the index as it is.
 //!
 //! The calls that change a session are here, and how they move its steps in the other files of
-//! `sessions/`; `queries` has what it tells.
+//! `sessions/`; `queries` has those that only read it.
 
 mod moving;
 mod queries;
@@ -59,6 +59,7 @@ pub struct Session<const R: usize> {
 /// Written out and not derived, so that a proof of a function in which a session ends has one step
 /// for that, and not one for each list inside.
 impl<const R: usize> Drop for Session<R> {
+    /// Frees all memory of the session.
     fn drop(self) {
         let Session {
             world: _world,
@@ -93,7 +94,7 @@ impl<const R: usize> Session<R> {
     ///
     /// In this order: `TooLong` if `MOST_STEPS` steps are live; `NoMemory` if the room for one more
     /// record was refused, which is asked for only if no step is undone and the records fill their
-    /// room; what the step is refused for, `NoMemory` for a making whose maker has no room;
+    /// room; the refusal of the step itself, `NoMemory` for a making whose maker has no room;
     /// `NoMemory` if the index of dependants has no room for the step and was refused it. Nothing
     /// has changed then.
     pub fn apply(&mut self, event: Event) -> Result<(u64, Entry), Refusal>
@@ -183,8 +184,8 @@ impl<const R: usize> Session<R> {
     /// directly or through others. In their order they become the front of the undone steps, and
     /// all other steps stay as they are. It takes no memory and makes no step again.
     ///
-    /// Its time is one pass over the later live steps: whether one depends on a step that is undone
-    /// is told by a few look-ups, and the index of dependants is put together again after the step.
+    /// Its time is one pass over the later live steps: a few look-ups decide whether one depends on
+    /// a step that is undone, and the index of dependants is put together again after the step.
     ///
     /// # Errors
     ///
@@ -234,8 +235,8 @@ impl<const R: usize> Session<R> {
         Ok(())
     }
 
-    /// Steps the event again that was undone last. It leaves the record that it left before. It
-    /// takes no memory.
+    /// Redoes the step that was undone last, which leaves the record that it left before. It takes
+    /// no memory.
     ///
     /// # Errors
     ///
@@ -286,7 +287,7 @@ impl<const R: usize> Session<R> {
     /// # Errors
     ///
     /// `NoMemory` if room was refused, which is asked for only where it is missing once the others
-    /// are undone; so not if no record is given. Nothing has changed then.
+    /// are undone, and never if no record is given. Nothing has changed then.
     pub fn switch(&mut self, n: u64, entries: &[Entry]) -> Result<(), Refusal>
         requires within { n ≤ length (journal self.old).live }
         requires few { n + length entries.now ≤ MOST_STEPS }
@@ -305,9 +306,9 @@ impl<const R: usize> Session<R> {
     }
 
     /// Goes along the session's track, which is the live steps with those ahead of them: its first
-    /// `n` steps are live then, and none is undone. The track stays as it is. It copies no record
-    /// and takes no memory, and its time grows with the number of steps that it undoes or makes
-    /// again alone.
+    /// `n` steps become the live ones, and none is undone. The track stays as it is. It copies no
+    /// record and takes no memory, and its time grows only with the number of steps that it undoes
+    /// or makes again.
     pub fn go_along(&mut self, n: u64)
         requires within { n ≤ length (track self.old) }
         ensures state { state self.new ≡ record { start = (state self.old).start; live = take n (track self.old); undone = [] } }

@@ -8,7 +8,7 @@ use Rattle.rd_lock.specs.declared.views.Stage.TheVariants.{Out, Holds}
 use Rattle.rd_lock.specs.Histories.{named, Adds, placed}
 use Rattle.rd_lock.specs.Rule.{number_in, view_of, in_hand}
 use Rattle.rd_lock.specs.Steps.{knows_served, has_put, after_served, IsNewestServed, saw_served, released}
-use Rattle.rd_lock.specs.Locks.{IsToldIn, IsDueIn, HasPutIn}
+use Rattle.rd_lock.specs.Locks.{KnowsOpening, IsDueIn, HasPutIn}
 use Rattle.rd_lock.proofs.Lock.{Lock, Rule}
 use Rattle.rd_lock.proofs.Lists.{named_own}
 use Rattle.rd_lock.proofs.Releases.{found_or, releases}
@@ -24,8 +24,8 @@ module _ {T E O : Type 0} where
   pub single : (m : Me (Option T) (View E O)) (s : Stage E) (c : List (ℕ × Option T)) → length m.0.members ≡ 1 → m.0.stage ≡ s → m.1 ≡ c → (p : PassView E O) × (m ≡ (view_of (p ∷ []) s, c))
   single m s c one stage hand = let p = one_of m.0.members one in (p.0, λ i. (view_of (p.1 i) (stage i), hand i))
 
-  pub told_one : (seats : ℕ) (root : O) (m : Me (Option T) (View E O)) (p : PassView E O) (s : Stage E) (c : List (ℕ × Option T)) → m ≡ (view_of (p ∷ []) s, c) → IsToldIn seats root m.0.members → (p.seats ≡ seats) × (p.origin ≡ root)
-  told_one seats root m p s c is h = subst (λ (x : Me (Option T) (View E O)). IsToldIn seats root x.0.members) is h
+  pub told_one : (seats : ℕ) (root : O) (m : Me (Option T) (View E O)) (p : PassView E O) (s : Stage E) (c : List (ℕ × Option T)) → m ≡ (view_of (p ∷ []) s, c) → KnowsOpening seats root m.0.members → (p.seats ≡ seats) × (p.origin ≡ root)
+  told_one seats root m p s c is h = subst (λ (x : Me (Option T) (View E O)). KnowsOpening seats root x.0.members) is h
 
   -- after a load of served
   pub saw : (m m' : Me (Option T) (View E O)) (p : PassView E O) (n : ℕ) → m ≡ (view_of (p ∷ []) Out, []) → saw_served m n m'
@@ -48,26 +48,26 @@ module _ {T E O : Type 0} where
   pub settled : (m : Me (Option T) (View E O)) (q : PassView E O) (s : Stage E) → m ≡ (view_of (q ∷ []) s, in_hand s) → (length m.0.members ≡ 1) × (m.1 ≡ in_hand m.0.stage)
   settled m q s is = (ap (λ (x : Me (Option T) (View E O)). length x.0.members) is, ap (λ (x : Me (Option T) (View E O)). x.1) is ∙ sym (ap (λ (x : Me (Option T) (View E O)). in_hand x.0.stage) is))
 
-  pub told_still : (seats : ℕ) (root : O) (m : Me (Option T) (View E O)) (q : PassView E O) (s : Stage E) (c : List (ℕ × Option T)) → m ≡ (view_of (q ∷ []) s, c) → (q.seats ≡ seats) × (q.origin ≡ root) → IsToldIn seats root m.0.members
-  told_still seats root m q s c is h = subst (λ (x : Me (Option T) (View E O)). IsToldIn seats root x.0.members) (sym is) h
+  pub told_still : (seats : ℕ) (root : O) (m : Me (Option T) (View E O)) (q : PassView E O) (s : Stage E) (c : List (ℕ × Option T)) → m ≡ (view_of (q ∷ []) s, c) → (q.seats ≡ seats) × (q.origin ≡ root) → KnowsOpening seats root m.0.members
+  told_still seats root m q s c is h = subst (λ (x : Me (Option T) (View E O)). KnowsOpening seats root x.0.members) (sym is) h
 
 module _ {T E O : Type 0} (lock : Lock T E O) where
   open lock use {history, origin, seats, root}
 
   -- a holder's view, with the value that it puts back
-  pub due_view : (v : View E O) (x : T) → length v.members ≡ 1 → IsToldIn seats root v.members → IsDueIn history origin root v x
+  pub due_view : (v : View E O) (x : T) → length v.members ≡ 1 → KnowsOpening seats root v.members → IsDueIn history origin root v x
       → (p : PassView E O) × (t : ℕ) × (log : List (ℕ × E)) × (v ≡ view_of (p ∷ []) (Holds t log)) × Adds p.pass log (history x) × (origin x ≡ p.origin) × (p.seats ≡ seats) × (p.origin ≡ root)
   due_view v x one told due = let p = one_of v.members one in let h = due.held in let adds = subst (λ ps. Adds (number_in ps) h.1 (history x)) p.1 h.3 in
-      let knows = subst (λ ps. IsToldIn seats root ps) p.1 told in (p.0, h.0, h.1, (λ i. view_of (p.1 i) (h.2 i)), adds, due.rooted ∙ sym knows.1, knows.0, knows.1)
+      let knows = subst (λ ps. KnowsOpening seats root ps) p.1 told in (p.0, h.0, h.1, (λ i. view_of (p.1 i) (h.2 i)), adds, due.rooted ∙ sym knows.1, knows.0, knows.1)
 
-  pub releases_it : (slots id : ℕ) (v : View E O) (m : Me (Option T) (View E O)) (x : T) → length v.members ≡ 1 → IsToldIn seats root v.members → IsDueIn history origin root v x → m ≡ (v, (0, Some x) ∷ [])
+  pub releases_it : (slots id : ℕ) (v : View E O) (m : Me (Option T) (View E O)) (x : T) → length v.members ≡ 1 → KnowsOpening seats root v.members → IsDueIn history origin root v x → m ≡ (v, (0, Some x) ∷ [])
       → Allows (Rule lock) slots id m 0 (λ n. (n + 1) % 2 ^ 64) (released history origin m)
   releases_it slots id v m x one told due is = let d = due_view v x one told due in
       let e : m ≡ (view_of (d.0 ∷ []) (Holds d.1 d.2), (0, Some x) ∷ []) = is ∙ ap (λ (u : View E O). (u, (0, Some x) ∷ [])) d.3 in
       subst (λ (y : Me (Option T) (View E O)). Allows (Rule lock) slots id y 0 (λ n. (n + 1) % 2 ^ 64) (released history origin y)) (sym e)
       (releases lock slots id d.0 d.1 d.2 x d.4 d.5)
 
-  pub has_released : (v : View E O) (m m' : Me (Option T) (View E O)) (x : T) (n : ℕ) → length v.members ≡ 1 → IsToldIn seats root v.members → IsDueIn history origin root v x → m ≡ (v, (0, Some x) ∷ [])
+  pub has_released : (v : View E O) (m m' : Me (Option T) (View E O)) (x : T) (n : ℕ) → length v.members ≡ 1 → KnowsOpening seats root v.members → IsDueIn history origin root v x → m ≡ (v, (0, Some x) ∷ [])
       → released history origin m n m' → (q : PassView E O) × (m' ≡ (view_of (q ∷ []) Out, [])) × ((q.seats ≡ seats) × (q.origin ≡ root)) × HasPutIn history v m'.0 x
   has_released v m m' x n one told due is did = let d = due_view v x one told due in let p = d.0 in
       let e : m ≡ (view_of (p ∷ []) (Holds d.1 d.2), (0, Some x) ∷ []) = is ∙ ap (λ (u : View E O). (u, (0, Some x) ∷ [])) d.3 in

@@ -12,8 +12,9 @@ use Rattle.rd_lock.specs.declared.views.PassView.{PassView}
 use Rattle.rd_lock.specs.declared.views.View.{View}
 use Rattle.rd_lock.specs.declared.views.Stage.{Stage}
 use Rattle.rd_lock.specs.declared.views.Stage.TheVariants.{Out, Waits, Holds}
-use Rattle.rd_lock.specs.Histories.{Every, named, placed}
-use Rattle.rd_lock.specs.Rule.{Place, home, away, Facts, ticket, view_of, IsAloneAt, HasTicket, slot_of}
+use Rattle.rd_lock.specs.Histories.{named, placed}
+use Rattle.std.specs.List.{AllByRecursion}
+use Rattle.rd_lock.specs.Rule.{Place, home, away, Facts, ticket, view_of, IsAloneAt, HasTicket, single_slot}
 use Rattle.rd_lock.specs.Steps.{knows_next, after_next, drew, IsFound, tried}
 use Rattle.rd_lock.proofs.Lock.{Lock, Suits, StageSuits, Kept, Rule, Placed}
 use Rattle.rd_lock.proofs.Lists.{inside}
@@ -127,7 +128,7 @@ module _ {T E O : Type 0} (lock : Lock T E O) where
   alone_hits f views id p n kept at served one = let v : View E O = view_of (p ∷ []) Out in let fits = kept.each_view id v at in let mine = fits.members.0 in let words = (mine.only one).1 in let order = kept.order in
       dite (ℕ_discrete f.served f.next) (λ e. omega arith)
       (λ ne. let has = kept.each_ticket f.served (omega arith) (omega arith) in let k : ℕ = f.taker f.served in let theirs = kept.each_view k has.0 has.1 in
-      let who = alone_with f.served has.0.stage has.0.members has.2 theirs.alone in let suits = subst (Every (Suits lock f k)) who.1 theirs.members in
+      let who = alone_with f.served has.0.stage has.0.members has.2 theirs.alone in let suits = subst (AllByRecursion (Suits lock f k)) who.1 theirs.members in
       absurd (no_ticket views id (p ∷ []) k f.served at has (one_seat lock f id k p who.0 one mine suits.0)))
 
   pub found : (f : Facts T E) (id : ℕ) (x : T) (p : PassView E O) → (history x ≡ f.log) × (origin x ≡ root) → Suits lock f id p → IsFound history origin x p
@@ -140,8 +141,8 @@ module _ {T E O : Type 0} (lock : Lock T E O) where
       let stage = subst (StageSuits lock f k) h.2 ((kept.each_view k h.0 h.1).stage) in let low = stage.1 in absurd (omega arith)
 
   won : (slots id : ℕ) (p : PassView E O) (f : Facts T E) (views : List (View E O)) → Kept lock f views → get_elem? views id ≡ some (view_of (p ∷ []) Out) → f.next < 2 ^ 63 → f.served ≡ f.next
-      → (w : View E O) × (a : Act (Option T)) × (g : Facts T E) × (set (f.served ∷ f.next ∷ []) 1 (either (eqb f.next f.next) (f.next + 1) f.next) ≡ g.served ∷ g.next ∷ []) × Valid (slot_of f.place) [] a
-      × (homes_after (slot_of f.place) [] a ≡ slot_of g.place) × Kept lock g (set views id w) × tried history origin f.next (view_of (p ∷ []) Out, []) f.next (w, carried_after [] a)
+      → (w : View E O) × (a : Act (Option T)) × (g : Facts T E) × (set (f.served ∷ f.next ∷ []) 1 (either (eqb f.next f.next) (f.next + 1) f.next) ≡ g.served ∷ g.next ∷ []) × Valid (single_slot f.place) [] a
+      × (homes_after (single_slot f.place) [] a ≡ single_slot g.place) × Kept lock g (set views id w) × tried history origin f.next (view_of (p ∷ []) Out, []) f.next (w, carried_after [] a)
   won slots id p f views kept at room same = let v : View E O = view_of (p ∷ []) Out in let fits = kept.each_view id v at in let there = idle_home f views f.place kept refl same in let x : T = there.0 in
       let at_home : (history x ≡ f.log) × (origin x ≡ root) = (there.2, there.3) in let stage : Stage E = Holds f.next (history x) in let w : View E O = after_next (f.next + 1) stage v in
       let g : Facts T E = drawn f id (away id) in (
@@ -149,8 +150,8 @@ module _ {T E O : Type 0} (lock : Lock T E O) where
         takes 0 (Some x),
         g,
         drawn_words f,
-        subst (λ (l : Place T). get_elem? (slot_of l) 0 ≡ some (some (Some x))) (sym there.1) refl,
-        subst (λ (l : Place T). homes_after (slot_of l) [] (takes 0 (Some x)) ≡ slot_of (away id)) (sym there.1) refl,
+        subst (λ (l : Place T). get_elem? (single_slot l) 0 ≡ some (some (Some x))) (sym there.1) refl,
+        subst (λ (l : Place T). homes_after (single_slot l) [] (takes 0 (Some x)) ≡ single_slot (away id)) (sym there.1) refl,
         drawn_kept f views id p stage (away id) kept at room refl (sym same, omega arith, put_here f.taker f.next id f.next refl, refl, there.2) (p, refl)
             (λ j ne e. absurd (elsewhere j (sym there.1 ∙ e))) (w, set_here views id w (inside views id v at), (λ i. Holds (sym same i) (there.2 i))),
         (newest_next lock f views id v kept fits, (λ _. (x, refl, (found f id x p at_home fits.members.0, tt))), (λ miss. absurd (miss refl))),
@@ -161,8 +162,8 @@ module _ {T E O : Type 0} (lock : Lock T E O) where
   tries slots id p n room served = let v : View E O = view_of (p ∷ []) Out in let then = tried history origin n (v, []) in
       allowed lock slots id (v, []) 1 (λ x. either (eqb x n) (n + 1) x) then (λ f views kept at.
       let fits = kept.each_view id v at in let words = fits.members.0.words.1 in let order = kept.order in dite (ℕ_discrete f.next n)
-      (λ hit. subst (λ (k : ℕ). (w : View E O) × (a : Act (Option T)) × (g : Facts T E) × (set (f.served ∷ f.next ∷ []) 1 (either (eqb f.next k) (k + 1) f.next) ≡ g.served ∷ g.next ∷ []) × Valid (slot_of f.place) [] a
-      × (homes_after (slot_of f.place) [] a ≡ slot_of g.place) × Kept lock g (set views id w) × tried history origin k (v, []) f.next (w, carried_after [] a)) hit
+      (λ hit. subst (λ (k : ℕ). (w : View E O) × (a : Act (Option T)) × (g : Facts T E) × (set (f.served ∷ f.next ∷ []) 1 (either (eqb f.next k) (k + 1) f.next) ≡ g.served ∷ g.next ∷ []) × Valid (single_slot f.place) [] a
+      × (homes_after (single_slot f.place) [] a ≡ single_slot g.place) × Kept lock g (set views id w) × tried history origin k (v, []) f.next (w, carried_after [] a)) hit
       (won slots id p f views kept at (omega arith) (omega arith)))
       (λ miss. (
         after_next f.next Out v,

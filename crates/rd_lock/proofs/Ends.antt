@@ -9,9 +9,10 @@ use Rattle.atomic_table.specs.Table.{State, Final, Seen, opening}
 use Rattle.rd_lock.specs.declared.views.PassView.{PassView}
 use Rattle.rd_lock.specs.declared.views.View.{View}
 use Rattle.rd_lock.specs.declared.views.Stage.TheVariants.{Out}
-use Rattle.rd_lock.specs.Histories.{Every, named, NamesUpTo, IsIn, AreAll}
-use Rattle.rd_lock.specs.Rule.{Place, home, Facts, view_of, numbers_of, newcomers, opening_view, Apart, slot_of}
-use Rattle.rd_lock.specs.Opening.{IsToldOf, IsLeft, KnowsUpTo}
+use Rattle.rd_lock.specs.Histories.{named, NamesUpTo, IsIn, AreAll}
+use Rattle.std.specs.List.{AllByRecursion}
+use Rattle.rd_lock.specs.Rule.{Place, home, Facts, view_of, numbers_of, newcomers, opening_view, Apart, single_slot}
+use Rattle.rd_lock.specs.Opening.{AgreesWithMember, IsLeft, KnowsUpTo}
 use Rattle.rd_lock.specs.declared.tickets.Busy.{Busy}
 use Rattle.rd_lock.proofs.Lock.{Lock, Fits, Suits, Kept, Rule}
 use Rattle.rd_lock.proofs.Lists.{every_from}
@@ -20,7 +21,7 @@ use Rattle.rd_lock.proofs.Releases.{value_or}
 use Rattle.rd_lock.proofs.Draws.{no_ticket, idle_home}
 
 module _ (E : Type 0) {O : Type 0} where
-  later : (seats : ℕ) (root : O) (first k j n : ℕ) → k < j → Every (λ (q : PassView E O). q.pass ≢ k) (newcomers seats root first j n)
+  later : (seats : ℕ) (root : O) (first k j n : ℕ) → k < j → AllByRecursion (λ (q : PassView E O). q.pass ≢ k) (newcomers seats root first j n)
   later seats root first k j zero low = tt
   later seats root first k j (suc n) low = ((λ e. omega arith), later seats root first k (suc j) n (omega arith))
 
@@ -35,7 +36,7 @@ module _ (E : Type 0) {O : Type 0} where
 
 module _ {E O : Type 0} where
   -- the member of this number
-  of_number : (ps : List (PassView E O)) (k : ℕ) (P : PassView E O → Type 0) → IsIn k (numbers_of ps) → Every P ps → (p : PassView E O) × (p.pass ≡ k) × P p
+  of_number : (ps : List (PassView E O)) (k : ℕ) (P : PassView E O → Type 0) → IsIn k (numbers_of ps) → AllByRecursion P ps → (p : PassView E O) × (p.pass ≡ k) × P p
   of_number [] k P h each = absurd h
   of_number (p ∷ ps) k P h each = ⊎_elim (λ (e : p.pass ≡ k). (p, e, each.0)) (λ (rest : IsIn k (numbers_of ps)). of_number ps k P rest each.1) h
 
@@ -45,7 +46,7 @@ module _ {T E O : Type 0} (lock : Lock T E O) where
   abbrev opened : T → ℕ → Facts T E
   opened x first = record { next = first; served = first; log = []; owner = λ _. 0; taker = λ _. 0; place = home x }
 
-  newcomers_fit : (x : T) (first k n : ℕ) → 0 < k → k + n ≤ seats + 1 → Every (Suits lock (opened x first) 0) (newcomers seats root first k n)
+  newcomers_fit : (x : T) (first k n : ℕ) → 0 < k → k + n ≤ seats + 1 → AllByRecursion (Suits lock (opened x first) 0) (newcomers seats root first k n)
   newcomers_fit x first k zero low high = tt
   newcomers_fit x first k (suc n) low high = (
     record {
@@ -89,17 +90,17 @@ module _ {T E O : Type 0} (lock : Lock T E O) where
   abbrev pub IsBack : T → List (Option T) → Type 0
   IsBack x xs = (get_elem? xs 0 ≡ some (Some x)) × (origin x ≡ root) × NamesUpTo seats (history x)
 
-  back : (s : State (Option T) (View E O)) (f : Facts T E) (xs : List (Option T)) → s.homes ≡ slot_of f.place → Kept lock f s.views
+  back : (s : State (Option T) (View E O)) (f : Facts T E) (xs : List (Option T)) → s.homes ≡ single_slot f.place → Kept lock f s.views
       → ((k : ℕ) (y : Option T) → get_elem? s.homes k ≡ some (some y) → get_elem? xs k ≡ some y) → f.served ≡ f.next → (x : T) × IsBack x xs × (history x ≡ f.log)
   back s f xs homes kept values same = let there = idle_home lock f s.views f.place kept refl same in let x : T = there.0 in
-      (x, (values 0 (Some x) (ap (λ hs. get_elem? hs 0) (homes ∙ ap (λ (p : Place T). slot_of p) there.1)), there.3, subst (NamesUpTo seats) (sym there.2) kept.names), there.2)
+      (x, (values 0 (Some x) (ap (λ hs. get_elem? hs 0) (homes ∙ ap (λ (p : Place T). single_slot p) there.1)), there.3, subst (NamesUpTo seats) (sym there.2) kept.names), there.2)
 
   -- where all passes are out, no ticket is open
   none_open : (f : Facts T E) (views : List (View E O)) (id : ℕ) (ps : List (PassView E O)) → Kept lock f views → get_elem? views id ≡ some (view_of ps Out)
       → AreAll seats (numbers_of ps) → f.served ≡ f.next
   none_open f views id ps kept at all = let order = kept.order in dite (ℕ_discrete f.served f.next) (λ e. e)
       (λ ne. let has = kept.each_ticket f.served (omega arith) (omega arith) in let k : ℕ = f.taker f.served in let theirs = kept.each_view k has.0 has.1 in
-      let who = alone_with f.served has.0.stage has.0.members has.2 theirs.alone in let suits = (subst (Every (Suits lock f k)) who.1 theirs.members).0 in
+      let who = alone_with f.served has.0.stage has.0.members has.2 theirs.alone in let suits = (subst (AllByRecursion (Suits lock f k)) who.1 theirs.members).0 in
       let mine = of_number ps (who.0).pass (Suits lock f id) (all (who.0).pass suits.numbered.0 suits.numbered.1) (kept.each_view id (view_of ps Out) at).members in
       let same : k ≡ id = sym suits.owned ∙ (ap f.owner (sym mine.1) ∙ mine.2.owned) in
       absurd (no_ticket lock views id ps k f.served at has same))
@@ -112,8 +113,8 @@ module _ {T E O : Type 0} (lock : Lock T E O) where
     pub words : ws ≡ served ∷ next ∷ []
     pub order : served ≤ next
     pub limit : next ≤ 2 ^ 63
-    pub newest : Every (λ (p : PassView E O). (p.next ≤ next) × (p.served ≤ served)) ps
-    pub value : served ≡ next → (x : T) × IsBack x xs × Every (IsToldOf history origin x) ps
+    pub newest : AllByRecursion (λ (p : PassView E O). (p.next ≤ next) × (p.served ≤ served)) ps
+    pub value : served ≡ next → (x : T) × IsBack x xs × AllByRecursion (AgreesWithMember history origin x) ps
     pub all : AreAll seats (numbers_of ps) → served ≡ next
 
   pub ends : (id : ℕ) (v : View E O) (ws : List ℕ) (xs : List (Option T)) → v.stage ≡ Out → Final (Seen (Rule lock) id v) ws xs → IsEnded v.members ws xs
@@ -127,7 +128,7 @@ module _ {T E O : Type 0} (lock : Lock T E O) where
     value = λ same. let b = back s f xs r.2 kept values same in (
       b.0,
       b.1,
-      every_from (Suits lock f id) (IsToldOf history origin b.0)
+      every_from (Suits lock f id) (AgreesWithMember history origin b.0)
           (λ p h. (subst (IsPrefix p.seen) (sym b.2) h.has_seen, h.has_put ∙ ap (named p.pass 0) (sym b.2))) v.members (kept.each_view id (view_of v.members Out) at).members,
     );
     all = none_open f s.views id v.members kept at;
@@ -161,6 +162,6 @@ module _ {T E O : Type 0} (lock : Lock T E O) where
   all_equal ps ws xs e all = ap (λ l. get_or l 0 0) e.words ∙ (e.all all ∙ ap (λ l. get_or l 1 0) (sym e.words))
 
   -- no one has seen greater words than the last ones
-  pub none_newer : (ps : List (PassView E O)) (ws : List ℕ) (xs : List (Option T)) → IsEnded ps ws xs → (words : Busy) → words.served ≡ get_or ws 0 0 → words.next ≡ get_or ws 1 0 → Every (KnowsUpTo words) ps
+  pub none_newer : (ps : List (PassView E O)) (ws : List ℕ) (xs : List (Option T)) → IsEnded ps ws xs → (words : Busy) → words.served ≡ get_or ws 0 0 → words.next ≡ get_or ws 1 0 → AllByRecursion (KnowsUpTo words) ps
   none_newer ps ws xs e words served next = let a : e.served ≡ words.served = ap (λ l. get_or l 0 0) (sym e.words) ∙ sym served in let b : e.next ≡ words.next = ap (λ l. get_or l 1 0) (sym e.words) ∙ sym next in
-      subst (λ (w : ℕ × ℕ). Every (λ (p : PassView E O). (p.next ≤ w.1) × (p.served ≤ w.0)) ps) (λ i. (a i, b i)) e.newest
+      subst (λ (w : ℕ × ℕ). AllByRecursion (λ (p : PassView E O). (p.next ≤ w.1) × (p.served ≤ w.0)) ps) (λ i. (a i, b i)) e.newest

@@ -11,7 +11,7 @@ use Rattle.rd_lock.specs.declared.views.View.{View}
 use Rattle.rd_lock.specs.declared.views.Stage.{Stage}
 use Rattle.rd_lock.specs.declared.views.Stage.TheVariants.{Out, Waits, Holds}
 use Rattle.rd_lock.specs.Histories.{IsIn, NamesUpTo}
-use Rattle.rd_lock.specs.Rule.{Place, home, away, Facts, ticket, IsAloneAt, numbers_of, HasTicket, HasPass, slot_of}
+use Rattle.rd_lock.specs.Rule.{Place, home, away, Facts, ticket, IsAloneAt, numbers_of, HasTicket, HasPass, single_slot}
 use Rattle.rd_lock.proofs.Lock.{Lock, Fits, Kept, Rule, Placed}
 use Rattle.rd_lock.proofs.Lists.{inside}
 
@@ -85,7 +85,7 @@ module _ {T E O : Type 0} (lock : Lock T E O) where
   pub allowed : (slots id : ℕ) (me : Me (Option T) (View E O)) (i : ℕ) (F : ℕ → ℕ) (then : ℕ → Me (Option T) (View E O) → Type 0)
       → ((f : Facts T E) (views : List (View E O)) → Kept lock f views → get_elem? views id ≡ some me.0
       → (w : View E O) × (a : Act (Option T)) × (g : Facts T E) × (set (f.served ∷ f.next ∷ []) i (F (get_or (f.served ∷ f.next ∷ []) i 0)) ≡ g.served ∷ g.next ∷ [])
-      × Valid (slot_of f.place) me.1 a × (homes_after (slot_of f.place) me.1 a ≡ slot_of g.place) × Kept lock g (set views id w) × then (get_or (f.served ∷ f.next ∷ []) i 0) (w, carried_after me.1 a))
+      × Valid (single_slot f.place) me.1 a × (homes_after (single_slot f.place) me.1 a ≡ single_slot g.place) × Kept lock g (set views id w) × then (get_or (f.served ∷ f.next ∷ []) i 0) (w, carried_after me.1 a))
       → Allows (Rule lock) slots id me i F then
   allowed slots id me i F then owed s r _ at _ = let f = r.0 in let t = owed f s.views r.3 at in (
     t.0,

@@ -4,7 +4,8 @@ use Rattle.std.proofs.lemmas.List.{append-nil}
 use mathlib.Core.Option.{some, some-ne-none, some-injective}
 use mathlib.Core.List.{IsPrefix}
 use lib.ListN.{get_elem?}
-use Rattle.rd_lock.specs.Histories.{Every, Pairwise, named, signed, placed, NamesUpTo}
+use Rattle.rd_lock.specs.Histories.{Pairwise, named, signed, NamesUpTo, placed}
+use Rattle.std.specs.List.{AllByRecursion}
 
 module _ {A : Type 0} where
   pub inside : (l : List A) (i : ℕ) (a : A) → get_elem? l i ≡ some a → i < length l
@@ -19,23 +20,23 @@ module _ {A : Type 0} where
   at_end (x ∷ xs) a b zero e = inl e
   at_end (x ∷ xs) a b (suc j) e = ⊎_elim (λ (h : get_elem? xs j ≡ some b). inl h) (λ (h : (j ≡ length xs) × (a ≡ b)). inr (ap suc h.0, h.1)) (at_end xs a b j e)
 
-  pub every_from : (P Q : A → Type 0) → ((x : A) → P x → Q x) → (xs : List A) → Every P xs → Every Q xs
+  pub every_from : (P Q : A → Type 0) → ((x : A) → P x → Q x) → (xs : List A) → AllByRecursion P xs → AllByRecursion Q xs
   every_from P Q f [] h = tt
   every_from P Q f (x ∷ xs) h = (f x h.0, every_from P Q f xs h.1)
 
-  pub every_append : (P : A → Type 0) (xs ys : List A) → Every P xs → Every P ys → Every P (xs ++ ys)
+  pub every_append : (P : A → Type 0) (xs ys : List A) → AllByRecursion P xs → AllByRecursion P ys → AllByRecursion P (xs ++ ys)
   every_append P [] ys h k = k
   every_append P (x ∷ xs) ys h k = (h.0, every_append P xs ys h.1 k)
 
-  pub every_map : {B : Type 0} (f : A → B) (P : B → Type 0) (xs : List A) → Every (λ x. P (f x)) xs → Every P (map f xs)
+  pub every_map : {B : Type 0} (f : A → B) (P : B → Type 0) (xs : List A) → AllByRecursion (λ x. P (f x)) xs → AllByRecursion P (map f xs)
   every_map f P [] h = tt
   every_map f P (x ∷ xs) h = (h.0, every_map f P xs h.1)
 
-  pub every_both : (P Q R : A → Type 0) → ((x : A) → P x → Q x → R x) → (xs : List A) → Every P xs → Every Q xs → Every R xs
+  pub every_both : (P Q R : A → Type 0) → ((x : A) → P x → Q x → R x) → (xs : List A) → AllByRecursion P xs → AllByRecursion Q xs → AllByRecursion R xs
   every_both P Q R f [] h k = tt
   every_both P Q R f (x ∷ xs) h k = (f x h.0 k.0, every_both P Q R f xs h.1 k.1)
 
-  pub every_at : (P : A → Type 0) (xs : List A) (i : ℕ) (a : A) → get_elem? xs i ≡ some a → Every P xs → P a
+  pub every_at : (P : A → Type 0) (xs : List A) (i : ℕ) (a : A) → get_elem? xs i ≡ some a → AllByRecursion P xs → P a
   every_at P [] i a e h = absurd (some-ne-none a (sym e))
   every_at P (x ∷ xs) zero a e h = subst P (some-injective x a e) h.0
   every_at P (x ∷ xs) (suc i) a e h = every_at P xs i a e h.1
@@ -50,12 +51,12 @@ module _ {A : Type 0} where
 
   -- what holds of each pair of elements of two lists makes the lists' pairwise facts those of the
   -- list of both
-  pub pairwise_append : (R : A → A → Type 0) (xs ys : List A) → Pairwise R xs → Pairwise R ys → Every (λ x. Every (R x) ys) xs → Pairwise R (xs ++ ys)
+  pub pairwise_append : (R : A → A → Type 0) (xs ys : List A) → Pairwise R xs → Pairwise R ys → AllByRecursion (λ x. AllByRecursion (R x) ys) xs → Pairwise R (xs ++ ys)
   pairwise_append R [] ys h k b = k
   pairwise_append R (x ∷ xs) ys h k b = (every_append (R x) xs ys h.0 b.0, pairwise_append R xs ys h.1 k b.1)
 
   -- where P of two elements gives R, and P holds of each, R holds of each pair
-  pub pairwise_all : (P : A → Type 0) (R : A → A → Type 0) → ((x y : A) → P x → P y → R x y) → (xs : List A) → Every P xs → Pairwise R xs
+  pub pairwise_all : (P : A → Type 0) (R : A → A → Type 0) → ((x y : A) → P x → P y → R x y) → (xs : List A) → AllByRecursion P xs → Pairwise R xs
   pairwise_all P R f [] h = tt
   pairwise_all P R f (x ∷ xs) h = (every_from P (R x) (λ y. f x y h.0) xs h.1, pairwise_all P R f xs h.1)
 

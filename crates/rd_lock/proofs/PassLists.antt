@@ -11,20 +11,21 @@ use Rattle.rd_lock.specs.declared.views.Stage.TheVariants.{Out}
 use Rattle.rd_lock.specs.declared.passes.Pass.{Pass}
 use Rattle.rd_lock.specs.declared.tickets.Busy.{Busy}
 use Rattle.rd_lock.specs.declared.locks.TicketLock.{TicketLock}
-use Rattle.rd_lock.specs.Histories.{Every, named, numbers}
+use Rattle.rd_lock.specs.Histories.{named, numbers}
+use Rattle.std.specs.List.{AllByRecursion}
 use Rattle.rd_lock.specs.Rule.{number_in, view_of, newcomer, newcomers, first_of_members, other_members}
-use Rattle.rd_lock.specs.Locks.{seen_in, own_in, next_in, served_in, IsToldIn, number, seats, root}
-use Rattle.rd_lock.specs.Opening.{members_of, IsSeatOf, IsNewPass, IsToldOf, KnowsUpTo, HasSeenUpTo, Tells}
+use Rattle.rd_lock.specs.Locks.{seen_in, own_in, next_in, served_in, KnowsOpening, number, seats, opened_origin}
+use Rattle.rd_lock.specs.Opening.{members_of, IsSeatOf, IsNewPass, AgreesWithMember, KnowsUpTo, HasSeenUpTo, AgreesWith}
 use Rattle.rd_lock.proofs.Lock.{Lock, Rule}
 use Rattle.rd_lock.proofs.Calls.{one_of}
 use Rattle.rd_lock.proofs.Seats.{joins, splits}
 
 module _ {A : Type 0} where
-  pub every_front : (P : A → Type 0) (xs ys : List A) → Every P (xs ++ ys) → Every P xs
+  pub every_front : (P : A → Type 0) (xs ys : List A) → AllByRecursion P (xs ++ ys) → AllByRecursion P xs
   every_front P [] ys h = tt
   every_front P (x ∷ xs) ys h = (h.0, every_front P xs ys h.1)
 
-  pub every_back : (P : A → Type 0) (xs ys : List A) → Every P (xs ++ ys) → Every P ys
+  pub every_back : (P : A → Type 0) (xs ys : List A) → AllByRecursion P (xs ++ ys) → AllByRecursion P ys
   every_back P [] ys h = h
   every_back P (x ∷ xs) ys h = every_back P xs ys h.1
 
@@ -104,30 +105,30 @@ module _ {T E O : Type 0} {K : Ghosts T E O} where
       ap (λ ps. map (λ (p : PassView E O). p.pass) (ps ++ members_of xs)) p.1 ∙ (λ i. sym (ap number_in p.1) i ∷ same_numbers xs i)
 
   -- what holds of the members holds of the passes
-  of_each : (P : PassView E O → Type 0) (Q : List (PassView E O) → Type 0) → ((p : PassView E O) → P p → Q (p ∷ [])) → (xs : List (Pass T E O K)) → Every P (members_of xs) → Every (λ (x : Pass T E O K). Q x.seat.me.0.members) xs
+  of_each : (P : PassView E O → Type 0) (Q : List (PassView E O) → Type 0) → ((p : PassView E O) → P p → Q (p ∷ [])) → (xs : List (Pass T E O K)) → AllByRecursion P (members_of xs) → AllByRecursion (λ (x : Pass T E O K). Q x.seat.me.0.members) xs
   of_each P Q f [] h = tt
-  of_each P Q f (x ∷ xs) h = let p = one_of x.seat.me.0.members x.alone in let both : Every P (p.0 ∷ members_of xs) = subst (λ ps. Every P (ps ++ members_of xs)) p.1 h in
+  of_each P Q f (x ∷ xs) h = let p = one_of x.seat.me.0.members x.alone in let both : AllByRecursion P (p.0 ∷ members_of xs) = subst (λ ps. AllByRecursion P (ps ++ members_of xs)) p.1 h in
       (subst Q (sym p.1) (f p.0 both.0), of_each P Q f xs both.1)
 
-  pub tells_each : (value : T) (xs : List (Pass T E O K)) → Every (IsToldOf K.history K.origin value) (members_of xs) → Every (Tells {K = K} value) xs
-  tells_each value xs h = of_each (IsToldOf K.history K.origin value) (λ ps. IsPrefix (seen_in ps) (K.history value) × (own_in ps ≡ named (number_in ps) 0 (K.history value))) (λ p t. t) xs h
+  pub tells_each : (value : T) (xs : List (Pass T E O K)) → AllByRecursion (AgreesWithMember K.history K.origin value) (members_of xs) → AllByRecursion (AgreesWith {K = K} value) xs
+  tells_each value xs h = of_each (AgreesWithMember K.history K.origin value) (λ ps. IsPrefix (seen_in ps) (K.history value) × (own_in ps ≡ named (number_in ps) 0 (K.history value))) (λ p t. t) xs h
 
-  pub seen_each : (words : Busy) (xs : List (Pass T E O K)) → Every (KnowsUpTo words) (members_of xs) → Every (HasSeenUpTo {K = K} words) xs
+  pub seen_each : (words : Busy) (xs : List (Pass T E O K)) → AllByRecursion (KnowsUpTo words) (members_of xs) → AllByRecursion (HasSeenUpTo {K = K} words) xs
   seen_each words xs h = of_each (KnowsUpTo words) (λ ps. (next_in ps ≤ words.next) × (served_in ps ≤ words.served)) (λ p t. t) xs h
 
   -- the passes of a lock that has just been opened
-  pub are_new : (lock : TicketLock T E O) (first k n : ℕ) (xs : List (Pass T E O K)) → members_of xs ≡ newcomers (seats lock) (root K.origin lock) first k n → Every (IsSeatOf lock.table.shared.table_id) xs
-      → Every (IsNewPass lock first) xs × (map number xs ≡ numbers k n)
+  pub are_new : (lock : TicketLock T E O) (first k n : ℕ) (xs : List (Pass T E O K)) → members_of xs ≡ newcomers (seats lock) (opened_origin K.origin lock) first k n → AllByRecursion (IsSeatOf lock.table.shared.table_id) xs
+      → AllByRecursion (IsNewPass lock first) xs × (map number xs ≡ numbers k n)
   are_new lock first k zero [] is own = (tt, refl)
   are_new lock first k (suc n) [] is own = cc
   are_new lock first k zero (x ∷ xs) is own = let one = x.alone in let e = ap length is in let c = length-append x.seat.me.0.members (members_of xs) in absurd (omega arith)
-  are_new lock first k (suc n) (x ∷ xs) is own = let p = one_of x.seat.me.0.members x.alone in let who : PassView E O = newcomer (seats lock) (root K.origin lock) first k in
-      let both : p.0 ∷ members_of xs ≡ who ∷ newcomers (seats lock) (root K.origin lock) first (suc k) n = ap (λ ps. ps ++ members_of xs) (sym p.1) ∙ is in
-      let same : p.0 ≡ who = cc in let rest : members_of xs ≡ newcomers (seats lock) (root K.origin lock) first (suc k) n = ap other_members both in
+  are_new lock first k (suc n) (x ∷ xs) is own = let p = one_of x.seat.me.0.members x.alone in let who : PassView E O = newcomer (seats lock) (opened_origin K.origin lock) first k in
+      let both : p.0 ∷ members_of xs ≡ who ∷ newcomers (seats lock) (opened_origin K.origin lock) first (suc k) n = ap (λ ps. ps ++ members_of xs) (sym p.1) ∙ is in
+      let same : p.0 ≡ who = cc in let rest : members_of xs ≡ newcomers (seats lock) (opened_origin K.origin lock) first (suc k) n = ap other_members both in
       let mine : x.seat.me.0.members ≡ who ∷ [] = p.1 ∙ ap (λ q. q ∷ []) same in let r = are_new lock first (suc k) n xs rest own.1 in (
         (
           record {
-            is_pass = record { table = own.0.0; told = subst (IsToldIn (seats lock) (root K.origin lock)) (sym mine) (refl, refl) };
+            is_pass = record { table = own.0.0; told = subst (KnowsOpening (seats lock) (opened_origin K.origin lock)) (sym mine) (refl, refl) };
             is_out = own.0.1;
             has_seen = ap seen_in mine;
             has_own = ap own_in mine;
@@ -163,10 +164,10 @@ module _ {T E O : Type 0} {K : Ghosts T E O} where
       ∙ (ap (λ l. l ++ ps) (sym (members_append new (x ∷ []) ∙ ap (λ l. members_of new ++ l) (append-nil x.seat.me.0.members)) ∙ ap members_of (sym is)) ∙ h)
 
   -- the same, by the numbers that the lock was opened with
-  pub opened_new : (lock : TicketLock T E O) (table : TableId) (count : ℕ) (top : O) (first given n : ℕ) (xs : List (Pass T E O K)) → seats lock ≡ count → root K.origin lock ≡ top → given ≡ first
-      → table ≡ lock.table.shared.table_id → members_of xs ≡ newcomers count top given 1 n → Every (IsSeatOf table) xs → Every (IsNewPass lock first) xs
+  pub opened_new : (lock : TicketLock T E O) (table : TableId) (count : ℕ) (top : O) (first given n : ℕ) (xs : List (Pass T E O K)) → seats lock ≡ count → opened_origin K.origin lock ≡ top → given ≡ first
+      → table ≡ lock.table.shared.table_id → members_of xs ≡ newcomers count top given 1 n → AllByRecursion (IsSeatOf table) xs → AllByRecursion (IsNewPass lock first) xs
   opened_new lock table count top first given n xs counted rooted from tabled is own =
-      (are_new lock first 1 n xs (is ∙ (λ i. newcomers (sym counted i) (sym rooted i) (from i) 1 n)) (subst (λ (t : TableId). Every (IsSeatOf t) xs) tabled own)).0
+      (are_new lock first 1 n xs (is ∙ (λ i. newcomers (sym counted i) (sym rooted i) (from i) 1 n)) (subst (λ (t : TableId). AllByRecursion (IsSeatOf t) xs) tabled own)).0
 
   pub opened_numbers : (count : ℕ) (top : O) (first n : ℕ) (xs : List (Pass T E O K)) → members_of xs ≡ newcomers count top first 1 n → map number xs ≡ numbers 1 n
   opened_numbers count top first n xs is = sym (same_numbers xs) ∙ (ap (λ ps. map (λ (p : PassView E O). p.pass) ps) is ∙ newcomers_numbers E count top first 1 n)

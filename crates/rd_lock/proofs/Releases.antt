@@ -8,7 +8,7 @@ use Rattle.rd_lock.specs.declared.views.View.{View}
 use Rattle.rd_lock.specs.declared.views.Stage.{Stage}
 use Rattle.rd_lock.specs.declared.views.Stage.TheVariants.{Out, Waits, Holds}
 use Rattle.rd_lock.specs.Histories.{named, signed, Adds, NamesUpTo}
-use Rattle.rd_lock.specs.Rule.{Place, home, away, Facts, ticket, view_of, slot_of}
+use Rattle.rd_lock.specs.Rule.{Place, home, away, Facts, ticket, view_of, single_slot}
 use Rattle.rd_lock.specs.Steps.{has_put, released}
 use Rattle.rd_lock.proofs.Lock.{Lock, Suits, StageSuits, Kept, Rule}
 use Rattle.rd_lock.proofs.Lists.{every_append, prefix_same, prefix_trans, named_others, names_signed}
@@ -67,8 +67,8 @@ module _ {T E O : Type 0} (lock : Lock T E O) where
 
   gives_back : (slots id : ℕ) (p : PassView E O) (t : ℕ) (log : List (ℕ × E)) (x : T) (es : List E) (f : Facts T E) (views : List (View E O)) → history x ≡ log ++ signed p.pass es → origin x ≡ p.origin → Kept lock f views
       → get_elem? views id ≡ some (view_of (p ∷ []) (Holds t log))
-      → (w : View E O) × (a : Act (Option T)) × (g : Facts T E) × ((((f.served + 1) % 2 ^ 64) ∷ f.next ∷ []) ≡ g.served ∷ g.next ∷ []) × Valid (slot_of f.place) ((0, Some x) ∷ []) a
-      × (homes_after (slot_of f.place) ((0, Some x) ∷ []) a ≡ slot_of g.place) × Kept lock g (set views id w)
+      → (w : View E O) × (a : Act (Option T)) × (g : Facts T E) × ((((f.served + 1) % 2 ^ 64) ∷ f.next ∷ []) ≡ g.served ∷ g.next ∷ []) × Valid (single_slot f.place) ((0, Some x) ∷ []) a
+      × (homes_after (single_slot f.place) ((0, Some x) ∷ []) a ≡ single_slot g.place) × Kept lock g (set views id w)
       × released history origin (view_of (p ∷ []) (Holds t log), (0, Some x) ∷ []) f.served (w, carried_after ((0, Some x) ∷ []) a)
   gives_back slots id p t log x es f views added root_is kept at = let v : View E O = view_of (p ∷ []) (Holds t log) in let fits = kept.each_view id v at in let mine = fits.members.0 in let stage = fits.stage in
       let g : Facts T E = done f x in let q : PassView E O = has_put (history x) (f.served + 1) p in let w : View E O = view_of (q ∷ []) Out in
@@ -80,7 +80,7 @@ module _ {T E O : Type 0} (lock : Lock T E O) where
         g,
         ap (λ (n : ℕ). n ∷ f.next ∷ []) fresh,
         tt,
-        subst (λ (l : Place T). homes_after (slot_of l) ((0, Some x) ∷ []) gives ≡ slot_of (home x)) (sym stage.3) refl,
+        subst (λ (l : Place T). homes_after (single_slot l) ((0, Some x) ∷ []) gives ≡ single_slot (home x)) (sym stage.3) refl,
         moved lock f g views id v w kept at (omega arith) limit
             (subst (NamesUpTo seats) (sym more) (every_append (λ (y : ℕ × E). (0 < y.0) × (y.0 ≤ seats)) f.log (signed p.pass es) kept.names (names_signed seats p.pass es number.0 number.1)))
             (record { members = (putter_suits f id x p mine, tt); apart = (tt, tt); stage = tt; alone = tt }) refl refl

@@ -10,7 +10,8 @@ use Rattle.rd_lock.specs.declared.views.PassView.{PassView}
 use Rattle.rd_lock.specs.declared.views.View.{View}
 use Rattle.rd_lock.specs.declared.views.Stage.{Stage}
 use Rattle.rd_lock.specs.declared.views.Stage.TheVariants.{Out, Waits, Holds}
-use Rattle.rd_lock.specs.Histories.{Every, IsIn}
+use Rattle.rd_lock.specs.Histories.{IsIn}
+use Rattle.std.specs.List.{AllByRecursion}
 use Rattle.rd_lock.specs.Rule.{Place, home, away, Facts, view_of, numbers_of, HasPass}
 use Rattle.rd_lock.proofs.Lock.{Lock, Fits, Suits, StageSuits, Rule, Placed}
 use Rattle.rd_lock.proofs.Lists.{inside, at_end, every_append, every_both, pairwise_append, every_from}
@@ -93,8 +94,8 @@ module _ {T E O : Type 0} (lock : Lock T E O) where
   same_stage f id other j (Holds t found) h = h
 
   -- members of two seats are apart
-  across : (f : Facts T E) (id other : ℕ) (ps qs : List (PassView E O)) → other ≢ id → Every (Suits lock f id) ps → Every (Suits lock f other) qs → Every (λ q. Every (λ (p : PassView E O). p.pass ≢ q.pass) ps) qs
-  across f id other ps qs ne mine theirs = every_from (Suits lock f other) (λ q. Every (λ (p : PassView E O). p.pass ≢ q.pass) ps)
+  across : (f : Facts T E) (id other : ℕ) (ps qs : List (PassView E O)) → other ≢ id → AllByRecursion (Suits lock f id) ps → AllByRecursion (Suits lock f other) qs → AllByRecursion (λ q. AllByRecursion (λ (p : PassView E O). p.pass ≢ q.pass) ps) qs
+  across f id other ps qs ne mine theirs = every_from (Suits lock f other) (λ q. AllByRecursion (λ (p : PassView E O). p.pass ≢ q.pass) ps)
       (λ q b. every_from (Suits lock f id) (λ p. p.pass ≢ q.pass) (λ p a e. ne (sym b.owned ∙ (ap f.owner (sym e) ∙ a.owned))) ps mine) qs theirs
 
   -- a ticket or the value is with neither of two seats that are out

@@ -8,14 +8,14 @@ use Rattle.rd_lock.specs.declared.views.Stage.{Stage}
 use Rattle.rd_lock.specs.declared.views.Stage.TheVariants.{Out}
 use Rattle.rd_lock.specs.Rule.{view_of, in_hand}
 use Rattle.rd_lock.specs.Steps.{knows_served, saw_served, tried}
-use Rattle.rd_lock.specs.Locks.{IsToldIn}
+use Rattle.rd_lock.specs.Locks.{KnowsOpening}
 use Rattle.rd_lock.proofs.Lock.{Lock, Rule}
 use Rattle.rd_lock.proofs.Draws.{tries}
 use Rattle.rd_lock.proofs.Calls.{single, told_one, saw}
 
 module _ {T E O : Type 0} (seats : ℕ) (root : O) where
   -- the one member of a pass that is out
-  pub out_one : (m : Me (Option T) (View E O)) → length m.0.members ≡ 1 → m.0.stage ≡ Out → m.1 ≡ in_hand m.0.stage → IsToldIn seats root m.0.members
+  pub out_one : (m : Me (Option T) (View E O)) → length m.0.members ≡ 1 → m.0.stage ≡ Out → m.1 ≡ in_hand m.0.stage → KnowsOpening seats root m.0.members
       → (p : PassView E O) × (m ≡ (view_of (p ∷ []) Out, [])) × (p.seats ≡ seats) × (p.origin ≡ root)
   out_one m one out hand told = let s = single m Out [] one out (hand ∙ ap (λ (x : Stage E). in_hand x) out) in let k = told_one seats root m s.0 Out [] s.1 told in (s.0, s.1, k.0, k.1)
 

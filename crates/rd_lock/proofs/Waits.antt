@@ -10,7 +10,7 @@ use Rattle.rd_lock.specs.declared.views.PassView.{PassView}
 use Rattle.rd_lock.specs.declared.views.View.{View}
 use Rattle.rd_lock.specs.declared.views.Stage.{Stage}
 use Rattle.rd_lock.specs.declared.views.Stage.TheVariants.{Out, Waits, Holds}
-use Rattle.rd_lock.specs.Rule.{Place, home, away, Facts, ticket, view_of, slot_of}
+use Rattle.rd_lock.specs.Rule.{Place, home, away, Facts, ticket, view_of, single_slot}
 use Rattle.rd_lock.specs.Steps.{knows_served, after_served, listened}
 use Rattle.rd_lock.proofs.Lock.{Lock, Suits, StageSuits, Kept, Rule, Placed}
 use Rattle.rd_lock.proofs.Lists.{inside}
@@ -43,8 +43,8 @@ module _ {T E O : Type 0} (lock : Lock T E O) where
   taken_stays f id j x is (Holds t found) h = absurd (elsewhere lock j (sym is ∙ h.3))
 
   served_takes : (slots id : ℕ) (p : PassView E O) (f : Facts T E) (views : List (View E O)) → Kept lock f views → get_elem? views id ≡ some (view_of (p ∷ []) (Waits f.served))
-      → (w : View E O) × (a : Act (Option T)) × (g : Facts T E) × (f.served ∷ f.next ∷ [] ≡ g.served ∷ g.next ∷ []) × Valid (slot_of f.place) [] a
-      × (homes_after (slot_of f.place) [] a ≡ slot_of g.place) × Kept lock g (set views id w) × listened history origin (view_of (p ∷ []) (Waits f.served), []) f.served (w, carried_after [] a)
+      → (w : View E O) × (a : Act (Option T)) × (g : Facts T E) × (f.served ∷ f.next ∷ [] ≡ g.served ∷ g.next ∷ []) × Valid (single_slot f.place) [] a
+      × (homes_after (single_slot f.place) [] a ≡ single_slot g.place) × Kept lock g (set views id w) × listened history origin (view_of (p ∷ []) (Waits f.served), []) f.served (w, carried_after [] a)
   served_takes slots id p f views kept at = let v : View E O = view_of (p ∷ []) (Waits f.served) in let fits = kept.each_view id v at in let there = served_home f views id p f.place kept at refl in let x : T = there.0 in
       let at_home : (history x ≡ f.log) × (origin x ≡ root) = (there.2, there.3) in let stage : Stage E = Holds f.served (history x) in let w : View E O = after_served f.served stage v in
       let g : Facts T E = taken f id in let mine = fits.stage in let suits = served_suits lock f id p kept.order fits.members.0 in (
@@ -52,8 +52,8 @@ module _ {T E O : Type 0} (lock : Lock T E O) where
         takes 0 (Some x),
         g,
         refl,
-        subst (λ (l : Place T). get_elem? (slot_of l) 0 ≡ some (some (Some x))) (sym there.1) refl,
-        subst (λ (l : Place T). homes_after (slot_of l) [] (takes 0 (Some x)) ≡ slot_of (away id)) (sym there.1) refl,
+        subst (λ (l : Place T). get_elem? (single_slot l) 0 ≡ some (some (Some x))) (sym there.1) refl,
+        subst (λ (l : Place T). homes_after (single_slot l) [] (takes 0 (Some x)) ≡ single_slot (away id)) (sym there.1) refl,
         moved lock f g views id v w kept at kept.order kept.limit kept.names
             (record { members = (taken_suits f id id (knows_served f.served p) suits, tt); apart = (tt, tt); stage = (refl, mine.1, mine.2, refl, there.2); alone = (knows_served f.served p, refl) }) refl refl
             (λ j u ne here h. others_fit lock f g j u (taken_suits f id j) (taken_stays f id j x there.1) h)
@@ -73,8 +73,8 @@ module _ {T E O : Type 0} (lock : Lock T E O) where
   pub listens : (slots id : ℕ) (p : PassView E O) (t : ℕ) → Allows (Rule lock) slots id (view_of (p ∷ []) (Waits t), []) 0 (λ n. n) (listened history origin (view_of (p ∷ []) (Waits t), []))
   listens slots id p t = let v : View E O = view_of (p ∷ []) (Waits t) in let then = listened history origin (v, []) in
       allowed lock slots id (v, []) 0 (λ n. n) then (λ f views kept at. let fits = kept.each_view id v at in dite (ℕ_discrete f.served t)
-      (λ hit. subst (λ (k : ℕ). (w : View E O) × (a : Act (Option T)) × (g : Facts T E) × (f.served ∷ f.next ∷ [] ≡ g.served ∷ g.next ∷ []) × Valid (slot_of f.place) [] a
-      × (homes_after (slot_of f.place) [] a ≡ slot_of g.place) × Kept lock g (set views id w) × listened history origin (view_of (p ∷ []) (Waits k), []) f.served (w, carried_after [] a)) hit
+      (λ hit. subst (λ (k : ℕ). (w : View E O) × (a : Act (Option T)) × (g : Facts T E) × (f.served ∷ f.next ∷ [] ≡ g.served ∷ g.next ∷ []) × Valid (single_slot f.place) [] a
+      × (homes_after (single_slot f.place) [] a ≡ single_slot g.place) × Kept lock g (set views id w) × listened history origin (view_of (p ∷ []) (Waits k), []) f.served (w, carried_after [] a)) hit
       (served_takes slots id p f views kept (at ∙ ap (λ (k : ℕ). some (view_of (p ∷ []) (Waits k))) (sym hit))))
       (λ miss. (
         after_served f.served (Waits t) v,

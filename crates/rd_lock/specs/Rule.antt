@@ -1,4 +1,5 @@
--- What is always so of the lock's words, of its slot, and of what each seat knows.
+-- The invariant of the lock: what holds at all times of its words, of its slot, and of what each
+-- seat knows.
 use Rattle.std.specs.Prelude.{◌≡◌, ◌≢◌, ℕ, zero, suc, ◌^◌, ◌<◌, ◌≤◌, List, [], ◌∷◌, map, Option, Some, None}
 use mathlib.Core.Option.{some, none}
 use mathlib.Core.Option as maybe
@@ -9,15 +10,17 @@ use Rattle.rd_lock.specs.declared.views.PassView.{PassView}
 use Rattle.rd_lock.specs.declared.views.View.{View}
 use Rattle.rd_lock.specs.declared.views.Stage.{Stage}
 use Rattle.rd_lock.specs.declared.views.Stage.TheVariants.{Out, Waits, Holds}
-use Rattle.rd_lock.specs.Histories.{Every, Pairwise, IsIn, named, NamesUpTo}
+use Rattle.rd_lock.specs.Histories.{Pairwise, IsIn, named, NamesUpTo}
+use Rattle.std.specs.List.{AllByRecursion}
 
--- where the value is: in the slot, or with the seat of this number
+-- where the value is: at home in the slot, or away with the seat of this number
 pub data Place (T : Type 0) : Type 0 where
   home : T → Place T
   away : ℕ → Place T
 
--- What no thread knows whole: the words, the history at home or found by the holder, the seat of
--- each pass, the seat of each ticket that is drawn and not done with, and where the value is.
+-- the whole state, which no thread knows alone: the words, the history of the value at home or as
+-- the holder found it, the seat of each pass, the seat of each ticket that is drawn and not
+-- finished, and where the value is
 pub record Facts (T E : Type 0) : Type 0 where
   pub next : ℕ
   pub served : ℕ
@@ -27,36 +30,37 @@ pub record Facts (T E : Type 0) : Type 0 where
   pub place : Place T
 
 module _ {E : Type 0} where
-  -- the ticket of a seat that waits or holds
+  -- the ticket of a seat that waits or holds; none if it does neither
   abbrev pub ticket : Stage E → maybe.Option ℕ
   ticket Out = none
   ticket (Waits t) = some t
   ticket (Holds t found) = some t
 
 module _ {E O : Type 0} where
+  -- the view of a seat with these members at this stage
   abbrev pub view_of : List (PassView E O) → Stage E → View E O
   view_of members stage = record { members = members; stage = stage }
 
-  -- the number of the first of the members
+  -- the number of the pass that is the first member
   abbrev pub number_in : List (PassView E O) → ℕ
   number_in [] = 0
   number_in (p ∷ ps) = p.pass
 
-  -- the first of the members, alone
+  -- the list of the first member alone
   abbrev pub first_of_members : List (PassView E O) → List (PassView E O)
   first_of_members [] = []
   first_of_members (p ∷ ps) = p ∷ []
 
-  -- all of the members but the first
+  -- all members except the first
   abbrev pub other_members : List (PassView E O) → List (PassView E O)
   other_members [] = []
   other_members (p ∷ ps) = ps
 
-  -- no two members are one pass
+  -- no two members are the same pass
   abbrev pub Apart : List (PassView E O) → Type 0
   Apart ps = Pairwise (λ (p q : PassView E O). q.pass ≢ p.pass) ps
 
-  -- who waits or holds is alone in its seat
+  -- a seat that waits or holds has just one member
   abbrev pub IsAloneAt : Stage E → List (PassView E O) → Type 0
   IsAloneAt Out ps = Unit {0}
   IsAloneAt (Waits t) ps = (p : PassView E O) × (ps ≡ p ∷ [])
@@ -66,42 +70,43 @@ module _ {E O : Type 0} where
   abbrev pub HasTicket : List (View E O) → ℕ → ℕ → Type 0
   HasTicket views seat t = (v : View E O) × (get_elem? views seat ≡ some v) × (ticket v.stage ≡ some t)
 
-  -- the numbers of these members
+  -- the numbers of the passes that these members are
   abbrev pub numbers_of : List (PassView E O) → List ℕ
   numbers_of ps = map (λ (p : PassView E O). p.pass) ps
 
-  -- the pass is in the seat of this number
+  -- the seat of this number has this pass as a member
   abbrev pub HasPass : List (View E O) → ℕ → ℕ → Type 0
   HasPass views seat pass = (v : View E O) × (get_elem? views seat ≡ some v) × IsIn pass (numbers_of v.members)
 
-  -- a pass of a lock that has just been opened, with both words at `first`
+  -- the view of a pass in a lock that was just opened with both words at `first`
   abbrev pub newcomer : ℕ → O → ℕ → ℕ → PassView E O
   newcomer seats root first pass = record { pass = pass; seats = seats; origin = root; seen = []; own = []; next = first; served = first }
 
-  -- the passes from a number on, this many of them
+  -- the views of this many passes in a lock that was just opened, with the numbers from `pass` on
   abbrev pub newcomers : ℕ → O → ℕ → ℕ → ℕ → List (PassView E O)
   newcomers seats root first pass zero = []
   newcomers seats root first pass (suc n) = newcomer seats root first pass ∷ newcomers seats root first (suc pass) n
 
-  -- the first seat's view, which has all the passes
+  -- the view of the first seat of a lock that was just opened: all passes are its members
   abbrev pub opening_view : ℕ → O → ℕ → View E O
   opening_view seats root first = view_of (newcomers seats root first 1 seats) Out
 
 module _ {T E : Type 0} where
-  -- what a seat has taken out of the slot between two calls, the slot being left empty
+  -- the slots that a seat at this stage has taken between two calls: a holder has slot 0, which it
+  -- left empty
   abbrev pub in_hand : Stage E → List (ℕ × Option T)
   in_hand Out = []
   in_hand (Waits t) = []
   in_hand (Holds t found) = (0, None) ∷ []
 
 module _ {T : Type 0} where
-  -- the one slot of the table
-  abbrev pub slot_of : Place T → List (maybe.Option (Option T))
-  slot_of (home x) = some (Some x) ∷ []
-  slot_of (away seat) = none ∷ []
+  -- the table's one slot: it has the value at home, and else is taken
+  abbrev pub single_slot : Place T → List (maybe.Option (Option T))
+  single_slot (home x) = some (Some x) ∷ []
+  single_slot (away seat) = none ∷ []
 
 module _ {T E O : Type 0} (history : T → List (ℕ × E)) (origin : T → O) (seats : ℕ) (root : O) where
-  -- what is so of a pass whose seat has this number
+  -- what holds of a pass that is a member of the seat of this number
   pub record MemberFits (f : Facts T E) (seat : ℕ) (p : PassView E O) : Type 0 where
     pub owned : f.owner p.pass ≡ seat
     pub numbered : (0 < p.pass) × (p.pass ≤ seats)
@@ -111,25 +116,26 @@ module _ {T E O : Type 0} (history : T → List (ℕ × E)) (origin : T → O) (
     pub words : (p.next ≤ f.next) × (p.served ≤ f.served)
     pub only : seats ≡ 1 → (p.next ≡ f.next) × (p.served ≡ f.served)
 
-  -- what is so of a seat at this stage
+  -- what holds of the seat of this number at this stage
   abbrev pub StageFits : Facts T E → ℕ → Stage E → Type 0
   StageFits f seat Out = Unit {0}
   StageFits f seat (Waits t) = (f.served ≤ t) × (t < f.next) × (f.taker t ≡ seat)
   StageFits f seat (Holds t found) = (t ≡ f.served) × (t < f.next) × (f.taker t ≡ seat) × (f.place ≡ away seat) × (found ≡ f.log)
 
-  -- what is so of the seat of this number
+  -- what holds of the seat of this number with this view
   pub record ViewFits (f : Facts T E) (seat : ℕ) (v : View E O) : Type 0 where
-    pub members : Every (MemberFits f seat) v.members
+    pub members : AllByRecursion (MemberFits f seat) v.members
     pub apart : Apart v.members
     pub stage : StageFits f seat v.stage
     pub alone : IsAloneAt v.stage v.members
 
-  -- at home the value has the history and the lock's origin; away it is with a seat that holds
+  -- the value is where the facts place it: at home it has the history and the lock's origin, and
+  -- away it is with a seat that holds
   abbrev pub IsPlaced : Facts T E → List (View E O) → Place T → Type 0
   IsPlaced f views (home x) = (history x ≡ f.log) × (origin x ≡ root)
   IsPlaced f views (away seat) = (v : View E O) × (get_elem? views seat ≡ some v) × (v.stage ≡ Holds f.served f.log)
 
-  -- the rule, beside the words and the slot
+  -- the invariant of the lock, except what the words and the slot have
   pub record IsKept (f : Facts T E) (views : List (View E O)) : Type 0 where
     pub order : f.served ≤ f.next
     pub limit : f.next ≤ 2 ^ 63
@@ -139,6 +145,7 @@ module _ {T E O : Type 0} (history : T → List (ℕ × E)) (origin : T → O) (
     pub each_ticket : (t : ℕ) → f.served ≤ t → t < f.next → HasTicket views (f.taker t) t
     pub is_placed : IsPlaced f views f.place
 
-  -- the words and the slot are those of facts that are kept
+  -- the invariant of the lock: there are facts that its seats keep, and its words and its slot are
+  -- as these facts state
   abbrev pub LockRule : State (Option T) (View E O) → Type 0
-  LockRule s = (f : Facts T E) × (s.words ≡ f.served ∷ f.next ∷ []) × (s.homes ≡ slot_of f.place) × IsKept f s.views
+  LockRule s = (f : Facts T E) × (s.words ≡ f.served ∷ f.next ∷ []) × (s.homes ≡ single_slot f.place) × IsKept f s.views

@@ -1,9 +1,9 @@
 //! The ticket lock: several passes share one value, and each has it alone between a take and the
 //! put back.
 //!
-//! What is guarded tells, for contracts alone, an origin that stays and a history that only grows.
-//! A contract says how the history that a pass finds stands to what it had seen before, whatever
-//! the other passes did in between.
+//! For contracts alone, what is guarded has an origin that never changes and a history that only
+//! grows. A contract states how the history that a pass finds continues what it had seen before,
+//! whatever the other passes did in between.
 #![tactic(auto)]
 
 mod joining;

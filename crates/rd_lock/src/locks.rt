@@ -1,4 +1,4 @@
-//! What a lock is: its table, which its passes step on.
+//! What a lock is: its table, on which its passes make steps.
 ghost use Rattle.std.specs.Prelude.{◌≡◌, ◌<◌};
 
 use super::rule::Tickets;

@@ -10,10 +10,10 @@ use super::rule::SERVED;
 use super::views::Recorded;
 
 impl<T: Recorded> TicketLock<T> {
-    /// Both passes look at the word `served` in one step, and learn that of what they have seen one
-    /// begins the other. The number is that word.
+    /// Both passes load the word `served` in one step, and learn that what one of them has seen is
+    /// a beginning of what the other has seen. Returns that word, and the two passes.
     ///
-    /// The two are joined, look, and are split again.
+    /// Their seats are joined, make the load, and are split again.
     pub fn meet(&self, one: Pass<T>, other: Pass<T>) -> (u64, Pass<T>, Pass<T>)
         requires own { IsPassOf self.now one × IsPassOf self.now other }
         requires out { IsOut one × IsOut other }

@@ -1,20 +1,21 @@
 //! Opening a lock, and closing it.
 ghost use Rattle.std.specs.Prelude.{◌≡◌, ◌<◌, ◌≤◌, ◌^◌, [], map, IfOk, IfErr, IsOk};
 ghost use Rattle.rd_lock.specs.Opening.{IsOpened, IsClosedOver, HasSeenUpTo};
-ghost use Rattle.rd_lock.specs.Histories.{AreAll, Every};
+ghost use Rattle.rd_lock.specs.Histories.{AreAll};
+ghost use Rattle.std.specs.List.{AllByRecursion};
 ghost use Rattle.rd_lock.specs.Locks.{number as number_of, seats as seats_of, IsPassOf, IsOut};
 
-use super::joining::{gather, hand_out};
+use super::joining::{join_seats, split_seats};
 use super::locks::{NoMemory, TicketLock};
 use super::passes::Pass;
-use super::tables::{close_table, close_with_seat, lay};
+use super::tables::{close_table, close_with_seat, make_table};
 use super::tickets::Busy;
 use super::views::{Opened, Recorded};
 use std::alloc::Global;
 use std::snapshot::Snapshot;
 
 impl<T: Recorded> TicketLock<T> {
-    /// A lock over the value, and its passes, whose numbers are 1 to `seats`.
+    /// Returns a lock over the value, and its passes, whose numbers are 1 to `seats`.
     ///
     /// # Errors
     ///
@@ -32,7 +33,8 @@ impl<T: Recorded> TicketLock<T> {
         TicketLock::open_at(alloc, value, seats, 0)
     }
 
-    /// The same with both words at `first`, so that `2^63 - first` tickets are left.
+    /// Returns a lock over the value with both words at `first`, so that `2^63 - first` tickets are
+    /// left, and its passes, whose numbers are 1 to `seats`.
     ///
     /// # Errors
     ///
@@ -57,32 +59,32 @@ impl<T: Recorded> TicketLock<T> {
             first,
             value: Snapshot::of(&value),
         };
-        match lay(alloc, value, &about) {
+        match make_table(alloc, value, &about) {
             Ok((table, seat)) => {
-                hand_out(&table.shared, seat, seats, &mut passes);
+                split_seats(&table.shared, seat, seats, &mut passes);
                 Ok((TicketLock { table }, passes))
             }
             Err(value) => Err((NoMemory, value)),
         }
     }
 
-    /// Ends the lock and gives the value.
+    /// Ends the lock and returns the value.
     ///
     /// # Errors
     ///
-    /// `Busy` with two words that differ, neither below what a pass that was handed in has seen:
-    /// some ticket is drawn and not done with. It never comes with all passes. The value is lost
-    /// then.
+    /// `Busy` if some ticket is drawn and not finished, with the two words, which then differ.
+    /// Neither is below what a pass that was handed in has seen. This never happens if all passes
+    /// are handed in. The value is then lost.
     pub fn close(self, passes: Vec<Pass<T>>) -> Result<T, Busy>
-        requires own { Every (IsPassOf self) passes.items }
-        requires out { Every IsOut passes.items }
+        requires own { AllByRecursion (IsPassOf self) passes.items }
+        requires out { AllByRecursion IsOut passes.items }
         ensures ok { IfOk result (IsClosedOver self passes.items) }
         ensures err { IfErr result (λ words. (words.served < words.next) × (words.next ≤ 2 ^ 63)) }
-        ensures newest { IfErr result (λ words. Every (HasSeenUpTo words) passes.items) }
+        ensures newest { IfErr result (λ words. AllByRecursion (HasSeenUpTo words) passes.items) }
         ensures succeeds { AreAll (seats_of self) (map number_of passes.items) → IsOk result }
     {
         let TicketLock { table } = self;
-        match gather(&table.shared, passes) {
+        match join_seats(&table.shared, passes) {
             Some(seat) => close_with_seat(table, seat),
             None => close_table(table),
         }

@@ -13,7 +13,7 @@ pub(crate) type LockSeat<T> = Seat<
 
 /// The right of one party to take what the lock guards. It has a number, from 1.
 ///
-/// A pass that is dropped while it holds keeps the value from all others, for good.
+/// If a pass is dropped while it holds, no other pass ever gets the value.
 #[derive(Drop)]
 pub struct Pass<T: Recorded> {
     pub(crate) seat: LockSeat<T>,
@@ -26,7 +26,7 @@ pub struct Pass<T: Recorded> {
 impl<T: Recorded> Pass<T> {
     ghost use Rattle.rd_lock.specs.Locks.{number};
 
-    /// The pass's number, from 1.
+    /// Returns the pass's number, from 1.
     pub fn number(&self) -> u64
         ensures { result ≡ number self.now }
     {

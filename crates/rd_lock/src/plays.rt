@@ -4,7 +4,7 @@
 use crate::views::{Recorded, View};
 use atomic_table::{Join, Play, Split};
 
-/// A load of next.
+/// The step that loads the word `next`.
 pub struct SawNext;
 
 impl<T: Recorded> Play<Option<T>, View<T::Entry, T::Origin>> for SawNext {
@@ -13,7 +13,7 @@ impl<T: Recorded> Play<Option<T>, View<T::Entry, T::Origin>> for SawNext {
     ghost then = { λ _. saw_next };
 }
 
-/// A draw by `take`.
+/// The step that draws a ticket in `take`.
 pub struct Drew;
 
 impl<T: Recorded> Play<Option<T>, View<T::Entry, T::Origin>> for Drew {
@@ -22,7 +22,7 @@ impl<T: Recorded> Play<Option<T>, View<T::Entry, T::Origin>> for Drew {
     ghost then = { λ step. drew step.first };
 }
 
-/// A load of served by seats that don't wait.
+/// The step that loads the word `served`, of a seat that doesn't wait.
 pub struct SawServed;
 
 impl<T: Recorded> Play<Option<T>, View<T::Entry, T::Origin>> for SawServed {
@@ -31,7 +31,7 @@ impl<T: Recorded> Play<Option<T>, View<T::Entry, T::Origin>> for SawServed {
     ghost then = { λ _. saw_served };
 }
 
-/// A draw by `try_take`, which takes the value too.
+/// The step that draws a ticket in `try_take`, which takes the value too.
 pub struct Tried;
 
 impl<T: Recorded> Play<Option<T>, View<T::Entry, T::Origin>> for Tried {
@@ -40,7 +40,8 @@ impl<T: Recorded> Play<Option<T>, View<T::Entry, T::Origin>> for Tried {
     ghost then = { λ step. tried T.history T.origin step.first };
 }
 
-/// A load of served by a pass that waits, which takes the value if it finds its ticket.
+/// The step that loads the word `served`, of a pass that waits. It takes the value if it finds the
+/// pass's ticket.
 pub struct Listened;
 
 impl<T: Recorded> Play<Option<T>, View<T::Entry, T::Origin>> for Listened {
@@ -49,7 +50,7 @@ impl<T: Recorded> Play<Option<T>, View<T::Entry, T::Origin>> for Listened {
     ghost then = { λ _. listened T.history T.origin };
 }
 
-/// The add to served, which gives the value back.
+/// The step that adds one to the word `served`, which gives the value back.
 pub struct Released;
 
 impl<T: Recorded> Play<Option<T>, View<T::Entry, T::Origin>> for Released {
@@ -58,7 +59,7 @@ impl<T: Recorded> Play<Option<T>, View<T::Entry, T::Origin>> for Released {
     ghost then = { λ _. released T.history T.origin };
 }
 
-/// The second seat's members come first, and the second seat is spent.
+/// How two seats are joined: the second one's members come first, and the second seat is spent.
 pub struct Joined;
 
 impl<E, O> Join<View<E, O>> for Joined {
@@ -71,7 +72,7 @@ impl<E, O> Join<View<E, O>> for Joined {
     ghost spent = { view_of [] Out };
 }
 
-/// The first of the members gets its own seat.
+/// How a seat is split: the first of the members gets its own seat.
 pub struct Parted;
 
 impl<E, O> Split<View<E, O>> for Parted {

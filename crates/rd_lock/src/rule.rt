@@ -1,20 +1,20 @@
 //! The rule of the table.
 //!
-//! Word 0 is `served`, the ticket whose pass may hold; word 1 is `next`, the ticket that is drawn
+//! Word 0 is `served`, the ticket whose pass may hold. Word 1 is `next`, the ticket that is drawn
 //! next. Slot 0 has the value, or nothing while a pass holds.
 use crate::views::{Opened, Recorded, View};
 use atomic_table::TableRule;
 
-/// The word `served`. A join and a split of seats load it too.
+/// The index of the word `served`. A join and a split of seats load it too.
 pub const SERVED: usize = 0;
 
-/// The word `next`.
+/// The index of the word `next`.
 pub const NEXT: usize = 1;
 
-/// The slot of the value.
+/// The index of the value's slot.
 pub const SLOT: usize = 0;
 
-/// The rule of the lock.
+/// The invariant of the lock's table.
 pub struct Tickets;
 
 impl<T: Recorded> TableRule<Option<T>, View<T::Entry, T::Origin>, Opened<T>> for Tickets {

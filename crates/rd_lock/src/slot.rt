@@ -1,4 +1,5 @@
-//! The value out of the slot and back: plain reads and writes of memory that the holder alone has.
+//! Moving the value out of the slot and back: plain reads and writes of memory that the holder
+//! alone has.
 ghost use Rattle.std.specs.Prelude.{◌≡◌, ◌<◌, [], ◌∷◌, Some, None};
 ghost use Rattle.rd_lock.specs.Seats.{IsSameSeat};
 
@@ -15,7 +16,7 @@ pub(crate) type LockShared<T> = Shared<
     Tickets,
 >;
 
-/// Takes the value out of the slot that the seat has, and leaves nothing there.
+/// Takes the value out of the slot that the seat has taken, returns it, and leaves the slot empty.
 pub(crate) fn take_out<T: Recorded>(shared: &LockShared<T>, seat: &mut LockSeat<T>) -> T
     requires table { seat.old.table_id ≡ shared.now.table_id }
     requires full { (value : T) × (seat.old.me.1 ≡ (0, Some value) ∷ []) }
@@ -28,7 +29,7 @@ pub(crate) fn take_out<T: Recorded>(shared: &LockShared<T>, seat: &mut LockSeat<
     value
 }
 
-/// Puts the value into the slot that the seat has, which is empty.
+/// Puts the value into the slot that the seat has taken, which must be empty.
 pub(crate) fn put_in<T: Recorded>(shared: &LockShared<T>, seat: &mut LockSeat<T>, value: T)
     requires table { seat.old.table_id ≡ shared.now.table_id }
     requires empty { seat.old.me.1 ≡ (0, None) ∷ [] }

@@ -1,9 +1,10 @@
-//! The memory of a lock: laid out with the value in the slot, and given back.
+//! The memory of a lock: allocated with the value in the slot, and freed.
 ghost use Rattle.std.specs.Prelude.{◌≡◌, ◌<◌, ◌≤◌, ◌^◌, [], IfOk, IfErr, IsOk, Some, slice_index, map, ◌≢◌};
 ghost use Rattle.std.specs.Mem.Slots.{slots_items, slots_len, IsFull};
 ghost use Rattle.rd_lock.specs.Rule.{opening_view};
 ghost use Rattle.rd_lock.specs.Opening.{IsLeft, KnowsUpTo};
-ghost use Rattle.rd_lock.specs.Histories.{AreAll, Every};
+ghost use Rattle.rd_lock.specs.Histories.{AreAll};
+ghost use Rattle.std.specs.List.{AllByRecursion};
 ghost use Rattle.rd_lock.specs.declared.views.Stage.TheVariants.{Out};
 ghost use mathlib.Core.Option.{some};
 ghost use lib.ListN.{get_elem?};
@@ -16,8 +17,9 @@ use super::views::{Opened, Recorded};
 use atomic_table::{Closed, Table};
 use std::alloc::{AllocFailed, Global};
 
-/// A table with the value in its slot. The value comes back if memory was refused.
-pub(crate) fn lay<T: Recorded>(
+/// Allocates a table with the value in its slot, and returns it with its first seat. If memory was
+/// refused, returns the value.
+pub(crate) fn make_table<T: Recorded>(
     alloc: Global,
     value: T,
     about: &Opened<T>,
@@ -47,7 +49,8 @@ pub(crate) fn lay<T: Recorded>(
     }
 }
 
-/// What a closed table has: the value where the words are equal, and otherwise the words.
+/// Returns the value of a closed table if its words are equal, and `Busy` with the words if they
+/// differ.
 fn finish<T: Recorded>(closed: Closed<Option<T>, Global>) -> Result<T, Busy>
     requires counts { (slots_len closed.words ≡ 2) × (slots_len closed.slots ≡ 1) }
     requires full { IsFull closed.words × IsFull closed.slots }
@@ -67,7 +70,8 @@ fn finish<T: Recorded>(closed: Closed<Option<T>, Global>) -> Result<T, Busy>
     Ok(value)
 }
 
-/// Closes the table with a seat that has some passes.
+/// Closes the table with a seat that has some passes, and returns the value, or `Busy` with the
+/// words if they differ.
 pub(crate) fn close_with_seat<T: Recorded>(
     table: LockTable<T>,
     seat: LockSeat<T>,
@@ -76,13 +80,14 @@ pub(crate) fn close_with_seat<T: Recorded>(
     requires seat { (seat.table_id ≡ table.shared.table_id) × (seat.me.0.stage ≡ Out) }
     ensures ok { IfOk result (IsLeft T.history T.origin table.shared.key.seats (T.origin table.shared.key.value.value) seat.me.0.members) }
     ensures err { IfErr result (λ words. (words.served < words.next) × (words.next ≤ 2 ^ 63)) }
-    ensures newest { IfErr result (λ words. Every (KnowsUpTo words) seat.me.0.members) }
+    ensures newest { IfErr result (λ words. AllByRecursion (KnowsUpTo words) seat.me.0.members) }
     ensures succeeds { AreAll table.shared.key.seats (map (λ p. p.pass) seat.me.0.members) → IsOk result }
 {
     finish(table.close_with(seat))
 }
 
-/// Closes the table with no seat at hand.
+/// Closes the table without any seat, and returns the value, or `Busy` with the words if they
+/// differ.
 pub(crate) fn close_table<T: Recorded>(table: LockTable<T>) -> Result<T, Busy>
     requires sized { (table.shared.table_id.words ≡ 2) × (table.shared.table_id.slots ≡ 1) }
     requires seated { 0 < table.shared.key.seats }

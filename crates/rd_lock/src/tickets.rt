@@ -11,25 +11,25 @@ use super::views::Recorded;
 use crossbeam_utils::Backoff;
 use std::sync::Wait;
 
-/// The tickets are the numbers below it.
+/// The number of tickets, which are 0 to 2^63 - 1.
 pub const TICKETS: u64 = 1 << 63;
 
 /// All tickets are drawn.
 #[derive(Debug, Clone, Copy, PartialEq, Eq)]
 pub struct TicketsEnded;
 
-/// Two words of the lock that differ, so that some ticket is drawn and not done with. From
-/// `try_take` they are the greatest that the pass has seen; from `close` neither is below what a
+/// The two words of the lock, where they differ: some ticket is drawn and not finished. From
+/// `try_take` they are the greatest that the pass has seen. From `close`, neither is below what a
 /// pass that was handed in has seen.
 #[derive(Debug, Clone, Copy, PartialEq, Eq)]
 pub struct Busy {
-    /// The ticket that is drawn next.
+    /// The word `next`: the ticket that is drawn next.
     pub next: u64,
-    /// The ticket that is served.
+    /// The word `served`: the ticket that is served now.
     pub served: u64,
 }
 
-/// Why `try_take` gave nothing.
+/// Why `try_take` took nothing.
 #[derive(Debug, Clone, Copy, PartialEq, Eq)]
 pub enum TryTakeError {
     /// The lock isn't free.
@@ -41,13 +41,13 @@ pub enum TryTakeError {
 impl<T: Recorded> TicketLock<T> {
     ghost use Rattle.rd_lock.specs.declared.tickets.TryTakeError.TheVariants as TryTakeError;
 
-    /// Takes the value if it is free, by one load and at most one compare-and-exchange. It waits
-    /// for nobody.
+    /// Takes the value if the lock is free, by one load and at most one compare-and-exchange. It
+    /// never waits.
     ///
     /// # Errors
     ///
-    /// `TicketsEnded` if all tickets are drawn, as this pass saw it. `Busy` if a ticket is drawn
-    /// and not done with.
+    /// `TicketsEnded` if this pass saw that all tickets are drawn. `Busy` if a ticket is drawn and
+    /// not finished.
     pub fn try_take(&self, pass: &mut Pass<T>) -> Result<T, TryTakeError>
         requires own { IsPassOf self.now pass.old }
         requires out { IsOut pass.old }
@@ -74,11 +74,12 @@ impl<T: Recorded> TicketLock<T> {
         Err(TryTakeError::Busy(Busy { next, served }))
     }
 
-    /// Draws a ticket and waits until it is served, by loads of the word `served`.
+    /// Draws a ticket, waits until it is served by loading the word `served`, and returns the
+    /// value.
     ///
     /// # Errors
     ///
-    /// `TicketsEnded` if all tickets are drawn, as this pass saw it.
+    /// `TicketsEnded` if this pass saw that all tickets are drawn.
     pub fn take<R: Wait>(&self, rt: &R, pass: &mut Pass<T>) -> Result<T, TicketsEnded>
         requires own { IsPassOf self.now pass.old }
         requires out { IsOut pass.old }
@@ -92,7 +93,8 @@ impl<T: Recorded> TicketLock<T> {
         Ok(self.wait_for(rt, pass, ticket))
     }
 
-    /// Draws a ticket, and tries again as long as another pass draws it first.
+    /// Draws a ticket and returns it, or `TicketsEnded`. It tries again as long as another pass
+    /// draws the ticket first.
     fn draw<R: Wait>(&self, rt: &R, pass: &mut Pass<T>) -> Result<u64, TicketsEnded>
         requires own { IsPassOf self.now pass.old }
         requires out { IsOut pass.old }
@@ -117,7 +119,7 @@ impl<T: Recorded> TicketLock<T> {
         unreachable!()
     }
 
-    /// Waits until the pass's ticket is served, and takes the value.
+    /// Waits until the pass's ticket is served, takes the value and returns it.
     fn wait_for<R: Wait>(&self, rt: &R, pass: &mut Pass<T>, ticket: u64) -> T
         requires own { IsPassOf self.now pass.old }
         requires ticket { (ticket < 2 ^ 63) × IsWaiting pass.old ticket }

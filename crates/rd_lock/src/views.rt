@@ -1,16 +1,16 @@
-//! What the rule of the lock speaks of: passes as the seats at the table know them. No value of
-//! these types is made.
+//! The types of the lock's invariant: passes as the seats at the table know them. No value of these
+//! types is ever made.
 ghost use Rattle.std.specs.Prelude.{ℕ, List};
 
 use std::collections::LinkedList;
 use std::snapshot::Snapshot;
 
-/// What a lock can guard. Its origin stays, and its history only grows; each entry names the pass,
-/// from 1, that put it.
+/// What a lock can guard. Its origin never changes, and its history only grows. Each entry names
+/// the pass, from 1, that put it.
 pub trait Recorded: Drop {
-    /// What the history has, beside the pass that put it.
+    /// What an entry of the history has beside the pass that put it.
     type Entry;
-    /// What stays the same from the opening on.
+    /// What never changes from the opening on.
     type Origin;
 
     ghost history: { Self → List (ℕ × Self.Entry) };
@@ -18,7 +18,7 @@ pub trait Recorded: Drop {
     ghost origin: { Self → Self.Origin };
 }
 
-/// One pass.
+/// What is known of one pass.
 pub struct PassView<E, O> {
     /// Its number, from 1.
     pub pass: u64,
@@ -36,7 +36,7 @@ pub struct PassView<E, O> {
     pub served: u64,
 }
 
-/// Where a seat is.
+/// Whether a seat waits, holds, or does neither.
 pub enum Stage<E> {
     /// It neither waits nor holds.
     Out,
@@ -53,12 +53,12 @@ pub struct View<E, O> {
     pub stage: Stage<E>,
 }
 
-/// What the table is told when it is made.
+/// What the lock was opened with, as its table keeps it.
 #[derive(Drop)]
 pub struct Opened<T> {
-    /// How many passes there are.
+    /// The number of passes.
     pub seats: u64,
-    /// The value of both words.
+    /// The first value of both words.
     pub first: u64,
     /// The value that the lock was opened with.
     pub value: Snapshot<T>,

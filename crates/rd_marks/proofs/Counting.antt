@@ -19,8 +19,8 @@ use Rattle.rd_marks.specs.declared.stretches.Place.{Place}
 use Rattle.rd_marks.specs.Beginnings.{IsBeginning, AreDistinct, CountsBeginnings}
 use Rattle.rd_marks.specs.Books.{Mark}
 use Rattle.rd_marks.specs.Marks.{mark_of, marks_of}
-use Rattle.rd_marks.specs.Layout.{lists_of}
-use Rattle.rd_marks.specs.Stretches.{list_of, shared_at, records_at, AreNested, AreFresh, number_in, greatest_in, AreNeeded, IsAlong, count_of}
+use Rattle.rd_marks.specs.Layout.{named_lists}
+use Rattle.rd_marks.specs.Stretches.{stretch_list, shared_at, records_at, AreNested, AreFresh, number_if_in, greatest_in, AreNeeded, IsAlong, count_of}
 use Rattle.rd_marks.proofs.StretchLists.{own_at, list_past, shared_past, shared_within, total, begins_shared}
 use Rattle.rd_marks.proofs.Fresh.{along_within, not_both}
 
@@ -77,7 +77,7 @@ levels_distinct fs a (suc n) h = (
 -- The beginnings that are a stretch's own, for each stretch below this number
 
 abbrev own_lists : List Stretch → ℕ → List (List Event)
-own_lists ss i = levels (events (list_of ss i)) (suc (shared_at ss i)) (length (own_at ss i))
+own_lists ss i = levels (events (stretch_list ss i)) (suc (shared_at ss i)) (length (own_at ss i))
 
 abbrev lists_to : List Stretch → ℕ → List (List Event)
 lists_to ss zero = []
@@ -85,7 +85,7 @@ lists_to ss (suc n) = lists_to ss n ++ own_lists ss n
 
 lists_length : (ss : List Stretch) (n : ℕ) → length (lists_to ss (suc n)) ≡ length (lists_to ss n) + length (own_at ss n)
 lists_length ss n =
-    omega (arith, length-append (lists_to ss n) (own_lists ss n), length-map-range_with_len (λ (m : ℕ). take m (events (list_of ss n))) (suc (shared_at ss n)) (length (own_at ss n)))
+    omega (arith, length-append (lists_to ss n) (own_lists ss n), length-map-range_with_len (λ (m : ℕ). take m (events (stretch_list ss n))) (suc (shared_at ss n)) (length (own_at ss n)))
 
 lists_more : (s : Stretch) (ss : List Stretch) (n : ℕ) → length (lists_to (s ∷ ss) (suc n)) ≡ length s.records.items + length (lists_to ss n)
 lists_more s ss zero = omega (arith, lists_length (s ∷ ss) 0)
@@ -97,12 +97,12 @@ lists_counted (s ∷ ss) = omega (arith, lists_more s ss (length ss), lists_coun
 
 -- the list is one of those
 abbrev IsListed : List Stretch → ℕ → List Event → Type 0
-IsListed ss n es = (at : ℕ) × (at < n) × (shared_at ss at < length es) × Begins es (events (list_of ss at))
+IsListed ss n es = (at : ℕ) × (at < n) × (shared_at ss at < length es) × Begins es (events (stretch_list ss at))
 
-along_begun : (ss : List Stretch) (i : ℕ) (es : List Event) → Begins es (events (list_of ss i)) → IsAlong ss i (length es) es
+along_begun : (ss : List Stretch) (i : ℕ) (es : List Event) → Begins es (events (stretch_list ss i)) → IsAlong ss i (length es) es
 along_begun ss i es b = record { enough = omega arith; alike = b ∙ sym (take-length es) }
 
-begun_within : (ss : List Stretch) (i : ℕ) (es : List Event) → Begins es (events (list_of ss i)) → length es ≤ length (list_of ss i)
+begun_within : (ss : List Stretch) (i : ℕ) (es : List Event) → Begins es (events (stretch_list ss i)) → length es ≤ length (stretch_list ss i)
 begun_within ss i es b = along_within ss i (length es) es (along_begun ss i es b)
 
 -- lists that begin alike are begun by the same
@@ -113,14 +113,14 @@ begun_taken es xs ys same b =
 greatest_there : (i n : ℕ) (ps : List Place) → 0 < n → n ≤ greatest_in i ps → (p : Place) × Contains ps p × (p.stretch ≡ i) × (n ≤ p.number)
 greatest_there i n [] some h = absurd (omega (arith, some, h))
 greatest_there i n (p ∷ ps) some h =
-    elim (cases_lt (number_in i p) n) [
+    elim (cases_lt (number_if_in i p) n) [
       | inl less ↦ let rest = greatest_there i n ps some (omega (arith, less, h)) in (rest.0, contains_later p rest.0 ps rest.1, rest.2, rest.3)
       | inr fine ↦ (p, contains_first p ps, grind (arith, nat_tests), grind (arith, nat_tests))
     ]
 
 module _ (ss : List Stretch) (rule : AreNested ss) where
-  fits : (i : ℕ) → suc (shared_at ss i) + length (own_at ss i) ≡ suc (length (events (list_of ss i)))
-  fits i = omega (arith, total ss rule i, length-map (list_of ss i) (λ (x : Entry). x.event))
+  fits : (i : ℕ) → suc (shared_at ss i) + length (own_at ss i) ≡ suc (length (events (stretch_list ss i)))
+  fits i = omega (arith, total ss rule i, length-map (stretch_list ss i) (λ (x : Entry). x.event))
 
   listed : (n : ℕ) (es : List Event) → Contains (lists_to ss n) es → IsListed ss n es
   listed zero es c = absurd (omega (arith, c.1))
@@ -128,18 +128,18 @@ module _ (ss : List Stretch) (rule : AreNested ss) where
       elim (Contains-append_cases (lists_to ss n) (own_lists ss n) es c) [
         | inl before ↦ let l = listed n es before in (l.0, omega (arith, l.1), l.2, l.3)
         | inr here ↦
-            let l = level_of (events (list_of ss n)) (suc (shared_at ss n)) (length (own_at ss n)) es (omega (arith, fits n)) here in
+            let l = level_of (events (stretch_list ss n)) (suc (shared_at ss n)) (length (own_at ss n)) es (omega (arith, fits n)) here in
             (n, omega arith, l.0, l.1)
       ]
 
-  is_listed : (n at : ℕ) (es : List Event) → at < n → shared_at ss at < length es → Begins es (events (list_of ss at)) → Contains (lists_to ss n) es
+  is_listed : (n at : ℕ) (es : List Event) → at < n → shared_at ss at < length es → Begins es (events (stretch_list ss at)) → Contains (lists_to ss n) es
   is_listed zero at es h more b = absurd (omega (arith, h))
   is_listed (suc n) at es h more b =
       elim (cases_eq at n) [
         | inl same ↦
             subst (λ (k : ℕ). Contains (lists_to ss n ++ own_lists ss k) es) same
             (Contains-append_right (lists_to ss n) (own_lists ss at) es
-            (of_level (events (list_of ss at)) (suc (shared_at ss at)) (length (own_at ss at)) es more (omega (arith, total ss rule at, begun_within ss at es b)) b))
+            (of_level (events (stretch_list ss at)) (suc (shared_at ss at)) (length (own_at ss at)) es more (omega (arith, total ss rule at, begun_within ss at es b)) b))
         | inr apart ↦ Contains-append_left (lists_to ss n) (own_lists ss n) es (is_listed n at es (omega (arith, h, apart)) more b)
       ]
 
@@ -147,40 +147,40 @@ module _ (ss : List Stretch) (rule : AreNested ss) where
   distinct_to fresh zero h = tt
   distinct_to fresh (suc n) h =
       distinct_joined (lists_to ss n) (own_lists ss n) (distinct_to fresh n (omega (arith, h)))
-      (levels_distinct (events (list_of ss n)) (suc (shared_at ss n)) (length (own_at ss n)) (omega (arith, fits n)))
+      (levels_distinct (events (stretch_list ss n)) (suc (shared_at ss n)) (length (own_at ss n)) (omega (arith, fits n)))
       (λ es first second. (
       let l = listed n es first in
-      let m = level_of (events (list_of ss n)) (suc (shared_at ss n)) (length (own_at ss n)) es (omega (arith, fits n)) second in
+      let m = level_of (events (stretch_list ss n)) (suc (shared_at ss n)) (length (own_at ss n)) es (omega (arith, fits n)) second in
       not_both ss rule fresh n l.0 (length es) es l.1 (omega (arith, h)) m.0 (along_begun ss n es m.1) (along_begun ss l.0 es l.3)
       ))
 
   -- a list that begins that of a stretch is one stretch's own
-  owner : (i : ℕ) (es : List Event) → 0 < length es → Begins es (events (list_of ss i)) → IsListed ss (suc i) es
+  owner : (i : ℕ) (es : List Event) → 0 < length es → Begins es (events (stretch_list ss i)) → IsListed ss (suc i) es
   owner zero es some b = (0, omega arith, omega (arith, shared_within ss rule 0, some), b)
   owner (suc i) es some b =
       elim (cases_lt (shared_at ss (suc i)) (length es)) [
         | inl own ↦ (suc i, omega arith, own, b)
         | inr less ↦
-            let l = owner i es some (begun_taken es (list_of ss (suc i)) (list_of ss i) (begins_shared ss rule (suc i) (length es) less) b) in
+            let l = owner i es some (begun_taken es (stretch_list ss (suc i)) (stretch_list ss i) (begins_shared ss rule (suc i) (length es) less) b) in
             (l.0, omega (arith, l.1), l.2, l.3)
       ]
 
   module _ (ms : List (MarkName × Place)) (needed : AreNeeded ss (map (λ (m : MarkName × Place). m.1) ms)) where
-    reached : (fuel i n : ℕ) → length ss ≤ i + fuel → i < length ss → n ≤ length (list_of ss i)
-        → (m : MarkName × Place) × Contains ms m × (take n (records_at ss m.1) ≡ take n (list_of ss i))
+    reached : (fuel i n : ℕ) → length ss ≤ i + fuel → i < length ss → n ≤ length (stretch_list ss i)
+        → (m : MarkName × Place) × Contains ms m × (take n (records_at ss m.1) ≡ take n (stretch_list ss i))
     reached zero i n enough inside h = absurd (omega (arith, enough, inside))
     reached (suc fuel) i n enough inside h =
-        elim (cases_lt (greatest_in i (map (λ (m : MarkName × Place). m.1) ms)) (length (list_of ss i))) [
+        elim (cases_lt (greatest_in i (map (λ (m : MarkName × Place). m.1) ms)) (length (stretch_list ss i))) [
           | inr there ↦
-              let p = greatest_there i (length (list_of ss i)) (map (λ (m : MarkName × Place). m.1) ms) (omega (arith, rule.some i inside)) there in
+              let p = greatest_there i (length (stretch_list ss i)) (map (λ (m : MarkName × Place). m.1) ms) (omega (arith, rule.some i inside)) there in
               let m = mapped_contains (λ (m : MarkName × Place). m.1) ms p.0 p.1 in (
                 m.0,
                 m.1,
-                ap (λ (q : Place). take n (records_at ss q)) m.2 ∙ take-take n p.0.number (list_of ss p.0.stretch) (omega (arith, p.3, h))
-                    ∙ ap (λ (k : ℕ). take n (list_of ss k)) p.2,
+                ap (λ (q : Place). take n (records_at ss q)) m.2 ∙ take-take n p.0.number (stretch_list ss p.0.stretch) (omega (arith, p.3, h))
+                    ∙ ap (λ (k : ℕ). take n (stretch_list ss k)) p.2,
               )
           | inl less ↦
-              let next : length (list_of ss i) ≤ shared_at ss (suc i) = omega (arith, needed i inside, less) in
+              let next : length (stretch_list ss i) ≤ shared_at ss (suc i) = omega (arith, needed i inside, less) in
               elim (cases_lt (suc i) (length ss)) [
                 | inr past ↦ absurd (omega (arith, shared_past ss (suc i) past, next, rule.some i inside))
                 | inl more ↦
@@ -190,10 +190,10 @@ module _ (ss : List Stretch) (rule : AreNested ss) where
         ]
 
     -- each beginning of the list of a stretch begins the records of a bookmark
-    pub begins_one : (i n : ℕ) → i < length ss → n ≤ length (list_of ss i) → (m : MarkName × Place) × Contains ms m × (take n (records_at ss m.1) ≡ take n (list_of ss i))
+    pub begins_one : (i n : ℕ) → i < length ss → n ≤ length (stretch_list ss i) → (m : MarkName × Place) × Contains ms m × (take n (records_at ss m.1) ≡ take n (stretch_list ss i))
     begins_one i n inside h = reached (length ss) i n (omega arith) inside h
 
-    pub counts : AreFresh ss → CountsBeginnings (marks_of (lists_of ss ms)) (count_of ss)
+    pub counts : AreFresh ss → CountsBeginnings (marks_of (named_lists ss ms)) (count_of ss)
     counts fresh = record {
       lists = lists_to ss (length ss);
       distinct = distinct_to fresh (length ss) (omega arith);
@@ -201,7 +201,7 @@ module _ (ss : List Stretch) (rule : AreNested ss) where
       counted = sym (lists_counted ss);
     }
       where
-        begins : (es : List Event) → Contains (lists_to ss (length ss)) es → IsBeginning (marks_of (lists_of ss ms)) es
+        begins : (es : List Event) → Contains (lists_to ss (length ss)) es → IsBeginning (marks_of (named_lists ss ms)) es
         begins es c =
             let l = listed (length ss) es c in
             let r = begins_one l.0 (length es) l.1 (begun_within ss l.0 es l.3) in
@@ -210,22 +210,22 @@ module _ (ss : List Stretch) (rule : AreNested ss) where
               some = omega (arith, l.2);
               mark = mark_of (m.0, records_at ss m.1);
               kept =
-                  contains_mapped (λ (x : MarkName × List Entry). mark_of x) (lists_of ss ms) (m.0, records_at ss m.1)
+                  contains_mapped (λ (x : MarkName × List Entry). mark_of x) (named_lists ss ms) (m.0, records_at ss m.1)
                   (contains_mapped (λ (x : MarkName × Place). (x.0, records_at ss x.1)) ms m r.1);
-              begins = begun_taken es (list_of ss l.0) (records_at ss m.1) (sym r.2) l.3;
+              begins = begun_taken es (stretch_list ss l.0) (records_at ss m.1) (sym r.2) l.3;
             }
 
-        is_one : (es : List Event) → IsBeginning (marks_of (lists_of ss ms)) es → Contains (lists_to ss (length ss)) es
+        is_one : (es : List Event) → IsBeginning (marks_of (named_lists ss ms)) es → Contains (lists_to ss (length ss)) es
         is_one es h =
-            let found = mapped_contains (λ (x : MarkName × List Entry). mark_of x) (lists_of ss ms) h.mark h.kept in
+            let found = mapped_contains (λ (x : MarkName × List Entry). mark_of x) (named_lists ss ms) h.mark h.kept in
             let named = mapped_contains (λ (x : MarkName × Place). (x.0, records_at ss x.1)) ms found.0 found.1 in
             let p = named.0.1 in
             let b : Begins es (events (records_at ss p)) =
             subst (λ (xs : List Entry). Begins es (events xs)) (sym (ap (λ (x : MarkName × List Entry). x.1) named.2))
             (subst (λ (k : Mark). Begins es k.events) (sym found.2) h.begins) in
-            let its = length-map (records_at ss p) (λ (x : Entry). x.event) ∙ length-take p.number (list_of ss p.stretch) in
+            let its = length-map (records_at ss p) (λ (x : Entry). x.event) ∙ length-take p.number (stretch_list ss p.stretch) in
             let short : length es ≤ p.number = omega (arith, length-take (length es) (events (records_at ss p)), ap length b, its) in
-            let whole = begun_taken es (records_at ss p) (list_of ss p.stretch) (take-take (length es) p.number (list_of ss p.stretch) short) b in
+            let whole = begun_taken es (records_at ss p) (stretch_list ss p.stretch) (take-take (length es) p.number (stretch_list ss p.stretch) short) b in
             let l = owner p.stretch es h.some whole in
             elim (cases_lt l.0 (length ss)) [
               | inl inside ↦ is_listed (length ss) l.0 es inside l.2 l.3

@@ -7,57 +7,57 @@ use Rattle.rd_step.specs.declared.entries.Event.{Event}
 use Rattle.rd_step.specs.declared.entries.Entry.{Entry}
 use Rattle.rd_depend.specs.Beginnings.{Begins}
 use Rattle.rd_marks.specs.declared.stretches.Stretch.{Stretch}
-use Rattle.rd_marks.specs.Stretches.{list_of, shared_at, AreNested, AreFresh, IsAlong, IsDeepest}
+use Rattle.rd_marks.specs.Stretches.{stretch_list, shared_at, AreNested, AreFresh, IsAlong, IsDeepest}
 use Rattle.rd_marks.proofs.StretchLists.{list_past, begins_shared, shared_records}
 
-abbrev event_of : Entry → Event
-event_of x = x.event
+abbrev as_event : Entry → Event
+as_event x = x.event
 
 -- Along events
 
-pub along_within : (ss : List Stretch) (i n : ℕ) (es : List Event) → IsAlong ss i n es → n ≤ length (list_of ss i)
-along_within ss i n es a = omega (arith, length-take n (events (list_of ss i)), ap length a.alike, length-take n es, length-map (list_of ss i) event_of, a.enough)
+pub along_within : (ss : List Stretch) (i n : ℕ) (es : List Event) → IsAlong ss i n es → n ≤ length (stretch_list ss i)
+along_within ss i n es a = omega (arith, length-take n (events (stretch_list ss i)), ap length a.alike, length-take n es, length-map (stretch_list ss i) as_event, a.enough)
 
 pub along_less : (ss : List Stretch) (i m n : ℕ) (es : List Event) → m ≤ n → IsAlong ss i n es → IsAlong ss i m es
 along_less ss i m n es h a =
-    record { enough = omega (arith, h, a.enough); alike = sym (take-take m n (events (list_of ss i)) h) ∙ ap (take m) a.alike ∙ take-take m n es h }
+    record { enough = omega (arith, h, a.enough); alike = sym (take-take m n (events (stretch_list ss i)) h) ∙ ap (take m) a.alike ∙ take-take m n es h }
 
 -- so is each list that begins alike
-pub along_taken : (ss rs : List Stretch) (i m n : ℕ) (es : List Event) → take n (list_of ss i) ≡ take n (list_of rs m) → IsAlong rs m n es → IsAlong ss i n es
+pub along_taken : (ss rs : List Stretch) (i m n : ℕ) (es : List Event) → take n (stretch_list ss i) ≡ take n (stretch_list rs m) → IsAlong rs m n es → IsAlong ss i n es
 along_taken ss rs i m n es same a = record {
   enough = a.enough;
-  alike = take-map event_of n (list_of ss i) ∙ ap events same ∙ sym (take-map event_of n (list_of rs m)) ∙ a.alike;
+  alike = take-map as_event n (stretch_list ss i) ∙ ap events same ∙ sym (take-map as_event n (stretch_list rs m)) ∙ a.alike;
 }
 
-pub along_itself : (ss : List Stretch) (i n : ℕ) → n ≤ length (list_of ss i) → IsAlong ss i n (events (list_of ss i))
-along_itself ss i n h = let its = length-map (list_of ss i) event_of in record { enough = omega (arith, its, h); alike = refl }
+pub along_itself : (ss : List Stretch) (i n : ℕ) → n ≤ length (stretch_list ss i) → IsAlong ss i n (events (stretch_list ss i))
+along_itself ss i n h = let its = length-map (stretch_list ss i) as_event in record { enough = omega (arith, its, h); alike = refl }
 
 -- two that are along the same are along each other
-along_both : (ss rs : List Stretch) (i m n : ℕ) (es : List Event) → IsAlong ss i n es → IsAlong rs m n es → IsAlong ss i n (events (list_of rs m))
+along_both : (ss rs : List Stretch) (i m n : ℕ) (es : List Event) → IsAlong ss i n es → IsAlong rs m n es → IsAlong ss i n (events (stretch_list rs m))
 along_both ss rs i m n es a b =
-    record { enough = omega (arith, length-map (list_of rs m) event_of, along_within rs m n es b); alike = a.alike ∙ sym b.alike }
+    record { enough = omega (arith, length-map (stretch_list rs m) as_event, along_within rs m n es b); alike = a.alike ∙ sym b.alike }
 
 -- beginning with the first events of a list is going along it
-pub opened : (ss : List Stretch) (i n : ℕ) (es : List Event) → n ≤ length (list_of ss i) → Begins (take n (events (list_of ss i))) es → IsAlong ss i n es
+pub opened : (ss : List Stretch) (i n : ℕ) (es : List Event) → n ≤ length (stretch_list ss i) → Begins (take n (events (stretch_list ss i))) es → IsAlong ss i n es
 opened ss i n es h b =
-    let long : length (take n (events (list_of ss i))) ≡ n = length-take-le n (events (list_of ss i)) (omega (arith, length-map (list_of ss i) event_of, h)) in
-    let same : take n es ≡ take n (events (list_of ss i)) = ap (λ (m : ℕ). take m es) (sym long) ∙ b in
+    let long : length (take n (events (stretch_list ss i))) ≡ n = length-take-le n (events (stretch_list ss i)) (omega (arith, length-map (stretch_list ss i) as_event, h)) in
+    let same : take n es ≡ take n (events (stretch_list ss i)) = ap (λ (m : ℕ). take m es) (sym long) ∙ b in
     record { enough = omega (arith, length-take n es, ap length same, long); alike = sym same }
 
-opens : (ss : List Stretch) (i n : ℕ) (es : List Event) → IsAlong ss i n es → Begins (take n (events (list_of ss i))) es
+opens : (ss : List Stretch) (i n : ℕ) (es : List Event) → IsAlong ss i n es → Begins (take n (events (stretch_list ss i))) es
 opens ss i n es a =
-    let inside : n ≤ length (events (list_of ss i)) = omega (arith, length-map (list_of ss i) event_of, along_within ss i n es a) in
-    ap (λ (m : ℕ). take m es) (length-take-le n (events (list_of ss i)) inside) ∙ sym a.alike
+    let inside : n ≤ length (events (stretch_list ss i)) = omega (arith, length-map (stretch_list ss i) as_event, along_within ss i n es a) in
+    ap (λ (m : ℕ). take m es) (length-take-le n (events (stretch_list ss i)) inside) ∙ sym a.alike
 
 -- what freshness says of lists along the same events
 abbrev pub AreApart : List Stretch → Type 0
-AreApart ss = (i j : ℕ) → j < i → i < length ss → IsAlong ss i (suc (shared_at ss i)) (events (list_of ss j)) → ⊥
+AreApart ss = (i j : ℕ) → j < i → i < length ss → IsAlong ss i (suc (shared_at ss i)) (events (stretch_list ss j)) → ⊥
 
 pub apart : (ss : List Stretch) → AreFresh ss → AreApart ss
-apart ss fresh i j h k a = fresh i j h k (opens ss i (suc (shared_at ss i)) (events (list_of ss j)) a)
+apart ss fresh i j h k a = fresh i j h k (opens ss i (suc (shared_at ss i)) (events (stretch_list ss j)) a)
 
 pub fresh_apart : (ss : List Stretch) → AreNested ss → AreApart ss → AreFresh ss
-fresh_apart ss rule apart i j h k b = apart i j h k (opened ss i (suc (shared_at ss i)) (events (list_of ss j)) (omega (arith, rule.some i k)) b)
+fresh_apart ss rule apart i j h k b = apart i j h k (opened ss i (suc (shared_at ss i)) (events (stretch_list ss j)) (omega (arith, rule.some i k)) b)
 
 module _ (ss : List Stretch) (rule : AreNested ss) (fresh : AreFresh ss) where
   pub not_both : (i j n : ℕ) (es : List Event) → j < i → i < length ss → shared_at ss i < n → IsAlong ss i n es → IsAlong ss j n es → ⊥

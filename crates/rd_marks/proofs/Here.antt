@@ -14,7 +14,7 @@ use Rattle.rd_journal.specs.Sessions.{state, track}
 use Rattle.rd_journal.specs.State.{State, undo_at, roll}
 use Rattle.rd_marks.specs.declared.stretches.Place.{Place}
 use Rattle.rd_marks.specs.declared.stretches.Stretch.{Stretch}
-use Rattle.rd_marks.specs.Stretches.{list_of, records_at, IsWithin, IsAlong}
+use Rattle.rd_marks.specs.Stretches.{stretch_list, records_at, IsWithin, IsAlong}
 use Rattle.rd_marks.proofs.Starting.{begins_events, begins_shorter, begins_trans, events_length, events_of_first, fewer_begin, records_length}
 
 -- What a call leaves of the first live records
@@ -104,7 +104,7 @@ module _ (ss : List Stretch) where
       let ahead = events (ahead_records session.records) in
       let all = length-map xs (λ (x : Entry). x.event) in
       let alike =
-      events_of_first n (list_of ss at.stretch) ∙ sym (still_begins (records_at ss here) (records_at ss at) first.1 (track session) stands)
+      events_of_first n (stretch_list ss at.stretch) ∙ sym (still_begins (records_at ss here) (records_at ss at) first.1 (track session) stands)
       ∙ ap (λ (m : ℕ). take m (track session)) (events_length ss at first.0) ∙ ap (λ (es : List Event). take n (es ++ ahead)) (sym its)
       ∙ take-append-le n (events xs) ahead (omega (arith, few, all)) in
       (first.0, record { enough = omega (arith, few, all); alike = alike })

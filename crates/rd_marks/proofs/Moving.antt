@@ -6,7 +6,7 @@ use Rattle.indexmap.specs.IndexMap.{set_value_at}
 use Rattle.rd_marks.specs.declared.names.MarkName.{MarkName}
 use Rattle.rd_marks.specs.declared.stretches.Place.{Place}
 use Rattle.rd_marks.specs.Layout.{places_of}
-use Rattle.rd_marks.specs.Stretches.{greatest_in, number_in}
+use Rattle.rd_marks.specs.Stretches.{greatest_in, number_if_in}
 
 module _ {K V : Type 0} (f : V → V) where
   -- the first n changed
@@ -42,9 +42,9 @@ module _ {K V : Type 0} (f : V → V) where
 -- The greatest number of those that are left to read
 
 pub greatest_next : (i k : ℕ) (ms : List (MarkName × Place)) (m : MarkName × Place) → slice_get ms k ≡ Some m
-    → greatest_in i (places_of (drop k ms)) ≡ max (number_in i m.1) (greatest_in i (places_of (drop (suc k) ms)))
+    → greatest_in i (places_of (drop k ms)) ≡ max (number_if_in i m.1) (greatest_in i (places_of (drop (suc k) ms)))
 greatest_next i k [] m h = cc
-greatest_next i zero (n ∷ ms) m h = (let same : n ≡ m = cc in ap (λ (d : MarkName × Place). max (number_in i d.1) (greatest_in i (places_of ms))) same)
+greatest_next i zero (n ∷ ms) m h = (let same : n ≡ m = cc in ap (λ (d : MarkName × Place). max (number_if_in i d.1) (greatest_in i (places_of ms))) same)
 greatest_next i (suc k) (n ∷ ms) m h = greatest_next i k ms m h
 
 pub none_left : (i k : ℕ) (ms : List (MarkName × Place)) → length ms ≤ k → greatest_in i (places_of (drop k ms)) ≡ 0

@@ -9,7 +9,7 @@ use Rattle.rd_marks.specs.declared.replies.Reply.{Reply}
 use Rattle.rd_marks.specs.Books.{Mark, BookState, with_marks, mark, drop_mark, at_events, goto_mark, marked_events, without_mark}
 use Rattle.rd_marks.specs.NameBytes.{MOST_MARKS}
 use Rattle.rd_actor.specs.declared.actors.Act.TheVariants.{Enq as CallsEnq, Deq as CallsDeq, AEnq as CallsArrayEnq, ADeq as CallsArrayDeq, Go as GoesOn, Starve as Starves}
-use Rattle.rd_marks.specs.Events.{event_of}
+use Rattle.rd_marks.specs.Events.{as_event}
 use Rattle.rd_marks.specs.Commands.{event, Answered, move_answer, event_answer, mark_answer, query_answer, happens, Happened, IsMade, IsObeyed, AreObeyed}
 use Rattle.rd_marks.proofs.Starts.{apply_start, undo_start, undo_at_start, roll_start, back_start, redo_start, forward_start}
 
@@ -115,7 +115,7 @@ one_more_obeyed R b m t (x ∷ xs) [] c answer h k = absurd h
 one_more_obeyed R b m t (x ∷ xs) (y ∷ ys) c answer h k = (h.0, h.1, one_more_obeyed R h.0 m t xs ys c answer h.2 k)
 
 -- what an event is answered, a command that is that event is
-pub event_obeyed : (R : ℕ) (b : BookState) (command : Command) (e : Event) (a : Answered) → event_of command ≡ Some e → Happened R b e a → IsObeyed R b command a
+pub event_obeyed : (R : ℕ) (b : BookState) (command : Command) (e : Event) (a : Answered) → as_event command ≡ Some e → Happened R b e a → IsObeyed R b command a
 event_obeyed R b (Enq actor value) e a h happened = let same : e ≡ event actor (CallsEnq value) = cc in subst (λ (f : Event). Happened R b f a) same happened
 event_obeyed R b (Deq actor) e a h happened = let same : e ≡ event actor CallsDeq = cc in subst (λ (f : Event). Happened R b f a) same happened
 event_obeyed R b (ArrayEnq actor value) e a h happened = let same : e ≡ event actor (CallsArrayEnq value) = cc in subst (λ (f : Event). Happened R b f a) same happened

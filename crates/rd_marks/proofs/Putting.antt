@@ -15,38 +15,38 @@ use Rattle.rd_marks.specs.declared.stretches.Place.{Place}
 use Rattle.rd_marks.specs.declared.stretches.Stretch.{Stretch}
 use Rattle.rd_marks.specs.declared.stretches.changes.Grown.{Grown}
 use Rattle.rd_marks.specs.declared.stretches.changes.Shift.{Shift}
-use Rattle.rd_marks.specs.Changes.{moved, Stays, IsGrown, IsShrunk, IsUnchanged}
+use Rattle.rd_marks.specs.Changes.{shifted, Stays, IsGrown, IsShrunk, IsUnchanged}
 use Rattle.rd_marks.specs.NameBytes.{MOST_MARKS}
-use Rattle.rd_marks.specs.Layout.{IsRecordOfRun, AreRuns, IsKept, IsPruned, lists_of, places_of}
-use Rattle.rd_marks.specs.Stretches.{count_of, list_of, records_at, greatest_in, needed_at, IsWithin, IsAlong, AreNested, AreNeeded, AreNeededFrom}
+use Rattle.rd_marks.specs.Layout.{IsRecordOfRun, AreRuns, IsKept, IsPruned, named_lists, places_of}
+use Rattle.rd_marks.specs.Stretches.{count_of, stretch_list, records_at, greatest_in, needed_at, IsWithin, IsAlong, AreNested, AreNeeded, AreNeededFrom}
 use Rattle.rd_marks.proofs.Counting.{begins_one, contains_mapped, count_bounded}
 use Rattle.rd_marks.proofs.RecordLemmas.{begin_alike}
 use Rattle.rd_marks.proofs.Starting.{begins_itself, begins_trans, events_of_first, fewer_begin, stretch_within}
 use Rattle.std.proofs.lemmas.Bool.Decides.{nat_tests}
 
 -- the names with where their places moved
-abbrev pub shifted : Shift → List (MarkName × Place) → List (MarkName × Place)
-shifted shift ms = map (λ (m : MarkName × Place). (m.0, moved shift m.1)) ms
+abbrev pub names_shifted : Shift → List (MarkName × Place) → List (MarkName × Place)
+names_shifted shift ms = map (λ (m : MarkName × Place). (m.0, shifted shift m.1)) ms
 
 -- the names of the lists
-pub names_same : (ss : List Stretch) (ms : List (MarkName × Place)) → map (λ (l : MarkName × List Entry). l.0) (lists_of ss ms) ≡ map (λ (m : MarkName × Place). m.0) ms
+pub names_same : (ss : List Stretch) (ms : List (MarkName × Place)) → map (λ (l : MarkName × List Entry). l.0) (named_lists ss ms) ≡ map (λ (m : MarkName × Place). m.0) ms
 names_same ss [] = refl
 names_same ss (m ∷ ms) = ap (λ (names : List MarkName). m.0 ∷ names) (names_same ss ms)
 
-pub places_shifted : (shift : Shift) (ms : List (MarkName × Place)) → places_of (shifted shift ms) ≡ map (moved shift) (places_of ms)
+pub places_shifted : (shift : Shift) (ms : List (MarkName × Place)) → places_of (names_shifted shift ms) ≡ map (shifted shift) (places_of ms)
 places_shifted shift [] = refl
-places_shifted shift (m ∷ ms) = ap (λ (ps : List Place). moved shift m.1 ∷ ps) (places_shifted shift ms)
+places_shifted shift (m ∷ ms) = ap (λ (ps : List Place). shifted shift m.1 ∷ ps) (places_shifted shift ms)
 
 module _ (old new : List Stretch) (shift : Shift) where
   -- what each name has stays
-  pub lists_shifted : (ms : List (MarkName × Place)) → All (λ (m : MarkName × Place). Stays old new shift m.1) ms → lists_of new (shifted shift ms) ≡ lists_of old ms
+  pub lists_shifted : (ms : List (MarkName × Place)) → All (λ (m : MarkName × Place). Stays old new shift m.1) ms → named_lists new (names_shifted shift ms) ≡ named_lists old ms
   lists_shifted [] h = refl
   lists_shifted (m ∷ ms) h =
       (λ i. (m.0, (All-head (λ (n : MarkName × Place). Stays old new shift n.1) m ms h).same i) ∷ lists_shifted ms (All-tail (λ (n : MarkName × Place). Stays old new shift n.1) m ms h) i)
 
-  pub within_shifted : (ms : List (MarkName × Place)) → All (λ (m : MarkName × Place). Stays old new shift m.1) ms → All (λ (m : MarkName × Place). IsWithin new m.1) (shifted shift ms)
+  pub within_shifted : (ms : List (MarkName × Place)) → All (λ (m : MarkName × Place). Stays old new shift m.1) ms → All (λ (m : MarkName × Place). IsWithin new m.1) (names_shifted shift ms)
   within_shifted ms h =
-      All-map (λ (m : MarkName × Place). IsWithin new m.1) (λ (m : MarkName × Place). (m.0, moved shift m.1)) ms (λ k d inside. (h k d inside).within)
+      All-map (λ (m : MarkName × Place). IsWithin new m.1) (λ (m : MarkName × Place). (m.0, shifted shift m.1)) ms (λ k d inside. (h k d inside).within)
 
 -- what holds of each place that is there
 pub each : (P Q : Place → Type 0) (ms : List (MarkName × Place)) → ((p : Place) → P p → Q p) → All (λ (m : MarkName × Place). P m.1) ms → All (λ (m : MarkName × Place). Q m.1) ms
@@ -58,35 +58,35 @@ module _ (old new : List Stretch) (at : Place) (live : List Entry) (grown : Grow
   stay = each (IsWithin old) (Stays old new grown.shift) ms grows.stays within
 
   abbrev put : List (MarkName × Place)
-  put = shifted grown.shift ms ++ (name, grown.place) ∷ []
+  put = names_shifted grown.shift ms ++ (name, grown.place) ∷ []
 
-  pub lists_put : lists_of new put ≡ lists_of old ms ++ (name, records_at new grown.place) ∷ []
+  pub lists_put : named_lists new put ≡ named_lists old ms ++ (name, records_at new grown.place) ∷ []
   lists_put =
-      map-append (λ (m : MarkName × Place). (m.0, records_at new m.1)) (shifted grown.shift ms) ((name, grown.place) ∷ [])
+      map-append (λ (m : MarkName × Place). (m.0, records_at new m.1)) (names_shifted grown.shift ms) ((name, grown.place) ∷ [])
       ∙ ap (λ (ls : List (MarkName × List Entry)). ls ++ (name, records_at new grown.place) ∷ []) (lists_shifted old new grown.shift ms stay)
 
   pub within_put : All (λ (m : MarkName × Place). IsWithin new m.1) put
   within_put =
-      All-push (λ (m : MarkName × Place). IsWithin new m.1) (shifted grown.shift ms) (name, grown.place) (within_shifted old new grown.shift ms stay) grows.within
+      All-push (λ (m : MarkName × Place). IsWithin new m.1) (names_shifted grown.shift ms) (name, grown.place) (within_shifted old new grown.shift ms stay) grows.within
 
   pub needed_put : AreNeeded old (places_of ms) → AreNeeded new (places_of put)
   needed_put needed =
-      rw (map-append (λ (m : MarkName × Place). m.1) (shifted grown.shift ms) ((name, grown.place) ∷ []), places_shifted grown.shift ms) (grows.needed (places_of ms) needed)
+      rw (map-append (λ (m : MarkName × Place). m.1) (names_shifted grown.shift ms) ((name, grown.place) ∷ []), places_shifted grown.shift ms) (grows.needed (places_of ms) needed)
 
   -- the rule is kept
   pub kept_put : (here there : Place) → IsKept old ms here → length ms < MOST_MARKS → (es : List (MarkName × Place)) → es ≡ put → IsWithin new there → IsKept new es there
   kept_put here there kept fewer es its lies =
       subst (λ (fs : List (MarkName × Place)). IsKept new fs there) (sym its) (record {
         few =
-            omega (arith, fewer, length-append (shifted grown.shift ms) ((name, grown.place) ∷ []), length-map {B = MarkName × Place} ms (λ m. (m.0, moved grown.shift m.1)));
+            omega (arith, fewer, length-append (names_shifted grown.shift ms) ((name, grown.place) ∷ []), length-map {B = MarkName × Place} ms (λ m. (m.0, shifted grown.shift m.1)));
         within = within_put;
         needed = needed_put kept.needed;
         lies = lies;
       })
 
   -- and the track begins with the records of where it lies
-  pub here_put : (here there : Place) (n : ℕ) (steps : List Event) → IsWithin old here → Begins (events (records_at old here)) steps → Begins (events (records_at new grown.place)) steps
-      → (here.number ≤ n → there ≡ grown.place) → (n < here.number → there ≡ moved grown.shift here) → IsWithin new there × Begins (events (records_at new there)) steps
+  here_put : (here there : Place) (n : ℕ) (steps : List Event) → IsWithin old here → Begins (events (records_at old here)) steps → Begins (events (records_at new grown.place)) steps
+      → (here.number ≤ n → there ≡ grown.place) → (n < here.number → there ≡ shifted grown.shift here) → IsWithin new there × Begins (events (records_at new there)) steps
   here_put here there n steps lies stands begins near far =
       elim (cases_lt n here.number) [
         | inl over ↦ let stays = grows.stays here lies in rw (far over) (stays.within, rw stays.same stands)
@@ -96,15 +96,15 @@ module _ (old new : List Stretch) (at : Place) (live : List Entry) (grown : Grow
 -- Nothing was put
 
 module _ (old new : List Stretch) (unchanged : IsUnchanged old new) where
-  lists_same : (ms : List (MarkName × Place)) → All (λ (m : MarkName × Place). IsWithin old m.1) ms → lists_of new ms ≡ lists_of old ms
+  lists_same : (ms : List (MarkName × Place)) → All (λ (m : MarkName × Place). IsWithin old m.1) ms → named_lists new ms ≡ named_lists old ms
   lists_same [] h = refl
   lists_same (m ∷ ms) h = λ i. (m.0, (unchanged.stays m.1 (All-head (λ (n : MarkName × Place). IsWithin old n.1) m ms h)).same i)
       ∷ lists_same ms (All-tail (λ (n : MarkName × Place). IsWithin old n.1) m ms h) i
 
   pub kept_same : (ms es : List (MarkName × Place)) (here : Place) → es ≡ ms → IsKept old ms here
-      → IsKept new es here × (lists_of new es ≡ lists_of old ms) × (records_at new here ≡ records_at old here)
+      → IsKept new es here × (named_lists new es ≡ named_lists old ms) × (records_at new here ≡ records_at old here)
   kept_same ms es here its kept =
-      subst (λ (fs : List (MarkName × Place)). IsKept new fs here × (lists_of new fs ≡ lists_of old ms) × (records_at new here ≡ records_at old here)) (sym its) (
+      subst (λ (fs : List (MarkName × Place)). IsKept new fs here × (named_lists new fs ≡ named_lists old ms) × (records_at new here ≡ records_at old here)) (sym its) (
         record {
           few = kept.few;
           within = each (IsWithin old) (IsWithin new) ms (λ p within. (unchanged.stays p within).within) kept.within;
@@ -117,18 +117,18 @@ module _ (old new : List Stretch) (unchanged : IsUnchanged old new) where
 
 -- The records of a place with which the live steps begin are theirs
 
-pub same_records : (R : ℕ) (w : World) (ss : List Stretch) → AreNested ss → (ms : List (MarkName × Place)) → AreNeeded ss (places_of ms) → AreRuns R w (lists_of ss ms)
+pub same_records : (R : ℕ) (w : World) (ss : List Stretch) → AreNested ss → (ms : List (MarkName × Place)) → AreNeeded ss (places_of ms) → AreRuns R w (named_lists ss ms)
     → (at : Place) → IsWithin ss at → (live : List Entry) → IsRunFrom R w live → IsAlong ss at.stretch at.number (events live) → records_at ss at ≡ take at.number live
 same_records R w ss rule ms needed runs at within live run along = by at.number refl
   where
     by : (n : ℕ) → at.number ≡ n → records_at ss at ≡ take at.number live
-    by zero none = ap (λ (k : ℕ). take k (list_of ss at.stretch)) none ∙ sym (ap (λ (k : ℕ). take k live) none)
+    by zero none = ap (λ (k : ℕ). take k (stretch_list ss at.stretch)) none ∙ sym (ap (λ (k : ℕ). take k live) none)
     by (suc n) some =
         let r = begins_one ss rule ms needed at.stretch at.number (stretch_within ss at within (omega (arith, some))) within in
         let xs = records_at ss r.0.1 in
-        let all = All-contains (λ (l : MarkName × List Entry). IsRecordOfRun R w l.1) (lists_of ss ms) (r.0.0, xs) runs (contains_mapped (λ (m : MarkName × Place). (m.0, records_at ss m.1)) ms r.0 r.1) in
+        let all = All-contains (λ (l : MarkName × List Entry). IsRecordOfRun R w l.1) (named_lists ss ms) (r.0.0, xs) runs (contains_mapped (λ (m : MarkName × Place). (m.0, records_at ss m.1)) ms r.0 r.1) in
         let alike : take at.number (events xs) ≡ take at.number (events live) =
-        events_of_first at.number xs ∙ ap events r.2 ∙ sym (events_of_first at.number (list_of ss at.stretch)) ∙ along.alike in
+        events_of_first at.number xs ∙ ap events r.2 ∙ sym (events_of_first at.number (stretch_list ss at.stretch)) ∙ along.alike in
         sym r.2 ∙ begin_alike R at.number w xs live all.ran run alike
 
 -- Shrinking
@@ -147,7 +147,7 @@ module _ (old new : List Stretch) (i n : ℕ) (shift : Shift) (shrunk : IsShrunk
 
   -- what the bookmarks and a place are then
   pub pruned : (here kept : Place) → IsWithin old here → kept.stretch ≡ here.stretch → kept.number ≤ here.number → (kept.stretch ≡ i → kept.number ≤ n)
-      → IsPruned i old new ms (shifted shift ms) here (moved shift kept)
+      → IsPruned i old new ms (names_shifted shift ms) here (shifted shift kept)
   pruned here kept lies same fewer left =
       let first = fewer_begin old here kept lies same fewer in
       let stays = shrunk.stays kept first.0 left in
@@ -206,27 +206,27 @@ none_named f (Some p) h = cc
 -- what the bookmarks and the place where the track lies are then
 pub record IsSet (R : ℕ) (w : World) (old new : List Stretch) (ms es : List (MarkName × Place)) (name : MarkName) (live : List Entry) (steps : List Event) (there : Place) : Type 0 where
   pub kept : IsKept new es there
-  pub lists : lists_of new es ≡ lists_of old ms ++ (name, live) ∷ []
-  pub runs : AreRuns R w (lists_of new es)
+  pub lists : named_lists new es ≡ named_lists old ms ++ (name, live) ∷ []
+  pub runs : AreRuns R w (named_lists new es)
   pub stands : Begins (events (records_at new there)) steps
 
-module _ (R : ℕ) (w : World) (old : List Stretch) (rule : AreNested old) (ms : List (MarkName × Place)) (here : Place) (kept : IsKept old ms here) (fewer : length (lists_of old ms) < MOST_MARKS)
-    (runs : AreRuns R w (lists_of old ms)) (live : List Entry) (run : IsRecordOfRun R w live) (steps : List Event) (stands : Begins (events (records_at old here)) steps)
+module _ (R : ℕ) (w : World) (old : List Stretch) (rule : AreNested old) (ms : List (MarkName × Place)) (here : Place) (kept : IsKept old ms here) (fewer : length (named_lists old ms) < MOST_MARKS)
+    (runs : AreRuns R w (named_lists old ms)) (live : List Entry) (run : IsRecordOfRun R w live) (steps : List Event) (stands : Begins (events (records_at old here)) steps)
     (began : Begins (events live) steps) (at : Place) (within : IsWithin old at) (along : IsAlong old at.stretch at.number (events live)) where
   pub is_set : (new : List Stretch) (grown : Grown) → IsGrown old new at live grown → (name : MarkName) (mid es : List (MarkName × Place)) → mid ≡ ms
-      → es ≡ shifted grown.shift mid ++ (name, grown.place) ∷ [] → (there : Place) (n : ℕ) → (here.number ≤ n → there ≡ grown.place) → (n < here.number → there ≡ moved grown.shift here)
+      → es ≡ names_shifted grown.shift mid ++ (name, grown.place) ∷ [] → (there : Place) (n : ℕ) → (here.number ≤ n → there ≡ grown.place) → (n < here.number → there ≡ shifted grown.shift here)
       → IsSet R w old new ms es name live steps there
   is_set new grown grows name mid es reserved its there n near far =
       let all : records_at new grown.place ≡ live =
       grows.put ∙ ap (λ (xs : List Entry). xs ++ drop at.number live) (same_records R w old rule ms kept.needed runs at within live run.ran along) ∙ take-append-drop at.number live in
-      let put_now = its ∙ ap (λ (fs : List (MarkName × Place)). shifted grown.shift fs ++ (name, grown.place) ∷ []) reserved in
-      let lists : lists_of new es ≡ lists_of old ms ++ (name, live) ∷ [] =
-      ap (lists_of new) put_now ∙ lists_put old new at live grown grows name ms kept.within ∙ ap (λ (xs : List Entry). lists_of old ms ++ (name, xs) ∷ []) all in
+      let put_now = its ∙ ap (λ (fs : List (MarkName × Place)). names_shifted grown.shift fs ++ (name, grown.place) ∷ []) reserved in
+      let lists : named_lists new es ≡ named_lists old ms ++ (name, live) ∷ [] =
+      ap (named_lists new) put_now ∙ lists_put old new at live grown grows name ms kept.within ∙ ap (λ (xs : List Entry). named_lists old ms ++ (name, xs) ∷ []) all in
       let lies =
       here_put old new at live grown grows name ms kept.within here there n steps kept.lies stands (subst (λ (xs : List Entry). Begins (events xs) steps) (sym all) began) near far in
       record {
         kept = kept_put old new at live grown grows name ms kept.within here there kept (omega (arith, fewer, length-map {B = MarkName × List Entry} ms (λ m. (m.0, records_at old m.1)))) es put_now lies.0;
         lists = lists;
-        runs = runs_put R w (lists_of old ms) (lists_of new es) name live runs run lists;
+        runs = runs_put R w (named_lists old ms) (named_lists new es) name live runs run lists;
         stands = lies.1;
       }

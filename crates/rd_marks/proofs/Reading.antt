@@ -7,10 +7,10 @@ use Rattle.std.proofs.lemmas.Option.{slice_get-map, slice_get_read, slice_get_wi
 use Rattle.rd_step.specs.Run.{events}
 use Rattle.rd_step.specs.declared.entries.Event.{Event}
 use Rattle.rd_step.specs.declared.entries.Entry.{Entry}
-use Rattle.rd_journal.specs.State.{event_at}
+use Rattle.rd_step.specs.Lists.{numbered}
 use Rattle.rd_marks.specs.declared.stretches.Place.{Place}
 use Rattle.rd_marks.specs.declared.stretches.Stretch.{Stretch}
-use Rattle.rd_marks.specs.Stretches.{count_of, list_of, list_before, shared_at, records_at, IsWithin, IsOwn, IsAlong, AreNested, AreFresh}
+use Rattle.rd_marks.specs.Stretches.{count_of, stretch_list, list_before, shared_at, records_at, IsWithin, IsOwn, IsAlong, AreNested, AreFresh}
 use Rattle.rd_marks.proofs.StretchLists.{own_at, stretch_there, total, shared_within, begins_shared, behind_shared, list_past}
 use Rattle.rd_marks.proofs.Fresh.{Follows, follows_compared, follows_parted, follows_skipped, along_itself, between}
 use Rattle.rd_marks.proofs.Starting.{first_events, stretch_within}
@@ -70,7 +70,7 @@ read_on {X} ps qs rs xs x h k =
     k ∙ ap (λ (ys : List X). ys ++ reverse rs) h ∙ append_assoc qs (x ∷ []) (reverse rs) ∙ ap (λ (ys : List X). qs ++ ys) (sym (reverse-append rs (x ∷ [])))
 
 -- the last record of a beginning is of the event whose number is its length
-pub event_there : (xs : List Entry) (m n k : ℕ) (x : Entry) → 1 ≤ n → m ≡ n → k ≡ m - 1 → slice_get (take m xs) k ≡ Some x → (l : ℕ) → n ≤ l → Some x.event ≡ event_at (events (take l xs)) n
+pub event_there : (xs : List Entry) (m n k : ℕ) (x : Entry) → 1 ≤ n → m ≡ n → k ≡ m - 1 → slice_get (take m xs) k ≡ Some x → (l : ℕ) → n ≤ l → Some x.event ≡ numbered (events (take l xs)) n
 event_there xs m zero k x some same at h l fewer = absurd (omega (arith, some))
 event_there xs m (suc n) k x some same at h l fewer =
     let its : k ≡ n = omega (arith, same, at) in
@@ -95,7 +95,7 @@ count_on ss i s inside its =
 
 module _ (ss : List Stretch) (rule : AreNested ss) where
   -- a place none of whose records is its stretch's own, and that in the stretch before
-  pub one_down : (k n : ℕ) → n ≤ shared_at ss (suc k) → (n ≤ length (list_of ss k)) × (take n (list_of ss k) ≡ take n (list_of ss (suc k)))
+  pub one_down : (k n : ℕ) → n ≤ shared_at ss (suc k) → (n ≤ length (stretch_list ss k)) × (take n (stretch_list ss k) ≡ take n (stretch_list ss (suc k)))
   one_down k n h = (omega (arith, h, shared_within ss rule (suc k)), sym (begins_shared ss rule (suc k) n h))
 
   pub down : (p : Place) → 0 < p.stretch → p.number ≤ shared_at ss p.stretch
@@ -104,12 +104,12 @@ module _ (ss : List Stretch) (rule : AreNested ss) where
       let k = p.stretch - 1 in
       let e : p.stretch ≡ suc k = omega (arith, some) in
       let d = one_down k p.number (subst (λ (i : ℕ). p.number ≤ shared_at ss i) e h) in
-      (d.0, d.1 ∙ ap (λ (i : ℕ). take p.number (list_of ss i)) (sym e))
+      (d.0, d.1 ∙ ap (λ (i : ℕ). take p.number (stretch_list ss i)) (sym e))
 
   -- what the lists from one stretch to the next but one have in common
-  pub common_on : (one i c d : ℕ) → d ≤ c → d ≤ shared_at ss (suc i) → take c (list_of ss i) ≡ take c (list_of ss one) → take d (list_of ss (suc i)) ≡ take d (list_of ss one)
+  pub common_on : (one i c d : ℕ) → d ≤ c → d ≤ shared_at ss (suc i) → take c (stretch_list ss i) ≡ take c (stretch_list ss one) → take d (stretch_list ss (suc i)) ≡ take d (stretch_list ss one)
   common_on one i c d less shared same =
-      begins_shared ss rule (suc i) d shared ∙ sym (take-take d c (list_of ss i) less) ∙ ap (take d) same ∙ take-take d c (list_of ss one) less
+      begins_shared ss rule (suc i) d shared ∙ sym (take-take d c (stretch_list ss i) less) ∙ ap (take d) same ∙ take-take d c (stretch_list ss one) less
 
   pub own_cases : (p : Place) → IsOwn ss p → (p.stretch ≡ 0) ⊎ (shared_at ss p.stretch < p.number)
   own_cases p own =
@@ -138,8 +138,8 @@ module _ (ss : List Stretch) (rule : AreNested ss) where
       → records_at ss p ≡ records_at ss (record { stretch = p.stretch; number = p.number - 1 }) ++ x ∷ []
   without_last p x some its =
       let parts : p.number ≡ suc (p.number - 1) = omega (arith, some) in
-      ap (λ (n : ℕ). take n (list_of ss p.stretch)) parts
-      ∙ one_more (list_of ss p.stretch) (p.number - 1) x (sym (slice_get_take (list_of ss p.stretch) p.number (p.number - 1) (omega (arith, some))) ∙ its)
+      ap (λ (n : ℕ). take n (stretch_list ss p.stretch)) parts
+      ∙ one_more (stretch_list ss p.stretch) (p.number - 1) x (sym (slice_get_take (stretch_list ss p.stretch) p.number (p.number - 1) (omega (arith, some))) ∙ its)
 
   -- the records after the first n, where they are the stretch's own
   pub lent : (p : Place) (n : ℕ) → IsWithin ss p → shared_at ss p.stretch ≤ n → n ≤ p.number
@@ -149,7 +149,7 @@ module _ (ss : List Stretch) (rule : AreNested ss) where
       let parts : n + d ≡ p.number = omega (arith, fewer) in
       let rest : p.number - shared_at ss p.stretch - (n - shared_at ss p.stretch) ≡ d = omega (arith, fewer, shared) in
       ap (λ (m : ℕ). take m (drop (n - shared_at ss p.stretch) (own_at ss p.stretch))) rest ∙ ap (take d) (sym (behind_shared ss rule p.stretch n shared))
-      ∙ sym (drop-take n d (list_of ss p.stretch)) ∙ ap (λ (m : ℕ). drop n (take m (list_of ss p.stretch))) parts
+      ∙ sym (drop-take n d (stretch_list ss p.stretch)) ∙ ap (λ (m : ℕ). drop n (take m (stretch_list ss p.stretch))) parts
 
   -- the last one
   pub last_own : (p : Place) (x : Entry) → shared_at ss p.stretch < p.number → slice_get (own_at ss p.stretch) (p.number - shared_at ss p.stretch - 1) ≡ Some x
@@ -160,23 +160,23 @@ module _ (ss : List Stretch) (rule : AreNested ss) where
       let at : p.number - 1 ≡ n + k = omega (arith, less) in
       let none : n - n ≡ 0 = omega arith in
       let own = behind_shared ss rule p.stretch n (omega arith) ∙ ap (λ (m : ℕ). drop m (own_at ss p.stretch)) none in
-      slice_get_take (list_of ss p.stretch) p.number (p.number - 1) (omega (arith, less)) ∙ ap (slice_get (list_of ss p.stretch)) at
-      ∙ sym (slice_get_drop (list_of ss p.stretch) n k) ∙ ap (λ (xs : List Entry). slice_get xs k) own ∙ its
+      slice_get_take (stretch_list ss p.stretch) p.number (p.number - 1) (omega (arith, less)) ∙ ap (slice_get (stretch_list ss p.stretch)) at
+      ∙ sym (slice_get_drop (stretch_list ss p.stretch) n k) ∙ ap (λ (xs : List Entry). slice_get xs k) own ∙ its
 
   -- how many of other events a list begins with
   module _ (i n m : ℕ) (es : List Event) (shared : shared_at ss i ≤ n) (along : IsAlong ss i n es) where
-    own_events : drop n (events (list_of ss i)) ≡ events (drop (n - shared_at ss i) (own_at ss i))
-    own_events = sym (events_behind n (list_of ss i)) ∙ ap events (behind_shared ss rule i n shared)
+    own_events : drop n (events (stretch_list ss i)) ≡ events (drop (n - shared_at ss i) (own_at ss i))
+    own_events = sym (events_behind n (stretch_list ss i)) ∙ ap events (behind_shared ss rule i n shared)
 
     pub along_further : m ≤ length es - n → take m (events (drop (n - shared_at ss i) (own_at ss i))) ≡ take m (drop n es) → IsAlong ss i (n + m) es
     along_further few same = record {
       enough = omega (arith, few, along.enough);
-      alike = take-add n m (events (list_of ss i)) ∙ (λ k. along.alike k ++ (ap (take m) own_events ∙ same) k) ∙ sym (take-add n m es);
+      alike = take-add n m (events (stretch_list ss i)) ∙ (λ k. along.alike k ++ (ap (take m) own_events ∙ same) k) ∙ sym (take-add n m es);
     }
 
     pub along_no_further : ((e : Event) → slice_get (events (drop (n - shared_at ss i) (own_at ss i))) m ≡ Some e → slice_get (drop n es) m ≡ Some e → ⊥) → IsAlong ss i (suc (n + m)) es → ⊥
     along_no_further apart further =
-        alike_no_further n m (events (list_of ss i)) es further.enough further.alike
+        alike_no_further n m (events (stretch_list ss i)) es further.enough further.alike
         (λ e here there. apart e (ap (λ (fs : List Event). slice_get fs m) (sym own_events) ∙ here) there)
 
 -- Following
@@ -212,9 +212,9 @@ module _ (ss : List Stretch) (rule : AreNested ss) (fresh : AreFresh ss) (one ot
       → (k : ℕ) → one.stretch < k → k ≤ other.stretch → n ≤ shared_at ss k
   common_most zero h l same k low high = omega arith
   common_most (suc n) h l same k low high =
-      let es = events (list_of ss other.stretch) in
+      let es = events (stretch_list ss other.stretch) in
       between ss rule fresh one.stretch other.stretch (suc n) es (stretch_within ss other within_too (omega (arith, l)))
-      (record { enough = omega (arith, length-map (list_of ss other.stretch) (λ (x : Entry). x.event), within_too, l); alike = sym (first_events ss one (suc n) h) ∙ same ∙ first_events ss other (suc n) l })
+      (record { enough = omega (arith, length-map (stretch_list ss other.stretch) (λ (x : Entry). x.event), within_too, l); alike = sym (first_events ss one (suc n) h) ∙ same ∙ first_events ss other (suc n) l })
       (along_itself ss other.stretch (suc n) (omega (arith, within_too, l))) k low high
 
 -- The next stretch that no longer goes on as a place's does
@@ -226,7 +226,7 @@ pub record Reaches (ss : List Stretch) (at : Place) (i : ℕ) : Type 0 where
 
 module _ (ss : List Stretch) (rule : AreNested ss) (at : Place) (within : IsWithin ss at) where
   reaches_first : (i : ℕ) → at.stretch ≡ i → Reaches ss at (suc i)
-  reaches_first i here = record { enough = rw (sym here) within; same = ap (λ (k : ℕ). take at.number (list_of ss k)) (sym here) }
+  reaches_first i here = record { enough = rw (sym here) within; same = ap (λ (k : ℕ). take at.number (stretch_list ss k)) (sym here) }
 
   pub reaches_on : (i : ℕ) → (at.stretch ≡ i) ⊎ (at.number < shared_at ss i) → (at.stretch < i → Reaches ss at i) → at.stretch ≤ i → Reaches ss at (suc i)
   reaches_on i (inl here) before high = reaches_first i here

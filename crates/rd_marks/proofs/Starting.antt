@@ -8,7 +8,7 @@ use Rattle.rd_step.specs.declared.entries.Entry.{Entry}
 use Rattle.rd_depend.specs.Beginnings.{Begins}
 use Rattle.rd_marks.specs.declared.stretches.Place.{Place}
 use Rattle.rd_marks.specs.declared.stretches.Stretch.{Stretch}
-use Rattle.rd_marks.specs.Stretches.{list_of, records_at, IsWithin}
+use Rattle.rd_marks.specs.Stretches.{stretch_list, records_at, IsWithin}
 use Rattle.rd_marks.proofs.StretchLists.{list_past}
 
 pub begins_itself : {X : Type 0} (xs : List X) → Begins xs xs
@@ -34,7 +34,7 @@ events_of_first n xs = take-map (λ (x : Entry). x.event) n xs
 module _ (ss : List Stretch) where
   -- up to a place there are as many as its number says
   pub records_length : (p : Place) → IsWithin ss p → length (records_at ss p) ≡ p.number
-  records_length p within = length-take-le p.number (list_of ss p.stretch) within
+  records_length p within = length-take-le p.number (stretch_list ss p.stretch) within
 
   pub events_length : (p : Place) → IsWithin ss p → length (events (records_at ss p)) ≡ p.number
   events_length p within = event_length (records_at ss p) ∙ records_length p within
@@ -48,16 +48,16 @@ module _ (ss : List Stretch) where
       ]
 
   -- the first of them are the first of the list
-  pub first_records : (p : Place) (n : ℕ) → n ≤ p.number → take n (records_at ss p) ≡ take n (list_of ss p.stretch)
-  first_records p n h = take-take n p.number (list_of ss p.stretch) h
+  pub first_records : (p : Place) (n : ℕ) → n ≤ p.number → take n (records_at ss p) ≡ take n (stretch_list ss p.stretch)
+  first_records p n h = take-take n p.number (stretch_list ss p.stretch) h
 
-  pub first_events : (p : Place) (n : ℕ) → n ≤ p.number → take n (events (records_at ss p)) ≡ take n (events (list_of ss p.stretch))
-  first_events p n h = events_of_first n (records_at ss p) ∙ ap events (first_records p n h) ∙ sym (events_of_first n (list_of ss p.stretch))
+  pub first_events : (p : Place) (n : ℕ) → n ≤ p.number → take n (events (records_at ss p)) ≡ take n (events (stretch_list ss p.stretch))
+  first_events p n h = events_of_first n (records_at ss p) ∙ ap events (first_records p n h) ∙ sym (events_of_first n (stretch_list ss p.stretch))
 
   -- those up to a place of the same list with no greater number begin them
   pub fewer_begin : (p q : Place) → IsWithin ss p → q.stretch ≡ p.stretch → q.number ≤ p.number → IsWithin ss q × Begins (records_at ss q) (records_at ss p)
   fewer_begin p q within same fewer =
-      let is : IsWithin ss q = omega (arith, within, fewer, ap (λ (i : ℕ). length (list_of ss i)) same) in (
+      let is : IsWithin ss q = omega (arith, within, fewer, ap (λ (i : ℕ). length (stretch_list ss i)) same) in (
         is,
-        ap (λ (n : ℕ). take n (records_at ss p)) (records_length q is) ∙ first_records p q.number fewer ∙ ap (λ (i : ℕ). take q.number (list_of ss i)) (sym same),
+        ap (λ (n : ℕ). take n (records_at ss p)) (records_length q is) ∙ first_records p q.number fewer ∙ ap (λ (i : ℕ). take q.number (stretch_list ss i)) (sym same),
       )

@@ -10,7 +10,7 @@ use Rattle.rd_step.specs.declared.entries.Event.{Event}
 use Rattle.rd_step.specs.declared.entries.Entry.{Entry}
 use Rattle.rd_marks.specs.declared.stretches.Stretch.{Stretch}
 use Rattle.rd_marks.specs.declared.stretches.Place.{Place}
-use Rattle.rd_marks.specs.Stretches.{list_of, list_before, shared_at, records_at, IsWithin, AreNested, AreFresh, greatest_in, needed_at, AreNeeded, AreNeededFrom, IsAlong, IsDeepest, raised, lowered}
+use Rattle.rd_marks.specs.Stretches.{stretch_list, list_before, shared_at, records_at, IsWithin, AreNested, AreFresh, greatest_in, needed_at, AreNeeded, AreNeededFrom, IsAlong, IsDeepest, raised, lowered}
 use Rattle.rd_marks.proofs.StretchLists.{shared_within, goes_back, IsChanged, IsInserted, IsReplaced}
 use Rattle.rd_marks.proofs.Fresh.{along_within, along_taken, AreApart, apart, fresh_apart, later_apart}
 
@@ -42,10 +42,10 @@ greatest_lowered i j (p ∷ ps) h = grind (arith, nat_tests, greatest_lowered i 
 -- what is of one number in the second stretches is of this other one in the first
 record IsMoved (old new : List Stretch) (j more i k : ℕ) : Type 0 where
   inside : k < length old
-  list : list_of new i ≡ list_of old k
+  list : stretch_list new i ≡ stretch_list old k
   shared : shared_at new i ≡ shared_at old k
   next : shared_at old (suc k) ≤ shared_at new (suc i)
-  fits : shared_at old (suc k) ≤ length (list_of old k) → shared_at new (suc i) ≤ length (list_of old k)
+  fits : shared_at old (suc k) ≤ length (stretch_list old k) → shared_at new (suc i) ≤ length (stretch_list old k)
   place : ((i < j) × (k ≡ i)) ⊎ ((j < i) × (i ≡ more + k))
 
 module _ (old new : List Stretch) (j more : ℕ) (change : IsChanged old new j more) where
@@ -81,10 +81,10 @@ module _ (old new : List Stretch) (j more : ℕ) (change : IsChanged old new j m
             )
       ]
 
-  nested_changed : AreNested old → shared_at new j < length (list_of new j) → length (list_of new j) ≤ MOST_STEPS → shared_at new (suc j) ≤ length (list_of new j) → AreNested new
+  nested_changed : AreNested old → shared_at new j < length (stretch_list new j) → length (stretch_list new j) ≤ MOST_STEPS → shared_at new (suc j) ≤ length (stretch_list new j) → AreNested new
   nested_changed rule some few next = record { within = within; some = λ i h. (every i h).0; few = λ i h. (every i h).1 }
     where
-      every : (i : ℕ) → i < length new → (shared_at new i < length (list_of new i)) × (length (list_of new i) ≤ MOST_STEPS) × (shared_at new (suc i) ≤ length (list_of new i))
+      every : (i : ℕ) → i < length new → (shared_at new i < length (stretch_list new i)) × (length (stretch_list new i) ≤ MOST_STEPS) × (shared_at new (suc i) ≤ length (stretch_list new i))
       every i h =
           elim (cases_eq i j) [
             | inl same ↦ (grind (arith, same, some), grind (arith, same, few), grind (arith, same, next))
@@ -102,8 +102,8 @@ module _ (old new : List Stretch) (j more : ℕ) (change : IsChanged old new j m
       within (suc i) h = (every i (omega (arith, h))).2
 
   -- if no earlier list opens as the changed one, and it opens as no later one
-  fresh_changed : AreFresh old → AreNested new → ((m : ℕ) → m < j → IsAlong new j (suc (shared_at new j)) (events (list_of old m)) → ⊥)
-      → ((k : ℕ) → j < more + k → k < length old → IsAlong old k (suc (shared_at old k)) (events (list_of new j)) → ⊥) → AreFresh new
+  fresh_changed : AreFresh old → AreNested new → ((m : ℕ) → m < j → IsAlong new j (suc (shared_at new j)) (events (stretch_list old m)) → ⊥)
+      → ((k : ℕ) → j < more + k → k < length old → IsAlong old k (suc (shared_at old k)) (events (stretch_list new j)) → ⊥) → AreFresh new
   fresh_changed fresh after own later = fresh_apart new after go
     where
       go : AreApart new
@@ -112,16 +112,16 @@ module _ (old new : List Stretch) (j more : ℕ) (change : IsChanged old new j m
             | inl same ↦
                 let low : m < j = omega (arith, h, same) in
                 own m low (subst (λ (xs : List Entry). IsAlong new j (suc (shared_at new j)) (events xs)) (change.below m low).0
-                (subst (λ (d : ℕ). IsAlong new d (suc (shared_at new d)) (events (list_of new m))) same a))
+                (subst (λ (d : ℕ). IsAlong new d (suc (shared_at new d)) (events (stretch_list new m))) same a))
             | inr other ↦
                 let from = moved i other l in
                 let k = from.0 in
                 let d = suc (shared_at old k) in
-                let b = along_taken old new k i d (events (list_of new m)) (ap (take d) (sym from.1.list))
-                (subst (λ (n : ℕ). IsAlong new i (suc n) (events (list_of new m))) from.1.shared a) in
+                let b = along_taken old new k i d (events (stretch_list new m)) (ap (take d) (sym from.1.list))
+                (subst (λ (n : ℕ). IsAlong new i (suc n) (events (stretch_list new m))) from.1.shared a) in
                 elim (cases_eq m j) [
                   | inl same ↦
-                      later k (omega (arith, from.1.place, h, same)) from.1.inside (subst (λ (n : ℕ). IsAlong old k d (events (list_of new n))) same b)
+                      later k (omega (arith, from.1.place, h, same)) from.1.inside (subst (λ (n : ℕ). IsAlong old k d (events (stretch_list new n))) same b)
                   | inr other_too ↦
                       let to = moved m other_too (omega (arith, h, l)) in
                       apart old fresh k to.0 (omega (arith, change.small, from.1.place, to.1.place, h)) from.1.inside
@@ -130,8 +130,8 @@ module _ (old new : List Stretch) (j more : ℕ) (change : IsChanged old new j m
           ]
 
   -- if the changed list is needed, and the places count for no less
-  needed_changed : (ps qs : List Place) (i : ℕ) → i < length new → ((k : ℕ) → IsMoved old new j more i k → length (list_of old k) ≤ needed_at old ps k)
-      → length (list_of new j) ≤ needed_at new qs j → ((k : ℕ) → IsMoved old new j more i k → greatest_in k ps ≤ greatest_in i qs) → length (list_of new i) ≤ needed_at new qs i
+  needed_changed : (ps qs : List Place) (i : ℕ) → i < length new → ((k : ℕ) → IsMoved old new j more i k → length (stretch_list old k) ≤ needed_at old ps k)
+      → length (stretch_list new j) ≤ needed_at new qs j → ((k : ℕ) → IsMoved old new j more i k → greatest_in k ps ≤ greatest_in i qs) → length (stretch_list new i) ≤ needed_at new qs i
   needed_changed ps qs i h needed own places =
       elim (cases_eq i j) [
         | inl same ↦ grind (arith, same, own)
@@ -141,28 +141,28 @@ module _ (old new : List Stretch) (j more : ℕ) (change : IsChanged old new j m
 -- A stretch comes or goes
 
 module _ (old new : List Stretch) (j : ℕ) (s : Stretch) (change : IsInserted old new j s) where
-  pub nested_inserted : AreNested old → s.shared < length (list_of new j) → length (list_of new j) ≤ MOST_STEPS → AreNested new
+  pub nested_inserted : AreNested old → s.shared < length (stretch_list new j) → length (stretch_list new j) ≤ MOST_STEPS → AreNested new
   nested_inserted rule some few =
       let then = (change.changed.above (suc j) j (omega arith) (omega arith)).1 in
       nested_changed old new j 1 change.changed rule (omega (arith, change.here.1, some)) few (omega (arith, then, change.changed.less, change.here.1, some))
 
   -- the new list goes on as none did after what it shares
-  pub fresh_inserted : AreNested old → AreFresh old → AreNested new → (at : ℕ) (es : List Event) → events (list_of new j) ≡ es → (0 < length old → at < j)
+  pub fresh_inserted : AreNested old → AreFresh old → AreNested new → (at : ℕ) (es : List Event) → events (stretch_list new j) ≡ es → (0 < length old → at < j)
       → IsAlong old at s.shared es → IsDeepest old s.shared es → AreFresh new
   fresh_inserted rule fresh after at es its low along deepest =
       fresh_changed old new j 1 change.changed fresh after own
       (λ k high there a. later_apart old rule fresh es at s.shared k (omega (arith, low (omega (arith, there)), high)) there along deepest
       (subst (λ (fs : List Event). IsAlong old k (suc (shared_at old k)) fs) its a))
     where
-      own : (m : ℕ) → m < j → IsAlong new j (suc (shared_at new j)) (events (list_of old m)) → ⊥
+      own : (m : ℕ) → m < j → IsAlong new j (suc (shared_at new j)) (events (stretch_list old m)) → ⊥
       own m h a =
           let d = suc s.shared in
-          let b : IsAlong new j d (events (list_of old m)) = subst (λ (n : ℕ). IsAlong new j (suc n) (events (list_of old m))) change.here.1 a in
-          let long : d ≤ length es = omega (arith, along_within new j d (events (list_of old m)) b, length-map (list_of new j) (λ (x : Entry). x.event), ap length its) in
+          let b : IsAlong new j d (events (stretch_list old m)) = subst (λ (n : ℕ). IsAlong new j (suc n) (events (stretch_list old m))) change.here.1 a in
+          let long : d ≤ length es = omega (arith, along_within new j d (events (stretch_list old m)) b, length-map (stretch_list new j) (λ (x : Entry). x.event), ap length its) in
           deepest m (omega (arith, h, change.changed.within)) (record { enough = omega (arith, long); alike = sym b.alike ∙ ap (take d) its })
 
   -- the end of the new one is needed by a place there
-  pub needed_inserted : (ps : List Place) (n : ℕ) → length (list_of new j) ≤ n → AreNeeded old ps → AreNeeded new (with_place (map (raised j) ps) j n)
+  pub needed_inserted : (ps : List Place) (n : ℕ) → length (stretch_list new j) ≤ n → AreNeeded old ps → AreNeeded new (with_place (map (raised j) ps) j n)
   needed_inserted ps n all needed i h =
       needed_changed old new j 1 change.changed ps (with_place (map (raised j) ps) j n) i h (λ k m. needed k m.inside)
       (omega (arith, greatest_last j n (map (raised j) ps), all))
@@ -170,7 +170,7 @@ module _ (old new : List Stretch) (j : ℕ) (s : Stretch) (change : IsInserted o
 
   -- the other way round
   up : (k : ℕ) → k < length old
-      → (i : ℕ) × (i < length new) × (list_of new i ≡ list_of old k) × (shared_at new i ≡ shared_at old k) × (((k < j) × (i ≡ k)) ⊎ ((j ≤ k) × (i ≡ suc k)))
+      → (i : ℕ) × (i < length new) × (stretch_list new i ≡ stretch_list old k) × (shared_at new i ≡ shared_at old k) × (((k < j) × (i ≡ k)) ⊎ ((j ≤ k) × (i ≡ suc k)))
   up k h =
       elim (cases_lt k j) [
         | inl low ↦ let its = change.changed.below k low in (k, omega (arith, change.changed.count, h), its.0, its.1, inl (low, refl))
@@ -200,8 +200,8 @@ module _ (old new : List Stretch) (j : ℕ) (s : Stretch) (change : IsInserted o
       let its = up m (omega (arith, h, l)) in
       let d = suc (shared_at new to.0) in
       apart new fresh to.0 its.0 (omega (arith, to.4, its.4, h)) to.1
-      (along_taken new old to.0 i d (events (list_of new its.0)) (ap (take d) to.2)
-      (subst (λ (xs : List Entry). IsAlong old i d (events xs)) (sym its.2) (subst (λ (n : ℕ). IsAlong old i (suc n) (events (list_of old m))) (sym to.3) a)))
+      (along_taken new old to.0 i d (events (stretch_list new its.0)) (ap (take d) to.2)
+      (subst (λ (xs : List Entry). IsAlong old i d (events xs)) (sym its.2) (subst (λ (n : ℕ). IsAlong old i (suc n) (events (stretch_list old m))) (sym to.3) a)))
       ))
 
   pub needed_removed : (ps : List Place) → AreNeededFrom (suc j) new ps → AreNeededFrom j old (map (lowered j) ps)
@@ -217,11 +217,11 @@ module _ (old new : List Stretch) (j : ℕ) (s : Stretch) (change : IsInserted o
   records_lowered p own =
       grind (arith, nat_tests, change.changed.below p.stretch, λ (high : j ≤ p.stretch). above p.stretch p.number high own)
     where
-      above : (q n : ℕ) → j ≤ q → (q ≡ j → n ≤ s.shared) → take n (list_of new q) ≡ take n (list_of old (q - 1))
+      above : (q n : ℕ) → j ≤ q → (q ≡ j → n ≤ s.shared) → take n (stretch_list new q) ≡ take n (stretch_list old (q - 1))
       above zero n high own =
           let first : 0 ≡ j = omega (arith, high) in
           let none : n ≡ 0 = grind (arith, change.changed.there, change.here.1, first, own) in
-          ap (λ (k : ℕ). take k (list_of new 0)) none ∙ sym (ap (λ (k : ℕ). take k (list_of old (0 - 1))) none)
+          ap (λ (k : ℕ). take k (stretch_list new 0)) none ∙ sym (ap (λ (k : ℕ). take k (stretch_list old (0 - 1))) none)
       above (suc q) n high own =
           let down : q ≡ suc q - 1 = omega arith in
           let back = goes_back (list_before old j) s n in
@@ -230,65 +230,65 @@ module _ (old new : List Stretch) (j : ℕ) (s : Stretch) (change : IsInserted o
 -- a place with the same records is within
 pub within_at : (old new : List Stretch) (p q : Place) → q.number ≡ p.number → records_at new q ≡ records_at old p → IsWithin old p → IsWithin new q
 within_at old new p q same records h =
-    omega (arith, length-take q.number (list_of new q.stretch), ap length records, length-take p.number (list_of old p.stretch), same, h)
+    omega (arith, length-take q.number (stretch_list new q.stretch), ap length records, length-take p.number (stretch_list old p.stretch), same, h)
 
 -- A stretch has more records, or fewer
 
 module _ (old new : List Stretch) (j : ℕ) (change : IsReplaced old new j) where
-  pub nested_replaced : AreNested old → shared_at old j < length (list_of new j) → shared_at old (suc j) ≤ length (list_of new j) → length (list_of new j) ≤ MOST_STEPS
+  pub nested_replaced : AreNested old → shared_at old j < length (stretch_list new j) → shared_at old (suc j) ≤ length (stretch_list new j) → length (stretch_list new j) ≤ MOST_STEPS
       → AreNested new
   nested_replaced rule some next few =
       let then = (change.changed.above (suc j) (suc j) (omega arith) (omega arith)).1 in
       nested_changed old new j 0 change.changed rule (omega (arith, change.shared, some)) few (omega (arith, then, next))
 
   -- if it begins as before up to the first record of its own, and opens as no later one
-  fresh_replaced : AreFresh old → AreNested new → take (suc (shared_at old j)) (list_of old j) ≡ take (suc (shared_at old j)) (list_of new j)
-      → ((k : ℕ) → j < k → k < length old → IsAlong old k (suc (shared_at old k)) (events (list_of new j)) → ⊥) → AreFresh new
+  fresh_replaced : AreFresh old → AreNested new → take (suc (shared_at old j)) (stretch_list old j) ≡ take (suc (shared_at old j)) (stretch_list new j)
+      → ((k : ℕ) → j < k → k < length old → IsAlong old k (suc (shared_at old k)) (events (stretch_list new j)) → ⊥) → AreFresh new
   fresh_replaced fresh after opening later =
       fresh_changed old new j 0 change.changed fresh after
       (λ m h a. (
       let d = suc (shared_at old j) in
       apart old fresh j m h change.inside
-      (along_taken old new j j d (events (list_of old m)) opening (subst (λ (n : ℕ). IsAlong new j (suc n) (events (list_of old m))) change.shared a))
+      (along_taken old new j j d (events (stretch_list old m)) opening (subst (λ (n : ℕ). IsAlong new j (suc n) (events (stretch_list old m))) change.shared a))
       ))
       (λ k h there a. later k (omega (arith, h)) there a)
 
-  pub fresh_appended : AreNested old → AreFresh old → AreNested new → (rest : List Entry) (es : List Event) → list_of new j ≡ list_of old j ++ rest
-      → events (list_of new j) ≡ es → IsAlong old j (length (list_of old j)) es → IsDeepest old (length (list_of old j)) es → AreFresh new
+  pub fresh_appended : AreNested old → AreFresh old → AreNested new → (rest : List Entry) (es : List Event) → stretch_list new j ≡ stretch_list old j ++ rest
+      → events (stretch_list new j) ≡ es → IsAlong old j (length (stretch_list old j)) es → IsDeepest old (length (stretch_list old j)) es → AreFresh new
   fresh_appended rule fresh after rest es its all along deepest =
-      fresh_replaced fresh after (sym (ap (take (suc (shared_at old j))) its ∙ take-append-le (suc (shared_at old j)) (list_of old j) rest (omega (arith, rule.some j change.inside))))
-      (λ k h l a. later_apart old rule fresh es j (length (list_of old j)) k h l along deepest
+      fresh_replaced fresh after (sym (ap (take (suc (shared_at old j))) its ∙ take-append-le (suc (shared_at old j)) (stretch_list old j) rest (omega (arith, rule.some j change.inside))))
+      (λ k h l a. later_apart old rule fresh es j (length (stretch_list old j)) k h l along deepest
       (subst (λ (fs : List Event). IsAlong old k (suc (shared_at old k)) fs) all a))
 
-  pub fresh_cut : AreFresh old → AreNested new → (n : ℕ) → shared_at old j < n → list_of new j ≡ take n (list_of old j) → AreFresh new
+  pub fresh_cut : AreFresh old → AreNested new → (n : ℕ) → shared_at old j < n → stretch_list new j ≡ take n (stretch_list old j) → AreFresh new
   fresh_cut fresh after n less its =
-      fresh_replaced fresh after (sym (ap (take (suc (shared_at old j))) its ∙ take-take (suc (shared_at old j)) n (list_of old j) (omega (arith, less))))
+      fresh_replaced fresh after (sym (ap (take (suc (shared_at old j))) its ∙ take-take (suc (shared_at old j)) n (stretch_list old j) (omega (arith, less))))
       (λ k h l a. (
       let d = suc (shared_at old k) in
-      let long = length-map (list_of new j) (λ (x : Entry). x.event) ∙ ap length its ∙ length-take n (list_of old j) in
-      let cut : events (list_of new j) ≡ take n (events (list_of old j)) = ap events its ∙ sym (take-map (λ (x : Entry). x.event) n (list_of old j)) in
+      let long = length-map (stretch_list new j) (λ (x : Entry). x.event) ∙ ap length its ∙ length-take n (stretch_list old j) in
+      let cut : events (stretch_list new j) ≡ take n (events (stretch_list old j)) = ap events its ∙ sym (take-map (λ (x : Entry). x.event) n (stretch_list old j)) in
       apart old fresh k j h l
-      (record { enough = omega (arith, a.enough, long, length-map (list_of old j) (λ (x : Entry). x.event)); alike = a.alike ∙ ap (take d) cut ∙ take-take d n (events (list_of old j)) (omega (arith, a.enough, long)) })
+      (record { enough = omega (arith, a.enough, long, length-map (stretch_list old j) (λ (x : Entry). x.event)); alike = a.alike ∙ ap (take d) cut ∙ take-take d n (events (stretch_list old j)) (omega (arith, a.enough, long)) })
       ))
 
-  pub needed_appended : (ps : List Place) (n : ℕ) → length (list_of new j) ≤ n → AreNeeded old ps → AreNeeded new (with_place ps j n)
+  pub needed_appended : (ps : List Place) (n : ℕ) → length (stretch_list new j) ≤ n → AreNeeded old ps → AreNeeded new (with_place ps j n)
   needed_appended ps n all needed i h =
       needed_changed old new j 0 change.changed ps (with_place ps j n) i h (λ k m. needed k m.inside) (omega (arith, greatest_last j n ps, all))
       (λ k m. grind (arith, m.place, greatest_left i ps (record { stretch = j; number = n } ∷ [])))
 
-  pub needed_cut : (ps : List Place) → length (list_of new j) ≤ needed_at old ps j → AreNeededFrom (suc j) old ps → AreNeededFrom j new ps
+  pub needed_cut : (ps : List Place) → length (stretch_list new j) ≤ needed_at old ps j → AreNeededFrom (suc j) old ps → AreNeededFrom j new ps
   needed_cut ps all needed i low h =
       needed_changed old new j 0 change.changed ps ps i h (λ k m. needed k (omega (arith, m.place, low)) m.inside)
       (omega (arith, (change.changed.above (suc j) (suc j) (omega arith) (omega arith)).1, all))
       (λ k m. (let at : k ≡ i = omega (arith, m.place) in grind (arith, at)))
 
-  records_replaced : (p : Place) → (p.stretch ≡ j → take p.number (list_of new j) ≡ take p.number (list_of old j)) → records_at new p ≡ records_at old p
+  records_replaced : (p : Place) → (p.stretch ≡ j → take p.number (stretch_list new j) ≡ take p.number (stretch_list old j)) → records_at new p ≡ records_at old p
   records_replaced p own = grind (arith, own, cases_order p.stretch j, change.changed.below p.stretch, change.changed.above p.stretch p.stretch (omega arith))
 
-  pub records_appended : (rest : List Entry) → list_of new j ≡ list_of old j ++ rest → (p : Place) → IsWithin old p → records_at new p ≡ records_at old p
+  pub records_appended : (rest : List Entry) → stretch_list new j ≡ stretch_list old j ++ rest → (p : Place) → IsWithin old p → records_at new p ≡ records_at old p
   records_appended rest its p h =
       records_replaced p
-      (λ same. ap (take p.number) its ∙ take-append-le p.number (list_of old j) rest (omega (arith, ap (λ (k : ℕ). length (list_of old k)) same, h)))
+      (λ same. ap (take p.number) its ∙ take-append-le p.number (stretch_list old j) rest (omega (arith, ap (λ (k : ℕ). length (stretch_list old k)) same, h)))
 
-  pub records_cut : (n : ℕ) → list_of new j ≡ take n (list_of old j) → (p : Place) → (p.stretch ≡ j → p.number ≤ n) → records_at new p ≡ records_at old p
-  records_cut n its p own = records_replaced p (λ same. ap (take p.number) its ∙ take-take p.number n (list_of old j) (own same))
+  pub records_cut : (n : ℕ) → stretch_list new j ≡ take n (stretch_list old j) → (p : Place) → (p.stretch ≡ j → p.number ≤ n) → records_at new p ≡ records_at old p
+  records_cut n its p own = records_replaced p (λ same. ap (take p.number) its ∙ take-take p.number n (stretch_list old j) (own same))

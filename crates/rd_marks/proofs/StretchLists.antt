@@ -7,7 +7,7 @@ use Rattle.std.proofs.lemmas.List.{append_assoc, take-append-le, take-take, leng
 use Rattle.std.proofs.lemmas.List.Edits.{length-insert}
 use Rattle.rd_step.specs.declared.entries.Entry.{Entry}
 use Rattle.rd_marks.specs.declared.stretches.Stretch.{Stretch}
-use Rattle.rd_marks.specs.Stretches.{continued, list_after, list_of, list_before, shared_at, AreNested}
+use Rattle.rd_marks.specs.Stretches.{continued, list_after, stretch_list, list_before, shared_at, AreNested}
 
 -- the records of the stretch of this number; none after the last
 abbrev pub own_at : List Stretch → ℕ → List Entry
@@ -33,7 +33,7 @@ splits_after x [] i = refl
 splits_after x (s ∷ ss) zero = refl
 splits_after x (s ∷ ss) (suc i) = splits_after (continued x s) ss i ∙ ap (λ (y : List Entry). take (shared_at ss i) y ++ own_at ss i) (one_on x s ss i)
 
-pub splits : (ss : List Stretch) (i : ℕ) → list_of ss i ≡ take (shared_at ss i) (list_before ss i) ++ own_at ss i
+pub splits : (ss : List Stretch) (i : ℕ) → stretch_list ss i ≡ take (shared_at ss i) (list_before ss i) ++ own_at ss i
 splits ss i = splits_after [] ss i ∙ ap (λ (y : List Entry). take (shared_at ss i) y ++ own_at ss i) (before_is ss i)
 
 pub stretch_there : (ss : List Stretch) (i : ℕ) (d : Stretch) → i < length ss → (shared_at ss i ≡ (get_or ss i d).shared) × (own_at ss i ≡ (get_or ss i d).records.items)
@@ -52,7 +52,7 @@ past_after x (s ∷ ss) zero h = absurd (omega (arith, h))
 past_after x (s ∷ ss) (suc i) h = past_after (continued x s) ss i (omega (arith, h))
 
 -- after the last stretch there is nothing
-pub list_past : (ss : List Stretch) (i : ℕ) → length ss ≤ i → list_of ss i ≡ []
+pub list_past : (ss : List Stretch) (i : ℕ) → length ss ≤ i → stretch_list ss i ≡ []
 list_past ss i h = past_after [] ss i h
 
 module _ (ss : List Stretch) (rule : AreNested ss) where
@@ -62,25 +62,25 @@ module _ (ss : List Stretch) (rule : AreNested ss) where
   front_length : (i : ℕ) → length (take (shared_at ss i) (list_before ss i)) ≡ shared_at ss i
   front_length i = length-take-le (shared_at ss i) (list_before ss i) (shared_within i)
 
-  pub total : (i : ℕ) → length (list_of ss i) ≡ shared_at ss i + length (own_at ss i)
+  pub total : (i : ℕ) → length (stretch_list ss i) ≡ shared_at ss i + length (own_at ss i)
   total i = omega (arith, ap length (splits ss i), length-append (take (shared_at ss i) (list_before ss i)) (own_at ss i), front_length i)
 
   -- what is shared
-  pub begins_shared : (i n : ℕ) → n ≤ shared_at ss i → take n (list_of ss i) ≡ take n (list_before ss i)
+  pub begins_shared : (i n : ℕ) → n ≤ shared_at ss i → take n (stretch_list ss i) ≡ take n (list_before ss i)
   begins_shared i n h =
       ap (take n) (splits ss i) ∙ take-append-le n (take (shared_at ss i) (list_before ss i)) (own_at ss i) (omega (arith, front_length i, h))
       ∙ take-take n (shared_at ss i) (list_before ss i) h
 
   -- what comes after it
-  pub behind_shared : (i n : ℕ) → shared_at ss i ≤ n → drop n (list_of ss i) ≡ drop (n - shared_at ss i) (own_at ss i)
+  pub behind_shared : (i n : ℕ) → shared_at ss i ≤ n → drop n (stretch_list ss i) ≡ drop (n - shared_at ss i) (own_at ss i)
   behind_shared i n h =
       let front = take (shared_at ss i) (list_before ss i) in
       let parts : n ≡ length front + (n - shared_at ss i) = omega (arith, front_length i, h) in
       ap (drop n) (splits ss i) ∙ ap (λ (m : ℕ). drop m (front ++ own_at ss i)) parts ∙ drop-append-add front (own_at ss i) (n - shared_at ss i)
 
   -- lists begin alike where all stretches from the one to the other share as much
-  pub shared_records : (i m n : ℕ) → i ≤ m → ((k : ℕ) → i < k → k ≤ m → n ≤ shared_at ss k) → take n (list_of ss m) ≡ take n (list_of ss i)
-  shared_records i zero n h all = let same : 0 ≡ i = omega (arith, h) in ap (λ (k : ℕ). take n (list_of ss k)) same
+  pub shared_records : (i m n : ℕ) → i ≤ m → ((k : ℕ) → i < k → k ≤ m → n ≤ shared_at ss k) → take n (stretch_list ss m) ≡ take n (stretch_list ss i)
+  shared_records i zero n h all = let same : 0 ≡ i = omega (arith, h) in ap (λ (k : ℕ). take n (stretch_list ss k)) same
   shared_records i (suc m) n h all =
       let earlier = λ (low : i ≤ m). shared_records i m n low (λ k low high. all k low (omega (arith, high))) in
       grind (arith, cases_eq (suc m) i, all (suc m), begins_shared (suc m) n, earlier)
@@ -106,13 +106,13 @@ pub record IsChanged (old new : List Stretch) (j more : ℕ) : Type 0 where
   pub within : j ≤ length old
   pub less : shared_at old j ≤ shared_at new j
   pub there : shared_at new j ≤ length (list_before old j)
-  pub below : (i : ℕ) → i < j → (list_of new i ≡ list_of old i) × (shared_at new i ≡ shared_at old i)
-  pub above : (i k : ℕ) → i ≡ more + k → j < i → (list_of new i ≡ list_of old k) × (shared_at new i ≡ shared_at old k)
+  pub below : (i : ℕ) → i < j → (stretch_list new i ≡ stretch_list old i) × (shared_at new i ≡ shared_at old i)
+  pub above : (i k : ℕ) → i ≡ more + k → j < i → (stretch_list new i ≡ stretch_list old k) × (shared_at new i ≡ shared_at old k)
 
 -- it is this one more
 pub record IsInserted (old new : List Stretch) (j : ℕ) (s : Stretch) : Type 0 where
   pub changed : IsChanged old new j 1
-  pub here : (list_of new j ≡ continued (list_before old j) s) × (shared_at new j ≡ s.shared)
+  pub here : (stretch_list new j ≡ continued (list_before old j) s) × (shared_at new j ≡ s.shared)
 
 -- it stands for one that shares as many
 pub record IsReplaced (old new : List Stretch) (j : ℕ) : Type 0 where
@@ -214,8 +214,8 @@ here_replaced x (s ∷ ss) zero t h = refl
 here_replaced x (s ∷ ss) (suc j) t h = here_replaced (continued x s) ss j t (omega (arith, h)) ∙ ap (λ (y : List Entry). continued y t) (one_on x s ss j)
 
 module _ (ss : List Stretch) (rule : AreNested ss) (j : ℕ) (h : j < length ss) (t : Stretch) (shared : t.shared ≡ shared_at ss j) where
-  replaced_at : (ys : List Entry) → continued (list_before ss j) t ≡ ys → take (shared_at ss (suc j)) ys ≡ take (shared_at ss (suc j)) (list_of ss j)
-      → IsReplaced ss (set ss j t) j × (list_of (set ss j t) j ≡ ys)
+  replaced_at : (ys : List Entry) → continued (list_before ss j) t ≡ ys → take (shared_at ss (suc j)) ys ≡ take (shared_at ss (suc j)) (stretch_list ss j)
+      → IsReplaced ss (set ss j t) j × (stretch_list (set ss j t) j ≡ ys)
   replaced_at ys its same =
       let here = shared_replaced ss j t j shared in (
         record {
@@ -234,27 +234,27 @@ module _ (ss : List Stretch) (rule : AreNested ss) (j : ℕ) (h : j < length ss)
         here_replaced [] ss j t h ∙ ap (λ (y : List Entry). continued y t) (before_is ss j) ∙ its,
       )
     where
-      others : (i : ℕ) → (i ≡ j → ⊥) → (list_of (set ss j t) i ≡ list_of ss i) × (shared_at (set ss j t) i ≡ shared_at ss i)
+      others : (i : ℕ) → (i ≡ j → ⊥) → (stretch_list (set ss j t) i ≡ stretch_list ss i) × (shared_at (set ss j t) i ≡ shared_at ss i)
       others i apart = (
         others_replaced [] ss j t i apart (ap (λ (y : List Entry). take (shared_at ss (suc j)) (continued y t)) (before_is ss j) ∙ ap (take (shared_at ss (suc j))) its ∙ same),
         shared_replaced ss j t i shared,
       )
 
   -- with more records after its own
-  pub appended_at : (rest : List Entry) → t.records.items ≡ own_at ss j ++ rest → IsReplaced ss (set ss j t) j × (list_of (set ss j t) j ≡ list_of ss j ++ rest)
+  pub appended_at : (rest : List Entry) → t.records.items ≡ own_at ss j ++ rest → IsReplaced ss (set ss j t) j × (stretch_list (set ss j t) j ≡ stretch_list ss j ++ rest)
   appended_at rest its =
-      replaced_at (list_of ss j ++ rest)
+      replaced_at (stretch_list ss j ++ rest)
       ((λ i. take (shared i) (list_before ss j) ++ its i) ∙ sym (append_assoc (take (shared_at ss j) (list_before ss j)) (own_at ss j) rest)
       ∙ ap (λ (ys : List Entry). ys ++ rest) (sym (splits ss j)))
-      (take-append-le (shared_at ss (suc j)) (list_of ss j) rest (shared_within ss rule (suc j)))
+      (take-append-le (shared_at ss (suc j)) (stretch_list ss j) rest (shared_within ss rule (suc j)))
 
   -- with no more than the first of its own
   pub cut_at : (n : ℕ) → shared_at ss j ≤ n → shared_at ss (suc j) ≤ n → t.records.items ≡ take (n - shared_at ss j) (own_at ss j)
-      → IsReplaced ss (set ss j t) j × (list_of (set ss j t) j ≡ take n (list_of ss j))
+      → IsReplaced ss (set ss j t) j × (stretch_list (set ss j t) j ≡ take n (stretch_list ss j))
   cut_at n less next its =
       let front = take (shared_at ss j) (list_before ss j) in
       let parts : length front + (n - shared_at ss j) ≡ n = omega (arith, front_length ss rule j, less) in
-      replaced_at (take n (list_of ss j))
+      replaced_at (take n (stretch_list ss j))
       ((λ i. take (shared i) (list_before ss j) ++ its i) ∙ sym (take-append-add front (own_at ss j) (n - shared_at ss j))
       ∙ ap (λ (m : ℕ). take m (front ++ own_at ss j)) parts ∙ ap (take n) (sym (splits ss j)))
-      (take-take (shared_at ss (suc j)) n (list_of ss j) next)
+      (take-take (shared_at ss (suc j)) n (stretch_list ss j) next)

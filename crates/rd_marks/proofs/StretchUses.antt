@@ -12,8 +12,8 @@ use Rattle.rd_marks.specs.declared.stretches.Place.{Place}
 use Rattle.rd_marks.specs.declared.stretches.Stretch.{Stretch}
 use Rattle.rd_marks.specs.declared.stretches.changes.Shift.{Shift}
 use Rattle.rd_marks.specs.declared.stretches.changes.Shift.TheVariants.{Same, Up, Down}
-use Rattle.rd_marks.specs.Stretches.{greatest_in, list_of, list_before, shared_at, records_at, IsWithin, IsEnd, IsAlong, IsDeepest, AreNested, AreFresh, raised, lowered}
-use Rattle.rd_marks.specs.Changes.{moved, IsLow, IsGrown, IsShrunk, IsUnchanged}
+use Rattle.rd_marks.specs.Stretches.{greatest_in, stretch_list, list_before, shared_at, records_at, IsWithin, IsEnd, IsAlong, IsDeepest, AreNested, AreFresh, raised, lowered}
+use Rattle.rd_marks.specs.Changes.{shifted, IsLow, IsGrown, IsShrunk, IsUnchanged}
 use Rattle.rd_marks.proofs.StretchLists.{own_at, shared_within, inserted_at, removed_at, appended_at, cut_at}
 use Rattle.rd_marks.proofs.Fresh.{along_taken}
 use Rattle.rd_marks.proofs.StretchChanges.{within_at, nested_inserted, nested_removed, fresh_inserted, fresh_removed, needed_inserted, needed_removed, records_raised, records_lowered, nested_replaced, fresh_appended, fresh_cut, needed_appended, needed_cut, records_appended, records_cut}
@@ -23,7 +23,7 @@ use Rattle.rd_marks.proofs.Starting.{stretch_within}
 pub is_low : (ss : List Stretch) → length ss < 2 ^ 64 → (p : Place) → IsWithin ss p → IsLow p
 is_low ss few p within some = omega (arith, few, stretch_within ss p within some)
 
-moved_same : (ps : List Place) → map (moved Same) ps ≡ ps
+moved_same : (ps : List Place) → map (shifted Same) ps ≡ ps
 moved_same ps = map-id ps
 
 -- the events of a list with those of others after it
@@ -67,10 +67,10 @@ module _ (ss : List Stretch) (few : length ss < 2 ^ 64) (rule : AreNested ss) (f
       let both = appended_at ss rule j end.there t shared rest its in
       let change = both.0 in
       let list = both.1 in
-      let whole : take n (list_of ss j) ≡ list_of ss j = take_all n (list_of ss j) (omega (arith, end.all)) in
-      let start : events (list_of ss j) ≡ take n (events live) = ap events (sym whole) ∙ sym (take-map (λ (x : Entry). x.event) n (list_of ss j)) ∙ along.alike in
-      let same : events (list_of new j) ≡ events live = joined_events (list_of ss j) live (list_of new j) n list start in
-      let long : length (list_of new j) ≡ length live = sym (length-map (list_of new j) (λ (x : Entry). x.event)) ∙ ap length same ∙ length-map live (λ (x : Entry). x.event) in
+      let whole : take n (stretch_list ss j) ≡ stretch_list ss j = take_all n (stretch_list ss j) (omega (arith, end.all)) in
+      let start : events (stretch_list ss j) ≡ take n (events live) = ap events (sym whole) ∙ sym (take-map (λ (x : Entry). x.event) n (stretch_list ss j)) ∙ along.alike in
+      let same : events (stretch_list new j) ≡ events live = joined_events (stretch_list ss j) live (stretch_list new j) n list start in
+      let long : length (stretch_list new j) ≡ length live = sym (length-map (stretch_list new j) (λ (x : Entry). x.event)) ∙ ap length same ∙ length-map live (λ (x : Entry). x.event) in
       let nested =
       nested_replaced ss new j change rule (omega (arith, rule.some j end.there, end.all, more, long)) (omega (arith, shared_within ss rule (suc j), end.all, more, long)) (omega (arith, most, long)) in
       record {
@@ -80,7 +80,7 @@ module _ (ss : List Stretch) (few : length ss < 2 ^ 64) (rule : AreNested ss) (f
             (subst (λ (m : ℕ). IsDeepest ss m (events live)) end.all deepest);
         grown = record {
           within = omega (arith, long);
-          put = take_all (length live) (list_of new j) (omega (arith, long)) ∙ list ∙ ap (λ (xs : List Entry). xs ++ rest) (sym whole);
+          put = take_all (length live) (stretch_list new j) (omega (arith, long)) ∙ list ∙ ap (λ (xs : List Entry). xs ++ rest) (sym whole);
           low = is_low ss few;
           stays = λ p within.
               (let kept = records_appended ss new j change rest list p within in
@@ -99,11 +99,11 @@ module _ (ss : List Stretch) (few : length ss < 2 ^ 64) (rule : AreNested ss) (f
       let new = insert ss j s in
       let rest = drop n live in
       let change = inserted_at ss j s inside (omega (arith, shared, less)) (omega (arith, shared, there)) in
-      let list : list_of new j ≡ records_at ss at ++ rest =
+      let list : stretch_list new j ≡ records_at ss at ++ rest =
       change.here.0 ∙ (λ i. take (shared i) (list_before ss j) ++ its i) ∙ ap (λ (xs : List Entry). xs ++ rest) begins in
-      let start : events (records_at ss at) ≡ take n (events live) = sym (take-map (λ (x : Entry). x.event) n (list_of ss at.stretch)) ∙ along.alike in
-      let same : events (list_of new j) ≡ events live = joined_events (records_at ss at) live (list_of new j) n list start in
-      let long : length (list_of new j) ≡ length live = sym (length-map (list_of new j) (λ (x : Entry). x.event)) ∙ ap length same ∙ length-map live (λ (x : Entry). x.event) in
+      let start : events (records_at ss at) ≡ take n (events live) = sym (take-map (λ (x : Entry). x.event) n (stretch_list ss at.stretch)) ∙ along.alike in
+      let same : events (stretch_list new j) ≡ events live = joined_events (records_at ss at) live (stretch_list new j) n list start in
+      let long : length (stretch_list new j) ≡ length live = sym (length-map (stretch_list new j) (λ (x : Entry). x.event)) ∙ ap length same ∙ length-map live (λ (x : Entry). x.event) in
       let nested = nested_inserted ss new j s change rule (omega (arith, shared, more, long)) (omega (arith, most, long)) in
       record {
         nested = nested;
@@ -112,7 +112,7 @@ module _ (ss : List Stretch) (few : length ss < 2 ^ 64) (rule : AreNested ss) (f
             (subst (λ (m : ℕ). IsDeepest ss m (events live)) (sym shared) deepest));
         grown = record {
           within = omega (arith, long);
-          put = take_all (length live) (list_of new j) (omega (arith, long)) ∙ list;
+          put = take_all (length live) (stretch_list new j) (omega (arith, long)) ∙ list;
           low = is_low ss few;
           stays = λ p is.
               (let kept = records_raised ss new j s change p in
@@ -163,9 +163,9 @@ module _ (ss : List Stretch) (few : length ss < 2 ^ 64) (rule : AreNested ss) (f
       let new = set ss j t in
       let both = appended_at ss rule j inside t shared [] (its ∙ sym (append-nil (own_at ss j))) in
       let change = both.0 in
-      let list = both.1 ∙ append-nil (list_of ss j) in
-      let all = list ∙ sym (take_all (length (list_of ss j)) (list_of ss j) (omega arith)) in
-      let both_same : (i : ℕ) → (list_of new i ≡ list_of ss i) × (shared_at new i ≡ shared_at ss i) =
+      let list = both.1 ∙ append-nil (stretch_list ss j) in
+      let all = list ∙ sym (take_all (length (stretch_list ss j)) (stretch_list ss j) (omega arith)) in
+      let both_same : (i : ℕ) → (stretch_list new i ≡ stretch_list ss i) × (shared_at new i ≡ shared_at ss i) =
       (λ i. elim (cases_lt i j) [
         | inl low ↦ change.changed.below i low
         | inr high ↦ elim (cases_eq i j) [
@@ -177,7 +177,7 @@ module _ (ss : List Stretch) (few : length ss < 2 ^ 64) (rule : AreNested ss) (f
       let long = ap length list in
       let nested = nested_replaced ss new j change rule (omega (arith, some, long)) (omega (arith, shared_within ss rule (suc j), long)) (omega (arith, rule.few j inside, long)) in (
         nested,
-        fresh_cut ss new j change fresh nested (length (list_of ss j)) some all,
+        fresh_cut ss new j change fresh nested (length (stretch_list ss j)) some all,
         record {
           stays = λ p within.
               (let kept = ap (take p.number) (both_same p.stretch).0 in
@@ -194,7 +194,7 @@ module _ (ss : List Stretch) (few : length ss < 2 ^ 64) (rule : AreNested ss) (f
       let both = cut_at ss rule j inside t shared n (omega (arith, some)) next its in
       let change = both.0 in
       let list = both.1 in
-      let long = ap length list ∙ length-take n (list_of ss j) in
+      let long = ap length list ∙ length-take n (stretch_list ss j) in
       let nested =
       nested_replaced ss new j change rule (omega (arith, long, some, rule.some j inside)) (omega (arith, long, next, shared_within ss rule (suc j))) (omega (arith, long, rule.few j inside)) in
       record {

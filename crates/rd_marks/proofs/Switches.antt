@@ -9,7 +9,7 @@ use Rattle.rd_step.specs.declared.entries.Entry.{Entry}
 use Rattle.rd_depend.specs.Beginnings.{Begins}
 use Rattle.rd_marks.specs.declared.stretches.Place.{Place}
 use Rattle.rd_marks.specs.declared.stretches.Stretch.{Stretch}
-use Rattle.rd_marks.specs.Stretches.{list_of, records_at, IsWithin, IsAlong, IsDeepest}
+use Rattle.rd_marks.specs.Stretches.{stretch_list, records_at, IsWithin, IsAlong, IsDeepest}
 use Rattle.rd_marks.proofs.Starting.{begins_shorter, stretch_within, records_length, events_length, events_of_first, first_events}
 
 module _ (ss : List Stretch) where
@@ -18,7 +18,7 @@ module _ (ss : List Stretch) where
   pub common_live : (b place : Place) (n : ℕ) (es live : List Event) → es ≡ live → n ≤ b.number → IsAlong ss b.stretch b.number es
       → take n (records_at ss b) ≡ take n (records_at ss place) → take n live ≡ take n (events (records_at ss place))
   common_live b place n es live same within along alike =
-      ap (take n) (sym same) ∙ sym (take-take n b.number es within) ∙ ap (take n) (sym along.alike) ∙ take-take n b.number (events (list_of ss b.stretch)) within
+      ap (take n) (sym same) ∙ sym (take-take n b.number es within) ∙ ap (take n) (sym along.alike) ∙ take-take n b.number (events (stretch_list ss b.stretch)) within
       ∙ sym (first_events ss b n within) ∙ events_of_first n (records_at ss b) ∙ ap events alike ∙ sym (events_of_first n (records_at ss place))
 
   -- after as many as its number says, a place has no records
@@ -48,6 +48,6 @@ module _ (ss : List Stretch) where
       let long = events_length ss place is in
       let d = place.number in
       let alike : take d (events (records_at ss b)) ≡ take d (events (records_at ss place)) =
-      first_events ss b d shallow ∙ sym (take-take d b.number (events (list_of ss b.stretch)) shallow) ∙ ap (take d) along.alike ∙ take-take d b.number es shallow
+      first_events ss b d shallow ∙ sym (take-take d b.number (events (stretch_list ss b.stretch)) shallow) ∙ ap (take d) along.alike ∙ take-take d b.number es shallow
       ∙ ap (λ (m : ℕ). take m es) (sym long) ∙ h ∙ sym (ap (λ (m : ℕ). take m (events (records_at ss place))) (sym long) ∙ take-length (events (records_at ss place))) in
       omega (arith, most d shallow (omega arith) alike, within)

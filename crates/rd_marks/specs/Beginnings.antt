@@ -17,7 +17,7 @@ abbrev pub AreDistinct : {X : Type 0} → List X → Type 0
 AreDistinct [] = Unit {0}
 AreDistinct (x ∷ xs) = (Contains xs x → ⊥) × AreDistinct xs
 
--- there are just this many different lists that begin the events of some mark, the empty one apart
+-- this is the number of different lists, except the empty one, that begin the events of some mark
 pub record CountsBeginnings (marks : List Mark) (count : ℕ) : Type 0 where
   pub lists : List (List Event)
   pub distinct : AreDistinct lists

@@ -6,6 +6,6 @@ use Rattle.rd_marks.specs.Books.{BookState}
 use Rattle.rd_marks.specs.Kept.{lists_in}
 use Rattle.rd_marks.specs.Marks.{marks_of}
 
--- the session's state and the marks' events
+-- the state of a book: its session's state, and its marks with their events
 abbrev pub book_state : {R : ℕ} → Book R → BookState
 book_state b = record { session = state b.session; marks = marks_of (lists_in b.bookmarks) }

@@ -4,8 +4,9 @@ use Rattle.std.specs.Global.{Global}
 use Rattle.rd_step.specs.Prelude.{World, Refusal, NoMark, MarkTaken, TooManyMarks, NoMemory}
 use Rattle.rd_step.specs.Equivalence.{IsEquivalent}
 use Rattle.rd_step.specs.declared.entries.Event.{Event}
-use Rattle.rd_depend.specs.Beginnings.{Begins, IsBegunByNeither}
-use Rattle.rd_journal.specs.State.{State, event_at}
+use Rattle.rd_depend.specs.Beginnings.{Begins, NeitherIsPrefix}
+use Rattle.rd_journal.specs.State.{State}
+use Rattle.rd_step.specs.Lists.{numbered}
 use Rattle.rd_marks.specs.declared.names.MarkName.{MarkName}
 use Rattle.rd_marks.specs.NameBytes.{MOST_MARKS}
 use Rattle.rd_marks.specs.Names.{same_name}
@@ -15,7 +16,7 @@ pub record Mark : Type 0 where
   pub name : MarkName
   pub events : List Event
 
--- the session's start, live and undone events, and the marks in the order in which they were set
+-- the state of a book: that of its session, and its marks in the order in which they were set
 pub record BookState : Type 0 where
   pub session : State
   pub marks : List Mark
@@ -38,36 +39,38 @@ abbrev pub without_mark : List Mark → MarkName → List Mark
 without_mark [] name = []
 without_mark (m ∷ ms) name = if same_name name m.name then ms else m ∷ without_mark ms name
 
--- setting a mark: it has the live events and is the last one; refused if there is one of its name,
--- and else if there are as many as there may be
+-- the book after setting a mark, which has the live events and is the last one; refused if there is
+-- a mark of this name, or else if there are as many as there may be
 abbrev pub mark : BookState → MarkName → Result BookState Refusal
 mark b name =
     if is_some (marked_events b.marks name) then Err MarkTaken
     else if length b.marks == MOST_MARKS then Err TooManyMarks
     else Ok (with_marks b (b.marks ++ record { name = name; events = b.session.live } ∷ []))
 
--- dropping a mark, if there is one of its name
+-- the book after dropping the mark of this name; refused if there is none
 abbrev pub drop_mark : BookState → MarkName → Result BookState Refusal
 drop_mark b name = if is_some (marked_events b.marks name) then Ok (with_marks b (without_mark b.marks name)) else Err NoMark
 
--- the events of a mark are live and nothing is undone, if there is such a mark
+-- the book where just these events of a mark are live and nothing is undone; refused if there is no
+-- such mark
 abbrev pub at_events : BookState → Option (List Event) → Result BookState Refusal
 at_events b None = Err NoMark
 at_events b (Some es) = Ok (with_session b (record { start = b.session.start; live = es; undone = [] }))
 
--- going to the mark of this name, if there is one
+-- the book after going to the mark of this name; refused if there is none
 abbrev pub goto_mark : BookState → MarkName → Result BookState Refusal
 goto_mark b name = at_events b (marked_events b.marks name)
 
--- going to the mark of this name makes steps: its events do not begin the live ones
+-- going to the mark of this name makes steps, as its events do not begin the live ones
 abbrev pub MakesSteps : BookState → MarkName → Type 0
 MakesSteps b name = (es : List Event) × (marked_events b.marks name ≡ Some es) × (Begins es b.session.live → ⊥)
 
--- what may be answered of the events of two marks: whether they are causally equivalent from the
--- start; that a mark is missing; or, if neither list begins the other, that memory was refused
+-- this may be answered to comparing the events of two marks: whether they are causally equivalent
+-- from the start; that a mark is missing; or, if neither list begins the other, that memory was
+-- refused
 abbrev pub AnswersSame : ℕ → World → Option (List Event) → Option (List Event) → Result Bool Refusal → Type 0
 AnswersSame R start (Some es) (Some fs) (Ok same) = IsTrue same ↔ IsEquivalent R start es fs
-AnswersSame R start (Some es) (Some fs) (Err refusal) = (refusal ≡ NoMemory) × IsBegunByNeither es fs
+AnswersSame R start (Some es) (Some fs) (Err refusal) = (refusal ≡ NoMemory) × NeitherIsPrefix es fs
 AnswersSame R start (Some es) None said = said ≡ Err NoMark
 AnswersSame R start None fs said = said ≡ Err NoMark
 
@@ -76,17 +79,17 @@ abbrev pub mark_events : BookState → ℕ → Option (List Event)
 mark_events b zero = None
 mark_events b (suc i) = option_map (λ m. m.events) (slice_get b.marks i)
 
--- the event of this number, from 1, of a list, if there is the list
+-- the event of this number, from 1, in a list, if there is a list and it has one
 abbrev pub event_in : Option (List Event) → ℕ → Option Event
 event_in None n = None
-event_in (Some es) n = event_at es n
+event_in (Some es) n = numbered es n
 
--- the event of the second number of the mark of the first one, both from 1, if there is one
+-- the n-th event of the i-th mark, both numbers from 1, if there is one
 abbrev pub mark_event : BookState → ℕ → ℕ → Option Event
 mark_event b i n = event_in (mark_events b i) n
 
--- what may be answered of the events of a mark: these; that there is no such mark; or, if it has
--- any, that memory was refused
+-- this may be answered to asking for the events of a mark: these events; that there is no such
+-- mark; or, if it has any, that memory was refused
 abbrev pub AnswersEvents : Option (List Event) → Result (Vec Event Global) Refusal → Type 0
 AnswersEvents None said = said ≡ Err NoMark
 AnswersEvents (Some es) (Ok list) = list.items ≡ es
@@ -101,7 +104,8 @@ abbrev pub name_and_length : Option Mark → Result (MarkName × ℕ) Refusal
 name_and_length None = Err NoMark
 name_and_length (Some m) = Ok (m.name, length m.events)
 
--- the mark of this number, from 1
+-- the name of the mark of this number, from 1, and the number of its events; refused if there is no
+-- such mark
 abbrev pub mark_at : BookState → ℕ → Result (MarkName × ℕ) Refusal
 mark_at b zero = Err NoMark
 mark_at b (suc i) = name_and_length (slice_get b.marks i)

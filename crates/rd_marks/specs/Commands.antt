@@ -20,44 +20,46 @@ pub record Answered : Type 0 where
   pub answer : Result Reply Refusal
   pub state : BookState
 
--- a query leaves the state as it is
+-- what a query with this answer leaves: the state as it is
 abbrev pub query_answer : BookState → Result Reply Refusal → Answered
 query_answer b answer = record { answer = answer; state = b }
 
--- a refused command changes nothing
+-- what a refused command leaves: the state as it is
 abbrev pub refused : BookState → Refusal → Answered
 refused b refusal = query_answer b (Err refusal)
 
--- this event of this actor
+-- the event of this actor and this act
 abbrev pub event : ℕ → Act → Event
 event actor act = record { actor = actor; act = act }
 
--- how many steps are live and how many are undone
+-- the reply with the numbers of live and of undone steps
 abbrev pub step_counts : State → Reply
 step_counts s = At (length s.live) (length s.undone)
 
--- an event is answered by the number of its step, the last live one, and by the reply of the call
--- that it ends, if it ends one
+-- the answer to an event: the number of its step, the last live one, and the reply of the call that
+-- it ends, if it ends one; or its refusal
 abbrev pub event_answer : BookState → Option OpReply → Result State Refusal → Answered
 event_answer b reply (Err refusal) = refused b refusal
 event_answer b reply (Ok s) = record { answer = Ok (Applied (length s.live) reply); state = with_session b s }
 
--- a move through the run is answered by the numbers of steps after it
+-- the answer to a move through the run: the numbers of live and undone steps after it, or its
+-- refusal
 abbrev pub move_answer : BookState → Result State Refusal → Answered
 move_answer b (Err refusal) = refused b refusal
 move_answer b (Ok s) = record { answer = Ok (step_counts s); state = with_session b s }
 
--- setting, dropping or going to a mark is answered by what the state after it says
+-- the answer to setting, dropping or going to a mark: a reply from the state after it, or its
+-- refusal
 abbrev pub mark_answer : BookState → (BookState → Reply) → Result BookState Refusal → Answered
 mark_answer b reply (Err refusal) = refused b refusal
 mark_answer b reply (Ok c) = record { answer = Ok (reply c); state = c }
 
--- the reply that is made of what was found, or the refusal
+-- the reply that `f` makes of what was found, or the refusal
 abbrev pub reply_with : {X : Type 0} → (X → Reply) → Result X Refusal → Result Reply Refusal
 reply_with f (Err refusal) = Err refusal
 reply_with f (Ok x) = Ok (f x)
 
--- what is at the place in the last world of a run
+-- the content of a place in the last world of a run
 abbrev pub content_in : Place → Result Ran Refusal → Result Content Refusal
 content_in p (Err refusal) = Err refusal
 content_in p (Ok ran) = ok_or (content_at ran.world.at p) NoSuchPlace
@@ -77,27 +79,27 @@ abbrev pub record_in : ℕ → Result Ran Refusal → Result Entry Refusal
 record_in k (Err refusal) = Err refusal
 record_in k (Ok ran) = record_at ran.entries k
 
--- an event happens in the last world of the live events
+-- the answer to an event that happens in the last world of the live events, and the state after it
 abbrev pub happens : ℕ → BookState → Event → Answered
 happens R b e = event_answer b (reply_to R b.session e) (apply R b.session e)
 
--- what an event may be answered, and what it may leave: what happens, or, where fewer steps are
--- live than may be, NoMemory with nothing changed
+-- an event may be answered so and leave this state: as it happens, or, where fewer steps are live
+-- than may be, by NoMemory with nothing changed
 abbrev pub Happened : ℕ → BookState → Event → Answered → Type 0
 Happened R b e answered = (answered ≡ happens R b e) ⊎ ((length b.session.live < MOST_STEPS) × (answered ≡ refused b NoMemory))
 
--- what setting or going to a mark may be answered, and what it may leave: what it makes, or, only
--- if it asks for room, NoMemory with nothing changed
+-- setting or going to a mark may be answered so and leave this state: as it is defined, or, only if
+-- it asks for room, by NoMemory with nothing changed
 abbrev pub IsMade : BookState → (BookState → Reply) → Result BookState Refusal → Type 0 → Answered → Type 0
 IsMade b reply made AsksForRoom answered = (answered ≡ mark_answer b reply made) ⊎ (AsksForRoom × (answered ≡ refused b NoMemory))
 
--- what the comparison of two marks may be answered
+-- the comparison of two marks may be answered so, and leaves the state as it is
 pub record IsCompared (R : ℕ) (b : BookState) (one other : MarkName) (answered : Answered) : Type 0 where
   pub said : Result Bool Refusal
   pub compared : AnswersSame R b.session.start (marked_events b.marks one) (marked_events b.marks other) said
   pub answers : answered ≡ query_answer b (reply_with (λ same. SameIs same) said)
 
--- what a command is answered, and what it leaves
+-- a command may be answered so, and leave this state
 abbrev pub IsObeyed : ℕ → BookState → Command → Answered → Type 0
 IsObeyed R b (Enq actor value) answered = Happened R b (event actor (CallsEnq value)) answered
 IsObeyed R b (Deq actor) answered = Happened R b (event actor CallsDeq) answered
@@ -124,7 +126,7 @@ IsObeyed R b (Actor n) answered = answered ≡ query_answer b (reply_with (λ wo
 IsObeyed R b (Step k) answered = answered ≡ query_answer b (reply_with (λ entry. StepIs k entry) (record_in k (run_of R b.session)))
 IsObeyed R b Len answered = answered ≡ query_answer b (Ok (step_counts b.session))
 
--- what commands one after another are answered, and what they leave
+-- commands, one after another, may be answered so, and leave this last state
 abbrev pub AreObeyed : ℕ → BookState → List Command → List (Result Reply Refusal) → BookState → Type 0
 AreObeyed R b [] [] last = last ≡ b
 AreObeyed R b [] (answer ∷ answers) last = ⊥

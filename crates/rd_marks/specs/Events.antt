@@ -8,11 +8,11 @@ use Rattle.rd_marks.specs.declared.commands.Command.TheVariants.{Enq, Deq, Array
 use Rattle.rd_marks.specs.Commands.{event}
 
 -- the event that a command is, if it is one
-abbrev pub event_of : Command → Option Event
-event_of (Enq actor value) = Some (event actor (CallsEnq value))
-event_of (Deq actor) = Some (event actor CallsDeq)
-event_of (ArrayEnq actor value) = Some (event actor (CallsArrayEnq value))
-event_of (ArrayDeq actor) = Some (event actor CallsArrayDeq)
-event_of (Go actor) = Some (event actor GoesOn)
-event_of (Starve actor choice) = Some (event actor (Starves choice))
-event_of _ = None
+abbrev pub as_event : Command → Option Event
+as_event (Enq actor value) = Some (event actor (CallsEnq value))
+as_event (Deq actor) = Some (event actor CallsDeq)
+as_event (ArrayEnq actor value) = Some (event actor (CallsArrayEnq value))
+as_event (ArrayDeq actor) = Some (event actor CallsArrayDeq)
+as_event (Go actor) = Some (event actor GoesOn)
+as_event (Starve actor choice) = Some (event actor (Starves choice))
+as_event _ = None

@@ -18,10 +18,10 @@ pub record IsRecordOfRun (R : ℕ) (start : World) (records : List Entry) : Type
   pub ran : IsRunFrom R start records
 
 -- each name with its records
-abbrev pub lists_of : List Stretch → List (MarkName × Place) → List (MarkName × List Entry)
-lists_of ss names = map (λ m. (m.0, records_at ss m.1)) names
+abbrev pub named_lists : List Stretch → List (MarkName × Place) → List (MarkName × List Entry)
+named_lists ss names = map (λ m. (m.0, records_at ss m.1)) names
 
--- those of each name are those of a run
+-- the records of each name are those of a run from the start
 abbrev pub AreRuns : ℕ → World → List (MarkName × List Entry) → Type 0
 AreRuns R start lists = All (λ l. IsRecordOfRun R start l.1) lists
 
@@ -29,18 +29,18 @@ AreRuns R start lists = All (λ l. IsRecordOfRun R start l.1) lists
 abbrev pub places_of : List (MarkName × Place) → List Place
 places_of names = map (λ m. m.1) names
 
--- no more bookmarks than there may be, each at records that are there, as is the place where the
--- session's track lies; and no record is kept that no bookmark needs
+-- how bookmarks are kept: they are no more than there may be, the records of each are there, as are
+-- those with which the session's track begins, and no record is kept that no bookmark needs
 pub record IsKept (ss : List Stretch) (names : List (MarkName × Place)) (here : Place) : Type 0 where
   pub few : length names ≤ MOST_MARKS
   pub within : All (λ m. IsWithin ss m.1) names
   pub needed : AreNeeded ss (places_of names)
   pub lies : IsWithin ss here
 
--- after stretches from this one on were shrunk to what is needed: the bookmarks have their records,
--- and a place elsewhere has a beginning of those that it had
+-- stretches from this one on were shrunk to what is needed: the bookmarks have their records, and
+-- any other place has a beginning of the records that it had
 pub record IsPruned (from : ℕ) (old new : List Stretch) (names left : List (MarkName × Place)) (here there : Place) : Type 0 where
-  pub lists : lists_of new left ≡ lists_of old names
+  pub lists : named_lists new left ≡ named_lists old names
   pub within : All (λ m. IsWithin new m.1) left
   pub needed : AreNeededFrom from new (places_of left)
   pub lies : IsWithin new there

@@ -1,4 +1,4 @@
--- Which marks a list of names with records is.
+-- The marks of a list of names with records.
 use Rattle.std.specs.Prelude.{List, map}
 use Rattle.rd_step.specs.declared.entries.Entry.{Entry}
 use Rattle.rd_journal.specs.Journal.{events}
@@ -9,6 +9,6 @@ use Rattle.rd_marks.specs.Books.{Mark}
 abbrev pub mark_of : MarkName × List Entry → Mark
 mark_of l = record { name = l.0; events = events l.1 }
 
--- the marks, in their order
+-- the marks of these names with records, in their order
 abbrev pub marks_of : List (MarkName × List Entry) → List Mark
 marks_of lists = map (λ l. mark_of l) lists

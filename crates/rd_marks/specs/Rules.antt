@@ -8,17 +8,17 @@ use Rattle.rd_marks.specs.NameBytes.{MOST_MARKS}
 use Rattle.rd_marks.specs.Names.{same_name}
 use Rattle.rd_marks.specs.Books.{Mark, BookState}
 
--- these events go through from a start: they are no more than may be live, and none is refused
+-- these events can run from a start: they are no more than may be live, and none is refused
 pub record GoThrough (R : ℕ) (start : World) (events : List Event) : Type 0 where
   pub few : length events ≤ MOST_STEPS
   pub runs : IsOk (run R start events)
 
--- the events of each bookmark go through
+-- the events of each bookmark can run from the start
 abbrev pub MarksGoThrough : ℕ → World → List Mark → Type 0
 MarksGoThrough R start [] = Unit {0}
 MarksGoThrough R start (m ∷ ms) = GoThrough R start m.events × MarksGoThrough R start ms
 
--- no two bookmarks have one name
+-- no two bookmarks have the same name
 abbrev pub HaveDifferentNames : List Mark → Type 0
 HaveDifferentNames ms = IsDistinct same_name (map (λ m. m.name) ms)
 

@@ -4,11 +4,11 @@
 ghost use Rattle.std.specs.Prelude.{◌≡◌, ◌<◌, ◌≤◌, ◌++◌, [], ◌∷◌, None, map, length, slice_get, is_some, option_map, IsOk, IfOk, IfSome, OnOk, OnErr};
 ghost use Rattle.std.specs.List.{IsDistinct};
 ghost use Rattle.std.specs.Map.{lookup, remove_entry};
-ghost use Rattle.rd_depend.specs.Beginnings.{Begins, IsBegunByNeither};
+ghost use Rattle.rd_depend.specs.Beginnings.{Begins, NeitherIsPrefix};
 ghost use Rattle.rd_depend.specs.Equivalence.{DecidesEquivalence};
 ghost use Rattle.rd_journal.specs.Journal.{events};
 ghost use Rattle.rd_journal.specs.Sessions.{state, track, journal};
-ghost use Rattle.rd_journal.specs.State.{event_at};
+ghost use Rattle.rd_step.specs.Lists.{numbered};
 ghost use Rattle.rd_marks.specs.Layout.{IsKept};
 
 mod going;
@@ -39,12 +39,12 @@ pub(crate) struct Bookmarks {
 
 impl Bookmarks {
     ghost use Rattle.rd_marks.specs.Beginnings.{CountsBeginnings};
-    ghost use Rattle.rd_marks.specs.Kept.{lists_in, records_in, here_in, IsIn};
+    ghost use Rattle.rd_marks.specs.Kept.{lists_in, records_in, here_in, IsPlaceIn};
     ghost use Rattle.rd_marks.specs.Layout.{AreRuns};
     ghost use Rattle.rd_marks.specs.Marks.{marks_of};
     ghost use Rattle.rd_marks.specs.Names.{same_name};
 
-    /// No bookmark. It takes no memory.
+    /// Returns bookmarks with none in them. It takes no memory.
     pub(crate) fn new(alloc: Global) -> Bookmarks
         ensures lists { lists_in result ≡ [] }
         ensures here { here_in result ≡ [] }
@@ -65,17 +65,17 @@ impl Bookmarks {
         self.names.len()
     }
 
-    /// How many records are kept for all of them.
+    /// Returns how many records are kept for all bookmarks.
     pub(crate) fn nodes(&self) -> usize
         ensures { CountsBeginnings (marks_of (lists_in self.now)) result }
     {
         self.stretches.records()
     }
 
-    /// Where the records of the bookmark of this name are, if there is one.
+    /// Returns the place of the records of the bookmark of this name, if there is one.
     pub(crate) fn find(&self, name: &MarkName) -> Option<Place>
         ensures found { option_map (λ place. records_in self.now place) result ≡ lookup (same_name name.now) (lists_in self.now) }
-        ensures within { IfSome result (λ place. IsIn self.now place) }
+        ensures within { IfSome result (λ place. IsPlaceIn self.now place) }
     {
         match self.names.get(name) {
             None => None,
@@ -83,10 +83,11 @@ impl Bookmarks {
         }
     }
 
-    /// The name of the bookmark at this index, and where its records are.
+    /// Returns the name of the bookmark at this index, from 0, and the place of its records, if
+    /// there is one.
     pub(crate) fn at(&self, index: usize) -> Option<(MarkName, Place)>
         ensures found { option_map (λ m. (m.0, records_in self.now m.1)) result ≡ slice_get (lists_in self.now) index }
-        ensures within { IfSome result (λ m. IsIn self.now m.1) }
+        ensures within { IfSome result (λ m. IsPlaceIn self.now m.1) }
     {
         match self.names.get_index(index) {
             None => None,
@@ -96,8 +97,8 @@ impl Bookmarks {
 
     /// The event of this number, from 1, of the records of a place, if there is one.
     pub(crate) fn event_at(&self, of: Place, n: u64) -> Option<Event>
-        requires { IsIn self.now of }
-        ensures { result ≡ event_at (events (records_in self.now of)) n }
+        requires { IsPlaceIn self.now of }
+        ensures { result ≡ numbered (events (records_in self.now of)) n }
     {
         self.stretches.event_at(of, n)
     }
@@ -106,21 +107,22 @@ impl Bookmarks {
     ///
     /// # Errors
     ///
-    /// If memory was refused for them, so not if there are none.
+    /// `AllocError` if memory was refused for them, which never happens if there are none.
     pub(crate) fn events(&self, alloc: Global, of: Place) -> Result<Vec<Event>, AllocError>
-        requires { IsIn self.now of }
+        requires { IsPlaceIn self.now of }
         ensures ok { IfOk result (λ list. list.items ≡ events (records_in self.now of)) }
         ensures succeeds { of.number ≡ 0 → IsOk result }
     {
         self.stretches.events(alloc, of)
     }
 
-    /// Sets a bookmark of this name, which none has, at the live steps. It is the last one. What is
-    /// there of its records stays; all memory for the others is asked for before the first is put.
+    /// Sets a bookmark of this name, which none has, at the live steps. It is the last one. Those
+    /// of its records that are kept already stay. All memory for the others is asked for before the
+    /// first is put.
     ///
     /// # Errors
     ///
-    /// If the room for the others or for itself was refused. The bookmarks stay.
+    /// `AllocError` if the room for the others or for itself was refused. The bookmarks stay.
     pub(crate) fn set<const R: usize>(
         &mut self,
         alloc: Global,
@@ -166,17 +168,18 @@ impl Bookmarks {
     ///
     /// # Errors
     ///
-    /// If memory was refused for the comparison, so not if one list begins the other.
+    /// `AllocError` if memory was refused for the comparison, which never happens if one list
+    /// begins the other.
     pub(crate) fn are_same(
         &self,
         alloc: Global,
         one: Place,
         other: Place,
     ) -> Result<bool, AllocError>
-        requires one { IsIn self.now one }
-        requires other { IsIn self.now other }
+        requires one { IsPlaceIn self.now one }
+        requires other { IsPlaceIn self.now other }
         ensures answer { IfOk result (DecidesEquivalence (records_in self.now one) (records_in self.now other)) }
-        ensures memory { OnErr result (IsBegunByNeither (events (records_in self.now one)) (events (records_in self.now other))) }
+        ensures memory { OnErr result (NeitherIsPrefix (events (records_in self.now one)) (events (records_in self.now other))) }
     {
         let shared = self.stretches.common(one, other);
         if shared == one.number || shared == other.number {
@@ -187,8 +190,8 @@ impl Bookmarks {
         are_equivalent(alloc, &ones, &others)
     }
 
-    /// After a call that takes steps out of the track has answered: if it was not refused, the
-    /// first `n` of those before it stayed.
+    /// Notes that a call took steps out of the track: if it was not refused, the first `n` steps
+    /// stayed.
     pub(crate) fn cut_back(&mut self, done: &Result<(), Refusal>, n: u64)
         ensures lists { lists_in self.new ≡ lists_in self.old }
         ensures begins { Begins (here_in self.new) (here_in self.old) }
@@ -199,7 +202,7 @@ impl Bookmarks {
         }
     }
 
-    /// After all but the first `n` steps of the track may have changed.
+    /// Notes that all steps of the track after the first `n` may have changed.
     pub(crate) fn cut_here(&mut self, n: usize)
         ensures lists { lists_in self.new ≡ lists_in self.old }
         ensures begins { Begins (here_in self.new) (here_in self.old) }

@@ -1,7 +1,7 @@
 //! A book: a session with bookmarks, in the order in which they were set.
 //!
 //! A mark keeps the records of the steps that were live when it was set, which are those of a run
-//! from the session's start. Nothing outside this crate may know that.
+//! from the session's start. Nothing outside this crate depends on that.
 //!
 //! The calls of a book are here; what each command answers is in `books/`: `obeying` has the
 //! commands, `moves` the events, undos and redos, `bookmarks` the bookmarks, and `queries` the
@@ -40,6 +40,7 @@ pub struct Book<const R: usize> {
 /// Written out and not derived, so that a proof of a function in which a book ends has one step for
 /// that, and not one for each list inside.
 impl<const R: usize> Drop for Book<R> {
+    /// Frees all memory of the book.
     fn drop(self) {
         let Book {
             session: _session,
@@ -55,7 +56,7 @@ impl<const R: usize> Book<R> {
     ghost use Rattle.rd_marks.specs.Rules.{KeepsRules};
     ghost use Rattle.rd_marks.specs.Books.{marked_events, mark, drop_mark, goto_mark, mark_at, MakesSteps, AnswersSame};
 
-    /// A book over a session, with no marks. It takes no memory.
+    /// Returns a book over a session, without bookmarks. It takes no memory.
     pub fn open(alloc: Global, session: Session<R>) -> Book<R>
         ensures session { (book_state result).session ≡ state session.entry }
         ensures marks { (book_state result).marks ≡ [] }
@@ -67,7 +68,7 @@ impl<const R: usize> Book<R> {
         }
     }
 
-    /// The session.
+    /// Returns the session of the book.
     pub fn session(&self) -> &Session<R>
         ensures state { state result.now ≡ (book_state self.now).session }
     {
@@ -123,8 +124,8 @@ impl<const R: usize> Book<R> {
     /// # Errors
     ///
     /// In this order: `NoMark` if there is none of that name; `NoMemory` if room for the steps that
-    /// are made again was refused, so not if the live steps begin with the bookmark's. Nothing has
-    /// changed then.
+    /// are made again was refused, which never happens if the live steps begin with the bookmark's.
+    /// Nothing has changed then.
     pub fn goto_mark(&mut self, name: MarkName) -> Result<(), Refusal>
         ensures ok { OnOk result (goto_mark (book_state self.old) name ≡ Ok (book_state self.new)) }
         ensures err { IfErr result (λ refusal. (goto_mark (book_state self.old) name ≡ Err refusal)
@@ -161,7 +162,7 @@ impl<const R: usize> Book<R> {
     }
 
     /// How many bookmarks there are: at most `MOST_MARKS`, with different names, each at events
-    /// that go through from the session's start.
+    /// that can run from the session's start.
     pub fn marks(&self) -> u64
         ensures count { result ≡ length (book_state self.now).marks }
         ensures rules { KeepsRules R (book_state self.now) }
@@ -169,8 +170,8 @@ impl<const R: usize> Book<R> {
         self.bookmarks.len() as u64
     }
 
-    /// How many different lists there are that begin the steps of some bookmark, the empty one
-    /// apart: this many records are kept for the bookmarks. It takes no memory.
+    /// Returns the number of different lists, except the empty one, that begin the steps of some
+    /// bookmark. This many records are kept for the bookmarks. It takes no memory.
     pub fn nodes(&self) -> u64
         ensures { CountsBeginnings (book_state self.now).marks result }
     {

@@ -1,7 +1,7 @@
 //! The commands of a book, as values.
 
 ghost use Rattle.std.specs.Prelude.{◌≡◌, Some};
-ghost use Rattle.rd_marks.specs.Events.{event_of};
+ghost use Rattle.rd_marks.specs.Events.{as_event};
 
 use super::names::MarkName;
 use rd_actor::Act;
@@ -19,7 +19,7 @@ pub enum Command {
     ArrayEnq(u8, u64),
     /// `adeq A`: the actor calls a dequeue on the array.
     ArrayDeq(u8),
-    /// `go A`: the actor makes the step of the row at which it is.
+    /// `go A`: the actor makes the step of the control point where it is.
     Go(u8),
     /// `starve A yes`, `starve A no`: the actor chooses whether it starves.
     Starve(u8, bool),
@@ -63,9 +63,9 @@ pub enum Command {
 }
 
 impl Command {
-    /// The command that is this event.
+    /// Returns the command that is this event.
     pub fn of_event(event: Event) -> Command
-        ensures { event_of result ≡ Some event }
+        ensures { as_event result ≡ Some event }
     {
         let actor = event.actor;
         match event.act {
@@ -78,9 +78,9 @@ impl Command {
         }
     }
 
-    /// The event that it is, if it is one.
-    pub(crate) fn event(&self) -> Option<Event>
-        ensures { result ≡ event_of self.now }
+    /// Returns the event that the command is, if it is one.
+    pub(crate) fn as_event(&self) -> Option<Event>
+        ensures { result ≡ as_event self.now }
     {
         let (actor, act) = match *self {
             Command::Enq(actor, value) => (actor, Act::Enq(value)),

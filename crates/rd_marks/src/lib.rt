@@ -1,7 +1,7 @@
 //! One user's debugger: a session with bookmarks, and each of its commands as a value.
 //!
 //! A book is seen as its session's state and a list of marks, each a name and the events that were
-//! live when it was set. How a mark is kept is known here alone.
+//! live when it was set. No other crate knows how a mark is kept.
 #![tactic(auto)]
 
 mod bookmarks;

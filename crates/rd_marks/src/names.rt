@@ -20,7 +20,7 @@ pub struct MarkName {
 impl MarkName {
     ghost use Rattle.rd_marks.specs.Names.{bytes_of};
 
-    /// The name that these bytes spell.
+    /// Returns the name that these bytes spell.
     ///
     /// # Errors
     ///
@@ -43,7 +43,7 @@ impl MarkName {
         }
     }
 
-    /// The text of the name.
+    /// Returns the text of the name.
     pub fn as_str(&self) -> &str
         ensures text { result.now ≡ bytes_of self.now }
         ensures valid { is_mark_name result.now ≡ true }

@@ -1,6 +1,6 @@
-//! The records of the bookmarks, by front coding: each stretch tells how many records its list
-//! shares with the list of the stretch before it, and has the rest. So lists that begin alike share
-//! what they have in common.
+//! The records of the bookmarks, by front coding: each stretch has the number of records that its
+//! list shares with the list of the stretch before it, and the rest. So lists that begin alike
+//! share what they have in common.
 //!
 //! A place is a number of records from the start, of the list of one stretch. No list goes on as
 //! one before it does where it no longer shares, so what two places have in common is known by the
@@ -45,7 +45,7 @@ impl Place {
         number: 0,
     };
 
-    /// The place of its first `n` records, or itself if it has no more.
+    /// Returns the place of the first `n` records of this one, or this one if it has no more.
     pub(crate) fn cut(self, n: usize) -> Place
         ensures stretch { result.stretch ≡ self.stretch }
         ensures number { result.number ≡ min n self.number }
@@ -66,9 +66,9 @@ pub(crate) struct Stretches {
 }
 
 impl Stretches {
-    ghost use Rattle.rd_marks.specs.Stretches.{list_of, shared_at, records_at, count_of, greatest_in, IsWithin, IsOwn};
+    ghost use Rattle.rd_marks.specs.Stretches.{stretch_list, shared_at, records_at, count_of, greatest_in, IsWithin, IsOwn};
 
-    /// No stretch. It takes no memory.
+    /// Returns stretches with none in them. It takes no memory.
     pub(crate) fn new(alloc: Global) -> Stretches
         ensures { result.list.items ≡ [] }
     {
@@ -84,7 +84,7 @@ impl Stretches {
         self.list.len()
     }
 
-    /// How many records there are.
+    /// Returns how many records the stretches have in all.
     pub(crate) fn records(&self) -> usize
         requires { count_of self.now.list.items < 2 ^ 64 }
         ensures { result ≡ count_of self.now.list.items }
@@ -96,8 +96,8 @@ impl Stretches {
         count
     }
 
-    /// How many records the list of this stretch shares with that of the one before it; none after
-    /// the last.
+    /// Returns how many records the list of this stretch shares with that of the one before it; 0
+    /// after the last stretch.
     pub(crate) fn shared(&self, i: usize) -> usize
         ensures { result ≡ shared_at self.now.list.items i }
     {
@@ -107,8 +107,8 @@ impl Stretches {
         }
     }
 
-    /// The place of the same records in the first stretch that has them, of which the last is its
-    /// own.
+    /// Returns the place of the same records in the first stretch that has them, where the last one
+    /// is that stretch's own.
     pub(crate) fn own_place(&self, of: Place) -> Place
         requires within { IsWithin self.now.list.items of }
         ensures number { result.number ≡ of.number }
@@ -140,7 +140,8 @@ impl Stretches {
         }
     }
 
-    /// The same, where the second is in the same stretch or a later one.
+    /// How many records two places have in common from the start, where the second is in the first
+    /// one's stretch or a later one.
     fn common_up(&self, one: Place, other: Place) -> usize
         requires one { IsWithin self.now.list.items one }
         requires other { IsWithin self.now.list.items other }

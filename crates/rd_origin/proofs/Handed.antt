@@ -1,9 +1,9 @@
 -- What is taken is the argument of the call whose put it was.
 use Rattle.std.proofs.Common.{◌≡◌, ℕ, suc, ◌-◌, Bool, true, false, if◌then◌else◌, inl, inr, refl, sym, ◌∙◌, ap, subst, append_assoc, List, ◌∷◌, ◌++◌, length, take, ok_or, Option, Some, None, Ok, Err}
 use Rattle.rd_step.specs.Prelude.{Place, Contents, NoSuchStep, NotATake, OpReply, World, Stepped, Ran, run, IsWellFormed}
-use Rattle.rd_step.specs.Dependence.{numbered}
+use Rattle.rd_step.specs.Lists.{numbered}
 use Rattle.rd_actor.specs.declared.actors.OpReply.TheVariants.{Value as Dequeued}
-use Rattle.rd_actor.specs.Table.{value_of}
+use Rattle.rd_actor.specs.Table.{value_to_put}
 use Rattle.rd_step.specs.declared.entries.Event.{Event}
 use Rattle.rd_step.specs.declared.entries.Entry.{Entry}
 use Rattle.rd_step.proofs.Keeps.{keeps}
@@ -14,7 +14,7 @@ use Rattle.rd_step.proofs.RunParts.{middle}
 use Rattle.rd_journal.proofs.Runs.{as_ok-same}
 use Rattle.rd_origin.specs.declared.origins.Origin.{Origin}
 use Rattle.rd_origin.specs.Positions.{last_position}
-use Rattle.rd_origin.specs.Origins.{takes_value, puts_into, calls_by, put_of, call_before, call_of, origin_by, origin_at, origin, argument}
+use Rattle.rd_origin.specs.Origins.{takes_value, puts_into, calls_by, put_of, call_before, call_of, origin_by, origin_at, origin_among, argument}
 use Rattle.rd_origin.specs.Laws.{IsHandedOver}
 use Rattle.rd_origin.proofs.Split.{at_seam, before_seam, apart, NonePasses, apart_at_last}
 use Rattle.rd_origin.proofs.Rows.{IsStill}
@@ -162,14 +162,14 @@ argument_taken R w v xs c p k a formed ran =
     (begun R one.before a.call.event called_step a.put.event.actor one.goes a.calls) in
     let p = put R two.before a.put.event put_step a.cell formed_two two.goes a.puts in
     let still : IsStill (called a.call.event.act) p.a.op = subst (IsIn (called a.call.event.act)) p.has in_call in
-    let holds : HoldsOnly (value_of p.a.op) three.before.at a.cell =
-    value_stays_along R a.cell (value_of p.a.op) two.after three.before a.behind three.ran a.no_put p.holds in
+    let holds : HoldsOnly (value_to_put p.a.op) three.before.at a.cell =
+    value_stays_along R a.cell (value_to_put p.a.op) two.after three.before a.behind three.ran a.no_put p.holds in
     let found : held_at three.before.at a.cell ≡ Some a.value =
     taken_held R three.before a.taken.event taken_step a.cell a.value three.goes a.replies a.place in
-    argued a.call.event.act p.a.op p.puts still ∙ same_value (value_of p.a.op) a.value three.before.at a.cell holds found
+    argued a.call.event.act p.a.op p.puts still ∙ same_value (value_to_put p.a.op) a.value three.before.at a.cell holds found
 
 pub handed_over : (R : ℕ) (w : World) (es : List Event) (ran : Ran) (c p k : ℕ) → IsWellFormed R w → run R w es ≡ Ok ran
-    → origin ran.entries k ≡ Ok (record { call = Some c; put = Some p; take = k }) → IsHandedOver ran.entries c k
+    → origin_among ran.entries k ≡ Ok (record { call = Some c; put = Some p; take = k }) → IsHandedOver ran.entries c k
 handed_over R w es ran c p k formed goes h =
     let a = taken_apart ran.entries c p k (named_at ran.entries c p k (numbered ran.entries k) refl h) in
     let all : run R w (events ran.entries) ≡ Ok ran = ap (run R w) (run_events R w es ran goes) ∙ goes in

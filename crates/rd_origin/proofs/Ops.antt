@@ -6,7 +6,7 @@ use Rattle.rd_actor.specs.declared.actors.Act.TheVariants.{Enq, Deq, AEnq, ADeq,
 use Rattle.rd_actor.specs.declared.actors.Actor.{Actor}
 use Rattle.rd_actor.specs.declared.actors.Op.{Op}
 use Rattle.rd_actor.specs.declared.actors.Op.TheVariants.{Enq as Enqueue, Deq as Dequeue, AEnq as EnqueueInArray, ADeq as DequeueFromArray}
-use Rattle.rd_actor.specs.Table.{value_of, after}
+use Rattle.rd_actor.specs.Table.{value_to_put, after}
 use Rattle.rd_actor.specs.Words.{enqueues, array_enqueues}
 use Rattle.rd_origin.specs.Origins.{is_call, argument}
 use Rattle.rd_origin.proofs.Rows.{IsStill, row_goes}
@@ -52,15 +52,15 @@ array_enqueue_puts (Some (EnqueueInArray x)) h = refl
 array_enqueue_puts _ h = cc
 
 -- what an enqueue that an act began puts is the act's argument
-argued_by : (act : Act) (o : Option Op) → puts_values o ≡ true → called act ≡ o → argument act ≡ Some (value_of o)
-argued_by (Enq x) o h k = subst (λ (p : Option Op). Some x ≡ Some (value_of p)) k refl
-argued_by (AEnq x) o h k = subst (λ (p : Option Op). Some x ≡ Some (value_of p)) k refl
+argued_by : (act : Act) (o : Option Op) → puts_values o ≡ true → called act ≡ o → argument act ≡ Some (value_to_put o)
+argued_by (Enq x) o h k = subst (λ (p : Option Op). Some x ≡ Some (value_to_put p)) k refl
+argued_by (AEnq x) o h k = subst (λ (p : Option Op). Some x ≡ Some (value_to_put p)) k refl
 argued_by Deq o h k = let e : puts_values (Some Dequeue) ≡ true = subst (λ (p : Option Op). puts_values p ≡ true) (sym k) h in cc
 argued_by ADeq o h k = let e : puts_values (Some DequeueFromArray) ≡ true = subst (λ (p : Option Op). puts_values p ≡ true) (sym k) h in cc
 argued_by Go o h k = let e : puts_values None ≡ true = subst (λ (p : Option Op). puts_values p ≡ true) (sym k) h in cc
 argued_by (Starve b) o h k = let e : puts_values None ≡ true = subst (λ (p : Option Op). puts_values p ≡ true) (sym k) h in cc
 
-pub argued : (act : Act) (o : Option Op) → puts_values o ≡ true → IsStill (called act) o → argument act ≡ Some (value_of o)
+pub argued : (act : Act) (o : Option Op) → puts_values o ≡ true → IsStill (called act) o → argument act ≡ Some (value_to_put o)
 argued act o h k =
     elim k [
       | inl same ↦ argued_by act o h (sym same)

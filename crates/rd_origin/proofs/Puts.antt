@@ -11,7 +11,7 @@ use Rattle.rd_cell.specs.Access.{no_access, perform_effect, operate, make, numbe
 use Rattle.rd_actor.specs.declared.actors.Act.TheVariants.{Enq, Deq, AEnq, ADeq, Go, Starve}
 use Rattle.rd_actor.specs.declared.actors.Pc.{Pc}
 use Rattle.rd_actor.specs.declared.actors.Pc.TheVariants.{E8, E12, A2}
-use Rattle.rd_actor.specs.Table.{need_at, value_of, cell_of, at_tail}
+use Rattle.rd_actor.specs.Table.{need_at, value_to_put, cell_with, at_tail}
 use Rattle.rd_actor.specs.Words.{words_fit_at, enqueue_fits, enqueues, array_enqueues}
 use Rattle.rd_step.specs.declared.entries.Event.{Event}
 use Rattle.rd_step.specs.WellFormed.{record_fits, actor_fits}
@@ -95,26 +95,26 @@ make_puts R x s at q =
     made_there R x s at q first.0 first.1) (λ e. tt)
 
 abbrev RowPuts : ℕ → ℕ → Contents → Place → Actor → Pc → Type 0
-RowPuts R n at q a pc = AtNone R n at (PutsOnly (value_of a.op) at pc q) (need_at R pc a)
+RowPuts R n at q a pc = AtNone R n at (PutsOnly (value_to_put a.op) at pc q) (need_at R pc a)
 
 row_puts : (R n : ℕ) (at : Contents) (q : Place) (a : Actor) (pc : Pc) → IsPutter pc → RowPuts R n at q a pc
 row_puts R n at q a pc (inl e) =
     subst (RowPuts R n at q a) (sym e)
-    (cas_puts (value_of a.op) a.crq (a.t % R) (cell_of a.safe a.idx None) (cell_of true a.t (Some (value_of a.op))) (operand at (at_tail R CellAt a)) at q refl refl)
-row_puts R n at q a pc (inr (inl e)) = subst (RowPuts R n at q a) (sym e) (swap_puts (value_of a.op) a.t (at (ArrCell a.t)) at q)
+    (cas_puts (value_to_put a.op) a.crq (a.t % R) (cell_with a.safe a.idx None) (cell_with true a.t (Some (value_to_put a.op))) (operand at (at_tail R CellAt a)) at q refl refl)
+row_puts R n at q a pc (inr (inl e)) = subst (RowPuts R n at q a) (sym e) (swap_puts (value_to_put a.op) a.t (at (ArrCell a.t)) at q)
 row_puts R n at q a pc (inr (inr e)) =
-    subst (RowPuts R n at q a) (sym e) (make_puts R (value_of a.op) (record { maker = n; n = number_made at n }) at q)
+    subst (RowPuts R n at q a) (sym e) (make_puts R (value_to_put a.op) (record { maker = n; n = number_made at n }) at q)
 
 no_put : (v : ℕ) (at : Contents) (q : Place) (pc : Pc) → PutsOnly v at pc q no_access
 no_put v at q pc = λ e. let wrong : false ≡ true = sym (none_puts pc q) ∙ e in cc
 
-act_puts : (R n : ℕ) (at : Contents) (q : Place) (a : Actor) (act : Act) → IsPutter a.pc → AtNone R n at (PutsOnly (value_of a.op) at a.pc q) (need R a act)
-act_puts R n at q a (Enq x) k = call_at_none R n at (PutsOnly (value_of a.op) at a.pc q) (no_put (value_of a.op) at q a.pc) a.pc
-act_puts R n at q a Deq k = call_at_none R n at (PutsOnly (value_of a.op) at a.pc q) (no_put (value_of a.op) at q a.pc) a.pc
-act_puts R n at q a (AEnq x) k = call_at_none R n at (PutsOnly (value_of a.op) at a.pc q) (no_put (value_of a.op) at q a.pc) a.pc
-act_puts R n at q a ADeq k = call_at_none R n at (PutsOnly (value_of a.op) at a.pc q) (no_put (value_of a.op) at q a.pc) a.pc
+act_puts : (R n : ℕ) (at : Contents) (q : Place) (a : Actor) (act : Act) → IsPutter a.pc → AtNone R n at (PutsOnly (value_to_put a.op) at a.pc q) (need R a act)
+act_puts R n at q a (Enq x) k = call_at_none R n at (PutsOnly (value_to_put a.op) at a.pc q) (no_put (value_to_put a.op) at q a.pc) a.pc
+act_puts R n at q a Deq k = call_at_none R n at (PutsOnly (value_to_put a.op) at a.pc q) (no_put (value_to_put a.op) at q a.pc) a.pc
+act_puts R n at q a (AEnq x) k = call_at_none R n at (PutsOnly (value_to_put a.op) at a.pc q) (no_put (value_to_put a.op) at q a.pc) a.pc
+act_puts R n at q a ADeq k = call_at_none R n at (PutsOnly (value_to_put a.op) at a.pc q) (no_put (value_to_put a.op) at q a.pc) a.pc
 act_puts R n at q a Go k = row_puts R n at q a a.pc k
-act_puts R n at q a (Starve b) k = choice_at_none R n at (PutsOnly (value_of a.op) at a.pc q) (no_put (value_of a.op) at q a.pc) a.pc
+act_puts R n at q a (Starve b) k = choice_at_none R n at (PutsOnly (value_to_put a.op) at a.pc q) (no_put (value_to_put a.op) at q a.pc) a.pc
 
 -- an actor that may put a value is in an enqueue
 putter_op : (pc : Pc) (a : Actor) → IsPutter pc → words_fit_at pc a ≡ true → puts_values a.op ≡ true
@@ -135,7 +135,7 @@ pub record Put (w : World) (e : Event) (s : Stepped) (q : Place) : Type 0 where
   pub a : Actor
   pub has : w.actor e.actor ≡ Some a
   pub puts : puts_values a.op ≡ true
-  pub holds : HoldsOnly (value_of a.op) s.world.at q
+  pub holds : HoldsOnly (value_to_put a.op) s.world.at q
 
 pub put : (R : ℕ) (w : World) (e : Event) (s : Stepped) (q : Place) → IsWellFormed R w → step R w e ≡ Ok s → puts_into q s.entry ≡ true → Put w e s q
 put R w e s q formed goes h =
@@ -144,12 +144,12 @@ put R w e s q formed goes h =
     sym (same_puts R w e t.a t.did (after R t.a e.act t.did.answer) q t.a.pc) ∙ ap (λ (x : Stepped). puts_into q x.entry) t.ends ∙ h in
     let stands = putter t.a.pc q t.did puts in
     let fits : record_fits R (is_there w.at) t.a ≡ true = subst (λ (o : Option Actor). actor_fits R (is_there w.at) o ≡ true) t.has (formed.actors e.actor) in
-    let by_access : IfOk (perform R e.actor w.at t.access) (PutsOnly (value_of t.a.op) w.at t.a.pc q) =
-    IfOk-at_ok (λ (x : Access). IfOk (perform R e.actor w.at x) (PutsOnly (value_of t.a.op) w.at t.a.pc q)) t.needs (act_puts R e.actor w.at q t.a e.act stands) in
-    let holds : PutsOnly (value_of t.a.op) w.at t.a.pc q t.did = IfOk-at_ok (PutsOnly (value_of t.a.op) w.at t.a.pc q) t.does by_access in
+    let by_access : IfOk (perform R e.actor w.at t.access) (PutsOnly (value_to_put t.a.op) w.at t.a.pc q) =
+    IfOk-at_ok (λ (x : Access). IfOk (perform R e.actor w.at x) (PutsOnly (value_to_put t.a.op) w.at t.a.pc q)) t.needs (act_puts R e.actor w.at q t.a e.act stands) in
+    let holds : PutsOnly (value_to_put t.a.op) w.at t.a.pc q t.did = IfOk-at_ok (PutsOnly (value_to_put t.a.op) w.at t.a.pc q) t.does by_access in
     record {
       a = t.a;
       has = t.has;
       puts = putter_op t.a.pc t.a stands (words_of R (is_there w.at) t.a fits);
-      holds = subst (λ (x : Stepped). HoldsOnly (value_of t.a.op) x.world.at q) t.ends (holds puts);
+      holds = subst (λ (x : Stepped). HoldsOnly (value_to_put t.a.op) x.world.at q) t.ends (holds puts);
     }

@@ -1,6 +1,6 @@
 -- A list taken apart at a position, and at the last position that passes a test.
 use Rattle.std.proofs.Common.{sym, subst, ◌<◌, ◌≡◌, ℕ, zero, suc, ◌-◌, Bool, true, false, refl, ap, ◌∙◌, List, [], ◌∷◌, ◌++◌, length, take, drop, slice_get, Option, Some, None, arith}
-use Rattle.rd_step.specs.Dependence.{numbered}
+use Rattle.rd_step.specs.Lists.{numbered}
 use Rattle.rd_origin.specs.Positions.{behind, last_position, IsGreatest}
 
 -- the element after the beginning

@@ -11,7 +11,7 @@ use Rattle.rd_cell.specs.Access.{no_access, perform_effect, operate, make, numbe
 use Rattle.rd_actor.specs.declared.actors.Act.TheVariants.{Enq, Deq, AEnq, ADeq, Go, Starve}
 use Rattle.rd_actor.specs.declared.actors.Pc.{Pc}
 use Rattle.rd_actor.specs.declared.actors.Pc.TheVariants.{Idle, E8, E10, E12, A2, Q5, Q6, Q7}
-use Rattle.rd_actor.specs.Table.{need_at, need_call, need_choice, value_of, cell_of, at_tail}
+use Rattle.rd_actor.specs.Table.{need_at, need_call, need_choice, value_to_put, cell_with, at_tail}
 use Rattle.rd_step.specs.declared.entries.Event.{Event}
 use Rattle.rd_step.specs.Step.{step_outcome}
 use Rattle.rd_step.proofs.Steps.{took}
@@ -120,11 +120,11 @@ make_leaves v R x s at q h =
 put_row_leaves : (v R n : ℕ) (at : Contents) (q : Place) (a : Actor) (pc : Pc) → IsPutter pc → HoldsOnly v at q → RowLeaves v R n at q a pc
 put_row_leaves v R n at q a pc (inl e) h =
     subst (RowLeaves v R n at q a) (sym e)
-    (cas_leaves v a.crq (a.t % R) (cell_of a.safe a.idx None) (cell_of true a.t (Some (value_of a.op))) (operand at (at_tail R CellAt a)) at q h)
+    (cas_leaves v a.crq (a.t % R) (cell_with a.safe a.idx None) (cell_with true a.t (Some (value_to_put a.op))) (operand at (at_tail R CellAt a)) at q h)
 put_row_leaves v R n at q a pc (inr (inl e)) h =
-    subst (RowLeaves v R n at q a) (sym e) (swap_leaves v a.t (Held (value_of a.op)) (at (ArrCell a.t)) at q h)
+    subst (RowLeaves v R n at q a) (sym e) (swap_leaves v a.t (Held (value_to_put a.op)) (at (ArrCell a.t)) at q h)
 put_row_leaves v R n at q a pc (inr (inr e)) h =
-    subst (RowLeaves v R n at q a) (sym e) (make_leaves v R (value_of a.op) (record { maker = n; n = number_made at n }) at q h)
+    subst (RowLeaves v R n at q a) (sym e) (make_leaves v R (value_to_put a.op) (record { maker = n; n = number_made at n }) at q h)
 
 row_leaves : (v R n : ℕ) (at : Contents) (q : Place) (a : Actor) (pc : Pc) → HoldsOnly v at q → RowLeaves v R n at q a pc
 row_leaves v R n at q a pc h =

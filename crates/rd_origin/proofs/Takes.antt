@@ -11,7 +11,7 @@ use Rattle.rd_actor.specs.declared.actors.Act.TheVariants.{Enq, Deq, AEnq, ADeq,
 use Rattle.rd_actor.specs.declared.actors.OpReply.TheVariants.{Value as Dequeued}
 use Rattle.rd_actor.specs.declared.actors.Pc.{Pc}
 use Rattle.rd_actor.specs.declared.actors.Pc.TheVariants.{Q5, B2}
-use Rattle.rd_actor.specs.Table.{need_at, cell_of, at_head, after_take, after_swap_out, after_at}
+use Rattle.rd_actor.specs.Table.{need_at, cell_with, at_head, after_take, after_swap_out, after_at}
 use Rattle.rd_step.specs.declared.entries.Event.{Event}
 use Rattle.rd_step.proofs.Steps.{took}
 use Rattle.rd_origin.proofs.Rows.{value_in, IsTaker, HandsOut, row_goes}
@@ -68,7 +68,7 @@ RowTakes R n at a cell u pc = AtNone R n at (TakesFrom R at a cell u pc) (need_a
 taker_takes : (R n : ℕ) (at : Contents) (a : Actor) (cell : Place) (u : ℕ) (pc : Pc) → IsTaker pc → RowTakes R n at a cell u pc
 taker_takes R n at a cell u pc (inl e) =
     subst (RowTakes R n at a cell u) (sym e)
-    (cas_takes R at a cell u a.crq (a.h % R) (cell_of a.safe a.idx a.val) (cell_of a.safe (a.h + R) None) (operand at (at_head R CellAt a)) refl refl)
+    (cas_takes R at a cell u a.crq (a.h % R) (cell_with a.safe a.idx a.val) (cell_with a.safe (a.h + R) None) (operand at (at_head R CellAt a)) refl refl)
 taker_takes R n at a cell u pc (inr e) = subst (RowTakes R n at a cell u) (sym e) (swap_takes R at a cell u a.h (at (ArrCell a.h)) refl)
 
 -- the step of an actor that replies this value took it from its place

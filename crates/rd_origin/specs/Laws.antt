@@ -1,11 +1,11 @@
--- What the laws of origins say.
+-- What the laws of origins state.
 use Rattle.std.specs.Prelude.{◌≡◌, ℕ, List, Some}
-use Rattle.rd_step.specs.Dependence.{numbered}
+use Rattle.rd_step.specs.Lists.{numbered}
 use Rattle.rd_step.specs.declared.entries.Entry.{Entry}
 use Rattle.rd_actor.specs.declared.actors.OpReply.TheVariants.{Value as Dequeued}
 use Rattle.rd_origin.specs.Origins.{argument}
 
--- the step at position k took the value that the step at position c called an enqueue of
+-- the step at position k took the value that the call at position c enqueued
 pub record IsHandedOver (entries : List Entry) (c k : ℕ) : Type 0 where
   pub call : Entry
   pub called : numbered entries c ≡ Some call

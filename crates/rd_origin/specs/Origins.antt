@@ -2,7 +2,7 @@
 -- 2013, in our profile).
 use Rattle.std.specs.Prelude.{ℕ, ◌-◌, ◌==◌, ◌&&◌, not, Bool, true, false, if◌then◌else◌, List, length, take, ok_or, Option, Some, None, Result, Ok, Err}
 use Rattle.rd_step.specs.Prelude.{Place, CellAt, WholeOf, is_name, is_place, is_nothing, Refusal, NoSuchStep, NotATake, Act, OpReply, Ran}
-use Rattle.rd_step.specs.Dependence.{numbered}
+use Rattle.rd_step.specs.Lists.{numbered}
 use Rattle.rd_step.specs.declared.entries.Entry.{Entry}
 use Rattle.rd_actor.specs.declared.actors.Act.TheVariants.{Enq, AEnq, Go, Starve}
 use Rattle.rd_actor.specs.declared.actors.OpReply.TheVariants.{Value as Dequeued}
@@ -22,18 +22,18 @@ is_call Go = false
 is_call (Starve b) = false
 is_call _ = true
 
--- whether the place of an access, if it has one, is this one
+-- whether the place of an access, if it has one, is this cell
 abbrev pub is_at : Option Place → Place → Bool
 is_at None cell = false
 is_at (Some p) cell = is_place p cell
 
--- whether the place is a whole segment, and the cell that segment's cell 0
+-- whether the place is the whole of a segment, and the cell is cell 0 of that segment
 abbrev pub is_first_cell : Option Place → Place → Bool
 is_first_cell (Some (WholeOf s)) (CellAt t i) = is_name s t && (i == 0)
 is_first_cell _ _ = false
 
--- whether a step by an actor that was here put a value into the cell: a compare-and-swap at E8 that
--- won there, a swap at A2 there, or at E12 the making of the segment that has the cell as its cell
+-- whether a step from this control point put a value into the cell: at E8 a compare-and-swap there
+-- that won, at A2 a swap there, and at E12 the making of the segment that has the cell as its cell
 -- 0
 abbrev pub puts_at : Pc → Place → Entry → Bool
 puts_at E8 cell x = not (is_nothing x.wrote) && is_at x.place cell
@@ -41,7 +41,7 @@ puts_at A2 cell x = is_at x.place cell
 puts_at E12 cell x = is_first_cell x.place cell
 puts_at _ cell x = false
 
--- whether the step put a value into the cell
+-- whether the step put a value into this cell of a segment or slot of the array
 abbrev pub puts_into : Place → Entry → Bool
 puts_into cell x = puts_at x.old_actor.pc cell x
 
@@ -49,40 +49,43 @@ puts_into cell x = puts_at x.old_actor.pc cell x
 abbrev pub calls_by : ℕ → Entry → Bool
 calls_by actor x = (actor == x.event.actor) && is_call x.event.act
 
--- the last put into the cell, if there is one, before position k
+-- the position of the last put into the cell before position k; none if there is no such put, or no
+-- cell
 abbrev pub put_of : List Entry → ℕ → Option Place → Option ℕ
 put_of entries k None = None
 put_of entries k (Some cell) = last_position (puts_into cell) (take (k - 1) entries)
 
--- the last call before position j by the actor of the step there, if there is one
+-- the position of the last call before position j by the actor of that position's step; none if
+-- there is no such call or step
 abbrev pub call_before : List Entry → ℕ → Option Entry → Option ℕ
 call_before entries j None = None
 call_before entries j (Some x) = last_position (calls_by x.event.actor) (take (j - 1) entries)
 
--- the same where there may be no such position
+-- the position of the call in which the put at position j was made; none if there is no such
+-- position or call
 abbrev pub call_of : List Entry → Option ℕ → Option ℕ
 call_of entries None = None
 call_of entries (Some j) = call_before entries j (numbered entries j)
 
--- the origin of what was taken at position k: that step, its put and its call
+-- the origin of the value taken at position k: that step, its put and its call
 abbrev pub origin_by : List Entry → ℕ → Option ℕ → Origin
 origin_by entries k put = record { call = call_of entries put; put = put; take = k }
 
--- the origin of position k, which has this step or is none
+-- the origin of the value taken at position k, which has this step, or has none
 abbrev pub origin_at : List Entry → ℕ → Result Entry Refusal → Result Origin Refusal
 origin_at entries k (Err refusal) = Err refusal
 origin_at entries k (Ok x) = if takes_value x.reply then Ok (origin_by entries k (put_of entries k x.place)) else Err NotATake
 
--- the origin of position k, from 1, among these steps
-abbrev pub origin : List Entry → ℕ → Result Origin Refusal
-origin entries k = origin_at entries k (ok_or (numbered entries k) (NoSuchStep (length entries)))
+-- the origin of the value taken at position k, from 1, among these steps, or why there is none
+abbrev pub origin_among : List Entry → ℕ → Result Origin Refusal
+origin_among entries k = origin_at entries k (ok_or (numbered entries k) (NoSuchStep (length entries)))
 
--- the origin of position k among the steps of a run
+-- the origin of the value taken at position k among the steps of a run, or why there is none
 abbrev pub origin_in : ℕ → Result Ran Refusal → Result Origin Refusal
 origin_in k (Err refusal) = Err refusal
-origin_in k (Ok ran) = origin ran.entries k
+origin_in k (Ok ran) = origin_among ran.entries k
 
--- the value that an act calls an enqueue of, on either queue
+-- the argument of an act that calls an enqueue, on either queue; none for any other act
 abbrev pub argument : Act → Option ℕ
 argument (Enq x) = Some x
 argument (AEnq x) = Some x

@@ -1,6 +1,6 @@
 -- Positions in a list, counted from 1.
 use Rattle.std.specs.Prelude.{◌≡◌, ℕ, ◌<◌, Bool, true, false, List, Some}
-use Rattle.rd_step.specs.Dependence.{numbered}
+use Rattle.rd_step.specs.Lists.{numbered}
 pub use Rattle.rd_depend.specs.Writers.{behind, last_position}
 
 -- j is the greatest position whose element passes the test

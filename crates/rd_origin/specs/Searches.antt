@@ -1,12 +1,12 @@
 -- The kinds of steps that the searches for an origin look for.
 use Rattle.std.specs.Prelude.{ℕ, Bool, false, List, Option, Some, None}
-use Rattle.rd_step.specs.Dependence.{numbered}
+use Rattle.rd_step.specs.Lists.{numbered}
 use Rattle.rd_step.specs.declared.entries.Entry.{Entry}
 use Rattle.rd_origin.specs.declared.searches.StepKind.{StepKind}
 use Rattle.rd_origin.specs.declared.searches.StepKind.TheVariants.{PutInto, CallBy}
 use Rattle.rd_origin.specs.Origins.{puts_into, calls_by}
 
--- whether a step is of a kind
+-- whether a step is of this kind
 abbrev pub is_of_kind : StepKind → Entry → Bool
 is_of_kind (PutInto cell) x = puts_into cell x
 is_of_kind (CallBy actor) x = calls_by actor x

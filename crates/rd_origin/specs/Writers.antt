@@ -4,12 +4,14 @@ use Rattle.rd_step.specs.Prelude.{Place, Content, content_at, Refusal, NoSuchPla
 use Rattle.rd_step.specs.declared.entries.Entry.{Entry}
 use Rattle.rd_depend.specs.Writers.{last_position, writes_to}
 
--- the greatest position that wrote this place or one that it names, if this place is there
+-- the position of the last step that wrote this place or one that it names, or none; refused if the
+-- place has no content, as it is not there
 abbrev pub writer_at : List Entry → Place → Option Content → Result (Option ℕ) Refusal
 writer_at entries place None = Err NoSuchPlace
 writer_at entries place (Some content) = Ok (last_position (writes_to place) entries)
 
--- the last writer of a place among the steps of a run, in whose last world it has to be there
+-- the position of the last step of a run that wrote a place, which must be there in the run's last
+-- world
 abbrev pub last_writer_in : Place → Result Ran Refusal → Result (Option ℕ) Refusal
 last_writer_in place (Err refusal) = Err refusal
 last_writer_in place (Ok ran) = writer_at ran.entries place (content_at ran.world.at place)

@@ -1,8 +1,8 @@
 //! Who wrote this: the origin of a value that was taken, and the step that last wrote a place.
 //!
-//! The first makes one pass at most over the records of the live steps, from the back; the second
-//! asks the session's index. They take no memory. Neither looks at the world, but for whether a
-//! place is there.
+//! The search for an origin makes at most one pass over the records of the live steps, from the
+//! back. The search for a last writer asks the session's index. They take no memory. Neither looks
+//! at the world, except to see whether a place is there.
 #![tactic(auto)]
 
 pub mod laws;

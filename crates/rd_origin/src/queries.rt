@@ -13,8 +13,8 @@ use rd_actor::OpReply;
 use rd_cell::{Place, Refusal};
 use rd_journal::{LiveRecords, Session};
 
-/// The origin of the value that the live step of this number took, from 1: the last step before it
-/// that put a value into the same cell, and the call that this put was made in.
+/// Returns the origin of the value that the live step of this number, from 1, took: the last step
+/// before it that put a value into the same cell, and the call in which this put was made.
 ///
 /// A put is a compare-and-swap that won a cell for an enqueue, a swap by an enqueue on the array,
 /// or the making of a segment, which puts into its first cell. Marking a cell unsafe leaves its
@@ -23,8 +23,8 @@ use rd_journal::{LiveRecords, Session};
 ///
 /// # Errors
 ///
-/// `NoSuchStep`, with the number of live steps, if `k` is not from 1 to it; `NotATake` if the step
-/// took no value.
+/// `NoSuchStep`, with the number of live steps, if `k` is 0 or above that number; `NotATake` if the
+/// step took no value.
 pub fn origin<const R: usize>(session: &Session<R>, k: u64) -> Result<Origin, Refusal>
     ensures answer { result ≡ origin_in k (run_of R (state session.now)) }
 {
@@ -41,21 +41,23 @@ pub fn origin<const R: usize>(session: &Session<R>, k: u64) -> Result<Origin, Re
     })
 }
 
-/// Whether a reply hands out a value.
+/// Whether a reply hands out a value, so that its step is a take.
 fn takes_value(reply: Option<OpReply>) -> bool
     ensures { result ≡ takes_value reply }
 {
     matches!(reply, Some(OpReply::Value(_)))
 }
 
-/// The last step before the `k`-th that put a value into the cell, if there is a cell.
+/// Returns the number of the last step before step `k` that put a value into the cell; none if
+/// there is no such step, or no cell.
 fn last_put(steps: &LiveRecords, k: u64, cell: Option<Place>) -> Option<u64>
     ensures { result ≡ put_of steps.now k cell }
 {
     last_below(steps, k, StepKind::PutInto(cell?))
 }
 
-/// The last call before the step of this number by the actor of that step, if there is one.
+/// Returns the number of the last call before the step of this number by that step's actor; none if
+/// there is no such call or step.
 fn last_call(steps: &LiveRecords, number: Option<u64>) -> Option<u64>
     ensures { result ≡ call_of steps.now number }
 {
@@ -64,9 +66,9 @@ fn last_call(steps: &LiveRecords, number: Option<u64>) -> Option<u64>
     last_below(steps, number, StepKind::CallBy(step.event.actor))
 }
 
-/// The last live step that wrote this place, or one of the places that it names; none if no live
-/// step did. It takes no memory. The session finds it in its index, and scans from the back those
-/// live steps alone that the index does not reach for want of memory.
+/// Returns the number of the last live step that wrote this place, or one of the places that it
+/// names; none if no live step did. It takes no memory. The session finds it in its index, and
+/// scans from the back only those live steps that the index lacks because memory was refused.
 ///
 /// # Errors
 ///

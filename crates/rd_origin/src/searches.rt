@@ -1,8 +1,8 @@
-//! The search that an origin is found by: back from a step to the last one before it of the kind
-//! that is looked for.
+//! The search by which an origin is found: back from a step to the last one before it of a given
+//! kind.
 
 ghost use Rattle.std.specs.Prelude.{◌≡◌, ◌-◌, take, Some, None, MatchOption};
-ghost use Rattle.rd_step.specs.Dependence.{numbered};
+ghost use Rattle.rd_step.specs.Lists.{numbered};
 ghost use Rattle.rd_origin.specs.Origins.{is_call, is_at, is_first_cell, puts_into, calls_by};
 ghost use Rattle.rd_origin.specs.Positions.{last_position};
 ghost use Rattle.rd_origin.specs.Searches.{is_of_kind, is_of_kind_at};
@@ -12,7 +12,7 @@ use rd_cell::Place;
 use rd_journal::LiveRecords;
 use rd_step::Entry;
 
-/// A kind of step, as the queries look for.
+/// A kind of step for which a query searches.
 #[derive(Clone, Copy, Debug, PartialEq, Eq)]
 pub enum StepKind {
     /// A step that put a value into this cell of a segment, or slot of the array.
@@ -33,7 +33,8 @@ impl StepKind {
     }
 }
 
-/// The greatest number below this one of a step of the kind.
+/// Returns the greatest number, below this one, of a step of the kind; none if there is no such
+/// step.
 pub(crate) fn last_below(steps: &LiveRecords, below: u64, kind: StepKind) -> Option<u64>
     ensures { result ≡ last_position (is_of_kind kind) (take (below - 1) steps.now) }
 {
@@ -45,7 +46,7 @@ pub(crate) fn last_below(steps: &LiveRecords, below: u64, kind: StepKind) -> Opt
     None
 }
 
-/// Whether there is a step of this number, and it is of the kind.
+/// Whether there is a step of this number, from 1, and it is of the kind.
 fn is_of_kind_at(steps: &LiveRecords, number: u64, kind: StepKind) -> bool
     ensures { result ≡ is_of_kind_at kind steps.now number }
 {
@@ -55,7 +56,7 @@ fn is_of_kind_at(steps: &LiveRecords, number: u64, kind: StepKind) -> bool
     }
 }
 
-/// The step of this number, from 1, if there is one.
+/// Returns the step of this number, from 1, if there is one.
 pub(crate) fn step_of<'a>(steps: &LiveRecords<'a>, number: u64) -> Option<&'a Entry>
     ensures { MatchOption result (numbered steps.now number ≡ None) (λ step. numbered steps.now number ≡ Some step.now) }
 {
@@ -65,7 +66,7 @@ pub(crate) fn step_of<'a>(steps: &LiveRecords<'a>, number: u64) -> Option<&'a En
     steps.get(number as usize - 1)
 }
 
-/// Whether the step put a value into this cell.
+/// Whether the step put a value into this cell of a segment or slot of the array.
 fn puts_into(cell: Place, step: &Entry) -> bool
     ensures { result ≡ puts_into cell step.now }
 {
@@ -77,7 +78,7 @@ fn puts_into(cell: Place, step: &Entry) -> bool
     }
 }
 
-/// Whether an access has this place.
+/// Whether the place of an access, if it has one, is this cell.
 fn is_at(place: Option<Place>, cell: Place) -> bool
     ensures { result ≡ is_at place cell }
 {
@@ -87,7 +88,7 @@ fn is_at(place: Option<Place>, cell: Place) -> bool
     }
 }
 
-/// Whether the cell is the first one of the segment that this is the whole of.
+/// Whether the place is the whole of a segment, and the cell is cell 0 of that segment.
 fn is_first_cell(place: Option<Place>, cell: Place) -> bool
     ensures { result ≡ is_first_cell place cell }
 {

@@ -1,4 +1,4 @@
--- How the program ends after each outcome, and what its end leaves.
+-- How the program ends after each outcome: its exit status, and what standard error then has.
 use Rattle.std.specs.Prelude.{◌≡◌, ℕ, Bool, true, false, List, ◌++◌, codes, Option, Result, Ok, Err}
 use Rattle.std.specs.Io.KnownBytes.{Appends}
 use Rattle.rd_cell.specs.declared.refusal.Refusal.TheVariants.{NoMemory as OutOfMemory}
@@ -24,12 +24,12 @@ load_refusal (load.Flawed flaw) = refused.Flawed flaw
 load_refusal (load.TraceMark mark step cause) = refused.TraceMark mark step cause
 load_refusal (load.TraceStep step cause) = refused.TraceStep step cause
 
--- of a trace that was not written
+-- the refusal of a trace that was not written
 abbrev pub trace_refusal : WriteTraceFault → AnyRefusal
 trace_refusal trace.NoMemory = refused.Refused OutOfMemory
 trace_refusal trace.Write = refused.Stopped script.Write
 
--- of a view that was not written
+-- the refusal of a view that was not written
 abbrev pub view_refusal : ViewFault → AnyRefusal
 view_refusal view.NoMemory = refused.Refused OutOfMemory
 view_refusal view.Write = refused.Stopped script.Write
@@ -44,17 +44,18 @@ refusal_of (Load fault) = load_refusal fault
 refusal_of (Trace fault) = trace_refusal fault
 refusal_of (View fault) = view_refusal fault
 
--- the line of a refusal after the program's name
+-- the line on standard error for a refusal: the program's name, and then the refusal
 abbrev pub error_line : AnyRefusal → List ℕ
 error_line refusal = codes "lcrqdb: " ++ text_of (Err refusal)
 
--- what a stream has after what it had: just the text, or, if it has failed, a beginning of it
+-- a stream took this text: it has the text after what it had, or, if it has failed, a beginning of
+-- the text
 abbrev pub Takes : Bool → Option (List ℕ) → Option (List ℕ) → List ℕ → Type 0
 Takes false old new text = Appends old new text
 Takes true old new text = TakesBeginning old new text
 
--- the status after an outcome, and what standard error has then: nothing more after status 0, and
--- the line of the refusal after 1
+-- how the program ends after an outcome: with status 0 and nothing more on standard error, or with
+-- status 1 and the line of the refusal there
 abbrev pub EndsAs : Result ℕ ProgramFault → ℕ → Bool → Option (List ℕ) → Option (List ℕ) → Type 0
 EndsAs (Ok lines) status failed errors errors' = (status ≡ 0) × (errors' ≡ errors)
 EndsAs (Err fault) status failed errors errors' = (status ≡ 1) × Takes failed errors errors' (error_line (refusal_of fault))

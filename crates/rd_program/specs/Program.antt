@@ -12,28 +12,29 @@ use Rattle.rd_trace.specs.Loading.{LoadsTrace, any_ring, any_state, fresh_state}
 use Rattle.rd_program.specs.declared.faults.ProgramFault.{ProgramFault}
 use Rattle.rd_program.specs.declared.faults.ProgramFault.TheVariants.{NoMemory, Read, Script, Load, Trace}
 
--- a file was not read whole: memory was refused, or the reader failed
+-- the fault is one of reading a whole file: memory was refused, or the reader failed
 abbrev pub IsUnread : ProgramFault → Type 0
 IsUnread fault = (fault ≡ NoMemory) ⊎ (fault ≡ Read)
 
--- neither device was touched
+-- neither device was used: no byte was read or written, and the reader has not failed
 pub record TouchesNothing (d : Devices) : Type 0 where
   pub gave_nothing : Keeps d.in_before d.in_after
   pub took_nothing : Keeps d.out_before d.out_after
   pub in_works : d.in_failed ≡ false
   pub out_works : d.out_failed ≡ false
 
--- what a script's run over a book in this state did
+-- what a script's run over a book in this state did, whatever state it left
 abbrev pub RunsOver : ℕ → BookState → Devices → Result ℕ ScriptFault → Type 0
 RunsOver R before d result = (after : BookState) × RunsScript R before after d result
 
--- what became of the trace of a book in this state: it was written, as far as it was, or it was not
--- asked for
+-- what became of the trace of a book in this state, if it was asked for: it was written, as far as
+-- the result states; else nothing was written
 abbrev pub WritesIf : Bool → ℕ → BookState → Option (List ℕ) → Option (List ℕ) → Bool → Result (Unit {0}) WriteTraceFault → Type 0
 WritesIf true R b old new failed result = WritesTrace R b old new result × (failed ≡ is_write_fault result)
 WritesIf false R b old new failed result = (result ≡ Ok tt) × (new ≡ old) × (failed ≡ false)
 
--- a script ran to its end over the fresh world, and this became of the trace of its run
+-- a script of n lines ran to its end over the fresh world, its report was written, and this became
+-- of the trace of its run
 pub record RanToTrace (R actors : ℕ) (traced : Bool) (d : Devices) (n : ℕ) (written : Result (Unit {0}) WriteTraceFault) : Type 0 where
   pub after : BookState
   -- what the writer had when the report was whole
@@ -41,7 +42,8 @@ pub record RanToTrace (R actors : ℕ) (traced : Bool) (d : Devices) (n : ℕ) (
   pub ran : RanToEnd R (fresh_state R actors) after (record d { out_after = reported; out_failed = false }) n
   pub trace : WritesIf traced R after reported d.out_after d.out_failed written
 
--- what `run` did: the trace follows the report of a run that came to its end, if it was asked for
+-- what `run` did, by its result: it ran a script over the fresh world, and, if that came to its end
+-- and a trace was asked for, wrote the trace after the report
 abbrev pub PlaysScript : ℕ → ℕ → Bool → Devices → Result ℕ ProgramFault → Type 0
 PlaysScript R actors traced d (Ok n) = RanToTrace R actors traced d n (Ok tt)
 PlaysScript R actors traced d (Err NoMemory) = TouchesNothing d
@@ -49,14 +51,14 @@ PlaysScript R actors traced d (Err (Script fault)) = RunsOver R (fresh_state R a
 PlaysScript R actors traced d (Err (Trace fault)) = (n : ℕ) × RanToTrace R actors traced d n (Err fault)
 PlaysScript R actors traced d (Err _) = ⊥
 
--- the text was loaded as a book, and a script ran over it
+-- the text was loaded as a book, and a script ran over that book with this result
 pub record RunsOverTrace (text : List ℕ) (d : Devices) (result : Result ℕ ScriptFault) : Type 0 where
   pub book : AnyBook
   pub loads : LoadsTrace text (Ok book)
   pub runs : RunsOver (any_ring book) (any_state book) d result
 
--- what `load` did with the text of a file: neither device is touched unless the text is loaded as a
--- book
+-- what `load` did with the text of a file, by its result: neither device is used unless the text is
+-- loaded as a book
 abbrev pub ResumesTrace : List ℕ → Devices → Result ℕ ProgramFault → Type 0
 ResumesTrace text d (Ok n) = RunsOverTrace text d (Ok n)
 ResumesTrace text d (Err (Script fault)) = RunsOverTrace text d (Err fault)

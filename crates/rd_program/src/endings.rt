@@ -5,11 +5,11 @@ ghost use Rattle.std.specs.Process.{exit_status};
 ghost use Rattle.rd_program.specs.Endings.{EndsAs, Takes, error_line};
 
 use super::faults::ProgramFault;
-use rd_script::{AnyRefusal, Sink, Text, WriteFault, hand_over, set_text};
+use rd_script::{AnyRefusal, Sink, Text, WriteFault, set_text, write_all};
 use std::process::ExitCode;
 
-/// Ends the program after an outcome: with status 0; or with 1, and the line of its fault on
-/// standard error, which leaves the status if it fails.
+/// Ends the program after an outcome and returns the exit status: 0, or 1 with the line of the
+/// fault on standard error. If standard error fails, the status is the same.
 pub fn end<E: Sink>(outcome: &Result<u64, ProgramFault>, errors: &mut E) -> ExitCode
     requires { E.has_failed errors.old ≡ false }
     ensures { EndsAs outcome.now (exit_status result) (E.has_failed errors.new) (E.contents errors.old) (E.contents errors.new) }
@@ -23,13 +23,13 @@ pub fn end<E: Sink>(outcome: &Result<u64, ProgramFault>, errors: &mut E) -> Exit
     }
 }
 
-/// Writes the program's name and the line of a refusal.
+/// Writes the program's name and the line of a refusal to a stream.
 fn write_line<K: Sink>(stream: &mut K, refusal: AnyRefusal) -> Result<(), WriteFault>
     requires { K.has_failed stream.old ≡ false }
     ensures { Takes (K.has_failed stream.new) (K.contents stream.old) (K.contents stream.new) (error_line refusal) }
 {
     let mut text = Text::new();
     set_text(&mut text, &Err(refusal));
-    hand_over(stream, b"lcrqdb: ")?;
-    hand_over(stream, text.as_slice())
+    write_all(stream, b"lcrqdb: ")?;
+    write_all(stream, text.as_slice())
 }

@@ -35,7 +35,7 @@ pub enum ProgramFault {
 }
 
 impl ProgramFault {
-    /// The refusal that the program shows for it.
+    /// Returns the refusal that the program shows for this fault.
     pub fn refusal(self) -> AnyRefusal
         ensures { result ≡ refusal_of self }
     {
@@ -50,7 +50,7 @@ impl ProgramFault {
     }
 }
 
-/// The refusal of a trace that was not loaded.
+/// Returns the refusal of a trace that was not loaded.
 fn load_refusal(fault: LoadTraceFault) -> AnyRefusal
     ensures { result ≡ load_refusal fault }
 {
@@ -65,7 +65,7 @@ fn load_refusal(fault: LoadTraceFault) -> AnyRefusal
     }
 }
 
-/// The refusal of a trace that was not written.
+/// Returns the refusal of a trace that was not written.
 fn trace_refusal(fault: WriteTraceFault) -> AnyRefusal
     ensures { result ≡ trace_refusal fault }
 {
@@ -75,7 +75,7 @@ fn trace_refusal(fault: WriteTraceFault) -> AnyRefusal
     }
 }
 
-/// The refusal of a view that was not written.
+/// Returns the refusal of a view that was not written.
 fn view_refusal(fault: ViewFault) -> AnyRefusal
     ensures { result ≡ view_refusal fault }
 {
@@ -92,6 +92,7 @@ fn view_refusal(fault: ViewFault) -> AnyRefusal
 impl From<ScriptFault> for ProgramFault {
     ghost from_gives = { λ fault e. e ≡ Script fault };
 
+    /// A run that stopped is the fault `Script`.
     fn from(fault: ScriptFault) -> ProgramFault {
         ProgramFault::Script(fault)
     }
@@ -100,6 +101,7 @@ impl From<ScriptFault> for ProgramFault {
 impl From<LoadTraceFault> for ProgramFault {
     ghost from_gives = { λ fault e. e ≡ Load fault };
 
+    /// A trace that was not loaded is the fault `Load`.
     fn from(fault: LoadTraceFault) -> ProgramFault {
         ProgramFault::Load(fault)
     }
@@ -108,6 +110,7 @@ impl From<LoadTraceFault> for ProgramFault {
 impl From<WriteTraceFault> for ProgramFault {
     ghost from_gives = { λ fault e. e ≡ Trace fault };
 
+    /// A trace that was not written is the fault `Trace`.
     fn from(fault: WriteTraceFault) -> ProgramFault {
         ProgramFault::Trace(fault)
     }
@@ -116,6 +119,7 @@ impl From<WriteTraceFault> for ProgramFault {
 impl From<ViewFault> for ProgramFault {
     ghost from_gives = { λ fault e. e ≡ View fault };
 
+    /// A view that was not written is the fault `View`.
     fn from(fault: ViewFault) -> ProgramFault {
         ProgramFault::View(fault)
     }

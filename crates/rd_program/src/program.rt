@@ -20,9 +20,9 @@ use std::io::{ErrorKind, Read};
 ///
 /// # Errors
 ///
-/// `NoMemory` if the world was refused its memory: neither device was touched. `Script` as the run
-/// of a script. `Trace` if the trace was refused its memory: the report was written, and nothing
-/// after it; or if the writer failed in the trace.
+/// `NoMemory` if memory for the world was refused; neither device was then used. `Script` if the
+/// run of the script stopped. `Trace` if memory for the trace was refused, where the report was
+/// written and nothing after it, or if the writer failed in the trace.
 pub fn play<S: Source, K: Sink>(
     alloc: Global,
     reader: &mut S,
@@ -41,8 +41,8 @@ pub fn play<S: Source, K: Sink>(
     play_over(alloc, reader, writer, &mut book, trace)
 }
 
-/// Runs a script over a book in which nothing was done yet, and writes its report, and the trace
-/// after it if it is asked for.
+/// Runs a script over a book in which nothing was done yet, writes its report, and after it the
+/// trace if that is asked for. Returns the number of the script's lines.
 fn play_over<S: Source, K: Sink>(
     alloc: Global,
     reader: &mut S,
@@ -60,7 +60,7 @@ fn play_over<S: Source, K: Sink>(
     Ok(lines)
 }
 
-/// Writes the trace of a book, if it is asked for.
+/// Writes the trace of a book, if the trace is asked for.
 fn write_if<K: Sink>(
     alloc: Global,
     writer: &mut K,
@@ -77,12 +77,13 @@ fn write_if<K: Sink>(
     Ok(())
 }
 
-/// Loads the trace that a text is, runs a script over its book, and writes the script's report.
-/// Returns the number of the script's lines.
+/// Loads a text as a trace, runs a script over its book, and writes the script's report. Returns
+/// the number of the script's lines.
 ///
 /// # Errors
 ///
-/// `Load` as the loading of a trace: neither device was touched. `Script` as the run of a script.
+/// `Load` if the trace was not loaded; neither device was then used. `Script` if the run of the
+/// script stopped.
 pub fn resume<S: Source, K: Sink>(
     alloc: Global,
     text: &[u8],
@@ -99,7 +100,7 @@ pub fn resume<S: Source, K: Sink>(
     Ok(lines)
 }
 
-/// The whole text that a reader gives.
+/// Returns the whole text that a reader gives.
 ///
 /// # Errors
 ///

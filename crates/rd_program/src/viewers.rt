@@ -17,13 +17,12 @@ use std::alloc::Global;
 use std::sync::Wait;
 use std::thread::Threads;
 
-/// Runs 1 to 64 scripts over a fresh world, each by a viewer in its own thread, and writes for
-/// each viewer what its lines were answered, and last how many calls were recorded. Returns this
-/// number.
+/// Runs 1 to 64 scripts over a fresh world, each by a viewer in its own thread. Writes for each
+/// viewer the answers to its lines, and last the number of recorded calls, which it returns.
 ///
 /// # Errors
 ///
-/// `View`, as the view of scripts; that memory was refused, too, if the world was refused its own.
+/// `View` if the view was not written; with `NoMemory` also if memory for the world was refused.
 pub fn view<R: Threads + Wait + Sync, K: Sink>(
     rt: &R,
     alloc: Global,
@@ -45,7 +44,7 @@ pub fn view<R: Threads + Wait + Sync, K: Sink>(
     }
 }
 
-/// Runs the scripts over a book, and answers the number of recorded calls.
+/// Runs the scripts over a book, and returns the number of recorded calls.
 fn view_over<R: Threads + Wait + Sync, K: Sink, const N: usize>(
     rt: &R,
     alloc: Global,

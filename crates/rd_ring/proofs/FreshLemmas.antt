@@ -2,7 +2,7 @@
 use Rattle.std.proofs.Common.{◌≡◌, ℕ, ◌<◌, false, true, if◌then◌else◌, nat_lt, length, get_or, slice_get, Some, None, option_map, inl, inr, refl, sym, ap, ◌∙◌, arith, lt-ltb, le-ltb}
 use Rattle.std.proofs.lemmas.Bool.{cases_lt, cond-true, cond-false}
 use Rattle.std.proofs.lemmas.Option.{slice_get-get_or, slice_get_past}
-use Rattle.rd_ring.specs.Prelude.{Cell, Place, Head, Tail, Next, ValAt, IdxAt, Content, Number, TailIs, NextIs, ValIs, IdxIs, root, fresh, new_cell}
+use Rattle.rd_ring.specs.Prelude.{Cell, Place, Head, Tail, Next, ValAt, IdxAt, Content, Number, TailIs, NextIs, ValIs, IdxIs, root, fresh_segment, new_cell}
 use Rattle.rd_ring.specs.declared.segments.Segment.{Segment}
 use Rattle.rd_ring.specs.Segments.{part}
 
@@ -17,7 +17,7 @@ module _ {R : ℕ} (s : Segment R) where
               ∙ sym (cond-false (nat_lt u R) (Some (f (new_cell u None))) None (le-ltb u R h))
         ]
 
-    pub segment_fresh : s.head ≡ 0 → s.tail ≡ 0 → s.closed ≡ false → s.next ≡ None → (q : Place) → part s q ≡ fresh R q
+    pub segment_fresh : s.head ≡ 0 → s.tail ≡ 0 → s.closed ≡ false → s.next ≡ None → (q : Place) → part s q ≡ fresh_segment R q
     segment_fresh head tail closed next (Head n) = ap (λ h. Some (Number h)) head
     segment_fresh head tail closed next (Tail n) = (λ i. Some (TailIs (closed i) (tail i)))
     segment_fresh head tail closed next (Next n) = ap (λ m. Some (NextIs m)) next
@@ -26,7 +26,7 @@ module _ {R : ℕ} (s : Segment R) where
     segment_fresh head tail closed next _ = refl
 
   -- and back
-  module _ (e : (q : Place) → part s q ≡ fresh R q) where
+  module _ (e : (q : Place) → part s q ≡ fresh_segment R q) where
     pub fresh_words : ((s.head ≡ 0) × (s.tail ≡ 0)) × ((s.closed ≡ false) × (s.next ≡ None))
     fresh_words =
         let h : Some (Number s.head) ≡ Some (Number 0) = e (Head root) in

@@ -85,7 +85,7 @@ cell_put old new i cell within head next cells bit tail = record { named = at }
 -- Operations at a place
 
 -- an operation that wrote this content at the place, and all of it
-pub wrote_at : {R : ℕ} (old new : Segment R) (place : SegName → Place) (op : Operation) (found leaves : Content) (answer : Answer)
+wrote_at : {R : ℕ} (old new : Segment R) (place : SegName → Place) (op : Operation) (found leaves : Content) (answer : Answer)
     → wrote_content found leaves ≡ WrotePlace → ((s : SegName) → operand (part old) (place s) ≡ Some found)
     → effect op found ≡ Ok (record { answer = answer; writes = Some leaves })
     → RestoresAt place leaves old new → OperatesAt place op found answer WrotePlace old new
@@ -101,7 +101,7 @@ wrote_at old new place op found leaves answer all there does puts = record {
 }
 
 -- an operation that wrote nothing
-pub read_at : {R : ℕ} (old new : Segment R) (place : SegName → Place) (op : Operation) (found : Content) (answer : Answer)
+read_at : {R : ℕ} (old new : Segment R) (place : SegName → Place) (op : Operation) (found : Content) (answer : Answer)
     → ((s : SegName) → operand (part old) (place s) ≡ Some found) → effect op found ≡ Ok (record { answer = answer; writes = None })
     → ((q : Place) → part new q ≡ part old q) → OperatesAt place op found answer WroteNothing old new
 read_at old new place op found answer there does same = record {

@@ -23,6 +23,6 @@ pub use Rattle.rd_cell.specs.declared.refusal.Refusal.{Refusal}
 pub use Rattle.rd_cell.specs.declared.refusal.Refusal.TheVariants.{NoActor, NotIdle, Idle as ActorIdle, NeedsChoice, NoChoice, CounterEnd, SegmentsEnd, ArrayEnd, TooLong, NothingToUndo, NothingToRedo, NoSuchStep, Depended, NoMark, MarkTaken, TooManyMarks, BadName, NotATake, NoSuchPlace, NoMemory}
 pub use Rattle.rd_cell.specs.Places.{root, is_name, is_of, is_of_same_segment, segment_of, is_array, is_of_cell, is_place, covers, overlaps, some_covers, some_overlap, is_nothing, index_half, written, interfere}
 pub use Rattle.rd_cell.specs.Cells.{is_cell, new_cell}
-pub use Rattle.rd_cell.specs.Contents.{Contents, after_write, half, cell_of_halves, share, restore, operand, can_hold, is_there, content_at, fresh, holding}
+pub use Rattle.rd_cell.specs.Contents.{Contents, after_write, half, cell_of_halves, share, restore, operand, can_hold, is_there, content_at, fresh_segment, holding}
 pub use Rattle.rd_cell.specs.Operations.{Effect, effect, wrote_cell, wrote_content, wrote_by}
 pub use Rattle.rd_cell.specs.Access.{Performed, contents_after, done_of, number_made, operate, make, perform, HasEffect, Operates, OperatesOn, Makes, Restores, RefusesMaking, everywhere}

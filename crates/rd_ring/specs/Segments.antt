@@ -4,7 +4,7 @@ use Rattle.rd_ring.specs.Prelude.{COUNTER_END, Cell, SegName, Place, Head, Tail,
 use Rattle.rd_ring.specs.declared.segments.Segment.{Segment}
 use Rattle.rd_ring.specs.declared.parts.SegmentParts.{SegmentParts}
 
--- what a segment with these words has at each of its places, whatever it is named there
+-- the content of each place of a segment with these words, whatever the segment's name
 abbrev pub part_with : ℕ → ℕ → Bool → Option SegName → List Cell → Contents
 part_with head tail closed next cells (Head name) = Some (Number head)
 part_with head tail closed next cells (Tail name) = Some (TailIs closed tail)
@@ -13,23 +13,23 @@ part_with head tail closed next cells (ValAt name i) = option_map (λ c. ValIs c
 part_with head tail closed next cells (IdxAt name i) = option_map (λ c. IdxIs c.safe c.idx) (slice_get cells i)
 part_with head tail closed next cells _ = None
 
--- the content of a segment's place
+-- the content of each place of this segment
 abbrev pub part : {R : ℕ} → Segment R → Contents
 part s = part_with s.head s.tail s.closed s.next s.cells
 
--- the content that a segment's place is to have
+-- the content of each place of the segment that is put together from these words
 abbrev pub part_from : {R : ℕ} → SegmentParts R → Contents
 part_from s = part_with s.head s.tail s.closed s.next s.cells
 
--- whether both counters are within their end
+-- whether both counters are at most 2^62
 abbrev pub counters_fit : {R : ℕ} → SegmentParts R → Bool
 counters_fit s = nat_le s.head COUNTER_END && nat_le s.tail COUNTER_END
 
--- the head counter
+-- the segment's head counter
 abbrev pub head_count : {R : ℕ} → Segment R → ℕ
 head_count s = s.head
 
--- the tail counter
+-- the segment's tail counter
 abbrev pub tail_count : {R : ℕ} → Segment R → ℕ
 tail_count s = s.tail
 
@@ -48,10 +48,10 @@ RefusesAt place op old refusal = (s : SegName) → operate (place s) op (operand
 pub record RestoresAt {R : ℕ} (place : SegName → Place) (content : Content) (old new : Segment R) : Type 0 where
   pub named : (s : SegName) → Restores (is_of s) (place s) (Some content) (part old) (part new)
 
--- the answer of a compare-and-swap
+-- the answer of a compare-and-swap that won, or that lost
 abbrev pub swap_answer : Bool → Answer
 swap_answer won = if won then Won else Lost
 
--- what a compare-and-swap wrote that writes this if it wins
+-- what a compare-and-swap wrote of its place: this if it won, else nothing
 abbrev pub swap_wrote : Bool → Wrote → Wrote
 swap_wrote won wrote = if won then wrote else WroteNothing

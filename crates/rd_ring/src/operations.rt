@@ -10,7 +10,7 @@ use rd_cell::{Answer, Content, Done, Operation, Place, Refusal, Wrote};
 impl<const R: usize> Segment<R> {
     ghost use Rattle.rd_ring.specs.Segments.{part};
 
-    /// Does an operation at a place, and answers what the entry of the step records of it.
+    /// Does an operation at a place, and returns what the entry of the step records of it.
     ///
     /// # Errors
     ///
@@ -59,8 +59,8 @@ impl<const R: usize> Segment<R> {
         }
     }
 
-    /// Puts the content from before back at one of the segment's places: the inverse of each
-    /// operation that writes.
+    /// Puts an old content back at one of the segment's places: the inverse of each operation that
+    /// writes.
     pub fn restore(&mut self, place: Place, content: Content)
         requires there { IsTrue (is_some (operand (part self.old) place)) }
         requires kind { IsTrue (can_hold place content) }

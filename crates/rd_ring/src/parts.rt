@@ -1,4 +1,4 @@
-//! The words of a segment, as they are handed in.
+//! The words of a segment, as they are given by a caller.
 
 ghost use Rattle.std.specs.Prelude.{◌≡◌, ◌≤◌, length};
 ghost use Rattle.rd_ring.specs.Prelude.{MOST_CELLS};
@@ -7,7 +7,7 @@ use rd_cell::{Cell, SegName};
 
 /// The words of a segment that is to be put together. In a well-formed world the counters are at
 /// most 2^62, the cells' indexes at most 2^62 + `R`, and the next, if any, names a segment that is
-/// there; here nothing of this is known.
+/// there; here nothing of this is known yet.
 #[derive(Clone, Copy, Debug)]
 pub struct SegmentParts<const R: usize> {
     /// The head counter.

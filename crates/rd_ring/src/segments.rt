@@ -1,7 +1,7 @@
 //! The segment and its operations.
 
 ghost use Rattle.std.specs.Prelude.{◌≡◌, ℕ, ◌<◌, ◌≤◌, ◌↔◌, true, false, Some, None, Err, IsSome, IsTrue, IfOk, IfErr, OnErr, option_map, slice_get, length};
-ghost use Rattle.rd_ring.specs.Prelude.{COUNTER_END, MOST_CELLS, SegName, Head, Tail, Next, CellAt, ValAt, IdxAt, WrotePlace, Content, Number, TailIs, NextIs, CellIs, ValIs, IdxIs, Add, Close, CasTail, CasNext, Cas2, Found, WasClosed, root, fresh, holding, new_cell, operand, wrote_cell};
+ghost use Rattle.rd_ring.specs.Prelude.{COUNTER_END, MOST_CELLS, SegName, Head, Tail, Next, CellAt, ValAt, IdxAt, WrotePlace, Content, Number, TailIs, NextIs, CellIs, ValIs, IdxIs, Add, Close, CasTail, CasNext, Cas2, Found, WasClosed, root, fresh_segment, holding, new_cell, operand, wrote_cell};
 
 use super::parts::SegmentParts;
 use rd_cell::limits::COUNTER_END;
@@ -24,11 +24,11 @@ pub struct Segment<const R: usize> {
 impl<const R: usize> Segment<R> {
     ghost use Rattle.rd_ring.specs.Segments.{part, part_from, counters_fit, head_count, tail_count, swap_answer, swap_wrote, OperatesAt, RefusesAt, RestoresAt};
 
-    /// A fresh segment: both counters are 0, it is open, no segment follows, and cell u is safe at
-    /// index u and empty.
+    /// Returns a fresh segment: both counters are 0, it is open, no segment follows, and cell u is
+    /// safe, at index u, and empty.
     pub fn fresh() -> Self
         requires { R ≤ MOST_CELLS }
-        ensures { (q : Place) → part result q ≡ fresh R q }
+        ensures { (q : Place) → part result q ≡ fresh_segment R q }
     {
         Segment {
             head: 0,
@@ -39,22 +39,23 @@ impl<const R: usize> Segment<R> {
         }
     }
 
-    /// Whether the segment is as a fresh one: nothing was done to it, or all of it was undone.
+    /// Whether the segment equals a fresh one, because nothing was done to it or all of it was
+    /// undone.
     pub fn is_fresh(&self) -> bool
-        ensures { IsTrue result ↔ ((q : Place) → part self.now q ≡ fresh R q) }
+        ensures { IsTrue result ↔ ((q : Place) → part self.now q ≡ fresh_segment R q) }
     {
         self.has_fresh_words() && are_fresh(&self.cells)
     }
 
-    /// Whether both counters are 0, it is open, and no segment follows.
+    /// Whether both counters are 0, the ring is open, and no segment follows.
     fn has_fresh_words(&self) -> bool
         ensures { IsTrue result ↔ (((self.now.head ≡ 0) × (self.now.tail ≡ 0)) × ((self.now.closed ≡ false) × (self.now.next ≡ None))) }
     {
         self.head == 0 && self.tail == 0 && !self.closed && self.next.is_none()
     }
 
-    /// A new segment that holds a value already: the fresh one, but its tail is 1 and the value is
-    /// in cell 0.
+    /// Returns a new segment that holds a value already: a fresh one, except that its tail is 1 and
+    /// the value is in cell 0.
     pub fn holding(value: u64) -> Self
         requires positive { 1 ≤ R }
         requires small { R ≤ MOST_CELLS }
@@ -71,7 +72,7 @@ impl<const R: usize> Segment<R> {
         }
     }
 
-    /// The segment with these words.
+    /// Returns the segment with these words.
     pub fn from_parts(parts: SegmentParts<R>) -> Self
         requires { IsTrue (counters_fit parts) }
         ensures { (q : Place) → part result q ≡ part_from parts.entry q }
@@ -81,11 +82,11 @@ impl<const R: usize> Segment<R> {
             tail: parts.tail,
             closed: parts.closed,
             next: parts.next,
-            cells: same_cells(&parts.cells[..]),
+            cells: copied_cells(&parts.cells[..]),
         }
     }
 
-    /// The words of the segment, with which it is put together again.
+    /// Returns the words of the segment, from which `from_parts` puts it together again.
     pub fn parts(&self) -> SegmentParts<R>
         ensures same { (q : Place) → part_from result q ≡ part self.now q }
         ensures within { IsTrue (counters_fit result) }
@@ -95,12 +96,12 @@ impl<const R: usize> Segment<R> {
             tail: self.tail,
             closed: self.closed,
             next: self.next,
-            cells: same_cells(&self.cells[..]),
+            cells: copied_cells(&self.cells[..]),
         }
     }
 
-    /// What is at a place of the segment, whatever the segment is named there, and of a cell what
-    /// its halves have together; none if the segment has no such place.
+    /// Returns the content at a place of the segment, whatever name the place gives the segment;
+    /// for a cell, that of its two halves together. None if the segment has no such place.
     pub fn content(&self, place: Place) -> Option<Content>
         ensures { result ≡ operand (part self.now) place }
     {
@@ -130,14 +131,14 @@ impl<const R: usize> Segment<R> {
         }
     }
 
-    /// The name of the segment that follows, or none.
+    /// Returns the name of the segment that follows, or none.
     pub fn next(&self) -> Option<SegName>
         ensures { (s : SegName) → part self.now (Next s) ≡ Some (NextIs result) }
     {
         self.next
     }
 
-    /// The cell of this index, or none from `R` on.
+    /// Returns the cell of this index, or none if the index is `R` or more.
     pub fn cell(&self, i: u8) -> Option<Cell>
         ensures value { (s : SegName) → operand (part self.now) (CellAt s i) ≡ option_map CellIs result }
         ensures value_half { (s : SegName) → part self.now (ValAt s i) ≡ option_map (λ c. ValIs c.val) result }
@@ -147,7 +148,7 @@ impl<const R: usize> Segment<R> {
         self.cells.get(i as usize).copied()
     }
 
-    /// Fetch-and-add of 1 on the head: answers the counter from before.
+    /// Fetch-and-add of 1 on the head: returns the counter from before.
     ///
     /// # Errors
     ///
@@ -166,7 +167,7 @@ impl<const R: usize> Segment<R> {
         Ok(old)
     }
 
-    /// Fetch-and-add of 1 on the tail: answers the closed bit and the counter from before.
+    /// Fetch-and-add of 1 on the tail: returns the closed bit and the counter from before.
     ///
     /// # Errors
     ///
@@ -185,7 +186,7 @@ impl<const R: usize> Segment<R> {
         Ok(old)
     }
 
-    /// Test-and-set of the closed bit: answers the old bit.
+    /// Test-and-set of the closed bit: returns the old bit.
     pub fn close(&mut self) -> bool
         ensures { OperatesAt Tail Close (TailIs result (tail_count self.old)) (WasClosed result) WrotePlace self.old self.new }
     {
@@ -194,7 +195,7 @@ impl<const R: usize> Segment<R> {
         old
     }
 
-    /// Compare-and-swap of the tail, from open at one count to open at another: answers whether it
+    /// Compare-and-swap of the tail, from open at one count to open at another: returns whether it
     /// won.
     pub fn cas_tail(&mut self, old: u64, new: u64) -> bool
         requires { new ≤ COUNTER_END }
@@ -208,7 +209,7 @@ impl<const R: usize> Segment<R> {
         won
     }
 
-    /// Compare-and-swap of the next, from none: answers whether it won.
+    /// Compare-and-swap of the next, from none: returns whether it won.
     pub fn cas_next(&mut self, new: SegName) -> bool
         ensures { (c : Content) → part self.old (Next root) ≡ Some c
             → OperatesAt Next (CasNext new) c (swap_answer result) (swap_wrote result WrotePlace) self.old self.new }
@@ -220,7 +221,7 @@ impl<const R: usize> Segment<R> {
         won
     }
 
-    /// Compare-and-swap of a whole cell: answers whether it won.
+    /// Compare-and-swap of a whole cell: returns whether it won.
     pub fn cas2_cell(&mut self, i: u8, old: Cell, new: Cell) -> bool
         requires { i < R }
         ensures { (c : Content) → operand (part self.old) (CellAt root i) ≡ Some c
@@ -232,7 +233,7 @@ impl<const R: usize> Segment<R> {
         won
     }
 
-    /// The inverse of what writes the head: the counter becomes the one from before.
+    /// Sets the head counter back to this old value: the inverse of what writes the head.
     pub fn restore_head(&mut self, count: u64)
         requires { count ≤ COUNTER_END }
         ensures { RestoresAt Head (Number count) self.old self.new }
@@ -240,7 +241,8 @@ impl<const R: usize> Segment<R> {
         self.head = count;
     }
 
-    /// The inverse of what writes a tail: the closed bit and the counter become those from before.
+    /// Sets the tail's closed bit and counter back to these old values: the inverse of what writes
+    /// the tail.
     pub fn restore_tail(&mut self, closed: bool, count: u64)
         requires { count ≤ COUNTER_END }
         ensures { RestoresAt Tail (TailIs closed count) self.old self.new }
@@ -249,14 +251,14 @@ impl<const R: usize> Segment<R> {
         self.tail = count;
     }
 
-    /// The inverse of what writes the next: it becomes the one from before.
+    /// Sets the next back to this old name, or to none: the inverse of what writes the next.
     pub fn restore_next(&mut self, next: Option<SegName>)
         ensures { RestoresAt Next (NextIs next) self.old self.new }
     {
         self.next = next;
     }
 
-    /// The inverse of what writes a cell: it becomes the one from before.
+    /// Sets the cell of this index back to this old cell: the inverse of what writes a cell.
     pub fn restore_cell(&mut self, i: u8, cell: Cell)
         requires { i < R }
         ensures { RestoresAt (λ s. CellAt s i) (CellIs cell) self.old self.new }
@@ -264,7 +266,7 @@ impl<const R: usize> Segment<R> {
         self.cells[usize::from(i)] = cell;
     }
 
-    /// The inverse of what writes a value half: the value becomes the one from before.
+    /// Sets the value of a cell back to this old one: the inverse of what writes a value half.
     pub fn restore_value(&mut self, i: u8, val: Option<u64>)
         requires { i < R }
         ensures { RestoresAt (λ s. ValAt s i) (ValIs val) self.old self.new }
@@ -272,8 +274,8 @@ impl<const R: usize> Segment<R> {
         self.cells[usize::from(i)].val = val;
     }
 
-    /// The inverse of what writes an index half: the safe bit and the index become those from
-    /// before.
+    /// Sets the safe bit and the index of a cell back to these old ones: the inverse of what writes
+    /// an index half.
     pub fn restore_index(&mut self, i: u8, safe: bool, idx: u64)
         requires { i < R }
         ensures { RestoresAt (λ s. IdxAt s i) (IdxIs safe idx) self.old self.new }
@@ -284,7 +286,7 @@ impl<const R: usize> Segment<R> {
     }
 }
 
-/// The cells of a fresh segment.
+/// Returns the cells of a fresh segment.
 fn fresh_cells<const R: usize>() -> [Cell; R]
     requires { R ≤ MOST_CELLS }
     ensures { (u : ℕ) → u < R → slice_get result u ≡ Some (new_cell u None) }
@@ -308,8 +310,8 @@ fn are_fresh(cells: &[Cell]) -> bool
     true
 }
 
-/// The cells that are handed in, in an array of their own.
-fn same_cells<const R: usize>(given: &[Cell]) -> [Cell; R]
+/// Returns a copy of the given cells, which are `R`.
+fn copied_cells<const R: usize>(given: &[Cell]) -> [Cell; R]
     requires small { R ≤ MOST_CELLS }
     requires sized { length given.now ≡ R }
     ensures { (u : ℕ) → u < R → slice_get result u ≡ slice_get given.now u }

@@ -2,7 +2,7 @@
 use Rattle.std.proofs.Common.{◌≡◌, ◌≢◌, ℕ, ◌+◌, Bool, false, List, [], ◌∷◌, ◌++◌, length, Option, Some, None, refl, sym, ◌∙◌, ap, length-append}
 use Rattle.std.specs.Io.KnownBytes.{Consumes}
 use Rattle.rd_script.specs.declared.reading.lines.Line.{Line}
-use Rattle.rd_script.specs.Device.{Gives}
+use Rattle.rd_script.specs.Device.{GivesByte}
 use Rattle.rd_script.specs.Lines.{IsOneLine, Holds, ReadsLine, ReadsLast}
 use Rattle.rd_script.proofs.KnownLemmas.{Consumes-nil, Consumes-join}
 
@@ -32,7 +32,7 @@ begins old failed line h works = record {
 }
 
 -- one more byte
-pub goes_on : {old now : Option (List ℕ)} (new : Option (List ℕ)) {failed failed' : Bool} {line line' : Line} {count : ℕ} (byte : ℕ) → HasBegun old now failed line count → Gives now new (Some byte) → byte ≢ 10 → ((text : List ℕ) → Holds line text → Holds line' (text ++ byte ∷ [])) → failed' ≡ false → HasBegun old new failed' line' (count + 1)
+pub goes_on : {old now : Option (List ℕ)} (new : Option (List ℕ)) {failed failed' : Bool} {line line' : Line} {count : ℕ} (byte : ℕ) → HasBegun old now failed line count → GivesByte now new (Some byte) → byte ≢ 10 → ((text : List ℕ) → Holds line text → Holds line' (text ++ byte ∷ [])) → failed' ≡ false → HasBegun old new failed' line' (count + 1)
 goes_on {old} {now} new {count = count} byte b gives n pushes works = record {
   text = b.text ++ byte ∷ [];
   is_one = IsOneLine-more b.text byte b.is_one n;
@@ -43,7 +43,7 @@ goes_on {old} {now} new {count = count} byte b gives n pushes works = record {
 }
 
 -- a line feed ends the line
-pub is_ended : {old now : Option (List ℕ)} (new : Option (List ℕ)) {failed : Bool} {line : Line} {count : ℕ} → HasBegun old now failed line count → Gives now new (Some 10) → ReadsLine old new line (10 ∷ [])
+pub is_ended : {old now : Option (List ℕ)} (new : Option (List ℕ)) {failed : Bool} {line : Line} {count : ℕ} → HasBegun old now failed line count → GivesByte now new (Some 10) → ReadsLine old new line (10 ∷ [])
 is_ended {old} {now} new b gives = record {
   text = b.text;
   is_one = b.is_one;
@@ -56,7 +56,7 @@ some_text : (text : List ℕ) → length text ≢ 0 → text ≢ []
 some_text text n e = n (ap length e)
 
 -- the end ends a line that has a byte
-pub is_last : {old now : Option (List ℕ)} (new : Option (List ℕ)) {failed : Bool} {line : Line} {count : ℕ} → HasBegun old now failed line count → Gives now new None → count ≢ 0 → ReadsLast old new line
+pub is_last : {old now : Option (List ℕ)} (new : Option (List ℕ)) {failed : Bool} {line : Line} {count : ℕ} → HasBegun old now failed line count → GivesByte now new None → count ≢ 0 → ReadsLast old new line
 is_last {old} {now} new b gives n = record {
   read = record {
     text = b.text;

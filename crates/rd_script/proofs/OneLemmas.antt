@@ -13,7 +13,7 @@ use Rattle.rd_script.specs.declared.reading.places.PlaceKind.{PlaceKind}
 use Rattle.rd_script.specs.declared.reading.places.PlaceKind.TheVariants as kind
 use Rattle.rd_script.specs.Texts.{yes_or_no}
 use Rattle.rd_script.specs.Contents.{name_words}
-use Rattle.rd_script.specs.Grammar.{Argument, Byte, Long, Segment, Choice, Name, Kind, keyword_of, kind_of, word_of, words_of, place_arguments, arguments_of, IsSegmentInRange, IsArgumentInRange, AreInRange}
+use Rattle.rd_script.specs.Grammar.{Argument, Byte, Long, Segment, Choice, Name, Kind, keyword_of, kind_of, word_of, words_of, place_arguments, arguments_of, IsSegmentInRange, IsArgumentInRange, AreArgumentsInRange}
 use Rattle.rd_script.specs.Spelling.{IsInRange, AreOne}
 use Rattle.rd_script.proofs.KeywordLemmas.{one_kind}
 use Rattle.rd_script.proofs.NumeralLemmas.{name_parts}
@@ -101,7 +101,7 @@ same_argument (Kind k) (Kind m) same small below e = ap Kind (one_kind k m e)
 same_argument _ _ same small below e = absurd (omega (arith, same))
 
 -- two lists of arguments of one list of shapes and the same words are one
-same_arguments : (ss : List ℕ) (xs ys : List Argument) → have_shapes ss xs ≡ true → have_shapes ss ys ≡ true → AreInRange xs → AreInRange ys → words_of xs ≡ words_of ys → xs ≡ ys
+same_arguments : (ss : List ℕ) (xs ys : List Argument) → have_shapes ss xs ≡ true → have_shapes ss ys ≡ true → AreArgumentsInRange xs → AreArgumentsInRange ys → words_of xs ≡ words_of ys → xs ≡ ys
 same_arguments ss [] [] f g small below e = refl
 same_arguments ss [] (y ∷ ys) f g small below e = absurd (omega (arith, ap length e))
 same_arguments ss (x ∷ xs) [] f g small below e = absurd (omega (arith, ap length e))

@@ -15,7 +15,7 @@ use Rattle.rd_script.specs.declared.reading.places.PlaceKind.{PlaceKind}
 use Rattle.rd_script.specs.declared.reading.places.PlaceKind.TheVariants as kind
 use Rattle.rd_script.specs.Contents.{name_words}
 use Rattle.rd_script.specs.Texts.{yes_or_no}
-use Rattle.rd_script.specs.Grammar.{Argument, Byte, Long, Segment, Choice, Name, Kind, keyword_text, keyword_of, kind_text, word_of, words_of, place_arguments, arguments_of, IsSegmentInRange, IsArgumentInRange, AreInRange}
+use Rattle.rd_script.specs.Grammar.{Argument, Byte, Long, Segment, Choice, Name, Kind, keyword_text, keyword_of, kind_text, word_of, words_of, place_arguments, arguments_of, IsSegmentInRange, IsArgumentInRange, AreArgumentsInRange}
 use Rattle.rd_script.specs.Spelling.{spelling, IsInRange, is_word}
 use Rattle.rd_script.proofs.SplitLemmas.{is_free, AreFree, parts_of_join, is_free_decimal, is_free_both}
 
@@ -77,7 +77,7 @@ free_argument (Choice choice) small = free_choice choice
 free_argument (Name name) small = is_free_word name (is_word_of_name name small)
 free_argument (Kind k) small = free_kind k
 
-free_arguments : (xs : List Argument) → AreInRange xs → AreFree 32 (words_of xs)
+free_arguments : (xs : List Argument) → AreArgumentsInRange xs → AreFree 32 (words_of xs)
 free_arguments [] small = tt
 free_arguments (x ∷ xs) small = (free_argument x small.0, free_arguments xs small.1)
 

@@ -1,4 +1,4 @@
--- The words of an actor.
+-- The words of an actor in a reply.
 use Rattle.std.specs.Prelude.{ℕ, List, [], ◌++◌, codes, Option, Some, None}
 use Rattle.rd_step.specs.Prelude.{Actor}
 use Rattle.rd_actor.specs.declared.actors.Op.{Op}
@@ -7,7 +7,7 @@ use Rattle.rd_actor.specs.Labels.{label}
 use Rattle.rd_script.specs.Texts.{spaced_number, bit_number}
 use Rattle.rd_script.specs.Contents.{name_words, value_words}
 
--- the call that an actor is in, if any
+-- the words of the call that an actor is in, or `none`
 abbrev pub op_words : Option Op → List ℕ
 op_words None = codes "none"
 op_words (Some (Enq x)) = codes "enq" ++ spaced_number x
@@ -15,19 +15,19 @@ op_words (Some Deq) = codes "deq"
 op_words (Some (AEnq x)) = codes "aenq" ++ spaced_number x
 op_words (Some ADeq) = codes "adeq"
 
--- the control point of an actor, and the call that it is in
+-- the words of an actor's control point, and of the call that it is in
 abbrev pub call_words : Actor → List ℕ
 call_words a = codes "actor " ++ label a.pc ++ codes " " ++ op_words a.op
 
--- the segments that an actor knows
+-- the words of the segments that an actor knows
 abbrev pub segment_words : Actor → List ℕ
 segment_words a = codes " crq " ++ name_words a.crq ++ codes " new " ++ name_words a.new ++ codes " next " ++ name_words a.next
 
--- the positions that an actor knows, and the closed bit
+-- the words of the positions that an actor knows, and of the closed bit that it read
 abbrev pub position_words : Actor → List ℕ
 position_words a = codes " t" ++ spaced_number a.t ++ codes " h" ++ spaced_number a.h ++ codes " closed" ++ spaced_number (bit_number a.closed)
 
--- what an actor read from a cell, and its pass
+-- the words of what an actor read from a cell, and of its pass
 abbrev pub read_words : Actor → List ℕ
 read_words a =
     codes " val " ++ value_words a.val ++ codes " safe" ++ spaced_number (bit_number a.safe) ++ codes " idx" ++ spaced_number a.idx

@@ -1,5 +1,5 @@
--- What a line is answered, and what it leaves: the answer to the command that it spells, or its
--- fault.
+-- What a line is answered, and what state it leaves: the answer to the command that it spells, or
+-- its fault.
 use Rattle.std.specs.Prelude.{◌≡◌, ℕ, List, Result, Ok, Err}
 use Rattle.rd_step.specs.Prelude.{Refusal}
 use Rattle.rd_marks.specs.declared.commands.Command.{Command}
@@ -11,24 +11,24 @@ use Rattle.rd_script.specs.declared.answers.AnyRefusal.TheVariants.{Refused, Unr
 use Rattle.rd_script.specs.Spelling.{Says}
 use Rattle.rd_script.specs.Replies.{LineAnswer}
 
--- what a line is answered, and the state after it
+-- the answer to a line, and the state after it
 pub record Answered : Type 0 where
   pub answer : LineAnswer
   pub state : BookState
 
--- what a book answers, as the answer to a line
+-- the answer to a line, by what the book answers to its command
 abbrev pub line_answer : Result Reply Refusal → LineAnswer
 line_answer (Ok reply) = Ok reply
 line_answer (Err refusal) = Err (Refused refusal)
 
--- what a line that says this may be answered, and what it may leave: a fault leaves everything as
--- it is
+-- a line that spells this command, or has this fault, may be answered so and leave this state; a
+-- fault leaves the state as it is
 abbrev pub Answers : ℕ → BookState → Result Command LineFault → Answered → Type 0
 Answers R s (Err fault) answered = answered ≡ record { answer = Err (Unread fault); state = s }
 Answers R s (Ok command) answered =
     (answer : Result Reply Refusal) × IsObeyed R s command (record { answer = answer; state = answered.state }) × (answered.answer ≡ line_answer answer)
 
--- what a line may be answered, and what it may leave
+-- a line may be answered so, and leave this state
 pub record AnswersLine (R : ℕ) (s : BookState) (line : List ℕ) (answered : Answered) : Type 0 where
   pub said : Result Command LineFault
   pub says : Says line said

@@ -1,44 +1,44 @@
--- The words that spell segments' names, and what places have in them.
+-- The words that spell segments' names, and the contents of places.
 use Rattle.std.specs.Prelude.{ℕ, Bool, true, false, List, ◌++◌, codes, Option, Some, None}
 use Rattle.std.specs.Fmt.{decimal}
 use Rattle.rd_step.specs.Prelude.{SegName, Content, Cell, ArrSlot}
 use Rattle.rd_step.specs.Prelude.{Name, Number, TailIs, NextIs, CellIs, ValIs, IdxIs, Whole, Slot, Empty, Top, Held}
 use Rattle.rd_script.specs.Texts.{spaced_number, bit_number}
 
--- a segment's name: its maker, a full stop, and its number
+-- the words of a segment's name: its maker, a full stop, and its number
 abbrev pub name_words : SegName → List ℕ
 name_words s = decimal s.maker ++ codes "." ++ decimal s.n
 
--- a value, if any
+-- the words of a value, or `none`
 abbrev pub value_words : Option ℕ → List ℕ
 value_words None = codes "none"
 value_words (Some x) = decimal x
 
--- the segment that follows, if any
+-- the words of the name of the segment that follows, or `none`
 abbrev pub next_words : Option SegName → List ℕ
 next_words None = codes "none"
 next_words (Some s) = name_words s
 
--- whether a ring is closed for enqueues
+-- the word for whether a ring is closed for enqueues
 abbrev pub tail_word : Bool → List ℕ
 tail_word false = codes "open"
 tail_word true = codes "closed"
 
--- a cell: its safe bit, its index, and its value
+-- the words of a cell: its safe bit, its index, and its value
 abbrev pub cell_words : Cell → List ℕ
 cell_words c = decimal (bit_number c.safe) ++ spaced_number c.idx ++ codes " " ++ value_words c.val
 
--- a safe bit and an index
+-- the words of a safe bit and an index
 abbrev pub index_words : Bool → ℕ → List ℕ
 index_words safe idx = decimal (bit_number safe) ++ spaced_number idx
 
--- a slot of the array
+-- the words of a slot of the array
 abbrev pub slot_words : ArrSlot → List ℕ
 slot_words Empty = codes "empty"
 slot_words Top = codes "top"
 slot_words (Held x) = codes "value" ++ spaced_number x
 
--- what a place has in it
+-- the words of the content of a place
 abbrev pub content_words : Content → List ℕ
 content_words (Name s) = name_words s
 content_words (Number n) = decimal n

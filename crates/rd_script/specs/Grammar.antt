@@ -97,8 +97,8 @@ kind_of ArrHead = ArrHeadWord
 kind_of ArrTail = ArrTailWord
 kind_of (ArrCell i) = ArrCellWord
 
--- an argument: an actor's or a cell's number, any other number, a segment, a choice, the bytes of a
--- bookmark's name, or a kind of place
+-- an argument of a command: an actor's or a cell's number, any other number, a segment, a choice,
+-- the bytes of a bookmark's name, or a kind of place
 pub data Argument : Type 0 where
   Byte : ℕ → Argument
   Long : ℕ → Argument
@@ -152,16 +152,17 @@ arguments_of (Actor actor) = Byte actor ∷ []
 arguments_of (Step k) = Long k ∷ []
 arguments_of _ = []
 
--- the words of arguments
+-- the words of a list of arguments, one of each
 abbrev pub words_of : List Argument → List (List ℕ)
 words_of arguments = map word_of arguments
 
--- the numbers of a segment's name: its maker's is 0 to 255, and its own 0 to 2^32 - 1
+-- the numbers of a segment's name are in their ranges: its maker's is 0 to 255, and its own 0 to
+-- 2^32 - 1
 abbrev pub IsSegmentInRange : SegName → Type 0
 IsSegmentInRange s = (s.maker < 256) × (s.n < 2 ^ 32)
 
--- a number is in its range, an actor's and a cell's 0 to 255 and any other 0 to 2^64 - 1, and a
--- name is a name
+-- the argument is in its range: an actor's and a cell's number is 0 to 255, any other number 0 to
+-- 2^64 - 1, and a bookmark's name is one that a bookmark can have
 abbrev pub IsArgumentInRange : Argument → Type 0
 IsArgumentInRange (Byte n) = n < 256
 IsArgumentInRange (Long n) = n < 2 ^ 64
@@ -170,11 +171,11 @@ IsArgumentInRange (Name name) = is_mark_name name ≡ true
 IsArgumentInRange _ = Unit {0}
 
 -- each argument is in its range
-abbrev pub AreInRange : List Argument → Type 0
-AreInRange [] = Unit {0}
-AreInRange (argument ∷ arguments) = IsArgumentInRange argument × AreInRange arguments
+abbrev pub AreArgumentsInRange : List Argument → Type 0
+AreArgumentsInRange [] = Unit {0}
+AreArgumentsInRange (argument ∷ arguments) = IsArgumentInRange argument × AreArgumentsInRange arguments
 
--- how many bookmarks' names follow a keyword
+-- how many bookmarks' names follow this keyword in a line
 abbrev pub names_after : Keyword → ℕ
 names_after MarkWord = 1
 names_after DropWord = 1

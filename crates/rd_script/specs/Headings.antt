@@ -4,11 +4,11 @@ use Rattle.rd_script.specs.declared.writing.headings.Heading.{Heading}
 use Rattle.rd_script.specs.declared.writing.headings.Heading.TheVariants.{Viewer, History}
 use Rattle.rd_script.specs.Texts.{spaced_number}
 
--- the words of a heading: what is counted, and its number
+-- the words of a heading: a viewer's number, or that of recorded calls
 abbrev pub heading_words : Heading → List ℕ
 heading_words (Viewer number) = codes "viewer" ++ spaced_number number
 heading_words (History calls) = codes "history" ++ spaced_number calls
 
--- the line of a heading
+-- the line of a heading, with its line feed
 abbrev pub heading_text : Heading → List ℕ
 heading_text heading = heading_words heading ++ 10 ∷ []

@@ -1,4 +1,4 @@
--- The lines of a text and what they say, and the reading of one line: which bytes the source gave
+-- The lines of a text and what they spell, and the reading of one line: which bytes the source gave
 -- for it.
 use Rattle.std.specs.Prelude.{◌≡◌, ◌≢◌, ℕ, ◌+◌, ◌^◌, ◌<◌, ◌≤◌, ◌⊎◌, ◌==◌, if◌then◌else◌, Bool, true, List, [], ◌∷◌, ◌++◌, length, Option, Result, Ok, Err, MatchBool}
 use Rattle.std.specs.Io.KnownBytes.{Consumes, IsAtEnd}
@@ -10,29 +10,31 @@ use Rattle.rd_marks.specs.declared.commands.Command.{Command}
 use Rattle.rd_script.specs.declared.faults.LineFault.{LineFault}
 use Rattle.rd_script.specs.Spelling.{Says, most_line_bytes}
 
--- the lines with this byte put before the first; a byte before no line makes one
+-- the lines with this byte put at the beginning of the first one; if there is no line, the byte
+-- makes one
 abbrev pub with_first_byte : ℕ → List (List ℕ) → List (List ℕ)
 with_first_byte byte [] = (byte ∷ []) ∷ []
 with_first_byte byte (line ∷ lines) = (byte ∷ line) ∷ lines
 
--- the lines of a text, without their line feeds: a last line that isn't empty may lack its own
+-- the lines of a text, without their line feeds; the last line needs none if it isn't empty
 abbrev pub lines_of : List ℕ → List (List ℕ)
 lines_of [] = []
 lines_of (byte ∷ bytes) = if byte == 10 then [] ∷ lines_of bytes else with_first_byte byte (lines_of bytes)
 
--- these are what the lines say, one by one
+-- for each line, this is the command that it spells, or its fault
 abbrev pub AreSaid : List (List ℕ) → List (Result Command LineFault) → Type 0
 AreSaid [] [] = Unit {0}
 AreSaid (line ∷ lines) (said ∷ others) = Says line said × AreSaid lines others
 AreSaid [] (said ∷ others) = ⊥
 AreSaid (line ∷ lines) [] = ⊥
 
--- the ended lines with this byte put before the first; a byte before no ended line ends none
+-- the lines that a line feed ends, with this byte put at the beginning of the first one; if there
+-- is no such line, none
 abbrev pub ended_with_first_byte : ℕ → List (List ℕ) → List (List ℕ)
 ended_with_first_byte byte [] = []
 ended_with_first_byte byte (line ∷ lines) = (byte ∷ line) ∷ lines
 
--- the lines of a text that a line feed ends, without it
+-- those lines of a text that a line feed ends, without the line feeds
 abbrev pub ended_lines_of : List ℕ → List (List ℕ)
 ended_lines_of [] = []
 ended_lines_of (byte ∷ bytes) = if byte == 10 then [] ∷ ended_lines_of bytes else ended_with_first_byte byte (ended_lines_of bytes)
@@ -42,12 +44,13 @@ abbrev pub IsOneLine : List ℕ → Type 0
 IsOneLine [] = Unit {0}
 IsOneLine (byte ∷ bytes) = (byte ≢ 10) × IsOneLine bytes
 
--- the line was made of this text: it keeps all of it, or knows that there are more bytes than a
+-- the buffer has a line of these bytes: it keeps all of them, or knows that they are more than a
 -- line may have
 abbrev pub Holds : Line → List ℕ → Type 0
 Holds line text = MatchBool line.is_too_long (most_line_bytes < length text) (line.kept.items ≡ text)
 
--- a source that had the old bytes left gave this line and what ended it, and has the new bytes left
+-- a source that had the old bytes left gave this line and these bytes that end it, and now has the
+-- new ones left
 pub record ReadsLine (old new : Option (List ℕ)) (line : Line) (ending : List ℕ) : Type 0 where
   -- the bytes of the line
   pub text : List ℕ
@@ -69,10 +72,10 @@ pub record ReadsPart (old new : Option (List ℕ)) (failed : Bool) : Type 0 wher
   pub took : Consumes old new text
   pub cause : (failed ≡ true) ⊎ (2 ^ 64 ≤ length text + 1)
 
--- what the reading of a line says of the bytes that were left before and are left after, of the
--- source's failing, and of the line that was read
-abbrev pub Reads : Option (List ℕ) → Option (List ℕ) → Bool → Line → Result Reading ReadFault → Type 0
-Reads old new failed line (Ok Ended) = ReadsLine old new line (10 ∷ [])
-Reads old new failed line (Ok Last) = ReadsLast old new line
-Reads old new failed line (Ok End) = Consumes old new [] × IsAtEnd new
-Reads old new failed line (Err _) = ReadsPart old new failed
+-- what the reading of the next line did, by its result: which bytes the source gave, whether it
+-- failed, and which line is in the buffer
+abbrev pub ReadsNext : Option (List ℕ) → Option (List ℕ) → Bool → Line → Result Reading ReadFault → Type 0
+ReadsNext old new failed line (Ok Ended) = ReadsLine old new line (10 ∷ [])
+ReadsNext old new failed line (Ok Last) = ReadsLast old new line
+ReadsNext old new failed line (Ok End) = Consumes old new [] × IsAtEnd new
+ReadsNext old new failed line (Err _) = ReadsPart old new failed

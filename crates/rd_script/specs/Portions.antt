@@ -1,7 +1,7 @@
--- The bytes that a portion has still to give.
+-- The bytes that a portion can still give.
 use Rattle.std.specs.Prelude.{ℕ, List, slice_range}
 use Rattle.rd_script.specs.declared.devices.portions.Portion.{Portion}
 
--- the bytes that were read and not given yet
-abbrev pub left : Portion → List ℕ
-left portion = slice_range portion.bytes portion.given portion.filled
+-- the bytes of a portion that were read and not given yet
+abbrev pub pending_bytes : Portion → List ℕ
+pending_bytes portion = slice_range portion.bytes portion.given portion.filled

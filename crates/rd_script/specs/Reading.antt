@@ -1,5 +1,5 @@
--- What is read of the words of a line. No public clause cites this: it is between the code,
--- which reads word by word, and what a whole line says.
+-- What is read from the words of a line. No public clause cites this: it is between the code, which
+-- reads word by word, and what a whole line spells.
 use Rattle.std.specs.Prelude.{◌≡◌, ◌≢◌, ℕ, true, false, List, ◌∷◌, length, Option, Some, None, Result, Ok, Err}
 use Rattle.std.specs.List.{list_all}
 use Rattle.rd_step.specs.Prelude.{Place}
@@ -11,33 +11,34 @@ use Rattle.rd_script.specs.declared.faults.LineFault.{LineFault}
 use Rattle.rd_script.specs.declared.faults.LineFault.TheVariants.{BadLine, LineTooLong, BadName}
 use Rattle.rd_script.specs.declared.reading.keywords.Keyword.{Keyword}
 use Rattle.rd_script.specs.declared.reading.places.PlaceKind.{PlaceKind}
-use Rattle.rd_script.specs.Grammar.{keyword_of, arguments_of, kind_text, kind_of, place_arguments, words_of, AreInRange, names_after}
+use Rattle.rd_script.specs.Grammar.{keyword_of, arguments_of, kind_text, kind_of, place_arguments, words_of, AreArgumentsInRange, names_after}
 use Rattle.rd_script.specs.Spelling.{IsInRange, NamesBadly, is_word}
 
--- what is read of a word that is to be a bookmark's name
+-- the result of reading a word as a bookmark's name
 abbrev pub ReadsName : List ℕ → Result MarkName LineFault → Type 0
 ReadsName word (Ok name) = (is_mark_name word ≡ true) × (bytes_of name ≡ word)
 ReadsName word (Err BadLine) = is_word word ≡ false
 ReadsName word (Err BadName) = (is_word word ≡ true) × (is_mark_name word ≡ false)
 ReadsName word (Err LineTooLong) = ⊥
 
--- why these words are not this many names: they are not this many words, or one of them is no name
+-- why these words are not this many bookmarks' names: they are not this many words, or one of them
+-- is no bookmark's name
 abbrev pub AreNoNames : ℕ → List (List ℕ) → LineFault → Type 0
 AreNoNames count words BadLine = length words ≡ count → list_all is_word words ≡ true → ⊥
 AreNoNames count words BadName = (length words ≡ count) × (list_all is_word words ≡ true) × (list_all is_mark_name words ≡ false)
 AreNoNames count words LineTooLong = ⊥
 
--- what is read of the words of a place
+-- the result of reading words as a place
 abbrev pub ReadsPlace : List (List ℕ) → Option Place → Type 0
-ReadsPlace words (Some place) = AreInRange (place_arguments place) × (words ≡ kind_text (kind_of place) ∷ words_of (place_arguments place))
-ReadsPlace words None = (place : Place) → AreInRange (place_arguments place) → words ≢ kind_text (kind_of place) ∷ words_of (place_arguments place)
+ReadsPlace words (Some place) = AreArgumentsInRange (place_arguments place) × (words ≡ kind_text (kind_of place) ∷ words_of (place_arguments place))
+ReadsPlace words None = (place : Place) → AreArgumentsInRange (place_arguments place) → words ≢ kind_text (kind_of place) ∷ words_of (place_arguments place)
 
--- what is read of the words after a kind of place
+-- the result of reading the words after a kind of place as a place of that kind
 abbrev pub ReadsKind : PlaceKind → List (List ℕ) → Option Place → Type 0
-ReadsKind kind words (Some place) = AreInRange (place_arguments place) × (kind_of place ≡ kind) × (words ≡ words_of (place_arguments place))
-ReadsKind kind words None = (place : Place) → AreInRange (place_arguments place) → kind_of place ≡ kind → words ≢ words_of (place_arguments place)
+ReadsKind kind words (Some place) = AreArgumentsInRange (place_arguments place) × (kind_of place ≡ kind) × (words ≡ words_of (place_arguments place))
+ReadsKind kind words None = (place : Place) → AreArgumentsInRange (place_arguments place) → kind_of place ≡ kind → words ≢ words_of (place_arguments place)
 
--- what is read of the words after a keyword
+-- the result of reading the words after a keyword as a command of that keyword
 abbrev pub ReadsCommand : Keyword → List (List ℕ) → Result Command LineFault → Type 0
 ReadsCommand keyword words (Ok command) = IsInRange command × (keyword_of command ≡ keyword) × (words ≡ words_of (arguments_of command))
 ReadsCommand keyword words (Err BadLine) =
@@ -45,7 +46,8 @@ ReadsCommand keyword words (Err BadLine) =
 ReadsCommand keyword words (Err BadName) = NamesBadly keyword words
 ReadsCommand keyword words (Err LineTooLong) = ⊥
 
--- what is read of the words after a keyword without names; after one with names nothing is read
+-- the result of reading the words after a keyword without names as a command of that keyword; none
+-- after a keyword with names
 abbrev pub ReadsNameless : Keyword → List (List ℕ) → Option Command → Type 0
 ReadsNameless keyword words (Some command) = IsInRange command × (keyword_of command ≡ keyword) × (words ≡ words_of (arguments_of command))
 ReadsNameless keyword words None = names_after keyword ≡ 0 → (command : Command) → IsInRange command → keyword_of command ≡ keyword → words ≢ words_of (arguments_of command)

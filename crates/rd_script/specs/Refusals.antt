@@ -33,18 +33,19 @@ refusal_name NotATake = codes "18 NotATake"
 refusal_name NoSuchPlace = codes "19 NoSuchPlace"
 refusal_name NoMemory = codes "20 NoMemory"
 
--- the data of a refusal, after its name: the number of live steps, or of a step
+-- the words after a refusal's name, each preceded by a space: the number of live steps, or of a
+-- step, if the refusal has one
 abbrev pub refusal_data : Refusal → List ℕ
 refusal_data (NothingToUndo live) = spaced_number live
 refusal_data (NoSuchStep live) = spaced_number live
 refusal_data (Depended step) = spaced_number step
 refusal_data _ = []
 
--- a refusal: its number, its name, and its data
+-- the words of a refusal: its number, its name, and its data
 abbrev pub refusal_words : Refusal → List ℕ
 refusal_words refusal = refusal_name refusal ++ refusal_data refusal
 
--- the number and the name of a line's fault
+-- the number and the name of the fault of a line
 abbrev pub fault_name : LineFault → List ℕ
 fault_name BadLine = codes "22 BadLine"
 fault_name LineTooLong = codes "23 LineTooLong"
@@ -55,19 +56,20 @@ abbrev pub stop_name : ScriptFault → List ℕ
 stop_name Read = codes "24 Read"
 stop_name Write = codes "25 Write"
 
--- which event of a trace was refused, and why
+-- the words for an event of a trace that was refused: which one, and why
 abbrev pub trace_step_words : ℕ → Refusal → List ℕ
 trace_step_words step cause = codes "28 TraceStep" ++ spaced_number step ++ codes " cause " ++ refusal_words cause
 
--- which event of which bookmark of a trace was refused, and why
+-- the words for an event of a trace's bookmark that was refused: of which bookmark, which one, and
+-- why
 abbrev pub trace_mark_words : ℕ → ℕ → Refusal → List ℕ
 trace_mark_words mark step cause = codes "32 TraceMark" ++ spaced_number mark ++ spaced_number step ++ codes " cause " ++ refusal_words cause
 
--- the ticket that is drawn next, and the one that is served
+-- the words of the ticket that is drawn next, and of the one that is served
 abbrev pub busy_words : ℕ → ℕ → List ℕ
 busy_words next served = codes " next" ++ spaced_number next ++ codes " served" ++ spaced_number served
 
--- the number, the name and the data of any refusal
+-- the words of any refusal: its number, its name and its data
 abbrev pub any_words : AnyRefusal → List ℕ
 any_words (Refused refusal) = refusal_words refusal
 any_words (Unread fault) = fault_name fault

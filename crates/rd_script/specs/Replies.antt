@@ -13,22 +13,22 @@ use Rattle.rd_script.specs.Actors.{actor_words}
 use Rattle.rd_script.specs.Steps.{reply_word, step_words}
 use Rattle.rd_script.specs.Refusals.{any_words}
 
--- what the call replied that an event ended, after a space, if it ended one
+-- the words of what a call replied, after a space, if the event ended one; else none
 abbrev pub event_reply : Option OpReply → List ℕ
 event_reply None = []
 event_reply (Some reply) = codes " " ++ reply_word reply
 
--- the number of a step, or a hyphen if there is none
+-- the words of a step's number, or a hyphen if there is no such step
 abbrev pub step_number : Option ℕ → List ℕ
 step_number None = codes "-"
 step_number (Some k) = decimal k
 
--- the steps that a taken value came by
+-- the words of an origin: the steps that called, put and took a value
 abbrev pub origin_words : OriginOf → List ℕ
 origin_words origin =
     codes "origin call " ++ step_number origin.call ++ codes " put " ++ step_number origin.put ++ codes " take" ++ spaced_number origin.take
 
--- the step that last wrote a place, if one did
+-- the words of the step that last wrote a place, if one did
 abbrev pub writer_words : Option ℕ → List ℕ
 writer_words None = codes "writer none"
 writer_words (Some k) = codes "writer" ++ spaced_number k
@@ -52,11 +52,11 @@ reply_words (Step number entry) = step_words number entry
 abbrev pub LineAnswer : Type 0
 LineAnswer = Result Reply AnyRefusal
 
--- the words of an answer
+-- the words of an answer to a line
 abbrev pub words_of : LineAnswer → List ℕ
 words_of (Ok reply) = reply_words reply
 words_of (Err refusal) = codes "refused " ++ any_words refusal
 
--- the line of an answer
+-- the line of an answer, with its line feed
 abbrev pub text_of : LineAnswer → List ℕ
 text_of answer = words_of answer ++ 10 ∷ []

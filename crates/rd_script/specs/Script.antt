@@ -1,4 +1,4 @@
--- What a run of a script did: which lines it read, obeyed and reported, by how it ended.
+-- What a run of a script did: which lines it read, obeyed and reported, for each way to end.
 use Rattle.std.specs.Prelude.{◌≡◌, ℕ, ◌+◌, ◌^◌, ◌≤◌, ◌⊎◌, Bool, true, false, List, [], ◌∷◌, ◌++◌, length, Option, Result, Ok, Err}
 use Rattle.std.specs.Io.KnownBytes.{Consumes, Appends, IsAtEnd}
 use Rattle.rd_marks.specs.Books.{BookState}
@@ -10,20 +10,21 @@ use Rattle.rd_script.specs.Lines.{lines_of, ended_lines_of}
 use Rattle.rd_script.specs.Answers.{Answered, AnswersLine}
 use Rattle.rd_script.specs.Replies.{LineAnswer, text_of}
 
--- an answer was written, or a beginning of it if the writer failed
+-- an answer's line was written, or a beginning of it if the writer failed
 abbrev pub WritesAnswer : Option (List ℕ) → Option (List ℕ) → LineAnswer → Result (Unit {0}) WriteFault → Type 0
 WritesAnswer old new answer (Ok _) = Appends old new (text_of answer)
 WritesAnswer old new answer (Err _) = TakesBeginning old new (text_of answer)
 
--- lines may be answered by this report, each by the text of its answer, and leave this state
+-- these lines may be answered by this report, which has the text of each answer, and lead to this
+-- state
 abbrev pub HasReport : ℕ → BookState → List (List ℕ) → List ℕ → BookState → Type 0
 HasReport R s [] report after = (report ≡ []) × (after ≡ s)
 HasReport R s (line ∷ lines) report after =
     (answered : Answered) × (rest : List ℕ) × AnswersLine R s line answered
     × (report ≡ text_of answered.answer ++ rest) × HasReport R answered.state lines rest after
 
--- what a reader has left and a writer has, before a run and after it, and whether each has failed
--- then
+-- the bytes that a reader has left and those that a writer has, before a run and after it, and
+-- whether each has failed then
 pub record Devices : Type 0 where
   pub in_before : Option (List ℕ)
   pub in_after : Option (List ℕ)
@@ -32,7 +33,7 @@ pub record Devices : Type 0 where
   pub out_after : Option (List ℕ)
   pub out_failed : Bool
 
--- the run came to the end: the reader gave n lines and then the end, and their report was written;
+-- the run came to the end: the reader gave n lines and then the end, their report was written, and
 -- neither device failed
 pub record RanToEnd (R : ℕ) (before after : BookState) (d : Devices) (n : ℕ) : Type 0 where
   pub in_works : d.in_failed ≡ false
@@ -57,8 +58,8 @@ pub record StoppedAtRead (R : ℕ) (before after : BookState) (d : Devices) : Ty
   pub reports : HasReport R before (ended_lines_of given) report after
 
 -- the writer failed at the answer to the last line that was read, and the reader has not failed:
--- all lines were obeyed, and the report of those before the last was written, and a beginning of
--- its answer
+-- all lines were obeyed, the report of the lines before the last was written, and a beginning of
+-- the last one's answer
 pub record StoppedAtWrite (R : ℕ) (before after : BookState) (d : Devices) : Type 0 where
   pub in_works : d.in_failed ≡ false
   pub out_failed : d.out_failed ≡ true
@@ -82,7 +83,7 @@ pub record StoppedAtWrite (R : ℕ) (before after : BookState) (d : Devices) : T
   pub begins : IsBeginning part (text_of answered.answer)
   pub wrote : Appends d.out_before d.out_after (report ++ part)
 
--- what a run of a script did, by how it ended
+-- what a run of a script did, by its result
 abbrev pub RunsScript : ℕ → BookState → BookState → Devices → Result ℕ ScriptFault → Type 0
 RunsScript R before after d (Ok n) = RanToEnd R before after d n
 RunsScript R before after d (Err Read) = StoppedAtRead R before after d

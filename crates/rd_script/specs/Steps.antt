@@ -10,19 +10,19 @@ use Rattle.rd_script.specs.Events.{event_words}
 use Rattle.rd_script.specs.Contents.{name_words, value_words, tail_word, index_words, content_words}
 use Rattle.rd_script.specs.Spelling.{place_words}
 
--- the place of a step, if it has one
+-- the words of a step's place, or a hyphen if it has none
 abbrev pub step_place : Option Place → List ℕ
 step_place None = codes "-"
 step_place (Some place) = place_words place
 
--- how a step touched its place, if it has one
+-- the word for how a step touched its place, if it has one
 abbrev pub access_word : Option Place → Wrote → List ℕ
 access_word None wrote = codes "none"
 access_word (Some place) WroteNothing = codes "read"
 access_word (Some place) WrotePlace = codes "wrote"
 access_word (Some place) WroteIndex = codes "wrote index"
 
--- what an access answered
+-- the words of what an access answered
 abbrev pub access_answer : Answer → List ℕ
 access_answer Nothing = codes "-"
 access_answer (Found content) = content_words content
@@ -33,18 +33,18 @@ access_answer Won = codes "won"
 access_answer Lost = codes "lost"
 access_answer (Made s) = codes "made " ++ name_words s
 
--- what a call replied
+-- the words of what a call replied
 abbrev pub reply_word : OpReply → List ℕ
 reply_word Enqueued = codes "enqueued"
 reply_word (Value x) = codes "value" ++ spaced_number x
 reply_word Empty = codes "empty"
 
--- what the call replied that a step ended, if it ended one
+-- the words of what a call replied, if the step ended one, else a hyphen
 abbrev pub step_reply : Option OpReply → List ℕ
 step_reply None = codes "-"
 step_reply (Some reply) = reply_word reply
 
--- what the access of a step did
+-- the words of what the access of a step did
 abbrev pub done_words : Entry → List ℕ
 done_words e = step_place e.place ++ codes "; " ++ access_word e.place e.wrote ++ codes "; " ++ access_answer e.answer
 

@@ -2,16 +2,16 @@
 use Rattle.std.specs.Prelude.{ℕ, Bool, true, false, List, ◌∷◌, codes}
 use Rattle.std.specs.Fmt.{decimal}
 
--- a number after a space
+-- a space and the decimal digits of a number
 abbrev pub spaced_number : ℕ → List ℕ
 spaced_number n = 32 ∷ decimal n
 
--- a bit as a number
+-- a bit as a number, 0 or 1
 abbrev pub bit_number : Bool → ℕ
 bit_number false = 0
 bit_number true = 1
 
--- a choice as a word
+-- a choice as a word, `yes` or `no`
 abbrev pub yes_or_no : Bool → List ℕ
 yes_or_no false = codes "no"
 yes_or_no true = codes "yes"

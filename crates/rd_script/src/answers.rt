@@ -1,4 +1,4 @@
-//! The answer to one line, and any refusal that there is.
+//! The answer to one line, and the type of all refusals.
 
 use super::faults::{LineFault, ScriptFault};
 use rd_cell::Refusal;
@@ -8,7 +8,7 @@ use rd_step::Flaw;
 /// The answer to one line: a reply, or a refusal.
 pub type LineAnswer = Result<Reply, AnyRefusal>;
 
-/// Any refusal that there is: what has a number and a line of text.
+/// Any refusal: it has a number, and a line of text.
 #[derive(Clone, Copy, Debug, PartialEq, Eq)]
 pub enum AnyRefusal {
     /// 1 to 20: a command was refused.
@@ -32,7 +32,7 @@ pub enum AnyRefusal {
     },
     /// 29: no more tickets can be drawn.
     TicketsEnded,
-    /// 30: another one holds the desk, or waits for it.
+    /// 30: another viewer holds the desk, or waits for it.
     Busy {
         /// The ticket that is drawn next.
         next: u64,

@@ -1,8 +1,8 @@
 //! Where bytes come from and where they go.
 //!
-//! A source gives one byte or the end, and a sink takes one or more bytes of a slice. Each gives
-//! contracts its bytes, if it can, and whether it has failed. A call that a signal interrupts is
-//! made again, of a reader as of a writer, and is no fault; any other error is.
+//! A source gives one byte or the end, and a sink takes one or more bytes of a slice. Each has, for
+//! contracts alone, its bytes, if they are known, and whether it has failed. A call that a signal
+//! interrupts is made again and is no fault, for a reader as for a writer; any other error is one.
 
 mod portions;
 pub mod sinks;

@@ -8,11 +8,11 @@ use super::devices::sources::ReadFault;
 /// Why a line spells no command.
 #[derive(Clone, Copy, Debug, PartialEq, Eq)]
 pub enum LineFault {
-    /// 22: the line is not of the grammar.
+    /// 22: the line is not as the grammar requires.
     BadLine,
     /// 23: the line has more bytes than a line may have.
     LineTooLong,
-    /// 17: a name in the line is none that a bookmark can have.
+    /// 17: a name in the line is not one that a bookmark can have.
     BadName,
 }
 
@@ -30,6 +30,7 @@ impl From<ReadFault> for ScriptFault {
 
     ghost from_gives = { λ _ fault. fault ≡ Read };
 
+    /// A source that failed is the fault `Read`.
     fn from(_fault: ReadFault) -> ScriptFault {
         ScriptFault::Read
     }
@@ -40,6 +41,7 @@ impl From<WriteFault> for ScriptFault {
 
     ghost from_gives = { λ _ fault. fault ≡ Write };
 
+    /// A sink that failed is the fault `Write`.
     fn from(_fault: WriteFault) -> ScriptFault {
         ScriptFault::Write
     }

@@ -1,12 +1,12 @@
-//! Scripts: the lines that spell commands, the lines that say what each was answered, and the run
-//! of a script over a book.
+//! Scripts: the lines that spell commands, the lines of the answers to them, and the run of a
+//! script over a book.
 //!
-//! There are three rooms: `devices` gives the bytes of a script and takes those of its report,
+//! There are three folders: `devices` gives the bytes of a script and takes those of its report,
 //! `reading` finds the command that a line spells, and `writing` puts the line of an answer
 //! together. `script` runs a script with them: each line is obeyed when it is complete, and its
 //! reply is written at once. Lines and replies are kept in buffers of fixed capacity, so no memory
-//! is taken except by the commands themselves. What the lines of a whole text say is given as a
-//! list, which takes memory.
+//! is taken except by the commands themselves. The commands of a whole text come as a list, which
+//! takes memory.
 #![tactic(auto)]
 
 mod answers;
@@ -17,7 +17,7 @@ mod script;
 mod writing;
 
 pub use answers::{AnyRefusal, LineAnswer};
-pub use devices::sinks::{Sink, WriteFault, WriteSink, hand_over};
+pub use devices::sinks::{Sink, WriteFault, WriteSink, write_all};
 pub use devices::sources::{ReadFault, ReadSource, Source};
 pub use faults::{LineFault, ScriptFault};
 pub use reading::commands::command_in;

@@ -1,5 +1,5 @@
-//! What lines say: a line is read into a buffer and cut into words; the first word is its keyword,
-//! and the others are read as that keyword needs them.
+//! What lines spell: a line is read into a buffer and cut into words; the first word is its
+//! keyword, and the others are read as that keyword needs them.
 
 mod arguments;
 pub mod commands;

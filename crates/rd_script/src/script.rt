@@ -10,7 +10,7 @@ ghost use Rattle.rd_script.specs.Answers.{Answered, AnswersLine};
 ghost use Rattle.rd_script.specs.Script.{WritesAnswer, RunsScript};
 
 use super::answers::{AnyRefusal, LineAnswer};
-use super::devices::sinks::{Sink, WriteFault, hand_over};
+use super::devices::sinks::{Sink, WriteFault, write_all};
 use super::devices::sources::Source;
 use super::faults::ScriptFault;
 use super::reading::lines::{Line, Reading, next_line};
@@ -23,9 +23,9 @@ use rd_marks::Book;
 ///
 /// # Errors
 ///
-/// `Read` if the reader failed, or gave 2^64 - 1 bytes without an end: the whole lines that it gave
-/// are obeyed and answered. `Write` if the writer failed or took nothing: the line whose answer it
-/// was to take is obeyed.
+/// `Read` if the reader failed, or gave 2^64 - 1 bytes without an end; the whole lines that it gave
+/// were then obeyed and answered. `Write` if the writer failed or took nothing; the line whose
+/// answer it did not take whole was then obeyed.
 pub fn run<S: Source, K: Sink, const R: usize>(
     reader: &mut S,
     writer: &mut K,
@@ -58,7 +58,7 @@ pub fn run<S: Source, K: Sink, const R: usize>(
     Err(ScriptFault::Read)
 }
 
-/// Does what a line says, and writes its answer by way of the text.
+/// Obeys a line and writes its answer, whose line is made in the buffer `text`.
 fn do_line<K: Sink, const R: usize>(
     book: &mut Book<R>,
     line: &Line,
@@ -74,10 +74,10 @@ fn do_line<K: Sink, const R: usize>(
     ensures fails { OnErr result (K.has_failed writer.new ≡ true) }
 {
     answer_line(book, line, text);
-    hand_over(writer, text.as_slice())
+    write_all(writer, text.as_slice())
 }
 
-/// Does what a line says, and makes the text the line of its answer.
+/// Obeys a line, and makes the text the line of its answer.
 fn answer_line<const R: usize>(book: &mut Book<R>, line: &Line, text: &mut Text)
     ensures answers { (said : List ℕ) → Holds line.now said → (answered : Answered)
         × AnswersLine R (book_state book.old) said answered × (answered.state ≡ book_state book.new)
@@ -93,11 +93,11 @@ fn answer_line<const R: usize>(book: &mut Book<R>, line: &Line, text: &mut Text)
     }
 }
 
-/// Writes the line of an answer, in as few calls as it takes.
+/// Writes the line of an answer, in as few calls as the writer needs.
 ///
 /// # Errors
 ///
-/// If the writer failed or took nothing: it took a beginning of the line.
+/// `WriteFault` if the writer failed or took nothing; it has then taken a beginning of the line.
 pub fn write_answer<K: Sink>(writer: &mut K, answer: &LineAnswer) -> Result<(), WriteFault>
     requires { K.has_failed writer.old ≡ false }
     ensures ok { OnOk result (Appends (K.contents writer.old) (K.contents writer.new) (text_of answer.now)) }
@@ -107,5 +107,5 @@ pub fn write_answer<K: Sink>(writer: &mut K, answer: &LineAnswer) -> Result<(), 
 {
     let mut text = Text::new();
     set_text(&mut text, answer);
-    hand_over(writer, text.as_slice())
+    write_all(writer, text.as_slice())
 }

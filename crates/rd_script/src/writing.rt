@@ -1,5 +1,5 @@
-//! The lines of answers: each function puts words after a text of fixed capacity, and its contract
-//! says which words they are and how many bytes they have at most.
+//! The lines of answers. Each function appends words to a text of fixed capacity, and its contract
+//! states which words they are and how many bytes they have at most.
 
 mod actors;
 mod contents;

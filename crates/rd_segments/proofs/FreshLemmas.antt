@@ -6,7 +6,7 @@ use Rattle.std.proofs.lemmas.List.Elements.{All-head, All-tail}
 use Rattle.std.proofs.lemmas.List.{take_rest}
 use mathlib.Core.Path.{fun_ext}
 use Rattle.rd_cell.proofs.PlaceLemmas.{is_name-true}
-use Rattle.rd_ring.specs.Prelude.{SLOTS, SegName, Place, QHead, QTail, Head, Tail, Next, ValAt, IdxAt, ArrHead, ArrTail, ArrCell, Content, Name, Number, Slot, Empty, root, is_name, Contents, fresh}
+use Rattle.rd_ring.specs.Prelude.{SLOTS, SegName, Place, QHead, QTail, Head, Tail, Next, ValAt, IdxAt, ArrHead, ArrTail, ArrCell, Content, Name, Number, Slot, Empty, root, is_name, Contents, fresh_segment}
 use Rattle.rd_ring.specs.declared.segments.Segment.{Segment}
 use Rattle.rd_ring.specs.Segments.{part}
 use Rattle.rd_segments.specs.Lists.{ListOf, by_number, by_name, part_of, IsFresh, IsFreshAlone}
@@ -55,10 +55,10 @@ module _ (a : ArrayParts) (e : array_part a ≡ fresh_array) where
 -- ---- the makers' lists
 
 module _ {R : ℕ} where
-  pub one_alone : (s : Segment R) → ((q : Place) → part s q ≡ fresh R q) → IsFreshAlone (s ∷ [])
+  pub one_alone : (s : Segment R) → ((q : Place) → part s q ≡ fresh_segment R q) → IsFreshAlone (s ∷ [])
   one_alone s parts = record { segment = s; fresh_parts = parts; alone = refl }
 
-  pub alone_one : (s : Segment R) → IsFreshAlone (s ∷ []) → (q : Place) → part s q ≡ fresh R q
+  pub alone_one : (s : Segment R) → IsFreshAlone (s ∷ []) → (q : Place) → part s q ≡ fresh_segment R q
   alone_one s h q = let same : s ≡ h.segment = cc (h.alone) in ap (λ (x : Segment R). part x q) same ∙ h.fresh_parts q
 
   pub only_one : (ss : List (Segment R)) (s : Segment R) → length ss ≡ 1 → s ≡ get_or ss 0 s → ss ≡ s ∷ []
@@ -151,7 +151,7 @@ module _ {R : ℕ} (makers : List (ListOf R)) (qhead qtail : SegName) (array : A
   array_at (ArrCell i) = at (ArrCell i)
   array_at _ = refl
 
-  root_parts : (s : Segment R) → by_name makers root ≡ Some s → (q : Place) → part s q ≡ fresh R q
+  root_parts : (s : Segment R) → by_name makers root ≡ Some s → (q : Place) → part s q ≡ fresh_segment R q
   root_parts s is (Head t) = ap (λ o. part_of o (Head root)) (sym is) ∙ at (Head root)
   root_parts s is (Tail t) = ap (λ o. part_of o (Tail root)) (sym is) ∙ at (Tail root)
   root_parts s is (Next t) = ap (λ o. part_of o (Next root)) (sym is) ∙ at (Next root)

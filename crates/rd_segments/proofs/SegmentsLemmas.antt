@@ -25,7 +25,7 @@ segments_part makers name segment (WholeOf t) there h = refl
 segments_part makers name segment _ there h = cc
 
 -- if no segment has the name, nothing is there
-pub segments_none : {R : ℕ} (makers : List (ListOf R)) (name : SegName) (q : Place) → by_name makers name ≡ None → is_of name q ≡ true
+segments_none : {R : ℕ} (makers : List (ListOf R)) (name : SegName) (q : Place) → by_name makers name ≡ None → is_of name q ≡ true
     → segments_of makers q ≡ None
 segments_none {R} makers name (Head t) none h = ap (λ (o : Option (Segment R)). part_of o (Head t)) (ap (by_name makers) (sym (is_name-true name t h)) ∙ none)
 segments_none {R} makers name (Tail t) none h = ap (λ (o : Option (Segment R)). part_of o (Tail t)) (ap (by_name makers) (sym (is_name-true name t h)) ∙ none)
@@ -61,7 +61,7 @@ changed_here : {R : ℕ} (old new : List (ListOf R)) (name : SegName) (o : Optio
 changed_here old new name o changes = changes.at name ∙ cond-true (is_name name name) o (by_name old name) (is_name-refl name)
 
 -- a change of one segment, as one of the segments' places
-pub segment_agrees : {R : ℕ} (old new : List (ListOf R)) (name : SegName) (before left : Segment R) (p : Place) → by_name old name ≡ Some before
+segment_agrees : {R : ℕ} (old new : List (ListOf R)) (name : SegName) (before left : Segment R) (p : Place) → by_name old name ≡ Some before
     → Changes name (Some left) old new → segment_of p ≡ Some name
     → Agrees (is_of_same_segment p) p (part before) (part left) (segments_of old) (segments_of new)
 segment_agrees old new name before left p there changes own = record {

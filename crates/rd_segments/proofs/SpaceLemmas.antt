@@ -2,7 +2,7 @@
 use Rattle.std.proofs.Common.{◌≡◌, ℕ, true, false, Bool, if◌then◌else◌, inl, inr, refl, sym, ◌∙◌, ap, subst, List, Option, Some, None, Result, Ok, Err, IfOk, IfErr, OnErr}
 use Rattle.std.proofs.lemmas.Bool.{cases_Bool, cond-true, cond-false, cond_both, false_from_ne_true, both_ways}
 use mathlib.Core.Path.{fun_ext}
-use Rattle.rd_ring.specs.Prelude.{SegName, Place, QHead, QTail, Head, Tail, Next, CellAt, ValAt, IdxAt, WholeOf, ArrHead, ArrTail, ArrCell, Content, Name, Operation, Done, Refusal, root, is_name, is_of, is_place, is_array, segment_of, covers, Contents, cell_of_halves, restore, fresh, operand, operate, make, everywhere, Operates, OperatesOn, Makes, Restores}
+use Rattle.rd_ring.specs.Prelude.{SegName, Place, QHead, QTail, Head, Tail, Next, CellAt, ValAt, IdxAt, WholeOf, ArrHead, ArrTail, ArrCell, Content, Name, Operation, Done, Refusal, root, is_name, is_of, is_place, is_array, segment_of, covers, Contents, cell_of_halves, restore, fresh_segment, operand, operate, make, everywhere, Operates, OperatesOn, Makes, Restores}
 use Rattle.rd_cell.proofs.PlaceLemmas.{Covering, itself, as_cell, as_whole, covers_cases, is_of_cell-of, is_place-true}
 use Rattle.rd_cell.proofs.AccessLemmas.{place-make}
 use Rattle.rd_cell.proofs.EffectLemmas.{Agrees, lift, lift_operates, lift_restore, operand_agrees, narrow, place_operates}
@@ -249,15 +249,15 @@ array_restored makers qhead qtail old new p c own same =
 -- A fresh space
 
 fresh_parts : {R : ℕ} (makers : List (ListOf R)) (t : SegName) (q : Place) → IsFresh makers → is_of root q ≡ is_name root t
-    → part_of (by_name makers t) q ≡ (if is_of root q then fresh R q else None)
+    → part_of (by_name makers t) q ≡ (if is_of root q then fresh_segment R q else None)
 fresh_parts {R} makers t q h of =
     elim (cases_Bool (is_name root t)) [
       | inl e ↦
           ap (λ (x : Option (Segment R)). part_of x q) (h.at t ∙ cond-true (is_name root t) (Some h.segment) None e) ∙ h.fresh_parts q
-          ∙ sym (cond-true (is_of root q) (fresh R q) None (of ∙ e))
+          ∙ sym (cond-true (is_of root q) (fresh_segment R q) None (of ∙ e))
       | inr e ↦
           ap (λ (x : Option (Segment R)). part_of x q) (h.at t ∙ cond-false (is_name root t) (Some h.segment) None e)
-          ∙ sym (cond-false (is_of root q) (fresh R q) None (of ∙ e))
+          ∙ sym (cond-false (is_of root q) (fresh_segment R q) None (of ∙ e))
     ]
 
 pub space_fresh : {R : ℕ} (makers : List (ListOf R)) (array : ArrayParts) → IsFresh makers → array_part array ≡ fresh_array
@@ -272,8 +272,8 @@ space_fresh {R} makers array h k = fun_ext each
     each (Next t) = fresh_parts makers t (Next t) h refl
     each (ValAt t i) = fresh_parts makers t (ValAt t i) h refl
     each (IdxAt t i) = fresh_parts makers t (IdxAt t i) h refl
-    each (CellAt t i) = sym (cond_both (is_name root t) (fresh R (CellAt t i)) None (λ (x : Option Content). x ≡ None) (λ e. refl) (λ e. refl))
-    each (WholeOf t) = sym (cond_both (is_name root t) (fresh R (WholeOf t)) None (λ (x : Option Content). x ≡ None) (λ e. refl) (λ e. refl))
+    each (CellAt t i) = sym (cond_both (is_name root t) (fresh_segment R (CellAt t i)) None (λ (x : Option Content). x ≡ None) (λ e. refl) (λ e. refl))
+    each (WholeOf t) = sym (cond_both (is_name root t) (fresh_segment R (WholeOf t)) None (λ (x : Option Content). x ≡ None) (λ e. refl) (λ e. refl))
     each ArrHead = ap (λ (at : Contents). at ArrHead) k
     each ArrTail = ap (λ (at : Contents). at ArrTail) k
     each (ArrCell i) = ap (λ (at : Contents). at (ArrCell i)) k

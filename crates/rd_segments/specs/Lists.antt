@@ -1,29 +1,30 @@
 -- The makers' lists of segments, as one map from the segments' places to contents.
 use Rattle.std.specs.Prelude.{◌≡◌, ℕ, ◌<◌, ◌++◌, ◌∷◌, [], List, Vec, Option, Some, None, slice_get, if◌then◌else◌, length}
 use Rattle.std.specs.declared.alloc.Global.{Global}
-use Rattle.rd_ring.specs.Prelude.{MOST_SEGMENTS, SegName, Place, Head, Tail, Next, ValAt, IdxAt, Content, Contents, root, is_name, fresh, holding}
+use Rattle.rd_ring.specs.Prelude.{MOST_SEGMENTS, SegName, Place, Head, Tail, Next, ValAt, IdxAt, Content, Contents, root, is_name, fresh_segment, holding}
 use Rattle.rd_ring.specs.declared.segments.Segment.{Segment}
 use Rattle.rd_ring.specs.Segments.{part}
 
--- one maker's list
+-- the type of one maker's list of segments, in the order of their making
 abbrev pub ListOf : ℕ → Type 0
 ListOf R = Vec (Segment R) Global
 
--- the n-th element of a maker's list, if there is such a list
+-- the element n, from 0, of a maker's list; none if there is no list
 abbrev pub by_number : {X : Type 0} → Option (Vec X Global) → ℕ → Option X
 by_number None n = None
 by_number (Some list) n = slice_get list.items n
 
--- what is of this name in the makers' lists
+-- the element of this name in the makers' lists, if there is one
 abbrev pub by_name : {X : Type 0} → List (Vec X Global) → SegName → Option X
 by_name makers s = by_number (slice_get makers s.maker) s.n
 
--- what a segment has at a place, if it is there
+-- the content of a segment's place, or none if there is no segment
 abbrev pub part_of : {R : ℕ} → Option (Segment R) → Place → Option Content
 part_of None p = None
 part_of (Some s) p = part s p
 
--- each segment's places, by what the segments of these names have at their places
+-- the contents of the places of all segments, where `segment` gives the contents of the segment of
+-- each name
 abbrev pub segments_by : (SegName → Contents) → Contents
 segments_by segment (Head n) = segment n (Head n)
 segments_by segment (Tail n) = segment n (Tail n)
@@ -32,7 +33,7 @@ segments_by segment (ValAt n i) = segment n (ValAt n i)
 segments_by segment (IdxAt n i) = segment n (IdxAt n i)
 segments_by segment _ = None
 
--- what the segments of these lists have at their places
+-- the contents of the places of all segments in these lists
 abbrev pub segments_of : {R : ℕ} → List (ListOf R) → Contents
 segments_of makers = segments_by (λ n. part_of (by_name makers n))
 
@@ -45,11 +46,13 @@ count_in (Some list) = length list.items
 abbrev pub count : {X : Type 0} → List (Vec X Global) → ℕ → ℕ
 count makers m = count_in (slice_get makers m)
 
--- at this name there is this segment now, or none, and at every other what there was
+-- the lists have this segment, or none, under this name now, and under every other name what they
+-- had
 pub record Changes {R : ℕ} (name : SegName) (o : Option (Segment R)) (old new : List (ListOf R)) : Type 0 where
   pub at : (t : SegName) → by_name new t ≡ (if is_name name t then o else by_name old t)
 
--- a list has a new segment at its end that holds the value, with the next number as its name
+-- a maker's list got one more segment at its end, which holds the value and has the list's old
+-- length as its number
 pub record IsLengthened (R maker value : ℕ) (name : SegName) (old new : ListOf R) : Type 0 where
   pub name_is : name ≡ record { maker = maker; n = length old.items }
   pub below : length old.items < MOST_SEGMENTS
@@ -60,11 +63,11 @@ pub record IsLengthened (R maker value : ℕ) (name : SegName) (old new : ListOf
 -- the lists of a fresh space: the root is there, fresh, and no other segment
 pub record IsFresh {R : ℕ} (makers : List (ListOf R)) : Type 0 where
   pub segment : Segment R
-  pub fresh_parts : (q : Place) → part segment q ≡ fresh R q
+  pub fresh_parts : (q : Place) → part segment q ≡ fresh_segment R q
   pub at : (t : SegName) → by_name makers t ≡ (if is_name root t then Some segment else None)
 
 -- there is just one segment, and it is fresh
 pub record IsFreshAlone {R : ℕ} (list : List (Segment R)) : Type 0 where
   pub segment : Segment R
-  pub fresh_parts : (q : Place) → part segment q ≡ fresh R q
+  pub fresh_parts : (q : Place) → part segment q ≡ fresh_segment R q
   pub alone : list ≡ segment ∷ []

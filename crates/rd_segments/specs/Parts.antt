@@ -9,23 +9,23 @@ use Rattle.rd_segments.specs.declared.array.ArrayParts.{ArrayParts}
 use Rattle.rd_segments.specs.Lists.{ListOf, by_name, part_of, segments_by}
 use Rattle.rd_segments.specs.SpaceFields.{contents_by}
 
--- the parts of one maker's list
+-- the type of the parts of one maker's list, an element for each segment
 abbrev pub PartsOf : ℕ → Type 0
 PartsOf R = Vec (SegmentParts R) Global
 
--- what a segment with these words, if there is one, has at a place
+-- the content of each place of a segment with these words, or none if there is no segment
 abbrev pub part_of_parts : {R : ℕ} → Option (SegmentParts R) → Contents
 part_of_parts None p = None
 part_of_parts (Some s) p = part_from s p
 
--- what a space of these parts has at each place
+-- the content of each place of a space that is put together from these parts
 abbrev pub contents_of_parts : {R : ℕ} → List (PartsOf R) → SegName → SegName → ArrayParts → Contents
 contents_of_parts makers = contents_by (segments_by (λ n. part_of_parts (by_name makers n)))
 
--- whether a test holds of each segment
+-- whether a test holds of each segment of each maker's list
 abbrev pub each_segment : {R : ℕ} → (SegmentParts R → Bool) → List (PartsOf R) → Bool
 each_segment test makers = list_all (λ list. list_all test list.items) makers
 
--- the list has the segments with these words, in their order
+-- the list has the segments that these parts describe, in their order
 pub record IsOfParts {R : ℕ} (parts : PartsOf R) (list : ListOf R) : Type 0 where
   pub at : (n : ℕ) (q : Place) → part_of (slice_get list.items n) q ≡ part_of_parts (slice_get parts.items n) q

@@ -7,11 +7,11 @@ use Rattle.rd_segments.specs.Lists.{count}
 use Rattle.rd_segments.specs.Room.{spare}
 use Rattle.rd_segments.specs.SpaceFields.{contents_of}
 
--- what is at each place
+-- the content of each place of the space
 abbrev pub contents : {R : ℕ} → Space R → Contents
 contents s = contents_of s.makers.items s.qhead s.qtail s.array
 
--- for how many makers there are lists
+-- the number of makers that have a list
 abbrev pub lists : {R : ℕ} → Space R → ℕ
 lists s = length s.makers.items
 
@@ -19,19 +19,19 @@ lists s = length s.makers.items
 abbrev pub making_count : {R : ℕ} → Space R → ℕ → ℕ
 making_count s m = count s.makers.items m
 
--- how many makings of a maker can't be refused for memory
+-- how many more segments a maker can make without memory being asked for
 abbrev pub room : {R : ℕ} → Space R → ℕ → ℕ
 room s m = spare s.makers.items m
 
--- how many lists of makers there is room for: what no call but a constructor changes
+-- how many makers' lists there is room for; only a constructor changes it
 abbrev pub capacity : {R : ℕ} → Space R → ℕ
 capacity s = vec_capacity s.makers
 
--- the name at the queue's head
+-- the name of the segment at the queue's head
 abbrev pub head_name : {R : ℕ} → Space R → SegName
 head_name s = s.qhead
 
--- the name at the queue's tail
+-- the name of the segment at the queue's tail
 abbrev pub tail_name : {R : ℕ} → Space R → SegName
 tail_name s = s.qtail
 

@@ -24,7 +24,7 @@ pub struct ArrayParts {
 impl ArrayParts {
     ghost use Rattle.rd_segments.specs.Array.{array_part, fresh_array};
 
-    /// A fresh array: both counters are 0, and every slot is empty.
+    /// Returns a fresh array: both counters are 0, and every slot is empty.
     pub fn fresh() -> ArrayParts
         ensures { array_part result ≡ fresh_array }
     {
@@ -35,21 +35,21 @@ impl ArrayParts {
         }
     }
 
-    /// Whether the array is as a fresh one.
+    /// Whether the array equals a fresh one.
     pub(crate) fn is_fresh(&self) -> bool
         ensures { IsTrue result ↔ (array_part self.now ≡ fresh_array) }
     {
         self.has_fresh_counters() && are_empty(&self.cells)
     }
 
-    /// Whether both counters are 0.
+    /// Whether both of the array's counters are 0.
     fn has_fresh_counters(&self) -> bool
         ensures { IsTrue result ↔ ((self.now.head ≡ 0) × (self.now.tail ≡ 0)) }
     {
         self.head == 0 && self.tail == 0
     }
 
-    /// What is at a place of the array; none if it has no such place.
+    /// Returns the content at a place of the array; none if it has no such place.
     pub(crate) fn content(&self, place: Place) -> Option<Content>
         ensures { result ≡ array_part self.now place }
     {
@@ -64,7 +64,7 @@ impl ArrayParts {
         }
     }
 
-    /// Does an operation at a place of the array.
+    /// Does an operation at a place of the array, and returns what it did.
     ///
     /// # Errors
     ///
@@ -89,8 +89,8 @@ impl ArrayParts {
         }
     }
 
-    /// Puts the content from before back at a place of the array: the inverse of a fetch-and-add
-    /// and of a swap.
+    /// Puts an old content back at a place of the array: the inverse of a fetch-and-add and of a
+    /// swap.
     pub(crate) fn restore(&mut self, place: Place, content: Content)
         requires there { IsTrue (is_some (array_part self.old place)) }
         requires kind { IsTrue (can_hold place content) }
@@ -119,7 +119,8 @@ fn is_empty(slot: &ArrSlot) -> bool
     *slot == ArrSlot::Empty
 }
 
-/// Does an operation on a counter of the array: a read or a fetch-and-add.
+/// Does an operation on a counter of the array, a read or a fetch-and-add, and returns what it did;
+/// refused as `operate` is.
 fn operate_on_counter(
     counter: &mut u64,
     place: Place,
@@ -144,7 +145,8 @@ fn operate_on_counter(
     }
 }
 
-/// Does an operation on a slot of the array: a swap.
+/// Does an operation on a slot of the array, a swap, and returns what it did; any other operation
+/// is refused with `NoSuchPlace`.
 fn operate_on_slot(slot: &mut ArrSlot, place: Place, operation: Operation) -> Result<Done, Refusal>
     ensures ok { IfOk result (λ done. OperatesOn place operation done (Slot slot.old) (Slot slot.new)) }
     ensures err { IfErr result (λ e. operate place operation (Some (Slot slot.old)) ≡ Err e) }

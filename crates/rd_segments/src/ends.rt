@@ -5,7 +5,8 @@ ghost use Rattle.rd_ring.specs.Prelude.{Name, operate, OperatesOn};
 
 use rd_cell::{Answer, Content, Done, Operation, Place, Refusal, SegName, Wrote};
 
-/// Does an operation at one of the queue's ends: a read or a compare-and-swap of its name.
+/// Does an operation at one of the queue's ends, a read or a compare-and-swap of its name, and
+/// returns what it did.
 ///
 /// # Errors
 ///

@@ -11,7 +11,7 @@ use rd_cell::{Content, Done, Operation, Place, Refusal, SegName};
 use rd_ring::Segment;
 use std::alloc::AllocError;
 
-/// The segment of this name, if it is there.
+/// Returns the segment of this name, or none if it is not there.
 pub fn find<const R: usize>(makers: &Vec<Vec<Segment<R>>>, name: SegName) -> Option<&Segment<R>>
     requires { R ≤ MOST_CELLS }
     ensures { MatchOption result (by_name makers.now.items name ≡ None) (λ s. by_name makers.now.items name ≡ Some s.now) }
@@ -22,7 +22,8 @@ pub fn find<const R: usize>(makers: &Vec<Vec<Segment<R>>>, name: SegName) -> Opt
     }
 }
 
-/// Does an operation on the segment of this name, which is there.
+/// Does an operation on the segment of this name, which must be there, and returns what it did;
+/// refused as `Segment::operate` is.
 pub fn operate_in<const R: usize>(
     makers: &mut Vec<Vec<Segment<R>>>,
     name: SegName,
@@ -43,7 +44,7 @@ pub fn operate_in<const R: usize>(
     makers[usize::from(name.maker)][name.n as usize].operate(place, operation)
 }
 
-/// Puts the content from before back at a place of the segment of this name, which is there.
+/// Puts an old content back at a place of the segment of this name, which must be there.
 pub fn restore_in<const R: usize>(
     makers: &mut Vec<Vec<Segment<R>>>,
     name: SegName,
@@ -62,7 +63,7 @@ pub fn restore_in<const R: usize>(
     makers[usize::from(name.maker)][name.n as usize].restore(place, content);
 }
 
-/// Makes the maker's next segment, which holds this value.
+/// Makes the maker's next segment, which holds this value, and returns its name.
 ///
 /// # Errors
 ///
@@ -88,7 +89,8 @@ pub fn make_in<const R: usize>(
     make_next(&mut makers[usize::from(maker)], maker, value)
 }
 
-/// Makes the next segment of one maker's list.
+/// Makes the next segment at the end of one maker's list, and returns its name; refused as
+/// `make_in` is.
 fn make_next<const R: usize>(
     list: &mut Vec<Segment<R>>,
     maker: u8,
@@ -124,7 +126,7 @@ pub fn unmake_in<const R: usize>(makers: &mut Vec<Vec<Segment<R>>>, maker: u8)
     take_last(&mut makers[usize::from(maker)]);
 }
 
-/// Takes the last segment of one maker's list away.
+/// Removes the last segment of one maker's list.
 fn take_last<const R: usize>(list: &mut Vec<Segment<R>>)
     requires small { R ≤ MOST_CELLS }
     requires has_one { 0 < length list.old.items }
@@ -134,7 +136,7 @@ fn take_last<const R: usize>(list: &mut Vec<Segment<R>>)
     let _last = list.pop();
 }
 
-/// Makes room for this many makings of the maker.
+/// Makes room for this many more segments of the maker.
 ///
 /// # Errors
 ///
@@ -157,7 +159,7 @@ pub fn make_room_in<const R: usize>(
     reserve(&mut makers[usize::from(maker)], more)
 }
 
-/// Gives one maker's list room for this many segments.
+/// Gives one maker's list room for this many more segments, or fails if the growth was refused.
 fn reserve<const R: usize>(list: &mut Vec<Segment<R>>, more: usize) -> Result<(), AllocError>
     requires { R ≤ MOST_CELLS }
     ensures ok { OnOk result (more ≤ vec_capacity list.new - vec_len list.new) }

@@ -8,8 +8,8 @@ ghost use Rattle.rd_segments.specs.Lists.{IsFresh, IsFreshAlone};
 use rd_ring::Segment;
 use std::alloc::{AllocError, Global};
 
-/// A list for each maker from 0 to the number of actors: maker 0's has the root, fresh, and the
-/// others are empty.
+/// Returns a list for each maker from 0 to the number of actors: that of maker 0 has the root,
+/// fresh, and the others are empty.
 ///
 /// # Errors
 ///
@@ -32,7 +32,7 @@ pub fn first_lists<const R: usize>(
     Ok(makers)
 }
 
-/// Whether the root is there, fresh, and no other segment.
+/// Whether these are the lists of a fresh space: the root is there, fresh, and no other segment.
 pub fn are_fresh<const R: usize>(makers: &[Vec<Segment<R>>]) -> bool
     requires { R ≤ MOST_CELLS }
     ensures { IsTrue result ↔ IsFresh makers.now }
@@ -43,7 +43,7 @@ pub fn are_fresh<const R: usize>(makers: &[Vec<Segment<R>>]) -> bool
     }
 }
 
-/// Whether there is just one segment, and it is fresh.
+/// Whether the list has just one segment, and that is fresh.
 fn is_fresh_alone<const R: usize>(list: &[Segment<R>]) -> bool
     requires { R ≤ MOST_CELLS }
     ensures { IsTrue result ↔ IsFreshAlone list.now }

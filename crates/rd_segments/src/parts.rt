@@ -10,7 +10,7 @@ ghost use Rattle.rd_segments.specs.Parts.{part_of_parts, each_segment, IsOfParts
 use rd_ring::{Segment, SegmentParts};
 use std::alloc::{AllocError, Global};
 
-/// The makers' lists with the segments of these parts.
+/// Returns the makers' lists with the segments that these parts describe.
 ///
 /// # Errors
 ///
@@ -32,7 +32,8 @@ pub fn lists_from_parts<const R: usize>(
     Ok(makers)
 }
 
-/// One maker's list with the segments of these parts.
+/// Returns one maker's list with the segments that these parts describe; fails only if the room for
+/// it was refused.
 fn list_from_parts<const R: usize>(
     alloc: Global,
     parts: &Vec<SegmentParts<R>>,
@@ -48,7 +49,7 @@ fn list_from_parts<const R: usize>(
     Ok(list)
 }
 
-/// The parts of the makers' lists.
+/// Returns the parts of the makers' lists, from which `lists_from_parts` makes them again.
 ///
 /// # Errors
 ///
@@ -69,7 +70,7 @@ pub fn parts_of_lists<const R: usize>(
     Ok(parts)
 }
 
-/// The parts of one maker's list.
+/// Returns the parts of one maker's list; fails only if the room for them was refused.
 fn parts_of_list<const R: usize>(
     alloc: Global,
     list: &Vec<Segment<R>>,

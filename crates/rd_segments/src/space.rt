@@ -34,8 +34,8 @@ pub struct Space<const R: usize> {
 impl<const R: usize> Space<R> {
     ghost use Rattle.rd_segments.specs.Space.{contents, lists, making_count, room, capacity, head_name, tail_name, array_words};
 
-    /// A fresh space for this many actors: the root is there, fresh, and the queue's two ends name
-    /// it, and the array is fresh.
+    /// Returns a fresh space for this many actors: the root is there and fresh, the queue's two
+    /// ends name it, and the array is fresh.
     ///
     /// # Errors
     ///
@@ -55,11 +55,11 @@ impl<const R: usize> Space<R> {
         })
     }
 
-    /// Whether each place has what it has in a fresh space.
+    /// Whether each place has the content that it has in a fresh space.
     pub fn is_fresh(&self) -> bool
         ensures { IsTrue result ↔ (contents self.now ≡ fresh_space R) }
     {
-        self.has_fresh_ends() && self.is_fresh_inside()
+        self.has_fresh_ends() && self.has_fresh_array_and_root()
     }
 
     /// Whether both of the queue's ends name the root.
@@ -69,15 +69,15 @@ impl<const R: usize> Space<R> {
         self.qhead == SegName::ROOT && self.qtail == SegName::ROOT
     }
 
-    /// Whether the array is fresh, and the root, which is the only segment.
-    fn is_fresh_inside(&self) -> bool
+    /// Whether the array is fresh, and the only segment is the root, fresh too.
+    fn has_fresh_array_and_root(&self) -> bool
         ensures { IsTrue result ↔ ((array_part self.now.array ≡ fresh_array) × IsFresh self.now.makers.items) }
     {
         self.array.is_fresh() && are_fresh(&self.makers)
     }
 
-    /// The space of these parts: element m of `segments` has maker m's segments, in the order of
-    /// their making.
+    /// Returns the space of these parts: element m of `segments` has maker m's segments, in the
+    /// order of their making.
     ///
     /// # Errors
     ///
@@ -104,8 +104,8 @@ impl<const R: usize> Space<R> {
         })
     }
 
-    /// The parts of the segments by their makers: the space is put together again from these, the
-    /// names at the queue's ends and the array.
+    /// Returns the parts of the segments by their makers. From these, the names at the queue's ends
+    /// and the array, `from_parts` puts the space together again.
     ///
     /// # Errors
     ///
@@ -117,29 +117,29 @@ impl<const R: usize> Space<R> {
         parts_of_lists(alloc, &self.makers)
     }
 
-    /// The name at the queue's head.
+    /// Returns the name of the segment at the queue's head.
     pub fn qhead(&self) -> SegName
         ensures { result ≡ head_name self.now }
     {
         self.qhead
     }
 
-    /// The name at the queue's tail.
+    /// Returns the name of the segment at the queue's tail.
     pub fn qtail(&self) -> SegName
         ensures { result ≡ tail_name self.now }
     {
         self.qtail
     }
 
-    /// The words of the array.
+    /// Returns the words of the array.
     pub fn array(&self) -> ArrayParts
         ensures { result ≡ array_words self.now }
     {
         self.array
     }
 
-    /// What is at a place, or none if it is not there. A cell has what its halves have together,
-    /// and the whole of a segment that is there has `Whole`.
+    /// Returns the content at a place, or none if the place is not there. A cell has what its
+    /// halves have together, and the whole of a segment that is there has `Whole`.
     pub fn content(&self, place: Place) -> Option<Content>
         ensures { result ≡ content_at (contents self.now) place }
     {
@@ -163,7 +163,7 @@ impl<const R: usize> Space<R> {
         }
     }
 
-    /// Does an operation at a place.
+    /// Does an operation at a place, and returns what it did.
     ///
     /// # Errors
     ///
@@ -195,7 +195,7 @@ impl<const R: usize> Space<R> {
         }
     }
 
-    /// Makes the maker's next segment, which holds this value.
+    /// Makes the maker's next segment, which holds this value, and returns its name.
     ///
     /// # Errors
     ///
@@ -227,7 +227,7 @@ impl<const R: usize> Space<R> {
         unmake_in(&mut self.makers, maker);
     }
 
-    /// Puts the content from before back at a place that is there.
+    /// Puts an old content back at a place that is there.
     pub fn restore(&mut self, place: Place, content: Content)
         requires there { IsTrue (is_some (operand (contents self.old) place)) }
         requires kind { IsTrue (can_hold place content) }
@@ -245,7 +245,7 @@ impl<const R: usize> Space<R> {
         }
     }
 
-    /// Gives a maker room for this many makings, which are then not refused for memory.
+    /// Gives a maker room for this many more segments, whose making is then not refused for memory.
     ///
     /// # Errors
     ///

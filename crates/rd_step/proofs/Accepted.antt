@@ -13,7 +13,7 @@ use Rattle.rd_actor.specs.Words.{words_fit}
 use Rattle.rd_step.specs.declared.parts.Parts.{Parts}
 use Rattle.rd_step.specs.declared.flaws.Flaw.{Flaw}
 use Rattle.rd_step.specs.declared.flaws.Flaw.TheVariants.{Makers, PlaceNames, ActorNames, Counters, Indexes, ArrayCounters, ActorNumbers, ActorWords}
-use Rattle.rd_step.specs.Fields.{actor_at}
+use Rattle.rd_step.specs.Lists.{numbered}
 use Rattle.rd_step.specs.WellFormed.{Presence, place_fits, next_fits, names_fit, numbers_fit, record_fits, actor_fits, is_actor, IsNumbered, AreMade, IsWellFormed}
 use Rattle.rd_step.specs.Parts.{world_of_parts, has, makers_fit, place_names_fit, actor_names_fit, indexes_fit, array_fits, first_flaw}
 use Rattle.rd_step.proofs.Assembled.{NoFlaw, within, presence, numbered_below, assembled, lists_right}
@@ -69,12 +69,12 @@ each_from test makers h =
 
 -- How many actors and segments there are
 
-few_actors : (xs : List Actor) → IsNumbered (is_actor (actor_at xs)) → length xs ≤ MOST_ACTORS
+few_actors : (xs : List Actor) → IsNumbered (is_actor (numbered xs)) → length xs ≤ MOST_ACTORS
 few_actors [] by_number = omega arith
 few_actors (x ∷ xs) by_number = by_number.to_most (suc (length xs)) (in_list (x ∷ xs) (length xs) (omega arith))
 
 -- the root is there, and a second segment without a maker is not
-one_root : {R : ℕ} (p : Parts R) → AreMade (is_actor (actor_at p.actors.items)) (has p) → count p.segments.items 0 ≡ 1
+one_root : {R : ℕ} (p : Parts R) → AreMade (is_actor (numbered p.actors.items)) (has p) → count p.segments.items 0 ≡ 1
 one_root p made =
     let some = numbered_below (slice_get p.segments.items 0) 0 made.rooted in
     elim (cases_lt 1 (count p.segments.items 0)) [
@@ -84,27 +84,27 @@ one_root p made =
     ]
 
 -- a maker's list has no segment of number 65,535
-few_made : {R : ℕ} (p : Parts R) → AreMade (is_actor (actor_at p.actors.items)) (has p) → (m : ℕ) → count p.segments.items m ≤ MOST_SEGMENTS
+few_made : {R : ℕ} (p : Parts R) → AreMade (is_actor (numbered p.actors.items)) (has p) → (m : ℕ) → count p.segments.items m ≤ MOST_SEGMENTS
 few_made p made zero = let e = one_root p made in omega arith
 few_made p made (suc m) =
     elim (cases_lt MOST_SEGMENTS (count p.segments.items (suc m))) [
       | inl more ↦
           let there = numbered_there (slice_get p.segments.items (suc m)) MOST_SEGMENTS more in
           let fits = made.makers (record { maker = suc m; n = MOST_SEGMENTS }) there in
-          let below = ltb-true MOST_SEGMENTS MOST_SEGMENTS (and_parts (is_actor (actor_at p.actors.items) (suc m)) (nat_lt MOST_SEGMENTS MOST_SEGMENTS) fits).1 in
+          let below = ltb-true MOST_SEGMENTS MOST_SEGMENTS (and_parts (is_actor (numbered p.actors.items) (suc m)) (nat_lt MOST_SEGMENTS MOST_SEGMENTS) fits).1 in
           absurd (omega arith)
       | inr few ↦ few
     ]
 
-few_segments : {R : ℕ} (p : Parts R) → AreMade (is_actor (actor_at p.actors.items)) (has p) → (m : ℕ) (list : PartsOf R)
+few_segments : {R : ℕ} (p : Parts R) → AreMade (is_actor (numbered p.actors.items)) (has p) → (m : ℕ) (list : PartsOf R)
     → slice_get p.segments.items m ≡ Some list → nat_le (length list.items) MOST_SEGMENTS ≡ true
 few_segments {R} p made m list e =
     le-leb (length list.items) MOST_SEGMENTS (subst (λ (o : Option (PartsOf R)). count_in o ≤ MOST_SEGMENTS) e (few_made p made m))
 
 -- What is there fits
 
-segments_made : {R : ℕ} (p : Parts R) → IsWellFormed R (world_of_parts p) → AreMade (is_actor (actor_at p.actors.items)) (has p)
-segments_made p formed = subst (AreMade (is_actor (actor_at p.actors.items))) (presence p) formed.made
+segments_made : {R : ℕ} (p : Parts R) → IsWellFormed R (world_of_parts p) → AreMade (is_actor (numbered p.actors.items)) (has p)
+segments_made p formed = subst (AreMade (is_actor (numbered p.actors.items))) (presence p) formed.made
 
 contents_fit : (R : ℕ) (p : Parts R) → IsWellFormed R (world_of_parts p) → (q : Place) → place_fits R (has p) q ((world_of_parts p).at q) ≡ true
 contents_fit R p formed q =

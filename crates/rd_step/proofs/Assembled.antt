@@ -16,7 +16,8 @@ use Rattle.rd_actor.specs.declared.actors.Actor.{Actor}
 use Rattle.rd_actor.specs.Words.{words_fit}
 use Rattle.rd_step.specs.declared.parts.Parts.{Parts}
 use Rattle.rd_step.specs.declared.flaws.Flaw.{Flaw}
-use Rattle.rd_step.specs.Fields.{actor_at, world_of_fields}
+use Rattle.rd_step.specs.Fields.{world_of_fields}
+use Rattle.rd_step.specs.Lists.{numbered}
 use Rattle.rd_step.specs.WellFormed.{Presence, belongs, place_fits, next_fits, names_fit, numbers_fit, actor_fits, is_actor, maker_fits, IsNumbered, AreMade, IsWellFormed}
 use Rattle.rd_step.specs.Parts.{world_of_parts, has, makers_fit, place_names_fit, actor_names_fit, indexes_fit, array_fits, first_flaw}
 
@@ -105,7 +106,7 @@ each_at test makers t s h there = each_in test makers t.maker t.n (slice_get mak
 pub within : {X : Type 0} (xs : List X) (n : ℕ) → is_some (slice_get xs n) ≡ true → n < length xs
 within xs n h = elim (cases_lt n (length xs)) [ inl lt ↦ lt | inr past ↦ absurd (cc (ap is_some (slice_get_past xs n past), h)) ]
 
-actors_numbered : (xs : List Actor) → 1 ≤ length xs → length xs ≤ MOST_ACTORS → IsNumbered (is_actor (actor_at xs))
+actors_numbered : (xs : List Actor) → 1 ≤ length xs → length xs ≤ MOST_ACTORS → IsNumbered (is_actor (numbered xs))
 actors_numbered xs some few = record {
   first = in_list xs 0 (omega arith);
   from_one = refl;
@@ -113,7 +114,7 @@ actors_numbered xs some few = record {
   no_gap = λ n h. let k = within xs (suc n) h in in_list xs n (omega arith);
 }
   where
-    to_most : (n : ℕ) → is_actor (actor_at xs) n ≡ true → n ≤ MOST_ACTORS
+    to_most : (n : ℕ) → is_actor (numbered xs) n ≡ true → n ≤ MOST_ACTORS
     to_most zero h = omega arith
     to_most (suc n) h = let k = within xs n h in omega arith
 
@@ -140,7 +141,7 @@ has_list makers m n h =
     elim (cases_lt m (length makers))
     [ inl lt ↦ lt | inr past ↦ absurd (cc (ap (λ o. is_some (by_number o n)) (slice_get_past makers m past), h)) ]
 
-segments_made : {R : ℕ} (p : Parts R) → NoFlaw p → AreMade (is_actor (actor_at p.actors.items)) (has p)
+segments_made : {R : ℕ} (p : Parts R) → NoFlaw p → AreMade (is_actor (numbered p.actors.items)) (has p)
 segments_made p f = record {
   rooted = numbered_there (slice_get p.segments.items 0) 0 (let e = eqb-true (count p.segments.items 0) 1 f.one_root in omega arith);
   makers = λ s h. maker s.maker s.n h;
@@ -149,7 +150,7 @@ segments_made p f = record {
       numbered_there (slice_get p.segments.items m) n (omega arith);
 }
   where
-    maker : (m n : ℕ) → is_some (by_number (slice_get p.segments.items m) n) ≡ true → maker_fits (is_actor (actor_at p.actors.items)) m n ≡ true
+    maker : (m n : ℕ) → is_some (by_number (slice_get p.segments.items m) n) ≡ true → maker_fits (is_actor (numbered p.actors.items)) m n ≡ true
     maker zero n h =
         let e = eqb-true (count p.segments.items 0) 1 f.one_root in
         let k = numbered_below (slice_get p.segments.items 0) n h in
@@ -275,7 +276,7 @@ one_fits R p n (Some a) f e =
     (and_from (names_fit (has p) a) (numbers_fit R a) (all_at (names_fit (has p)) p.actors.items n a f.names e) (all_at (numbers_fit R) p.actors.items n a f.numbers e))
     (all_at words_fit p.actors.items n a f.words e)
 
-actors_fit : (R : ℕ) (p : Parts R) → NoFlaw p → (n : ℕ) → actor_fits R (has p) (actor_at p.actors.items n) ≡ true
+actors_fit : (R : ℕ) (p : Parts R) → NoFlaw p → (n : ℕ) → actor_fits R (has p) (numbered p.actors.items n) ≡ true
 actors_fit R p f zero = refl
 actors_fit R p f (suc n) = one_fits R p n (slice_get p.actors.items n) f refl
 
@@ -286,10 +287,10 @@ assembled R p h =
     record {
       numbered =
           actors_numbered p.actors.items (leb-true 1 (length p.actors.items) f.some_actors) (leb-true (length p.actors.items) MOST_ACTORS f.few_actors);
-      made = subst (AreMade (is_actor (actor_at p.actors.items))) same (segments_made p f);
+      made = subst (AreMade (is_actor (numbered p.actors.items))) same (segments_made p f);
       places = λ q. places_belong p q ∙ ap (λ (there : Presence). belongs R there q) same;
       contents = λ q. subst (λ (there : Presence). place_fits R there q ((world_of_parts p).at q) ≡ true) same (contents_fit R p f q);
-      actors = λ n. subst (λ (there : Presence). actor_fits R there (actor_at p.actors.items n) ≡ true) same (actors_fit R p f n);
+      actors = λ n. subst (λ (there : Presence). actor_fits R there (numbered p.actors.items n) ≡ true) same (actors_fit R p f n);
     }
 
 pub lists_right : {R : ℕ} (p : Parts R) → first_flaw p ≡ None → length p.segments.items ≡ suc (length p.actors.items)
@@ -298,4 +299,4 @@ lists_right p h = eqb-true (length p.segments.items) (suc (length p.actors.items
 -- a space that has what the parts have, with their actors, is their world
 pub parts_make : {R : ℕ} (p : Parts R) (space : Space R) → contents space ≡ contents_of_parts p.segments.items p.qhead p.qtail p.array
     → world_of_fields space p.actors.items ≡ world_of_parts p
-parts_make p space same = λ i. record { at = same i; actor = actor_at p.actors.items }
+parts_make p space same = λ i. record { at = same i; actor = numbered p.actors.items }

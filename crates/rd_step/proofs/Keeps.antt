@@ -53,7 +53,7 @@ effect_left_fits R there at p c f q fits was = by f.writes fits
 
 -- a step that makes no segment keeps the world well-formed, if what it writes and the actor's next
 -- record fit
-pub keeps_by : (R : ℕ) (w : World) (n : ℕ) (a next : Actor) (p : Place) (c : Content) (f : Effect)
+keeps_by : (R : ℕ) (w : World) (n : ℕ) (a next : Actor) (p : Place) (c : Content) (f : Effect)
     → IsWellFormed R w → w.actor n ≡ Some a → operand w.at p ≡ Some c
     → IfSome f.writes (λ d. content_fits R (is_there w.at) p d ≡ true) → record_fits R (is_there w.at) next ≡ true
     → IsWellFormed R (record { at = contents_after (effect_at p c f) w.at; actor = with_actor n next w.actor })

@@ -10,7 +10,8 @@ use Rattle.rd_actor.specs.Table.{need, after}
 use Rattle.rd_step.specs.World.{World}
 use Rattle.rd_step.specs.declared.entries.Entry.{Entry}
 use Rattle.rd_step.specs.Step.{Stepped, with_actor, step}
-use Rattle.rd_step.specs.Fields.{actor_at, world_of_fields}
+use Rattle.rd_step.specs.Fields.{world_of_fields}
+use Rattle.rd_step.specs.Lists.{numbered}
 use Rattle.rd_step.specs.Room.{makes, makes_segment, IsRefused}
 use Rattle.rd_step.specs.WellFormed.{IsWellFormed}
 use Rattle.rd_step.proofs.Keeps.{keeps}
@@ -63,12 +64,12 @@ pub record IsMadeAgain (R : ℕ) (old new : Space R) (xs ys : List Actor) (x : E
 
 made_again : (R : ℕ) (old new : Space R) (xs ys : List Actor) (v : World) (x : Entry) (next : Actor × Option OpReply)
     → IsWellFormed R (world_of_fields old xs) → step R (world_of_fields old xs) x.event ≡ Ok (record { world = v; entry = x })
-    → next ≡ after R x.old_actor x.event.act x.answer → actor_at ys ≡ with_actor x.event.actor next.0 (actor_at xs)
+    → next ≡ after R x.old_actor x.event.act x.answer → numbered ys ≡ with_actor x.event.actor next.0 (numbered xs)
     → v.at ≡ contents new → IsMadeAgain R old new xs ys x
 made_again R old new xs ys v x next formed h goes_on actors places =
     let l = leaves R (world_of_fields old xs) v x h in
-    let words : v.actor ≡ actor_at ys =
-    l.actors ∙ sym (ap (λ (n : Actor × Option OpReply). with_actor x.event.actor n.0 (actor_at xs)) goes_on) ∙ sym actors in
+    let words : v.actor ≡ numbered ys =
+    l.actors ∙ sym (ap (λ (n : Actor × Option OpReply). with_actor x.event.actor n.0 (numbered xs)) goes_on) ∙ sym actors in
     let same : v ≡ world_of_fields new ys = λ i. record { at = places i; actor = words i } in
     record {
       goes = h ∙ ap (λ (w : World). Ok (record { world = w; entry = x })) same;
@@ -78,7 +79,7 @@ made_again R old new xs ys v x next formed h goes_on actors places =
 -- a step that only read is made again by its actor's words alone
 pub read_again : (R : ℕ) (space : Space R) (xs ys : List Actor) (v : World) (x : Entry) (next : Actor × Option OpReply)
     → IsWellFormed R (world_of_fields space xs) → step R (world_of_fields space xs) x.event ≡ Ok (record { world = v; entry = x })
-    → next ≡ after R x.old_actor x.event.act x.answer → actor_at ys ≡ with_actor x.event.actor next.0 (actor_at xs)
+    → next ≡ after R x.old_actor x.event.act x.answer → numbered ys ≡ with_actor x.event.actor next.0 (numbered xs)
     → is_nothing x.wrote ≡ true → IsMadeAgain R space space xs ys x
 read_again R space xs ys v x next formed h goes_on actors reads =
     made_again R space space xs ys v x next formed h goes_on actors
@@ -88,7 +89,7 @@ read_again R space xs ys v x next formed h goes_on actors reads =
 pub access_again : (R : ℕ) (old new : Space R) (xs ys : List Actor) (v : World) (x : Entry) (next : Actor × Option OpReply) (access : Access) (r : Result Done Refusal)
     → IsWellFormed R (world_of_fields old xs) → step R (world_of_fields old xs) x.event ≡ Ok (record { world = v; entry = x })
     → (IsTrue (makes_segment R (world_of_fields old xs) x.event) → 1 ≤ room old x.event.actor)
-    → next ≡ after R x.old_actor x.event.act x.answer → actor_at ys ≡ with_actor x.event.actor next.0 (actor_at xs)
+    → next ≡ after R x.old_actor x.event.act x.answer → numbered ys ≡ with_actor x.event.actor next.0 (numbered xs)
     → need R x.old_actor x.event.act ≡ Ok access
     → IfOk r (λ done. HasEffect everywhere (perform R x.event.actor (contents old) access) done (contents old) (contents new))
     → IfErr r (λ e. IsRefused (perform R x.event.actor (contents old) access) (makes access) (room old x.event.actor) e) → IsMadeAgain R old new xs ys x

@@ -18,7 +18,7 @@ use Rattle.rd_actor.specs.declared.actors.OpReply.TheVariants.{Empty}
 use Rattle.rd_actor.specs.declared.actors.Pc.{Pc}
 use Rattle.rd_actor.specs.declared.actors.Pc.TheVariants.{Idle, E1, E2, E3, E4, E5, E6, E7, E8, E9, E10, E11, E12, E13, E14, Q1, Q2, Q3, Q4, Q5, Q6, Q7, Q8, Q9, Q10, Q11, Q12, Q13, Q14, A1, A2, B1, B2, B3}
 use Rattle.rd_actor.specs.Actors.{idle}
-use Rattle.rd_actor.specs.Table.{need, need_at, need_call, need_choice, with_pc, value_of, cell_of, pc_after_empty_pass, after_take, after_swap_in, after_swap_out, after_at, after}
+use Rattle.rd_actor.specs.Table.{need, need_at, need_call, need_choice, with_pc, value_to_put, cell_with, pc_after_empty_pass, after_take, after_swap_in, after_swap_out, after_at, after}
 use Rattle.rd_actor.specs.Words.{pass_fits, array_enqueues, array_dequeues, words_fit_at}
 use Rattle.rd_step.specs.World.{World}
 use Rattle.rd_step.specs.declared.entries.Event.{Event}
@@ -136,7 +136,7 @@ row_leads R there E4 a w = λ c h. tail_kind R there a.crq (λ (x : Content). Go
 row_leads R there E5 a w = λ c h. value_kind R there a.crq (a.t % R) (λ (x : Content). Goes R E5 a (effect ReadValue x)) (λ x e. cc) c h
 row_leads R there E6 a w = λ c h. index_kind R there a.crq (a.t % R) (λ (x : Content). Goes R E6 a (effect ReadSafeAndIndex x)) (λ safe idx. other (is_none a.val && nat_le idx a.t) (if safe then E8 else E7) E9 E6 (other safe E8 E7 E6 (λ e. cc) (λ e. cc)) (λ e. cc)) c h
 row_leads R there E7 a w = λ c h. head_kind R there a.crq (λ (x : Content). Goes R E7 a (effect Read x)) (λ g. other (nat_le g a.t) E8 E9 E7 (λ e. cc) (λ e. cc)) c h
-row_leads R there E8 a w = λ c h. cell_kind R there a.crq (a.t % R) (λ (x : Content). Goes R E8 a (effect (Cas2 (cell_of a.safe a.idx None) (cell_of true a.t (Some (value_of a.op)))) x)) (λ x. swaps_lead R E8 a _ _ (λ e. cc) (λ e. cc)) c h
+row_leads R there E8 a w = λ c h. cell_kind R there a.crq (a.t % R) (λ (x : Content). Goes R E8 a (effect (Cas2 (cell_with a.safe a.idx None) (cell_with true a.t (Some (value_to_put a.op)))) x)) (λ x. swaps_lead R E8 a _ _ (λ e. cc) (λ e. cc)) c h
 row_leads R there E9 a w = λ c h. head_kind R there a.crq (λ (x : Content). Goes R E9 a (effect Read x)) (λ g. other (nat_le (g + R) a.t) E11 E10 E9 (λ e. cc) (λ e. cc)) c h
 row_leads R there E10 a w = tt
 row_leads R there E11 a w = λ c h. tail_kind R there a.crq (λ (x : Content). Goes R E11 a (effect Close x)) (λ closed n e. cc) c h
@@ -147,9 +147,9 @@ row_leads R there Q1 a w = λ c h. end_kind R there (λ (x : Content). Goes R Q1
 row_leads R there Q2 a w = λ c h. head_kind R there a.crq (λ (x : Content). Goes R Q2 a (effect Add x)) (λ g. adds_lead R Q2 a COUNTER_END g (Number g) (Number (g + 1)) (λ e. cc)) c h
 row_leads R there Q3 a w = λ c h. value_kind R there a.crq (a.h % R) (λ (x : Content). Goes R Q3 a (effect ReadValue x)) (λ x e. cc) c h
 row_leads R there Q4 a w = λ c h. index_kind R there a.crq (a.h % R) (λ (x : Content). Goes R Q4 a (effect ReadSafeAndIndex x)) (λ safe idx. other (nat_lt a.h idx) Q8 (if is_some a.val then (if idx == a.h then Q5 else Q6) else Q7) Q4 (λ e. cc) (other (is_some a.val) (if idx == a.h then Q5 else Q6) Q7 Q4 (other (idx == a.h) Q5 Q6 Q4 (λ e. cc) (λ e. cc)) (λ e. cc))) c h
-row_leads R there Q5 a w = λ c h. cell_kind R there a.crq (a.h % R) (λ (x : Content). Goes R Q5 a (effect (Cas2 (cell_of a.safe a.idx a.val) (cell_of a.safe (a.h + R) None)) x)) (λ x. swaps_lead R Q5 a (is_cell x (cell_of a.safe a.idx a.val)) (CellIs (cell_of a.safe (a.h + R) None)) (take_leads a a.val (and_parts (pass_fits a) (is_some a.val) (and_parts (pass_fits a && is_some a.val) (a.idx == a.h) w).0).1) (λ e. cc)) c h
-row_leads R there Q6 a w = λ c h. cell_kind R there a.crq (a.h % R) (λ (x : Content). Goes R Q6 a (effect (Cas2 (cell_of a.safe a.idx a.val) (cell_of false a.idx a.val)) x)) (λ x. swaps_lead R Q6 a (is_cell x (cell_of a.safe a.idx a.val)) (CellIs (cell_of false a.idx a.val)) (λ e. cc) (λ e. cc)) c h
-row_leads R there Q7 a w = λ c h. cell_kind R there a.crq (a.h % R) (λ (x : Content). Goes R Q7 a (effect (Cas2 (cell_of a.safe a.idx None) (cell_of a.safe (a.h + R) None)) x)) (λ x. swaps_lead R Q7 a (is_cell x (cell_of a.safe a.idx None)) (CellIs (cell_of a.safe (a.h + R) None)) (λ e. cc) (λ e. cc)) c h
+row_leads R there Q5 a w = λ c h. cell_kind R there a.crq (a.h % R) (λ (x : Content). Goes R Q5 a (effect (Cas2 (cell_with a.safe a.idx a.val) (cell_with a.safe (a.h + R) None)) x)) (λ x. swaps_lead R Q5 a (is_cell x (cell_with a.safe a.idx a.val)) (CellIs (cell_with a.safe (a.h + R) None)) (take_leads a a.val (and_parts (pass_fits a) (is_some a.val) (and_parts (pass_fits a && is_some a.val) (a.idx == a.h) w).0).1) (λ e. cc)) c h
+row_leads R there Q6 a w = λ c h. cell_kind R there a.crq (a.h % R) (λ (x : Content). Goes R Q6 a (effect (Cas2 (cell_with a.safe a.idx a.val) (cell_with false a.idx a.val)) x)) (λ x. swaps_lead R Q6 a (is_cell x (cell_with a.safe a.idx a.val)) (CellIs (cell_with false a.idx a.val)) (λ e. cc) (λ e. cc)) c h
+row_leads R there Q7 a w = λ c h. cell_kind R there a.crq (a.h % R) (λ (x : Content). Goes R Q7 a (effect (Cas2 (cell_with a.safe a.idx None) (cell_with a.safe (a.h + R) None)) x)) (λ x. swaps_lead R Q7 a (is_cell x (cell_with a.safe a.idx None)) (CellIs (cell_with a.safe (a.h + R) None)) (λ e. cc) (λ e. cc)) c h
 row_leads R there Q8 a w = λ c h. tail_kind R there a.crq (λ (x : Content). Goes R Q8 a (effect Read x)) (λ closed n. other (nat_le n (a.h + 1)) Q9 Q2 Q8 (λ e. cc) (λ e. cc)) c h
 row_leads R there Q9 a w = λ c h. tail_kind R there a.crq (λ (x : Content). Goes R Q9 a (effect Read x)) (λ closed n e. cc) c h
 row_leads R there Q10 a w = λ c h. head_kind R there a.crq (λ (x : Content). Goes R Q10 a (effect Read x)) (λ g e. cc) c h
@@ -158,7 +158,7 @@ row_leads R there Q12 a w = λ c h. tail_kind R there a.crq (λ (x : Content). G
 row_leads R there Q13 a w = λ c h. next_kind R there a.crq (λ (x : Content). Goes R Q13 a (effect Read x)) (λ e. cc) (λ m e. cc) c h
 row_leads R there Q14 a w = λ c h. end_kind R there (λ (x : Content). Goes R Q14 a (effect (CasName a.crq a.next) x)) (λ s. swaps_lead R Q14 a (is_name s a.crq) (Name a.next) (λ e. cc) (λ e. cc)) c h
 row_leads R there A1 a w = λ c h. array_tail_kind R there (λ (x : Content). Goes R A1 a (effect AddArray x)) (λ n. array_adds_lead R A1 a SLOTS n (Number n) (Number (n + 1)) (λ e. cc)) c h
-row_leads R there A2 a w = λ c h. slot_kind R there a.t (λ (x : Content). Goes R A2 a (effect (Swap (Held (value_of a.op))) x)) (λ slot. swap_in_leads a slot) c h
+row_leads R there A2 a w = λ c h. slot_kind R there a.t (λ (x : Content). Goes R A2 a (effect (Swap (Held (value_to_put a.op))) x)) (λ slot. swap_in_leads a slot) c h
 row_leads R there B1 a w = λ c h. array_head_kind R there (λ (x : Content). Goes R B1 a (effect AddArray x)) (λ n. array_adds_lead R B1 a SLOTS n (Number n) (Number (n + 1)) (λ e. cc)) c h
 row_leads R there B2 a w = λ c h. slot_kind R there a.h (λ (x : Content). Goes R B2 a (effect (Swap Top) x)) (λ slot. swap_out_leads a slot) c h
 row_leads R there B3 a w = λ c h. array_tail_kind R there (λ (x : Content). Goes R B3 a (effect Read x)) (λ n. cond_both (nat_le n (a.h + 1)) (idle, Some Empty) (with_pc B1 a, None) (λ (next : Actor × Option OpReply). next.0.pc ≢ B3) (λ b e. cc) (λ b e. cc)) c h

@@ -11,16 +11,17 @@ use Rattle.rd_segments.specs.Space.{contents}
 use Rattle.rd_actor.specs.declared.actors.Actor.{Actor}
 use Rattle.rd_actor.specs.Actors.{idle, poised}
 use Rattle.rd_step.specs.World.{World}
-use Rattle.rd_step.specs.Fields.{actor_at, world_of_fields}
+use Rattle.rd_step.specs.Fields.{world_of_fields}
+use Rattle.rd_step.specs.Lists.{numbered}
 use Rattle.rd_step.specs.Starts.{actors_by, fresh_world, poised_world}
 use Rattle.rd_step.specs.WellFormed.{Presence, belongs, place_fits, record_fits, actor_fits, is_actor, maker_fits, IsNumbered, AreMade, IsWellFormed}
 
 -- a list of this many actors, each with the record that its number gives
 pub list_actors : (xs : List Actor) (each : ℕ → Actor) (count : ℕ) → length xs ≡ count
-    → ((n : ℕ) → n < count → slice_get xs n ≡ Some (each (suc n))) → actor_at xs ≡ actors_by each count
+    → ((n : ℕ) → n < count → slice_get xs n ≡ Some (each (suc n))) → numbered xs ≡ actors_by each count
 list_actors xs each count len all = fun_ext same
   where
-    same : (n : ℕ) → actor_at xs n ≡ actors_by each count n
+    same : (n : ℕ) → numbered xs n ≡ actors_by each count n
     same zero = refl
     same (suc n) =
         elim (cases_lt n count) [
@@ -164,18 +165,18 @@ poised_formed R count some few = starts_well R poised count some few (λ n. pois
 pub fields_make : {R : ℕ} (space : Space R) (xs : List Actor) (each : ℕ → Actor) (count : ℕ) → contents space ≡ fresh_space R → length xs ≡ count
     → ((n : ℕ) → n < count → slice_get xs n ≡ Some (each (suc n)))
     → world_of_fields space xs ≡ record { at = fresh_space R; actor = actors_by each count }
-fields_make space xs each count fresh len all = λ i. record { at = fresh i; actor = list_actors xs each count len all i }
+fields_make space xs each count fresh_segment len all = λ i. record { at = fresh_segment i; actor = list_actors xs each count len all i }
 
 -- ---- when a world is fresh: the space is, and the actors are idle
 
-pub idle_actors : (xs : List Actor) → All (λ x. x ≡ idle) xs → actor_at xs ≡ actors_by (λ n. idle) (length xs)
+pub idle_actors : (xs : List Actor) → All (λ x. x ≡ idle) xs → numbered xs ≡ actors_by (λ n. idle) (length xs)
 idle_actors xs all = list_actors xs (λ n. idle) (length xs) refl (λ n within. slice_get-get_or xs n idle within ∙ ap Some (all n idle within))
 
 some_idle : (b : Bool) (x : Actor) → Some x ≡ (if b then Some idle else None) → x ≡ idle
 some_idle true x h = cc
 some_idle false x h = absurd (cc)
 
-pub all_idle : (xs : List Actor) (count : ℕ) → actor_at xs ≡ actors_by (λ n. idle) count → All (λ x. x ≡ idle) xs
+pub all_idle : (xs : List Actor) (count : ℕ) → numbered xs ≡ actors_by (λ n. idle) count → All (λ x. x ≡ idle) xs
 all_idle xs count e k d within =
     some_idle (nat_lt k count) (get_or xs k d) (sym (slice_get-get_or xs k d within) ∙ ap (λ (at : ℕ → Option Actor). at (suc k)) e)
 

@@ -9,7 +9,8 @@ use Rattle.rd_segments.specs.Space.{contents, lists, head_name, tail_name, array
 use Rattle.rd_segments.specs.Parts.{PartsOf, contents_of_parts}
 use Rattle.rd_step.specs.declared.parts.Parts.{Parts}
 use Rattle.rd_step.specs.World.{World}
-use Rattle.rd_step.specs.Fields.{world_of_fields, actor_at}
+use Rattle.rd_step.specs.Fields.{world_of_fields}
+use Rattle.rd_step.specs.Lists.{numbered}
 use Rattle.rd_step.specs.WellFormed.{IsWellFormed}
 use Rattle.rd_step.specs.Parts.{world_of_parts, first_flaw}
 use Rattle.rd_step.proofs.Accepted.{accepted}
@@ -34,7 +35,7 @@ world_taken segments listed qhead qtail array space actors h eh et ea =
     let at : contents_of_parts segments.items qhead qtail array ≡ contents space =
     (λ i. contents_of_parts segments.items (eh i) (et i) (ea i)) ∙ h.same
     in
-    λ i. record { at = at i; actor = actor_at (h.actors_are i) }
+    λ i. record { at = at i; actor = numbered (h.actors_are i) }
 
 -- so they have no flaw
 pub taken_unflawed : {R : ℕ} (segments : Vec (PartsOf R) Global) (listed : Vec Actor Global) (qhead qtail : SegName) (array : ArrayParts)

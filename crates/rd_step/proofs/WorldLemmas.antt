@@ -16,12 +16,13 @@ use Rattle.rd_step.specs.World.{World}
 use Rattle.rd_step.specs.declared.entries.Event.{Event}
 use Rattle.rd_step.specs.declared.entries.Entry.{Entry}
 use Rattle.rd_step.specs.Step.{Stepped, with_actor, step, step_of_actor, step_of_need, step_of_access, IsLast}
-use Rattle.rd_step.specs.Fields.{actor_at, world_of_fields, access_suits}
+use Rattle.rd_step.specs.Fields.{world_of_fields, access_suits}
+use Rattle.rd_step.specs.Lists.{numbered}
 use Rattle.rd_step.specs.Room.{makes, needs_making, actor_makes, makes_segment, IsRefused}
 use Rattle.rd_step.specs.Touched.{made_at}
 use Rattle.rd_step.specs.WellFormed.{Presence, actor_fits, record_fits, maker_fits, is_actor, IsWellFormed}
 use Rattle.rd_step.proofs.Steps.{step_of, step_refused}
-use Rattle.rd_step.proofs.Actors.{actor_at-set, actor_at-within}
+use Rattle.rd_step.proofs.Actors.{numbered-set, numbered-within}
 use Rattle.rd_step.proofs.Fits.{parts_of, words_of, op_fits, access_fits, need_fits}
 use Rattle.rd_step.proofs.Keeps.{keeps}
 use Rattle.std.proofs.lemmas.Result.{IfOk-at_ok}
@@ -103,11 +104,11 @@ made_whole _ s h = cc
 -- Actors
 
 -- the n-th actor's record in a list of actors
-pub set_record : (xs : List Actor) (n m : ℕ) (a : Actor) → m ≡ n → IsSome (actor_at xs n) → actor_at (set xs (m - 1) a) ≡ with_actor n a (actor_at xs)
+pub set_record : (xs : List Actor) (n m : ℕ) (a : Actor) → m ≡ n → IsSome (numbered xs n) → numbered (set xs (m - 1) a) ≡ with_actor n a (numbered xs)
 set_record xs zero m a e h = cc
 set_record xs (suc n) m a e h =
     let p : m - 1 ≡ n = omega arith in
-    ap (λ (k : ℕ). actor_at (set xs k a)) p ∙ actor_at-set xs n a (let l : suc n - 1 < length xs = actor_at-within xs (suc n) h in omega arith)
+    ap (λ (k : ℕ). numbered (set xs k a)) p ∙ numbered-set xs n a (let l : suc n - 1 < length xs = numbered-within xs (suc n) h in omega arith)
 
 some_at : (xs : List Actor) (n : ℕ) → n < length xs → IsSome (slice_get xs n)
 some_at [] n h = absurd (omega arith)
@@ -116,11 +117,11 @@ some_at (x ∷ xs) (suc n) h = some_at xs n (omega arith)
 
 pub actor_within : (xs : List Actor) (len : ℕ) → len ≡ length xs → (n : ℕ) → (IsSome (slice_get xs n) → n < len) × (n < len → IsSome (slice_get xs n))
 actor_within xs len e n = (
-  (λ h. let l : suc n - 1 < length xs = actor_at-within xs (suc n) h in omega arith),
+  (λ h. let l : suc n - 1 < length xs = numbered-within xs (suc n) h in omega arith),
   (λ h. let l : n < length xs = omega arith in some_at xs n l),
 )
 
-too_many : (xs : List Actor) → ((n : ℕ) → is_some (actor_at xs n) ≡ true → n ≤ MOST_ACTORS) → MOST_ACTORS < length xs → ⊥
+too_many : (xs : List Actor) → ((n : ℕ) → is_some (numbered xs n) ≡ true → n ≤ MOST_ACTORS) → MOST_ACTORS < length xs → ⊥
 too_many xs most many = let bad : suc MOST_ACTORS ≤ MOST_ACTORS = most (suc MOST_ACTORS) (some_at xs MOST_ACTORS many) in absurd (omega arith)
 
 pub few_actors : (R : ℕ) (space : Space R) (xs : List Actor) → IsWellFormed R (world_of_fields space xs) → length xs ≤ MOST_ACTORS
@@ -130,18 +131,18 @@ few_actors R space xs formed =
 -- The step
 
 -- an actor that is there has a list of segments, of 65,535 at most
-pub actor_maker : {R : ℕ} (space : Space R) (xs : List Actor) (n : ℕ) (a : Actor) → lists space ≡ suc (length xs) → actor_at xs n ≡ Some a → n < lists space
+pub actor_maker : {R : ℕ} (space : Space R) (xs : List Actor) (n : ℕ) (a : Actor) → lists space ≡ suc (length xs) → numbered xs n ≡ Some a → n < lists space
 actor_maker space xs zero a lists_are has = omega arith
 actor_maker space xs (suc n) a lists_are has =
-    let k : suc n - 1 < length xs = actor_at-within xs (suc n) (ap is_some has) in omega arith
+    let k : suc n - 1 < length xs = numbered-within xs (suc n) (ap is_some has) in omega arith
 
-pub some_maker : {R : ℕ} (space : Space R) (xs : List Actor) (n : ℕ) → lists space ≡ suc (length xs) → IsSome (actor_at xs n) → n < lists space
+pub some_maker : {R : ℕ} (space : Space R) (xs : List Actor) (n : ℕ) → lists space ≡ suc (length xs) → IsSome (numbered xs n) → n < lists space
 some_maker space xs zero lists_are h = cc
-some_maker space xs (suc n) lists_are h = let k : suc n - 1 < length xs = actor_at-within xs (suc n) h in omega arith
+some_maker space xs (suc n) lists_are h = let k : suc n - 1 < length xs = numbered-within xs (suc n) h in omega arith
 
-no_such : {R : ℕ} (space : Space R) (xs : List Actor) (n : ℕ) → maker_fits (is_actor (actor_at xs)) n MOST_SEGMENTS ≡ true → ⊥
+no_such : {R : ℕ} (space : Space R) (xs : List Actor) (n : ℕ) → maker_fits (is_actor (numbered xs)) n MOST_SEGMENTS ≡ true → ⊥
 no_such space xs zero h = absurd (cc (ne_eqb MOST_SEGMENTS 0 (λ e. absurd (omega arith)), h))
-no_such space xs (suc n) h = let k = (and_parts (is_actor (actor_at xs) (suc n)) (nat_lt MOST_SEGMENTS MOST_SEGMENTS) h).1 in let l = ltb-true MOST_SEGMENTS MOST_SEGMENTS k in absurd (omega arith)
+no_such space xs (suc n) h = let k = (and_parts (is_actor (numbered xs) (suc n)) (nat_lt MOST_SEGMENTS MOST_SEGMENTS) h).1 in let l = ltb-true MOST_SEGMENTS MOST_SEGMENTS k in absurd (omega arith)
 
 pub few_made : {R : ℕ} (space : Space R) (xs : List Actor) (n : ℕ) → IsWellFormed R (world_of_fields space xs) → making_count space n ≤ MOST_SEGMENTS
 few_made space xs n formed =
@@ -173,7 +174,7 @@ access_suited R there (Make x) h = refl
 
 -- what the need of an actor that is there says of its access
 pub need_suits : (R : ℕ) (space : Space R) (xs : List Actor) (e : Event) (a : Actor) (x : Access) → IsWellFormed R (world_of_fields space xs)
-    → actor_at xs e.actor ≡ Some a → need R a e.act ≡ Ok x → access_suits x ≡ true
+    → numbered xs e.actor ≡ Some a → need R a e.act ≡ Ok x → access_suits x ≡ true
 need_suits R space xs e a x formed has needs =
     let there = is_there (contents space) in
     let fits : record_fits R there a ≡ true = subst (λ (o : Option Actor). actor_fits R there o ≡ true) has (formed.actors e.actor) in
@@ -182,7 +183,7 @@ need_suits R space xs e a x formed has needs =
 -- what an actor of a well-formed world asks for is representable: its head position has room for
 -- the ring's size behind it, and its words fit its place
 pub representable_here : (R : ℕ) (space : Space R) (xs : List Actor) (e : Event) (a : Actor) → IsWellFormed R (world_of_fields space xs) → R ≤ MOST_CELLS
-    → actor_at xs e.actor ≡ Some a → IsRepresentable R a e.act
+    → numbered xs e.actor ≡ Some a → IsRepresentable R a e.act
 representable_here R space xs e a formed small has =
     let there = is_there (contents space) in
     let fits : record_fits R there a ≡ true = subst (λ (o : Option Actor). actor_fits R there o ≡ true) has (formed.actors e.actor) in
@@ -206,7 +207,7 @@ step_performed R w e a x has needs ok =
     done (Err y) h = h
 
 pub step_refuses : (R : ℕ) (space : Space R) (xs : List Actor) (e : Event) (a : Actor) (x : Access) (refusal : Refusal)
-    → actor_at xs e.actor ≡ Some a → need R a e.act ≡ Ok x
+    → numbered xs e.actor ≡ Some a → need R a e.act ≡ Ok x
     → IsRefused (perform R e.actor (contents space) x) (makes x) (room space e.actor) refusal
     → IsRefused (step R (world_of_fields space xs) e) (makes_segment R (world_of_fields space xs) e) (room space e.actor) refusal
 step_refuses R space xs e a x refusal has needs (inl h) = inl (step_refused R (world_of_fields space xs) e a x refusal has needs h)
@@ -216,8 +217,8 @@ step_refuses R space xs e a x refusal has needs (inr h) =
 
 -- the step that the code makes is the model's
 pub step_goes : (R : ℕ) (old new : Space R) (xs ys : List Actor) (e : Event) (a : Actor) (x : Access) (done : Done) (next : Actor × Option OpReply)
-    → actor_at xs e.actor ≡ Some a → need R a e.act ≡ Ok x → HasEffect everywhere (perform R e.actor (contents old) x) done (contents old) (contents new)
-    → next ≡ after R a e.act done.answer → actor_at ys ≡ with_actor e.actor next.0 (actor_at xs)
+    → numbered xs e.actor ≡ Some a → need R a e.act ≡ Ok x → HasEffect everywhere (perform R e.actor (contents old) x) done (contents old) (contents new)
+    → next ≡ after R a e.act done.answer → numbered ys ≡ with_actor e.actor next.0 (numbered xs)
     → step R (world_of_fields old xs) e ≡ Ok (record {
       world = world_of_fields new ys;
       entry = record { event = e; place = done.place; wrote = done.wrote; answer = done.answer; reply = next.1; old_actor = a; old_content = done.old };
@@ -228,7 +229,7 @@ step_goes R old new xs ys e a x done next has needs accesses goes actors =
     let left : contents new ≡ contents_after d (contents old) = fun_ext (λ q. accesses.leaves q refl) in
     let n : after R a e.act d.answer ≡ next = ap (λ (k : Done). after R a e.act k.answer) accesses.keeps ∙ sym goes in
     did ∙ ap Ok (λ i. record {
-      world = record { at = sym left i; actor = (ap (λ (k : Actor × Option OpReply). with_actor e.actor k.0 (actor_at xs)) n ∙ sym actors) i };
+      world = record { at = sym left i; actor = (ap (λ (k : Actor × Option OpReply). with_actor e.actor k.0 (numbered xs)) n ∙ sym actors) i };
       entry = record {
         event = e;
         place = (accesses.keeps i).place;
@@ -247,8 +248,8 @@ pub still_well_formed : (R : ℕ) (old new : Space R) (xs ys : List Actor) (e : 
     → OnErr r ((contents new ≡ contents old) × (ys ≡ xs)) → IsWellFormed R (world_of_fields new ys)
 still_well_formed R old new xs ys e (Ok entry) formed ok same = keeps R (world_of_fields old xs) e _ formed ok
 still_well_formed R old new xs ys e (Err refusal) formed ok same =
-    subst (λ (w : World). IsWellFormed R w) (λ i. record { at = sym same.0 i; actor = actor_at (sym same.1 i) }) formed
+    subst (λ (w : World). IsWellFormed R w) (λ i. record { at = sym same.0 i; actor = numbered (sym same.1 i) }) formed
 
 -- a world whose space has the same contents is the same
 pub same_world : {R : ℕ} (old new : Space R) (xs : List Actor) → contents new ≡ contents old → world_of_fields new xs ≡ world_of_fields old xs
-same_world old new xs same = λ i. record { at = same i; actor = actor_at xs }
+same_world old new xs same = λ i. record { at = same i; actor = numbered xs }

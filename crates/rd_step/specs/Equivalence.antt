@@ -7,7 +7,8 @@ use Rattle.rd_step.specs.Step.{Stepped, step}
 use Rattle.rd_step.specs.Run.{Ran, run}
 use Rattle.rd_step.specs.Dependence.{IsFree}
 
--- these events run from w, e steps after them, and its entry there depends on none of theirs
+-- the events run from w, e steps after them, and the entry that e leaves there depends on none of
+-- theirs
 pub record IsIndependentOf (R : ℕ) (w : World) (e : Event) (earlier : List Event) : Type 0 where
   pub ran : Ran
   pub runs : run R w earlier ≡ Ok ran
@@ -15,8 +16,8 @@ pub record IsIndependentOf (R : ℕ) (w : World) (e : Event) (earlier : List Eve
   pub goes : step R ran.world e ≡ Ok stepped
   pub free : IsFree stepped.entry ran.entries
 
--- e steps from w and is in the list at a position where its entry depends on no earlier one; and of
--- the list without it there, in the world after e, the last argument holds
+-- the list may begin with e: e steps from w and is in the list, where its entry depends on no
+-- earlier one; and `Rest` holds of the world after e and the list without it
 pub record MayBeginWith (R : ℕ) (w : World) (e : Event) (events : List Event) (Rest : World → List Event → Type 0) : Type 0 where
   pub earlier : List Event
   pub later : List Event
@@ -26,8 +27,9 @@ pub record MayBeginWith (R : ℕ) (w : World) (e : Event) (events : List Event) 
   pub goes : step R w e ≡ Ok stepped
   pub rest : Rest stepped.world (earlier ++ later)
 
--- two lists of events that run from w are equivalent: both are empty, or the second may begin with
--- the first one's first event, and without it there the rests are equivalent in the world after it
+-- two lists of events that run from w are causally equivalent: both are empty, or the second may
+-- begin with the first event of the first, and without that event the rests are equivalent in the
+-- world after it
 abbrev pub IsEquivalent : ℕ → World → List Event → List Event → Type 0
 IsEquivalent R w [] fs = fs ≡ []
 IsEquivalent R w (e ∷ es) fs = MayBeginWith R w e fs (λ v rest. IsEquivalent R v es rest)

@@ -1,4 +1,4 @@
--- What the laws of the machine say.
+-- What the laws of the machine state.
 use Rattle.std.specs.Prelude.{◌≡◌, ℕ, true, false, List, Some, Ok, Err}
 use Rattle.rd_ring.specs.Prelude.{Place, Content, Operation, Refusal, NoActor, NotIdle, ActorIdle, NeedsChoice, NoChoice, CounterEnd, ArrayEnd, SegmentsEnd, NoSuchPlace, some_covers, is_nothing, written, Contents, operand, effect}
 use Rattle.rd_actor.specs.declared.actors.Actor.{Actor}
@@ -10,8 +10,8 @@ use Rattle.rd_step.specs.Run.{Ran, run}
 use Rattle.rd_step.specs.Dependence.{IsFree}
 use Rattle.rd_step.specs.WellFormed.{IsWellFormed}
 
--- if e leads from w to v and then f to u, f may go first: it leaves the entry that it leaves in u,
--- e after it the entry that it leaves in v, and the two lead to the world of u
+-- the steps of e and f commute: where e leads from w to v and then f to u, f may go first, each
+-- leaves the same entry, and the two lead to the world of u
 pub record CommutingSquare (R : ℕ) (w : World) (e f : Event) (v u : Stepped) : Type 0 where
   pub first : Stepped
   pub goes_first : step R w f ≡ Ok first
@@ -21,16 +21,16 @@ pub record CommutingSquare (R : ℕ) (w : World) (e f : Event) (v u : Stepped) :
   pub entry_unchanged : second.entry ≡ v.entry
   pub same_world : second.world ≡ u.world
 
--- if e leads from w to s and the events go on to r, and none of them depends on e: without e they
--- go from w to the world with the words of e's entry put back, with the same entries, and e may go
--- last, with the same entry
+-- the step of e can be taken out of a run: where e leads from w to s, the events from there to r,
+-- and none of them depends on e, the events alone leave the same entries, they lead to the world of
+-- r with the old words of e's entry put back, and e may go last, with the same entry
 pub record IsRemovable (R : ℕ) (w : World) (e : Event) (s : Stepped) (es : List Event) (r : Ran) : Type 0 where
   pub rest : run R w es ≡ Ok (record { world = unstep r.world s.entry; entries = r.entries })
   pub again : step R (unstep r.world s.entry) e ≡ Ok (record { world = r.world; entry = s.entry })
   pub well_formed : IsWellFormed R (unstep r.world s.entry)
 
--- the entry is that of a step which was made in a run that gave this world, and no step that was
--- made after it and remains depends on it
+-- the entry x is that of a step in a run that reached this world, and no later step that remains of
+-- that run depends on it
 pub record WasStepped (R : ℕ) (now : World) (x : Entry) : Type 0 where
   pub start : World
   pub well_formed : IsWellFormed R start
@@ -44,14 +44,14 @@ pub record WasStepped (R : ℕ) (now : World) (x : Entry) : Type 0 where
   pub here : ran.world ≡ now
   pub free : IsFree x ran.entries
 
--- the later steps alone lead from the start to the world left, with their entries, and the step may
--- go last there
+-- the step of x was taken out: the later steps alone lead from the start to the world left, with
+-- their entries, and the step may go last there
 pub record IsTakenOut (R : ℕ) (now left : World) (x : Entry) (was : WasStepped R now x) : Type 0 where
   pub rest : run R was.start was.later ≡ Ok (record { world = left; entries = was.ran.entries })
   pub again : step R left was.event ≡ Ok (record { world = now; entry = x })
 
--- the refusals of a step in a well-formed world: that there is no place, or none of the right
--- content, is not among them
+-- the refusals that a step in a well-formed world may meet; that there is no place, or no content
+-- of the right kind, is not among them
 abbrev pub IsStepRefusal : Refusal → Type 0
 IsStepRefusal NoActor = Unit {0}
 IsStepRefusal NotIdle = Unit {0}
@@ -74,7 +74,7 @@ pub record SuitsContent (at : Contents) (p : Place) (op : Operation) : Type 0 wh
 abbrev pub MovesOn : Event → World → World → Type 0
 MovesOn e old new = (a b : Actor) → old.actor e.actor ≡ Some a → new.actor e.actor ≡ Some b → a.pc ≡ b.pc → ⊥
 
--- nothing changed but the places that the entry's step wrote, which are of its place, and the
+-- nothing changed except the places that the entry's step wrote, which its place covers, and the
 -- event's actor
 pub record ChangesOnly (e : Event) (x : Entry) (old new : World) : Type 0 where
   pub outside : (q : Place) → some_covers (written x.place x.wrote) q ≡ false → new.at q ≡ old.at q

@@ -1,3 +1,4 @@
+pub mod Lists
 pub mod World
 pub mod Step
 pub mod Run

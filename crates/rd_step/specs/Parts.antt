@@ -14,42 +14,43 @@ use Rattle.rd_step.specs.declared.flaws.Flaw.{Flaw}
 use Rattle.rd_step.specs.declared.flaws.Flaw.TheVariants.{Makers, PlaceNames, ActorNames, Counters, Indexes, ArrayCounters, ActorNumbers, ActorWords}
 use Rattle.rd_step.specs.declared.flaws.Unassembled.{Unassembled}
 use Rattle.rd_step.specs.declared.flaws.Unassembled.TheVariants.{Flaw as HasFlaw, NoMemory}
-use Rattle.rd_step.specs.Fields.{actor_at}
+use Rattle.rd_step.specs.Lists.{numbered}
 use Rattle.rd_step.specs.WellFormed.{Presence, next_fits, names_fit, numbers_fit}
 
--- the world that the parts are
+-- the world of the model that these parts describe
 abbrev pub world_of_parts : {R : ℕ} → Parts R → World
-world_of_parts p = record { at = contents_of_parts p.segments.items p.qhead p.qtail p.array; actor = actor_at p.actors.items }
+world_of_parts p = record { at = contents_of_parts p.segments.items p.qhead p.qtail p.array; actor = numbered p.actors.items }
 
--- which segments are there
+-- for each name, whether the parts have a segment of that name
 abbrev pub has : {R : ℕ} → Parts R → Presence
 has p s = is_some (by_name p.segments.items s)
 
--- 1: there are 1 to 16 actors, and a list of segments for each maker from 0 to their number; that
--- of maker 0 has one, the root, and each other at most 65,535
+-- condition 1: there are 1 to 16 actors, and a list of segments for each maker from 0 to their
+-- number; that of maker 0 has one segment, the root, and each other at most 65,535
 abbrev pub makers_fit : {R : ℕ} → Parts R → Bool
 makers_fit p =
     nat_le 1 (length p.actors.items) && nat_le (length p.actors.items) MOST_ACTORS
     && (length p.segments.items == suc (length p.actors.items)) && (count p.segments.items 0 == 1)
     && list_all (λ list. nat_le (length list.items) MOST_SEGMENTS) p.segments.items
 
--- 2: the queue's ends, and each next that is set, name a segment that is there
+-- condition 2: the queue's ends, and each next that is set, name a segment that is there
 abbrev pub place_names_fit : {R : ℕ} → Parts R → Bool
 place_names_fit p = has p p.qhead && has p p.qtail && each_segment (λ s. next_fits (has p) s.next) p.segments.items
 
--- 3: so do each actor's words
+-- condition 3: the segments that each actor's words name are there
 abbrev pub actor_names_fit : {R : ℕ} → Parts R → Bool
 actor_names_fit p = list_all (names_fit (has p)) p.actors.items
 
--- 5: each cell's index is at most this
+-- condition 5: each index of a segment's cells is at most `end`
 abbrev pub indexes_fit : {R : ℕ} → ℕ → SegmentParts R → Bool
 indexes_fit end s = list_all (λ c. nat_le c.idx end) s.cells
 
--- 6: the array's counters are at most 64
+-- condition 6: the array's counters are at most 64
 abbrev pub array_fits : ArrayParts → Bool
 array_fits a = nat_le a.head SLOTS && nat_le a.tail SLOTS
 
--- the first condition that fails, in this order
+-- the first condition of a well-formed world that these parts fail, in this order; none if they
+-- fail none
 abbrev pub first_flaw : {R : ℕ} → Parts R → Option Flaw
 first_flaw {R} p =
     if not (makers_fit p) then Some Makers
@@ -62,7 +63,7 @@ first_flaw {R} p =
     else if not (list_all words_fit p.actors.items) then Some ActorWords
     else None
 
--- the number of a flaw
+-- the number of a flaw, 1 to 8
 abbrev pub flaw_number : Flaw → ℕ
 flaw_number Makers = 1
 flaw_number PlaceNames = 2
@@ -73,8 +74,8 @@ flaw_number ArrayCounters = 6
 flaw_number ActorNumbers = 7
 flaw_number ActorWords = 8
 
--- no world is put together from these parts: they have this flaw first, or have none and memory was
--- refused
+-- why no world is put together from these parts: they have this flaw and none before it, or they
+-- have none and memory was refused
 abbrev pub Refuses : {R : ℕ} → Parts R → Unassembled → Type 0
 Refuses p (HasFlaw flaw) = first_flaw p ≡ Some flaw
 Refuses p NoMemory = first_flaw p ≡ None

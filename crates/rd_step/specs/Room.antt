@@ -13,12 +13,13 @@ abbrev pub makes : Access → Bool
 makes (Make x) = true
 makes _ = false
 
--- whether an actor that asks for this access, or is refused, makes a segment
+-- whether an actor that asks for this access makes a segment; not if it is refused
 abbrev pub needs_making : Result Access Refusal → Bool
 needs_making (Err e) = false
 needs_making (Ok access) = makes access
 
--- whether an actor with this record, if there is one, makes a segment by this act
+-- whether the actor with this record, if there is one, makes a segment by this act, over rings of R
+-- cells
 abbrev pub actor_makes : ℕ → Act → Option Actor → Bool
 actor_makes R act None = false
 actor_makes R act (Some a) = needs_making (need R a act)
@@ -27,11 +28,12 @@ actor_makes R act (Some a) = needs_making (need R a act)
 abbrev pub makes_segment : ℕ → World → Event → Bool
 makes_segment R w e = actor_makes R e.act (w.actor e.actor)
 
--- what does this is a making that nothing else refuses, and finds no room at its actor
+-- a step with this outcome makes a segment and is refused by nothing else, but its actor has no
+-- room
 abbrev pub FindsNoRoom : {X : Type 0} → Result X Refusal → Bool → ℕ → Type 0
 FindsNoRoom does makes room = IsOk does × IsTrue makes × (room ≡ 0)
 
--- what does this, or is refused, is refused so: as it is by itself, or for want of memory as a
--- making that finds no room
+-- a step may be refused so: the model refuses it with the same refusal, or it makes a segment, its
+-- actor has no room, and memory was refused
 abbrev pub IsRefused : {X : Type 0} → Result X Refusal → Bool → ℕ → Refusal → Type 0
 IsRefused does makes room refusal = (does ≡ Err refusal) ⊎ ((refusal ≡ NoMemory) × FindsNoRoom does makes room)

@@ -11,22 +11,23 @@ pub record Ran : Type 0 where
   pub world : World
   pub entries : List Entry
 
--- the run with this entry before its entries
+-- the run, or its refusal, with this entry put before its entries
 abbrev pub run_preceded_by : Entry → Result Ran Refusal → Result Ran Refusal
 run_preceded_by x (Err refusal) = Err refusal
 run_preceded_by x (Ok r) = Ok (record { world = r.world; entries = x ∷ r.entries })
 
--- a step, and then what goes on from the world after it
+-- a step, and then the run that `go` makes from the world after it; or the first refusal
 abbrev pub run_from_step : (World → Result Ran Refusal) → Result Stepped Refusal → Result Ran Refusal
 run_from_step go (Err refusal) = Err refusal
 run_from_step go (Ok s) = run_preceded_by s.entry (go s.world)
 
--- the run of the events from the front, or the first refusal
+-- the run of a list of events from this world, one step after another from the front, or the first
+-- refusal
 abbrev pub run : ℕ → World → List Event → Result Ran Refusal
 run R w [] = Ok (record { world = w; entries = [] })
 run R w (e ∷ es) = run_from_step (λ v. run R v es) (step R w e)
 
--- the events that these entries are of
+-- the events of these entries, in their order
 abbrev pub events : List Entry → List Event
 events entries = map (λ x. x.event) entries
 

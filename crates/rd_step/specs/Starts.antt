@@ -5,15 +5,17 @@ use Rattle.rd_actor.specs.Actors.{idle, poised}
 use Rattle.rd_segments.specs.SpaceFields.{fresh_space}
 use Rattle.rd_step.specs.World.{World}
 
--- as many actors, each with the record that its number gives
+-- this many actors, numbered from 1, each with the record that `each` gives for its number
 abbrev pub actors_by : (ℕ → Actor) → ℕ → ℕ → Option Actor
 actors_by each count zero = None
 actors_by each count (suc n) = if nat_lt n count then Some (each (suc n)) else None
 
--- the fresh world: the space is fresh, and the actors are idle
+-- the fresh world with rings of R cells and this many actors: the space is fresh, and the actors
+-- are idle
 abbrev pub fresh_world : ℕ → ℕ → World
 fresh_world R count = record { at = fresh_space R; actor = actors_by (λ n. idle) count }
 
--- the poised world: the space is fresh, and actor a is about to draw a position for the value a
+-- the poised world with rings of R cells and this many actors: the space is fresh, and actor a is
+-- about to draw a position for the value a
 abbrev pub poised_world : ℕ → ℕ → World
 poised_world R count = record { at = fresh_space R; actor = actors_by poised count }

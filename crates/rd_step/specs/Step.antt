@@ -9,17 +9,17 @@ use Rattle.rd_step.specs.World.{World}
 use Rattle.rd_step.specs.declared.entries.Event.{Event}
 use Rattle.rd_step.specs.declared.entries.Entry.{Entry}
 
--- the world after a step, and the step's entry
+-- what a step leaves: the world after it, and its entry
 pub record Stepped : Type 0 where
   pub world : World
   pub entry : Entry
 
--- the actors, with this record for the one of this number
+-- the actors, where the actor of this number has this record now
 abbrev pub with_actor : ℕ → Actor → (ℕ → Option Actor) → ℕ → Option Actor
 with_actor n a actors m = if m == n then Some a else actors m
 
--- the step of an actor with this record, whose access did this, and which goes on with this record
--- and reply
+-- the outcome of a step whose actor had this record, whose access did this, and whose actor goes on
+-- with this record and reply
 abbrev pub step_outcome : World → Event → Actor → Performed → Actor × Option OpReply → Stepped
 step_outcome w e a did next = record {
   world = record { at = contents_after did w.at; actor = with_actor e.actor next.0 w.actor };
@@ -34,23 +34,23 @@ step_outcome w e a did next = record {
   };
 }
 
--- the step of an actor with this record, whose access did this or was refused
+-- the outcome of a step whose actor has this record and whose access did this, or was refused
 abbrev pub step_of_access : ℕ → World → Event → Actor → Result Performed Refusal → Result Stepped Refusal
 step_of_access R w e a (Err refusal) = Err refusal
 step_of_access R w e a (Ok did) = Ok (step_outcome w e a did (after R a e.act did.answer))
 
--- the step of an actor with this record, which asks for this access or is refused
+-- the outcome of a step whose actor has this record and asks for this access, or is refused
 abbrev pub step_of_need : ℕ → World → Event → Actor → Result Access Refusal → Result Stepped Refusal
 step_of_need R w e a (Err refusal) = Err refusal
 step_of_need R w e a (Ok access) = step_of_access R w e a (perform R e.actor w.at access)
 
--- the step of an actor with this record, if there is one
+-- the outcome of a step whose actor has this record, if there is such an actor
 abbrev pub step_of_actor : ℕ → World → Event → Option Actor → Result Stepped Refusal
 step_of_actor R w e None = Err NoActor
 step_of_actor R w e (Some a) = step_of_need R w e a (need R a e.act)
 
--- the step: the event's actor asks for its one access, which is done at its one place, and the
--- actor goes on with the answer. All other places and actors stay
+-- the step of an event in a world: the event's actor asks for its one access, which is done at its
+-- one place, and the actor goes on with the answer. All other places and actors stay
 abbrev pub step : ℕ → World → Event → Result Stepped Refusal
 step R w e = step_of_actor R w e (w.actor e.actor)
 
@@ -60,18 +60,18 @@ pub record IsLast (at : Contents) (s : SegName) : Type 0 where
   pub made : 1 ≤ s.maker
   pub last : is_there at (record { maker = s.maker; n = s.n + 1 }) ≡ false
 
--- whether a content may be put back: at no place none, at a place that is there one that it may
--- have, and for the whole of a segment, if that is its maker's last one, that it was not there
+-- this old content may be put back: none where there is no place, a content that the place can hold
+-- where the place is there, and none at the whole of a segment that is its maker's last one
 abbrev pub CanPutBack : Contents → Option Place → Option Content → Type 0
 CanPutBack at None None = Unit {0}
 CanPutBack at (Some p) (Some c) = IsTrue (is_some (operand at p)) × IsTrue (can_hold p c)
 CanPutBack at (Some (WholeOf s)) None = IsLast at s
 CanPutBack at _ _ = ⊥
 
--- the world with this record for the actor and this content, or none, put back at the place
+-- the world with this record given to the actor, and this content, or none, put back at the place
 abbrev pub revert : World → ℕ → Actor → Option Place → Option Content → World
 revert w n a place content = record { at = restore place content w.at; actor = with_actor n a w.actor }
 
--- the world with the words put back that an entry keeps
+-- the world with the old words of an entry put back: those of its actor and of its place
 abbrev pub unstep : World → Entry → World
 unstep w x = revert w x.event.actor x.old_actor x.place x.old_content

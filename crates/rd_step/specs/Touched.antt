@@ -1,10 +1,10 @@
--- What the step of an entry touched: the segment that it made.
+-- The segment that the step of an entry made.
 use Rattle.std.specs.Prelude.{Option, Some, None}
 use Rattle.rd_ring.specs.Prelude.{SegName, Place, WholeOf, Content}
 use Rattle.rd_step.specs.declared.entries.Entry.{Entry}
 
--- the segment that was made if this content, or none, was at this place before: a whole one where
--- none was
+-- the segment that a step made if its place and that place's old content are these: a whole segment
+-- that was not there before
 abbrev pub made_at : Option Place → Option Content → Option SegName
 made_at (Some (WholeOf s)) None = Some s
 made_at _ _ = None

@@ -5,12 +5,13 @@ use Rattle.rd_actor.specs.declared.actors.Actor.{Actor}
 use Rattle.rd_actor.specs.Words.{words_fit}
 use Rattle.rd_step.specs.World.{World}
 
--- which segments are there, by name
+-- for each segment name, whether the segment is there
 abbrev pub Presence : Type 0
 Presence = SegName → Bool
 
--- which places are there: the queue's ends, those of each segment that is there, and the array's. A
--- cell and the whole of a segment are names for several places, and no places of the map
+-- whether a place belongs to a world: the queue's ends do, those of each segment that is there, and
+-- the array's. A cell and the whole of a segment are names for several places, and no places of the
+-- map
 abbrev pub belongs : ℕ → Presence → Place → Bool
 belongs R there QHead = true
 belongs R there QTail = true
@@ -46,7 +47,7 @@ content_fits R there ArrTail (Number n) = nat_le n SLOTS
 content_fits R there (ArrCell i) (Slot slot) = true
 content_fits R there _ _ = false
 
--- whether what is at a place fits it, if anything is
+-- whether the content of a place, if there is one, fits the place
 abbrev pub place_fits : ℕ → Presence → Place → Option Content → Bool
 place_fits R there p None = true
 place_fits R there p (Some c) = content_fits R there p c
@@ -55,16 +56,16 @@ place_fits R there p (Some c) = content_fits R there p c
 abbrev pub names_fit : Presence → Actor → Bool
 names_fit there a = there a.crq && there a.new && there a.next
 
--- whether an actor's positions are at most 2^62, and its index at most this
+-- whether an actor's positions are at most 2^62, and its index at most `end`
 abbrev pub numbers_within : ℕ → Actor → Bool
 numbers_within end a = nat_le a.t COUNTER_END && nat_le a.h COUNTER_END && nat_le a.idx end
 
--- whether an actor's numbers are within their ends
+-- whether an actor's positions are at most 2^62, and its index at most 2^62 + R
 abbrev pub numbers_fit : ℕ → Actor → Bool
 numbers_fit R = numbers_within (COUNTER_END + R)
 
--- whether an actor's record fits: its names, its numbers, and its words as its control point wants
--- them
+-- whether an actor's record fits the world: its names, its numbers, and its words at its control
+-- point
 abbrev pub record_fits : ℕ → Presence → Actor → Bool
 record_fits R there a = names_fit there a && numbers_fit R a && words_fit a
 
@@ -80,8 +81,8 @@ pub record IsNumbered (is_actor : ℕ → Bool) : Type 0 where
   pub to_most : (n : ℕ) → IsTrue (is_actor n) → n ≤ MOST_ACTORS
   pub no_gap : (n : ℕ) → IsTrue (is_actor (suc (suc n))) → IsTrue (is_actor (suc n))
 
--- whether a segment of this maker and number may be there: the root alone has no maker, and a maker
--- is an actor
+-- whether a segment with this maker and number may be there: the root alone has no maker, and every
+-- other maker is an actor
 abbrev pub maker_fits : (ℕ → Bool) → ℕ → ℕ → Bool
 maker_fits is_actor zero n = n == 0
 maker_fits is_actor (suc m) n = is_actor (suc m) && nat_lt n MOST_SEGMENTS
@@ -101,8 +102,8 @@ is_actor actors n = is_some (actors n)
 pub record IsWellFormed (R : ℕ) (w : World) : Type 0 where
   pub numbered : IsNumbered (is_actor w.actor)
   pub made : AreMade (is_actor w.actor) (is_there w.at)
-  -- just the places are there that belong there
+  -- exactly the places that belong to the world are there
   pub places : (p : Place) → is_some (w.at p) ≡ belongs R (is_there w.at) p
-  -- each place's content and each actor's record fit
+  -- the content of each place and the record of each actor fit
   pub contents : (p : Place) → IsTrue (place_fits R (is_there w.at) p (w.at p))
   pub actors : (n : ℕ) → IsTrue (actor_fits R (is_there w.at) (w.actor n))

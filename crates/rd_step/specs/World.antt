@@ -3,7 +3,8 @@ use Rattle.std.specs.Prelude.{ℕ, Option}
 use Rattle.rd_ring.specs.Prelude.{Contents}
 use Rattle.rd_actor.specs.declared.actors.Actor.{Actor}
 
--- a world: what is at each place, and the record of each actor by its number, if there is one
+-- a world of the model: the content of each place, and the record of each actor by its number, if
+-- there is one
 pub record World : Type 0 where
   pub at : Contents
   pub actor : ℕ → Option Actor

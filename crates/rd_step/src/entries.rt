@@ -1,5 +1,4 @@
-//! What may happen to a world, and what the journal keeps of it: a record, which says what its step
-//! touched.
+//! The event, one step of one actor, and the entry, its record, from which the journal undoes it.
 
 ghost use Rattle.std.specs.Prelude.{◌≡◌};
 ghost use Rattle.rd_cell.specs.Places.{written};
@@ -13,7 +12,7 @@ use rd_cell::{Answer, Content, Place, SegName, Wrote, written};
 pub struct Event {
     /// The actor's number, from 1.
     pub actor: u8,
-    /// What it is told to do.
+    /// What the actor is to do.
     pub act: Act,
 }
 
@@ -37,15 +36,15 @@ pub struct Entry {
 }
 
 impl Entry {
-    /// The place that names what the step wrote, or none if it only read or had no place. What the
-    /// step touched is what its own place names.
+    /// Returns the place that names what the step wrote, or none if it only read or had no place.
+    /// What the step touched is what its own place names.
     pub fn written(&self) -> Option<Place>
         ensures { result ≡ written self.now.place self.now.wrote }
     {
         written(self.place, self.wrote)
     }
 
-    /// The segment that the step made, or none if it made none.
+    /// Returns the segment that the step made, or none if it made none.
     pub fn made(&self) -> Option<SegName>
         ensures { result ≡ made self.now }
     {
@@ -53,7 +52,8 @@ impl Entry {
     }
 }
 
-/// The segment that was made if this content, or none, was at this place before.
+/// Returns the segment that a step made if its place and that place's old content are these; none
+/// if it made none.
 pub(crate) fn made_at(place: Option<Place>, old_content: Option<Content>) -> Option<SegName>
     ensures { result ≡ made_at place old_content }
 {

@@ -8,7 +8,8 @@ ghost use Rattle.rd_segments.specs.Room.{room_used, room_returned};
 ghost use Rattle.rd_actor.specs.Actors.{idle};
 ghost use Rattle.rd_segments.specs.Space.{contents, lists, making_count, room, capacity};
 ghost use Rattle.rd_step.specs.Step.{revert, with_actor, CanPutBack};
-ghost use Rattle.rd_step.specs.Fields.{world_of_fields, actor_at, access_suits};
+ghost use Rattle.rd_step.specs.Fields.{world_of_fields, access_suits};
+ghost use Rattle.rd_step.specs.Lists.{numbered};
 ghost use Rattle.rd_step.specs.Room.{makes, IsRefused};
 
 use super::entries::made_at;
@@ -25,7 +26,7 @@ pub fn revert_fields<const R: usize>(
     place: Option<Place>,
     content: Option<Content>,
 )
-    requires actor_there { IsSome (actor_at actors.old.items actor) }
+    requires actor_there { IsSome (numbered actors.old.items actor) }
     requires place_there { CanPutBack (contents space.old) place content }
     requires small { R ≤ MOST_CELLS }
     ensures done { world_of_fields space.new actors.new.items ≡ revert (world_of_fields space.old actors.old.items) actor words place content }
@@ -39,7 +40,8 @@ pub fn revert_fields<const R: usize>(
     set_actor(actors, actor, words);
 }
 
-/// Puts back the content of a place, if one is named, or takes the segment away that was made.
+/// Puts the old content back at a place, if one is named, or takes away the segment that the step
+/// made.
 fn put_back<const R: usize>(space: &mut Space<R>, place: Option<Place>, content: Option<Content>)
     requires can { CanPutBack (contents space.old) place content }
     requires small { R ≤ MOST_CELLS }
@@ -55,7 +57,7 @@ fn put_back<const R: usize>(space: &mut Space<R>, place: Option<Place>, content:
     }
 }
 
-/// Takes the segment away whose making wrote this place, the last one of its maker.
+/// Takes away the segment whose making wrote this place. It is the last one of its maker.
 fn take_away<const R: usize>(space: &mut Space<R>, place: Place)
     requires can { CanPutBack (contents space.old) (Some place) None }
     requires small { R ≤ MOST_CELLS }
@@ -69,9 +71,9 @@ fn take_away<const R: usize>(space: &mut Space<R>, place: Place)
     }
 }
 
-/// The record of the actor of this number, from 1.
+/// Returns the record of the actor of this number, from 1, or none if there is no such actor.
 pub fn actor_in(actors: &Vec<Actor>, number: u8) -> Option<Actor>
-    ensures { result ≡ actor_at actors.now.items number }
+    ensures { result ≡ numbered actors.now.items number }
 {
     if number == 0 {
         return None;
@@ -81,15 +83,15 @@ pub fn actor_in(actors: &Vec<Actor>, number: u8) -> Option<Actor>
 
 /// Gives the actor of this number another record.
 pub fn set_actor(actors: &mut Vec<Actor>, number: u8, words: Actor)
-    requires { IsSome (actor_at actors.old.items number) }
-    ensures done { actor_at actors.new.items ≡ with_actor number words (actor_at actors.old.items) }
+    requires { IsSome (numbered actors.old.items number) }
+    ensures done { numbered actors.new.items ≡ with_actor number words (numbered actors.old.items) }
     ensures number { length actors.new.items ≡ length actors.old.items }
     ensures capacity { vec_capacity actors.new ≡ vec_capacity actors.old }
 {
     actors[usize::from(number) - 1] = words;
 }
 
-/// Makes an access, for this actor.
+/// Does an access of this actor, and returns what it did; refused as the step is that makes it.
 pub fn perform<const R: usize>(
     space: &mut Space<R>,
     actor: u8,
@@ -116,7 +118,7 @@ pub fn perform<const R: usize>(
     }
 }
 
-/// What a step without an access did.
+/// Returns what a step without an access did: nothing.
 fn nothing_done() -> Done
     ensures { result ≡ record { place = None; old = None; answer = Nothing; wrote = WroteNothing } }
 {
@@ -128,7 +130,8 @@ fn nothing_done() -> Done
     }
 }
 
-/// Makes the actor's next segment, which holds this value.
+/// Makes the actor's next segment, which holds this value, and returns what that did; refused as
+/// `Space::make` is.
 fn make<const R: usize>(space: &mut Space<R>, actor: u8, value: u64) -> Result<Done, Refusal>
     requires small { R ≤ MOST_CELLS }
     requires maker_there { actor < lists space.old }
@@ -152,7 +155,8 @@ fn make<const R: usize>(space: &mut Space<R>, actor: u8, value: u64) -> Result<D
     })
 }
 
-/// Whether each of these actors is idle, and has made no step or undone all of them.
+/// Whether each of these actors is idle, because it made no step or all of its calls are over or
+/// undone.
 pub fn are_idle(actors: &[Actor]) -> bool
     ensures { IsTrue result ↔ All (λ actor. actor ≡ idle) actors.now }
 {

@@ -42,7 +42,7 @@ pub enum Flaw {
 impl Flaw {
     ghost use Rattle.rd_step.specs.Parts.{flaw_number};
 
-    /// The flaw's number, 1 to 8.
+    /// Returns the flaw's number, 1 to 8.
     pub fn number(self) -> u8
         ensures { result ≡ flaw_number self }
     {
@@ -68,7 +68,7 @@ pub enum Unassembled {
     NoMemory,
 }
 
-/// The first flaw of these parts; none if they make a well-formed world.
+/// Returns the first flaw of these parts; none if they make a well-formed world.
 pub(crate) fn first_flaw<const R: usize>(parts: &Parts<R>) -> Option<Flaw>
     requires { R ≤ MOST_CELLS }
     ensures { result ≡ first_flaw parts.now }
@@ -95,7 +95,8 @@ pub(crate) fn first_flaw<const R: usize>(parts: &Parts<R>) -> Option<Flaw>
     }
 }
 
-/// Whether there are 1 to 16 actors, and a list of as many segments as may be for each maker.
+/// Whether there are 1 to 16 actors, and for each maker a list with an allowed number of segments:
+/// one for maker 0, at most 65,535 for any other.
 fn makers_fit<const R: usize>(parts: &Parts<R>) -> bool
     requires { R ≤ MOST_CELLS }
     ensures { result ≡ makers_fit parts.now }
@@ -108,7 +109,7 @@ fn makers_fit<const R: usize>(parts: &Parts<R>) -> bool
         && lists_fit(&parts.segments)
 }
 
-/// Whether each list has as many segments as a maker may have made.
+/// Whether each list has at most as many segments as a maker may make.
 fn lists_fit<const R: usize>(makers: &[Vec<SegmentParts<R>>]) -> bool
     requires { R ≤ MOST_CELLS }
     ensures { result ≡ list_all (λ list. nat_le (length list.items) MOST_SEGMENTS) makers.now }
@@ -120,7 +121,7 @@ fn lists_fit<const R: usize>(makers: &[Vec<SegmentParts<R>>]) -> bool
     )
 }
 
-/// Whether a list has as many segments as a maker may have made.
+/// Whether a list has at most as many segments as a maker may make.
 fn few_segments<const R: usize>(list: &Vec<SegmentParts<R>>) -> bool
     ensures { result ≡ nat_le (length list.now.items) MOST_SEGMENTS }
 {
@@ -147,7 +148,7 @@ fn all_nexts_fit<const R: usize>(parts: &Parts<R>) -> bool
     )
 }
 
-/// Whether each next of a list that is set names a segment that is there.
+/// Whether, of the segments in one list, each next that is set names a segment that is there.
 fn nexts_fit<const R: usize>(parts: &Parts<R>, list: &[SegmentParts<R>]) -> bool
     ensures { result ≡ list_all (λ s. next_fits (has parts.now) s.next) list.now }
 {
@@ -168,7 +169,7 @@ fn has<const R: usize>(parts: &Parts<R>, name: SegName) -> bool
     }
 }
 
-/// Whether the segment is there that a next names, if it names one.
+/// Whether the segment that a next names is there, if it names one.
 fn next_fits<const R: usize>(parts: &Parts<R>, next: Option<SegName>) -> bool
     ensures { result ≡ next_fits (has parts.now) next }
 {
@@ -178,7 +179,7 @@ fn next_fits<const R: usize>(parts: &Parts<R>, next: Option<SegName>) -> bool
     }
 }
 
-/// Whether the segments are there that the actors' words name.
+/// Whether the segments that the actors' words name are there.
 fn actor_names_fit<const R: usize>(parts: &Parts<R>) -> bool
     requires { R ≤ MOST_CELLS }
     ensures { result ≡ actor_names_fit parts.now }
@@ -190,7 +191,7 @@ fn actor_names_fit<const R: usize>(parts: &Parts<R>) -> bool
     )
 }
 
-/// Whether the segments are there that an actor's words name.
+/// Whether the segments that an actor's words name are there.
 fn names_fit<const R: usize>(parts: &Parts<R>, actor: &Actor) -> bool
     ensures { result ≡ names_fit (has parts.now) actor.now }
 {
@@ -227,7 +228,7 @@ fn segment_counters_fit<const R: usize>(segment: &SegmentParts<R>) -> bool
     segment.head <= COUNTER_END && segment.tail <= COUNTER_END
 }
 
-/// Whether each cell's index is at most this.
+/// Whether each cell's index is at most `end`.
 fn all_indexes_fit<const R: usize>(parts: &Parts<R>, end: u64) -> bool
     requires { R ≤ MOST_CELLS }
     ensures { result ≡ each_segment (indexes_fit end) parts.now.segments.items }
@@ -239,7 +240,7 @@ fn all_indexes_fit<const R: usize>(parts: &Parts<R>, end: u64) -> bool
     )
 }
 
-/// Whether the index of each cell of each segment of a list is at most this.
+/// Whether the index of each cell of each segment of a list is at most `end`.
 fn list_indexes_fit<const R: usize>(list: &[SegmentParts<R>], end: u64) -> bool
     ensures { result ≡ list_all (indexes_fit end) list.now }
 {
@@ -250,7 +251,7 @@ fn list_indexes_fit<const R: usize>(list: &[SegmentParts<R>], end: u64) -> bool
     )
 }
 
-/// Whether the index of each cell of a segment is at most this.
+/// Whether the index of each cell of a segment is at most `end`.
 fn indexes_fit<const R: usize>(segment: &SegmentParts<R>, end: u64) -> bool
     ensures { result ≡ indexes_fit end segment.now }
 {
@@ -264,15 +265,15 @@ fn array_fits(array: &ArrayParts) -> bool
     array.head <= SLOTS as u64 && array.tail <= SLOTS as u64
 }
 
-/// Whether each actor's t and h are at most 2^62, and its idx at most this.
+/// Whether each actor's t and h are at most 2^62, and its idx at most `end`.
 fn actor_numbers_fit(actors: &[Actor], end: u64) -> bool
     ensures { result ≡ list_all (numbers_within end) actors.now }
 {
-    actors.iter().all(|actor| numbers_fit(actor, end))
+    actors.iter().all(|actor| numbers_within(actor, end))
 }
 
-/// Whether an actor's t and h are at most 2^62, and its idx at most this.
-fn numbers_fit(actor: &Actor, end: u64) -> bool
+/// Whether an actor's t and h are at most 2^62, and its idx at most `end`.
+fn numbers_within(actor: &Actor, end: u64) -> bool
     ensures { result ≡ numbers_within end actor.now }
 {
     actor.t <= COUNTER_END && actor.h <= COUNTER_END && actor.idx <= end

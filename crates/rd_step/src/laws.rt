@@ -68,9 +68,9 @@ pub fn steps_keep_worlds_well_formed()
         → IsWellFormed R s.world }
 {}
 
-/// A step in a well-formed world is refused only because there is no such actor, because its act is
-/// not one that the actor's control point takes, or at the end of a counter, of the array or of a
-/// maker's segments: never because a place is not there.
+/// A step in a well-formed world is refused only because there is no such actor, because the
+/// actor's control point does not take the act, or at the end of a counter, of the array or of a
+/// maker's segments. It is never refused because a place is not there.
 pub fn steps_are_refused_in_their_cases_alone()
     ensures { (R : ℕ) (w : Model) (e : Event) (refusal : Refusal) → 1 ≤ R → IsWellFormed R w → step R w e ≡ Err refusal → IsStepRefusal refusal }
 {}
@@ -81,21 +81,21 @@ pub fn operations_suit_their_contents()
         → w.actor n ≡ Some a → need R a act ≡ Ok (At p op) → SuitsContent w.at p op }
 {}
 
-/// A step leaves its actor at another control point: each answer that comes has its row in the
-/// table, and no row goes to itself.
+/// A step leaves its actor at another control point: the table has a row for each answer that
+/// comes, and no row leads to itself.
 pub fn steps_move_their_actors()
     ensures { (R : ℕ) (w : Model) (e : Event) (s : Stepped) → 1 ≤ R → IsWellFormed R w → step R w e ≡ Ok s → MovesOn e w s.world }
 {}
 
-/// A step changes nothing but what its entry's place covers, and its event's actor; and no place at
-/// all if it only read.
+/// A step changes nothing except what its entry's place covers and its event's actor, and no place
+/// at all if it only read.
 pub fn steps_change_one_place_and_one_actor()
     ensures { (R : ℕ) (w : Model) (e : Event) (s : Stepped) → step R w e ≡ Ok s → ChangesOnly e s.entry w s.world }
 {}
 
-/// `World::assemble` names a flaw of no well-formed world, and takes no other: parts have no flaw
-/// exactly if there is a list of segments for each maker from 0 to the number of actors, and their
-/// world is well-formed.
+/// Parts have no flaw exactly if there is a list of segments for each maker from 0 to the number of
+/// actors, and their world is well-formed. So `World::assemble` finds a flaw in no well-formed
+/// world, and accepts no other.
 pub fn parts_have_no_flaw_exactly_where_their_world_is_well_formed()
     ensures { (R : ℕ) (p : Parts R) → (first_flaw p ≡ None)
         ↔ ((length p.segments.items ≡ suc (length p.actors.items)) × IsWellFormed R (world_of_parts p)) }

@@ -45,7 +45,7 @@ impl<const R: usize> Drop for World<R> {
 impl<const R: usize> World<R> {
     ghost use Rattle.rd_step.specs.Worlds.{model, room, list_capacity, actor_capacity};
 
-    /// The fresh world: the root alone is there, fresh, and this many actors are idle.
+    /// Returns the fresh world: the root alone is there, fresh, and this many actors are idle.
     ///
     /// # Errors
     ///
@@ -69,16 +69,15 @@ impl<const R: usize> World<R> {
         })
     }
 
-    /// Whether the world is the fresh one of some number of actors, which is then the number of its
-    /// own.
+    /// Whether the world is the fresh one for its number of actors.
     pub fn is_fresh(&self) -> bool
         ensures { IsTrue result ↔ ((count : ℕ) × (model self.now ≡ fresh_world R count)) }
     {
         self.space.is_fresh() && are_idle(&self.actors)
     }
 
-    /// The poised world: the fresh world, but each actor a is about to draw a position for the
-    /// value a on the root.
+    /// Returns the poised world: the fresh one, except that each actor a is about to draw a
+    /// position for the value a on the root.
     ///
     /// # Errors
     ///
@@ -102,7 +101,7 @@ impl<const R: usize> World<R> {
         })
     }
 
-    /// The world of these parts.
+    /// Returns the world of these parts.
     ///
     /// # Errors
     ///
@@ -133,7 +132,7 @@ impl<const R: usize> World<R> {
         }
     }
 
-    /// The parts of the world, from which `assemble` puts it together again.
+    /// Returns the parts of the world, from which `assemble` puts it together again.
     ///
     /// # Errors
     ///
@@ -154,7 +153,8 @@ impl<const R: usize> World<R> {
         })
     }
 
-    /// A world like this one: the same content at each place, and the same words of each actor.
+    /// Returns a copy of this world: the same content at each place, and the same words of each
+    /// actor.
     ///
     /// # Errors
     ///
@@ -171,22 +171,22 @@ impl<const R: usize> World<R> {
         }
     }
 
-    /// What is at a place, or none if it is not there. The whole of a segment that is there has
-    /// `Whole`.
+    /// Returns the content at a place, or none if the place is not there. The whole of a segment
+    /// that is there has `Whole`.
     pub fn content(&self, place: Place) -> Option<Content>
         ensures { result ≡ content_at (model self.now).at place }
     {
         self.space.content(place)
     }
 
-    /// The words of the actor of this number, or none if there is no such actor.
+    /// Returns the words of the actor of this number, or none if there is no such actor.
     pub fn actor(&self, number: u8) -> Option<Actor>
         ensures { result ≡ (model self.now).actor number }
     {
         actor_in(&self.actors, number)
     }
 
-    /// The number of actors, 1 to 16.
+    /// Returns the number of actors, 1 to 16.
     pub fn actors(&self) -> u8
         ensures some { 1 ≤ result }
         ensures within { result ≤ MOST_ACTORS }
@@ -195,8 +195,8 @@ impl<const R: usize> World<R> {
         self.actors.len() as u8
     }
 
-    /// Makes one event happen: the plain step of its actor. Only a step that makes a segment takes
-    /// memory, for its maker alone, and none if the maker has room.
+    /// Does one event, the plain step of its actor, and returns the step's entry. Only a step that
+    /// makes a segment takes memory, for its maker alone, and none if the maker has room.
     ///
     /// # Errors
     ///
@@ -235,9 +235,10 @@ impl<const R: usize> World<R> {
         })
     }
 
-    /// Makes the step of an entry again, which is known to leave this entry: its access, if that
-    /// wrote anything, and the words with which its actor goes on by the answer that the entry
-    /// keeps. No entry is written. A making isn't refused, since its maker must have room.
+    /// Makes the step of an entry again, where it is known that the step leaves just this entry.
+    /// Its access is done again if it wrote anything, and its actor goes on with the answer that
+    /// the entry keeps. No entry is written. A making isn't refused, since its maker must have
+    /// room.
     pub fn step_again(&mut self, entry: &Entry)
         requires goes { (after : Model) × (step R (model self.old) entry.now.event ≡ Ok (record { world = after; entry = entry.now })) }
         requires room { IsTrue (makes_segment R (model self.old) entry.now.event) → 1 ≤ room self.old entry.now.event.actor }
@@ -288,8 +289,9 @@ impl<const R: usize> World<R> {
         );
     }
 
-    /// Gives an actor room for this many makings, which are then not refused for memory: a making
-    /// uses the room of one, taking one away gives it back, and no other call lessens it.
+    /// Gives an actor room for this many more segments, whose making is then not refused for
+    /// memory. A making uses the room of one, taking a segment away gives it back, and no other
+    /// call lessens it.
     ///
     /// # Errors
     ///

@@ -25,7 +25,7 @@ use Rattle.rd_actor.proofs.PointLemmas.{same_point}
 use Rattle.rd_step.specs.Prelude.{World, Refusal, MOST_ACTORS}
 use Rattle.rd_step.specs.declared.entries.Event.{Event}
 use Rattle.rd_step.specs.Starts.{fresh_world}
-use Rattle.rd_step.specs.Fields.{actor_at}
+use Rattle.rd_step.specs.Lists.{numbered}
 use Rattle.rd_step.specs.Parts.{world_of_parts, first_flaw, indexes_fit, array_fits}
 use Rattle.rd_step.specs.WellFormed.{next_fits, names_fit, numbers_fit}
 use Rattle.rd_step.specs.declared.parts.Parts.{Parts}
@@ -34,7 +34,7 @@ use Rattle.rd_step.specs.declared.flaws.Flaw.TheVariants.{Makers, PlaceNames, Ac
 use Rattle.rd_marks.specs.Names.{bytes_of}
 use Rattle.rd_marks.specs.Books.{Mark, BookState}
 use Rattle.rd_marks.specs.Rules.{GoThrough, MarksGoThrough}
-use Rattle.rd_trace.specs.Numbers.{member_count, number_at, list_at}
+use Rattle.rd_trace.specs.Numbers.{member_count, number_at, items_at}
 use Rattle.rd_trace.specs.Spelled.{Gives, SpellEachAt}
 use Rattle.rd_trace.specs.Events.{event_of}
 use Rattle.rd_trace.specs.Actors.{IsActor}
@@ -156,7 +156,7 @@ same_segments R d v w h k = same_each_at IsSegment (same_segment R) (as_array d)
 
 same_makers : (R : ℕ) (d : Data) (vs ws : List (Vec (SegmentParts R) Global)) → SpellEachAt IsSegmentList (codes "segments") d vs → SpellEachAt IsSegmentList (codes "segments") d ws
     → map items vs ≡ map items ws
-same_makers R d vs ws h k = same_seen_at IsSegmentList items (same_segments R) (list_at (codes "segments") d) vs ws h k
+same_makers R d vs ws h k = same_seen_at IsSegmentList items (same_segments R) (items_at (codes "segments") d) vs ws h k
 
 -- ---- what is seen of the makers' lists: their elements
 
@@ -172,9 +172,9 @@ counted : {X : Type 0} (o : Option (Vec X Global)) → count_in o ≡ count_of (
 counted None = refl
 counted (Some v) = refl
 
-numbered : {X : Type 0} (o : Option (Vec X Global)) (n : ℕ) → by_number o n ≡ one_of (option_map items o) n
-numbered None n = refl
-numbered (Some v) n = refl
+one_by_number : {X : Type 0} (o : Option (Vec X Global)) (n : ℕ) → by_number o n ≡ one_of (option_map items o) n
+one_by_number None n = refl
+one_by_number (Some v) n = refl
 
 module _ {X : Type 0} (vs ws : List (Vec X Global)) (same : map items vs ≡ map items ws) where
   same_length : length vs ≡ length ws
@@ -190,7 +190,7 @@ module _ {X : Type 0} (vs ws : List (Vec X Global)) (same : map items vs ≡ map
   same_count m = counted (slice_get vs m) ∙ ap count_of (same_at m) ∙ sym (counted (slice_get ws m))
 
   same_name : (s : SegName) → by_name vs s ≡ by_name ws s
-  same_name s = numbered (slice_get vs s.maker) s.n ∙ ap (λ o. one_of o s.n) (same_at s.maker) ∙ sym (numbered (slice_get ws s.maker) s.n)
+  same_name s = one_by_number (slice_get vs s.maker) s.n ∙ ap (λ o. one_of o s.n) (same_at s.maker) ∙ sym (one_by_number (slice_get ws s.maker) s.n)
 
 -- ---- starts
 
@@ -231,7 +231,7 @@ module _ (R : ℕ) (d : Data) (p q : Parts R) (h : IsParts d p) (k : IsParts d q
   one_world : world_of_parts p ≡ world_of_parts q
   one_world = λ i. record {
     at = contents_by (segments_by (λ n. part_of_parts (names_same n i))) (qhead_same i) (qtail_same i) (array_same i);
-    actor = actor_at (actors_same i);
+    actor = numbered (actors_same i);
   }
 
   one_flaw : first_flaw p ≡ first_flaw q
@@ -255,7 +255,7 @@ one_start R d (OfParts p) (OfParts q) h k = (one_flaw R d p q h k, one_world R d
 -- ---- bookmarks
 
 same_events : (key : List ℕ) (d : Data) (es fs : List Event) → SpellEachAt (Gives event_of) key d es → SpellEachAt (Gives event_of) key d fs → es ≡ fs
-same_events key d es fs h k = same_each_at (Gives event_of) (one_given event_of) (list_at key d) es fs h k
+same_events key d es fs h k = same_each_at (Gives event_of) (one_given event_of) (items_at key d) es fs h k
 
 same_mark : (d : Data) (m n : Mark) → IsMark d m → IsMark d n → seen_mark m ≡ seen_mark n
 same_mark d m n h k =
@@ -292,7 +292,7 @@ module _ (R : ℕ) (d : Data) (t u : Trace R) where
       record {
         flaw = start.0;
         world = start.1;
-        marks = same_seen_at IsMark seen_mark same_mark (list_at (codes "marks") d) t.marks u.marks (h.marks.0, h.marks.1, h.marks.2.each) (k.marks.0, k.marks.1, k.marks.2.each);
+        marks = same_seen_at IsMark seen_mark same_mark (items_at (codes "marks") d) t.marks u.marks (h.marks.0, h.marks.1, h.marks.2.each) (k.marks.0, k.marks.1, k.marks.2.each);
         live = same_events (codes "events") d t.live u.live h.live k.live;
         undone = same_events (codes "undone") d t.undone u.undone h.undone k.undone;
       }

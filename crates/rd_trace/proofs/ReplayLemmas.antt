@@ -22,7 +22,7 @@ use Rattle.rd_marks.specs.NameBytes.{MOST_MARKS}
 use Rattle.rd_marks.specs.Names.{bytes_of, same_name}
 use Rattle.rd_marks.specs.Books.{Mark, BookState, with_session, with_marks, marked_events, mark}
 use Rattle.rd_marks.specs.Commands.{event, Answered, event_answer, move_answer, Happened, IsObeyed}
-use Rattle.rd_marks.specs.Events.{event_of}
+use Rattle.rd_marks.specs.Events.{as_event}
 use Rattle.rd_marks.specs.Rules.{GoThrough, MarksGoThrough, HaveDifferentNames}
 use Rattle.rd_trace.specs.declared.bookmarks.SavedMark.{SavedMark}
 use Rattle.rd_trace.specs.declared.faults.LoadTraceFault.{LoadTraceFault}
@@ -220,7 +220,7 @@ all_of R old new es i all h = all_stepped R old new es (subst (λ (done : List E
 -- Commands
 
 -- what a command that is an event is answered
-pub event_happened : (R : ℕ) (b : BookState) (command : Command) (e : Event) (a : Answered) → event_of command ≡ Some e → IsObeyed R b command a → Happened R b e a
+pub event_happened : (R : ℕ) (b : BookState) (command : Command) (e : Event) (a : Answered) → as_event command ≡ Some e → IsObeyed R b command a → Happened R b e a
 event_happened R b (Enq actor value) e a h obeyed = let same : event actor (CallsEnq value) ≡ e = cc in subst (λ (f : Event). Happened R b f a) same obeyed
 event_happened R b (Deq actor) e a h obeyed = let same : event actor CallsDeq ≡ e = cc in subst (λ (f : Event). Happened R b f a) same obeyed
 event_happened R b (ArrayEnq actor value) e a h obeyed = let same : event actor (CallsArrayEnq value) ≡ e = cc in subst (λ (f : Event). Happened R b f a) same obeyed

@@ -8,7 +8,8 @@ use Rattle.rd_step.specs.Run.{Ran, run_entries}
 use Rattle.rd_step.specs.declared.entries.Entry.{Entry}
 use Rattle.rd_step.specs.declared.entries.Event.{Event}
 use Rattle.rd_journal.specs.Journal.{Journal, IsRun, start_of, events}
-use Rattle.rd_journal.specs.State.{State, state_of, event_at}
+use Rattle.rd_journal.specs.State.{State, state_of}
+use Rattle.rd_step.specs.Lists.{numbered}
 use Rattle.rd_journal.proofs.RedoneLast.{one_run}
 use Rattle.rd_marks.specs.Books.{BookState}
 use Rattle.rd_marks.specs.Rules.{GoThrough, KeepsRules}
@@ -106,8 +107,8 @@ event_there (x ∷ es) zero within none = none x refl
 event_there (x ∷ es) (suc k) within none = event_there es k (omega (arith, within)) none
 
 module _ (es : List Event) (k n : ℕ) (next : n ≡ suc k) where
-  pub undone_next : (e : Event) → event_at es n ≡ Some e → take n es ≡ take k es ++ e ∷ []
-  undone_next e found = ap (λ m. take m es) next ∙ event_next es k e (sym (ap (event_at es) next) ∙ found)
+  pub undone_next : (e : Event) → numbered es n ≡ Some e → take n es ≡ take k es ++ e ∷ []
+  undone_next e found = ap (λ m. take m es) next ∙ event_next es k e (sym (ap (numbered es) next) ∙ found)
 
-  pub some_undone : k < length es → ((e : Event) → event_at es n ≡ Some e → ⊥) → ⊥
-  some_undone within none = event_there es k within (λ e h. none e (ap (event_at es) next ∙ h))
+  pub some_undone : k < length es → ((e : Event) → numbered es n ≡ Some e → ⊥) → ⊥
+  some_undone within none = event_there es k within (λ e h. none e (ap (numbered es) next ∙ h))

@@ -7,7 +7,7 @@ use Rattle.std.proofs.lemmas.List.{take_more, drop_more, take-append-drop}
 use Rattle.serde_json.specs.Data.{Data, Items, no_items, item}
 use Rattle.serde_json.specs.View.{view, items_view}
 use Rattle.serde_json.specs.declared.value.Value.{Value}
-use Rattle.rd_trace.specs.Numbers.{list_at}
+use Rattle.rd_trace.specs.Numbers.{items_at}
 use Rattle.rd_trace.specs.Spelled.{Reads, itself, elements, Gives, SpellEach, SpellEachAt, items_by, AreSpelled}
 use Rattle.rd_trace.specs.declared.faults.FormFault.{FormFault}
 use Rattle.rd_trace.specs.declared.faults.FormFault.TheVariants.{NoMemory, BadForm}
@@ -146,7 +146,7 @@ module _ {X : Type 0} (Spells : Data → X → Type 0) (one : (d : Data) (x y : 
   same_each_at o xs ys h k = sym (map-id xs) ∙ same_seen_at Spells itself one o xs ys h k ∙ map-id ys
 
 -- what is read of the list at a key
-pub list_read : {X : Type 0} (Spells : Data → X → Type 0) (key : List ℕ) (d : Data) (ds : Items) → list_at key d ≡ Some ds → (r : Result (Vec X Global) FormFault)
+pub list_read : {X : Type 0} (Spells : Data → X → Type 0) (key : List ℕ) (d : Data) (ds : Items) → items_at key d ≡ Some ds → (r : Result (Vec X Global) FormFault)
     → Reads elements (SpellEach Spells ds) r → Reads elements (SpellEachAt Spells key d) r
 list_read Spells key d ds there (Ok v) h = (ds, there, h)
 list_read Spells key d ds there (Err NoMemory) h = tt

@@ -9,7 +9,8 @@ use Rattle.rd_actor.specs.Labels.{label}
 use Rattle.rd_trace.specs.Numbers.{whole_number, member_count, number_at, byte_at, bit_at, text_at}
 use Rattle.rd_trace.specs.Names.{name_at, name_data}
 
--- the value of a cell or of an actor, or that there is none
+-- the value that a cell or an actor has by this JSON value, or that it has none; none if the JSON
+-- value is of another form
 abbrev pub value_of : Data → Option (Option ℕ)
 value_of null = Some None
 value_of (boolean b) = None
@@ -18,31 +19,33 @@ value_of (string s) = None
 value_of (array ds) = None
 value_of (object ms) = None
 
+-- the JSON value of a value, or of none
 abbrev pub value_data : Option ℕ → Data
 value_data None = null
 value_data (Some x) = number (unsigned x)
 
--- the call that a word alone says
+-- the call that a word spells without a number
 abbrev pub short_op : List ℕ → Option (Option Op)
 short_op word =
     if bytes_eq word (codes "deq") then Some (Some Deq)
     else if bytes_eq word (codes "adeq") then Some (Some ADeq)
     else None
 
--- the call that a word and a number say
+-- the call that a word and a number spell
 abbrev pub long_op : List ℕ → ℕ → Option (Option Op)
 long_op word x =
     if bytes_eq word (codes "enq") then Some (Some (Enq x))
     else if bytes_eq word (codes "aenq") then Some (Some (AEnq x))
     else None
 
+-- the call that the items of a list spell: a word, or a word and a number
 abbrev pub op_of_items : Items → Option (Option Op)
 op_of_items no_items = None
 op_of_items (item word no_items) = option_and_then short_op (as_str word)
 op_of_items (item word (item d no_items)) = option_and_then (λ w. option_and_then (long_op w) (whole_number d)) (as_str word)
 op_of_items (item word (item d (item more rest))) = None
 
--- the call that a value spells, or that there is none
+-- the call that a value spells, or that there is no call; none if it spells neither
 abbrev pub op_of : Data → Option (Option Op)
 op_of null = Some None
 op_of (boolean b) = None
@@ -51,6 +54,7 @@ op_of (string s) = None
 op_of (array ds) = op_of_items ds
 op_of (object ms) = None
 
+-- the value as which a call, or none, is written
 abbrev pub op_data : Option Op → Data
 op_data None = null
 op_data (Some (Enq x)) = array (item (string (codes "enq")) (item (number (unsigned x)) no_items))
@@ -58,7 +62,7 @@ op_data (Some Deq) = array (item (string (codes "deq")) no_items)
 op_data (Some (AEnq x)) = array (item (string (codes "aenq")) (item (number (unsigned x)) no_items))
 op_data (Some ADeq) = array (item (string (codes "adeq")) no_items)
 
--- a value is an object of twelve members, one for each word of the actor, and so of no other
+-- a value spells an actor: it is an object of just twelve members, one for each word of the actor
 pub record IsActor (d : Data) (a : Actor) : Type 0 where
   pub members : member_count d ≡ Some 12
   pub closed : bit_at (codes "closed") d ≡ Some a.closed
@@ -74,7 +78,7 @@ pub record IsActor (d : Data) (a : Actor) : Type 0 where
   pub t : number_at (codes "t") d ≡ Some a.t
   pub val : option_and_then value_of (get (codes "val") d) ≡ Some a.val
 
--- the value that an actor is written as
+-- the value as which an actor is written
 abbrev pub actor_data : Actor → Data
 actor_data a = object (
     member (codes "closed") (boolean a.closed)

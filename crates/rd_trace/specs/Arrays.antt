@@ -9,7 +9,7 @@ use Rattle.rd_segments.specs.declared.array.ArrayParts.{ArrayParts}
 use Rattle.rd_trace.specs.Numbers.{whole_number, member_count, number_at}
 use Rattle.rd_trace.specs.Spelled.{Gives, SpellEachAt, items_by}
 
--- what a value says of a slot that isn't empty
+-- the content that a value spells of a slot that isn't empty
 abbrev pub slot_content : Data → Option ArrSlot
 slot_content null = None
 slot_content (boolean b) = None
@@ -18,6 +18,7 @@ slot_content (string s) = if bytes_eq s (codes "top") then Some Top else None
 slot_content (array ds) = None
 slot_content (object ms) = None
 
+-- the position and the slot that the items of a list spell
 abbrev pub slot_of_items : Items → Option (ℕ × ArrSlot)
 slot_of_items no_items = None
 slot_of_items (item i no_items) = None
@@ -28,22 +29,22 @@ slot_of_items (item i (item s (item more rest))) = None
 abbrev pub slot_of : Data → Option (ℕ × ArrSlot)
 slot_of d = option_and_then slot_of_items (as_array d)
 
--- the slots that aren't empty with their positions, the first one standing at this position
+-- the slots that aren't empty, each with its position, where the first slot is at position i
 abbrev pub filled_slots : ℕ → List ArrSlot → List (ℕ × ArrSlot)
 filled_slots i [] = []
 filled_slots i (Empty ∷ slots) = filled_slots (suc i) slots
 filled_slots i (Top ∷ slots) = (i, Top) ∷ filled_slots (suc i) slots
 filled_slots i (Value x ∷ slots) = (i, Value x) ∷ filled_slots (suc i) slots
 
--- a value is an object of three members: the counters, and the slots that aren't empty, their
--- positions rising
+-- a value spells the array: it is an object of three members, the two counters, and the slots that
+-- aren't empty by ascending positions
 pub record IsArray (d : Data) (a : ArrayParts) : Type 0 where
   pub members : member_count d ≡ Some 3
   pub cells : SpellEachAt (Gives slot_of) (codes "cells") d (filled_slots 0 a.cells)
   pub head : number_at (codes "head") d ≡ Some a.head
   pub tail : number_at (codes "tail") d ≡ Some a.tail
 
--- what is said of a slot, which isn't empty where it is written
+-- the value as which the content of a slot is written; empty slots are not written
 abbrev pub content_data : ArrSlot → Data
 content_data Empty = null
 content_data Top = string (codes "top")
@@ -53,7 +54,7 @@ content_data (Value x) = number (unsigned x)
 abbrev pub slot_data : ℕ × ArrSlot → Data
 slot_data s = array (item (number (unsigned s.0)) (item (content_data s.1) no_items))
 
--- the value that the array is written as
+-- the value as which the array is written
 abbrev pub array_data : ArrayParts → Data
 array_data a = object (
     member (codes "cells") (array (items_by slot_data (filled_slots 0 a.cells)))

@@ -17,12 +17,13 @@ pub record HasMarkName (d : Data) (name : MarkName) : Type 0 where
   pub members : member_count d ≡ Some 2
   pub text : text_at (codes "name") d ≡ Some (bytes_of name)
 
--- the other one is the list of the events
+-- a value spells a bookmark: it is an object of two members, its name and the list of its events
 pub record IsMark (d : Data) (m : Mark) : Type 0 where
   pub name : HasMarkName d m.name
   pub events : SpellEachAt (Gives event_of) (codes "events") d m.events
 
--- values spell bookmarks: each one in its place, with names of their own, and no more than may be
+-- the values spell these bookmarks, one each; the bookmarks have different names and are no more
+-- than may be
 pub record AreMarks (ds : Items) (ms : List Mark) : Type 0 where
   pub each : SpellEach IsMark ds ms
   pub names : HaveDifferentNames ms
@@ -32,7 +33,7 @@ pub record AreMarks (ds : Items) (ms : List Mark) : Type 0 where
 abbrev pub saved_mark : SavedMark → Mark
 saved_mark m = record { name = m.name; events = m.events.items }
 
--- those that were read
+-- the bookmarks that were read
 abbrev pub saved_marks : Vec SavedMark Global → List Mark
 saved_marks marks = map saved_mark marks.items
 
@@ -42,6 +43,6 @@ mark_object events name = object (
     member (codes "events") (array events)
     (member (codes "name") (string name) no_members))
 
--- the value that a bookmark is written as
+-- the value as which a bookmark is written
 abbrev pub mark_data : Mark → Data
 mark_data m = mark_object (items_by event_data m.events) (bytes_of m.name)

@@ -3,8 +3,8 @@ use Rattle.rd_script.specs.declared.devices.sources.Source.{Ghosts as SourceOf}
 use Rattle.rd_script.specs.declared.devices.sinks.Sink.{Ghosts as SinkOf}
 use Rattle.rd_script.specs.Script.{Devices}
 
--- what the source has left and the sink has, before the call and after it, and whether each has
--- failed then
+-- the bytes that a source has left and a sink has taken, before a call and after it, and whether
+-- each has failed then
 abbrev pub devices : {S K : Type 0} → SourceOf S → SinkOf K → S → S → K → K → Devices
 devices source sink reader reader' writer writer' = record {
   in_before = source.bytes reader;

@@ -1,4 +1,4 @@
--- Events as values: which values spell which events, and the value that an event is written as.
+-- Events as values: which values spell which events, and the value as which an event is written.
 use Rattle.std.specs.Prelude.{ℕ, List, codes, bytes_eq, if◌then◌else◌, Option, Some, None, option_map, option_and_then}
 use Rattle.serde_json.specs.Data.{Data, boolean, number, string, array, unsigned, Items, no_items, item}
 use Rattle.serde_json.specs.Find.{as_bool, as_str, as_array}
@@ -7,7 +7,7 @@ use Rattle.rd_actor.specs.declared.actors.Act.TheVariants.{Enq, Deq, AEnq, ADeq,
 use Rattle.rd_step.specs.declared.entries.Event.{Event}
 use Rattle.rd_trace.specs.Numbers.{whole_number, byte_number}
 
--- the act that a word alone says
+-- the act that a word spells without a value after it
 abbrev pub act_of_word : List ℕ → Option Act
 act_of_word word =
     if bytes_eq word (codes "go") then Some Go
@@ -15,7 +15,7 @@ act_of_word word =
     else if bytes_eq word (codes "adeq") then Some ADeq
     else None
 
--- the act that a word and a value say: the number that is enqueued, or the choice
+-- the act that a word and a value spell, where the value is the number to enqueue or the choice
 abbrev pub act_with : List ℕ → Data → Option Act
 act_with word d =
     if bytes_eq word (codes "enq") then option_map Enq (whole_number d)
@@ -23,12 +23,12 @@ act_with word d =
     else if bytes_eq word (codes "starve") then option_map Starve (as_bool d)
     else None
 
--- the event of an actor and its act
+-- the event of this act and this actor, if both are there
 abbrev pub event_by : Option Act → Option ℕ → Option Event
 event_by act actor = option_and_then (λ known. option_map (λ n. record { actor = n; act = known }) actor) act
 
--- an event is a list of its word and its actor, and of the number or the choice if its word takes
--- one
+-- the event that the items of a list spell: its word and its actor, and the number or the choice if
+-- its word takes one
 abbrev pub event_of_items : Items → Option Event
 event_of_items no_items = None
 event_of_items (item word no_items) = None
@@ -40,11 +40,11 @@ event_of_items (item word (item actor (item d (item more rest)))) = None
 abbrev pub event_of : Data → Option Event
 event_of d = option_and_then event_of_items (as_array d)
 
--- an event of a word alone
+-- the value of an event whose word takes no value: a list of the word and the actor
 abbrev pub short_data : List ℕ → ℕ → Data
 short_data word actor = array (item (string word) (item (number (unsigned actor)) no_items))
 
--- an event of a word and a value
+-- the value of an event whose word takes a value: a list of the word, the actor and that value
 abbrev pub long_data : List ℕ → ℕ → Data → Data
 long_data word actor d = array (item (string word) (item (number (unsigned actor)) (item d no_items)))
 
@@ -57,6 +57,6 @@ act_data actor ADeq = short_data (codes "adeq") actor
 act_data actor Go = short_data (codes "go") actor
 act_data actor (Starve choice) = long_data (codes "starve") actor (boolean choice)
 
--- the value that an event is written as
+-- the value as which an event is written
 abbrev pub event_data : Event → Data
 event_data e = act_data e.actor e.act

@@ -33,7 +33,7 @@ abbrev pub form_fault : FormFault → LoadTraceFault
 form_fault FormNoMemory = NoMemory
 form_fault BadForm = BadTrace
 
--- the state of a book in which nothing was done yet: it begins in the fresh world
+-- the state of a book in which nothing was done yet, over the fresh world
 abbrev pub fresh_state : ℕ → ℕ → BookState
 fresh_state R actors = record { session = record { start = fresh_world R actors; live = []; undone = [] }; marks = [] }
 
@@ -41,19 +41,21 @@ fresh_state R actors = record { session = record { start = fresh_world R actors;
 abbrev pub IsBookIn : ℕ → BookState → AnyBook → Type 0
 IsBookIn R b book = (any_ring book ≡ R) × (any_state book ≡ b)
 
--- the start of a trace is a well-formed world, and the events of each of its bookmarks go through
+-- the start of a trace is a well-formed world, and the events of each of its bookmarks can run from
+-- it
 pub record HasMarks {R : ℕ} (t : Trace R) : Type 0 where
   pub flawless : start_flaw t.start ≡ None
   pub marks : MarksGoThrough R (start_world t.start) t.marks
 
--- so do its live events, with its undone ones after them
+-- the start of a trace is well-formed, and from it the events of each bookmark can run, and so can
+-- the live events with the undone ones after them
 pub record IsPlayable {R : ℕ} (t : Trace R) : Type 0 where
   pub marks : HasMarks t
   pub through : GoThrough R (start_world t.start) (t.live ++ t.undone)
 
--- what making a trace happen gives: its book; or, in this order, the first flaw of its start; the
--- first event of the first bookmark of which one is refused; the first of its live and undone
--- events that is refused
+-- the result of replaying a trace: its book; or, in this order, the first flaw of its start, the
+-- first event that is refused of the first bookmark that has one, or the first of its live and
+-- undone events that is refused
 abbrev pub Replays : {R : ℕ} {B : Type 0} → (B → Type 0) → Trace R → Result B LoadTraceFault → Type 0
 Replays IsBook t (Ok book) = IsPlayable t × IsBook book
 Replays IsBook t (Err NoMemory) = Unit {0}
@@ -62,38 +64,39 @@ Replays IsBook t (Err (Flawed flaw)) = start_flaw t.start ≡ Some flaw
 Replays {R} IsBook t (Err (TraceMark m n cause)) = (start_flaw t.start ≡ None) × IsMarkRefusedAt R (start_world t.start) t.marks m n cause
 Replays {R} IsBook t (Err (TraceStep n cause)) = HasMarks t × IsRefusedAt R (start_world t.start) (t.live ++ t.undone) n cause
 
--- what loading the value of a text gives
+-- the result of loading a value: that of replaying the trace that it spells, or BadTrace if it
+-- spells none
 abbrev pub LoadsValue : {R : ℕ} → Data → Result (Book R) LoadTraceFault → Type 0
 LoadsValue d (Err NoMemory) = Unit {0}
 LoadsValue {R} d (Err BadTrace) = (t : Trace R) → IsEither d t → ⊥
 LoadsValue {R} d result = (t : Trace R) × IsEither d t × Replays (λ (book : Book R). book_state book ≡ loaded_state t) t result
 
--- what loading a text gives: what making the trace happen gives that the text is; BadTrace, if it
--- is none
+-- the result of loading a text: that of replaying the trace that it is, or BadTrace if it is none
 abbrev pub LoadsTrace : List ℕ → Result AnyBook LoadTraceFault → Type 0
 LoadsTrace text (Err NoMemory) = Unit {0}
 LoadsTrace text (Err BadTrace) = (R : ℕ) (t : Trace R) → IsTraceText text t → ⊥
 LoadsTrace text result = (R : ℕ) × (t : Trace R) × IsTraceText text t × Replays (IsBookIn R (loaded_state t)) t result
 
--- two answers are one: the same book over the same rings, or the same fault
+-- two results of loading are the same: the same book over the same rings, or the same fault
 abbrev pub IsSameAnswer : Result AnyBook LoadTraceFault → Result AnyBook LoadTraceFault → Type 0
 IsSameAnswer (Ok one) (Ok other) = (any_ring one ≡ any_ring other) × IsSameBook (any_state one) (any_state other)
 IsSameAnswer (Ok book) (Err fault) = ⊥
 IsSameAnswer (Err fault) (Ok book) = ⊥
 IsSameAnswer (Err one) (Err other) = one ≡ other
 
--- the events of each bookmark, and the live events with the undone ones after them, go through from
--- the start of this state
+-- from the start of this state the events of each bookmark can run, and so can the live events with
+-- the undone ones after them
 pub record IsReachable (R : ℕ) (b : BookState) : Type 0 where
   pub marks : MarksGoThrough R b.session.start b.marks
   pub through : GoThrough R b.session.start (b.session.live ++ b.session.undone)
 
--- a text is a trace of this state, whose start has no flaw, and all of its events go through
+-- a text can be loaded as a book in this state: it is a trace of the state, its start has no flaw,
+-- and all of its events can run
 pub record IsLoadable (R : ℕ) (b : BookState) (text : List ℕ) : Type 0 where
   pub reachable : IsReachable R b
   pub reads : (t : Trace R) × IsTraceText text t × (start_flaw t.start ≡ None) × (loaded_state t ≡ b)
 
--- what loading gives of a text that a book in this state is written as: the same book, unless
+-- the result of loading the text as which a book in this state was written: the same book, unless
 -- memory was refused
 abbrev pub LoadsAgain : ℕ → BookState → Result AnyBook LoadTraceFault → Type 0
 LoadsAgain R b (Ok book) = (any_ring book ≡ R) × IsSameBook (any_state book) b

@@ -5,6 +5,7 @@ use Rattle.serde_json.specs.Find.{get, as_array}
 use Rattle.rd_cell.specs.declared.places.SegName.{SegName}
 use Rattle.rd_trace.specs.Numbers.{byte_number, word_number}
 
+-- the name that the items of a list spell: a maker and a number
 abbrev pub name_of_items : Items → Option SegName
 name_of_items no_items = None
 name_of_items (item m no_items) = None
@@ -28,11 +29,11 @@ next_of (string s) = None
 next_of (array ds) = option_map Some (name_of_items ds)
 next_of (object ms) = None
 
--- the value that a name is written as
+-- the value as which a name is written
 abbrev pub name_data : SegName → Data
 name_data s = array (item (number (unsigned s.maker)) (item (number (unsigned s.n)) no_items))
 
--- the value that a next is written as
+-- the value as which a next is written
 abbrev pub next_data : Option SegName → Data
 next_data None = null
 next_data (Some s) = name_data s

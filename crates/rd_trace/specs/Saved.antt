@@ -8,7 +8,7 @@ use Rattle.serde_json.specs.Written.{compact_text}
 use Rattle.rd_step.specs.declared.entries.Event.{Event}
 use Rattle.rd_marks.specs.Names.{bytes_of}
 use Rattle.rd_marks.specs.Books.{Mark, BookState}
-use Rattle.rd_trace.specs.Numbers.{member_count, number_at, list_at}
+use Rattle.rd_trace.specs.Numbers.{member_count, number_at, items_at}
 use Rattle.rd_trace.specs.Spelled.{Gives, SpellEachAt, items_by}
 use Rattle.rd_trace.specs.Events.{event_of, event_data}
 use Rattle.rd_trace.specs.Starts.{IsStart, IsActorCount, IsStartData, start_world, start_flaw}
@@ -18,32 +18,32 @@ use Rattle.rd_trace.specs.declared.starts.Start.{Start}
 use Rattle.rd_trace.specs.declared.starts.Start.TheVariants.{Fresh}
 use Rattle.rd_trace.specs.declared.saved.SavedSession.{SavedSession}
 
--- a session over rings of this many cells that is handed on: where it begins, its bookmarks, its
--- live and its undone events
+-- a session over rings of R cells, as a trace has it: its start, its bookmarks, its live and its
+-- undone events
 pub record Trace (R : ℕ) : Type 0 where
   pub start : Start R
   pub marks : List Mark
   pub live : List Event
   pub undone : List Event
 
--- the session that was read
+-- the trace of a session that was read
 abbrev pub saved_trace : {R : ℕ} → SavedSession R → Trace R
 saved_trace s = record { start = s.start; marks = map saved_mark s.marks.items; live = s.events.items; undone = s.undone.items }
 
--- the book of a trace: its start, live events, undone events and bookmarks
+-- the state of the book of a trace: its start, live events, undone events and bookmarks
 abbrev pub loaded_state : {R : ℕ} → Trace R → BookState
 loaded_state t = record {
   session = record { start = start_world t.start; live = t.live; undone = t.undone };
   marks = t.marks;
 }
 
--- a bookmark as it is spelled: the bytes of its name, and its events. Names with the same bytes are
--- equal, though the room that is left after the bytes may differ, which no call shows
+-- a bookmark as it is spelled: the bytes of its name, and its events. Two names with the same bytes
+-- are equal, though their unused room may differ, which no call shows
 abbrev pub seen_mark : Mark → List ℕ × List Event
 seen_mark m = (bytes_of m.name, m.events)
 
--- two books are the same: they have one session, and bookmarks with equal names and the same events
--- in the same order
+-- two books are the same: they have the same session, and bookmarks with equal names and the same
+-- events in the same order
 pub record IsSameBook (a b : BookState) : Type 0 where
   pub session : a.session ≡ b.session
   pub marks : map seen_mark a.marks ≡ map seen_mark b.marks
@@ -65,7 +65,7 @@ pub record IsSecondTrace {R : ℕ} (d : Data) (t : Trace R) : Type 0 where
   pub version : number_at (codes "version") d ≡ Some 2
   pub ring : number_at (codes "ring") d ≡ Some R
   pub start : (e : Data) × (get (codes "start") d ≡ Some e) × IsStart e t.start
-  pub marks : (ds : Items) × (list_at (codes "marks") d ≡ Some ds) × AreMarks ds t.marks
+  pub marks : (ds : Items) × (items_at (codes "marks") d ≡ Some ds) × AreMarks ds t.marks
   pub live : SpellEachAt (Gives event_of) (codes "events") d t.live
   pub undone : SpellEachAt (Gives event_of) (codes "undone") d t.undone
 
@@ -99,11 +99,11 @@ book_object events marks cells start undone = object (
     (member (codes "undone") (array undone)
     (member (codes "version") (number (unsigned 2)) no_members))))))
 
--- the value that a book is written as, its start being written as this one
+-- the value as which a book is written, where its start is written as this value
 abbrev pub book_data : ℕ → Data → BookState → Data
 book_data R start b = book_object (items_by event_data b.session.live) (items_by mark_data b.marks) R start (items_by event_data b.session.undone)
 
--- a text is what a book is written as: JSON without a space, its keys in the order of the alphabet,
+-- a text is one as which a book is written: JSON without spaces, its keys in alphabetical order,
 -- and a line feed
 abbrev pub IsWrittenAs : ℕ → BookState → List ℕ → Type 0
 IsWrittenAs R b text = (start : Data) × IsStartData R b.session.start start × (text ≡ compact_text (book_data R start b) ++ 10 ∷ [])

@@ -11,6 +11,7 @@ use Rattle.rd_trace.specs.Spelled.{Gives, SpellEach, SpellEachAt, items_by}
 use Rattle.rd_trace.specs.Names.{next_of, next_data}
 use Rattle.rd_trace.specs.Actors.{value_of, value_data}
 
+-- the cell that the items of a list spell: its safe bit, its index and its value
 abbrev pub cell_of_items : Items → Option Cell
 cell_of_items no_items = None
 cell_of_items (item s no_items) = None
@@ -23,11 +24,12 @@ cell_of_items (item s (item i (item v (item more rest)))) = None
 abbrev pub cell_of : Data → Option Cell
 cell_of d = option_and_then cell_of_items (as_array d)
 
+-- the value as which a cell is written
 abbrev pub cell_data : Cell → Data
 cell_data c = array (item (boolean c.safe) (item (number (unsigned c.idx)) (item (value_data c.val) no_items)))
 
--- a value is an object of five members, one for each word of the segment, and so of no other. Parts
--- of rings of `R` cells have `R` cells
+-- a value spells a segment: it is an object of just five members, one for each word of the segment,
+-- which has `R` cells
 pub record IsSegment {R : ℕ} (d : Data) (s : SegmentParts R) : Type 0 where
   pub members : member_count d ≡ Some 5
   pub cells : SpellEachAt (Gives cell_of) (codes "cells") d s.cells
@@ -36,11 +38,11 @@ pub record IsSegment {R : ℕ} (d : Data) (s : SegmentParts R) : Type 0 where
   pub next : option_and_then next_of (get (codes "next") d) ≡ Some s.next
   pub tail : number_at (codes "tail") d ≡ Some s.tail
 
--- a value is the list of a maker's segments
+-- a value spells the list of a maker's segments
 abbrev pub IsSegmentList : {R : ℕ} → Data → Vec (SegmentParts R) Global → Type 0
 IsSegmentList d list = (ds : Items) × (as_array d ≡ Some ds) × SpellEach IsSegment ds list.items
 
--- the value that a segment is written as
+-- the value as which a segment is written
 abbrev pub segment_data : {R : ℕ} → SegmentParts R → Data
 segment_data s = object (
     member (codes "cells") (array (items_by cell_data s.cells))
@@ -49,6 +51,6 @@ segment_data s = object (
     (member (codes "next") (next_data s.next)
     (member (codes "tail") (number (unsigned s.tail)) no_members)))))
 
--- the value that the list of a maker's segments is written as
+-- the value as which the list of a maker's segments is written
 abbrev pub list_data : {R : ℕ} → Vec (SegmentParts R) Global → Data
 list_data list = array (items_by segment_data list.items)

@@ -18,27 +18,28 @@ use Rattle.rd_trace.specs.Arrays.{IsArray, array_data}
 use Rattle.rd_trace.specs.declared.starts.Start.{Start}
 use Rattle.rd_trace.specs.declared.starts.Start.TheVariants.{Fresh, Parts as OfParts}
 
--- this number, 1 to 16, of actors is at a key of an object
+-- an object has this number of actors, 1 to 16, at this key
 pub record IsActorCount (key : List ℕ) (d : Data) (count : ℕ) : Type 0 where
   pub number : number_at key d ≡ Some count
   pub some : 1 ≤ count
   pub few : count ≤ MOST_ACTORS
 
--- a value is an object of one member: the number of actors of a fresh world
+-- a value spells a fresh start: it is an object of one member, the number of actors of the fresh
+-- world
 pub record IsFreshStart (d : Data) (count : ℕ) : Type 0 where
   pub members : member_count d ≡ Some 1
   pub fresh : IsActorCount (codes "fresh") d count
 
--- a fresh start has 1 to 16 actors
+-- the start, if it is fresh, has 1 to 16 actors
 abbrev pub HasActorCount : {R : ℕ} → Start R → Type 0
 HasActorCount (Fresh count) = (1 ≤ count) × (count ≤ MOST_ACTORS)
 HasActorCount (OfParts p) = Unit {0}
 
--- the array is in an object
+-- an object has the array at the key `array`
 abbrev pub IsArrayAt : Data → ArrayParts → Type 0
 IsArrayAt d a = (e : Data) × (get (codes "array") d ≡ Some e) × IsArray e a
 
--- a value is an object of five members, one for each of the parts, and so of no other
+-- a value spells parts of a world: it is an object of just five members, one for each of the parts
 pub record IsParts {R : ℕ} (d : Data) (p : Parts R) : Type 0 where
   pub members : member_count d ≡ Some 5
   pub actors : SpellEachAt IsActor (codes "actors") d p.actors.items
@@ -57,7 +58,7 @@ abbrev pub start_world : {R : ℕ} → Start R → World
 start_world {R} (Fresh count) = fresh_world R count
 start_world (OfParts p) = world_of_parts p
 
--- the first condition of a well-formed world that it fails, if it fails one
+-- the first condition of a well-formed world that a start fails, if it fails one
 abbrev pub start_flaw : {R : ℕ} → Start R → Option Flaw
 start_flaw (Fresh count) = None
 start_flaw (OfParts p) = first_flaw p
@@ -66,7 +67,7 @@ start_flaw (OfParts p) = first_flaw p
 abbrev pub SpellsWorld : ℕ → World → Data → Type 0
 SpellsWorld R w d = (start : Start R) × IsStart d start × (start_flaw start ≡ None) × (start_world start ≡ w)
 
--- the value that a fresh start is written as
+-- the value as which a fresh start is written
 abbrev pub fresh_data : ℕ → Data
 fresh_data count = object (member (codes "fresh") (number (unsigned count)) no_members)
 
@@ -79,12 +80,12 @@ parts_object actors slots qhead qtail segments = object (
     (member (codes "qtail") qtail
     (member (codes "segments") (array segments) no_members)))))
 
--- the value that parts are written as
+-- the value as which parts of a world are written
 abbrev pub parts_data : {R : ℕ} → Parts R → Data
 parts_data p = parts_object (items_by actor_data p.actors.items) (array_data p.array) (name_data p.qhead) (name_data p.qtail) (items_by list_data p.segments.items)
 
--- the value that a world is written as: as a fresh one just if it is the fresh world, and else as
--- parts of it that have no flaw
+-- the value as which a start is written: as a fresh one exactly if it is the fresh world, and else
+-- as parts of the world that have no flaw
 abbrev pub IsStartData : ℕ → World → Data → Type 0
 IsStartData R w d =
     ((count : ℕ) × (w ≡ fresh_world R count) × (1 ≤ count) × (count ≤ MOST_ACTORS) × (d ≡ fresh_data count))

@@ -1,4 +1,5 @@
--- What the parts of replaying a trace give: worlds, steps, bookmarks. No public clause cites them.
+-- The results of the parts of replaying a trace: worlds, steps, bookmarks. No public clause cites
+-- them.
 use Rattle.std.specs.Prelude.{◌≡◌, ◌≢◌, ◌⊎◌, ◌++◌, ℕ, List, [], Some, None, Result, Ok, Err}
 use Rattle.rd_step.specs.Prelude.{World, model}
 use Rattle.rd_cell.specs.declared.refusal.Refusal.TheVariants.{NoMemory as NoMemoryRefused}
@@ -13,7 +14,7 @@ use Rattle.rd_trace.specs.Starts.{start_world, start_flaw}
 use Rattle.rd_marks.specs.Rules.{GoThrough, MarksGoThrough}
 use Rattle.rd_trace.specs.Traces.{session_at, IsRefusedAt, IsMarkRefusedAt}
 
--- the world that is made of a start
+-- the result of making the world of a start: that world, the start's first flaw, or `NoMemory`
 abbrev pub MakesWorld : {R : ℕ} → Start R → Result (CodeWorld R) LoadTraceFault → Type 0
 MakesWorld start (Ok world) = (start_flaw start ≡ None) × (model world ≡ start_world start)
 MakesWorld start (Err NoMemory) = start_flaw start ≡ None
@@ -22,32 +23,35 @@ MakesWorld start (Err BadTrace) = ⊥
 MakesWorld start (Err (TraceMark m n cause)) = ⊥
 MakesWorld start (Err (TraceStep n cause)) = ⊥
 
--- just these events are live, nothing is undone, and the start and the bookmarks are as they were
+-- after a change just these events are live, nothing is undone, and the start and the bookmarks are
+-- as they were
 abbrev pub IsAt : BookState → List Event → BookState → Type 0
 IsAt old live new = new ≡ with_session old (session_at old.session.start live)
 
--- one of these events from the start was refused, if not for memory
+-- an event was refused: for memory, or else it is the first of these events that is refused from
+-- the start
 abbrev pub RefusesOne : ℕ → World → List Event → RefusedEvent → Type 0
 RefusesOne R start events refused = (refused.cause ≡ NoMemoryRefused) ⊎ ((refused.cause ≢ NoMemoryRefused) × IsRefusedAt R start events refused.step refused.cause)
 
--- events were put after the live ones; without any the undone ones stay
+-- these events were made to happen after the live ones, or one was refused; if there are none,
+-- nothing changed
 abbrev pub StepsAll : ℕ → BookState → List Event → BookState → Result (Unit {0}) RefusedEvent → Type 0
 StepsAll R old [] new result = (result ≡ Ok tt) × (new ≡ old)
 StepsAll R old events new (Ok _) = IsAt old (old.session.live ++ events) new × GoThrough R old.session.start (old.session.live ++ events)
 StepsAll R old events new (Err refused) = RefusesOne R old.session.start (old.session.live ++ events) refused
 
--- just these events were made live
+-- just these events were made live, or one was refused
 abbrev pub GoesTo : ℕ → BookState → List Event → BookState → Result (Unit {0}) RefusedEvent → Type 0
 GoesTo R old events new (Ok _) = IsAt old events new × GoThrough R old.session.start events
 GoesTo R old events new (Err refused) = RefusesOne R old.session.start events refused
 
--- just these events were made live, and just those undone
+-- just these events were made live, and just those undone, or one was refused
 abbrev pub MakesLive : ℕ → BookState → List Event → List Event → BookState → Result (Unit {0}) RefusedEvent → Type 0
 MakesLive R old live undone new (Ok _) =
     (new ≡ with_session old (record { start = old.session.start; live = live; undone = undone })) × GoThrough R old.session.start (live ++ undone)
 MakesLive R old live undone new (Err refused) = RefusesOne R old.session.start (live ++ undone) refused
 
--- bookmarks were set, each at its events
+-- these bookmarks were set, each at its events, or an event of one was refused
 abbrev pub SetsMarks : ℕ → BookState → List Mark → BookState → Result (Unit {0}) LoadTraceFault → Type 0
 SetsMarks R old marks new (Ok _) = (new.marks ≡ marks) × (new.session.start ≡ old.session.start) × MarksGoThrough R old.session.start marks
 SetsMarks R old marks new (Err NoMemory) = Unit {0}
@@ -56,11 +60,12 @@ SetsMarks R old marks new (Err BadTrace) = ⊥
 SetsMarks R old marks new (Err (Flawed flaw)) = ⊥
 SetsMarks R old marks new (Err (TraceStep n cause)) = ⊥
 
--- the fault that a refused event comes to: of a live or an undone one, and of one of a bookmark
+-- the fault to which a refused event of the live or undone ones leads
 abbrev pub IsFaultOfStep : RefusedEvent → LoadTraceFault → Type 0
 IsFaultOfStep refused fault =
     ((refused.cause ≡ NoMemoryRefused) × (fault ≡ NoMemory)) ⊎ ((refused.cause ≢ NoMemoryRefused) × (fault ≡ TraceStep refused.step refused.cause))
 
+-- the fault to which a refused event of the bookmark of this number leads
 abbrev pub IsFaultOfMark : RefusedEvent → ℕ → LoadTraceFault → Type 0
 IsFaultOfMark refused m fault =
     ((refused.cause ≡ NoMemoryRefused) × (fault ≡ NoMemory)) ⊎ ((refused.cause ≢ NoMemoryRefused) × (fault ≡ TraceMark m refused.step refused.cause))

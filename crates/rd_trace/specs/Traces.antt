@@ -1,4 +1,4 @@
--- Rings and runs: which rings a trace may have, and which events go through from the start of one.
+-- Rings and runs: which rings a trace may have, and which events can run from its start.
 use Rattle.std.specs.Prelude.{◌≡◌, ◌⊎◌, ◌+◌, ℕ, List, [], ◌++◌, ◌∷◌, length, Err}
 use Rattle.rd_step.specs.Prelude.{World, Refusal}
 use Rattle.rd_step.specs.declared.entries.Event.{Event}
@@ -8,7 +8,7 @@ use Rattle.rd_marks.specs.Rules.{GoThrough, MarksGoThrough}
 use Rattle.rd_trace.specs.declared.rings.Ring.{Ring}
 use Rattle.rd_trace.specs.declared.rings.Ring.TheVariants.{Two, Four, Eight}
 
--- the rings that a trace may have
+-- a trace may have rings of n cells
 abbrev pub IsTraceRing : ℕ → Type 0
 IsTraceRing n = (n ≡ 2) ⊎ ((n ≡ 4) ⊎ (n ≡ 8))
 
@@ -22,8 +22,7 @@ ring_length Eight = 8
 abbrev pub session_at : World → List Event → State
 session_at start live = record { start = start; live = live; undone = [] }
 
--- the n-th of these events is the first that is refused, with this cause: those before it go
--- through
+-- the n-th of these events is the first that is refused, with this cause: those before it can run
 pub record IsRefusedAt (R : ℕ) (start : World) (events : List Event) (n : ℕ) (cause : Refusal) : Type 0 where
   pub before : List Event
   pub event : Event
@@ -33,8 +32,8 @@ pub record IsRefusedAt (R : ℕ) (start : World) (events : List Event) (n : ℕ)
   pub through : GoThrough R start before
   pub refused : apply R (session_at start before) event ≡ Err cause
 
--- the m-th bookmark is the first of which an event is refused, and the n-th event the first of its,
--- with this cause
+-- the m-th bookmark is the first of which an event is refused, and its n-th event is the first such
+-- one, with this cause
 pub record IsMarkRefusedAt (R : ℕ) (start : World) (marks : List Mark) (m n : ℕ) (cause : Refusal) : Type 0 where
   pub before : List Mark
   pub mark : Mark

@@ -18,7 +18,7 @@ use rd_actor::{Actor, Op, Pc};
 use serde_json::{Map, Value, json, put};
 use std::alloc::{AllocError, Global};
 
-/// The members of an actor.
+/// The number of members of an actor.
 const MEMBERS: usize = 12;
 
 const CLOSED: &str = "closed";
@@ -50,16 +50,18 @@ impl Spelled for Actor {
 
     ghost datum = { actor_data };
 
+    /// Returns the actor that a JSON value spells.
     fn read(_alloc: Global, value: &Value) -> Result<Actor, FormFault> {
         actor_in(value).ok_or(FormFault::BadForm)
     }
 
+    /// Returns the JSON value of the actor.
     fn write(&self, alloc: Global) -> Result<Value, AllocError> {
         actor_value(alloc, self)
     }
 }
 
-/// The actor that a value spells.
+/// Returns the actor that a value spells, or none.
 fn actor_in(value: &Value) -> Option<Actor>
     ensures some { IfSome result (IsActor (view value.now)) }
     ensures none { IfNone result ((actor : Actor) → IsActor (view value.now) actor → ⊥) }
@@ -83,7 +85,7 @@ fn actor_in(value: &Value) -> Option<Actor>
     })
 }
 
-/// The value of an actor.
+/// Returns the JSON value of an actor.
 fn actor_value(alloc: Global, actor: &Actor) -> Result<Value, AllocError>
     ensures value { IfOk result (λ value. view value ≡ actor_data actor.now) }
     ensures spelled { OnOk result (IsActor (actor_data actor.now) actor.now) }
@@ -105,7 +107,7 @@ fn actor_value(alloc: Global, actor: &Actor) -> Result<Value, AllocError>
     Ok(Value::Object(members))
 }
 
-/// The value of the pass of an actor.
+/// Returns the JSON value of the pass of an actor.
 fn pass_value(pass: u8) -> Value
     ensures value { view result ≡ number (unsigned pass) }
     ensures spelled { byte_number (number (unsigned pass)) ≡ Some pass }
@@ -113,7 +115,8 @@ fn pass_value(pass: u8) -> Value
     Value::from(pass)
 }
 
-/// The value that a cell or an actor has, or that there is none.
+/// Returns the value that a cell or an actor has by this JSON value, or that it has none; none if
+/// the JSON value is of another form.
 pub fn value_in(value: &Value) -> Option<Option<u64>>
     ensures { result ≡ value_of (view value.now) }
 {
@@ -123,7 +126,7 @@ pub fn value_in(value: &Value) -> Option<Option<u64>>
     Some(Some(value.as_u64()?))
 }
 
-/// The call that a value spells, or that there is none.
+/// Returns the call that a value spells, or that there is no call; none if it spells neither.
 #[tactic(auto, using(crate::proofs::ActorLemmas::no_op))]
 fn op_in(value: &Value) -> Option<Option<Op>>
     ensures { result ≡ op_of (view value.now) }
@@ -139,7 +142,7 @@ fn op_in(value: &Value) -> Option<Option<Op>>
     }
 }
 
-/// The call that a word alone says.
+/// Returns the call that a word spells without a number, or none.
 fn short_op(word: &str) -> Option<Option<Op>>
     ensures { result ≡ short_op word.now }
 {
@@ -150,7 +153,7 @@ fn short_op(word: &str) -> Option<Option<Op>>
     }
 }
 
-/// The call that a word and a number say.
+/// Returns the call that a word and a number spell, or none.
 fn long_op(word: &str, value: u64) -> Option<Option<Op>>
     ensures { result ≡ long_op word.now value }
 {
@@ -161,7 +164,7 @@ fn long_op(word: &str, value: u64) -> Option<Option<Op>>
     }
 }
 
-/// The value of a call, or of none.
+/// Returns the JSON value of a call, or of none.
 fn op_value(alloc: Global, op: Option<Op>) -> Result<Value, AllocError>
     ensures { IfOk result (λ value. view value ≡ op_data op) }
 {
@@ -174,7 +177,7 @@ fn op_value(alloc: Global, op: Option<Op>) -> Result<Value, AllocError>
     }
 }
 
-/// The control point whose label a value is.
+/// Returns the control point whose label a value is, or none.
 fn pc_in(value: &Value) -> Option<Pc>
     ensures some { IfSome result (λ pc. as_str (view value.now) ≡ Some (label pc)) }
     ensures none { IfNone result ((pc : Pc) → as_str (view value.now) ≡ Some (label pc) → ⊥) }
@@ -183,7 +186,7 @@ fn pc_in(value: &Value) -> Option<Pc>
     Pc::of_label(word)
 }
 
-/// The value of a control point: its label.
+/// Returns the JSON value of a control point: its label.
 fn pc_value(alloc: Global, pc: Pc) -> Result<Value, AllocError>
     ensures { IfOk result (λ value. view value ≡ string (label pc)) }
 {

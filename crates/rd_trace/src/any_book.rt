@@ -30,8 +30,8 @@ pub enum AnyBook {
 }
 
 impl AnyBook {
-    /// A book over the fresh world of this many actors and this ring: no step was made, and there
-    /// is no bookmark.
+    /// Returns a book over the fresh world of this many actors and this ring, with no step and no
+    /// bookmark. Fails only if memory was refused.
     pub fn fresh(alloc: Global, ring: Ring, actors: u8) -> Result<AnyBook, AllocError>
         requires some { 1 ≤ actors }
         requires few { actors ≤ MOST_ACTORS }
@@ -48,7 +48,7 @@ impl AnyBook {
     ///
     /// # Errors
     ///
-    /// As the run of a script over a book whose ring is a constant.
+    /// Those of `rd_script::run`.
     pub fn run<S: Source, K: Sink>(
         &mut self,
         reader: &mut S,
@@ -87,7 +87,8 @@ impl AnyBook {
     }
 }
 
-/// A book over the fresh world of this many actors.
+/// Returns a book over the fresh world of this many actors, with no step and no bookmark. Fails
+/// only if memory was refused.
 fn fresh_book<const R: usize>(alloc: Global, actors: u8) -> Result<Book<R>, AllocError>
     requires some { 1 ≤ actors }
     requires few { actors ≤ MOST_ACTORS }

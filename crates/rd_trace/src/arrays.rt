@@ -16,7 +16,7 @@ use rd_step::ArrayParts;
 use serde_json::{Value, json};
 use std::alloc::{AllocError, Global};
 
-/// The members of the array.
+/// The number of members of the array.
 const MEMBERS: usize = 3;
 
 const CELLS: &str = "cells";
@@ -25,7 +25,7 @@ const HEAD: &str = "head";
 
 const TAIL: &str = "tail";
 
-/// The array that a value spells.
+/// Returns the array that a JSON value spells.
 pub fn array_in(value: &Value) -> Option<ArrayParts>
     ensures some { IfSome result (IsArray (view value.now)) }
     ensures none { IfNone result ((parts : ArrayParts) → IsArray (view value.now) parts → ⊥) }
@@ -40,7 +40,7 @@ pub fn array_in(value: &Value) -> Option<ArrayParts>
     })
 }
 
-/// The value of the array.
+/// Returns the JSON value of the array.
 pub fn array_value(alloc: Global, array: &ArrayParts) -> Result<Value, AllocError>
     ensures { IfOk result (λ value. view value ≡ array_data array.now) }
 {
@@ -48,7 +48,8 @@ pub fn array_value(alloc: Global, array: &ArrayParts) -> Result<Value, AllocErro
     json!(in alloc; {CELLS: cells, HEAD: array.head, TAIL: array.tail})
 }
 
-/// All slots, of which the values of a list spell those that aren't empty, their positions rising.
+/// Returns all slots, where the values of a list spell those that aren't empty, by ascending
+/// positions; none if they don't.
 fn slots_in(list: &Vec<Value>) -> Option<[ArrSlot; SLOTS]>
     ensures some { IfSome result (λ slots. SpellEach (Gives slot_of) (items_view list.now.items) (filled_slots 0 slots)) }
     ensures length { IfSome result (λ slots. length slots ≡ SLOTS) }
@@ -67,7 +68,7 @@ fn slots_in(list: &Vec<Value>) -> Option<[ArrSlot; SLOTS]>
     Some(slots)
 }
 
-/// The values of the slots that aren't empty, with their positions.
+/// Returns the JSON values of the slots that aren't empty, with their positions.
 fn slots_value(alloc: Global, slots: &[ArrSlot]) -> Result<Vec<Value>, AllocError>
     ensures { IfOk result (λ values. items_view values.items ≡ items_by slot_data (filled_slots 0 slots.now)) }
 {
@@ -81,7 +82,7 @@ fn slots_value(alloc: Global, slots: &[ArrSlot]) -> Result<Vec<Value>, AllocErro
     Ok(values)
 }
 
-/// The value of a slot with its position.
+/// Returns the JSON value of a slot with its position.
 fn slot_value(alloc: Global, position: usize, slot: ArrSlot) -> Result<Value, AllocError>
     ensures { IfOk result (λ value. view value ≡ slot_data (position, slot)) }
 {
@@ -89,7 +90,7 @@ fn slot_value(alloc: Global, position: usize, slot: ArrSlot) -> Result<Value, Al
     json!(in alloc; [position as u64, content])
 }
 
-/// The value of the content of a slot, which no empty one has.
+/// Returns the value of the content of a slot. Empty slots are not written.
 fn content_value(alloc: Global, slot: ArrSlot) -> Result<Value, AllocError>
     ensures { IfOk result (λ value. view value ≡ content_data slot) }
 {
@@ -100,10 +101,10 @@ fn content_value(alloc: Global, slot: ArrSlot) -> Result<Value, AllocError>
     }
 }
 
-/// What stands for a slot that a dequeue reached first.
+/// The text for a slot that a dequeue reached first.
 const TOP: &str = "top";
 
-/// The position and the slot that a value spells.
+/// Returns the position and the slot that a JSON value spells.
 #[tactic(auto, using(crate::proofs::ArrayLemmas::no_slot))]
 fn slot_in(value: &Value) -> Option<(usize, ArrSlot)>
     ensures { result ≡ slot_of (view value.now) }
@@ -115,7 +116,7 @@ fn slot_in(value: &Value) -> Option<(usize, ArrSlot)>
     }
 }
 
-/// What a value says of a slot that isn't empty.
+/// Returns the content that a value spells of a slot that isn't empty, or none.
 fn content_in(value: &Value) -> Option<ArrSlot>
     ensures { result ≡ slot_content (view value.now) }
 {

@@ -20,7 +20,7 @@ use rd_step::Event;
 use serde_json::{Value, json};
 use std::alloc::{AllocError, Global};
 
-/// The members of a bookmark.
+/// The number of members of a bookmark.
 const MEMBERS: usize = 2;
 
 const EVENTS: &str = "events";
@@ -62,7 +62,7 @@ fn is_taken(marks: &[SavedMark], name: MarkName) -> bool
     marks.iter().any(|mark| name == mark.name)
 }
 
-/// The bookmark that a value spells.
+/// Returns the bookmark that a JSON value spells.
 fn mark_in(alloc: Global, value: &Value) -> Result<SavedMark, FormFault>
     ensures { Reads saved_mark (IsMark (view value.now)) result }
 {
@@ -90,7 +90,7 @@ fn name_in(value: &Value) -> Option<MarkName>
     }
 }
 
-/// The values of the bookmarks of a book, in order.
+/// Returns the JSON values of the bookmarks of a book, in order.
 pub fn marks_value<const R: usize>(alloc: Global, book: &Book<R>) -> Result<Vec<Value>, AllocError>
     ensures values { IfOk result (λ values. items_view values.items ≡ items_by mark_data (book_state book.now).marks) }
     ensures spelled { OnOk result (AreMarks (items_by mark_data (book_state book.now).marks) (book_state book.now).marks) }
@@ -107,7 +107,7 @@ pub fn marks_value<const R: usize>(alloc: Global, book: &Book<R>) -> Result<Vec<
     Ok(values)
 }
 
-/// The value of the bookmark of this number and this name.
+/// Returns the JSON value of the bookmark of this number and this name.
 fn mark_value<const R: usize>(
     alloc: Global,
     book: &Book<R>,
@@ -124,7 +124,7 @@ fn mark_value<const R: usize>(
     mark_object(alloc, events, name.as_str())
 }
 
-/// The object of the values of a bookmark's events and of its name.
+/// Returns the JSON object of a bookmark, from the values of its events and its name.
 fn mark_object(alloc: Global, events: Vec<Value>, name: &str) -> Result<Value, AllocError>
     ensures { IfOk result (λ value. view value ≡ mark_object (items_view events.items) name.now) }
 {

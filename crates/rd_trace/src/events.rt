@@ -20,16 +20,18 @@ impl Spelled for Event {
 
     ghost datum = { event_data };
 
+    /// Returns the event that a JSON value spells.
     fn read(_alloc: Global, value: &Value) -> Result<Event, FormFault> {
         event_in(value).ok_or(FormFault::BadForm)
     }
 
+    /// Returns the JSON value of the event.
     fn write(&self, alloc: Global) -> Result<Value, AllocError> {
         event_value(alloc, *self)
     }
 }
 
-/// The event that a value spells.
+/// Returns the event that a JSON value spells.
 #[tactic(auto, using(crate::proofs::EventLemmas::other_length))]
 fn event_in(value: &Value) -> Option<Event>
     ensures { result ≡ event_of (view value.now) }
@@ -42,7 +44,7 @@ fn event_in(value: &Value) -> Option<Event>
     }
 }
 
-/// The event of a word alone.
+/// Returns the event of a word that takes no value, or none.
 fn short_event(word: &Value, actor: &Value) -> Option<Event>
     ensures { result ≡ event_by (option_and_then act_of_word (as_str (view word.now))) (byte_number (view actor.now)) }
 {
@@ -53,7 +55,7 @@ fn short_event(word: &Value, actor: &Value) -> Option<Event>
     })
 }
 
-/// The event of a word and a value.
+/// Returns the event of a word that takes a value, or none.
 fn long_event(word: &Value, actor: &Value, value: &Value) -> Option<Event>
     ensures { result ≡ event_by (option_and_then (λ w. act_with w (view value.now)) (as_str (view word.now))) (byte_number (view actor.now)) }
 {
@@ -64,7 +66,7 @@ fn long_event(word: &Value, actor: &Value, value: &Value) -> Option<Event>
     })
 }
 
-/// The act that a word alone says.
+/// Returns the act that a word spells without a value after it, or none.
 fn act_of_word(word: &str) -> Option<Act>
     ensures { result ≡ act_of_word word.now }
 {
@@ -76,7 +78,7 @@ fn act_of_word(word: &str) -> Option<Act>
     }
 }
 
-/// The act that a word and a value say.
+/// Returns the act that a word and a value spell, or none.
 fn act_with(word: &str, value: &Value) -> Option<Act>
     ensures { result ≡ act_with word.now (view value.now) }
 {
@@ -88,7 +90,7 @@ fn act_with(word: &str, value: &Value) -> Option<Act>
     }
 }
 
-/// The value of an event.
+/// Returns the JSON value of an event.
 fn event_value(alloc: Global, event: Event) -> Result<Value, AllocError>
     ensures value { IfOk result (λ value. view value ≡ event_data event) }
     ensures spelled { event_of (event_data event) ≡ Some event }
@@ -103,14 +105,14 @@ fn event_value(alloc: Global, event: Event) -> Result<Value, AllocError>
     }
 }
 
-/// The value of an event of a word alone.
+/// Returns the value of an event whose word takes no value.
 fn short_value(alloc: Global, word: &str, actor: u8) -> Result<Value, AllocError>
     ensures { IfOk result (λ value. view value ≡ short_data word.now actor) }
 {
     json!(in alloc; [word, actor])
 }
 
-/// The value of an event of a word and a value.
+/// Returns the value of an event whose word takes a value.
 fn long_value(alloc: Global, word: &str, actor: u8, last: Value) -> Result<Value, AllocError>
     ensures { IfOk result (λ value. view value ≡ long_data word.now actor (view last)) }
 {

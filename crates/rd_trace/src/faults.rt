@@ -58,6 +58,7 @@ impl From<AllocError> for FormFault {
 
     ghost from_gives = { λ _ fault. fault ≡ NoMemory };
 
+    /// Memory that was refused is the fault `NoMemory`.
     fn from(_error: AllocError) -> FormFault {
         FormFault::NoMemory
     }
@@ -68,6 +69,7 @@ impl From<FormFault> for LoadTraceFault {
 
     ghost from_gives = { λ fault e. e ≡ form_fault fault };
 
+    /// A value that is no part of a trace makes the text no trace.
     fn from(fault: FormFault) -> LoadTraceFault {
         match fault {
             FormFault::NoMemory => LoadTraceFault::NoMemory,

@@ -29,10 +29,10 @@ use std::alloc::Global;
 ///
 /// In this order: `BadTrace` if the text is no trace; `Flawed` if its start is no well-formed
 /// world, with the first condition that fails; `TraceMark` if an event of a bookmark is refused,
-/// with the numbers of the first bookmark and of its first such event; `TraceStep` if a live event
-/// or an undone one is refused, with its number, the undone ones being counted on. The cause is
-/// `TooLong` at the event after the `MOST_STEPS`-th of a list. `NoMemory` if memory was refused, at
-/// any point.
+/// with the numbers of the first such bookmark and of its first such event; `TraceStep` if a live
+/// event or an undone one is refused, with its number, the undone ones being counted on. The cause
+/// is `TooLong` at the event after the `MOST_STEPS`-th of a list. `NoMemory` if memory was refused,
+/// at any point.
 pub fn load_trace(alloc: Global, text: &[u8]) -> Result<AnyBook, LoadTraceFault>
     ensures loads { LoadsTrace text.now result }
     ensures again { (R : ℕ) (b : BookState) → IsTraceRing R → IsTextOf R b text.now → LoadsAgain R b result }
@@ -40,7 +40,7 @@ pub fn load_trace(alloc: Global, text: &[u8]) -> Result<AnyBook, LoadTraceFault>
     loaded(alloc, text)
 }
 
-/// The book of the trace that a text is, over the ring that it names, if it is one.
+/// Returns the book of the trace that a text is, over the ring that it names.
 ///
 /// # Errors
 ///
@@ -48,7 +48,7 @@ pub fn load_trace(alloc: Global, text: &[u8]) -> Result<AnyBook, LoadTraceFault>
 fn loaded(alloc: Global, text: &[u8]) -> Result<AnyBook, LoadTraceFault>
     ensures { LoadsTrace text.now result }
 {
-    let value = value_of(alloc, text)?;
+    let value = parse_value(alloc, text)?;
     match ring_in(&value) {
         None => Err(LoadTraceFault::BadTrace),
         Some(Ring::Two) => Ok(AnyBook::Two(book_of(alloc, value)?)),
@@ -57,12 +57,12 @@ fn loaded(alloc: Global, text: &[u8]) -> Result<AnyBook, LoadTraceFault>
     }
 }
 
-/// The value of a text.
+/// Returns the JSON value of a text.
 ///
 /// # Errors
 ///
 /// `BadForm` if the text is no JSON; `NoMemory` if memory was refused.
-fn value_of(alloc: Global, text: &[u8]) -> Result<Value, FormFault>
+fn parse_value(alloc: Global, text: &[u8]) -> Result<Value, FormFault>
     ensures { Reads view (HasValue text.now) result }
 {
     match Value::from_slice(alloc, text) {
@@ -75,7 +75,7 @@ fn value_of(alloc: Global, text: &[u8]) -> Result<Value, FormFault>
     }
 }
 
-/// The book of the session that a value spells. The value is dropped before the first event
+/// Returns the book of the session that a value spells. The value is dropped before the first event
 /// happens.
 ///
 /// # Errors

@@ -2,11 +2,11 @@
 
 ghost use Rattle.std.specs.Prelude.{◌≡◌, option_map};
 ghost use Rattle.serde_json.specs.View.{view, items_view};
-ghost use Rattle.rd_trace.specs.Numbers.{member_count, number_at, bit_at, text_at, list_at, byte_number, word_number};
+ghost use Rattle.rd_trace.specs.Numbers.{member_count, number_at, bit_at, text_at, items_at, byte_number, word_number};
 
 use serde_json::Value;
 
-/// The number of members of an object.
+/// Returns the number of members of an object; none for any other value.
 pub fn member_count(value: &Value) -> Option<usize>
     ensures { result ≡ member_count (view value.now) }
 {
@@ -34,14 +34,14 @@ pub fn text_at<'a>(value: &'a Value, key: &str) -> Option<&'a str>
     value.get(key).and_then(Value::as_str)
 }
 
-/// The values of the list at a key of an object.
+/// Returns the JSON values of the list at a key of an object.
 pub fn array_at<'a>(value: &'a Value, key: &str) -> Option<&'a Vec<Value>>
-    ensures { option_map (λ list. items_view list.now.items) result ≡ list_at key.now (view value.now) }
+    ensures { option_map (λ list. items_view list.now.items) result ≡ items_at key.now (view value.now) }
 {
     value.get(key).and_then(Value::as_array)
 }
 
-/// The number of 8 bits that a value is.
+/// Returns the whole number from 0 to 255 that a value is, or none.
 pub fn byte_in(value: &Value) -> Option<u8>
     ensures { result ≡ byte_number (view value.now) }
 {
@@ -53,7 +53,7 @@ pub fn byte_in(value: &Value) -> Option<u8>
     }
 }
 
-/// The number of 32 bits that a value is.
+/// Returns the whole number from 0 to 2^32 - 1 that a value is, or none.
 pub fn word_in(value: &Value) -> Option<u32>
     ensures { result ≡ word_number (view value.now) }
 {

@@ -9,7 +9,7 @@ use rd_cell::SegName;
 use serde_json::{Value, json};
 use std::alloc::{AllocError, Global};
 
-/// The name that a value spells.
+/// Returns the name that a JSON value spells.
 #[tactic(auto, using(crate::proofs::NumberLemmas::no_name))]
 pub fn name_in(value: &Value) -> Option<SegName>
     ensures { result ≡ name_of (view value.now) }
@@ -24,7 +24,7 @@ pub fn name_in(value: &Value) -> Option<SegName>
     }
 }
 
-/// The value of a name.
+/// Returns the JSON value of a name.
 pub fn name_value(alloc: Global, name: SegName) -> Result<Value, AllocError>
     ensures value { IfOk result (λ value. view value ≡ name_data name) }
     ensures spelled { name_of (name_data name) ≡ Some name }
@@ -32,7 +32,7 @@ pub fn name_value(alloc: Global, name: SegName) -> Result<Value, AllocError>
     json!(in alloc; [name.maker, name.n])
 }
 
-/// The name of the next segment that a value spells, or that there is none.
+/// Returns the name of the next segment that a JSON value spells, or that there is none.
 pub fn next_in(value: &Value) -> Option<Option<SegName>>
     ensures { result ≡ next_of (view value.now) }
 {
@@ -42,7 +42,7 @@ pub fn next_in(value: &Value) -> Option<Option<SegName>>
     Some(Some(name_in(value)?))
 }
 
-/// The value of the name of the next segment, or of none.
+/// Returns the JSON value of the name of the next segment, or of none.
 pub fn next_value(alloc: Global, next: Option<SegName>) -> Result<Value, AllocError>
     ensures value { IfOk result (λ value. view value ≡ next_data next) }
     ensures spelled { next_of (next_data next) ≡ Some next }

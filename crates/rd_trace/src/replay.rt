@@ -33,7 +33,7 @@ struct RefusedEvent {
     cause: Refusal,
 }
 
-/// The book of a session that was read.
+/// Returns the book of a session that was read, by making its events happen.
 ///
 /// # Errors
 ///
@@ -60,7 +60,7 @@ pub fn replay<const R: usize>(
     Ok(book)
 }
 
-/// The world of a start.
+/// Returns the world of a start; its first flaw if it makes none, or `NoMemory`.
 fn world_of<const R: usize>(alloc: Global, start: Start<R>) -> Result<World<R>, LoadTraceFault>
     requires positive { 1 ≤ R }
     requires small { R ≤ MOST_CELLS }
@@ -101,7 +101,8 @@ fn set_marks<const R: usize>(book: &mut Book<R>, marks: &[SavedMark]) -> Result<
     Ok(())
 }
 
-/// Makes just these events live, and then undoes those after them.
+/// Makes just these events live and just those after them undone, or returns the first event that
+/// was refused.
 fn make_live<const R: usize>(
     book: &mut Book<R>,
     events: &[Event],
@@ -115,8 +116,8 @@ fn make_live<const R: usize>(
     Ok(())
 }
 
-/// Makes just these events live, with nothing undone: what is live is undone as far as the two
-/// lists differ.
+/// Makes just these events live, with nothing undone, or returns the first event that was refused.
+/// The live events are undone only as far as the two lists differ.
 fn go_to<const R: usize>(book: &mut Book<R>, events: &[Event]) -> Result<(), RefusedEvent>
     ensures { GoesTo R (book_state book.old) events.now (book_state book.new) result }
 {
@@ -129,7 +130,7 @@ fn go_to<const R: usize>(book: &mut Book<R>, events: &[Event]) -> Result<(), Ref
     step_all(book, &events[kept..])
 }
 
-/// How many live events of a session are those that a list begins with.
+/// Returns how many live events of a session a list begins with.
 fn shared_beginning<const R: usize>(session: &Session<R>, events: &[Event]) -> usize
     ensures through { GoThrough R (state session.now).start (state session.now).live }
     ensures live { result ≤ length (state session.now).live }
@@ -145,7 +146,7 @@ fn shared_beginning<const R: usize>(session: &Session<R>, events: &[Event]) -> u
     live.len().min(events.len())
 }
 
-/// Whether two events are the same.
+/// Whether two events are equal.
 fn is_same(event: &Event, other: &Event) -> bool
     ensures { IsTrue result ↔ (event.now ≡ other.now) }
 {
@@ -164,7 +165,7 @@ fn go_back<const R: usize>(book: &mut Book<R>, n: u64)
     }
 }
 
-/// Makes events happen in order.
+/// Makes events happen in order, or returns the first one that was refused.
 fn step_all<const R: usize>(book: &mut Book<R>, events: &[Event]) -> Result<(), RefusedEvent>
     requires { GoThrough R (book_state book.old).session.start (book_state book.old).session.live }
     ensures { StepsAll R (book_state book.old) events.now (book_state book.new) result }
@@ -181,7 +182,7 @@ fn step_all<const R: usize>(book: &mut Book<R>, events: &[Event]) -> Result<(), 
 }
 
 impl RefusedEvent {
-    /// The fault of a live event, or an undone one.
+    /// Returns the fault of loading for a live event, or an undone one, that was refused.
     fn of_step(self) -> LoadTraceFault
         ensures { IsFaultOfStep self result }
     {
@@ -194,7 +195,7 @@ impl RefusedEvent {
         }
     }
 
-    /// The fault of an event of the bookmark of this number.
+    /// Returns the fault of loading for an event that was refused of the bookmark of this number.
     fn of_mark(self, mark: u64) -> LoadTraceFault
         ensures { IsFaultOfMark self mark result }
     {

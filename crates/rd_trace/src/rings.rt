@@ -15,7 +15,7 @@ pub enum Ring {
 }
 
 impl Ring {
-    /// The ring of this many cells, if a trace may have it.
+    /// Returns the ring of this many cells, if a trace may have it.
     pub(crate) fn of_length(cells: u64) -> Option<Ring>
         ensures some { IfSome result (λ ring. ring_length ring ≡ cells) }
         ensures none { IfNone result (IsTraceRing cells → ⊥) }

@@ -28,10 +28,10 @@ use rd_step::Event;
 use serde_json::{Value, json};
 use std::alloc::{AllocError, Global};
 
-/// The members of a trace of version 1.
+/// The number of members of a trace of version 1.
 const FIRST_MEMBERS: usize = 4;
 
-/// The members of a trace of version 2.
+/// The number of members of a trace of version 2.
 const MEMBERS: usize = 6;
 
 /// The version that is written.
@@ -54,7 +54,7 @@ const VERSION: &str = "version";
 /// A session that was read.
 #[derive(Drop)]
 pub struct SavedSession<const R: usize> {
-    /// Where it begins.
+    /// Its start.
     pub start: Start<R>,
     /// Its bookmarks in order.
     pub marks: Vec<SavedMark>,
@@ -64,7 +64,7 @@ pub struct SavedSession<const R: usize> {
     pub undone: Vec<Event>,
 }
 
-/// The ring of the session that a value spells, if it is one that a trace may have.
+/// Returns the ring of the session that a value spells, if a trace may have it.
 pub fn ring_in(value: &Value) -> Option<Ring>
     ensures some { IfSome result (λ ring. number_at (codes "ring") (view value.now) ≡ Some (ring_length ring)) }
     ensures none { IfNone result ((cells : ℕ) → number_at (codes "ring") (view value.now) ≡ Some cells → IsTraceRing cells → ⊥) }
@@ -72,7 +72,7 @@ pub fn ring_in(value: &Value) -> Option<Ring>
     Ring::of_length(number_at(value, RING)?)
 }
 
-/// The session over such a ring that a value spells, of version 1 or 2.
+/// Returns the session over rings of `R` cells that a value spells, of version 1 or 2.
 ///
 /// # Errors
 ///
@@ -140,7 +140,7 @@ fn second_session_in<const R: usize>(
     })
 }
 
-/// The value of a book's session and bookmarks, of version 2.
+/// Returns the JSON value of a book's session and bookmarks, of version 2.
 pub fn book_value<const R: usize>(alloc: Global, book: &Book<R>) -> Result<Value, AllocError>
     ensures value { IfOk result (λ value. (start : Data) × IsStartData R (book_state book.now).session.start start
         × (view value ≡ book_data R start (book_state book.now))) }
@@ -156,7 +156,7 @@ pub fn book_value<const R: usize>(alloc: Global, book: &Book<R>) -> Result<Value
     book_object(alloc, events, marks, R as u64, start, undone)
 }
 
-/// The object of the values of a book's parts.
+/// Returns the JSON object of a book, from the values of its parts.
 fn book_object(
     alloc: Global,
     events: Vec<Value>,
@@ -177,15 +177,15 @@ fn book_object(
     })
 }
 
-/// A session's live events and then its undone ones go through from its start: the contract of its
-/// world says so.
+/// The live events of a session, and then its undone ones, can run from its start: this law follows
+/// from the contract of the session's world.
 fn events_go_through<const R: usize>(session: &Session<R>)
     ensures { GoThrough R (state session.now).start ((state session.now).live ++ (state session.now).undone) }
 {
     let _world = session.world();
 }
 
-/// The value of the start of a session.
+/// Returns the JSON value of the start of a session.
 fn start_of<const R: usize>(alloc: Global, session: &Session<R>) -> Result<Value, AllocError>
     ensures value { IfOk result (λ value. IsStartData R (state session.now).start (view value)) }
     ensures spelled { IfOk result (λ value. SpellsWorld R (state session.now).start (view value)) }
@@ -196,7 +196,7 @@ fn start_of<const R: usize>(alloc: Global, session: &Session<R>) -> Result<Value
     start_value(alloc, &world)
 }
 
-/// The values of the live events of a session.
+/// Returns the JSON values of the live events of a session.
 fn live_value<const R: usize>(alloc: Global, session: &Session<R>) -> Result<Vec<Value>, AllocError>
     ensures { IfOk result (λ values. AreSpelled (Gives event_of) event_data values.items (state session.now).live) }
 {
@@ -208,7 +208,7 @@ fn live_value<const R: usize>(alloc: Global, session: &Session<R>) -> Result<Vec
     Ok(values)
 }
 
-/// The values of the undone events of a session, the one undone last first.
+/// Returns the JSON values of the undone events of a session, the one undone last first.
 fn undone_value<const R: usize>(
     alloc: Global,
     session: &Session<R>,

@@ -18,7 +18,7 @@ use rd_step::SegmentParts;
 use serde_json::{Value, json};
 use std::alloc::{AllocError, Global};
 
-/// The members of a segment.
+/// The number of members of a segment.
 const MEMBERS: usize = 5;
 
 const CELLS: &str = "cells";
@@ -38,6 +38,7 @@ impl<const R: usize> Spelled for Vec<SegmentParts<R>> {
 
     ghost fits = { R ≤ MOST_CELLS };
 
+    /// Returns the list of segments that a JSON value spells.
     fn read(alloc: Global, value: &Value) -> Result<Vec<SegmentParts<R>>, FormFault> {
         match value.as_array() {
             None => Err(FormFault::BadForm),
@@ -45,6 +46,7 @@ impl<const R: usize> Spelled for Vec<SegmentParts<R>> {
         }
     }
 
+    /// Returns the JSON value of the list of segments.
     fn write(&self, alloc: Global) -> Result<Value, AllocError> {
         Ok(Value::Array(list_value(alloc, self)?))
     }
@@ -57,10 +59,12 @@ impl<const R: usize> Spelled for SegmentParts<R> {
 
     ghost fits = { R ≤ MOST_CELLS };
 
+    /// Returns the segment that a JSON value spells.
     fn read(_alloc: Global, value: &Value) -> Result<SegmentParts<R>, FormFault> {
         segment_in(value).ok_or(FormFault::BadForm)
     }
 
+    /// Returns the JSON value of the segment.
     fn write(&self, alloc: Global) -> Result<Value, AllocError> {
         segment_value(alloc, self)
     }
@@ -71,16 +75,18 @@ impl Spelled for Cell {
 
     ghost datum = { cell_data };
 
+    /// Returns the cell that a JSON value spells.
     fn read(_alloc: Global, value: &Value) -> Result<Cell, FormFault> {
         cell_in(value).ok_or(FormFault::BadForm)
     }
 
+    /// Returns the JSON value of the cell.
     fn write(&self, alloc: Global) -> Result<Value, AllocError> {
         cell_value(alloc, self)
     }
 }
 
-/// The segment that a value spells.
+/// Returns the segment that a value spells, or none.
 fn segment_in<const R: usize>(value: &Value) -> Option<SegmentParts<R>>
     requires { R ≤ MOST_CELLS }
     ensures some { IfSome result (IsSegment (view value.now)) }
@@ -98,7 +104,7 @@ fn segment_in<const R: usize>(value: &Value) -> Option<SegmentParts<R>>
     })
 }
 
-/// The value of a segment.
+/// Returns the JSON value of a segment.
 fn segment_value<const R: usize>(
     alloc: Global,
     segment: &SegmentParts<R>,
@@ -117,7 +123,7 @@ fn segment_value<const R: usize>(
     })
 }
 
-/// The cells that the values of a list spell, if there are as many as a ring has.
+/// Returns the cells that the values of a list spell, if they are as many as a ring has.
 fn cells_in<const R: usize>(list: &Vec<Value>) -> Option<[Cell; R]>
     ensures some { IfSome result (SpellEach (Gives cell_of) (items_view list.now.items)) }
     ensures length { IfSome result (λ cells. length cells ≡ R) }
@@ -133,14 +139,14 @@ fn cells_in<const R: usize>(list: &Vec<Value>) -> Option<[Cell; R]>
     Some(cells)
 }
 
-/// The value of a cell.
+/// Returns the JSON value of a cell.
 fn cell_value(alloc: Global, cell: &Cell) -> Result<Value, AllocError>
     ensures { IfOk result (λ value. view value ≡ cell_data cell.now) }
 {
     json!(in alloc; [cell.safe, cell.idx, cell.val])
 }
 
-/// The cell that a value spells.
+/// Returns the cell that a value spells, or none.
 #[tactic(auto, using(crate::proofs::SegmentLemmas::no_cell))]
 fn cell_in(value: &Value) -> Option<Cell>
     ensures { result ≡ cell_of (view value.now) }

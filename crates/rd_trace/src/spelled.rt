@@ -1,5 +1,5 @@
-//! What a trace has lists of: which values spell each, and how it, and a list of it, is read and
-//! written.
+//! The kinds of things of which a trace has lists: which values spell one, and how one, or a list
+//! of them, is read and written.
 
 ghost use Rattle.std.specs.Prelude.{◌≡◌, IfOk, OnOk};
 ghost use Rattle.serde_json.specs.Data.{Data};
@@ -11,18 +11,18 @@ use super::members::array_at;
 use serde_json::Value;
 use std::alloc::{AllocError, Global};
 
-/// What values of a trace spell.
+/// A kind of thing that values of a trace spell.
 pub trait Spelled: Sized + Drop {
-    /// Which values spell which.
+    /// Which values spell which things.
     ghost spells: { Data → Self → Type 0 };
 
-    /// The value that each is written as.
+    /// The value as which each thing is written.
     ghost datum: { Self → Data };
 
-    /// What holds where one is read.
+    /// A fact that must hold where a thing is read.
     ghost fits: { Type 0 } = { Unit {0} };
 
-    /// The one that a value spells.
+    /// Returns the thing of this kind that a value spells.
     ///
     /// # Errors
     ///
@@ -31,13 +31,13 @@ pub trait Spelled: Sized + Drop {
         requires { fits }
         ensures { Reads itself (spells (view value.now)) result };
 
-    /// The value of one.
+    /// Returns the value as which the thing is written, or fails if memory was refused.
     fn write(&self, alloc: Global) -> Result<Value, AllocError>
         ensures value { IfOk result (λ value. view value ≡ datum self.now) }
         ensures spelled { OnOk result (spells (datum self.now) self.now) };
 }
 
-/// Those that the values of a list spell, in their order.
+/// Returns the things that the values of a list spell, in their order.
 ///
 /// # Errors
 ///
@@ -53,7 +53,7 @@ pub fn list_in<T: Spelled>(alloc: Global, list: &Vec<Value>) -> Result<Vec<T>, F
     Ok(things)
 }
 
-/// Those that the list at a key of an object spells.
+/// Returns the things that the list at a key of an object spells, in their order.
 ///
 /// # Errors
 ///
@@ -68,7 +68,8 @@ pub fn list_at<T: Spelled>(alloc: Global, value: &Value, key: &str) -> Result<Ve
     }
 }
 
-/// The values of a list, in order.
+/// Returns the values as which these things are written, in their order, or fails if memory was
+/// refused.
 pub fn list_value<T: Spelled>(alloc: Global, things: &[T]) -> Result<Vec<Value>, AllocError>
     ensures { IfOk result (λ values. AreSpelled T.spells T.datum values.items things.now) }
 {

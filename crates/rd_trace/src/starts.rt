@@ -20,10 +20,10 @@ use rd_step::{ArrayParts, Parts, World};
 use serde_json::{Value, json};
 use std::alloc::{AllocError, Global};
 
-/// The members of a fresh start.
+/// The number of members of a fresh start.
 const FRESH_MEMBERS: usize = 1;
 
-/// The members of the parts of a world.
+/// The number of members of the parts of a world.
 const MEMBERS: usize = 5;
 
 const ACTORS: &str = "actors";
@@ -38,7 +38,7 @@ const QTAIL: &str = "qtail";
 
 const SEGMENTS: &str = "segments";
 
-/// Where a session begins.
+/// The start of a session.
 #[derive(Drop)]
 pub enum Start<const R: usize> {
     /// In the fresh world of this many actors, 1 to 16.
@@ -47,7 +47,7 @@ pub enum Start<const R: usize> {
     Parts(Parts<R>),
 }
 
-/// The start that a value spells.
+/// Returns the start that a JSON value spells.
 ///
 /// # Errors
 ///
@@ -66,7 +66,7 @@ pub fn start_in<const R: usize>(alloc: Global, value: &Value) -> Result<Start<R>
     }
 }
 
-/// The number of actors at a key of an object: 1 to 16.
+/// Returns the number of actors, 1 to 16, at a key of an object, or none.
 pub fn actors_at(value: &Value, key: &str) -> Option<u8>
     ensures some { IfSome result (IsActorCount key.now (view value.now)) }
     ensures none { IfNone result ((count : ℕ) → IsActorCount key.now (view value.now) count → ⊥) }
@@ -78,7 +78,7 @@ pub fn actors_at(value: &Value, key: &str) -> Option<u8>
     Some(actors as u8)
 }
 
-/// The parts that a value of this many members spells.
+/// Returns the parts that a JSON value of this many members spells.
 fn parts_in<const R: usize>(alloc: Global, value: &Value) -> Result<Parts<R>, FormFault>
     requires small { R ≤ MOST_CELLS }
     requires members { member_count (view value.now) ≡ Some 5 }
@@ -102,7 +102,7 @@ fn parts_in<const R: usize>(alloc: Global, value: &Value) -> Result<Parts<R>, Fo
     })
 }
 
-/// The array of an object.
+/// Returns the array that an object has at its key, or none.
 fn slots_at(value: &Value) -> Option<ArrayParts>
     ensures some { IfSome result (IsArrayAt (view value.now)) }
     ensures none { IfNone result ((parts : ArrayParts) → IsArrayAt (view value.now) parts → ⊥) }
@@ -117,7 +117,8 @@ fn name_at(value: &Value, key: &str) -> Option<SegName>
     name_in(value.get(key)?)
 }
 
-/// The value of a start in this world: as the fresh one if it is that, and else as its parts.
+/// Returns the value of a start in this world: as the fresh one if the world is that, else as its
+/// parts.
 pub fn start_value<const R: usize>(alloc: Global, world: &World<R>) -> Result<Value, AllocError>
     ensures value { IfOk result (λ value. IsStartData R (model world.now) (view value)) }
     ensures spelled { IfOk result (λ value. SpellsWorld R (model world.now) (view value)) }
@@ -131,14 +132,14 @@ pub fn start_value<const R: usize>(alloc: Global, world: &World<R>) -> Result<Va
     parts_value(alloc, &parts)
 }
 
-/// The value of a fresh start.
+/// Returns the JSON value of a fresh start.
 fn fresh_value(alloc: Global, actors: u64) -> Result<Value, AllocError>
     ensures { IfOk result (λ value. view value ≡ fresh_data actors) }
 {
     json!(in alloc; {FRESH: actors})
 }
 
-/// The value of parts.
+/// Returns the JSON value of parts.
 fn parts_value<const R: usize>(alloc: Global, parts: &Parts<R>) -> Result<Value, AllocError>
     ensures value { IfOk result (λ value. view value ≡ parts_data parts.now) }
     ensures spelled { OnOk result (IsParts (parts_data parts.now) parts.now) }
@@ -151,7 +152,7 @@ fn parts_value<const R: usize>(alloc: Global, parts: &Parts<R>) -> Result<Value,
     parts_object(alloc, actors, slots, qhead, qtail, segments)
 }
 
-/// The object of the values of parts.
+/// Returns the JSON object of a world's parts, from their values.
 fn parts_object(
     alloc: Global,
     actors: Vec<Value>,

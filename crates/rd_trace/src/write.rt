@@ -1,4 +1,4 @@
-//! Writing a trace: the whole text is put together, and then handed over.
+//! Writing a trace: the whole text is made in memory, and then written to the sink.
 
 ghost use Rattle.std.specs.Prelude.{◌≡◌, false, IfOk};
 ghost use Rattle.rd_marks.specs.BookViews.{book_state};
@@ -7,12 +7,12 @@ ghost use Rattle.rd_trace.specs.Writing.{IsTextOf, WritesTrace, is_write_fault};
 use super::faults::WriteTraceFault;
 use super::saved::book_value;
 use rd_marks::Book;
-use rd_script::{Sink, hand_over};
+use rd_script::{Sink, write_all};
 use std::alloc::{AllocError, Global};
 
 /// Writes a book as a trace of version 2, with a line feed after it: its start, live events, undone
-/// events and bookmarks, and the number of cells of its rings, also where `load_trace` takes no
-/// such ring. Where it does, the text loaded gives the book again, unless memory is refused.
+/// events and bookmarks, and the number of cells of its rings, which may be one that `load_trace`
+/// refuses. If it does not, loading the text gives the same book, unless memory is refused.
 ///
 /// # Errors
 ///
@@ -30,13 +30,13 @@ pub fn write_trace<K: Sink, const R: usize>(
     let Ok(text) = text_of(alloc, book) else {
         return Err(WriteTraceFault::NoMemory);
     };
-    match hand_over(writer, text.as_slice()) {
+    match write_all(writer, text.as_slice()) {
         Ok(()) => Ok(()),
         Err(_) => Err(WriteTraceFault::Write),
     }
 }
 
-/// The text of a book.
+/// Returns the text of a book as a trace, or fails if memory was refused.
 fn text_of<const R: usize>(alloc: Global, book: &Book<R>) -> Result<Vec<u8>, AllocError>
     ensures { IfOk result (λ text. IsTextOf R (book_state book.now) text.items) }
 {

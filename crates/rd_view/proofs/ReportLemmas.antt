@@ -11,7 +11,7 @@ use Rattle.rd_desk.specs.declared.gates.DeskRefusal.{DeskRefusal}
 use Rattle.rd_script.specs.declared.faults.LineFault.{LineFault}
 use Rattle.rd_script.specs.declared.answers.AnyRefusal.TheVariants.{Unread}
 use Rattle.rd_script.specs.Replies.{text_of}
-use Rattle.rd_view.specs.Views.{line_answer, report_text, viewer_text, view_text}
+use Rattle.rd_view.specs.Views.{desk_answer, report_text, viewer_text, view_text}
 
 -- a part that was left was put after the text
 pub one_part_more : (old new part left rest whole : List ℕ) → new ≡ old ++ part → left ≡ part ++ rest → old ++ left ≡ whole → new ++ rest ≡ whole
@@ -33,7 +33,7 @@ module _ (said : List (Result Command LineFault)) (answers : List (Result (Resul
 
   -- the next line is a command, and there is an answer
   pub answer_next : (command : Command) (answer : Result (Result Reply Refusal) DeskRefusal) → line ≡ Ok command → asked < length answers → answer ≡ get_or answers asked answer
-      → report_text (drop i said) (drop asked answers) ≡ text_of (line_answer answer) ++ report_text (drop (i + 1) said) (drop (asked + 1) answers)
+      → report_text (drop i said) (drop asked answers) ≡ text_of (desk_answer answer) ++ report_text (drop (i + 1) said) (drop (asked + 1) answers)
   answer_next command answer at some next =
       ap (λ xs. report_text xs (drop asked answers)) (line_at said i line within is ∙ ap (λ x. x ∷ drop (i + 1) said) at)
       ∙ ap (λ rest. report_text (Ok command ∷ drop (i + 1) said) rest) (line_at answers asked answer some next)

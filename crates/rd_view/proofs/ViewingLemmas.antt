@@ -5,7 +5,8 @@ use Rattle.std.proofs.lemmas.List.{append-nil, map-append}
 use Rattle.rd_step.specs.Prelude.{Refusal}
 use Rattle.rd_lock.specs.declared.views.Recorded.{Ghosts}
 use Rattle.rd_lock.specs.declared.passes.Pass.{Pass}
-use Rattle.rd_lock.specs.Histories.{Every, named, numbers}
+use Rattle.rd_lock.specs.Histories.{named, numbers}
+use Rattle.std.specs.List.{AllByRecursion, AllZip}
 use Rattle.rd_lock.specs.Locks.{number, own, seen}
 use Rattle.rd_marks.specs.Books.{BookState}
 use Rattle.rd_marks.specs.declared.books.Book.{Book}
@@ -19,12 +20,12 @@ use Rattle.rd_desk.specs.declared.histories.History.{History}
 use Rattle.rd_desk.specs.declared.recording.BookWithHistory.{BookWithHistory}
 use Rattle.rd_desk.specs.declared.viewers.Ran.{Ran}
 use Rattle.rd_desk.specs.declared.viewers.Ran.TheVariants.{Answered, NoMemory as NotStarted}
-use Rattle.rd_desk.specs.Asking.{IsTold, IsRefused}
-use Rattle.rd_desk.specs.Desks.{IsViewerOf, IsNewViewer, Tells, opened_state}
-use Rattle.rd_desk.specs.Histories.{entries, entry}
-use Rattle.rd_desk.specs.Viewers.{Pairs, IsChain, IsRan}
+use Rattle.rd_desk.specs.Asking.{KnowsAfterCall, KnowsAfterRefusal}
+use Rattle.rd_desk.specs.Desks.{IsViewerOf, IsNewViewer, AgreesWith, opened_state}
+use Rattle.rd_desk.specs.Histories.{entries, viewer_entry}
+use Rattle.rd_desk.specs.Viewers.{IsChain, IsRan}
 use Rattle.rd_script.specs.declared.faults.LineFault.{LineFault}
-use Rattle.rd_view.specs.Viewing.{commands_of, calls_of, passes_of, told_of, IsSeen, WasAnswered, AreAnswered}
+use Rattle.rd_view.specs.Viewing.{commands_of, calls_of, passes_of, answers_of, IsSeen, WasAnswered, AreAnswered}
 
 -- no list is one with an element before it
 no_cons : {A : Type 0} (x : A) (xs : List A) → [] ≡ x ∷ xs → ⊥
@@ -47,10 +48,10 @@ module _ (R : ℕ) (K : Ghosts (BookWithHistory R) Call (Book R)) (opened : Book
   ViewPass = Pass (BookWithHistory R) Call (Book R) K
 
   abbrev told : ViewPass → Command → Answer → ViewPass → Type 0
-  told pass command answer after = IsTold R opened pass after command answer
+  told pass command answer after = KnowsAfterCall R opened pass after command answer
 
   -- a refusal leaves number and own entries
-  refused_same : (p q : ViewPass) (r : DeskRefusal) → IsRefused R opened p q r → (number q ≡ number p) × (own q ≡ own p)
+  refused_same : (p q : ViewPass) (r : DeskRefusal) → KnowsAfterRefusal R opened p q r → (number q ≡ number p) × (own q ≡ own p)
   refused_same p q HistoryFull is = (is.0.same_number, is.0.same_own)
   refused_same p q _ is = (is.0.same_number, is.0.same_own)
 
@@ -75,7 +76,7 @@ module _ (R : ℕ) (K : Ghosts (BookWithHistory R) Call (Book R)) (opened : Book
   is_seen : (viewer : ℕ) (command : Command) (answer : Answer) (p q : ViewPass) → number p ≡ viewer → told p command answer q → IsSeen R opened viewer (seen p) command answer (seen q)
   is_seen viewer command (Ok answer) p q is asked = (
     asked.between,
-    subst (λ n. seen q ≡ (seen p ++ asked.between) ++ entry n command answer ∷ []) is asked.has_seen,
+    subst (λ n. seen q ≡ (seen p ++ asked.between) ++ viewer_entry n command answer ∷ []) is asked.has_seen,
     asked.room,
     asked.legal,
   )
@@ -106,24 +107,24 @@ module _ (R : ℕ) (K : Ghosts (BookWithHistory R) Call (Book R)) (desk : Desk R
   takes pass = IsViewerOf desk pass
 
   abbrev tells : Pass (BookWithHistory R) Call (Book R) K → Command → Answer → Pass (BookWithHistory R) Call (Book R) K → Type 0
-  tells pass command answer after = IsTold R (opened_state desk) pass after command answer
+  tells pass command answer after = KnowsAfterCall R (opened_state desk) pass after command answer
 
   -- the passes that come back are the desk's
   pub own_passes : (work : List (Pass (BookWithHistory R) Call (Book R) K × Vec Command Global)) (rans : List (Ran (Pass (BookWithHistory R) Call (Book R) K)))
-      → Pairs (IsRan takes tells) work rans → Every takes (passes_of rans)
+      → AllZip (IsRan takes tells) work rans → AllByRecursion takes (passes_of rans)
   own_passes [] [] pairs = tt
   own_passes (viewer ∷ work) (Answered pass answers ∷ rans) pairs = (pairs.0.0, own_passes work rans pairs.1)
   own_passes (viewer ∷ work) (NotStarted ∷ rans) pairs = own_passes work rans pairs.1
   own_passes _ _ pairs = absurd pairs
 
   -- new viewers may ask
-  pub new_may_ask : (work : List (Pass (BookWithHistory R) Call (Book R) K × Vec Command Global)) → Every (IsNewViewer desk) (map (λ viewer. viewer.0) work) → Every (λ viewer. takes viewer.0) work
+  pub new_may_ask : (work : List (Pass (BookWithHistory R) Call (Book R) K × Vec Command Global)) → AllByRecursion (IsNewViewer desk) (map (λ viewer. viewer.0) work) → AllByRecursion (λ viewer. takes viewer.0) work
   new_may_ask [] new = tt
   new_may_ask (viewer ∷ work) new = (new.0.is_viewer, new_may_ask work new.1)
 
   -- what a started viewer was answered
   was_answered : (history : History) (n : ℕ) (first last : Pass (BookWithHistory R) Call (Book R) K) (commands : List Command) (answers : List Answer)
-      → IsNewViewer desk first → number first ≡ n → IsChain tells first commands answers last → Tells history last
+      → IsNewViewer desk first → number first ≡ n → IsChain tells first commands answers last → AgreesWith history last
       → WasAnswered R (opened_state desk) (entries history) n commands answers
   was_answered history n first last commands answers new is chain knows =
       let grew = chain_grew R K (opened_state desk) commands answers first last chain in
@@ -140,9 +141,9 @@ module _ (R : ℕ) (K : Ghosts (BookWithHistory R) Call (Book R)) (desk : Desk R
 
   -- what all viewers were answered, from this number on
   pub all_answered : (history : History) (n : ℕ) (work : List (Pass (BookWithHistory R) Call (Book R) K × Vec Command Global)) (rans : List (Ran (Pass (BookWithHistory R) Call (Book R) K)))
-      (said : List (Vec (Result Command LineFault) Global)) → Pairs (IsRan takes tells) work rans → Every (IsNewViewer desk) (map (λ viewer. viewer.0) work)
+      (said : List (Vec (Result Command LineFault) Global)) → AllZip (IsRan takes tells) work rans → AllByRecursion (IsNewViewer desk) (map (λ viewer. viewer.0) work)
       → map number (map (λ viewer. viewer.0) work) ≡ numbers n (length work) → map (λ viewer. viewer.1.items) work ≡ map (λ lines. commands_of lines.items) said
-      → Every (Tells history) (passes_of rans) → AreAnswered R (opened_state desk) (entries history) n said (map told_of rans)
+      → AllByRecursion (AgreesWith history) (passes_of rans) → AreAnswered R (opened_state desk) (entries history) n said (map answers_of rans)
   all_answered history n [] [] [] pairs new is read knows = tt
   all_answered history n [] [] (lines ∷ said) pairs new is read knows = absurd (no_cons _ _ read)
   all_answered history n [] (ran ∷ rans) said pairs new is read knows = absurd pairs

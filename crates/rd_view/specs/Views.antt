@@ -1,5 +1,5 @@
--- The text of a view: for each viewer a heading and what its lines were answered, and last how many
--- calls were recorded.
+-- The text of a view: for each viewer a heading and the answers to its lines, and last the number
+-- of recorded calls.
 use Rattle.std.specs.Prelude.{ℕ, ◌+◌, List, [], ◌∷◌, ◌++◌, Option, Some, None, Result, Ok, Err, Vec}
 use Rattle.std.specs.Global.{Global}
 use Rattle.rd_step.specs.Prelude.{Refusal, NoMemory}
@@ -13,33 +13,34 @@ use Rattle.rd_script.specs.declared.writing.headings.Heading.TheVariants.{Viewer
 use Rattle.rd_script.specs.Headings.{heading_text}
 use Rattle.rd_script.specs.Replies.{LineAnswer, text_of}
 
--- what the desk answered, as the answer to a line
-abbrev pub line_answer : Result (Result Reply Refusal) DeskRefusal → LineAnswer
-line_answer (Ok (Ok reply)) = Ok reply
-line_answer (Ok (Err refusal)) = Err (Refused refusal)
-line_answer (Err desk.HistoryFull) = Err HistoryFull
-line_answer (Err desk.NotRecorded) = Err NotRecorded
-line_answer (Err desk.TicketsEnded) = Err TicketsEnded
-line_answer (Err (desk.Busy words)) = Err (Busy words.next words.served)
+-- the answer to a line, by what the desk answered to its command
+abbrev pub desk_answer : Result (Result Reply Refusal) DeskRefusal → LineAnswer
+desk_answer (Ok (Ok reply)) = Ok reply
+desk_answer (Ok (Err refusal)) = Err (Refused refusal)
+desk_answer (Err desk.HistoryFull) = Err HistoryFull
+desk_answer (Err desk.NotRecorded) = Err NotRecorded
+desk_answer (Err desk.TicketsEnded) = Err TicketsEnded
+desk_answer (Err (desk.Busy words)) = Err (Busy words.next words.served)
 
--- what the lines of a script were answered, line by line: a fault by itself, each command by the
--- next answer
+-- the text of the answers to a script's lines, one by one: for a fault its own refusal, for a
+-- command the next answer
 abbrev pub report_text : List (Result Command LineFault) → List (Result (Result Reply Refusal) DeskRefusal) → List ℕ
 report_text [] answers = []
 report_text (Err fault ∷ said) answers = text_of (Err (Unread fault)) ++ report_text said answers
-report_text (Ok command ∷ said) (answer ∷ answers) = text_of (line_answer answer) ++ report_text said answers
+report_text (Ok command ∷ said) (answer ∷ answers) = text_of (desk_answer answer) ++ report_text said answers
 report_text (Ok command ∷ said) [] = []
 
--- the lines of a viewer: it was asked, or it was not started for want of memory
+-- the text of the answers to a viewer's lines, or, if its thread was not started, one line that
+-- memory was refused
 abbrev pub replies_text : List (Result Command LineFault) → Option (Vec (Result (Result Reply Refusal) DeskRefusal) Global) → List ℕ
 replies_text said (Some answers) = report_text said answers.items
 replies_text said None = text_of (Err (Refused NoMemory))
 
--- a viewer's heading and its lines
+-- the text for one viewer: its heading, and the answers to its lines
 abbrev pub viewer_text : ℕ → List (Result Command LineFault) → Option (Vec (Result (Result Reply Refusal) DeskRefusal) Global) → List ℕ
 viewer_text number said told = heading_text (Viewer number) ++ replies_text said told
 
--- the viewers from this number on, and the number of recorded calls
+-- the text for the viewers from this number on, and after them the number of recorded calls
 abbrev pub view_text : ℕ → List (Vec (Result Command LineFault) Global) → List (Option (Vec (Result (Result Reply Refusal) DeskRefusal) Global)) → ℕ → List ℕ
 view_text number (said ∷ others) (told ∷ more) calls = viewer_text number said.items told ++ view_text (number + 1) others more calls
 view_text number [] told calls = heading_text (History calls)

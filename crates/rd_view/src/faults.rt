@@ -14,7 +14,7 @@ pub enum ViewFault {
     NoMemory,
     /// 25: the writer failed or took nothing. A beginning of the text was written.
     Write,
-    /// 30: the desk could not be closed, with two words of the lock that differ. Nothing was
+    /// 30: the desk could not be closed; with the two words of its lock, which differ. Nothing was
     /// written.
     Busy(Busy),
 }
@@ -22,6 +22,7 @@ pub enum ViewFault {
 impl From<AllocError> for ViewFault {
     ghost from_gives = { λ error fault. fault ≡ NoMemory };
 
+    /// Memory that was refused is the fault `NoMemory`.
     fn from(_: AllocError) -> ViewFault {
         ViewFault::NoMemory
     }
@@ -30,6 +31,7 @@ impl From<AllocError> for ViewFault {
 impl From<WriteFault> for ViewFault {
     ghost from_gives = { λ error fault. fault ≡ Write };
 
+    /// A sink that failed is the fault `Write`.
     fn from(_: WriteFault) -> ViewFault {
         ViewFault::Write
     }

@@ -6,5 +6,5 @@ mod reports;
 mod viewing;
 
 pub use faults::ViewFault;
-pub use reports::{Said, text_of_view};
+pub use reports::{ParsedLine, text_of_view};
 pub use viewing::view_scripts;

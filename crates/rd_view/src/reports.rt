@@ -1,12 +1,12 @@
-//! The text of a view: for each viewer a heading and what its lines were answered, and last how
-//! many calls were recorded.
+//! The text of a view: for each viewer a heading and the answers to its lines, and last the number
+//! of recorded calls.
 //!
 //! It is put together in memory before any of it is handed to a writer. Each line is made in one
 //! buffer, and put after the others.
 
 ghost use Rattle.std.specs.Prelude.{◌≡◌, ◌++◌, length, IfOk, OnOk};
 ghost use Rattle.rd_script.specs.Replies.{text_of};
-ghost use Rattle.rd_view.specs.Views.{line_answer, report_text, viewer_text, view_text};
+ghost use Rattle.rd_view.specs.Views.{desk_answer, report_text, viewer_text, view_text};
 
 use rd_cell::Refusal;
 use rd_desk::{Answer, DeskRefusal};
@@ -14,15 +14,15 @@ use rd_marks::Command;
 use rd_script::{AnyRefusal, Heading, LineAnswer, LineFault, Text, set_heading, set_text};
 use std::alloc::{AllocError, Global};
 
-/// What a line of a script says: a command, or a fault.
-pub type Said = Result<Command, LineFault>;
+/// What a line of a script spells: a command, or the line's fault.
+pub type ParsedLine = Result<Command, LineFault>;
 
-/// The text of a view: for each viewer in order its heading and the answers to its lines, and last
-/// how many calls were recorded. A viewer that was not started, which has no answers, has one line
-/// that says that memory was refused.
+/// Returns the text of a view: for each viewer in order its heading and the answers to its lines,
+/// and last the number of recorded calls. A viewer that was not started, which has no answers, gets
+/// one line that memory was refused. Fails only if memory is refused.
 pub fn text_of_view(
     alloc: Global,
-    said: &[Vec<Said>],
+    said: &[Vec<ParsedLine>],
     told: &[Option<Vec<Answer>>],
     calls: u64,
 ) -> Result<Vec<u8>, AllocError>
@@ -45,12 +45,12 @@ pub fn text_of_view(
     Ok(text)
 }
 
-/// Appends the heading of a viewer to the text, and the answers to its lines.
+/// Appends to the text the heading of a viewer, and the answers to its lines.
 fn put_viewer(
     text: &mut Vec<u8>,
     line: &mut Text,
     number: u64,
-    said: &[Said],
+    said: &[ParsedLine],
     told: &Option<Vec<Answer>>,
 ) -> Result<(), AllocError>
     ensures { OnOk result (text.new.items ≡ text.old.items ++ viewer_text number said.now told.now) }
@@ -63,12 +63,12 @@ fn put_viewer(
     }
 }
 
-/// Appends the answers to the lines of a script to the text: a line that spells no command has its
-/// fault, each other one the next answer.
+/// Appends to the text the answers to the lines of a script: for a line that spells no command its
+/// fault, for any other the next answer.
 fn put_report(
     text: &mut Vec<u8>,
     line: &mut Text,
-    said: &[Said],
+    said: &[ParsedLine],
     answers: &[Answer],
 ) -> Result<(), AllocError>
     ensures { OnOk result (text.new.items ≡ text.old.items ++ report_text said.now answers.now) }
@@ -82,7 +82,7 @@ fn put_report(
                     return Ok(());
                 };
                 asked += 1;
-                line_answer(answer)
+                desk_answer(answer)
             }
         };
         put_answer(text, line, &answer)?;
@@ -90,7 +90,7 @@ fn put_report(
     Ok(())
 }
 
-/// Appends the line of an answer to the text.
+/// Appends to the text the line of one answer, which is made in the buffer `line`.
 fn put_answer(text: &mut Vec<u8>, line: &mut Text, answer: &LineAnswer) -> Result<(), AllocError>
     ensures { OnOk result (text.new.items ≡ text.old.items ++ text_of answer.now) }
 {
@@ -98,9 +98,9 @@ fn put_answer(text: &mut Vec<u8>, line: &mut Text, answer: &LineAnswer) -> Resul
     text.extend_from_slice(line.as_slice())
 }
 
-/// What the desk answered, as the answer to a line.
-fn line_answer(answer: &Answer) -> LineAnswer
-    ensures { result ≡ line_answer answer.now }
+/// Returns the answer to a line, by what the desk answered to its command.
+fn desk_answer(answer: &Answer) -> LineAnswer
+    ensures { result ≡ desk_answer answer.now }
 {
     match *answer {
         Ok(Ok(reply)) => Ok(reply),

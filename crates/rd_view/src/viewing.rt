@@ -9,22 +9,22 @@ ghost use Rattle.std.specs.Prelude.{◌≡◌, ◌≤◌, false, length, map, If
 ghost use Rattle.rd_marks.specs.BookViews.{book_state};
 ghost use Rattle.rd_desk.specs.declared.desks.TheConstants.{MOST_VIEWERS};
 ghost use Rattle.rd_desk.specs.Histories.{entries};
-ghost use Rattle.rd_view.specs.Viewing.{AreRead, IsUnviewed, IsViewed, ViewsScripts, commands_of, passes_of, told_of};
+ghost use Rattle.rd_view.specs.Viewing.{AreRead, IsUnviewed, IsViewed, ViewsScripts, commands_of, passes_of, answers_of};
 
 use super::faults::ViewFault;
-use super::reports::{Said, text_of_view};
+use super::reports::{ParsedLine, text_of_view};
 use rd_desk::{Answer, Desk, DeskPass, History, Ran, run_viewers};
 use rd_marks::{Book, Command};
-use rd_script::{Sink, hand_over, lines};
+use rd_script::{Sink, lines, write_all};
 use std::alloc::{AllocError, Global};
 use std::sync::Wait;
 use std::thread::Threads;
 
-/// What each viewer was told: its answers, or none if it was not started.
-type Told = Vec<Option<Vec<Answer>>>;
+/// The answers to each viewer, or none if its thread was not started.
+type ViewerAnswers = Vec<Option<Vec<Answer>>>;
 
-/// Runs 1 to 64 scripts over the book, each by a viewer in its own thread, and writes what their
-/// lines were answered. Returns the history of all calls. The book is lost.
+/// Runs 1 to 64 scripts over the book, each by a viewer in its own thread, and writes the answers
+/// to their lines. Returns the history of all calls. The book is lost.
 ///
 /// # Errors
 ///
@@ -44,14 +44,14 @@ pub fn view_scripts<R: Threads + Wait + Sync, K: Sink, const N: usize>(
         (K.contents writer.old) (K.contents writer.new) (K.has_failed writer.new) result }
 {
     let said = lines_of_all(alloc, scripts)?;
-    let (told, history) = viewed(rt, alloc, said.as_slice(), book)?;
+    let (told, history) = run_over_desk(rt, alloc, said.as_slice(), book)?;
     let text = text_of_view(alloc, said.as_slice(), told.as_slice(), history.len())?;
-    hand_over(writer, text.as_slice())?;
+    write_all(writer, text.as_slice())?;
     Ok(history)
 }
 
-/// What the lines of each script say.
-fn lines_of_all(alloc: Global, scripts: &[Vec<u8>]) -> Result<Vec<Vec<Said>>, AllocError>
+/// Returns the commands and the faults of the lines of each script, or fails if memory is refused.
+fn lines_of_all(alloc: Global, scripts: &[Vec<u8>]) -> Result<Vec<Vec<ParsedLine>>, AllocError>
     ensures { IfOk result (λ said. AreRead scripts.now said.items) }
 {
     let mut said = Vec::new(alloc);
@@ -64,14 +64,14 @@ fn lines_of_all(alloc: Global, scripts: &[Vec<u8>]) -> Result<Vec<Vec<Said>>, Al
     Ok(said)
 }
 
-/// Asks the commands of each viewer's lines over one desk, and closes it: what each viewer was
-/// told, and the history.
-fn viewed<R: Threads + Wait + Sync, const N: usize>(
+/// Asks the commands of each viewer's lines over one desk, and closes it. Returns the answers to
+/// each viewer, and the history.
+fn run_over_desk<R: Threads + Wait + Sync, const N: usize>(
     rt: &R,
     alloc: Global,
-    said: &[Vec<Said>],
+    said: &[Vec<ParsedLine>],
     book: Book<N>,
-) -> Result<(Told, History), ViewFault>
+) -> Result<(ViewerAnswers, History), ViewFault>
     requires some { 1 ≤ length said.now }
     requires few { length said.now ≤ MOST_VIEWERS }
     ensures ok { IfOk result (λ done. IsViewed N (book_state book.entry) said.now done.0.items (entries done.1)) }
@@ -80,22 +80,22 @@ fn viewed<R: Threads + Wait + Sync, const N: usize>(
     let Ok((desk, passes)) = Desk::open(alloc, book, said.len() as u64) else {
         return Err(ViewFault::NoMemory);
     };
-    let work = work_for(alloc, passes, said)?;
+    let work = passes_with_commands(alloc, passes, said)?;
     let Ok(rans) = run_viewers(rt, alloc, &desk, work) else {
         return Err(ViewFault::NoMemory);
     };
-    let (passes, told) = gathered(alloc, rans)?;
+    let (passes, told) = passes_and_answers(alloc, rans)?;
     match desk.close(passes) {
         Ok((_, history)) => Ok((told, history)),
         Err(words) => Err(ViewFault::Busy(words)),
     }
 }
 
-/// Each viewer's pass with the commands of its lines.
-fn work_for<const N: usize>(
+/// Returns each viewer's pass with the commands of its lines, or fails if memory is refused.
+fn passes_with_commands<const N: usize>(
     alloc: Global,
     passes: Vec<DeskPass<N>>,
-    said: &[Vec<Said>],
+    said: &[Vec<ParsedLine>],
 ) -> Result<Vec<(DeskPass<N>, Vec<Command>)>, AllocError>
     requires { length passes.items ≡ length said.now }
     ensures passes { IfOk result (λ work. map (λ viewer. viewer.0) work.items ≡ passes.entry.items) }
@@ -109,8 +109,8 @@ fn work_for<const N: usize>(
     Ok(work)
 }
 
-/// The commands that lines say.
-fn commands_in(alloc: Global, said: &[Said]) -> Result<Vec<Command>, AllocError>
+/// Returns the commands among what lines spell, in their order, or fails if memory is refused.
+fn commands_in(alloc: Global, said: &[ParsedLine]) -> Result<Vec<Command>, AllocError>
     ensures { IfOk result (λ commands. commands.items ≡ commands_of said.now) }
 {
     let mut commands = Vec::new(alloc);
@@ -122,13 +122,13 @@ fn commands_in(alloc: Global, said: &[Said]) -> Result<Vec<Command>, AllocError>
     Ok(commands)
 }
 
-/// The passes of the viewers that were started, and what each viewer was told.
-fn gathered<const N: usize>(
+/// Returns the passes of the viewers whose threads were started, and the answers to each viewer.
+fn passes_and_answers<const N: usize>(
     alloc: Global,
     rans: Vec<Ran<DeskPass<N>>>,
-) -> Result<(Vec<DeskPass<N>>, Told), AllocError>
+) -> Result<(Vec<DeskPass<N>>, ViewerAnswers), AllocError>
     ensures passes { IfOk result (λ done. done.0.items ≡ passes_of rans.entry.items) }
-    ensures told { IfOk result (λ done. done.1.items ≡ map told_of rans.entry.items) }
+    ensures told { IfOk result (λ done. done.1.items ≡ map answers_of rans.entry.items) }
 {
     let mut passes = Vec::new(alloc);
     let mut told = Vec::new(alloc);

@@ -1,9 +1,9 @@
-//! Rehearsals of the program: command lines that are done as `main` of lcrqdb does them, over an
-//! input, an output and errors in memory.
+//! Rehearsals of the program: command lines that are done as `main` of lcrqdb does them, with the
+//! input, the output and the errors in memory.
 //!
-//! For each command line one reads which status it ends with and what is on the two streams then.
-//! Files are those of `data/`. What is written was checked by hand, and the gate compares it with
-//! the stored `stdout`.
+//! For each command line the status with which it ends is printed, and what is then on the two
+//! streams. Files are those of `data/`. The output was checked by hand, and the gate compares it
+//! with the stored `stdout`.
 #![tactic(auto)]
 
 use rd_command_line::perform;
@@ -25,11 +25,11 @@ struct Rehearsal {
     room: usize,
 }
 
-/// The room of an output that doesn't fail.
+/// The number of bytes that an output takes if it is not to fail.
 const AMPLE: usize = 1_000_000;
 
-/// The command lines, in order. The script on the input of those that open a file differs from that
-/// file's.
+/// The command lines, in order. Where one opens a file, the script on the input differs from that
+/// in the file.
 const REHEARSALS: [Rehearsal; 27] = [
     Rehearsal {
         words: &[
@@ -184,7 +184,7 @@ const REHEARSALS: [Rehearsal; 27] = [
     },
 ];
 
-/// A stream in memory, which takes this many bytes and then fails.
+/// A stream in memory, which takes `room` bytes and then fails.
 #[derive(Drop)]
 struct Stream<'a> {
     taken: &'a mut Vec<u8>,
@@ -192,6 +192,7 @@ struct Stream<'a> {
 }
 
 impl<'a> io::Write for Stream<'a> {
+    /// Takes as many bytes as the stream has room for; fails if it has none.
     fn write(&mut self, buf: &[u8]) -> io::Result<usize> {
         if self.room == 0 {
             return Err(io::Error::from(io::ErrorKind::BrokenPipe));
@@ -202,14 +203,16 @@ impl<'a> io::Write for Stream<'a> {
         Ok(count)
     }
 
+    /// Does nothing, as the stream has no buffer.
     fn flush(&mut self) -> io::Result<()> {
         Ok(())
     }
 }
 
-/// This many viewers are the most that there may be, and one more is one too many.
+/// Two numbers of viewers: the most that there may be, and one too many.
 const CROWDS: [usize; 2] = [64, 65];
 
+/// Does all command lines, and prints what came of each.
 fn main(rt: HostRuntime) -> io::Result<()> {
     let alloc = rt.alloc();
     for rehearsal in &REHEARSALS {
@@ -226,7 +229,7 @@ fn main(rt: HostRuntime) -> io::Result<()> {
     Ok(())
 }
 
-/// Does one command line, and prints what came of it.
+/// Does one command line, and prints its status and what it wrote to the two streams.
 fn rehearse<R: Files + Threads + Wait + Print + Sync>(
     rt: &R,
     alloc: Global,
@@ -251,13 +254,13 @@ fn rehearse<R: Files + Threads + Wait + Print + Sync>(
         &mut WriteSink::new(stream),
         &mut WriteSink::new(&mut errors),
     );
-    println!(rt; "  status: {}", name_of(status))?;
+    println!(rt; "  status: {}", status_text(status))?;
     print_stream(rt, "output", &output)?;
     print_stream(rt, "errors", &errors)
 }
 
-/// The number of a status that the program may end with.
-fn name_of(status: ExitCode) -> &'static str {
+/// Returns the number, as a text, of a status with which the program may end.
+fn status_text(status: ExitCode) -> &'static str {
     if status == ExitCode::SUCCESS {
         "0"
     } else if status == ExitCode::FAILURE {
@@ -269,7 +272,7 @@ fn name_of(status: ExitCode) -> &'static str {
     }
 }
 
-/// Prints what a stream has taken, each line after the stream's name.
+/// Prints what a stream has taken, with the stream's name before each line.
 fn print_stream<R: Print>(rt: &R, name: &str, taken: &[u8]) -> io::Result<()> {
     if taken.is_empty() {
         return println!(rt; "  {name}: nothing");

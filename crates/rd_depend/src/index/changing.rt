@@ -53,7 +53,8 @@ impl DependIndex {
         Ok(())
     }
 
-    /// Makes room for one more position wherever the entry's is to be kept, and finds its keys.
+    /// Makes room for one more position in each list that is to keep the entry, and returns the
+    /// indices of its keys. Fails if memory was refused.
     fn reserve(&mut self, entry: &Entry, homes: &Homes) -> Result<Slots, AllocError>
         requires { homes.now ≡ homes_of entry.now }
         ensures same { Keeps self.old self.new }
@@ -110,7 +111,7 @@ impl DependIndex {
             .take_last(homes.segment.key, homes.segment.wrote);
     }
 
-    /// Moves a position behind those above it up to `n`, which are one less then.
+    /// Moves a position after those above it up to `n`, which become one less.
     pub(super) fn move_position(&mut self, k: u32, n: u32)
         requires some { 1 ≤ k }
         requires order { k ≤ n }
@@ -133,7 +134,7 @@ impl DependIndex {
     ///
     /// # Errors
     ///
-    /// If memory was refused.
+    /// `AllocError` if memory was refused.
     pub(super) fn add_all(&mut self, entries: &[Entry]) -> Result<(), AllocError>
         requires index { IsIndex self.old }
         requires few { self.old.len + length entries.now ≤ MOST_STEPS }
@@ -151,7 +152,7 @@ impl DependIndex {
         Ok(())
     }
 
-    /// Pushes these entries until one is refused, and gives how many were not.
+    /// Pushes these entries until one is refused memory, and returns how many were pushed.
     pub(super) fn add_some(&mut self, entries: &[Entry]) -> usize
         requires { self.old.len + length entries.now ≤ MOST_STEPS }
         ensures within { result ≤ length entries.now }
@@ -181,7 +182,7 @@ impl DependIndex {
     }
 }
 
-/// Where the entry is kept.
+/// Returns the keys under which an entry is kept, each with whether it is kept there as a write.
 fn homes_of(entry: &Entry) -> Homes
     ensures { result ≡ homes_of entry.now }
 {
@@ -202,7 +203,7 @@ fn homes_of(entry: &Entry) -> Homes
     }
 }
 
-/// The key of the place, if there is one: of a cell that of its index half.
+/// Returns the key of the place, if there is one; for a cell that of its index half.
 pub(crate) fn place_key(place: Option<Place>) -> Option<Key>
     ensures { result ≡ place_key place }
 {
@@ -212,7 +213,7 @@ pub(crate) fn place_key(place: Option<Place>) -> Option<Key>
     }
 }
 
-/// The key of the cell's value half, if the place is a cell.
+/// Returns the key of the value half of this place, if there is a place and it is a cell.
 pub(crate) fn value_key(place: Option<Place>) -> Option<Key>
     ensures { result ≡ value_key place }
 {
@@ -236,7 +237,8 @@ pub(crate) fn is_value_written(wrote: Wrote) -> bool
     matches!(wrote, Wrote::Place)
 }
 
-/// The key of the segment that the place is one of, if there is one.
+/// Returns the key of the segment to which a place belongs, or of which it is the whole, if there
+/// is one.
 pub(crate) fn segment_key(place: Option<Place>) -> Option<Key>
     ensures { result ≡ segment_key place }
 {

@@ -35,8 +35,8 @@ impl DependIndex {
         }
     }
 
-    /// Whether there is a position greater than `k` that depends on the entry. The actor is asked
-    /// first, which mostly tells.
+    /// Whether there is a position greater than `k` that depends on the entry. The actor's
+    /// positions are looked at first, which mostly decide.
     pub(super) fn is_one_above(&self, k: u32, entry: &Entry, probes: &mut Probes) -> bool
         requires few { self.now.len ≤ MOST_STEPS }
         requires counted { probes.old.count < 2 ^ 31 }
@@ -48,8 +48,8 @@ impl DependIndex {
         self.first_above(k, entry, probes).is_some()
     }
 
-    /// The first position greater than `k` of a step that interferes with an access that wrote this
-    /// of its place.
+    /// Returns the first position greater than `k` of a step that interferes with an access at this
+    /// place that wrote this of it; none if there is no such step.
     fn first_at(&self, k: u32, place: Place, wrote: Wrote, probes: &mut Probes) -> Option<u64>
         requires few { self.now.len ≤ MOST_STEPS }
         requires counted { probes.old.count < 2 ^ 33 }
@@ -66,8 +66,8 @@ impl DependIndex {
         earlier(by_value, earlier(own, whole))
     }
 
-    /// The first position greater than `k` of a step that is kept under the key, of all of these or
-    /// of those that wrote; at most 19 probes.
+    /// Returns the first position greater than `k` that is kept under the key, among all positions
+    /// or among those that wrote. It makes at most 19 probes.
     fn first_under(
         &self,
         k: u32,
@@ -88,7 +88,8 @@ impl DependIndex {
         Positions::found(self.by_key.list(key, writes), probes).first_above(k, probes)
     }
 
-    /// The first position greater than `k` of the actor; at most 19 probes.
+    /// Returns the first position greater than `k` of a step of this actor, if there is one. It
+    /// makes at most 19 probes.
     fn first_by(&self, k: u32, actor: u8, probes: &mut Probes) -> Option<u64>
         requires { probes.old.count < 2 ^ 34 }
         ensures answer { IsAscending (list_at self.now.by_actor.items actor) → length (list_at self.now.by_actor.items actor) < 2 ^ 17
@@ -101,7 +102,7 @@ impl DependIndex {
     }
 }
 
-/// The actor's positions.
+/// Returns the positions of this actor's steps.
 fn positions_of(by_actor: &[Vec<u32>], actor: u8) -> &[u32]
     ensures { result.now ≡ list_at by_actor.now actor }
 {
@@ -113,7 +114,7 @@ fn positions_of(by_actor: &[Vec<u32>], actor: u8) -> &[u32]
     }
 }
 
-/// The lesser of two positions, or the one that is there.
+/// Returns the lesser of two positions, or the one that is there, if one is.
 fn earlier(a: Option<u64>, b: Option<u64>) -> Option<u64>
     ensures { result ≡ earlier a b }
 {

@@ -22,7 +22,8 @@ pub(crate) enum Key {
 }
 
 impl Key {
-    /// The key of the segment that the place is one of, or the whole of.
+    /// Returns the key of the segment to which a place belongs, or of which it is the whole, if
+    /// there is one.
     pub(crate) fn of_segment(place: Place) -> Option<Key>
         ensures { result ≡ segment_of_place place }
     {
@@ -39,8 +40,8 @@ impl Key {
         }
     }
 
-    /// The key of the places that a place names, but for the value half of a cell: of the whole of
-    /// a segment the segment's.
+    /// Returns the key of all places that a place names, except the value half of a cell: for the
+    /// whole of a segment the segment's, else the place's.
     pub(crate) fn of_place(place: Place) -> Key
         ensures { result ≡ own_key place }
     {
@@ -50,7 +51,7 @@ impl Key {
         }
     }
 
-    /// The key of the whole of the segment that has the place, if one has it.
+    /// Returns the key of the whole of the segment to which a place belongs, if there is one.
     pub(crate) fn of_whole(place: Place) -> Option<Key>
         ensures { result ≡ whole_key place }
     {
@@ -60,7 +61,7 @@ impl Key {
         }
     }
 
-    /// The number that the key is hashed as.
+    /// Returns the number as which the key is hashed.
     pub(crate) fn number(&self) -> u64
         ensures { result ≡ key_number self.now }
     {
@@ -71,7 +72,7 @@ impl Key {
     }
 }
 
-/// The number of the key of a place.
+/// Returns the number as which the key of a place is hashed.
 fn place_number(place: Place) -> u64
     ensures { result ≡ place_number place }
 {
@@ -91,7 +92,7 @@ fn place_number(place: Place) -> u64
     }
 }
 
-/// A number for a part of a segment.
+/// Returns a number for a part of a segment: its kind, the segment's name and an index.
 fn packed(part: u8, name: SegName, index: u8) -> u64
     ensures { result ≡ packed part name index }
 {
@@ -104,6 +105,7 @@ impl PartialEq for Key {
 
     ghost laws = { partial_equiv_from_equiv key_equiv };
 
+    /// Whether two keys are equal.
     fn eq(&self, other: &Key) -> bool {
         match (*self, *other) {
             (Key::At(p), Key::At(q)) => p == q,
@@ -122,6 +124,7 @@ impl Hash for Key {
 
     ghost respects_eq = { key_number-same };
 
+    /// Hashes the key as one number.
     fn hash<H: Hasher>(&self, state: &mut H) {
         state.write_u64(self.number());
     }

@@ -5,11 +5,11 @@ ghost use Rattle.rd_depend.specs.Lists.{one_if, list_at, capacity_at, spare_at, 
 
 use std::alloc::{AllocError, Global};
 
-/// Makes lists with no position until there are this many.
+/// Adds empty lists until there are this many.
 ///
 /// # Errors
 ///
-/// If memory was refused. No list that was there has changed then.
+/// `AllocError` if memory was refused. No list that was there has changed then.
 pub(crate) fn grow(
     lists: &mut Vec<Vec<u32>>,
     alloc: Global,
@@ -30,7 +30,7 @@ pub(crate) fn grow(
 ///
 /// # Errors
 ///
-/// If memory was refused.
+/// `AllocError` if memory was refused.
 pub(crate) fn reserve_in(lists: &mut Vec<Vec<u32>>, index: usize) -> Result<(), AllocError>
     requires { index < length lists.old.items }
     ensures lists { (i : ℕ) → list_at lists.new.items i ≡ list_at lists.old.items i }
@@ -42,7 +42,8 @@ pub(crate) fn reserve_in(lists: &mut Vec<Vec<u32>>, index: usize) -> Result<(), 
     reserve(&mut lists[index])
 }
 
-/// The same, if it is wanted.
+/// Makes room for one more position in the list of this number, if `wanted`; fails if memory was
+/// refused.
 pub(crate) fn reserve_if(
     lists: &mut Vec<Vec<u32>>,
     wanted: bool,
@@ -62,7 +63,7 @@ pub(crate) fn reserve_if(
     }
 }
 
-/// Makes room for one more position.
+/// Makes room for one more position in a list, or fails if memory was refused.
 fn reserve(list: &mut Vec<u32>) -> Result<(), AllocError>
     ensures items { list.new.items ≡ list.old.items }
     ensures room { spare_of list.old ≤ spare_of list.new }
@@ -86,7 +87,7 @@ pub(crate) fn put_in(lists: &mut Vec<Vec<u32>>, index: usize, position: u32)
     lists[index].push_reserved(position);
 }
 
-/// The same, if it is wanted.
+/// Puts a position at the end of the list of this number, if `wanted`.
 pub(crate) fn put_if(lists: &mut Vec<Vec<u32>>, wanted: bool, index: usize, position: u32)
     requires { wanted ≡ true → 0 < spare_at lists.old.items index }
     ensures lists { (i : ℕ) → list_at lists.new.items i
@@ -110,7 +111,7 @@ pub(crate) fn take_last_in(lists: &mut Vec<Vec<u32>>, index: usize)
     let _last = lists[index].pop();
 }
 
-/// The same, if it is wanted.
+/// Takes the last position out of the list of this number, if `wanted`.
 pub(crate) fn take_last_if(lists: &mut Vec<Vec<u32>>, wanted: bool, index: usize)
     requires { wanted ≡ true → 1 ≤ length (list_at lists.old.items index) }
     ensures lists { (i : ℕ) → list_at lists.new.items i
@@ -123,7 +124,7 @@ pub(crate) fn take_last_if(lists: &mut Vec<Vec<u32>>, wanted: bool, index: usize
     }
 }
 
-/// Moves a position behind those above it up to `n` in each list that has it, and takes 1 off these
+/// Moves a position after those above it up to `n` in each list that has it, and takes 1 off these
 /// in each list.
 pub(crate) fn move_all(lists: &mut Vec<Vec<u32>>, k: u32, n: u32)
     requires some { 1 ≤ k }
@@ -137,7 +138,7 @@ pub(crate) fn move_all(lists: &mut Vec<Vec<u32>>, k: u32, n: u32)
     }
 }
 
-/// The same in one list.
+/// Moves a position, if it is in the list, after those above it up to `n`, and takes 1 off these.
 fn move_in(list: &mut Vec<u32>, k: u32, n: u32)
     requires some { 1 ≤ k }
     requires order { k ≤ n }
@@ -173,7 +174,8 @@ fn ends_before(list: &[u32], k: u32) -> bool
     last < k
 }
 
-/// Takes 1 off each position above `k`; if the first one is `k`, it becomes the last one, and `n`.
+/// Subtracts 1 from each position above `k`. If the first position is `k`, it is moved to the end
+/// and becomes `n`.
 fn move_first(positions: &mut [u32], k: u32, n: u32)
     requires { 1 ≤ k }
     ensures { (later : List ℕ) (held : Bool) → AscendsFrom (suc k) later → positions.old ≡ with_first held k later
@@ -187,7 +189,7 @@ fn move_first(positions: &mut [u32], k: u32, n: u32)
     }
 }
 
-/// Takes 1 off each position.
+/// Subtracts 1 from each position.
 fn lower(positions: &mut [u32])
     ensures { positions.new ≡ map (λ p. p - 1) positions.old }
 {
@@ -196,7 +198,7 @@ fn lower(positions: &mut [u32])
     }
 }
 
-/// How many positions are before the first that is greater than `k`, by halving.
+/// Returns how many positions are before the first that is greater than `k`, by halving.
 fn number_up_to(k: u32, list: &[u32]) -> usize
     ensures within { result ≤ length list.now }
     ensures number { IsAscending list.now → result ≡ number_up_to k list.now }

@@ -4,15 +4,15 @@ ghost use Rattle.std.specs.Prelude.{◌≡◌, ◌+◌, ◌<◌, ◌^◌, length
 
 use super::probes::Probes;
 
-/// The positions that one list keeps. Outside this file they are read by `look` alone, which
-/// counts.
+/// The positions that one list keeps. Outside this file they are read by `look` alone, which counts
+/// a probe.
 #[derive(Clone, Copy)]
 pub(crate) struct Positions<'a> {
     items: &'a [u32],
 }
 
 impl<'a> Positions<'a> {
-    /// Those of this list, which a look-up found.
+    /// Returns the positions of this list, which a look-up found.
     pub(crate) fn found(items: &'a [u32], probes: &mut Probes) -> Positions<'a>
         requires { probes.old.count < 2 ^ 63 }
         ensures items { result.items.now ≡ items.now }
@@ -22,14 +22,14 @@ impl<'a> Positions<'a> {
         Positions { items }
     }
 
-    /// How many there are.
+    /// Returns the number of positions.
     pub(crate) fn len(&self) -> usize
         ensures { result ≡ length self.now.items.now }
     {
         self.items.len()
     }
 
-    /// The position of this index.
+    /// Returns the position at this index.
     pub(crate) fn look(&self, index: usize, probes: &mut Probes) -> u32
         requires within { index < length self.now.items.now }
         requires few { probes.old.count < 2 ^ 63 }

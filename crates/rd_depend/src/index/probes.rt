@@ -10,14 +10,14 @@ pub struct Probes {
 }
 
 impl Probes {
-    /// No probe yet.
+    /// Returns a count of no probes.
     pub fn new() -> Probes
         ensures { result.count ≡ 0 }
     {
         Probes { count: 0 }
     }
 
-    /// How many there were.
+    /// Returns the number of probes that were counted.
     pub fn count(&self) -> u64
         ensures { result ≡ self.now.count }
     {

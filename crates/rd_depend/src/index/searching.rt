@@ -7,7 +7,7 @@ use super::positions::Positions;
 use super::probes::Probes;
 
 impl<'a> Positions<'a> {
-    /// How many of them are at most `k`, by halving; at most 17 probes.
+    /// Returns how many of the positions are at most `k`, by halving. It makes at most 17 probes.
     fn count_up_to(&self, k: u32, probes: &mut Probes) -> usize
         requires { probes.old.count < 2 ^ 62 }
         ensures within { result ≤ length self.now.items.now }
@@ -31,7 +31,8 @@ impl<'a> Positions<'a> {
         low
     }
 
-    /// The least of them that is greater than `k`; at most 18 probes.
+    /// Returns the least position that is greater than `k`, if there is one. It makes at most 18
+    /// probes.
     pub(crate) fn first_above(&self, k: u32, probes: &mut Probes) -> Option<u64>
         requires { probes.old.count < 2 ^ 61 }
         ensures first { IsAscending self.now.items.now → length self.now.items.now < 2 ^ 17 → result ≡ first_above k self.now.items.now }
@@ -46,7 +47,8 @@ impl<'a> Positions<'a> {
         }
     }
 
-    /// The greatest of them that is at most `k`; at most 18 probes.
+    /// Returns the greatest position that is at most `k`, if there is one. It makes at most 18
+    /// probes.
     pub(crate) fn last_up_to(&self, k: u32, probes: &mut Probes) -> Option<u64>
         requires { probes.old.count < 2 ^ 61 }
         ensures last { IsAscending self.now.items.now → length self.now.items.now < 2 ^ 17 → result ≡ last_of (up_to k self.now.items.now) }

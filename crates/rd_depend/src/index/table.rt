@@ -32,7 +32,7 @@ impl Table {
     ghost use Rattle.rd_depend.specs.Tables.{kept_in, spare_in, counts, IsReady, IsReadyAt, AreReady, AreReadyAt, KeepsLists, Puts, HasLast, TakesLast, Moves, Cuts};
     ghost use Rattle.rd_depend.specs.declared.index.keys.Key.{Key as Kept};
 
-    /// No key; it takes no memory.
+    /// Returns a table without keys. It takes no memory.
     pub(crate) fn new(alloc: Global) -> Table
         ensures { (w : Bool) (k : Kept) → kept_in result w k ≡ [] }
     {
@@ -44,7 +44,7 @@ impl Table {
         }
     }
 
-    /// The index of the key, if it is there.
+    /// Returns the index of the key, if it is in the table.
     pub(crate) fn slot(&self, key: Key) -> Option<usize>
         ensures slot { result ≡ slot_in self.now.keys.keys key }
         ensures within { IfSome result (λ i. i < length self.now.keys.keys) }
@@ -56,7 +56,7 @@ impl Table {
         self.keys.get_index_of(&key)
     }
 
-    /// Whether the key is at this index.
+    /// Whether the key of this index is this one.
     fn is_at(&self, slot: usize, key: Key) -> bool
         ensures { result ≡ true → slot_in self.now.keys.keys key ≡ Some slot }
     {
@@ -67,7 +67,7 @@ impl Table {
         keys[slot] == key
     }
 
-    /// The positions kept for the key: all of them, or those that wrote.
+    /// Returns the positions kept under the key: all of them, or only those of steps that wrote.
     pub(crate) fn list(&self, key: Key, writes: bool) -> &[u32]
         ensures { result.now ≡ kept_in self.now writes key }
     {
@@ -81,11 +81,11 @@ impl Table {
         }
     }
 
-    /// Makes room under a key, if there is one, for one more position, and gives its index.
+    /// Makes room under a key, if there is one, for one more position, and returns the key's index.
     ///
     /// # Errors
     ///
-    /// If memory was refused. No position has changed then.
+    /// `AllocError` if memory was refused. No position has changed then.
     pub(crate) fn reserve(
         &mut self,
         alloc: Global,
@@ -102,12 +102,12 @@ impl Table {
         }
     }
 
-    /// The index of the key, which is put there if it isn't yet, with room for one more position in
-    /// its list, and in that of its writes if the step wrote.
+    /// Returns the index of the key, which is added if it isn't in the table yet, and makes room
+    /// for one more position in its list, and in that of its writes if the step wrote.
     ///
     /// # Errors
     ///
-    /// If memory was refused. No position has changed then.
+    /// `AllocError` if memory was refused. No position has changed then.
     fn reserve_under(&mut self, alloc: Global, key: Key, wrote: bool) -> Result<usize, AllocError>
         ensures same { KeepsLists self.old self.new }
         ensures ready { IfOk result (IsReady self.new key wrote) }
@@ -119,8 +119,8 @@ impl Table {
         Ok(slot)
     }
 
-    /// The index of the key, which is put there with empty lists if it isn't yet. Where its hint
-    /// doesn't tell it, it is noted for the next time.
+    /// Returns the index of the key, which is added with empty lists if it isn't in the table yet.
+    /// If its hint doesn't know the index, it is noted there for the next time.
     fn slot_or_new(&mut self, alloc: Global, key: Key) -> Result<usize, AllocError>
         ensures same { KeepsLists self.old self.new }
         ensures slot { IfOk result (λ i. slot_in self.new.keys.keys key ≡ Some i) }
@@ -137,7 +137,8 @@ impl Table {
         Ok(slot)
     }
 
-    /// The same, without noting it.
+    /// Returns the index of the key, which is added with empty lists if it isn't in the table yet.
+    /// No hint is changed.
     fn found_or_new(&mut self, alloc: Global, key: Key) -> Result<usize, AllocError>
         ensures same { KeepsLists self.old self.new }
         ensures slot { IfOk result (λ i. slot_in self.new.keys.keys key ≡ Some i) }
@@ -167,7 +168,8 @@ impl Table {
         }
     }
 
-    /// The same at an index that is there.
+    /// Puts a position at the end of the list of the key of this index, and of that of its writes
+    /// if the step wrote.
     fn put_at(&mut self, slot: usize, position: u32, wrote: bool)
         requires { IsReadyAt self.old wrote slot }
         ensures { (k : Kept) → IsReady self.old k wrote slot → Puts (Some k) wrote position self.old self.new }
@@ -187,7 +189,8 @@ impl Table {
         }
     }
 
-    /// The same under a key that is there.
+    /// Takes the last position out of the list of the key, and out of that of its writes if the
+    /// step wrote.
     fn take_last_under(&mut self, key: Key, wrote: bool)
         requires { HasLast self.old (Some key) wrote }
         ensures { TakesLast (Some key) wrote self.old self.new }
@@ -198,7 +201,7 @@ impl Table {
         }
     }
 
-    /// Moves a position behind those above it up to `n` in each list that has it, and takes 1 off
+    /// Moves a position after those above it up to `n` in each list that has it, and takes 1 off
     /// these in each list.
     pub(crate) fn move_behind(&mut self, k: u32, n: u32)
         requires some { 1 ≤ k }
@@ -218,7 +221,7 @@ impl Table {
     }
 }
 
-/// Which hint may tell where the key is.
+/// Returns the number of the hint that may know where the key is.
 fn hint_of(key: Key) -> usize
     ensures { result < HINTS }
 {

@@ -31,7 +31,8 @@ impl DependIndex {
         later(by_value, later(own, whole))
     }
 
-    /// The last position up to `n` that is kept under the key and wrote; at most 19 probes.
+    /// Returns the last position up to `n` of a step that is kept under the key and wrote, if there
+    /// is one. It makes at most 19 probes.
     fn last_under(&self, n: u32, key: Option<Key>, probes: &mut Probes) -> Option<u64>
         requires few { self.now.len ≤ MOST_STEPS }
         requires counted { probes.old.count < 2 ^ 34 }
@@ -48,7 +49,7 @@ impl DependIndex {
     }
 }
 
-/// The greater of two positions, or the one that is there.
+/// Returns the greater of two positions, or the one that is there, if one is.
 fn later(a: Option<u64>, b: Option<u64>) -> Option<u64>
     ensures { result ≡ later a b }
 {

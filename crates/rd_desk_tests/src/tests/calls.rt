@@ -1,5 +1,5 @@
 //! The steps that the tests have in common.
-ghost use Rattle.rd_lock.specs.Histories.{Every};
+ghost use Rattle.std.specs.List.{AllByRecursion};
 ghost use Rattle.rd_desk.specs.Desks.{IsNewViewer, IsViewerOf};
 
 use rd_desk::{Desk, DeskPass};
@@ -23,9 +23,9 @@ pub(super) fn last_pass(
     desk: &Desk<4>,
     passes: &mut Vec<DeskPass<4>>,
 ) -> DeskPass<4>
-    requires each { Every (IsNewViewer desk.now) passes.old.items }
+    requires each { AllByRecursion (IsNewViewer desk.now) passes.old.items }
     ensures own { IsViewerOf desk.now result }
-    ensures each { Every (IsNewViewer desk.now) passes.new.items }
+    ensures each { AllByRecursion (IsNewViewer desk.now) passes.new.items }
 {
     let _ = desk;
     let Some(pass) = passes.pop() else {

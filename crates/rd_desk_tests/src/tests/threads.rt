@@ -1,6 +1,6 @@
 //! Many viewers at once. The history that they made is replayed over a fresh book, to the same
 //! answers.
-ghost use Rattle.rd_lock.specs.Histories.{Every};
+ghost use Rattle.std.specs.List.{AllByRecursion};
 ghost use Rattle.rd_desk.specs.Desks.{IsNewViewer, IsViewerOf};
 
 use super::calls::{fresh, last_pass};
@@ -32,8 +32,8 @@ pub(super) fn work_of(
     mut passes: Vec<DeskPass<4>>,
     calls: u64,
 ) -> Vec<(DeskPass<4>, Vec<Command>)>
-    requires { Every (IsNewViewer desk.now) passes.items }
-    ensures { Every (λ viewer. IsViewerOf desk.now viewer.0) result.items }
+    requires { AllByRecursion (IsNewViewer desk.now) passes.items }
+    ensures { AllByRecursion (λ viewer. IsViewerOf desk.now viewer.0) result.items }
 {
     let mut work = Vec::new(alloc);
     for _viewer in 0..passes.len() {

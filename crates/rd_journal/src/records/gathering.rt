@@ -1,7 +1,7 @@
 //! The causal closure of a step, gathered after the other live records in one pass.
 //!
 //! A record that is gathered is put into the index of dependants after those before the step. So
-//! the next one depends on one that was gathered exactly where the index says that it depends on
+//! the next one depends on one that was gathered exactly where the index shows that it depends on
 //! one after them.
 
 ghost use Rattle.std.specs.Prelude.{◌≡◌, ◌++◌, ◌-◌, ◌<◌, ◌≤◌, [], List, length, take, drop, slice_index_or, vec_capacity};

@@ -32,7 +32,8 @@ pub(crate) fn put_at(slots: &mut Vec<Entry>, order: &mut Vec<u32>, place: usize,
     }
 }
 
-/// Makes room for this many elements. Room that is there is not asked for.
+/// Makes room for this many elements, or fails if memory was refused. Memory is asked for only if
+/// the room is missing.
 pub(crate) fn make_room_in<T>(items: &mut Vec<T>, needed: usize) -> Result<(), AllocError>
     ensures items { items.new.items ≡ items.old.items }
     ensures ok { OnOk result (needed ≤ vec_capacity items.new) }

@@ -1,10 +1,11 @@
-//! What a session tells without changing: its steps and their records, its start and its world.
+//! What can be read of a session: its steps and their records, its start and its world.
 
 ghost use Rattle.std.specs.Prelude.{◌≡◌, ◌+◌, ◌≤◌, ◌-◌, length, Ok, IfOk, IfErr};
 ghost use Rattle.rd_step.specs.Prelude.{model, first_dependant, MOST_STEPS};
 ghost use Rattle.rd_depend.specs.Writers.{last_position, writes_to};
 ghost use Rattle.rd_journal.specs.Journal.{entry_of, events, IsRunFrom, IsRun};
-ghost use Rattle.rd_journal.specs.State.{run_of, event_at};
+ghost use Rattle.rd_journal.specs.State.{run_of};
+ghost use Rattle.rd_step.specs.Lists.{numbered};
 ghost use Rattle.rd_journal.specs.Laws.{IsStepAfter};
 
 use super::super::live_records::LiveRecords;
@@ -90,10 +91,10 @@ impl<const R: usize> Session<R> {
         }
     }
 
-    /// The event of the undone step of this number, from 1, if there is one: the first is the one
-    /// undone last.
+    /// Returns the event of the undone step of this number, from 1, if there is one. The first step
+    /// is the one undone last.
     pub fn undone_event(&self, i: u64) -> Option<Event>
-        ensures { result ≡ event_at (state self.now).undone i }
+        ensures { result ≡ numbered (state self.now).undone i }
     {
         if i == 0 || i > self.undone_len() {
             return None;
@@ -101,8 +102,8 @@ impl<const R: usize> Session<R> {
         Some(self.records.ahead_at(i as usize - 1).event)
     }
 
-    /// The world that the session was opened in: a copy of the world, in which all live steps are
-    /// undone.
+    /// Returns the world in which the session was opened: a copy of its world in which all live
+    /// steps are undone.
     ///
     /// # Errors
     ///
@@ -116,7 +117,7 @@ impl<const R: usize> Session<R> {
         Ok(world)
     }
 
-    /// The world: that of the run of the live events from the start.
+    /// Returns the session's world, to which the live events run from its start.
     pub fn world(&self) -> &World<R>
         ensures value { model result.now ≡ (journal self.now).world }
         ensures run { run_of R (state self.now) ≡ Ok (record { world = model result.now; entries = (journal self.now).live }) }

@@ -45,10 +45,11 @@ impl<const R: usize> Session<R> {
         }
     }
 
-    /// The same, whether or not one does: the records of these steps are first put after the other
-    /// live ones, none of which depends on them. Meanwhile the index is that of the records before
-    /// the `k`-th and of those that go, so it tells which later one depends on one of these; then
-    /// the positions of all that is after the `k`-th are put in again, in their new order.
+    /// Undoes the `k`-th live step and all later ones that depend on it, directly or through
+    /// others: the records of these steps are first put after the other live ones, none of which
+    /// depends on them. Meanwhile the index is that of the records before the `k`-th and of those
+    /// that go, so it shows which later one depends on one of these; then the positions of all that
+    /// is after the `k`-th are put in again, in their new order.
     fn undo_block(&mut self, k: u64)
         requires some { 1 ≤ k }
         requires position { k ≤ length (journal self.old).live }

@@ -11,8 +11,8 @@ use super::super::live_records::LiveRecords;
 use rd_inverse::unstep;
 use rd_step::World;
 
-/// Undoes all but the first `n` of the steps that lead to the world, the last one first. It gives
-/// the room of their makings back, and takes no memory.
+/// Undoes all steps that led to the world except the first `n`, the last one first. It gives the
+/// room of their makings back, and takes no memory.
 pub(super) fn undo_behind<const R: usize>(world: &mut World<R>, steps: &LiveRecords, n: usize)
     requires within { n ≤ length steps.now }
     requires leads { (start : Model) × LeadsTo R start (model world.old) steps.now }

@@ -23,8 +23,8 @@ const ACTOR_NUMBERS: usize = 256;
 impl<const R: usize> Session<R> {
     ghost use Rattle.rd_journal.specs.Sessions.{journal, state, track, room, capacity, index};
 
-    /// Makes room for the given records after the first `kept` ones, and for the makings that they
-    /// are of. Room that is there is not asked for.
+    /// Makes room for the given records after the first `kept` ones, and for the makings among
+    /// them. Memory is asked for only if room is missing.
     ///
     /// # Errors
     ///
@@ -51,9 +51,9 @@ impl<const R: usize> Session<R> {
         )
     }
 
-    /// Has the index be that of the first `n` live records and, after them, of the given ones,
-    /// undoes the live steps after the first `n`, and makes the given ones again, which are in
-    /// place of all others then.
+    /// Makes the index that of the first `n` live records and, after them, of the given ones,
+    /// undoes the live steps after the first `n`, and makes the given ones again, which then
+    /// replace all others.
     ///
     /// # Errors
     ///
@@ -79,7 +79,7 @@ impl<const R: usize> Session<R> {
         Ok(())
     }
 
-    /// Makes the next `n` steps ahead again, and has no step be undone then.
+    /// Makes the next `n` steps ahead again, after which no step is undone.
     pub(super) fn redo_ahead(&mut self, n: usize)
         requires within { n ≤ length (ahead_records self.old.records) }
         ensures records { IsSwitched (length (journal self.old).live) (take n (ahead_records self.old.records)) (journal self.old) (journal self.new) }
@@ -93,8 +93,8 @@ impl<const R: usize> Session<R> {
     }
 }
 
-/// Makes room for each actor's makings among the given records, as far as undoing the dropped ones
-/// does not give it back.
+/// Makes room for each actor's makings among the given records, except for as many as undoing the
+/// dropped records gives back.
 ///
 /// # Errors
 ///
@@ -118,7 +118,7 @@ fn make_room_for_makings<const R: usize>(
     Ok(())
 }
 
-/// How many of these records are makings by each actor, by its number.
+/// Returns, for each actor's number, how many of these records are makings by that actor.
 fn makings_of(entries: &[Entry]) -> [usize; ACTOR_NUMBERS]
     ensures { (m : ℕ) → m < ACTOR_NUMBERS → get_or result m 0 ≡ room_returned_by entries.now m }
 {
@@ -131,7 +131,8 @@ fn makings_of(entries: &[Entry]) -> [usize; ACTOR_NUMBERS]
     counts
 }
 
-/// Of this many makings by each actor, how many are more than those among the dropped records.
+/// Returns, for each actor's number, by how many its makings exceed those among the dropped
+/// records.
 fn makings_missing(dropped: &LiveRecords, given: [usize; ACTOR_NUMBERS]) -> [usize; ACTOR_NUMBERS]
     ensures { (m : ℕ) → m < ACTOR_NUMBERS → get_or result m 0 ≡ get_or given m 0 - room_returned_by dropped.now m }
 {

@@ -1,5 +1,5 @@
 //! A close of a free lock and of one that is held, with no pass, with some, and with all.
-ghost use Rattle.rd_lock.specs.Histories.{Every};
+ghost use Rattle.std.specs.List.{AllByRecursion};
 ghost use Rattle.rd_lock.specs.Locks.{IsOut, IsPassOf};
 
 use super::Numbers;
@@ -82,10 +82,10 @@ fn hands_in(
     pass: Pass<Numbers>,
     enough: usize,
 )
-    requires own { Every (IsPassOf lock.now) handed.old.items × IsPassOf lock.now pass }
-    requires out { Every IsOut handed.old.items × IsOut pass }
-    ensures own { Every (IsPassOf lock.now) handed.new.items }
-    ensures out { Every IsOut handed.new.items }
+    requires own { AllByRecursion (IsPassOf lock.now) handed.old.items × IsPassOf lock.now pass }
+    requires out { AllByRecursion IsOut handed.old.items × IsOut pass }
+    ensures own { AllByRecursion (IsPassOf lock.now) handed.new.items }
+    ensures out { AllByRecursion IsOut handed.new.items }
 {
     let _ = lock;
     if handed.len() < enough && handed.push(pass).is_err() {

@@ -14,23 +14,23 @@ use rd_journal::Session;
 use std::alloc::Global;
 
 impl Bookmarks {
-    ghost use Rattle.rd_marks.specs.Kept.{lists_in, records_in, here_in, IsIn};
+    ghost use Rattle.rd_marks.specs.Kept.{lists_in, records_in, here_in, IsPlaceIn};
 
-    /// Makes the steps of a place the live ones, with none undone. If they lie on the session's
-    /// track, it goes along it; else what they begin with in common with the live ones stays, and
-    /// the track is theirs then.
+    /// Makes the steps of a place the live ones, with none undone. If they are on the session's
+    /// track, the session goes along it. Else the live steps with which they begin stay, and the
+    /// track becomes that of these steps.
     ///
     /// # Errors
     ///
-    /// `NoMemory` if room for the others was refused, so not if there are none. Nothing has changed
-    /// then.
+    /// `NoMemory` if room for the others was refused, which never happens if there are none.
+    /// Nothing has changed then.
     pub(crate) fn go_to<const R: usize>(
         &mut self,
         alloc: Global,
         session: &mut Session<R>,
         place: Place,
     ) -> Result<(), Refusal>
-        requires within { IsIn self.old place }
+        requires within { IsPlaceIn self.old place }
         requires run { IsRecordOfRun R (state session.old).start (records_in self.old place) }
         requires stands { Begins (events (here_in self.old)) (track session.old) }
         ensures ok { OnOk result (state session.new
@@ -51,13 +51,14 @@ impl Bookmarks {
     }
 }
 
-/// The same, wherever they lie. What the live ones have in common with the bookmarks is looked for
-/// from where they are among those. The others are copied if they can't be lent.
+/// Makes the steps of a place the live ones, with none undone, wherever they are. The search for
+/// what the live ones have in common with the bookmarks begins where the session's track is known
+/// to be among those. The others are copied if they can't be lent.
 ///
 /// # Errors
 ///
-/// `NoMemory` if room for the others was refused, so not if there are none. Nothing has changed
-/// then.
+/// `NoMemory` if room for the others was refused, which never happens if there are none. Nothing
+/// has changed then.
 fn exchange<const R: usize>(
     stretches: &Stretches,
     alloc: Global,

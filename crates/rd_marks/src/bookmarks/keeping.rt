@@ -5,10 +5,10 @@ ghost use Rattle.std.specs.Prelude.{◌≡◌, ◌<◌, ◌≤◌, ◌++◌, [],
 ghost use Rattle.std.specs.List.{All};
 ghost use Rattle.std.specs.Map.{lookup};
 ghost use Rattle.indexmap.specs.IndexMap.{spare};
-ghost use Rattle.rd_marks.specs.Changes.{moved, IsLow};
+ghost use Rattle.rd_marks.specs.Changes.{shifted, IsLow};
 ghost use Rattle.rd_marks.specs.Layout.{places_of, IsPruned};
 ghost use Rattle.rd_marks.specs.Names.{same_name};
-ghost use Rattle.rd_marks.specs.Stretches.{greatest_in, number_in, IsWithin, AreNeededFrom};
+ghost use Rattle.rd_marks.specs.Stretches.{greatest_in, number_if_in, IsWithin, AreNeededFrom};
 
 use super::super::names::MarkName;
 use super::super::stretches::{Grown, Place, Shift, Stretches};
@@ -19,7 +19,7 @@ pub(super) fn put(names: &mut IndexMap<MarkName, Place>, name: MarkName, grown: 
     requires new { lookup (same_name name) names.old.entries ≡ None }
     requires room { 0 < spare names.old }
     requires low { All (λ m. IsLow m.1) names.old.entries }
-    ensures { names.new.entries ≡ map (λ m. (m.0, moved grown.shift m.1)) names.old.entries ++ (name, grown.place) ∷ [] }
+    ensures { names.new.entries ≡ map (λ m. (m.0, shifted grown.shift m.1)) names.old.entries ++ (name, grown.place) ∷ [] }
 {
     move_all(names, grown.shift);
     match names.insert(name, grown.place) {
@@ -28,17 +28,17 @@ pub(super) fn put(names: &mut IndexMap<MarkName, Place>, name: MarkName, grown: 
     }
 }
 
-/// Where the session's track lies after this many live steps got a place: there, or further on
-/// where it lay.
+/// Returns the place with which the session's track begins after this many live steps got a place:
+/// that one, or the old one if that goes further.
 pub(super) fn here_after(here: Place, len: usize, grown: Grown) -> Place
     requires { IsLow here }
     ensures near { here.number ≤ len → result ≡ grown.place }
-    ensures far { len < here.number → result ≡ moved grown.shift here }
+    ensures far { len < here.number → result ≡ shifted grown.shift here }
 {
     if here.number <= len {
         grown.place
     } else {
-        grown.shift.moved(here)
+        grown.shift.shifted(here)
     }
 }
 
@@ -60,7 +60,8 @@ pub(super) fn prune(
     }
 }
 
-/// The same of one stretch, where of those after it all is needed.
+/// Takes away the records of one stretch that no bookmark needs, where all records of the stretches
+/// after it are needed.
 fn trim(
     stretches: &mut Stretches,
     names: &mut IndexMap<MarkName, Place>,
@@ -77,10 +78,10 @@ fn trim(
     let needed = stretches.shared(i + 1).max(greatest_in(names, i));
     let shift = stretches.shrink(i, needed);
     move_all(names, shift);
-    *here = shift.moved(kept_of(*here, i, needed));
+    *here = shift.shifted(kept_of(*here, i, needed));
 }
 
-/// What is left of a place if of this stretch's list the first `n` records are.
+/// Returns what is left of a place if the first `n` records of this stretch's list are left.
 fn kept_of(place: Place, i: usize, n: usize) -> Place
     ensures stretch { result.stretch ≡ place.stretch }
     ensures number { result.number ≤ place.number }
@@ -93,7 +94,8 @@ fn kept_of(place: Place, i: usize, n: usize) -> Place
     }
 }
 
-/// The greatest number of the bookmarks' places in this stretch; 0 if none is in it.
+/// Returns the greatest number of records of a bookmark's place in this stretch; 0 if no place is
+/// in it.
 fn greatest_in(names: &IndexMap<MarkName, Place>, i: usize) -> usize
     ensures { result ≡ greatest_in i (places_of names.now.entries) }
 {
@@ -102,25 +104,26 @@ fn greatest_in(names: &IndexMap<MarkName, Place>, i: usize) -> usize
         let Some((_, place)) = names.get_index(index) else {
             unreachable!();
         };
-        greatest = greatest.max(number_in(i, *place));
+        greatest = greatest.max(number_if_in(i, *place));
     }
     greatest
 }
 
-/// The number of a place if it is in this stretch, and else 0.
-fn number_in(i: usize, place: Place) -> usize
-    ensures { result ≡ number_in i place }
+/// Returns the number of records of a place if it is in this stretch, else 0.
+fn number_if_in(i: usize, place: Place) -> usize
+    ensures { result ≡ number_if_in i place }
 {
     if place.stretch == i { place.number } else { 0 }
 }
 
-/// Has each bookmark's place be where its records are after the stretches have got other numbers.
+/// Changes the place of each bookmark to where its records are after the stretches got other
+/// numbers.
 fn move_all(names: &mut IndexMap<MarkName, Place>, shift: Shift)
     requires { All (λ m. IsLow m.1) names.old.entries }
     ensures room { spare names.new ≡ spare names.old }
-    ensures entries { names.new.entries ≡ map (λ m. (m.0, moved shift m.1)) names.old.entries }
+    ensures entries { names.new.entries ≡ map (λ m. (m.0, shifted shift m.1)) names.old.entries }
 {
     for index in 0..names.len() {
-        names[index] = shift.moved(names[index]);
+        names[index] = shift.shifted(names[index]);
     }
 }

@@ -13,7 +13,7 @@ impl<const R: usize> Book<R> {
     ghost use Rattle.rd_marks.specs.Commands.{IsMade, IsCompared, step_counts, mark_answer, reply_with};
     ghost use Rattle.rd_marks.specs.declared.replies.Reply.TheVariants.{Marked, Dropped, Mark as MarkIs};
 
-    /// Sets a bookmark, and answers how many steps are live.
+    /// Sets a bookmark. Returns how many steps are live.
     pub(super) fn answer_mark(&mut self, name: MarkName) -> Result<Reply, Refusal>
         ensures { IsMade (book_state self.old) (λ c. Marked (length c.session.live)) (mark (book_state self.old) name)
             (IsOk (mark (book_state self.old) name)) (record { answer = result; state = book_state self.new }) }
@@ -22,7 +22,7 @@ impl<const R: usize> Book<R> {
         Ok(Reply::Marked(self.session.len()))
     }
 
-    /// Drops a bookmark, and answers that it is gone.
+    /// Drops a bookmark. Returns the reply that it was dropped.
     pub(super) fn answer_drop_mark(&mut self, name: MarkName) -> Result<Reply, Refusal>
         ensures { record { answer = result; state = book_state self.new } ≡ mark_answer (book_state self.old) (λ c. Dropped) (drop_mark (book_state self.old) name) }
     {
@@ -30,7 +30,7 @@ impl<const R: usize> Book<R> {
         Ok(Reply::Dropped)
     }
 
-    /// Goes to a bookmark, and answers how many steps are live and undone then.
+    /// Goes to a bookmark. Returns how many steps are live and undone then.
     pub(super) fn answer_goto_mark(&mut self, name: MarkName) -> Result<Reply, Refusal>
         ensures { IsMade (book_state self.old) (λ c. step_counts c.session) (goto_mark (book_state self.old) name)
             (MakesSteps (book_state self.old) name) (record { answer = result; state = book_state self.new }) }
@@ -47,7 +47,7 @@ impl<const R: usize> Book<R> {
         Ok(Reply::Mark { name, len })
     }
 
-    /// Whether two bookmarks have equivalent steps.
+    /// Returns whether the steps of two bookmarks are causally equivalent.
     pub(super) fn answer_same(&self, one: MarkName, other: MarkName) -> Result<Reply, Refusal>
         ensures { IsCompared R (book_state self.now) one other (record { answer = result; state = book_state self.now }) }
     {

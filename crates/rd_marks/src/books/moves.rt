@@ -12,8 +12,8 @@ impl<const R: usize> Book<R> {
     ghost use Rattle.rd_marks.specs.BookViews.{book_state};
     ghost use Rattle.rd_marks.specs.Commands.{Happened, move_answer, step_counts};
 
-    /// Makes an event happen, and answers the number of its step and the reply of the call that it
-    /// ends.
+    /// Makes an event happen. Returns the number of its step, and the reply of the call that it
+    /// ends, if it ends one.
     pub(super) fn answer_event(&mut self, event: Event) -> Result<Reply, Refusal>
         ensures { Happened R (book_state self.old) event (record { answer = result; state = book_state self.new }) }
     {
@@ -78,7 +78,7 @@ impl<const R: usize> Book<R> {
         self.counts_after(done)
     }
 
-    /// The answer to a move through the run, which is over.
+    /// Returns the answer to a move through the run, after the move.
     fn counts_after(&self, done: Result<(), Refusal>) -> Result<Reply, Refusal>
         ensures ok { OnOk done (result ≡ Ok (step_counts (book_state self.now).session)) }
         ensures err { IfErr done (λ refusal. result ≡ Err refusal) }

@@ -11,19 +11,20 @@ use std::alloc::Global;
 impl<const R: usize> Book<R> {
     ghost use Rattle.rd_marks.specs.BookViews.{book_state};
     ghost use Rattle.rd_marks.specs.Commands.{IsObeyed, AreObeyed};
-    ghost use Rattle.rd_marks.specs.Events.{event_of};
+    ghost use Rattle.rd_marks.specs.Events.{as_event};
 
-    /// Does what a command says, and answers it.
+    /// Obeys a command, and returns the answer.
     ///
     /// # Errors
     ///
-    /// As the call says that the command is. Nothing has changed then.
+    /// The refusal of the call of a book or of its session that the command is. Nothing has changed
+    /// then.
     pub fn obey(&mut self, command: Command) -> Result<Reply, Refusal>
         ensures answer { IsObeyed R (book_state self.old) command (record { answer = result; state = book_state self.new }) }
         ensures start { (book_state self.new).session.start ≡ (book_state self.old).session.start }
         ensures unchanged { OnErr result (book_state self.new ≡ book_state self.old) }
     {
-        match command.event() {
+        match command.as_event() {
             Some(event) => self.answer_event(event),
             None => self.answer_to(command),
         }
@@ -34,8 +35,8 @@ impl<const R: usize> Book<R> {
     ///
     /// # Errors
     ///
-    /// `NoMemory` if the room for the answers was refused, so not if there is no command. No
-    /// command was obeyed then.
+    /// `NoMemory` if the room for the answers was refused, which never happens if there is no
+    /// command. No command was obeyed then.
     pub fn apply_all(
         &mut self,
         alloc: Global,
@@ -57,9 +58,9 @@ impl<const R: usize> Book<R> {
         Ok(answers)
     }
 
-    /// Does what a command says that is no event, and answers it.
+    /// Obeys a command that is no event, and returns the answer.
     fn answer_to(&mut self, command: Command) -> Result<Reply, Refusal>
-        requires no_event { event_of command ≡ None }
+        requires no_event { as_event command ≡ None }
         ensures { IsObeyed R (book_state self.old) command (record { answer = result; state = book_state self.new }) }
     {
         match command {

@@ -1,5 +1,4 @@
-//! The events of a book's bookmarks, and going to the start: what saves a book and loads it again
-//! needs them.
+//! The events of a book's bookmarks, and going to the start, which saving and loading a book need.
 
 ghost use Rattle.std.specs.Prelude.{◌≡◌};
 
@@ -33,7 +32,7 @@ impl<const R: usize> Book<R> {
     /// # Errors
     ///
     /// `NoMark` if `i` is not from 1 to the number of bookmarks; else `NoMemory` if memory was
-    /// refused for the events, so not if there are none.
+    /// refused for the events, which never happens if there are none.
     pub fn mark_events(&self, alloc: Global, i: u64) -> Result<Vec<Event>, Refusal>
         ensures { AnswersEvents (mark_events (book_state self.now) i) result }
     {

@@ -23,12 +23,12 @@ pub(crate) enum Shift {
 }
 
 impl Shift {
-    ghost use Rattle.rd_marks.specs.Changes.{moved, IsLow};
+    ghost use Rattle.rd_marks.specs.Changes.{shifted, IsLow};
 
-    /// Where the same records are then.
-    pub(crate) fn moved(self, place: Place) -> Place
+    /// Returns the place of the same records after the shift.
+    pub(crate) fn shifted(self, place: Place) -> Place
         requires { IsLow place }
-        ensures { result ≡ moved self place }
+        ensures { result ≡ shifted self place }
     {
         match self {
             Shift::Same => place,
@@ -52,7 +52,8 @@ fn raised(i: usize, place: Place) -> Place
     }
 }
 
-/// The same after the stretch of this number went, none of whose own they were.
+/// Returns the place of the same records after the stretch of this number was taken away, none of
+/// whose own records it had.
 fn lowered(i: usize, place: Place) -> Place
     ensures { result ≡ lowered i place }
 {
@@ -76,12 +77,14 @@ impl Stretches {
     ghost use Rattle.rd_marks.specs.Stretches.{list_before, shared_at, records_at, IsWithin, IsEnd, IsAlong, IsDeepest};
     ghost use Rattle.rd_marks.specs.Changes.{IsGrown, IsShrunk, IsUnchanged};
 
-    /// Has the records of a place, with which the live steps begin, go on with those of the others,
-    /// as no list does: at the end of their stretch, or in a new one.
+    /// Adds to the records of a place, with which the live steps begin, those of the other live
+    /// steps, where no list has the next of these: at the end of the place's stretch, or in a new
+    /// one.
     ///
     /// # Errors
     ///
-    /// If the room was refused, so not if there are no others. The lists stay.
+    /// `AllocError` if the room was refused, which never happens if there are no others. The lists
+    /// stay.
     pub(crate) fn grow(
         &mut self,
         alloc: Global,
@@ -124,7 +127,7 @@ impl Stretches {
     ///
     /// # Errors
     ///
-    /// If the room was refused. The lists stay.
+    /// `AllocError` if the room was refused. The lists stay.
     fn extend(&mut self, at: Place, live: &LiveRecords) -> Result<Grown, AllocError>
         requires end { IsEnd self.old.list.items at }
         requires more { at.number < length live.now }
@@ -149,7 +152,7 @@ impl Stretches {
     ///
     /// # Errors
     ///
-    /// If the room was refused. The lists stay.
+    /// `AllocError` if the room was refused. The lists stay.
     fn branch_off(
         &mut self,
         alloc: Global,
@@ -184,8 +187,8 @@ impl Stretches {
         }
     }
 
-    /// The first stretch after that of a place whose list does not go on as the place's stretch
-    /// does after it; their number if each does.
+    /// Returns the first stretch after that of a place whose list shares, with the list before it,
+    /// at most as many records as the place has; the number of stretches if there is none.
     fn next_off(&self, at: Place) -> usize
         requires { IsWithin self.now.list.items at }
         ensures there { result ≤ length self.now.list.items }
@@ -203,8 +206,8 @@ impl Stretches {
     }
 
     /// Takes away the records of a stretch's list after the first `n`, none of which is shared by
-    /// the next one, and gives their room back; all of the stretch if none of its own are left.
-    /// Returns what became of the numbers of the stretches.
+    /// the next one, and gives their room back; the whole stretch goes if none of its records are
+    /// left. Returns what became of the numbers of the stretches.
     pub(crate) fn shrink(&mut self, i: usize, n: usize) -> Shift
         requires there { i < length self.old.list.items }
         requires next { shared_at self.old.list.items (suc i) ≤ n }
@@ -220,11 +223,11 @@ impl Stretches {
     }
 }
 
-/// Puts records after others.
+/// Appends these records to others.
 ///
 /// # Errors
 ///
-/// If the room was refused. The records stay.
+/// `AllocError` if the room was refused. The records stay.
 fn append(records: &mut Vec<Entry>, more: &LiveRecords) -> Result<(), AllocError>
     ensures ok { OnOk result (records.new.items ≡ records.old.items ++ more.now) }
     ensures err { OnErr result (records.new.items ≡ records.old.items) }

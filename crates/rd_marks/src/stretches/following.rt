@@ -11,8 +11,8 @@ use rd_step::{Entry, Event};
 impl Stretches {
     ghost use Rattle.rd_marks.specs.Stretches.{shared_at, IsWithin, IsAlong, IsDeepest};
 
-    /// The place of as many of the live steps as any list begins with, found from one that they
-    /// begin with.
+    /// Returns the place with the most records with which the live steps begin, found from a place
+    /// with whose records they begin.
     pub(crate) fn follow(&self, from: Place, live: &LiveRecords) -> Place
         requires within { IsWithin self.now.list.items from }
         requires along { IsAlong self.now.list.items from.stretch from.number (events live.now) }
@@ -33,8 +33,8 @@ impl Stretches {
         at
     }
 
-    /// How many of the live steps the list of a stretch begins with, of which the first `n` are
-    /// known and the others are its own.
+    /// Returns how many of the live steps the list of a stretch begins with; the first `n` are
+    /// known, and the records after them are the stretch's own.
     fn along(&self, i: usize, n: usize, live: &LiveRecords) -> usize
         requires there { i < length self.now.list.items }
         requires own { shared_at self.now.list.items i ≤ n }
@@ -51,7 +51,7 @@ impl Stretches {
     }
 }
 
-/// The place of `number` records in this stretch if it has more than the other.
+/// Returns the place of `number` records in this stretch if that is more than `at` has, else `at`.
 fn farther(at: Place, i: usize, number: usize) -> Place
     requires { at.number ≤ number }
     ensures more { at.number < number → result ≡ record { stretch = i; number = number } }
@@ -73,14 +73,14 @@ fn alike(records: &[Entry], live: &LiveRecords) -> usize
 {
     let most = records.len().min(live.len());
     for n in 0..most {
-        if !is_same(&record_at(records, n).event, &live.at(n).event) {
+        if !is_same(&get_record(records, n).event, &live.at(n).event) {
             return n;
         }
     }
     most
 }
 
-/// The records after the first `n`.
+/// Returns the records after the first `n`.
 fn own_behind(records: &[Entry], n: usize) -> &[Entry]
     requires { n ≤ length records.now }
     ensures { result.now ≡ drop n records.now }
@@ -88,15 +88,15 @@ fn own_behind(records: &[Entry], n: usize) -> &[Entry]
     &records[n..]
 }
 
-/// The record at this index.
-fn record_at(records: &[Entry], index: usize) -> &Entry
+/// Returns the record at this index.
+fn get_record(records: &[Entry], index: usize) -> &Entry
     requires { index < length records.now }
     ensures { result.now ≡ slice_index_or records.now index result.now }
 {
     &records[index]
 }
 
-/// Whether the two are one event.
+/// Whether two events are equal.
 fn is_same(a: &Event, b: &Event) -> bool
     ensures { IsTrue result ↔ (a.now ≡ b.now) }
 {

@@ -3,7 +3,7 @@
 ghost use Rattle.std.specs.Prelude.{◌≡◌, ◌<◌, ◌≤◌, ◌-◌, Some, drop, slice_get, IsOk, IfOk, IfSome};
 ghost use Rattle.std.specs.Cow.{cow_slice_items};
 ghost use Rattle.rd_step.specs.Run.{events};
-ghost use Rattle.rd_journal.specs.State.{event_at};
+ghost use Rattle.rd_step.specs.Lists.{numbered};
 
 use super::{Place, Stretches};
 use rd_step::{Entry, Event};
@@ -16,7 +16,7 @@ impl Stretches {
     /// The event of this number, from 1, of the records of a place, if there is one.
     pub(crate) fn event_at(&self, of: Place, n: u64) -> Option<Event>
         requires { IsWithin self.now.list.items of }
-        ensures { result ≡ event_at (events (records_at self.now.list.items of)) n }
+        ensures { result ≡ numbered (events (records_at self.now.list.items of)) n }
     {
         if n == 0 || n > of.number as u64 {
             return None;
@@ -24,7 +24,7 @@ impl Stretches {
         Some(self.last(self.own_place(of.cut(n as usize))).event)
     }
 
-    /// The last record of a place that is its stretch's own.
+    /// Returns the last record of a place, which must be its stretch's own.
     fn last(&self, of: Place) -> &Entry
         requires within { IsWithin self.now.list.items of }
         requires own { IsOwn self.now.list.items of }
@@ -35,12 +35,13 @@ impl Stretches {
         &stretch.records[of.number - stretch.shared - 1]
     }
 
-    /// The records of a place after the first `n`: lent if they are of one stretch, as for most
-    /// places they are, and else copied.
+    /// Returns the records of a place after the first `n`: lent if they are of one stretch, as for
+    /// most places, else copied.
     ///
     /// # Errors
     ///
-    /// If memory was refused for a copy, so not if there are no such records.
+    /// `AllocError` if memory was refused for a copy, which never happens if there are no such
+    /// records.
     pub(crate) fn records_behind(
         &self,
         alloc: Global,
@@ -59,7 +60,7 @@ impl Stretches {
         Ok(CowSlice::Owned(self.copy(alloc, own, n)?))
     }
 
-    /// The same where they are of one stretch, which is that of the place.
+    /// Returns the records of a place after the first `n`, if they are all of the place's stretch.
     fn slice(&self, of: Place, n: usize) -> Option<&[Entry]>
         requires present { IsWithin self.now.list.items of }
         requires own { IsOwn self.now.list.items of }
@@ -77,7 +78,7 @@ impl Stretches {
     ///
     /// # Errors
     ///
-    /// If memory was refused for them, so not if there are none.
+    /// `AllocError` if memory was refused for them, which never happens if there are none.
     fn copy(&self, alloc: Global, of: Place, n: usize) -> Result<Vec<Entry>, AllocError>
         requires present { IsWithin self.now.list.items of }
         requires within { n ≤ of.number }
@@ -95,11 +96,11 @@ impl Stretches {
         Ok(records)
     }
 
-    /// The events of a place.
+    /// Returns the events of the records of a place.
     ///
     /// # Errors
     ///
-    /// If memory was refused for them, so not if there are none.
+    /// `AllocError` if memory was refused for them, which never happens if there are none.
     pub(crate) fn events(&self, alloc: Global, of: Place) -> Result<Vec<Event>, AllocError>
         requires { IsWithin self.now.list.items of }
         ensures ok { IfOk result (λ list. list.items ≡ events (records_at self.now.list.items of)) }

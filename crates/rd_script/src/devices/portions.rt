@@ -2,7 +2,7 @@
 
 ghost use Rattle.std.specs.Prelude.{◌≡◌, ◌≤◌, ◌<◌, ◌↔◌, [], Some, IsTrue, length, take, IfOk, OnOk, OnErr};
 ghost use Rattle.std.specs.Io.KnownBytes.{Keeps, Consumes, IsAtEnd};
-ghost use Rattle.rd_script.specs.Device.{Gives};
+ghost use Rattle.rd_script.specs.Device.{GivesByte};
 ghost use Rattle.rd_script.specs.declared.devices.portions.TheConstants.{MOST_PORTION_BYTES};
 
 use super::sources::ReadFault;
@@ -22,11 +22,11 @@ pub struct Portion {
 }
 
 impl Portion {
-    ghost use Rattle.rd_script.specs.Portions.{left};
+    ghost use Rattle.rd_script.specs.Portions.{pending_bytes};
 
-    /// The portion with no byte.
+    /// Returns a portion with no byte.
     pub fn new() -> Portion
-        ensures { left result ≡ [] }
+        ensures { pending_bytes result ≡ [] }
     {
         Portion {
             bytes: [0; MOST_PORTION_BYTES],
@@ -35,16 +35,16 @@ impl Portion {
         }
     }
 
-    /// Whether all its bytes were given.
+    /// Whether all bytes of the portion were given.
     pub fn is_empty(&self) -> bool
-        ensures { IsTrue result ↔ (left self.now ≡ []) }
+        ensures { IsTrue result ↔ (pending_bytes self.now ≡ []) }
     {
         self.given == self.filled
     }
 
-    /// Gives its next byte, or none after the last one.
+    /// Returns the portion's next byte, or none after the last one.
     pub fn next(&mut self) -> Option<u8>
-        ensures { Gives (Some (left self.old)) (Some (left self.new)) result }
+        ensures { GivesByte (Some (pending_bytes self.old)) (Some (pending_bytes self.new)) result }
     {
         if self.given == self.filled {
             return None;
@@ -54,13 +54,13 @@ impl Portion {
         Some(byte)
     }
 
-    /// Forgets the bytes that it had and takes others: the next ones of the reader, of which there
-    /// are none at the end alone.
+    /// Replaces the portion's bytes by the next ones of the reader, none only at the reader's end.
+    /// Fails if the reader fails.
     pub fn fill<R: Read>(&mut self, reader: &mut R) -> Result<(), ReadFault>
-        ensures ok { OnOk result (Consumes (R.remaining reader.old) (R.remaining reader.new) (left self.new)) }
-        ensures end { OnOk result (left self.new ≡ [] → IsAtEnd (R.remaining reader.new)) }
+        ensures ok { OnOk result (Consumes (R.remaining reader.old) (R.remaining reader.new) (pending_bytes self.new)) }
+        ensures end { OnOk result (pending_bytes self.new ≡ [] → IsAtEnd (R.remaining reader.new)) }
         ensures err { OnErr result (Keeps (R.remaining reader.old) (R.remaining reader.new)) }
-        ensures none { OnErr result (left self.new ≡ []) }
+        ensures none { OnErr result (pending_bytes self.new ≡ []) }
     {
         self.given = 0;
         self.filled = 0;
@@ -69,8 +69,8 @@ impl Portion {
     }
 }
 
-/// Reads the next bytes of a reader, none at the end alone, and says how many. A read that a signal
-/// interrupts is made again, up to 2^64 - 1 times.
+/// Reads the next bytes of a reader, none only at its end, and returns how many they are. A read
+/// that a signal interrupts is made again, up to 2^64 - 1 times.
 fn read_some<R: Read>(reader: &mut R, bytes: &mut [u8]) -> Result<usize, ReadFault>
     requires room { 0 < length bytes.old }
     ensures len { length bytes.new ≡ length bytes.old }

@@ -12,14 +12,14 @@ pub struct WriteFault;
 
 /// Takes bytes, one or more of a slice at a time.
 pub trait Sink {
-    // The bytes that it was given so far; None tells nothing.
+    // The bytes that the sink has taken so far; None if they are not known.
     ghost contents: { Self → Option (List ℕ) };
 
     // Whether a call failed.
     ghost has_failed: { Self → Bool };
 
-    /// Takes the first bytes of a slice, one at least, and says how many: to take none is a fault.
-    /// After a fault there is no further call.
+    /// Takes the first bytes of a slice, at least one, and returns how many. To take none is a
+    /// fault, after which there is no further call.
     fn take(&mut self, given: &[u8]) -> Result<usize, WriteFault>
         requires working { has_failed self.old ≡ false }
         requires some { 0 < length given.now }
@@ -30,8 +30,9 @@ pub trait Sink {
         ensures fails { OnErr result (has_failed self.new ≡ true) };
 }
 
-/// Hands the whole of a text to a sink, in as few calls as it takes.
-pub fn hand_over<K: Sink>(writer: &mut K, text: &[u8]) -> Result<(), WriteFault>
+/// Writes the whole of a text to a sink, in as few calls as the sink needs. Fails if the sink
+/// fails, which has then taken a beginning of the text.
+pub fn write_all<K: Sink>(writer: &mut K, text: &[u8]) -> Result<(), WriteFault>
     requires { K.has_failed writer.old ≡ false }
     ensures ok { OnOk result (Appends (K.contents writer.old) (K.contents writer.new) text.now) }
     ensures err { OnErr result (TakesBeginning (K.contents writer.old) (K.contents writer.new) text.now) }
@@ -45,7 +46,7 @@ pub fn hand_over<K: Sink>(writer: &mut K, text: &[u8]) -> Result<(), WriteFault>
     Ok(())
 }
 
-/// A writer that takes what it is given at once: it should have no buffer that is flushed later.
+/// A sink over a writer, which should have no buffer that is flushed later.
 #[derive(Drop)]
 pub struct WriteSink<W> {
     inner: W,
@@ -53,7 +54,7 @@ pub struct WriteSink<W> {
 }
 
 impl<W: Write> WriteSink<W> {
-    /// A sink that hands everything to the writer.
+    /// Returns a sink that writes everything to the writer.
     pub fn new(inner: W) -> Self
         ensures contents { ⟦<WriteSink<W> as Sink>⟧.contents result ≡ W.contents inner }
         ensures works { ⟦<WriteSink<W> as Sink>⟧.has_failed result ≡ false }
@@ -70,16 +71,17 @@ impl<W: Write> Sink for WriteSink<W> {
 
     ghost has_failed = { λ s. s.failed };
 
+    /// Writes the first bytes of a slice to the writer, and returns how many.
     fn take(&mut self, given: &[u8]) -> Result<usize, WriteFault> {
-        let taken = some_bytes(&mut self.inner, given);
+        let taken = write_some(&mut self.inner, given);
         self.failed = taken.is_err();
         taken
     }
 }
 
-/// Hands the writer the bytes once, and says how many of the first ones it took: to take none is a
-/// fault. A write that a signal interrupts is made again, up to 2^64 - 1 times.
-fn some_bytes<W: Write>(writer: &mut W, given: &[u8]) -> Result<usize, WriteFault>
+/// Calls the writer once with the bytes, and returns how many of the first ones it took. To take
+/// none is a fault. A write that a signal interrupts is made again, up to 2^64 - 1 times.
+fn write_some<W: Write>(writer: &mut W, given: &[u8]) -> Result<usize, WriteFault>
     requires some { 0 < length given.now }
     ensures count { IfOk result (λ n. (0 < n) × (n ≤ length given.now)) }
     ensures ok { IfOk result (λ n. Appends (W.contents writer.old) (W.contents writer.new) (take n given.now)) }

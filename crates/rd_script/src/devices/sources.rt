@@ -2,8 +2,8 @@
 
 ghost use Rattle.std.specs.Prelude.{◌≡◌, ℕ, Bool, true, false, List, Option, IfOk, OnOk, OnErr};
 ghost use Rattle.std.specs.Io.KnownBytes.{Keeps, prepend_known};
-ghost use Rattle.rd_script.specs.Device.{Gives};
-ghost use Rattle.rd_script.specs.Portions.{left};
+ghost use Rattle.rd_script.specs.Device.{GivesByte};
+ghost use Rattle.rd_script.specs.Portions.{pending_bytes};
 
 use super::portions::Portion;
 use std::io::Read;
@@ -14,22 +14,22 @@ pub struct ReadFault;
 
 /// Gives bytes, one at a time.
 pub trait Source {
-    // The bytes that it has still to give; None tells nothing.
+    // The bytes that the source can still give; None if they are not known.
     ghost bytes: { Self → Option (List ℕ) };
 
     // Whether a call failed.
     ghost has_failed: { Self → Bool };
 
-    /// The next byte, or none at the end. After a fault there is no further call.
+    /// Returns the next byte, or none at the end. After a fault there is no further call.
     fn byte(&mut self) -> Result<Option<u8>, ReadFault>
         requires { has_failed self.old ≡ false }
-        ensures gives { IfOk result (Gives (bytes self.old) (bytes self.new)) }
+        ensures gives { IfOk result (GivesByte (bytes self.old) (bytes self.new)) }
         ensures keeps { OnErr result (Keeps (bytes self.old) (bytes self.new)) }
         ensures works { OnOk result (has_failed self.new ≡ false) }
         ensures fails { OnErr result (has_failed self.new ≡ true) };
 }
 
-/// The bytes of a reader, which is asked for them in portions.
+/// A source over a reader, which is read in portions.
 #[derive(Drop)]
 pub struct ReadSource<R> {
     inner: R,
@@ -38,7 +38,7 @@ pub struct ReadSource<R> {
 }
 
 impl<R: Read> ReadSource<R> {
-    /// A source of what the reader gives.
+    /// Returns a source of the bytes that the reader gives.
     pub fn new(inner: R) -> Self
         ensures bytes { ⟦<ReadSource<R> as Source>⟧.bytes result ≡ R.remaining inner }
         ensures works { ⟦<ReadSource<R> as Source>⟧.has_failed result ≡ false }
@@ -52,10 +52,11 @@ impl<R: Read> ReadSource<R> {
 }
 
 impl<R: Read> Source for ReadSource<R> {
-    ghost bytes = { λ s. prepend_known (left s.portion) (R.remaining s.inner) };
+    ghost bytes = { λ s. prepend_known (pending_bytes s.portion) (R.remaining s.inner) };
 
     ghost has_failed = { λ s. s.failed };
 
+    /// Returns the next byte of the reader, which is read if no byte is left of the portion.
     fn byte(&mut self) -> Result<Option<u8>, ReadFault> {
         if self.portion.is_empty() {
             let filled = self.portion.fill(&mut self.inner);

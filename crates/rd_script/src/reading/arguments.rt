@@ -14,7 +14,8 @@ use super::numbers::{byte_in, number_in};
 use crate::faults::LineFault;
 use rd_marks::MarkName;
 
-/// The number from 0 to 255 that is the only word.
+/// Returns the number from 0 to 255 that the only word spells; none if there is another number of
+/// words, or the word spells no such number.
 pub fn byte_alone(words: &[&[u8]]) -> Option<u8>
     ensures some { IfSome result (λ n. map (λ word. word.now) words.now ≡ decimal n ∷ []) }
     ensures none { IfNone result ((n : ℕ) → n < 256 → map (λ word. word.now) words.now ≢ decimal n ∷ []) }
@@ -25,7 +26,8 @@ pub fn byte_alone(words: &[&[u8]]) -> Option<u8>
     byte_in(number)
 }
 
-/// The number that is the only word.
+/// Returns the number from 0 to 2^64 - 1 that the only word spells; none if there is another number
+/// of words, or the word spells no such number.
 pub fn number_alone(words: &[&[u8]]) -> Option<u64>
     ensures some { IfSome result (λ n. map (λ word. word.now) words.now ≡ decimal n ∷ []) }
     ensures none { IfNone result ((n : ℕ) → n < 2 ^ 64 → map (λ word. word.now) words.now ≢ decimal n ∷ []) }
@@ -36,7 +38,7 @@ pub fn number_alone(words: &[&[u8]]) -> Option<u64>
     number_in(number)
 }
 
-/// An actor and a value.
+/// Returns the actor and the value that these words spell; none if they are not just these two.
 pub fn actor_and_value(words: &[&[u8]]) -> Option<(u8, u64)>
     ensures some { IfSome result (λ r. map (λ word. word.now) words.now ≡ decimal r.0 ∷ decimal r.1 ∷ []) }
     ensures none { IfNone result ((actor x : ℕ) → actor < 256 → x < 2 ^ 64 → map (λ word. word.now) words.now ≢ decimal actor ∷ decimal x ∷ []) }
@@ -47,7 +49,7 @@ pub fn actor_and_value(words: &[&[u8]]) -> Option<(u8, u64)>
     Some((byte_in(actor)?, number_in(value)?))
 }
 
-/// An actor and its choice.
+/// Returns the actor and its choice that these words spell; none if they are not just these two.
 pub fn actor_and_choice(words: &[&[u8]]) -> Option<(u8, bool)>
     ensures some { IfSome result (λ r. map (λ word. word.now) words.now ≡ decimal r.0 ∷ yes_or_no r.1 ∷ []) }
     ensures none { IfNone result ((actor : ℕ) (choice : Bool) → actor < 256 → map (λ word. word.now) words.now ≢ decimal actor ∷ yes_or_no choice ∷ []) }
@@ -58,7 +60,7 @@ pub fn actor_and_choice(words: &[&[u8]]) -> Option<(u8, bool)>
     Some((byte_in(actor)?, choice_in(choice)?))
 }
 
-/// The choice that a word is.
+/// Returns the choice that a word spells, or none.
 fn choice_in(word: &[u8]) -> Option<bool>
     ensures some { IfSome result (λ choice. word.now ≡ yes_or_no choice) }
     ensures none { IfNone result ((choice : Bool) → word.now ≢ yes_or_no choice) }
@@ -72,11 +74,11 @@ fn choice_in(word: &[u8]) -> Option<bool>
     None
 }
 
-/// The bookmark's name that is the only word.
+/// Returns the bookmark's name that is the only word.
 ///
 /// # Errors
 ///
-/// `BadLine` if there is not one word alone; else `BadName` if it is no bookmark's name.
+/// `BadLine` if there is not exactly one word; else `BadName` if it is no bookmark's name.
 pub fn name_alone(words: &[&[u8]]) -> Result<MarkName, LineFault>
     ensures ok { IfOk result (λ name. (is_mark_name (bytes_of name) ≡ true) × (map (λ word. word.now) words.now ≡ bytes_of name ∷ [])) }
     ensures err { IfErr result (AreNoNames 1 (map (λ word. word.now) words.now)) }
@@ -87,7 +89,7 @@ pub fn name_alone(words: &[&[u8]]) -> Result<MarkName, LineFault>
     name_in(name)
 }
 
-/// Two bookmarks' names.
+/// Returns the two bookmarks' names that these words are.
 ///
 /// # Errors
 ///
@@ -107,7 +109,7 @@ pub fn two_names(words: &[&[u8]]) -> Result<(MarkName, MarkName), LineFault>
     Ok((name_in(one)?, name_in(other)?))
 }
 
-/// The bookmark's name that a word is.
+/// Returns the bookmark's name that a word is.
 ///
 /// # Errors
 ///
@@ -124,7 +126,7 @@ fn name_in(word: &[u8]) -> Result<MarkName, LineFault>
     Ok(name)
 }
 
-/// Whether this is a word: bytes from 33 to 126, one at least.
+/// Whether these bytes are a word: at least one, each from 33 to 126.
 fn is_word(text: &[u8]) -> bool
     ensures { result ≡ is_word text.now }
 {

@@ -1,7 +1,7 @@
 //! Commands, and the one line that spells each.
 //!
-//! A line is cut into words once. Its first word says what kind of command it spells, and the
-//! others are read as that kind of command needs them.
+//! A line is cut into words once. Its first word is the keyword of the command that it spells, and
+//! the others are read as that kind of command needs them.
 
 ghost use Rattle.std.specs.Prelude.{◌≡◌, ◌≢◌, ◌≤◌, [], length, map, IfSome, IfNone};
 ghost use Rattle.std.specs.Result.{IsOkAnd};
@@ -21,13 +21,13 @@ use rd_marks::Command;
 /// How many bytes a line may have, without its line feed.
 pub const MOST_LINE_BYTES: usize = 256;
 
-/// The command that a line spells.
+/// Returns the command that a line spells.
 ///
 /// # Errors
 ///
-/// `LineTooLong` if the line has more than 256 bytes; else `BadLine` if it is not of the grammar,
-/// in which a bookmark's name may be any word; else `BadName` if a name in it is no bookmark's
-/// name.
+/// `LineTooLong` if the line has more than 256 bytes; else `BadLine` if it is not as the grammar
+/// requires, where a bookmark's name may be any word; else `BadName` if a name in it is no
+/// bookmark's name.
 pub fn command_in(line: &[u8]) -> Result<Command, LineFault>
     ensures says { Says line.now result }
     ensures one { (c : SomeCommand) → length line.now ≤ most_line_bytes → IsInRange c → line.now ≡ spelling c → IsOkAnd result (λ d. AreOne c d) }
@@ -44,12 +44,13 @@ pub fn command_in(line: &[u8]) -> Result<Command, LineFault>
     let Some(keyword) = Keyword::of(first) else {
         return Err(LineFault::BadLine);
     };
-    command_of(keyword, others)
+    read_command(keyword, others)
 }
 
-/// The command of a keyword and the words after it.
+/// Returns the command of a keyword and the words after it; fails with `BadLine` or `BadName` as
+/// `command_in` does.
 #[tactic(auto, using(crate::proofs::NameReadLemmas::none_named))]
-fn command_of(keyword: Keyword, words: &[&[u8]]) -> Result<Command, LineFault>
+fn read_command(keyword: Keyword, words: &[&[u8]]) -> Result<Command, LineFault>
     ensures { ReadsCommand keyword (map (λ word. word.now) words.now) result }
 {
     match keyword {
@@ -60,12 +61,13 @@ fn command_of(keyword: Keyword, words: &[&[u8]]) -> Result<Command, LineFault>
             let (one, other) = two_names(words)?;
             Ok(Command::Same(one, other))
         }
-        _ => nameless(keyword, words).ok_or(LineFault::BadLine),
+        _ => command_without_name(keyword, words).ok_or(LineFault::BadLine),
     }
 }
 
-/// The command of a keyword that has no name, and the words after it.
-fn nameless(keyword: Keyword, words: &[&[u8]]) -> Option<Command>
+/// Returns the command of a keyword without bookmarks' names and the words after it; none if they
+/// spell none.
+fn command_without_name(keyword: Keyword, words: &[&[u8]]) -> Option<Command>
     ensures { ReadsNameless keyword (map (λ word. word.now) words.now) result }
 {
     Some(match keyword {
@@ -88,22 +90,22 @@ fn nameless(keyword: Keyword, words: &[&[u8]]) -> Option<Command>
         Keyword::Undo => Command::UndoAt(number_alone(words)?),
         Keyword::Roll => Command::Roll(number_alone(words)?),
         Keyword::Back => Command::Back(number_alone(words)?),
-        Keyword::Redo => bare(words, Command::Redo)?,
+        Keyword::Redo => without_arguments(words, Command::Redo)?,
         Keyword::Forward => Command::Forward(number_alone(words)?),
-        Keyword::Marks => bare(words, Command::Marks)?,
+        Keyword::Marks => without_arguments(words, Command::Marks)?,
         Keyword::MarkAt => Command::MarkAt(number_alone(words)?),
         Keyword::Origin => Command::Origin(number_alone(words)?),
         Keyword::Writer => Command::Writer(place_in(words)?),
         Keyword::Show => Command::Show(place_in(words)?),
         Keyword::Actor => Command::Actor(byte_alone(words)?),
         Keyword::Step => Command::Step(number_alone(words)?),
-        Keyword::Len => bare(words, Command::Len)?,
+        Keyword::Len => without_arguments(words, Command::Len)?,
         Keyword::Mark | Keyword::Drop | Keyword::Goto | Keyword::Same => return None,
     })
 }
 
-/// The command, if no word is left.
-fn bare(words: &[&[u8]], command: Command) -> Option<Command>
+/// Returns this command if there are no words after its keyword, else none.
+fn without_arguments(words: &[&[u8]], command: Command) -> Option<Command>
     ensures some { IfSome result (λ c. (c ≡ command) × (map (λ word. word.now) words.now ≡ [])) }
     ensures none { IfNone result (map (λ word. word.now) words.now ≢ []) }
 {

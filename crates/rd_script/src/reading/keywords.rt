@@ -1,4 +1,4 @@
-//! The first word of each line, which says what kind of command it spells.
+//! The first word of each line, which determines the kind of command that the line spells.
 
 ghost use Rattle.std.specs.Prelude.{◌≡◌, ◌≢◌, IfSome, IfNone};
 ghost use Rattle.rd_script.specs.declared.reading.keywords.Keyword.{Keyword as Word};
@@ -56,7 +56,7 @@ pub enum Keyword {
 }
 
 impl Keyword {
-    /// All keywords; those that scripts have most come first.
+    /// All keywords; the most frequent ones in scripts come first.
     const ALL: [Keyword; 23] = [
         Keyword::Go,
         Keyword::Len,
@@ -83,7 +83,7 @@ impl Keyword {
         Keyword::ArrayDeq,
     ];
 
-    /// The keyword that a word is.
+    /// Returns the keyword that a word is, or none.
     pub fn of(word: &[u8]) -> Option<Keyword>
         ensures some { IfSome result (λ keyword. word.now ≡ keyword_text keyword) }
         ensures none { IfNone result ((keyword : Word) → word.now ≢ keyword_text keyword) }
@@ -96,7 +96,7 @@ impl Keyword {
         None
     }
 
-    /// The word.
+    /// Returns the word of the keyword.
     pub fn text(self) -> &'static [u8]
         ensures { result.now ≡ keyword_text self }
     {

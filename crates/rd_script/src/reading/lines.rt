@@ -1,11 +1,11 @@
 //! Lines of a script, read byte by byte into a buffer of fixed capacity.
 //!
-//! A run reads all of its lines into one buffer, so that none is made anew for each. The rest of a
+//! A run reads all of its lines into one buffer, so that no line needs a new one. The rest of a
 //! line that is too long is read and discarded, so that the next one begins where it should.
 
 ghost use Rattle.std.specs.Prelude.{◌≡◌, ℕ, List, [], ◌∷◌, ◌++◌, OnOk, false};
 ghost use Rattle.rd_script.specs.Spelling.{Says};
-ghost use Rattle.rd_script.specs.Lines.{Reads, Holds};
+ghost use Rattle.rd_script.specs.Lines.{ReadsNext, Holds};
 
 use super::commands::{MOST_LINE_BYTES, command_in};
 use crate::devices::sources::{ReadFault, Source};
@@ -16,9 +16,9 @@ use rd_marks::Command;
 /// One line, without its line feed.
 #[derive(Drop)]
 pub struct Line {
-    /// Its bytes, or the first 256 of them.
+    /// The bytes of the line, or the first 256 of them.
     pub kept: ArrayVec<u8, MOST_LINE_BYTES>,
-    /// Whether it has more bytes than are kept.
+    /// Whether the line has more bytes than are kept.
     pub is_too_long: bool,
 }
 
@@ -27,20 +27,20 @@ pub struct Line {
 pub enum Reading {
     /// A line that a line feed ended.
     Ended,
-    /// A line with a byte at least, ended by the end alone.
+    /// A line of at least one byte, ended only by the end of the text.
     Last,
-    /// The end.
+    /// No line: the end of the text.
     End,
 }
 
-/// Reads the next line into the buffer, whatever that held before.
+/// Reads the next line into the buffer, whatever that had before, and returns how the line ended.
 ///
 /// # Errors
 ///
-/// If the source failed, or gave 2^64 - 1 bytes without an end.
+/// `ReadFault` if the source failed, or gave 2^64 - 1 bytes without an end.
 pub fn next_line<S: Source>(reader: &mut S, line: &mut Line) -> Result<Reading, ReadFault>
     requires { S.has_failed reader.old ≡ false }
-    ensures reads { Reads (S.bytes reader.old) (S.bytes reader.new) (S.has_failed reader.new) line.new result }
+    ensures reads { ReadsNext (S.bytes reader.old) (S.bytes reader.new) (S.has_failed reader.new) line.new result }
     ensures works { OnOk result (S.has_failed reader.new ≡ false) }
 {
     line.clear();
@@ -56,7 +56,7 @@ pub fn next_line<S: Source>(reader: &mut S, line: &mut Line) -> Result<Reading, 
 }
 
 impl Line {
-    /// The line with no byte yet.
+    /// Returns a line with no byte yet.
     pub fn new() -> Self
         ensures { Holds result [] }
     {
@@ -66,7 +66,7 @@ impl Line {
         }
     }
 
-    /// Takes all bytes away.
+    /// Makes the line empty.
     fn clear(&mut self)
         ensures { Holds self.new [] }
     {
@@ -74,7 +74,7 @@ impl Line {
         self.is_too_long = false;
     }
 
-    /// Puts a byte at the end.
+    /// Puts a byte at the end of the line; a byte after the first 256 is not kept.
     fn push(&mut self, byte: u8)
         ensures { (text : List ℕ) → Holds self.old text → Holds self.new (text ++ byte ∷ []) }
     {
@@ -85,11 +85,12 @@ impl Line {
         }
     }
 
-    /// What the line says.
+    /// Returns the command that the line spells.
     ///
     /// # Errors
     ///
-    /// `LineTooLong` if it has more than 256 bytes; else its fault, if it spells no command.
+    /// `LineTooLong` if the line has more than 256 bytes; else the fault of `command_in` if it
+    /// spells no command.
     pub fn command(&self) -> Result<Command, LineFault>
         ensures { (text : List ℕ) → Holds self.now text → Says text result }
     {

@@ -1,6 +1,7 @@
 //! Numbers that a word spells: decimal digits without leading zeros.
 //!
-//! A number is read as std reads it, and then compared with its own digits: so it has one spelling.
+//! A number is read as std reads it, and then its digits are compared with the word, so that it has
+//! just one spelling.
 
 ghost use Rattle.std.specs.Prelude.{◌≡◌, ◌≢◌, ℕ, ◌^◌, ◌<◌, [], ◌∷◌, map, Some, IfSome, IfNone};
 ghost use Rattle.std.specs.Fmt.{decimal};
@@ -12,12 +13,12 @@ use super::words::parts_of;
 use itoa::Buffer;
 use rd_cell::SegName;
 
-/// The number from 0 to 2^64 - 1 that a word spells.
+/// Returns the number from 0 to 2^64 - 1 that a word spells, or none.
 pub fn number_in(word: &[u8]) -> Option<u64>
     ensures spelled { IfSome result (λ n. word.now ≡ decimal n) }
     ensures unspelled { IfNone result ((n : ℕ) → n < 2 ^ 64 → word.now ≢ decimal n) }
 {
-    let number = loosely_in(word)?;
+    let number = std_number_in(word)?;
     let mut digits = Buffer::new();
     if digits.format(number).as_bytes() == word {
         Some(number)
@@ -26,7 +27,7 @@ pub fn number_in(word: &[u8]) -> Option<u64>
     }
 }
 
-/// The number from 0 to 255 that a word spells.
+/// Returns the number from 0 to 255 that a word spells, or none.
 #[tactic(auto, using(std::proofs::lemmas::Fmt::decimal_injective))]
 pub fn byte_in(word: &[u8]) -> Option<u8>
     ensures spelled { IfSome result (λ n. word.now ≡ decimal n) }
@@ -40,7 +41,8 @@ pub fn byte_in(word: &[u8]) -> Option<u8>
     }
 }
 
-/// The segment that a word names: its maker and its number, with a full stop between them.
+/// Returns the name of the segment that a word spells, its maker and its number with a full stop
+/// between them; none if the word spells none.
 #[tactic(auto, using(crate::proofs::NumeralLemmas::name_from_parts, crate::proofs::NumeralLemmas::no_name_from_parts, crate::proofs::NumeralLemmas::no_name_of_many))]
 pub fn segment_in(word: &[u8]) -> Option<SegName>
     ensures spelled { IfSome result (λ s. word.now ≡ name_words s) }
@@ -50,7 +52,7 @@ pub fn segment_in(word: &[u8]) -> Option<SegName>
     segment_of(parts.as_slice())
 }
 
-/// The segment whose maker and number these are.
+/// Returns the name of the segment whose maker and number these two parts spell, or none.
 fn segment_of(parts: &[&[u8]]) -> Option<SegName>
     ensures spelled { IfSome result (λ s. map (λ part. part.now) parts.now ≡ decimal s.maker ∷ decimal s.n ∷ []) }
     ensures unspelled { IfNone result ((s : Segment) → IsSegmentInRange s → map (λ part. part.now) parts.now ≢ decimal s.maker ∷ decimal s.n ∷ []) }
@@ -60,13 +62,13 @@ fn segment_of(parts: &[&[u8]]) -> Option<SegName>
     };
     Some(SegName {
         maker: byte_in(maker)?,
-        n: short_in(n)?,
+        n: u32_in(n)?,
     })
 }
 
-/// The number from 0 to 2^32 - 1 that a word spells.
+/// Returns the number from 0 to 2^32 - 1 that a word spells, or none.
 #[tactic(auto, using(std::proofs::lemmas::Fmt::decimal_injective))]
-fn short_in(word: &[u8]) -> Option<u32>
+fn u32_in(word: &[u8]) -> Option<u32>
     ensures spelled { IfSome result (λ n. word.now ≡ decimal n) }
     ensures unspelled { IfNone result ((n : ℕ) → n < 2 ^ 32 → word.now ≢ decimal n) }
 {
@@ -78,8 +80,9 @@ fn short_in(word: &[u8]) -> Option<u32>
     }
 }
 
-/// The number that std reads, which takes a sign and leading zeros too.
-fn loosely_in(word: &[u8]) -> Option<u64>
+/// Returns the number that std reads from a word, or none. Std also accepts a plus sign and leading
+/// zeros.
+fn std_number_in(word: &[u8]) -> Option<u64>
     ensures { (n : ℕ) → n < 2 ^ 64 → word.now ≡ decimal n → result ≡ Some n }
 {
     let Ok(digits) = str::from_utf8(word) else {

@@ -54,7 +54,7 @@ impl PlaceKind {
         PlaceKind::ArrCell,
     ];
 
-    /// The kind that a word is.
+    /// Returns the kind of place that a word is, or none.
     fn of(word: &[u8]) -> Option<PlaceKind>
         ensures some { IfSome result (λ kind. word.now ≡ kind_text kind) }
         ensures none { IfNone result ((kind : Kind) → word.now ≢ kind_text kind) }
@@ -67,7 +67,7 @@ impl PlaceKind {
         None
     }
 
-    /// The word.
+    /// Returns the word of the kind of place.
     fn text(self) -> &'static [u8]
         ensures { result.now ≡ kind_text self }
     {
@@ -87,7 +87,7 @@ impl PlaceKind {
         }
     }
 
-    /// The place of this kind that the words after it name.
+    /// Returns the place of this kind that the words after it name, or none.
     fn place(self, words: &[&[u8]]) -> Option<Place>
         ensures { ReadsKind self (map (λ word. word.now) words.now) result }
     {
@@ -115,7 +115,7 @@ impl PlaceKind {
     }
 }
 
-/// The place that the words are.
+/// Returns the place that these words spell, or none.
 pub fn place_in(words: &[&[u8]]) -> Option<Place>
     ensures { ReadsPlace (map (λ word. word.now) words.now) result }
 {

@@ -1,4 +1,4 @@
-//! What the lines of a whole text say: each as one that is read from a device.
+//! What the lines of a whole text spell: each is read like a line from a device.
 
 ghost use Rattle.std.specs.Prelude.{◌≡◌, ◌≢◌, ◌==◌, [], IfOk, IfErr};
 ghost use Rattle.std.specs.List.{slice_split};
@@ -11,8 +11,8 @@ use rd_cell::Refusal;
 use rd_marks::Command;
 use std::alloc::Global;
 
-/// The commands and the faults of the lines of a text, one by one. The last line may lack its line
-/// feed.
+/// Returns the commands and the faults of the lines of a text, one by one. The last line needs no
+/// line feed.
 ///
 /// # Errors
 ///
@@ -33,8 +33,8 @@ pub fn lines(alloc: Global, text: &[u8]) -> Result<Vec<Result<Command, LineFault
     Ok(said)
 }
 
-/// The text without the line feed at its end, if it has one there: its lines are the parts between
-/// line feeds then.
+/// Returns the text without the line feed at its end, if it has one there, so that its lines are
+/// the parts between line feeds.
 fn without_last_feed(text: &[u8]) -> &[u8]
     requires { text.now ≢ [] }
     ensures { slice_split (λ byte. byte == 10) result.now ≡ lines_of text.now }

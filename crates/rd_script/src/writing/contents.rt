@@ -1,21 +1,21 @@
-//! The words that spell a segment's name, and what a place has in it.
+//! The words that spell a segment's name, and the content of a place.
 
 ghost use Rattle.std.specs.Prelude.{◌≡◌, ◌≤◌, length};
 ghost use Rattle.rd_script.specs.Puts.{PutsUpTo};
 ghost use Rattle.rd_script.specs.Contents.{name_words, value_words, next_words, tail_word, cell_words, index_words, slot_words, content_words};
 
-use super::numbers::{bit_number, put_counted, put_number, put_spaced};
+use super::numbers::{bit_number, put_number, put_spaced, put_words_and_number};
 use super::texts::{Text, put};
 use rd_cell::{ArrSlot, Cell, Content, SegName};
 
-/// Appends what a place has in it to the text.
+/// Appends to the text the content of a place.
 pub fn put_content(text: &mut Text, content: Content)
     ensures { PutsUpTo 62 text.old.items text.new.items (content_words content) }
 {
     match content {
         Content::Name(name) => put_name(text, name),
         Content::Number(number) => put_number(text, number),
-        Content::Tail { closed, count } => put_counted(text, tail_word(closed), count),
+        Content::Tail { closed, count } => put_words_and_number(text, tail_word(closed), count),
         Content::Next(next) => put_next(text, next),
         Content::Cell(cell) => put_cell(text, cell),
         Content::Val(value) => put_value(text, value),
@@ -25,7 +25,7 @@ pub fn put_content(text: &mut Text, content: Content)
     }
 }
 
-/// Appends a segment's name to the text.
+/// Appends to the text a segment's name.
 pub fn put_name(text: &mut Text, name: SegName)
     ensures { PutsUpTo 41 text.old.items text.new.items (name_words name) }
 {
@@ -34,7 +34,7 @@ pub fn put_name(text: &mut Text, name: SegName)
     put_number(text, u64::from(name.n));
 }
 
-/// Appends a value, if any, to the text.
+/// Appends to the text a value, or `none`.
 pub fn put_value(text: &mut Text, value: Option<u64>)
     ensures { PutsUpTo 20 text.old.items text.new.items (value_words value) }
 {
@@ -44,7 +44,7 @@ pub fn put_value(text: &mut Text, value: Option<u64>)
     }
 }
 
-/// The word for whether a ring is closed for enqueues.
+/// Returns the word for whether a ring is closed for enqueues.
 pub fn tail_word(closed: bool) -> &'static [u8]
     ensures name { result.now ≡ tail_word closed }
     ensures len { length result.now ≤ 6 }
@@ -52,7 +52,7 @@ pub fn tail_word(closed: bool) -> &'static [u8]
     if closed { b"closed" } else { b"open" }
 }
 
-/// Appends the name of the segment that follows, if any, to the text.
+/// Appends to the text the name of the segment that follows, or `none`.
 fn put_next(text: &mut Text, next: Option<SegName>)
     ensures { PutsUpTo 41 text.old.items text.new.items (next_words next) }
 {
@@ -62,7 +62,7 @@ fn put_next(text: &mut Text, next: Option<SegName>)
     }
 }
 
-/// Appends a cell's safe bit, index and value to the text.
+/// Appends to the text a cell's safe bit, index and value.
 fn put_cell(text: &mut Text, cell: Cell)
     ensures { PutsUpTo 62 text.old.items text.new.items (cell_words cell) }
 {
@@ -72,7 +72,7 @@ fn put_cell(text: &mut Text, cell: Cell)
     put_value(text, cell.val);
 }
 
-/// Appends a safe bit and an index to the text.
+/// Appends to the text a safe bit and an index.
 pub fn put_index(text: &mut Text, safe: bool, idx: u64)
     ensures { PutsUpTo 41 text.old.items text.new.items (index_words safe idx) }
 {
@@ -80,13 +80,13 @@ pub fn put_index(text: &mut Text, safe: bool, idx: u64)
     put_spaced(text, idx);
 }
 
-/// Appends what a slot of the array has to the text.
+/// Appends to the text the content of a slot of the array.
 fn put_slot(text: &mut Text, slot: ArrSlot)
     ensures { PutsUpTo 26 text.old.items text.new.items (slot_words slot) }
 {
     match slot {
         ArrSlot::Empty => put(text, b"empty"),
         ArrSlot::Top => put(text, b"top"),
-        ArrSlot::Value(value) => put_counted(text, b"value", value),
+        ArrSlot::Value(value) => put_words_and_number(text, b"value", value),
     }
 }

@@ -3,30 +3,30 @@
 ghost use Rattle.rd_script.specs.Puts.{PutsUpTo};
 ghost use Rattle.rd_script.specs.Events.{event_words};
 
-use super::numbers::{put_counted, put_spaced, yes_or_no};
+use super::numbers::{put_spaced, put_words_and_number, yes_or_no};
 use super::texts::{Text, put};
 use rd_actor::Act;
 use rd_step::Event;
 
-/// Appends the line that makes an event happen to the text.
+/// Appends to the text the words of an event: those of the line that makes it happen.
 pub fn put_event(text: &mut Text, event: Event)
     ensures { PutsUpTo 46 text.old.items text.new.items (event_words event) }
 {
     let actor = u64::from(event.actor);
     match event.act {
         Act::Enq(value) => {
-            put_counted(text, b"enq", actor);
+            put_words_and_number(text, b"enq", actor);
             put_spaced(text, value);
         }
-        Act::Deq => put_counted(text, b"deq", actor),
+        Act::Deq => put_words_and_number(text, b"deq", actor),
         Act::AEnq(value) => {
-            put_counted(text, b"aenq", actor);
+            put_words_and_number(text, b"aenq", actor);
             put_spaced(text, value);
         }
-        Act::ADeq => put_counted(text, b"adeq", actor),
-        Act::Go => put_counted(text, b"go", actor),
+        Act::ADeq => put_words_and_number(text, b"adeq", actor),
+        Act::Go => put_words_and_number(text, b"go", actor),
         Act::Starve(choice) => {
-            put_counted(text, b"starve", actor);
+            put_words_and_number(text, b"starve", actor);
             put(text, b" ");
             put(text, yes_or_no(choice));
         }

@@ -4,7 +4,7 @@ ghost use Rattle.std.specs.Prelude.{◌≡◌};
 ghost use Rattle.rd_script.specs.Headings.{heading_text};
 
 use super::lines::end_line;
-use super::numbers::put_counted;
+use super::numbers::put_words_and_number;
 use super::texts::Text;
 
 /// A line of a view that answers nothing.
@@ -16,14 +16,14 @@ pub enum Heading {
     History(u64),
 }
 
-/// Makes the text the line of a heading, with its line feed, whatever it was before.
+/// Replaces the text by the line of a heading, with its line feed.
 pub fn set_heading(text: &mut Text, heading: Heading)
     ensures { text.new.items ≡ heading_text heading }
 {
     text.clear();
     match heading {
-        Heading::Viewer(number) => put_counted(text, b"viewer", number),
-        Heading::History(calls) => put_counted(text, b"history", calls),
+        Heading::Viewer(number) => put_words_and_number(text, b"viewer", number),
+        Heading::History(calls) => put_words_and_number(text, b"history", calls),
     }
     end_line(text);
 }

@@ -1,6 +1,6 @@
-//! The line that an answer is written as.
+//! The line of an answer.
 //!
-//! A run puts all of its answers together in one buffer, so that none is made anew for each. It
+//! A run makes the lines of all its answers in one buffer, so that no answer needs a new one. It
 //! makes the line of a reply or of a refusal from just that, since a whole `LineAnswer`, which has
 //! room for a step's record, takes time to copy.
 
@@ -9,7 +9,7 @@ ghost use Rattle.rd_script.specs.Puts.{Puts, PutsUpTo};
 ghost use Rattle.rd_script.specs.Refusals.{trace_step_words, trace_mark_words, busy_words, any_words};
 ghost use Rattle.rd_script.specs.Replies.{text_of};
 
-use super::numbers::{put_counted, put_spaced};
+use super::numbers::{put_spaced, put_words_and_number};
 use super::refusals::{name_of_fault, name_of_stop, put_refusal};
 use super::replies::put_reply;
 use super::texts::{Text, put};
@@ -17,7 +17,7 @@ use crate::answers::{AnyRefusal, LineAnswer};
 use rd_cell::Refusal;
 use rd_marks::Reply;
 
-/// Makes the text the line of an answer, with its line feed, whatever it was before.
+/// Replaces the text by the line of an answer, with its line feed.
 pub fn set_text(text: &mut Text, answer: &LineAnswer)
     ensures { text.new.items ≡ text_of answer.now }
 {
@@ -27,7 +27,7 @@ pub fn set_text(text: &mut Text, answer: &LineAnswer)
     }
 }
 
-/// Makes the text the line of a reply, with its line feed, whatever it was before.
+/// Replaces the text by the line of a reply, with its line feed.
 pub fn set_reply(text: &mut Text, reply: &Reply)
     ensures { text.new.items ≡ text_of (Ok reply.now) }
 {
@@ -36,32 +36,36 @@ pub fn set_reply(text: &mut Text, reply: &Reply)
     end_line(text);
 }
 
-/// Makes the text the line of a refusal, with its line feed, whatever it was before.
+/// Replaces the text by the line of a refusal, with its line feed.
 pub fn set_refused(text: &mut Text, refusal: &AnyRefusal)
     ensures { text.new.items ≡ text_of (Err refusal.now) }
 {
     text.clear();
     put(text, b"refused ");
-    put_any(text, refusal);
+    put_any_refusal(text, refusal);
     end_line(text);
 }
 
-/// Appends the line feed to the text.
+/// Appends to the text the line feed that ends its line.
 pub fn end_line(text: &mut Text)
     ensures { Puts text.old.items text.new.items (10 ∷ []) }
 {
     put(text, b"\n");
 }
 
-/// Appends the number, the name and the data of any refusal to the text.
-fn put_any(text: &mut Text, refusal: &AnyRefusal)
+/// Appends to the text the number, the name and the data of any refusal.
+fn put_any_refusal(text: &mut Text, refusal: &AnyRefusal)
     ensures { PutsUpTo 100 text.old.items text.new.items (any_words refusal.now) }
 {
     match *refusal {
         AnyRefusal::Refused(refusal) => put_refusal(text, refusal),
         AnyRefusal::Unread(fault) => put(text, name_of_fault(fault)),
         AnyRefusal::Stopped(fault) => put(text, name_of_stop(fault)),
-        AnyRefusal::Flawed(flaw) => put_counted(text, b"26 Flaw", u64::from(flaw.number())),
+        AnyRefusal::Flawed(flaw) => put_words_and_number(
+            text,
+            b"26 Flaw",
+            u64::from(flaw.number()),
+        ),
         AnyRefusal::HistoryFull => put(text, b"21 HistoryFull"),
         AnyRefusal::BadTrace => put(text, b"27 BadTrace"),
         AnyRefusal::TraceStep { step, cause } => put_trace_step(text, step, cause),
@@ -75,29 +79,29 @@ fn put_any(text: &mut Text, refusal: &AnyRefusal)
     }
 }
 
-/// Appends which event of a trace was refused, and why, to the text.
+/// Appends to the text which event of a trace was refused, and why.
 fn put_trace_step(text: &mut Text, step: u64, cause: Refusal)
     ensures { PutsUpTo 78 text.old.items text.new.items (trace_step_words step cause) }
 {
-    put_counted(text, b"28 TraceStep", step);
+    put_words_and_number(text, b"28 TraceStep", step);
     put(text, b" cause ");
     put_refusal(text, cause);
 }
 
-/// Appends which event of which bookmark of a trace was refused, and why, to the text.
+/// Appends to the text which event of which bookmark of a trace was refused, and why.
 fn put_trace_mark(text: &mut Text, mark: u64, step: u64, cause: Refusal)
     ensures { PutsUpTo 99 text.old.items text.new.items (trace_mark_words mark step cause) }
 {
-    put_counted(text, b"32 TraceMark", mark);
+    put_words_and_number(text, b"32 TraceMark", mark);
     put_spaced(text, step);
     put(text, b" cause ");
     put_refusal(text, cause);
 }
 
-/// Appends the ticket that is drawn next and the one that is served to the text.
+/// Appends to the text the ticket that is drawn next, and the one that is served.
 fn put_busy(text: &mut Text, next: u64, served: u64)
     ensures { PutsUpTo 54 text.old.items text.new.items (busy_words next served) }
 {
-    put_counted(text, b" next", next);
-    put_counted(text, b" served", served);
+    put_words_and_number(text, b" next", next);
+    put_words_and_number(text, b" served", served);
 }

@@ -1,4 +1,5 @@
-//! Numbers and bits after a text. A number is written as decimal digits without leading zeros.
+//! Numbers and bits appended to a text. A number is written as decimal digits without leading
+//! zeros.
 
 ghost use Rattle.std.specs.Prelude.{◌≡◌, ◌≤◌, ◌++◌, length};
 ghost use Rattle.std.specs.Fmt.{decimal};
@@ -8,7 +9,7 @@ ghost use Rattle.rd_script.specs.Texts.{spaced_number, bit_number, yes_or_no};
 use super::texts::{Text, put};
 use itoa::Buffer;
 
-/// Appends the digits of a number to the text, the higher ones first.
+/// Appends to the text the decimal digits of a number, the highest first.
 pub fn put_number(text: &mut Text, number: u64)
     ensures { PutsUpTo 20 text.old.items text.new.items (decimal number) }
 {
@@ -16,7 +17,7 @@ pub fn put_number(text: &mut Text, number: u64)
     put(text, digits.format(number).as_bytes());
 }
 
-/// Appends a space and a number to the text.
+/// Appends to the text a space and a number.
 pub fn put_spaced(text: &mut Text, number: u64)
     ensures { PutsUpTo 21 text.old.items text.new.items (spaced_number number) }
 {
@@ -24,8 +25,8 @@ pub fn put_spaced(text: &mut Text, number: u64)
     put_number(text, number);
 }
 
-/// Appends words to the text, and a number after them.
-pub fn put_counted(text: &mut Text, words: &[u8], number: u64)
+/// Appends to the text these words, a space and a number.
+pub fn put_words_and_number(text: &mut Text, words: &[u8], number: u64)
     ensures words { Puts text.old.items text.new.items (words.now ++ spaced_number number) }
     ensures len { length (spaced_number number) ≤ 21 }
 {
@@ -33,14 +34,14 @@ pub fn put_counted(text: &mut Text, words: &[u8], number: u64)
     put_spaced(text, number);
 }
 
-/// A bit as a number.
+/// Returns a bit as a number, 0 or 1.
 pub fn bit_number(bit: bool) -> u64
     ensures { result ≡ bit_number bit }
 {
     if bit { 1 } else { 0 }
 }
 
-/// A choice as a word.
+/// Returns a choice as a word, `yes` or `no`.
 pub fn yes_or_no(choice: bool) -> &'static [u8]
     ensures name { result.now ≡ yes_or_no choice }
     ensures len { length result.now ≤ 3 }

@@ -6,41 +6,41 @@ ghost use Rattle.rd_script.specs.Contents.{name_words};
 ghost use Rattle.rd_script.specs.Spelling.{place_words};
 
 use super::contents::put_name;
-use super::numbers::{put_counted, put_spaced};
+use super::numbers::{put_spaced, put_words_and_number};
 use super::texts::{Text, put};
 use rd_cell::{Place, SegName};
 
-/// Appends a place to the text.
+/// Appends to the text the words that spell a place.
 pub fn put_place(text: &mut Text, place: Place)
     ensures { PutsUpTo 68 text.old.items text.new.items (place_words place) }
 {
     match place {
         Place::QHead => put(text, b"qhead"),
         Place::QTail => put(text, b"qtail"),
-        Place::Head(name) => put_named(text, b"head ", name),
-        Place::Tail(name) => put_named(text, b"tail ", name),
-        Place::Next(name) => put_named(text, b"next ", name),
+        Place::Head(name) => put_words_and_name(text, b"head ", name),
+        Place::Tail(name) => put_words_and_name(text, b"tail ", name),
+        Place::Next(name) => put_words_and_name(text, b"next ", name),
         Place::Cell(name, index) => {
-            put_named(text, b"cell ", name);
+            put_words_and_name(text, b"cell ", name);
             put_spaced(text, u64::from(index));
         }
         Place::Val(name, index) => {
-            put_named(text, b"value ", name);
+            put_words_and_name(text, b"value ", name);
             put_spaced(text, u64::from(index));
         }
         Place::Idx(name, index) => {
-            put_named(text, b"index ", name);
+            put_words_and_name(text, b"index ", name);
             put_spaced(text, u64::from(index));
         }
-        Place::Whole(name) => put_named(text, b"whole ", name),
+        Place::Whole(name) => put_words_and_name(text, b"whole ", name),
         Place::ArrHead => put(text, b"ahead"),
         Place::ArrTail => put(text, b"atail"),
-        Place::ArrCell(index) => put_counted(text, b"acell", u64::from(index)),
+        Place::ArrCell(index) => put_words_and_number(text, b"acell", u64::from(index)),
     }
 }
 
-/// Appends words to the text, and a segment's name after them.
-fn put_named(text: &mut Text, words: &[u8], name: SegName)
+/// Appends to the text these words, and a segment's name after them.
+fn put_words_and_name(text: &mut Text, words: &[u8], name: SegName)
     ensures words { Puts text.old.items text.new.items (words.now ++ name_words name) }
     ensures len { length (name_words name) ≤ 41 }
 {

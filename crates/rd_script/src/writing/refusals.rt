@@ -9,7 +9,7 @@ use super::texts::{Text, put};
 use crate::faults::{LineFault, ScriptFault};
 use rd_cell::Refusal;
 
-/// Appends the number, the name and the data of a refusal to the text.
+/// Appends to the text the number, the name and the data of a refusal.
 pub fn put_refusal(text: &mut Text, refusal: Refusal)
     ensures { PutsUpTo 38 text.old.items text.new.items (refusal_words refusal) }
 {
@@ -22,7 +22,7 @@ pub fn put_refusal(text: &mut Text, refusal: Refusal)
     }
 }
 
-/// The number and the name of a line's fault.
+/// Returns the number and the name of the fault of a line.
 pub fn name_of_fault(fault: LineFault) -> &'static [u8]
     ensures name { result.now ≡ fault_name fault }
     ensures len { length result.now ≤ 17 }
@@ -34,7 +34,7 @@ pub fn name_of_fault(fault: LineFault) -> &'static [u8]
     }
 }
 
-/// The number and the name of what stopped a run.
+/// Returns the number and the name of what stopped a run.
 pub fn name_of_stop(fault: ScriptFault) -> &'static [u8]
     ensures name { result.now ≡ stop_name fault }
     ensures len { length result.now ≤ 17 }
@@ -45,7 +45,7 @@ pub fn name_of_stop(fault: ScriptFault) -> &'static [u8]
     }
 }
 
-/// The number and the name of a refusal.
+/// Returns the number and the name of a refusal.
 fn name_of(refusal: Refusal) -> &'static [u8]
     ensures name { result.now ≡ refusal_name refusal }
     ensures len { length result.now ≤ 17 }

@@ -1,4 +1,4 @@
-//! The words of what a book replies.
+//! The words of a book's replies.
 
 ghost use Rattle.rd_marks.specs.Names.{bytes_of};
 ghost use Rattle.rd_script.specs.Puts.{PutsUpTo};
@@ -6,29 +6,29 @@ ghost use Rattle.rd_script.specs.Replies.{event_reply, step_number, origin_words
 
 use super::actors::put_actor;
 use super::contents::put_content;
-use super::numbers::{put_counted, put_number, put_spaced, yes_or_no};
+use super::numbers::{put_number, put_spaced, put_words_and_number, yes_or_no};
 use super::steps::{put_call_reply, put_step};
 use super::texts::{Text, put};
 use rd_actor::OpReply;
 use rd_marks::{MarkName, Reply};
 use rd_origin::Origin;
 
-/// Appends the words of a reply to the text.
+/// Appends to the text the words of a reply.
 pub fn put_reply(text: &mut Text, reply: &Reply)
     ensures { PutsUpTo 400 text.old.items text.new.items (reply_words reply.now) }
 {
     match *reply {
         Reply::Applied { step, reply } => {
-            put_counted(text, b"ok", step);
+            put_words_and_number(text, b"ok", step);
             put_event_reply(text, reply);
         }
         Reply::At { live, undone } => {
-            put_counted(text, b"at", live);
+            put_words_and_number(text, b"at", live);
             put_spaced(text, undone);
         }
-        Reply::Marked(len) => put_counted(text, b"marked", len),
+        Reply::Marked(len) => put_words_and_number(text, b"marked", len),
         Reply::Dropped => put(text, b"dropped"),
-        Reply::Marks(count) => put_counted(text, b"marks", count),
+        Reply::Marks(count) => put_words_and_number(text, b"marks", count),
         Reply::Mark { name, len } => {
             put(text, b"mark ");
             put_mark_name(text, name);
@@ -49,7 +49,7 @@ pub fn put_reply(text: &mut Text, reply: &Reply)
     }
 }
 
-/// Appends what the call replied that an event ended, if it ended one, to the text.
+/// Appends to the text a space and what a call replied, if the event ended one.
 fn put_event_reply(text: &mut Text, reply: Option<OpReply>)
     ensures { PutsUpTo 27 text.old.items text.new.items (event_reply reply) }
 {
@@ -62,7 +62,7 @@ fn put_event_reply(text: &mut Text, reply: Option<OpReply>)
     }
 }
 
-/// Appends the steps of an origin to the text.
+/// Appends to the text the words of an origin: the steps that called, put and took a value.
 fn put_origin(text: &mut Text, origin: Origin)
     ensures { PutsUpTo 90 text.old.items text.new.items (origin_words origin) }
 {
@@ -70,10 +70,10 @@ fn put_origin(text: &mut Text, origin: Origin)
     put_step_number(text, origin.call);
     put(text, b" put ");
     put_step_number(text, origin.put);
-    put_counted(text, b" take", origin.take);
+    put_words_and_number(text, b" take", origin.take);
 }
 
-/// Appends the number of a step, or a hyphen for none, to the text.
+/// Appends to the text the number of a step, or a hyphen if there is none.
 fn put_step_number(text: &mut Text, step: Option<u64>)
     ensures { PutsUpTo 20 text.old.items text.new.items (step_number step) }
 {
@@ -83,17 +83,17 @@ fn put_step_number(text: &mut Text, step: Option<u64>)
     }
 }
 
-/// Appends the last writer of a place to the text.
+/// Appends to the text the words of the step that last wrote a place, if one did.
 fn put_writer(text: &mut Text, writer: Option<u64>)
     ensures { PutsUpTo 27 text.old.items text.new.items (writer_words writer) }
 {
     match writer {
         None => put(text, b"writer none"),
-        Some(step) => put_counted(text, b"writer", step),
+        Some(step) => put_words_and_number(text, b"writer", step),
     }
 }
 
-/// Appends a bookmark's name to the text.
+/// Appends to the text a bookmark's name.
 #[tactic(auto, using(crate::proofs::NameLemmas::length_mark_name))]
 fn put_mark_name(text: &mut Text, name: MarkName)
     ensures { PutsUpTo 16 text.old.items text.new.items (bytes_of name) }

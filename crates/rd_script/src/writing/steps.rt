@@ -1,4 +1,4 @@
-//! The words of a step, as a reply says them: parts between semicolons.
+//! The words of a step in a reply: parts with semicolons between them.
 
 ghost use Rattle.std.specs.Prelude.{◌≡◌, ◌≤◌, length};
 ghost use Rattle.rd_script.specs.Puts.{PutsUpTo};
@@ -6,18 +6,18 @@ ghost use Rattle.rd_script.specs.Steps.{step_place, access_word, access_answer, 
 
 use super::contents::{put_content, put_index, put_name, put_value, tail_word};
 use super::events::put_event;
-use super::numbers::put_counted;
+use super::numbers::put_words_and_number;
 use super::places::put_place;
 use super::texts::{Text, put};
 use rd_actor::OpReply;
 use rd_cell::{Answer, Place, Wrote};
 use rd_step::Entry;
 
-/// Appends all words of a step to the text.
+/// Appends to the text all words of a step.
 pub fn put_step(text: &mut Text, number: u64, entry: &Entry)
     ensures { PutsUpTo 300 text.old.items text.new.items (step_words number entry.now) }
 {
-    put_counted(text, b"step", number);
+    put_words_and_number(text, b"step", number);
     put(text, b"; ");
     put_event(text, entry.event);
     put(text, b"; ");
@@ -26,18 +26,18 @@ pub fn put_step(text: &mut Text, number: u64, entry: &Entry)
     put_step_reply(text, entry.reply);
 }
 
-/// Appends what a call replied to the text.
+/// Appends to the text what a call replied.
 pub fn put_call_reply(text: &mut Text, reply: OpReply)
     ensures { PutsUpTo 26 text.old.items text.new.items (reply_word reply) }
 {
     match reply {
         OpReply::Enqueued => put(text, b"enqueued"),
-        OpReply::Value(value) => put_counted(text, b"value", value),
+        OpReply::Value(value) => put_words_and_number(text, b"value", value),
         OpReply::Empty => put(text, b"empty"),
     }
 }
 
-/// Appends what the access of a step did to the text.
+/// Appends to the text what the access of a step did.
 fn put_done(text: &mut Text, entry: &Entry)
     ensures { PutsUpTo 145 text.old.items text.new.items (done_words entry.now) }
 {
@@ -48,7 +48,7 @@ fn put_done(text: &mut Text, entry: &Entry)
     put_access_answer(text, entry.answer);
 }
 
-/// Appends the place of a step, if it has one, to the text.
+/// Appends to the text the place of a step, or a hyphen if it has none.
 fn put_step_place(text: &mut Text, place: Option<Place>)
     ensures { PutsUpTo 68 text.old.items text.new.items (step_place place) }
 {
@@ -58,7 +58,7 @@ fn put_step_place(text: &mut Text, place: Option<Place>)
     }
 }
 
-/// How a step touched its place, if it has one.
+/// Returns the word for how a step touched its place, if it has one.
 fn access_word(place: Option<Place>, wrote: Wrote) -> &'static [u8]
     ensures name { result.now ≡ access_word place wrote }
     ensures len { length result.now ≤ 11 }
@@ -71,7 +71,7 @@ fn access_word(place: Option<Place>, wrote: Wrote) -> &'static [u8]
     }
 }
 
-/// Appends what an access answered to the text.
+/// Appends to the text what an access answered.
 fn put_access_answer(text: &mut Text, answer: Answer)
     ensures { PutsUpTo 62 text.old.items text.new.items (access_answer answer) }
 {
@@ -93,7 +93,7 @@ fn put_access_answer(text: &mut Text, answer: Answer)
     }
 }
 
-/// Appends what the call replied that a step ended, if it ended one, to the text.
+/// Appends to the text what a call replied, if the step ended one, else a hyphen.
 fn put_step_reply(text: &mut Text, reply: Option<OpReply>)
     ensures { PutsUpTo 26 text.old.items text.new.items (step_reply reply) }
 {

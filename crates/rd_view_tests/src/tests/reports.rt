@@ -4,13 +4,13 @@ use rd_cell::Refusal;
 use rd_desk::Answer;
 use rd_marks::{Command, Reply};
 use rd_script::LineFault;
-use rd_view::{Said, text_of_view};
+use rd_view::{ParsedLine, text_of_view};
 use std::alloc::{AllocError, Global};
 use std::process::Abort;
 use std::test::Fail;
 
 /// What the lines of a script say, and what was answered where its viewer was started.
-type Row<'a> = (&'a [Said], Option<&'a [Answer]>);
+type Row<'a> = (&'a [ParsedLine], Option<&'a [Answer]>);
 
 /// The text of a view of these viewers, with this many recorded calls.
 fn view_of(

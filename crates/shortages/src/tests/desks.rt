@@ -1,6 +1,6 @@
 //! A desk that is refused memory: when it is opened, and at a call.
 
-ghost use Rattle.rd_lock.specs.Histories.{Every};
+ghost use Rattle.std.specs.List.{AllByRecursion};
 ghost use Rattle.rd_desk.specs.Desks.{IsNewViewer, IsViewerOf};
 
 use super::lists::answer;
@@ -16,7 +16,7 @@ use std::sync::Wait;
 /// A desk for one viewer over a fresh book, which comes back as it was where memory is refused, and
 /// is opened again.
 fn opened(rt: &impl Abort, alloc: Global, twin: &mut Trial) -> (Desk<2>, Vec<DeskPass<2>>)
-    ensures each { Every (IsNewViewer result.0) result.1.items }
+    ensures each { AllByRecursion (IsNewViewer result.0) result.1.items }
 {
     let Trial { book, .. } = on_trial(rt, alloc);
     match Desk::open(alloc, book, 1) {
@@ -100,7 +100,7 @@ fn asks_all<R: Wait>(rt: &R, desk: &Desk<2>, pass: &mut DeskPass<2>) -> bool
 
 /// The last of the passes.
 fn last_pass(rt: &impl Abort, desk: &Desk<2>, mut passes: Vec<DeskPass<2>>) -> DeskPass<2>
-    requires each { Every (IsNewViewer desk.now) passes.items }
+    requires each { AllByRecursion (IsNewViewer desk.now) passes.items }
     ensures own { IsViewerOf desk.now result }
 {
     let _ = desk;

@@ -2,7 +2,7 @@ use Rattle.std.proofs.Common.{◌≡◌, ◌∙◌, ◌+◌, ap, sym, subst, [],
 use Rattle.std.proofs.Math.Seq.{take-suc}
 use Rattle.std.proofs.lemmas.List.{take_all}
 use Rattle.rd_desk.specs.Rooms.{IsRoomFor}
-use Rattle.rd_desk.specs.Viewers.{Pairs}
+use Rattle.std.specs.List.{AllZip}
 use Rattle.rd_desk.proofs.ChainLemmas.{one_more_pair}
 use Rattle.rd_desk.proofs.rooms.make_rooms.Goals as goal
 
@@ -12,11 +12,11 @@ loop-i-preserved g c =
     let more : take i all ++ viewer ∷ [] ≡ take (i + 1) all =
     ap (λ x. take i all ++ x ∷ []) c.index.ensures ∙ sym (take-suc all i viewer (omega arith)) ∙ ap (λ n. take n all) (sym (add-one i)) in
     record {
-      rooms = subst (λ ws. Pairs IsRoomFor ws c.push_reserved.new.self.items) more (subst (Pairs IsRoomFor (take i all ++ viewer ∷ [])) (sym c.push_reserved.ensures.items)
+      rooms = subst (λ ws. AllZip IsRoomFor ws c.push_reserved.new.self.items) more (subst (AllZip IsRoomFor (take i all ++ viewer ∷ [])) (sym c.push_reserved.ensures.items)
           (one_more_pair IsRoomFor (take i all) c.loop-i.answers.items viewer c.in_ok-room.room c.loop-i.invariant.rooms (c.in_ok-room.ensures.items, (let k = viewer.1.ok in let n = c.len-in-loop-i.ensures in let m = c.in_ok-room.ensures.capacity in omega arith))));
       len = omega arith;
       capacity = omega arith;
     }
 
 pub returns-clause-answers : goal.returns-clause-answers
-returns-clause-answers g c = subst (λ ws. Pairs IsRoomFor ws c.loop-i.answers.items) (take_all c.loop-i.i c.args.work.now.items (omega arith)) c.loop-i.invariant.rooms
+returns-clause-answers g c = subst (λ ws. AllZip IsRoomFor ws c.loop-i.answers.items) (take_all c.loop-i.i c.args.work.now.items (omega arith)) c.loop-i.invariant.rooms

@@ -1,11 +1,11 @@
 use Rattle.std.proofs.Common.{◌≡◌, ◌≤◌, take, length, vec_len, vec_capacity}
-use Rattle.rd_desk.specs.Viewers.{Pairs}
+use Rattle.std.specs.List.{AllZip}
 use Rattle.rd_desk.specs.Rooms.{IsRoomFor}
 use Rattle.rd_desk.proofs.rooms.make_rooms.Given as goal
 
 abbrev pub invariant-loop-i : goal.invariant-loop-i
 invariant-loop-i g l = record {
-  rooms : Pairs IsRoomFor (take l.i l.work.items) l.answers.items;
+  rooms : AllZip IsRoomFor (take l.i l.work.items) l.answers.items;
   len : vec_len l.answers ≡ l.i;
   capacity : length l.work.items ≤ vec_capacity l.answers;
 }

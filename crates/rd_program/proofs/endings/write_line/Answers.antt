@@ -4,16 +4,16 @@ use Rattle.rd_program.specs.Endings.{Takes}
 use Rattle.rd_program.proofs.EndingLemmas.{takes_both, takes_front}
 use Rattle.rd_program.proofs.endings.write_line.Goals as goal
 
-pub returns-in_err-hand_over : goal.returns-in_err-hand_over
-returns-in_err-hand_over g c =
-    takes_front (g.K.Sink.has_failed c.hand_over.new.writer) (g.K.Sink.contents c.args.stream.now) (g.K.Sink.contents c.hand_over.new.writer) (codes "lcrqdb: ") (text_of (Err c.args.refusal))
-    c.in_err-hand_over.ensures.fails c.in_err-hand_over.ensures.err
+pub returns-in_err-write_all : goal.returns-in_err-write_all
+returns-in_err-write_all g c =
+    takes_front (g.K.Sink.has_failed c.write_all.new.writer) (g.K.Sink.contents c.args.stream.now) (g.K.Sink.contents c.write_all.new.writer) (codes "lcrqdb: ") (text_of (Err c.args.refusal))
+    c.in_err-write_all.ensures.fails c.in_err-write_all.ensures.err
 
 pub returns : goal.returns
 returns g c =
-    let failed = g.K.Sink.has_failed c.hand_over-2.new.writer in
+    let failed = g.K.Sink.has_failed c.write_all-2.new.writer in
     let old = g.K.Sink.contents c.args.stream.now in
-    let new = g.K.Sink.contents c.hand_over-2.new.writer in
+    let new = g.K.Sink.contents c.write_all-2.new.writer in
     subst (λ back. Takes failed old new (codes "lcrqdb: " ++ back)) (c.as_slice.ensures.value ∙ c.set_text.ensures)
-    (takes_both failed old (g.K.Sink.contents c.hand_over.new.writer) new (codes "lcrqdb: ") c.as_slice.result.now c.hand_over-2.result c.in_ok-hand_over.ensures.ok
-    c.hand_over-2.ensures.ok c.hand_over-2.ensures.err c.hand_over-2.ensures.works c.hand_over-2.ensures.fails)
+    (takes_both failed old (g.K.Sink.contents c.write_all.new.writer) new (codes "lcrqdb: ") c.as_slice.result.now c.write_all-2.result c.in_ok-write_all.ensures.ok
+    c.write_all-2.ensures.ok c.write_all-2.ensures.err c.write_all-2.ensures.works c.write_all-2.ensures.fails)

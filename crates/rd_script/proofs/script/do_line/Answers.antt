@@ -8,6 +8,6 @@ returns-clause-does g c said held =
       did.0,
       did.1,
       did.2,
-      WritesAnswer-from_text (g.K.Sink.contents c.args.writer.now) (g.K.Sink.contents c.hand_over.new.writer) did.0.answer c.as_slice.result.now c.hand_over.result (c.as_slice.ensures.value ∙ did.3)
-          c.hand_over.ensures.ok c.hand_over.ensures.err,
+      WritesAnswer-from_text (g.K.Sink.contents c.args.writer.now) (g.K.Sink.contents c.write_all.new.writer) did.0.answer c.as_slice.result.now c.write_all.result (c.as_slice.ensures.value ∙ did.3)
+          c.write_all.ensures.ok c.write_all.ensures.err,
     )

@@ -1,6 +1,6 @@
 use Rattle.std.proofs.Common.{Ok, subst, arith, ◌∙◌}
 use Rattle.rd_marks.specs.BookViews.{book_state}
-use Rattle.rd_script.specs.Lines.{Reads}
+use Rattle.rd_script.specs.Lines.{ReadsNext}
 use Rattle.rd_script.specs.declared.faults.ScriptFault.TheVariants.{Read, Write}
 use Rattle.rd_script.proofs.ScriptLemmas.{starts, ran_to_end, stopped_at_read, stopped_endless, goes_on, ran_to_last, RunsScript-at_fault, stopped_at_write, stopped_at_last_write}
 use Rattle.rd_script.proofs.script.run.Goals as goal
@@ -24,7 +24,7 @@ returns-in-End g c =
     let failed = g.S.Source.has_failed c.next_line.new.reader in
     let old = g.S.Source.bytes c.loop-done.reader in
     let new = g.S.Source.bytes c.next_line.new.reader in
-    let read = subst (λ r. Reads old new failed c.next_line.new.line (Ok r)) c.in-End.is c.in_ok-next_line.ensures.reads in
+    let read = subst (λ r. ReadsNext old new failed c.next_line.new.line (Ok r)) c.in-End.is c.in_ok-next_line.ensures.reads in
     record { runs = ran_to_end _ _ _ _ _ _ _ _ _ _ c.loop-done.invariant new failed read.0 read.1 c.in_ok-next_line.ensures.works; start = c.loop-done.invariant.start }
 
 pub returns : goal.returns
@@ -35,7 +35,7 @@ loop-done-preserved g c =
     let failed = g.S.Source.has_failed c.next_line.new.reader in
     let old = g.S.Source.bytes c.loop-done.reader in
     let new = g.S.Source.bytes c.next_line.new.reader in
-    let read = subst (λ r. Reads old new failed c.next_line.new.line (Ok r)) c.in-Ended.is c.in_ok-next_line.ensures.reads in
+    let read = subst (λ r. ReadsNext old new failed c.next_line.new.line (Ok r)) c.in-Ended.is c.in_ok-next_line.ensures.reads in
     let did = c.in_ok-do_line-in-Ended.ensures.does read.text read.held in
     goes_on _ _ _ _ _ _ _ _ _ _ c.loop-done.invariant new (g.K.Sink.contents c.do_line-in-Ended.new.writer)
     failed (g.K.Sink.has_failed c.do_line-in-Ended.new.writer) c.next_line.new.line read did.0 did.1
@@ -47,7 +47,7 @@ returns-in-Last g c =
     let failed = g.S.Source.has_failed c.next_line.new.reader in
     let old = g.S.Source.bytes c.loop-done.reader in
     let new = g.S.Source.bytes c.next_line.new.reader in
-    let last = subst (λ r. Reads old new failed c.next_line.new.line (Ok r)) c.in-Last.is c.in_ok-next_line.ensures.reads in
+    let last = subst (λ r. ReadsNext old new failed c.next_line.new.line (Ok r)) c.in-Last.is c.in_ok-next_line.ensures.reads in
     let did = c.in_ok-do_line-in-Last.ensures.does last.read.text last.read.held in
     record {
       runs = ran_to_last _ _ _ _ _ _ _ _ _ _ c.loop-done.invariant new (g.K.Sink.contents c.do_line.new.writer)
@@ -61,7 +61,7 @@ returns-in_err-do_line-in-Last g c =
     let failed = g.S.Source.has_failed c.next_line.new.reader in
     let old = g.S.Source.bytes c.loop-done.reader in
     let new = g.S.Source.bytes c.next_line.new.reader in
-    let last = subst (λ r. Reads old new failed c.next_line.new.line (Ok r)) c.in-Last.is c.in_ok-next_line.ensures.reads in
+    let last = subst (λ r. ReadsNext old new failed c.next_line.new.line (Ok r)) c.in-Last.is c.in_ok-next_line.ensures.reads in
     let did = c.in_err-do_line-in-Last.ensures.does last.read.text last.read.held in
     let stopped =
     stopped_at_last_write _ _ _ _ _ _ _ _ _ _ c.loop-done.invariant new (g.K.Sink.contents c.do_line.new.writer)
@@ -74,7 +74,7 @@ returns-in_err-do_line-in-Ended g c =
     let failed = g.S.Source.has_failed c.next_line.new.reader in
     let old = g.S.Source.bytes c.loop-done.reader in
     let new = g.S.Source.bytes c.next_line.new.reader in
-    let read = subst (λ r. Reads old new failed c.next_line.new.line (Ok r)) c.in-Ended.is c.in_ok-next_line.ensures.reads in
+    let read = subst (λ r. ReadsNext old new failed c.next_line.new.line (Ok r)) c.in-Ended.is c.in_ok-next_line.ensures.reads in
     let did = c.in_err-do_line-in-Ended.ensures.does read.text read.held in
     let stopped =
     stopped_at_write _ _ _ _ _ _ _ _ _ _ c.loop-done.invariant new (g.K.Sink.contents c.do_line-in-Ended.new.writer)

@@ -17,7 +17,7 @@ loop-command-preserved c =
       | in-Err w ↦
           rw w.asked-is (rw w.answer-is (fault_next said answers i c.loop-command.asked c.command-item.result (omega arith) c.command-item.is w.in-Err.fault w.in-Err.is))
       | in-Ok+in-Some w ↦
-          rw w.asked-is (rw w.answer-is (rw w.line_answer-answer.ensures (answer_next said answers i c.loop-command.asked c.command-item.result (omega arith) c.command-item.is w.in-Ok.field-0 w.in-Some.answer.now w.in-Ok.is (ltb-true c.loop-command.asked _ (sym w.in-Some.ensures.lookup.0)) w.in-Some.ensures.lookup.1)))
+          rw w.asked-is (rw w.answer-is (rw w.desk_answer-answer.ensures (answer_next said answers i c.loop-command.asked c.command-item.result (omega arith) c.command-item.is w.in-Ok.field-0 w.in-Some.answer.now w.in-Ok.is (ltb-true c.loop-command.asked _ (sym w.in-Some.ensures.lookup.0)) w.in-Some.ensures.lookup.1)))
     ] in
     record {
       goes_on = one_part_more c.loop-command.text.items c.put_answer.new.text.items (text_of c.match-command.answer) _ rest _ c.in_ok-put_answer.ensures next c.loop-command.invariant.goes_on;

@@ -8,8 +8,8 @@ use Rattle.rd_view.proofs.ViewEnds.{told_length, not_viewed, not_written, same_t
 use Rattle.rd_desk.specs.Histories.{entries}
 use Rattle.rd_view.proofs.viewing.view_scripts.Goals as goal
 
-pub viewed-requires-after_bounds : goal.viewed-requires-after_bounds
-viewed-requires-after_bounds g c κs within =
+pub run_over_desk-requires-after_bounds : goal.run_over_desk-requires-after_bounds
+run_over_desk-requires-after_bounds g c κs within =
     let same : length c.as_slice.result.now ≡ length c.args.scripts.now = ap length c.as_slice.ensures.value ∙ sym (pairs_length _ _ _ c.in_ok-said.ensures) in
     (omega arith, (omega (arith, same, c.requires.some), omega (arith, same, c.requires.few)))
 
@@ -23,8 +23,8 @@ text_of_view-requires g c =
     ap length c.as_slice-2.ensures.value ∙ ap length (sym c.as_slice.ensures.value) ∙ told_length _ _ _ 1 c.as_slice.result.now c.in_ok-told.told.items c.in_ok-told.ensures.ok.2
     ∙ ap length (sym c.as_slice-3.ensures.value)
 
-pub returns-in_err-hand_over : goal.returns-in_err-hand_over
-returns-in_err-hand_over g c =
+pub returns-in_err-write_all : goal.returns-in_err-write_all
+returns-in_err-write_all g c =
     let history = entries c.in_ok-told.history in
     let said = c.in_ok-said.said.items in
     let told = c.in_ok-told.told.items in
@@ -33,9 +33,9 @@ returns-in_err-hand_over g c =
     record { said = said; told = told; are_read = c.in_ok-said.ensures; is_viewed = subst (λ xs. IsViewed g.row.N (book_state c.args.book) xs told history) c.as_slice.ensures.value c.in_ok-told.ensures.ok } in
     record {
       views =
-          not_written _ _ c.args.scripts.now (g.K.Sink.contents c.args.writer.now) (g.K.Sink.contents c.hand_over.new.writer) (g.K.Sink.has_failed c.hand_over.new.writer)
-          c.from_residual-in_err-hand_over.result history views c.from_residual-in_err-hand_over.ensures.1
-          (subst (λ t. TakesBeginning (g.K.Sink.contents c.args.writer.now) (g.K.Sink.contents c.hand_over.new.writer) t) same c.in_err-hand_over.ensures.err) c.in_err-hand_over.ensures.fails;
+          not_written _ _ c.args.scripts.now (g.K.Sink.contents c.args.writer.now) (g.K.Sink.contents c.write_all.new.writer) (g.K.Sink.has_failed c.write_all.new.writer)
+          c.from_residual-in_err-write_all.result history views c.from_residual-in_err-write_all.ensures.1
+          (subst (λ t. TakesBeginning (g.K.Sink.contents c.args.writer.now) (g.K.Sink.contents c.write_all.new.writer) t) same c.in_err-write_all.ensures.err) c.in_err-write_all.ensures.fails;
     }
 
 pub returns : goal.returns
@@ -47,7 +47,7 @@ returns g c =
     record {
       views = (
         record { said = said; told = told; are_read = c.in_ok-said.ensures; is_viewed = subst (λ xs. IsViewed g.row.N (book_state c.args.book) xs told history) c.as_slice.ensures.value c.in_ok-told.ensures.ok },
-        subst (λ t. Appends (g.K.Sink.contents c.args.writer.now) (g.K.Sink.contents c.hand_over.new.writer) t) same c.in_ok-hand_over.ensures.ok,
-        c.in_ok-hand_over.ensures.works,
+        subst (λ t. Appends (g.K.Sink.contents c.args.writer.now) (g.K.Sink.contents c.write_all.new.writer) t) same c.in_ok-write_all.ensures.ok,
+        c.in_ok-write_all.ensures.works,
       );
     }

@@ -1,5 +1,5 @@
 use Rattle.std.proofs.Common.{subst, arith}
-use Rattle.rd_step.specs.Dependence.{without}
+use Rattle.rd_step.specs.Lists.{without}
 use Rattle.rd_depend.specs.Index.{IsIndexOf}
 use Rattle.rd_depend.proofs.IndexChanges.{dropped}
 use Rattle.rd_depend.proofs.IndexMoves.{moved_last}

@@ -1,7 +1,7 @@
 use Rattle.std.proofs.Common.{subst, ◌≡◌, ◌==◌, ◌≤◌, ℕ, Bool, false, true≢false, inl, inr, sym, List, ◌∷◌, ◌++◌, [], length, length-append, ap, ◌∙◌, arith}
 use Rattle.std.proofs.lemmas.Bool.{cases_eq, eq-eqb}
 use Rattle.rd_marks.specs.BookViews.{book_state}
-use Rattle.rd_desk.specs.Histories.{MOST_CALLS, entries, entry, IsLeftBy}
+use Rattle.rd_desk.specs.Histories.{MOST_CALLS, entries, viewer_entry, IsLeftBy}
 use Rattle.rd_desk.proofs.HistoryLemmas.{one_recorded}
 use Rattle.rd_desk.proofs.recording.BookWithHistory.record.Goals as goal
 
@@ -18,9 +18,9 @@ one_more_fits most xs ys x full tested not_full few more =
 pub invariant_of-self-2-clause-few : goal.invariant_of-self-2-clause-few
 invariant_of-self-2-clause-few g c =
     one_more_fits MOST_CALLS (entries c.args.self.now.history) (entries c.push.new.self) _ c.is_full.result c.is_full.ensures c.if-is_full.false c.args.self.now.few
-    (c.push.ensures ∙ ap (λ es. es ++ entry c.args.viewer c.args.command c.obey-answer.result ∷ []) c.make_room.ensures.entries)
+    (c.push.ensures ∙ ap (λ es. es ++ viewer_entry c.args.viewer c.args.command c.obey-answer.result ∷ []) c.make_room.ensures.entries)
 
 pub invariant_of-self-2-clause-legal : goal.invariant_of-self-2-clause-legal
 invariant_of-self-2-clause-legal g c =
     one_recorded _ _ _ _ _ _ _ _ _ (subst (λ b. IsLeftBy g.row.R (book_state c.args.self.now.opened.value) (entries c.args.self.now.history) (book_state b)) (sym c.deref_mut.ensures.value) c.args.self.now.legal) c.obey-answer.ensures.answer
-    (c.push.ensures ∙ ap (λ es. es ++ entry c.args.viewer c.args.command c.obey-answer.result ∷ []) c.make_room.ensures.entries)
+    (c.push.ensures ∙ ap (λ es. es ++ viewer_entry c.args.viewer c.args.command c.obey-answer.result ∷ []) c.make_room.ensures.entries)

@@ -2,20 +2,20 @@ use Rattle.std.proofs.Common.{◌≡◌, ◌⊎◌, ◌∙◌, ℕ, ◌≤◌, t
 use Rattle.std.proofs.lemmas.Result.{IfOk-weaker, on_err_weaker}
 use Rattle.rd_step.proofs.PassedUp.{fact_passed_up}
 use Rattle.rd_step.specs.Run.{events}
-use Rattle.rd_depend.specs.Beginnings.{IsBegunByNeither}
+use Rattle.rd_depend.specs.Beginnings.{NeitherIsPrefix}
 use Rattle.rd_depend.specs.Equivalence.{DecidesEquivalence}
 use Rattle.rd_marks.specs.declared.bookmarks.Bookmarks.{Bookmarks}
 use Rattle.rd_marks.specs.declared.stretches.Place.{Place}
-use Rattle.rd_marks.specs.Kept.{records_in, IsIn}
+use Rattle.rd_marks.specs.Kept.{records_in, IsPlaceIn}
 use Rattle.rd_marks.proofs.Starting.{records_length}
 use Rattle.rd_marks.proofs.SameLemmas.{decided_by_length, decided_behind, not_begun}
 use Rattle.rd_marks.proofs.bookmarks.Bookmarks.are_same.Goals.{then-shared-one-via-then-shared-one, then-shared-one-via-else-shared-one+then-shared-other}
 use Rattle.rd_marks.proofs.bookmarks.Bookmarks.are_same.Goals as goal
 
 -- where what two lists have in common is neither of them, neither begins the other
-apart : (b : Bookmarks) (one other : Place) (c : ℕ) → IsIn b one → IsIn b other → c ≤ one.number → c ≤ other.number
+apart : (b : Bookmarks) (one other : Place) (c : ℕ) → IsPlaceIn b one → IsPlaceIn b other → c ≤ one.number → c ≤ other.number
     → ((n : ℕ) → n ≤ one.number → n ≤ other.number → take n (events (records_in b one)) ≡ take n (events (records_in b other)) → n ≤ c)
-    → (c ≡ one.number → ⊥) → (c ≡ other.number → ⊥) → IsBegunByNeither (events (records_in b one)) (events (records_in b other))
+    → (c ≡ one.number → ⊥) → (c ≡ other.number → ⊥) → NeitherIsPrefix (events (records_in b one)) (events (records_in b other))
 apart b one other c one_in other_in first second most not_one not_other =
     let long = records_length b.stretches.list.items one one_in in
     let long_too = records_length b.stretches.list.items other other_in in (

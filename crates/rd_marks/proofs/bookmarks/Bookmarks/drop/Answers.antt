@@ -3,7 +3,7 @@ use Rattle.std.proofs.lemmas.Map.Made.{lookup-map_values}
 use Rattle.rd_marks.specs.declared.names.MarkName.{MarkName}
 use Rattle.rd_marks.specs.declared.stretches.Place.{Place}
 use Rattle.rd_marks.specs.Kept.{records_in}
-use Rattle.rd_marks.specs.Layout.{IsKept, lists_of}
+use Rattle.rd_marks.specs.Layout.{IsKept, named_lists}
 use Rattle.rd_marks.specs.Names.{same_name}
 use Rattle.rd_marks.specs.Stretches.{IsWithin}
 use Rattle.rd_marks.proofs.MarkLemmas.{all_without, removed_mapped}
@@ -22,7 +22,7 @@ returns-in-None-clause-found c =
 pub returns-in-None-clause-lists : goal.returns-in-None-clause-lists
 returns-in-None-clause-lists c =
     let b = c.args.self.now in
-    ap (lists_of b.stretches.list.items) c.shift_remove.ensures.entries ∙ removed_mapped (records_in b) (same_name c.args.name.now) b.names.entries
+    ap (named_lists b.stretches.list.items) c.shift_remove.ensures.entries ∙ removed_mapped (records_in b) (same_name c.args.name.now) b.names.entries
 
 pub prune-requires-clause-within : goal.prune-requires-clause-within
 prune-requires-clause-within c =
@@ -38,4 +38,4 @@ returns-in-Some-clause-found c =
 pub returns-in-Some-clause-lists : goal.returns-in-Some-clause-lists
 returns-in-Some-clause-lists c =
     let b = c.args.self.now in
-    c.prune.ensures.lists ∙ ap (lists_of b.stretches.list.items) c.shift_remove.ensures.entries ∙ removed_mapped (records_in b) (same_name c.args.name.now) b.names.entries
+    c.prune.ensures.lists ∙ ap (named_lists b.stretches.list.items) c.shift_remove.ensures.entries ∙ removed_mapped (records_in b) (same_name c.args.name.now) b.names.entries

@@ -6,12 +6,12 @@ use Rattle.rd_journal.specs.Journal.{events}
 use Rattle.rd_journal.specs.Sessions.{state, track}
 use Rattle.rd_marks.specs.declared.bookmarks.Bookmarks.{Bookmarks}
 use Rattle.rd_marks.specs.declared.stretches.Place.{Place}
-use Rattle.rd_marks.specs.Kept.{here_in, records_in, IsIn}
+use Rattle.rd_marks.specs.Kept.{here_in, records_in, IsPlaceIn}
 use Rattle.rd_marks.proofs.Here.{along_to}
 use Rattle.rd_marks.proofs.bookmarks.Bookmarks.go_to.Goals as goal
 
 -- the records of the place begin the track
-on_track : (b : Bookmarks) (place : Place) (steps : List Event) (c : ℕ) → IsIn b place → Begins (events (here_in b)) steps → c ≤ b.here.number
+on_track : (b : Bookmarks) (place : Place) (steps : List Event) (c : ℕ) → IsPlaceIn b place → Begins (events (here_in b)) steps → c ≤ b.here.number
     → take c (here_in b) ≡ take c (records_in b place) → c ≡ place.number → (place.number ≤ length steps) × (take place.number steps ≡ events (records_in b place))
 on_track b place steps c is stands first alike all =
     along_to b.stretches.list.items place b.here steps is b.kept.lies stands place.number refl (omega (arith, first, all))

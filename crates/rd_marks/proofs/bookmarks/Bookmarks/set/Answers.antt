@@ -9,7 +9,7 @@ use Rattle.rd_journal.specs.Sessions.{state, track}
 use Rattle.rd_marks.specs.declared.names.MarkName.{MarkName}
 use Rattle.rd_marks.specs.declared.stretches.Place.{Place}
 use Rattle.rd_marks.specs.Changes.{IsLow}
-use Rattle.rd_marks.specs.Layout.{AreRuns, lists_of}
+use Rattle.rd_marks.specs.Layout.{AreRuns, named_lists}
 use Rattle.rd_marks.specs.Names.{same_name}
 use Rattle.rd_marks.specs.Stretches.{records_at, IsWithin}
 use Rattle.rd_marks.proofs.Here.{live_along, live_begin}
@@ -44,7 +44,7 @@ here_after-self-requires g c = c.in_ok-grown.ensures.ok.low c.args.self.now.here
 
 pub returns-in_err-reserve-clause-runs : goal.returns-in_err-reserve-clause-runs
 returns-in_err-reserve-clause-runs g c =
-    subst (λ (es : List (MarkName × Place)). AreRuns g.row.R (state c.args.session.now).start (lists_of c.args.self.now.stretches.list.items es)) (sym c.reserve.ensures.entries) c.requires.runs
+    subst (λ (es : List (MarkName × Place)). AreRuns g.row.R (state c.args.session.now).start (named_lists c.args.self.now.stretches.list.items es)) (sym c.reserve.ensures.entries) c.requires.runs
 
 pub invariant_of-self-in-Break-branch-2 : goal.invariant_of-self-in-Break-branch-2
 invariant_of-self-in-Break-branch-2 g c =
@@ -91,7 +91,7 @@ returns-clause-ok g c =
     (live_begin c.args.session.now c.live-live.result c.live-live.ensures.events) c.follow-at.result c.follow-at.ensures.within c.follow-at.ensures.along c.grow.new.self.list.items
     c.in_ok-grown.grown c.in_ok-grown.ensures.ok c.args.name c.reserve.new.self.entries c.put.new.names.entries c.reserve.ensures.entries c.put.ensures c.here_after-self.result
     c.len-2.result c.here_after-self.ensures.near c.here_after-self.ensures.far).lists
-    ∙ ap (λ (xs : List Entry). lists_of b.stretches.list.items b.names.entries ++ (c.args.name, xs) ∷ []) c.live-live.ensures.records
+    ∙ ap (λ (xs : List Entry). named_lists b.stretches.list.items b.names.entries ++ (c.args.name, xs) ∷ []) c.live-live.ensures.records
 
 pub returns-clause-runs : goal.returns-clause-runs
 returns-clause-runs g c =

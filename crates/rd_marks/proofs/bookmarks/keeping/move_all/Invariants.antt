@@ -1,11 +1,11 @@
 use Rattle.std.proofs.Common.{◌≡◌}
 use Rattle.indexmap.specs.IndexMap.{spare}
-use Rattle.rd_marks.specs.Changes.{moved}
+use Rattle.rd_marks.specs.Changes.{shifted}
 use Rattle.rd_marks.proofs.Moving.{changed}
 use Rattle.rd_marks.proofs.bookmarks.keeping.move_all.Given as goal
 
 abbrev pub invariant-loop-index : goal.invariant-loop-index
 invariant-loop-index l = record {
   room : spare l.names ≡ spare l.fn.names;
-  entries : l.names.entries ≡ changed (moved l.fn.shift) l.index l.fn.names.entries;
+  entries : l.names.entries ≡ changed (shifted l.fn.shift) l.index l.fn.names.entries;
 }

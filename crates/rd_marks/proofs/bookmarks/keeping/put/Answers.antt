@@ -4,17 +4,17 @@ use Rattle.std.proofs.lemmas.Map.Made.{lookup-map_values}
 use Rattle.indexmap.specs.IndexMap.{insert_entry}
 use Rattle.rd_marks.specs.declared.names.MarkName.{MarkName}
 use Rattle.rd_marks.specs.declared.stretches.Place.{Place}
-use Rattle.rd_marks.specs.Changes.{moved}
+use Rattle.rd_marks.specs.Changes.{shifted}
 use Rattle.rd_marks.specs.Names.{same_name}
 use Rattle.rd_marks.proofs.MarkLemmas.{insert_last}
-use Rattle.rd_marks.proofs.Putting.{shifted}
+use Rattle.rd_marks.proofs.Putting.{names_shifted}
 use Rattle.rd_marks.proofs.bookmarks.keeping.put.Goals as goal
 
 pub returns : goal.returns
 returns c =
     let ms = c.args.names.now.entries in
     let shift = c.args.grown.shift in
-    let none : lookup (same_name c.args.name) (shifted shift ms) ≡ None =
-    lookup-map_values (moved shift) (same_name c.args.name) ms ∙ ap (option_map (moved shift)) c.requires.new in
+    let none : lookup (same_name c.args.name) (names_shifted shift ms) ≡ None =
+    lookup-map_values (shifted shift) (same_name c.args.name) ms ∙ ap (option_map (shifted shift)) c.requires.new in
     c.in-Ok.ensures.entries ∙ ap (λ (es : List (MarkName × Place)). insert_entry same_name es c.args.name c.args.grown.place) c.move_all.ensures.entries
-    ∙ insert_last c.args.name c.args.grown.place (shifted shift ms) none
+    ∙ insert_last c.args.name c.args.grown.place (names_shifted shift ms) none

@@ -5,7 +5,7 @@ use Rattle.rd_marks.specs.Changes.{IsLow}
 use Rattle.rd_marks.specs.Layout.{IsPruned, places_of}
 use Rattle.rd_marks.specs.Stretches.{needed_at, shared_at, IsWithin}
 use Rattle.rd_marks.proofs.Starting.{fewer_begin}
-use Rattle.rd_marks.proofs.Putting.{each, pruned, shifted}
+use Rattle.rd_marks.proofs.Putting.{each, names_shifted, pruned}
 use Rattle.rd_marks.proofs.bookmarks.keeping.trim.Goals as goal
 
 pub shrink-shift-requires-clause-next : goal.shrink-shift-requires-clause-next
@@ -16,8 +16,8 @@ shrink-shift-requires-clause-next c =
 pub move_all-requires : goal.move_all-requires
 move_all-requires c = each (IsWithin c.args.stretches.now.list.items) IsLow c.args.names.now.entries c.shrink-shift.ensures.low c.requires.within
 
-pub moved-requires : goal.moved-requires
-moved-requires c =
+pub shifted-requires : goal.shifted-requires
+shifted-requires c =
     c.shrink-shift.ensures.low c.kept_of.result
     (fewer_begin c.args.stretches.now.list.items c.args.here.now c.kept_of.result c.requires.here c.kept_of.ensures.stretch c.kept_of.ensures.number).0
 
@@ -34,5 +34,5 @@ returns-clause-pruned c =
     omega (arith, c.max-needed.ensures, c.shared.ensures, ap (shared_at old) e, c.greatest_in.ensures) in
     let p = pruned old new c.args.i c.max-needed.result shift c.shrink-shift.ensures ms its c.requires.within c.requires.needed here kept c.requires.here c.kept_of.ensures.stretch
     c.kept_of.ensures.number c.kept_of.ensures.left in
-    subst (λ (ls : List (MarkName × Place)). IsPruned c.args.i old new ms ls here c.moved.result) (sym c.move_all.ensures.entries)
-    (subst (λ (q : Place). IsPruned c.args.i old new ms (shifted shift ms) here q) (sym c.moved.ensures) p)
+    subst (λ (ls : List (MarkName × Place)). IsPruned c.args.i old new ms ls here c.shifted.result) (sym c.move_all.ensures.entries)
+    (subst (λ (q : Place). IsPruned c.args.i old new ms (names_shifted shift ms) here q) (sym c.shifted.ensures) p)

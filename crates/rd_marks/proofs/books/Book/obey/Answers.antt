@@ -5,7 +5,7 @@ use Rattle.rd_marks.proofs.books.Book.obey.Goals as goal
 
 pub returns-in-Some-clause-answer : goal.returns-in-Some-clause-answer
 returns-in-Some-clause-answer g c =
-    event_obeyed g.row.R (book_state c.args.self.now) c.args.command c.in-Some.event _ (sym c.event.ensures ∙ c.in-Some.is) c.answer_event.ensures
+    event_obeyed g.row.R (book_state c.args.self.now) c.args.command c.in-Some.event _ (sym c.as_event.ensures ∙ c.in-Some.is) c.answer_event.ensures
 
 pub returns-in-Some-clause-start : goal.returns-in-Some-clause-start
 returns-in-Some-clause-start g c = (happened_leaves g.row.R (book_state c.args.self.now) c.in-Some.event _ c.answer_event.ensures).start

@@ -1,11 +1,11 @@
 use Rattle.std.proofs.Common.{◌≡◌, ◌<◌, ◌≤◌, ℕ, take}
-use Rattle.rd_marks.specs.Stretches.{list_of, shared_at}
+use Rattle.rd_marks.specs.Stretches.{stretch_list, shared_at}
 use Rattle.rd_marks.proofs.stretches.Stretches.common_up.Given as goal
 
 abbrev pub invariant-loop-i : goal.invariant-loop-i
 invariant-loop-i l = record {
   first : l.common ≤ l.fn.one.number;
   second : l.common ≤ l.fn.other.number;
-  alike : take l.common (list_of l.self.list.items l.i) ≡ take l.common (list_of l.self.list.items l.fn.one.stretch);
+  alike : take l.common (stretch_list l.self.list.items l.i) ≡ take l.common (stretch_list l.self.list.items l.fn.one.stretch);
   most : (n : ℕ) → n ≤ l.fn.one.number → n ≤ l.fn.other.number → ((k : ℕ) → l.fn.one.stretch < k → k ≤ l.i → n ≤ shared_at l.self.list.items k) → n ≤ l.common;
 }

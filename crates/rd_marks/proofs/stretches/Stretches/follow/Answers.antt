@@ -1,6 +1,6 @@
 use Rattle.std.proofs.Common.{◌≡◌, ◌⊎◌, ◌+◌, ◌∙◌, ◌≤◌, ℕ, suc, inl, inr, sym, ap, subst, take, arith}
 use Rattle.rd_step.specs.Run.{events}
-use Rattle.rd_marks.specs.Stretches.{list_of, shared_at, IsAlong}
+use Rattle.rd_marks.specs.Stretches.{stretch_list, shared_at, IsAlong}
 use Rattle.rd_marks.proofs.Fresh.{Follows, along_taken, follows_start, follows_here, follows_stopped}
 use Rattle.rd_marks.proofs.Reading.{own_number, own_cases, step_compared, step_skipped}
 use Rattle.rd_marks.proofs.stretches.Stretches.follow.Goals.{else-i-at-via-then-i-at+else-shared-at, else-i-at-via-else-i-at, then-shared-at-2, else-shared-at-2}
@@ -13,7 +13,7 @@ loop-i-init c =
     let own = c.own_place-at.result in
     let said = c.own_place-at.ensures in
     let from = c.args.from in
-    let same = ap (λ (n : ℕ). take n (list_of ss own.stretch)) (sym said.number) ∙ said.same in
+    let same = ap (λ (n : ℕ). take n (stretch_list ss own.stretch)) (sym said.number) ∙ said.same in
     let along = subst (λ (n : ℕ). IsAlong ss own.stretch n es) (sym said.number) (along_taken ss ss own.stretch from.stretch from.number es same c.requires.along) in
     record {
       follows = follows_start ss c.args.self.now.nested c.args.self.now.fresh es own.stretch own.number (own_cases ss c.args.self.now.nested own said.own) along;

@@ -28,15 +28,15 @@ pub returns-clause-says : goal.returns-clause-says
 returns-clause-says c =
     let others = map (λ word. word.now) (drop 1 c.as_slice.result.now) in
     let words = first_and_others c.in-Some.words.items c.as_slice.result.now _ c.in-len1-up.len_at_least c.as_slice.ensures.value c.in-Some.ensures.some in
-    let reads = subst (λ rest. ReadsCommand c.in-Some-of.keyword (map (λ word. word.now) rest) c.command_of.result) (take_rest c.as_slice.result.now 1) c.command_of.ensures in
-    says_words c.args.line.now c.in-Some-of.keyword others c.command_of.result c.if-line-gt-MOST_LINE_BYTES.false
+    let reads = subst (λ rest. ReadsCommand c.in-Some-of.keyword (map (λ word. word.now) rest) c.read_command.result) (take_rest c.as_slice.result.now 1) c.read_command.ensures in
+    says_words c.args.line.now c.in-Some-of.keyword others c.read_command.result c.if-line-gt-MOST_LINE_BYTES.false
     (ap (λ word. word ∷ others) (sym c.in-Some-of.ensures.some) ∙ words) reads
 
 pub returns-clause-one : goal.returns-clause-one
 returns-clause-one c =
     let others = map (λ word. word.now) (drop 1 c.as_slice.result.now) in
     let words = first_and_others c.in-Some.words.items c.as_slice.result.now _ c.in-len1-up.len_at_least c.as_slice.ensures.value c.in-Some.ensures.some in
-    let reads = subst (λ rest. ReadsCommand c.in-Some-of.keyword (map (λ word. word.now) rest) c.command_of.result) (take_rest c.as_slice.result.now 1) c.command_of.ensures in
-    one_said c.args.line.now c.command_of.result
-    (says_words c.args.line.now c.in-Some-of.keyword others c.command_of.result c.if-line-gt-MOST_LINE_BYTES.false
+    let reads = subst (λ rest. ReadsCommand c.in-Some-of.keyword (map (λ word. word.now) rest) c.read_command.result) (take_rest c.as_slice.result.now 1) c.read_command.ensures in
+    one_said c.args.line.now c.read_command.result
+    (says_words c.args.line.now c.in-Some-of.keyword others c.read_command.result c.if-line-gt-MOST_LINE_BYTES.false
     (ap (λ word. word ∷ others) (sym c.in-Some-of.ensures.some) ∙ words) reads)

@@ -8,7 +8,7 @@ use Rattle.rd_segments.proofs.space.Space.is_fresh.Goals as goal
 pub returns-then-has_fresh_ends : goal.returns-then-has_fresh_ends
 returns-then-has_fresh_ends g c =
     let s = c.args.self.now in
-    both_tests c.has_fresh_ends.result c.is_fresh_inside.result c.has_fresh_ends.ensures c.is_fresh_inside.ensures
+    both_tests c.has_fresh_ends.result c.has_fresh_array_and_root.result c.has_fresh_ends.ensures c.has_fresh_array_and_root.ensures
     (λ ends inside. (λ i. contents_of s.makers.items (ends.0 i) (ends.1 i) s.array) ∙ space_fresh s.makers.items s.array inside.1 inside.0)
     (fresh_inside s.makers.items s.qhead s.qtail s.array) c.if-has_fresh_ends.true
 

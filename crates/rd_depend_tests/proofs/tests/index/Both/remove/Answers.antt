@@ -1,6 +1,6 @@
 use Rattle.std.proofs.Common.{◌≡◌, ℕ, suc, ◌+◌, ◌-◌, ◌<◌, List, ◌++◌, length, take, drop, get_or, Some, sym, ap, ◌∙◌, subst, arith}
 use Rattle.rd_step.specs.declared.entries.Entry.{Entry}
-use Rattle.rd_step.specs.Dependence.{numbered, without}
+use Rattle.rd_step.specs.Lists.{numbered, without}
 use Rattle.rd_depend.specs.Index.{IsIndexOf}
 use Rattle.std.proofs.lemmas.Option.{slice_get-get_or}
 use Rattle.rd_depend_tests.proofs.tests.index.Both.remove.Goals as goal

@@ -5,7 +5,7 @@ use Rattle.std.proofs.Math.Seq.{take-add}
 use Rattle.rd_script.proofs.KnownLemmas.{Appends-join, Appends-from_keeps}
 use Rattle.rd_script.specs.Device.{TakesBeginning}
 use Rattle.rd_step.proofs.PassedUp.{fact_passed_up}
-use Rattle.rd_script.proofs.devices.sinks.hand_over.Goals as goal
+use Rattle.rd_script.proofs.devices.sinks.write_all.Goals as goal
 
 pub loop-done-preserved : goal.loop-done-preserved
 loop-done-preserved g c =

@@ -8,7 +8,7 @@ use Rattle.rd_script.specs.Texts.{yes_or_no}
 use Rattle.rd_script.specs.Grammar.{keyword_of, arguments_of, words_of}
 use Rattle.rd_script.specs.Spelling.{IsInRange}
 use Rattle.rd_script.specs.Reading.{ReadsNameless}
-use Rattle.rd_script.proofs.reading.commands.nameless.Goals as goal
+use Rattle.rd_script.proofs.reading.commands.command_without_name.Goals as goal
 
 abbrev is_starve : Keyword → Bool
 is_starve keyword.Starve = true

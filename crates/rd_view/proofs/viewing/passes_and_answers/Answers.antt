@@ -1,8 +1,8 @@
 use Rattle.std.proofs.Common.{◌∙◌, ◌++◌, ◌∷◌, [], Some, None, ap, sym, map}
 use Rattle.std.proofs.lemmas.List.{append-nil, map-append}
-use Rattle.rd_view.specs.Viewing.{passes_of, told_of}
+use Rattle.rd_view.specs.Viewing.{passes_of, answers_of}
 use Rattle.rd_view.proofs.GatherLemmas.{one_ran_more}
-use Rattle.rd_view.proofs.viewing.gathered.Goals as goal
+use Rattle.rd_view.proofs.viewing.passes_and_answers.Goals as goal
 
 pub loop-ran-preserved : goal.loop-ran-preserved
 loop-ran-preserved g c = record {
@@ -11,7 +11,7 @@ loop-ran-preserved g c = record {
       ∙ ap (λ ran. passes_of c.loop-ran.yielded ++ passes_of (ran ∷ [])) (sym c.in-Answered.is) ∙ sym (one_ran_more c.loop-ran.yielded c.in-Some.ran);
   told =
       c.in_ok-push-in-Answered-2.ensures.items ∙ ap (λ ts. ts ++ Some c.in-Answered.answers ∷ []) c.loop-ran.invariant.told
-      ∙ ap (λ ran. map told_of c.loop-ran.yielded ++ told_of ran ∷ []) (sym c.in-Answered.is) ∙ sym (map-append told_of c.loop-ran.yielded (c.in-Some.ran ∷ []));
+      ∙ ap (λ ran. map answers_of c.loop-ran.yielded ++ answers_of ran ∷ []) (sym c.in-Answered.is) ∙ sym (map-append answers_of c.loop-ran.yielded (c.in-Some.ran ∷ []));
 }
 
 pub loop-ran-preserved-in-Continue-1 : goal.loop-ran-preserved-in-Continue-1
@@ -20,6 +20,6 @@ loop-ran-preserved-in-Continue-1 g c = record {
       c.loop-ran.invariant.passes ∙ sym (append-nil (passes_of c.loop-ran.yielded)) ∙ ap (λ ran. passes_of c.loop-ran.yielded ++ passes_of (ran ∷ [])) (sym c.in-NoMemory.is)
       ∙ sym (one_ran_more c.loop-ran.yielded c.in-Some.ran);
   told =
-      c.in_ok-push-in-NoMemory.ensures.items ∙ ap (λ ts. ts ++ None ∷ []) c.loop-ran.invariant.told ∙ ap (λ ran. map told_of c.loop-ran.yielded ++ told_of ran ∷ []) (sym c.in-NoMemory.is)
-      ∙ sym (map-append told_of c.loop-ran.yielded (c.in-Some.ran ∷ []));
+      c.in_ok-push-in-NoMemory.ensures.items ∙ ap (λ ts. ts ++ None ∷ []) c.loop-ran.invariant.told ∙ ap (λ ran. map answers_of c.loop-ran.yielded ++ answers_of ran ∷ []) (sym c.in-NoMemory.is)
+      ∙ sym (map-append answers_of c.loop-ran.yielded (c.in-Some.ran ∷ []));
 }

@@ -1,6 +1,6 @@
 use Rattle.std.proofs.Common.{◌≡◌, ◌-◌, ◌≤◌, false, length, take}
 use Rattle.std.specs.Io.KnownBytes.{Appends}
-use Rattle.rd_script.proofs.devices.sinks.hand_over.Given as goal
+use Rattle.rd_script.proofs.devices.sinks.write_all.Given as goal
 
 -- this many bytes were taken
 abbrev pub invariant-loop-done : goal.invariant-loop-done

@@ -3,20 +3,21 @@ use mathlib.Core.Logic.{∥∥₁_map}
 use Rattle.std.proofs.Crossing.{crosses}
 use Rattle.std.proofs.Common.{◌≡◌, ◌∙◌, length, map, ap, sym, subst, arith}
 use Rattle.std.proofs.lemmas.List.{length-map}
-use Rattle.rd_lock.specs.Histories.{Every, numbers, NamesUpTo}
+use Rattle.rd_lock.specs.Histories.{NamesUpTo, numbers}
+use Rattle.std.specs.List.{AllByRecursion}
 use Rattle.rd_lock.specs.Locks.{number}
-use Rattle.rd_desk.specs.Desks.{IsNewViewer, IsViewerOf, Tells}
+use Rattle.rd_desk.specs.Desks.{IsNewViewer, IsViewerOf, AgreesWith}
 use Rattle.rd_desk.specs.Histories.{IsLegal, entries}
 use denote.Param.{number as number_of}
 use Rattle.rd_desk.specs.contracts.recording.BookWithHistoryRecorded.TheImpl as Recorded
 use Rattle.rd_desk.proofs.Sends.{seat_send, book_with_history_send, desk_sync}
 use Rattle.rd_marks.specs.BookViews.{book_state}
-use Rattle.rd_view.specs.Viewing.{AreAnswered, told_of}
+use Rattle.rd_view.specs.Viewing.{AreAnswered, answers_of}
 use Rattle.rd_view.proofs.ViewingLemmas.{all_answered, new_may_ask, own_passes, length-numbers}
-use Rattle.rd_view.proofs.viewing.viewed.Goals as goal
+use Rattle.rd_view.proofs.viewing.run_over_desk.Goals as goal
 
-pub work_for-requires : goal.work_for-requires
-work_for-requires g c = (
+pub passes_with_commands-requires : goal.passes_with_commands-requires
+passes_with_commands-requires g c = (
   omega arith,
   (omega arith, sym (length-map c.in-Ok.passes.items number) ∙ ap length c.in-Ok.ensures.ok.numbered ∙ length-numbers 1 (length c.args.said.now)),
 )
@@ -29,7 +30,7 @@ run_viewers-requires-sync-G g c κs within = search (desk_sync, sendable, crosse
 
 pub run_viewers-requires-clause-own : goal.run_viewers-requires-clause-own
 run_viewers-requires-clause-own g c κs within =
-    new_may_ask _ _ c.in-Ok.desk c.in_ok-work.work.items (subst (λ passes. Every (IsNewViewer c.in-Ok.desk) passes) (sym c.in_ok-work.ensures.passes) c.in-Ok.ensures.ok.are_new)
+    new_may_ask _ _ c.in-Ok.desk c.in_ok-work.work.items (subst (λ passes. AllByRecursion (IsNewViewer c.in-Ok.desk) passes) (sym c.in_ok-work.ensures.passes) c.in-Ok.ensures.ok.are_new)
 
 pub close-requires : goal.close-requires
 close-requires g c = (
@@ -38,7 +39,7 @@ close-requires g c = (
     omega arith,
     (
       omega arith,
-      subst (λ passes. Every (IsViewerOf c.in-Ok.desk) passes) (sym c.in_ok-passes.ensures.passes)
+      subst (λ passes. AllByRecursion (IsViewerOf c.in-Ok.desk) passes) (sym c.in_ok-passes.ensures.passes)
           (own_passes _ _ c.in-Ok.desk c.in_ok-work.work.items c.in-Ok-run_viewers.rans.items c.in-Ok-run_viewers.ensures.ok),
     ),
   ),
@@ -60,8 +61,8 @@ returns-in-Ok-close-clause-ok g c =
     ap (map number) passes ∙ c.in-Ok.ensures.ok.numbered ∙ ap (numbers 1) (sym many ∙ sym (ap length passes) ∙ counted) in (
       subst (λ first. IsLegal g.row.N first (entries history)) state (∥∥₁_map closed.leaves (λ l. (_, l))),
       subst (λ n. NamesUpTo n (entries history)) c.in-Ok.ensures.ok.counted closed.names,
-      rw c.in_ok-passes.ensures.told (subst (λ first. AreAnswered g.row.N first (entries history) 1 c.args.said.now (map told_of c.in-Ok-run_viewers.rans.items)) state
+      rw c.in_ok-passes.ensures.told (subst (λ first. AreAnswered g.row.N first (entries history) 1 c.args.said.now (map answers_of c.in-Ok-run_viewers.rans.items)) state
           (all_answered g.row.N (Recorded.ghosts (number_of g.row.N)) desk history 1 work c.in-Ok-run_viewers.rans.items c.args.said.now c.in-Ok-run_viewers.ensures.ok
-          (subst (λ ps. Every (IsNewViewer desk) ps) (sym passes) c.in-Ok.ensures.ok.are_new) numbered c.in_ok-work.ensures.commands
-          (subst (λ ps. Every (Tells history) ps) c.in_ok-passes.ensures.passes closed.tells))),
+          (subst (λ ps. AllByRecursion (IsNewViewer desk) ps) (sym passes) c.in-Ok.ensures.ok.are_new) numbered c.in_ok-work.ensures.commands
+          (subst (λ ps. AllByRecursion (AgreesWith history) ps) c.in_ok-passes.ensures.passes closed.tells))),
     )

@@ -1,9 +1,9 @@
 use Rattle.std.proofs.Common.{◌≡◌, ◌≤◌, [], ◌++◌, length, vec_len, vec_capacity}
 use Rattle.rd_lock.specs.declared.views.Stage.TheVariants.{Out}
-use Rattle.rd_lock.specs.Histories.{Every}
+use Rattle.std.specs.List.{AllByRecursion}
 use Rattle.rd_lock.specs.Rule.{newcomers}
 use Rattle.rd_lock.specs.Opening.{members_of, IsSeatOf}
-use Rattle.rd_lock.proofs.joining.hand_out.Given as goal
+use Rattle.rd_lock.proofs.joining.split_seats.Given as goal
 
 abbrev pub invariant-loop-number : goal.invariant-loop-number
 invariant-loop-number g l = record {
@@ -13,6 +13,6 @@ invariant-loop-number g l = record {
   count : vec_len l.passes ≡ l.number;
   size : length l.passes.items ≡ l.number;
   room : l.seats ≤ vec_capacity l.passes;
-  own : Every (IsSeatOf l.shared.table_id) l.passes.items;
+  own : AllByRecursion (IsSeatOf l.shared.table_id) l.passes.items;
   members : members_of l.passes.items ++ l.seat.me.0.members ≡ newcomers l.seats (g.T.Recorded.origin l.shared.key.value.value) l.shared.key.first 1 l.seats;
 }

@@ -1,6 +1,6 @@
 use Rattle.std.proofs.Common.{◌≡◌, map, take, length}
 use Rattle.rd_view.specs.Viewing.{commands_of}
-use Rattle.rd_view.proofs.viewing.work_for.Given as goal
+use Rattle.rd_view.proofs.viewing.passes_with_commands.Given as goal
 
 -- the viewers so far
 abbrev pub invariant-loop-pass : goal.invariant-loop-pass

@@ -1,15 +1,15 @@
 use Rattle.std.proofs.Common.{◌≡◌, [], ◌++◌, vec_len}
 use Rattle.rd_lock.specs.declared.views.Stage.TheVariants.{Out}
-use Rattle.rd_lock.specs.Histories.{Every}
+use Rattle.std.specs.List.{AllByRecursion}
 use Rattle.rd_lock.specs.Opening.{members_of, IsSeatOf}
-use Rattle.rd_lock.proofs.joining.gather.Given as goal
+use Rattle.rd_lock.proofs.joining.join_seats.Given as goal
 
 abbrev pub invariant-loop-pass : goal.invariant-loop-pass
 invariant-loop-pass g l = record {
   table : l.seat.table_id ≡ l.shared.table_id;
   out : l.seat.me.0.stage ≡ Out;
   hand : l.seat.me.1 ≡ [];
-  own : Every (IsSeatOf l.shared.table_id) l.passes.items;
+  own : AllByRecursion (IsSeatOf l.shared.table_id) l.passes.items;
   members : members_of l.passes.items ++ l.seat.me.0.members ≡ members_of l.fn.passes.items;
 }
 

@@ -1,5 +1,5 @@
 use Rattle.std.specs.Io.KnownBytes.{Keeps}
-use Rattle.rd_script.proofs.devices.sinks.some_bytes.Given as goal
+use Rattle.rd_script.proofs.devices.sinks.write_some.Given as goal
 
 -- nothing was taken yet
 abbrev pub invariant-loop : goal.invariant-loop

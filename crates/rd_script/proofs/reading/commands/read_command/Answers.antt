@@ -7,7 +7,7 @@ use Rattle.rd_script.specs.declared.reading.keywords.Keyword.TheVariants.{Mark, 
 use Rattle.rd_script.specs.Reading.{ReadsCommand}
 use Rattle.rd_script.proofs.ResultLemmas.{Err-from_error}
 use Rattle.rd_script.proofs.NameReadLemmas.{names_refused}
-use Rattle.rd_script.proofs.reading.commands.command_of.Goals as goal
+use Rattle.rd_script.proofs.reading.commands.read_command.Goals as goal
 
 -- a fault that is passed up after a keyword
 passed_up : (k m : Keyword) (words : List (List ℕ)) (fault : LineFault) (r : Result Command LineFault) → k ≡ m → IsErrAnd r (λ e. e ≡ fault) → ReadsCommand m words (Err fault) → ReadsCommand k words r

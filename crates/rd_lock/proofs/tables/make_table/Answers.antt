@@ -3,7 +3,7 @@ use Rattle.atomic_table.specs.Table.{opening}
 use Rattle.rd_lock.specs.Rule.{LockRule, opening_view}
 use Rattle.rd_lock.proofs.Lock.{lock_of}
 use Rattle.rd_lock.proofs.Ends.{opens}
-use Rattle.rd_lock.proofs.tables.lay.Goals as goal
+use Rattle.rd_lock.proofs.tables.make_table.Goals as goal
 
 pub new-requires : goal.new-requires
 new-requires g c = let about = c.args.about.now in let items : c.push.new.self.items ≡ Some c.args.value ∷ [] = search rules in let top = g.T.Recorded.origin about.value.value in

@@ -2,11 +2,11 @@ use Rattle.std.proofs.Common.{rules, ◌++◌, length, arith, sym, ap, ◌∙◌
 use Rattle.std.proofs.lemmas.Grind.{common_steps}
 use Rattle.rd_lock.specs.Rule.{in_hand, number_in}
 use Rattle.rd_lock.specs.Opening.{IsSeatOf, members_of}
-use Rattle.rd_lock.specs.Histories.{Every}
+use Rattle.std.specs.List.{AllByRecursion}
 use Rattle.rd_lock.proofs.Lock.{lock_of}
 use Rattle.rd_lock.proofs.Lists.{every_append}
 use Rattle.rd_lock.proofs.PassLists.{splits_it, some_left, next_out, one_first, all_out, handed}
-use Rattle.rd_lock.proofs.joining.hand_out.Goals as goal
+use Rattle.rd_lock.proofs.joining.split_seats.Goals as goal
 
 pub split_seat-new-requires : goal.split_seat-new-requires
 split_seat-new-requires g c = let i = c.loop-number.invariant in (
@@ -30,7 +30,7 @@ loop-number-preserved g c = let i = c.loop-number.invariant in let e = c.split_s
   count = (first_of (search rules, grind (arith, common_steps)));
   size = (first_of (search rules, grind (arith, common_steps)));
   room = (first_of (search rules, grind (arith, common_steps)));
-  own = subst (Every (IsSeatOf c.args.shared.now.table_id)) (sym c.in-Ok.ensures.items) (every_append (IsSeatOf c.args.shared.now.table_id) c.loop-number.passes.items _ i.own ((e.3 ∙ i.table, ap (λ m. m.0.stage) e.4), tt));
+  own = subst (AllByRecursion (IsSeatOf c.args.shared.now.table_id)) (sym c.in-Ok.ensures.items) (every_append (IsSeatOf c.args.shared.now.table_id) c.loop-number.passes.items _ i.own ((e.3 ∙ i.table, ap (λ m. m.0.stage) e.4), tt));
   members = (λ k. members_of (c.in-Ok.ensures.items k) ++ (e.2 k).0.members) ∙ handed c.loop-number.passes.items _ c.loop-number.seat.me.0.members _ i.members (ap (λ m. m.0.members) e.4);
 }
 

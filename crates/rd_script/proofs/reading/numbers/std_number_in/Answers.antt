@@ -2,7 +2,7 @@ use Rattle.std.proofs.Common.{sym, ◌∙◌, subst}
 use Rattle.std.specs.Str.{IsUtf8}
 use Rattle.std.proofs.lemmas.Fmt.{parse-decimal}
 use Rattle.rd_script.proofs.NumeralLemmas.{IsUtf8-decimal}
-use Rattle.rd_script.proofs.reading.numbers.loosely_in.Goals as goal
+use Rattle.rd_script.proofs.reading.numbers.std_number_in.Goals as goal
 
 pub returns-in_default : goal.returns-in_default
 returns-in_default c n small e =

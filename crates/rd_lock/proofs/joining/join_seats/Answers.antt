@@ -1,15 +1,15 @@
 use Rattle.std.proofs.Common.{◌++◌, [], ◌∷◌, sym, ap, ◌∙◌, subst}
 use Rattle.std.proofs.lemmas.List.{append-nil}
-use Rattle.rd_lock.specs.Histories.{Every}
+use Rattle.std.specs.List.{AllByRecursion}
 use Rattle.rd_lock.specs.Rule.{in_hand}
 use Rattle.rd_lock.specs.Opening.{IsSeatOf, members_of}
 use Rattle.rd_lock.proofs.Lock.{lock_of}
 use Rattle.rd_lock.proofs.PassLists.{joins_it, every_front, every_back, popped}
-use Rattle.rd_lock.proofs.joining.gather.Goals as goal
+use Rattle.rd_lock.proofs.joining.join_seats.Goals as goal
 
 pub loop-pass-init : goal.loop-pass-init
 loop-pass-init g c = let is = c.in-Some.ensures.items in let last = c.in-Some.last in
-    let each = subst (Every (IsSeatOf c.args.shared.now.table_id)) is c.requires.own in let mine = (every_back _ c.pop.new.self.items (last ∷ []) each).0 in record {
+    let each = subst (AllByRecursion (IsSeatOf c.args.shared.now.table_id)) is c.requires.own in let mine = (every_back _ c.pop.new.self.items (last ∷ []) each).0 in record {
       table = mine.0;
       out = mine.1;
       hand = last.hand ∙ ap in_hand mine.1;
@@ -19,7 +19,7 @@ loop-pass-init g c = let is = c.in-Some.ensures.items in let last = c.in-Some.la
 
 pub join_seat-requires : goal.join_seat-requires
 join_seat-requires g c = let i = c.loop-pass.invariant in let is = c.in-Some-pop.ensures.items in let pass = c.in-Some-pop.pass in
-    let mine = (every_back _ c.pop-in-loop-pass.new.self.items (pass ∷ []) (subst (Every (IsSeatOf c.args.shared.now.table_id)) is i.own)).0 in (
+    let mine = (every_back _ c.pop-in-loop-pass.new.self.items (pass ∷ []) (subst (AllByRecursion (IsSeatOf c.args.shared.now.table_id)) is i.own)).0 in (
       i.table,
       mine.0,
       pass.hand ∙ ap in_hand mine.1,
@@ -29,7 +29,7 @@ join_seat-requires g c = let i = c.loop-pass.invariant in let is = c.in-Some-pop
 
 pub loop-pass-preserved : goal.loop-pass-preserved
 loop-pass-preserved g c = let i = c.loop-pass.invariant in let is = c.in-Some-pop.ensures.items in let pass = c.in-Some-pop.pass in let new = c.pop-in-loop-pass.new.self.items in let e = c.join_seat.ensures in
-    let each = subst (Every (IsSeatOf c.args.shared.now.table_id)) is i.own in record {
+    let each = subst (AllByRecursion (IsSeatOf c.args.shared.now.table_id)) is i.own in record {
       table = e.0 ∙ i.table;
       out = ap (λ m. m.0.stage) e.2;
       hand = ap (λ m. m.1) e.2 ∙ i.hand;
