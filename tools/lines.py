@@ -6,7 +6,8 @@
 It prints a Markdown table, a row a crate in the order of crates.txt. Code is what `src/` has but
 tests, contracts included; definitions are `specs/`, proofs are `proofs/`; tests are `src/tests.rt`,
 `src/tests/` and the proofs of these, in the crate or in the one with `_tests` after its name, and
-all that `machine_tests` has. Which definitions a contract reaches is said by `definitions.py`.
+all that `machine_tests` and `test_kit` have. Which definitions a contract reaches is said by
+`definitions.py`.
 
 A line counts if it is neither blank nor a comment alone. Only Python's standard library is used.
 """
@@ -19,6 +20,7 @@ from program import CRATES, TOP, print_head, print_row
 
 KINDS = ("code", "definitions", "proofs", "tests")
 TESTS = "_tests"  # after the name of a crate: that of the crate of its tests
+KIT = "test_kit"  # the crate of what the crates of tests share
 COMMENT = {".rt": "//", ".antt": "--"}
 
 
@@ -46,7 +48,7 @@ def counts_of(crate):
     counts = dict.fromkeys(KINDS, 0)
     for path in sorted(crate.rglob("*")):
         kind = kind_of(path.relative_to(crate).parts)
-        if kind and crate.name.endswith(TESTS):
+        if kind and (crate.name.endswith(TESTS) or crate.name == KIT):
             kind = "tests"
         if kind and path.suffix in COMMENT:
             counts[kind] += lines_in(path)

@@ -4,12 +4,12 @@
 mod equivalence;
 mod index;
 
-use rd_actor::{Act, Actor};
-use rd_cell::{Answer, Place, SegName, Wrote};
+use rd_cell::{Place, SegName, Wrote};
 use rd_depend::{depends, first_dependant};
-use rd_step::{Entry, Event};
+use rd_step::Entry;
 use std::process::Abort;
 use std::test::Fail;
+use test_kit::record;
 
 /// What dependence looks at: the actor, the place, and what the access wrote of it.
 type Access = (u8, Option<Place>, Wrote);
@@ -100,23 +100,6 @@ const MARKS: Access = (3, Some(Place::Cell(MADE, 3)), Wrote::Index);
 const FILLS: Access = (4, Some(Place::Cell(MADE, 3)), Wrote::Place);
 
 const LOSES: Access = (5, Some(Place::Cell(MADE, 3)), Wrote::Nothing);
-
-/// A record with this access.
-fn record(access: Access) -> Entry {
-    let (actor, place, wrote) = access;
-    Entry {
-        event: Event {
-            actor,
-            act: Act::Go,
-        },
-        place,
-        wrote,
-        answer: Answer::Nothing,
-        reply: None,
-        old_actor: Actor::idle(),
-        old_content: None,
-    }
-}
 
 #[test]
 fn two_steps_depend_on_each_other_or_not(rt: HostRuntime) {

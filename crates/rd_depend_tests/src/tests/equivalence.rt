@@ -3,178 +3,70 @@
 
 use super::index::Draws;
 use rd_actor::{Act, Pc};
-use rd_cell::Refusal;
 use rd_depend::{are_equivalent, depends};
 use rd_step::{Entry, Event, World};
 use std::alloc::Global;
 use std::test::Fail;
-
-/// Actors with what they do, from the first on.
-type Schedule = &'static [(u8, Act)];
+use test_kit::{drawn_event, events_in};
 
 /// An enqueue and a dequeue begin, and each reads a name.
-const TWO_CALLS: Schedule = &[(1, Act::Enq(7)), (2, Act::Deq), (1, Act::Go), (2, Act::Go)];
+const TWO_CALLS: &str = "enq 1 7, deq 2, go 1, go 2";
 
 /// The same with the reads in the other order.
-const READS_SWAPPED: Schedule = &[(1, Act::Enq(7)), (2, Act::Deq), (2, Act::Go), (1, Act::Go)];
+const READS_SWAPPED: &str = "enq 1 7, deq 2, go 2, go 1";
 
 /// The dequeue's steps first.
-const SECOND_ACTOR_FIRST: Schedule = &[(2, Act::Deq), (2, Act::Go), (1, Act::Enq(7)), (1, Act::Go)];
+const SECOND_ACTOR_FIRST: &str = "deq 2, go 2, enq 1 7, go 1";
 
 /// Another value is enqueued.
-const ANOTHER_VALUE: Schedule = &[(1, Act::Enq(8)), (2, Act::Deq), (1, Act::Go), (2, Act::Go)];
+const ANOTHER_VALUE: &str = "enq 1 8, deq 2, go 1, go 2";
 
 /// Another actor dequeues.
-const ANOTHER_ACTOR: Schedule = &[(1, Act::Enq(7)), (3, Act::Deq), (1, Act::Go), (3, Act::Go)];
+const ANOTHER_ACTOR: &str = "enq 1 7, deq 3, go 1, go 3";
 
 /// The last read is missing.
-const ONE_READ: Schedule = &[(1, Act::Enq(7)), (2, Act::Deq), (1, Act::Go)];
+const ONE_READ: &str = "enq 1 7, deq 2, go 1";
 
 /// Two enqueues: both read the queue's tail and the root's next, then both fetch and add on the
 /// root's tail.
-const TWO_ADDS: Schedule = &[
-    (1, Act::Enq(7)),
-    (2, Act::Enq(8)),
-    (1, Act::Go),
-    (1, Act::Go),
-    (2, Act::Go),
-    (2, Act::Go),
-    (1, Act::Go),
-    (2, Act::Go),
-];
+const TWO_ADDS: &str = "enq 1 7, enq 2 8, go 1 2, go 2 2, go 1, go 2";
 
 /// The same with the reads in another order.
-const SAME_PLACES_READ: Schedule = &[
-    (2, Act::Enq(8)),
-    (2, Act::Go),
-    (1, Act::Enq(7)),
-    (1, Act::Go),
-    (2, Act::Go),
-    (1, Act::Go),
-    (1, Act::Go),
-    (2, Act::Go),
-];
+const SAME_PLACES_READ: &str = "enq 2 8, go 2, enq 1 7, go 1, go 2, go 1 2, go 2";
 
 /// The same with the adds in the other order: each draws the other's position.
-const ADDS_SWAPPED: Schedule = &[
-    (1, Act::Enq(7)),
-    (2, Act::Enq(8)),
-    (1, Act::Go),
-    (1, Act::Go),
-    (2, Act::Go),
-    (2, Act::Go),
-    (2, Act::Go),
-    (1, Act::Go),
-];
+const ADDS_SWAPPED: &str = "enq 1 7, enq 2 8, go 1 2, go 2 3, go 1";
 
 /// An enqueue draws cell 0 of the root. A dequeue moves the cell on to its next round, and then the
 /// enqueue reads its value.
-const MOVED_THEN_VALUE_READ: Schedule = &[
-    (1, Act::Enq(7)),
-    (1, Act::Go),
-    (1, Act::Go),
-    (1, Act::Go),
-    (2, Act::Deq),
-    (2, Act::Go),
-    (2, Act::Go),
-    (2, Act::Go),
-    (2, Act::Go),
-    (2, Act::Go),
-    (1, Act::Go),
-];
+const MOVED_THEN_VALUE_READ: &str = "enq 1 7, go 1 3, deq 2, go 2 5, go 1";
 
 /// The same, but the enqueue reads the value just before the cell is moved on, which leaves the
 /// value as it is.
-const VALUE_READ_THEN_MOVED: Schedule = &[
-    (1, Act::Enq(7)),
-    (1, Act::Go),
-    (1, Act::Go),
-    (1, Act::Go),
-    (2, Act::Deq),
-    (2, Act::Go),
-    (2, Act::Go),
-    (2, Act::Go),
-    (2, Act::Go),
-    (1, Act::Go),
-    (2, Act::Go),
-];
+const VALUE_READ_THEN_MOVED: &str = "enq 1 7, go 1 3, deq 2, go 2 4, go 1, go 2";
 
 /// The enqueue reads the value and then the index, all after the cell is moved on.
-const MOVED_THEN_INDEX_READ: Schedule = &[
-    (1, Act::Enq(7)),
-    (1, Act::Go),
-    (1, Act::Go),
-    (1, Act::Go),
-    (2, Act::Deq),
-    (2, Act::Go),
-    (2, Act::Go),
-    (2, Act::Go),
-    (2, Act::Go),
-    (2, Act::Go),
-    (1, Act::Go),
-    (1, Act::Go),
-];
+const MOVED_THEN_INDEX_READ: &str = "enq 1 7, go 1 3, deq 2, go 2 5, go 1 2";
 
 /// The same, but both before that: the index that it reads is another one.
-const INDEX_READ_THEN_MOVED: Schedule = &[
-    (1, Act::Enq(7)),
-    (1, Act::Go),
-    (1, Act::Go),
-    (1, Act::Go),
-    (2, Act::Deq),
-    (2, Act::Go),
-    (2, Act::Go),
-    (2, Act::Go),
-    (2, Act::Go),
-    (1, Act::Go),
-    (1, Act::Go),
-    (2, Act::Go),
-];
+const INDEX_READ_THEN_MOVED: &str = "enq 1 7, go 1 3, deq 2, go 2 4, go 1 2, go 2";
 
 /// Three dequeues begin, and each reads the queue's head.
-const THREE_CALLS: Schedule = &[
-    (1, Act::Deq),
-    (2, Act::Deq),
-    (3, Act::Deq),
-    (1, Act::Go),
-    (2, Act::Go),
-    (3, Act::Go),
-];
+const THREE_CALLS: &str = "deq 1, deq 2, deq 3, go 1, go 2, go 3";
 
 /// The same in another order: what is looked for first is after what is looked for last.
-const LAST_CALL_FIRST: Schedule = &[
-    (3, Act::Deq),
-    (2, Act::Deq),
-    (3, Act::Go),
-    (1, Act::Deq),
-    (2, Act::Go),
-    (1, Act::Go),
-];
+const LAST_CALL_FIRST: &str = "deq 3, deq 2, go 3, deq 1, go 2, go 1";
 
 /// Two enqueues of one value on the array, the first actor's whole before the second's.
-const FIRST_THEN_SECOND: Schedule = &[
-    (1, Act::AEnq(5)),
-    (1, Act::Go),
-    (1, Act::Go),
-    (2, Act::AEnq(5)),
-    (2, Act::Go),
-    (2, Act::Go),
-];
+const FIRST_THEN_SECOND: &str = "aenq 1 5, go 1 2, aenq 2 5, go 2 2";
 
 /// The second actor's first. They lead to the same world, but each drew the other's slot.
-const SECOND_THEN_FIRST: Schedule = &[
-    (2, Act::AEnq(5)),
-    (2, Act::Go),
-    (2, Act::Go),
-    (1, Act::AEnq(5)),
-    (1, Act::Go),
-    (1, Act::Go),
-];
+const SECOND_THEN_FIRST: &str = "aenq 2 5, go 2 2, aenq 1 5, go 1 2";
 
 /// Pairs of schedules, and whether they are equivalent.
-const PAIRS: [(Schedule, Schedule, bool); 16] = [
-    (&[], &[], true),
-    (&[], ONE_READ, false),
+const PAIRS: [(&str, &str, bool); 16] = [
+    ("", "", true),
+    ("", ONE_READ, false),
     (TWO_CALLS, TWO_CALLS, true),
     (TWO_CALLS, READS_SWAPPED, true),
     (TWO_CALLS, SECOND_ACTOR_FIRST, true),
@@ -192,14 +84,11 @@ const PAIRS: [(Schedule, Schedule, bool); 16] = [
 ];
 
 /// The records of a schedule from the fresh world.
-fn records(alloc: Global, schedule: Schedule) -> Result<Vec<Entry>, Refusal> {
+fn records(alloc: Global, schedule: &str) -> Result<Vec<Entry>, Fail> {
     let mut world = World::<4>::fresh(alloc, 4)?;
     let mut entries = Vec::new(alloc);
-    for &(actor, act) in schedule {
-        let entry = world.step(Event { actor, act })?;
-        if entries.push(entry).is_err() {
-            return Err(Refusal::NoMemory);
-        }
+    for event in events_in(alloc, schedule)? {
+        entries.push(world.step(event)?)?;
     }
     Ok(entries)
 }
@@ -212,12 +101,12 @@ fn two_schedules_are_equivalent_or_not(rt: HostRuntime) -> Result<(), Fail> {
         assert_eq!(rt;
             are_equivalent(rt.alloc(), &a, &b)?,
             wanted,
-            "{first:?} and {second:?}"
+            "{first} and {second}"
         );
         assert_eq!(rt;
             are_equivalent(rt.alloc(), &b, &a)?,
             wanted,
-            "{second:?} and {first:?}"
+            "{second} and {first}"
         );
     }
     Ok(())
@@ -225,7 +114,7 @@ fn two_schedules_are_equivalent_or_not(rt: HostRuntime) -> Result<(), Fail> {
 
 /// The records of this many steps of array enqueues, by four actors in turn, the first four in this
 /// order.
-fn turns(alloc: Global, steps: usize, first: [u8; 4]) -> Result<Vec<Entry>, Refusal> {
+fn turns(alloc: Global, steps: usize, first: [u8; 4]) -> Result<Vec<Entry>, Fail> {
     let mut world = World::<4>::fresh(alloc, 4)?;
     let mut entries = Vec::new(alloc);
     for turn in 0..steps {
@@ -234,10 +123,7 @@ fn turns(alloc: Global, steps: usize, first: [u8; 4]) -> Result<Vec<Entry>, Refu
             Pc::Idle => Act::AEnq(5),
             _ => Act::Go,
         };
-        let entry = world.step(Event { actor, act })?;
-        if entries.push(entry).is_err() {
-            return Err(Refusal::NoMemory);
-        }
+        entries.push(world.step(Event { actor, act })?)?;
     }
     Ok(entries)
 }
@@ -272,31 +158,14 @@ fn long_lists_are_compared_where_memory_is_there(rt: HostRuntime) -> Result<(), 
 /// How many pairs of runs are drawn, and how many steps each has.
 const DRAWN: (u32, u32) = (60, 60);
 
-/// What the actor may do next, drawn where there is a choice.
-fn next_act(world: &World<2>, actor: u8, draws: &mut Draws) -> Act {
-    match world.actor(actor).map_or(Pc::Idle, |words| words.pc) {
-        Pc::Idle => match draws.below(4) {
-            0 => Act::Enq(7),
-            1 => Act::Deq,
-            2 => Act::AEnq(5),
-            _ => Act::ADeq,
-        },
-        Pc::E10 => Act::Starve(draws.below(2) == 0),
-        _ => Act::Go,
-    }
-}
-
 /// The events of a run in which each step is made by an actor that is drawn.
-fn drawn_events(alloc: Global, draws: &mut Draws, steps: u32) -> Result<Vec<Event>, Refusal> {
+fn drawn_events(alloc: Global, draws: &mut Draws, steps: u32) -> Result<Vec<Event>, Fail> {
     let mut world = World::<2>::fresh(alloc, 4)?;
     let mut events = Vec::new(alloc);
     for _step in 0..steps {
-        let actor = draws.below(4) as u8 + 1;
-        let act = next_act(&world, actor, draws);
-        let entry = world.step(Event { actor, act })?;
-        if events.push(entry.event).is_err() {
-            return Err(Refusal::NoMemory);
-        }
+        let event = drawn_event(&world, 4, draws.next());
+        world.step(event)?;
+        events.push(event)?;
     }
     Ok(events)
 }

@@ -6,7 +6,7 @@ ghost use Rattle.rd_step.specs.declared.entries.Entry.{Entry as Record};
 ghost use Rattle.rd_depend.specs.Index.{IsIndexOf, HasRoomFor};
 ghost use Rattle.rd_depend.specs.Moved.{moved_behind};
 
-use super::{Access, MADE, OTHER, record};
+use super::{Access, MADE, OTHER};
 use rd_cell::limits::MOST_STEPS;
 use rd_cell::{Place, Wrote, overlaps};
 use rd_depend::{DependIndex, Probes, depends, first_dependant};
@@ -14,6 +14,7 @@ use rd_step::Entry;
 use std::alloc::Global;
 use std::process::Abort;
 use std::test::Fail;
+use test_kit::{next, record};
 
 /// An index beside the entries that it is of.
 #[derive(Drop)]
@@ -256,22 +257,24 @@ const PLACES: [Option<Place>; 20] = [
 /// Numbers that follow no pattern.
 #[derive(Drop)]
 pub(super) struct Draws {
-    pub(super) state: u32,
+    pub(super) state: u64,
 }
 
 impl Draws {
     ghost use Rattle.std.specs.Prelude.{◌<◌};
+
+    /// The next number.
+    pub(super) fn next(&mut self) -> u64 {
+        self.state = next(self.state);
+        self.state
+    }
 
     /// A number below this one.
     pub(super) fn below(&mut self, end: u32) -> u32
         requires { 0 < end }
         ensures { result < end }
     {
-        self.state = self
-            .state
-            .wrapping_mul(1_664_525)
-            .wrapping_add(1_013_904_223);
-        (self.state >> 8) % end
+        (self.next() >> 32) as u32 % end
     }
 
     /// An access by one of the actors up to this number.

@@ -1,7 +1,7 @@
 //! A lone undo answers what the plain scan over the records finds, all along runs of calls that are
 //! chosen at random.
 
-use super::lone_undo::{STEPS, mixed_run, next};
+use super::lone_undo::{STEPS, mixed_run};
 use super::long_runs::call;
 use super::switching::{live_records, step_all_again};
 use rd_cell::Refusal;
@@ -10,6 +10,7 @@ use rd_journal::Session;
 use rd_step::Entry;
 use std::alloc::Global;
 use std::test::Fail;
+use test_kit::next;
 
 /// What undoing this step alone is to answer, by the plain scan over the records of the live steps.
 fn scanned(records: &[Entry], k: u64) -> Result<(), Refusal> {

@@ -4,7 +4,6 @@
 ghost use Rattle.std.specs.Prelude.{◌≤◌};
 ghost use Rattle.rd_step.specs.Prelude.{MOST_CELLS};
 
-use super::lone_undo::next;
 use super::long_runs::call;
 use super::switching::live_records;
 use rd_cell::Refusal;
@@ -13,6 +12,7 @@ use rd_journal::Session;
 use rd_step::{Entry, Event, World};
 use std::alloc::{AllocError, Global};
 use std::test::Fail;
+use test_kit::next;
 
 /// How many calls a run has.
 const CALLS: u64 = 200;

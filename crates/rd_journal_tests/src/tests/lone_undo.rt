@@ -8,65 +8,61 @@ use rd_step::{Entry, Event, World};
 use std::alloc::Global;
 use std::process::Abort;
 use std::test::Fail;
+use test_kit::{drawn_event, event_in, go, next};
 
 /// The first segment of the queue.
 const ROOT: SegName = SegName::ROOT;
 
-/// A line of a worked run.
-#[derive(Clone, Copy, Debug)]
-pub(super) enum Line {
-    /// An actor does this.
-    Act(u8, Act),
-    /// An actor steps this many times where it is.
-    Go(u8, u64),
-    Undo,
-    UndoAt(u64),
-    Redo,
-    RollBack(u64),
-    Back(u64),
-    Forward(u64),
+/// Does what a line says: an event, as often as it says, or a move through the run; none if it says
+/// nothing.
+fn done<const R: usize>(session: &mut Session<R>, line: &str) -> Option<Result<(), Refusal>> {
+    if let Some((event, times)) = event_in(line) {
+        return Some(apply(session, event, times));
+    }
+    let mut words = line.split_whitespace();
+    let word = words.next()?;
+    let number = words.next().and_then(|number| number.parse::<u64>().ok());
+    Some(match (word, number) {
+        ("undo", None) => session.undo(),
+        ("undo", Some(k)) => session.undo_at(k),
+        ("redo", None) => session.redo(),
+        ("roll", Some(k)) => session.roll(k),
+        ("back", Some(n)) => session.back(n),
+        ("forward", Some(n)) => session.forward(n),
+        _ => return None,
+    })
 }
 
-/// How many steps are then live and how many undone, or the refusal.
-pub(super) type Reply = Result<(u64, u64), Refusal>;
-
-/// Lets an actor step this many times.
-fn go<const R: usize>(session: &mut Session<R>, actor: u8, times: u64) -> Result<(), Refusal> {
+/// Makes an event this many times.
+fn apply<const R: usize>(
+    session: &mut Session<R>,
+    event: Event,
+    times: u64,
+) -> Result<(), Refusal> {
     for _ in 0..times {
-        session.apply(Event {
-            actor,
-            act: Act::Go,
-        })?;
+        session.apply(event)?;
     }
     Ok(())
 }
 
-/// Does one line.
-fn reply<const R: usize>(session: &mut Session<R>, line: Line) -> Reply {
-    match line {
-        Line::Act(actor, act) => {
-            session.apply(Event { actor, act })?;
-        }
-        Line::Go(actor, times) => go(session, actor, times)?,
-        Line::Undo => session.undo()?,
-        Line::UndoAt(k) => session.undo_at(k)?,
-        Line::Redo => session.redo()?,
-        Line::RollBack(k) => session.roll(k)?,
-        Line::Back(n) => session.back(n)?,
-        Line::Forward(n) => session.forward(n)?,
-    }
-    Ok((session.len(), session.undone_len()))
-}
-
-/// Does the lines one after another, and compares what each answers.
+/// Does the lines of a worked run one after another, and compares what each answers: how many steps
+/// are then live and how many undone, or the refusal.
 pub(super) fn walk<const R: usize>(
     rt: &impl Abort,
+    alloc: Global,
     session: &mut Session<R>,
-    lines: &[(Line, Reply)],
-) {
-    for (line, wanted) in lines {
-        assert_eq!(rt; reply(session, *line), *wanted, "at {line:?}");
+    rows: &str,
+) -> Result<(), Fail> {
+    for row in rows.split(", ") {
+        let (line, wanted) = row.split_once(" -> ").unwrap_or((row, "no answer"));
+        let answer = match done(session, line) {
+            None => format!(in alloc; "says nothing")?,
+            Some(Err(refusal)) => format!(in alloc; "{refusal:?}")?,
+            Some(Ok(())) => format!(in alloc; "{} {}", session.len(), session.undone_len())?,
+        };
+        assert_eq!(rt; answer.as_str(), wanted, "at {line}");
     }
+    Ok(())
 }
 
 /// A record without its old words: its event, its place, what it wrote of it, and what it answered
@@ -82,34 +78,24 @@ pub(super) fn shown(entry: Entry) -> (Event, Option<Place>, Wrote, Answer, Optio
 }
 
 /// An enqueue and a dequeue begin, and each reads a name.
-const TWO_CALLS: &[(Line, Reply)] = &[
-    (Line::Act(1, Act::Enq(7)), Ok((1, 0))),
-    (Line::Act(2, Act::Deq), Ok((2, 0))),
-    (Line::Go(1, 1), Ok((3, 0))),
-    (Line::Go(2, 1), Ok((4, 0))),
-];
+const TWO_CALLS: &str = "enq 1 7 -> 1 0, deq 2 -> 2 0, go 1 -> 3 0, go 2 -> 4 0";
 
 #[test]
 fn a_step_in_the_middle_is_undone_and_redone_last(rt: HostRuntime) -> Result<(), Fail> {
     let mut session = Session::open(rt.alloc(), World::<4>::fresh(rt.alloc(), 4)?);
-    walk(&rt, &mut session, TWO_CALLS);
+    walk(&rt, rt.alloc(), &mut session, TWO_CALLS)?;
     walk(
         &rt,
+        rt.alloc(),
         &mut session,
-        &[
-            (Line::UndoAt(1), Err(Refusal::Depended(3))),
-            (Line::UndoAt(3), Ok((3, 1))),
-        ],
-    );
+        "undo 1 -> Depended(3), undo 3 -> 3 1",
+    )?;
     assert_eq!(rt;
         session.world().actor(1),
         Some(Actor::calling(Pc::E1, Op::Enq(7)))
     );
-    walk(&rt, &mut session, &[(Line::Redo, Ok((4, 0)))]);
-    let event = Event {
-        actor: 1,
-        act: Act::Go,
-    };
+    walk(&rt, rt.alloc(), &mut session, "redo -> 4 0")?;
+    let event = go(1);
     assert_eq!(rt;
         shown(session.entry(4)?),
         (
@@ -124,74 +110,43 @@ fn a_step_in_the_middle_is_undone_and_redone_last(rt: HostRuntime) -> Result<(),
 }
 
 /// Two enqueues up to their fetch-and-adds on one tail, and the undoing of the two.
-const TWO_ADDS: &[(Line, Reply)] = &[
-    (Line::Act(1, Act::Enq(7)), Ok((1, 0))),
-    (Line::Act(2, Act::Enq(8)), Ok((2, 0))),
-    (Line::Go(1, 2), Ok((4, 0))),
-    (Line::Go(2, 2), Ok((6, 0))),
-    (Line::Go(1, 1), Ok((7, 0))),
-    (Line::Go(2, 1), Ok((8, 0))),
-    (Line::UndoAt(7), Err(Refusal::Depended(8))),
-    (Line::UndoAt(8), Ok((7, 1))),
-    (Line::UndoAt(7), Ok((6, 2))),
-];
+const TWO_ADDS: &str = "\
+    enq 1 7 -> 1 0, enq 2 8 -> 2 0, go 1 2 -> 4 0, go 2 2 -> 6 0, go 1 -> 7 0, go 2 -> 8 0, \
+    undo 7 -> Depended(8), undo 8 -> 7 1, undo 7 -> 6 2";
 
 #[test]
 fn of_two_adds_the_second_is_undone_first(rt: HostRuntime) -> Result<(), Fail> {
     let mut session = Session::open(rt.alloc(), World::<4>::fresh(rt.alloc(), 4)?);
-    walk(&rt, &mut session, TWO_ADDS);
+    walk(&rt, rt.alloc(), &mut session, TWO_ADDS)?;
     Ok(())
 }
 
 /// An actor reads that nothing is linked after the root; much later another one links a segment
 /// there.
-const READ_AND_LATER_WRITE: &[(Line, Reply)] = &[
-    (Line::Act(3, Act::Enq(5)), Ok((1, 0))),
-    (Line::Go(3, 2), Ok((3, 0))),
-    (Line::Act(2, Act::Deq), Ok((4, 0))),
-    (Line::Go(2, 10), Ok((14, 0))),
-    (Line::Act(1, Act::Enq(7)), Ok((15, 0))),
-    (Line::Go(1, 6), Ok((21, 0))),
-    (Line::Act(1, Act::Enq(8)), Ok((22, 0))),
-    (Line::Go(1, 6), Ok((28, 0))),
-    (Line::Act(1, Act::Enq(9)), Ok((29, 0))),
-    (Line::Go(1, 10), Ok((39, 0))),
-    (Line::UndoAt(3), Err(Refusal::Depended(38))),
-    (Line::UndoAt(2), Err(Refusal::Depended(3))),
-];
+const READ_AND_LATER_WRITE: &str = "\
+    enq 3 5 -> 1 0, go 3 2 -> 3 0, deq 2 -> 4 0, go 2 10 -> 14 0, enq 1 7 -> 15 0, go 1 6 -> 21 0, \
+    enq 1 8 -> 22 0, go 1 6 -> 28 0, enq 1 9 -> 29 0, go 1 10 -> 39 0, undo 3 -> Depended(38), \
+    undo 2 -> Depended(3)";
 
 #[test]
 fn a_read_is_kept_by_a_later_write(rt: HostRuntime) -> Result<(), Fail> {
     let mut session = Session::open(rt.alloc(), World::<2>::fresh(rt.alloc(), 4)?);
-    walk(&rt, &mut session, READ_AND_LATER_WRITE);
+    walk(&rt, rt.alloc(), &mut session, READ_AND_LATER_WRITE)?;
     Ok(())
 }
 
 /// A dequeue draws the position of a value, and waits. Another one draws a position behind it,
 /// finds the older value, and marks its cell unsafe, which leaves the value.
-const MARKED: [(Line, Reply); 8] = [
-    (Line::Act(1, Act::Enq(7)), Ok((1, 0))),
-    (Line::Go(1, 6), Ok((7, 0))),
-    (Line::Act(2, Act::Deq), Ok((8, 0))),
-    (Line::Go(2, 2), Ok((10, 0))),
-    (Line::Act(3, Act::Deq), Ok((11, 0))),
-    (Line::Go(3, 11), Ok((22, 0))),
-    (Line::Act(3, Act::Deq), Ok((23, 0))),
-    (Line::Go(3, 5), Ok((28, 0))),
-];
+const MARKED: &str = "\
+    enq 1 7 -> 1 0, go 1 6 -> 7 0, deq 2 -> 8 0, go 2 2 -> 10 0, deq 3 -> 11 0, go 3 11 -> 22 0, \
+    deq 3 -> 23 0, go 3 5 -> 28 0";
 
 /// The first dequeue reads the value, and the marking is undone alone; what is read next is the
 /// safe bit and the index.
-const MARKING_UNDONE: [(Line, Reply); 2] = [
-    (Line::Go(2, 1), Ok((29, 0))),
-    (Line::UndoAt(28), Ok((28, 1))),
-];
+const MARKING_UNDONE: &str = "go 2 -> 29 0, undo 28 -> 28 1";
 
 /// The same without the undoing: the first step that depends on the marking reads the safe bit.
-const TAKEN: [(Line, Reply); 2] = [
-    (Line::Go(2, 3), Ok((31, 0))),
-    (Line::UndoAt(28), Err(Refusal::Depended(30))),
-];
+const TAKEN: &str = "go 2 3 -> 31 0, undo 28 -> Depended(30)";
 
 /// The first cell of the root with a safe bit, holding 7.
 fn holding_7(safe: bool) -> Option<Content> {
@@ -206,67 +161,43 @@ fn holding_7(safe: bool) -> Option<Content> {
 fn a_marking_is_undone_below_a_later_read_of_the_value(rt: HostRuntime) -> Result<(), Fail> {
     let cell = Place::Cell(ROOT, 0);
     let mut session = Session::open(rt.alloc(), World::<2>::fresh(rt.alloc(), 4)?);
-    walk(&rt, &mut session, &MARKED);
-    walk(&rt, &mut session, &TAKEN);
+    walk(&rt, rt.alloc(), &mut session, MARKED)?;
+    walk(&rt, rt.alloc(), &mut session, TAKEN)?;
     let mut session = Session::open(rt.alloc(), World::<2>::fresh(rt.alloc(), 4)?);
-    walk(&rt, &mut session, &MARKED);
-    walk(&rt, &mut session, &MARKING_UNDONE);
+    walk(&rt, rt.alloc(), &mut session, MARKED)?;
+    walk(&rt, rt.alloc(), &mut session, MARKING_UNDONE)?;
     assert_eq!(rt; session.world().content(cell), holding_7(true));
-    let event = Event {
-        actor: 2,
-        act: Act::Go,
-    };
+    let event = go(2);
     let read = Some(Place::Val(ROOT, 0));
     assert_eq!(rt;
         shown(session.entry(28)?),
         (event, read, Wrote::Nothing, Answer::Value(Some(7)), None)
     );
-    walk(&rt, &mut session, &[(Line::Redo, Ok((29, 0)))]);
+    walk(&rt, rt.alloc(), &mut session, "redo -> 29 0")?;
     assert_eq!(rt; session.world().content(cell), holding_7(false));
     Ok(())
 }
 
 /// Two actors find the ring full, and each makes a segment.
-pub(super) const TWO_MAKINGS: &[(Line, Reply)] = &[
-    (Line::Act(1, Act::Enq(7)), Ok((1, 0))),
-    (Line::Go(1, 6), Ok((7, 0))),
-    (Line::Act(1, Act::Enq(8)), Ok((8, 0))),
-    (Line::Go(1, 6), Ok((14, 0))),
-    (Line::Act(1, Act::Enq(9)), Ok((15, 0))),
-    (Line::Go(1, 2), Ok((17, 0))),
-    (Line::Act(2, Act::Enq(10)), Ok((18, 0))),
-    (Line::Go(2, 2), Ok((20, 0))),
-    (Line::Go(1, 5), Ok((25, 0))),
-    (Line::Go(2, 1), Ok((26, 0))),
-    (Line::Go(1, 1), Ok((27, 0))),
-];
+pub(super) const TWO_MAKINGS: &str = "\
+    enq 1 7 -> 1 0, go 1 6 -> 7 0, enq 1 8 -> 8 0, go 1 6 -> 14 0, enq 1 9 -> 15 0, \
+    go 1 2 -> 17 0, enq 2 10 -> 18 0, go 2 2 -> 20 0, go 1 5 -> 25 0, go 2 -> 26 0, go 1 -> 27 0";
 
 /// The second making, and after it the first one undone alone.
-pub(super) const FIRST_MAKING_UNDONE: &[(Line, Reply)] = &[
-    (Line::Go(2, 1), Ok((28, 0))),
-    (Line::UndoAt(27), Ok((27, 1))),
-];
+pub(super) const FIRST_MAKING_UNDONE: &str = "go 2 -> 28 0, undo 27 -> 27 1";
 
 /// It is made again; then one actor links its segment, and the other one finds it linked.
-pub(super) const MADE_AGAIN_AND_LINKED: &[(Line, Reply)] = &[
-    (Line::Redo, Ok((28, 0))),
-    (Line::Go(2, 1), Ok((29, 0))),
-    (Line::Go(1, 1), Ok((30, 0))),
-];
+pub(super) const MADE_AGAIN_AND_LINKED: &str = "redo -> 28 0, go 2 -> 29 0, go 1 -> 30 0";
 
 /// The last step is undone, then the making on which it alone depended, then three more.
-const UNDOES_WITHOUT_MEMORY: &[(Line, Reply)] = &[
-    (Line::Undo, Ok((29, 1))),
-    (Line::UndoAt(28), Ok((28, 2))),
-    (Line::Back(3), Ok((25, 5))),
-];
+const UNDOES_WITHOUT_MEMORY: &str = "undo -> 29 1, undo 28 -> 28 2, back 3 -> 25 5";
 
 #[test]
 fn a_making_is_undone_alone_and_renames_no_other(rt: HostRuntime) -> Result<(), Fail> {
     let mut session = Session::open(rt.alloc(), World::<2>::fresh(rt.alloc(), 4)?);
     let (lost, linked) = (SegName { maker: 1, n: 0 }, SegName { maker: 2, n: 0 });
-    walk(&rt, &mut session, TWO_MAKINGS);
-    walk(&rt, &mut session, FIRST_MAKING_UNDONE);
+    walk(&rt, rt.alloc(), &mut session, TWO_MAKINGS)?;
+    walk(&rt, rt.alloc(), &mut session, FIRST_MAKING_UNDONE)?;
     assert_eq!(rt;
         session.world().content(Place::Tail(ROOT)),
         Some(Content::Tail {
@@ -284,11 +215,8 @@ fn a_making_is_undone_alone_and_renames_no_other(rt: HostRuntime) -> Result<(), 
         session.world().content(Place::Cell(linked, 0)),
         Some(Content::Cell(cell))
     );
-    walk(&rt, &mut session, MADE_AGAIN_AND_LINKED);
-    let event = Event {
-        actor: 1,
-        act: Act::Go,
-    };
+    walk(&rt, rt.alloc(), &mut session, MADE_AGAIN_AND_LINKED)?;
+    let event = go(1);
     assert_eq!(rt;
         shown(session.entry(30)?),
         (
@@ -307,32 +235,20 @@ fn a_making_is_undone_alone_and_renames_no_other(rt: HostRuntime) -> Result<(), 
         session.world().content(Place::Whole(lost)),
         Some(Content::Whole)
     );
-    walk(&rt, &mut session, UNDOES_WITHOUT_MEMORY);
+    walk(&rt, rt.alloc(), &mut session, UNDOES_WITHOUT_MEMORY)?;
     Ok(())
 }
 
 /// What is refused of undoing, and steps undone from the front.
-const NUMBERS: &[(Line, Reply)] = &[
-    (Line::Undo, Err(Refusal::NothingToUndo(0))),
-    (Line::Act(1, Act::Enq(7)), Ok((1, 0))),
-    (Line::Act(2, Act::Deq), Ok((2, 0))),
-    (Line::Back(3), Err(Refusal::NothingToUndo(2))),
-    (Line::UndoAt(5), Err(Refusal::NoSuchStep(2))),
-    (Line::UndoAt(0), Err(Refusal::NoSuchStep(2))),
-    (Line::Back(0), Ok((2, 0))),
-    (Line::Undo, Ok((1, 1))),
-    (Line::UndoAt(1), Ok((0, 2))),
-    (Line::Redo, Ok((1, 1))),
-    (Line::Act(1, Act::Enq(8)), Err(Refusal::NotIdle)),
-    (Line::Back(0), Ok((1, 1))),
-    (Line::Act(3, Act::Deq), Ok((2, 0))),
-    (Line::Redo, Err(Refusal::NothingToRedo)),
-];
+const NUMBERS: &str = "\
+    undo -> NothingToUndo(0), enq 1 7 -> 1 0, deq 2 -> 2 0, back 3 -> NothingToUndo(2), \
+    undo 5 -> NoSuchStep(2), undo 0 -> NoSuchStep(2), back 0 -> 2 0, undo -> 1 1, undo 1 -> 0 2, \
+    redo -> 1 1, enq 1 8 -> NotIdle, back 0 -> 1 1, deq 3 -> 2 0, redo -> NothingToRedo";
 
 #[test]
 fn a_number_that_no_step_has_is_refused(rt: HostRuntime) -> Result<(), Fail> {
     let mut session = Session::open(rt.alloc(), World::<4>::fresh(rt.alloc(), 4)?);
-    walk(&rt, &mut session, NUMBERS);
+    walk(&rt, rt.alloc(), &mut session, NUMBERS)?;
     let event = Event {
         actor: 1,
         act: Act::Enq(7),
@@ -345,41 +261,15 @@ fn a_number_that_no_step_has_is_refused(rt: HostRuntime) -> Result<(), Fail> {
 }
 
 /// On the array a dequeue's swap comes before that of the enqueue which drew its slot.
-const SWAPS_ON_THE_ARRAY: &[(Line, Reply)] = &[
-    (Line::Act(1, Act::AEnq(7)), Ok((1, 0))),
-    (Line::Go(1, 1), Ok((2, 0))),
-    (Line::Act(2, Act::ADeq), Ok((3, 0))),
-    (Line::Go(2, 2), Ok((5, 0))),
-    (Line::Go(1, 1), Ok((6, 0))),
-    (Line::Go(2, 1), Ok((7, 0))),
-    (Line::Go(1, 2), Ok((9, 0))),
-    (Line::UndoAt(5), Err(Refusal::Depended(6))),
-];
+const SWAPS_ON_THE_ARRAY: &str = "\
+    aenq 1 7 -> 1 0, go 1 -> 2 0, adeq 2 -> 3 0, go 2 2 -> 5 0, go 1 -> 6 0, go 2 -> 7 0, \
+    go 1 2 -> 9 0, undo 5 -> Depended(6)";
 
 #[test]
 fn a_swap_is_kept_by_the_next_swap(rt: HostRuntime) -> Result<(), Fail> {
     let mut session = Session::open(rt.alloc(), World::<4>::fresh(rt.alloc(), 4)?);
-    walk(&rt, &mut session, SWAPS_ON_THE_ARRAY);
+    walk(&rt, rt.alloc(), &mut session, SWAPS_ON_THE_ARRAY)?;
     Ok(())
-}
-
-/// The next number of a fixed sequence that looks like chance.
-pub(super) fn next(number: u64) -> u64 {
-    number
-        .wrapping_mul(6_364_136_223_846_793_005)
-        .wrapping_add(1_442_695_040_888_963_407)
-}
-
-/// What an actor that is here may do, as the number has it.
-pub(super) fn choice(pc: Pc, number: u64) -> Act {
-    match (pc, (number >> 40) % 5) {
-        (Pc::Idle, 0 | 1) => Act::Enq(number >> 50),
-        (Pc::Idle, 2) => Act::Deq,
-        (Pc::Idle, 3) => Act::AEnq(number >> 50),
-        (Pc::Idle, _) => Act::ADeq,
-        (Pc::E10, chance) => Act::Starve(chance == 0),
-        _ => Act::Go,
-    }
 }
 
 /// Lets the four actors of a fresh world take turns for this many steps, in an order that looks
@@ -389,15 +279,8 @@ pub(super) fn mixed_run(alloc: Global, steps: u64, seed: u64) -> Result<Session<
     let mut number = seed;
     for _ in 0..steps {
         number = next(number);
-        let actor = ((number >> 33) % 4) as u8 + 1;
-        let pc = match session.world().actor(actor) {
-            None => Pc::Idle,
-            Some(words) => words.pc,
-        };
-        session.apply(Event {
-            actor,
-            act: choice(pc, number),
-        })?;
+        let event = drawn_event(session.world(), 4, number);
+        session.apply(event)?;
     }
     Ok(session)
 }

@@ -3,13 +3,12 @@
 ghost use Rattle.std.specs.Prelude.{◌≤◌};
 ghost use Rattle.rd_step.specs.Prelude.{MOST_CELLS};
 
-use super::lone_undo::{choice, next};
-use rd_actor::Pc;
 use rd_cell::Refusal;
 use rd_journal::Session;
-use rd_step::{Event, World};
+use rd_step::World;
 use std::alloc::Global;
 use std::test::Fail;
+use test_kit::{drawn_event, next};
 
 /// How many calls a run has.
 const CALLS: u64 = 300;
@@ -18,10 +17,8 @@ const CALLS: u64 = 300;
 fn act<const R: usize>(session: &mut Session<R>, actors: u8, number: u64) -> Result<(), Refusal>
     requires some { 1 ≤ actors }
 {
-    let actor = ((number >> 48) % actors as u64) as u8 + 1;
-    let stands = session.world().actor(actor);
-    let act = choice(stands.map_or(Pc::Idle, |words| words.pc), number);
-    session.apply(Event { actor, act })?;
+    let event = drawn_event(session.world(), actors, number);
+    session.apply(event)?;
     Ok(())
 }
 

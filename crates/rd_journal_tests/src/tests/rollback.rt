@@ -2,43 +2,36 @@
 //! against the run of what remains, stepped afresh.
 
 use super::lone_undo::{
-    FIRST_MAKING_UNDONE, Line, MADE_AGAIN_AND_LINKED, Reply, TWO_MAKINGS, is_stepped_afresh,
-    mixed_run, same_world, shown, walk,
+    FIRST_MAKING_UNDONE, MADE_AGAIN_AND_LINKED, TWO_MAKINGS, is_stepped_afresh, mixed_run,
+    same_world, shown, walk,
 };
-use rd_actor::Act;
 use rd_cell::{Answer, Content, Place, Refusal, SegName, Wrote};
 use rd_journal::Session;
-use rd_step::{Event, World};
+use rd_step::World;
 use std::alloc::Global;
 use std::process::Abort;
 use std::test::Fail;
+use test_kit::go;
 
 /// One making is rolled back, with the link to its segment and the link that it made fail; the
 /// other making stays.
-const MAKING_ROLLED_BACK: &[(Line, Reply)] = &[(Line::RollBack(27), Ok((27, 3)))];
+const MAKING_ROLLED_BACK: &str = "roll 27 -> 27 3";
 
 /// All of it is redone; then two numbers that no step has.
-const REDONE: &[(Line, Reply)] = &[
-    (Line::Forward(3), Ok((30, 0))),
-    (Line::RollBack(31), Err(Refusal::NoSuchStep(30))),
-    (Line::RollBack(0), Err(Refusal::NoSuchStep(30))),
-];
+const REDONE: &str = "forward 3 -> 30 0, roll 31 -> NoSuchStep(30), roll 0 -> NoSuchStep(30)";
 
 #[test]
 fn a_making_is_rolled_back_with_its_link(rt: HostRuntime) -> Result<(), Fail> {
     let mut session = Session::open(rt.alloc(), World::<2>::fresh(rt.alloc(), 4)?);
-    walk(&rt, &mut session, TWO_MAKINGS);
-    walk(&rt, &mut session, FIRST_MAKING_UNDONE);
-    walk(&rt, &mut session, MADE_AGAIN_AND_LINKED);
-    walk(&rt, &mut session, MAKING_ROLLED_BACK);
+    walk(&rt, rt.alloc(), &mut session, TWO_MAKINGS)?;
+    walk(&rt, rt.alloc(), &mut session, FIRST_MAKING_UNDONE)?;
+    walk(&rt, rt.alloc(), &mut session, MADE_AGAIN_AND_LINKED)?;
+    walk(&rt, rt.alloc(), &mut session, MAKING_ROLLED_BACK)?;
     assert_eq!(rt;
         session.world().content(Place::Next(SegName::ROOT)),
         Some(Content::Next(None))
     );
-    let event = Event {
-        actor: 1,
-        act: Act::Go,
-    };
+    let event = go(1);
     let made = SegName { maker: 1, n: 0 };
     assert_eq!(rt;
         shown(session.entry(27)?),
@@ -50,7 +43,7 @@ fn a_making_is_rolled_back_with_its_link(rt: HostRuntime) -> Result<(), Fail> {
             None,
         )
     );
-    walk(&rt, &mut session, REDONE);
+    walk(&rt, rt.alloc(), &mut session, REDONE)?;
     Ok(())
 }
 

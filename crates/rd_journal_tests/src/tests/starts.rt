@@ -1,7 +1,7 @@
 //! The world that a session was opened in, found from where the session is, and the events of
 //! undone steps by their numbers.
 
-use super::lone_undo::{Line, Reply, STEPS, is_stepped_afresh, mixed_run, same_world, walk};
+use super::lone_undo::{STEPS, is_stepped_afresh, mixed_run, same_world, walk};
 use rd_actor::Act;
 use rd_cell::Refusal;
 use rd_journal::Session;
@@ -16,22 +16,17 @@ fn starts_in(alloc: Global, session: &Session<2>, world: &World<2>) -> Result<bo
 }
 
 /// Three steps from the poised world, of which one is undone.
-const FROM_POISED: &[(Line, Reply)] = &[
-    (Line::Go(1, 1), Ok((1, 0))),
-    (Line::Go(2, 1), Ok((2, 0))),
-    (Line::Go(3, 1), Ok((3, 0))),
-    (Line::Undo, Ok((2, 1))),
-];
+const FROM_POISED: &str = "go 1 -> 1 0, go 2 -> 2 0, go 3 -> 3 0, undo -> 2 1";
 
 #[test]
 fn the_start_is_the_world_that_was_opened(rt: HostRuntime) -> Result<(), Fail> {
     let poised = World::<2>::poised(rt.alloc(), 4)?;
     let mut session = Session::open(rt.alloc(), World::<2>::poised(rt.alloc(), 4)?);
     assert!(rt; starts_in(rt.alloc(), &session, &poised)?);
-    walk(&rt, &mut session, FROM_POISED);
+    walk(&rt, rt.alloc(), &mut session, FROM_POISED)?;
     assert!(rt; !same_world(session.world(), &poised));
     assert!(rt; starts_in(rt.alloc(), &session, &poised)?);
-    walk(&rt, &mut session, &[(Line::Redo, Ok((3, 0)))]);
+    walk(&rt, rt.alloc(), &mut session, "redo -> 3 0")?;
     Ok(())
 }
 
@@ -50,13 +45,7 @@ fn a_long_run_starts_in_the_fresh_world_and_stays(rt: HostRuntime) -> Result<(),
 }
 
 /// Two calls and a step, undone from the last one to the first.
-const ALL_UNDONE: &[(Line, Reply)] = &[
-    (Line::Act(1, Act::Enq(7)), Ok((1, 0))),
-    (Line::Act(2, Act::Deq), Ok((2, 0))),
-    (Line::Go(1, 1), Ok((3, 0))),
-    (Line::Back(2), Ok((1, 2))),
-    (Line::UndoAt(1), Ok((0, 3))),
-];
+const ALL_UNDONE: &str = "enq 1 7 -> 1 0, deq 2 -> 2 0, go 1 -> 3 0, back 2 -> 1 2, undo 1 -> 0 3";
 
 /// An enqueue by the first actor.
 const ENQUEUE: Event = Event {
@@ -105,9 +94,9 @@ fn compare(rt: &impl Abort, session: &Session<2>, rows: &[(u64, Option<Event>)])
 fn undone_events_are_numbered_from_the_next_to_be_redone(rt: HostRuntime) -> Result<(), Fail> {
     let mut session = Session::open(rt.alloc(), World::<2>::fresh(rt.alloc(), 4)?);
     compare(&rt, &session, &[(0, None), (1, None)]);
-    walk(&rt, &mut session, ALL_UNDONE);
+    walk(&rt, rt.alloc(), &mut session, ALL_UNDONE)?;
     compare(&rt, &session, OF_THREE);
-    walk(&rt, &mut session, &[(Line::Redo, Ok((1, 2)))]);
+    walk(&rt, rt.alloc(), &mut session, "redo -> 1 2")?;
     compare(&rt, &session, OF_TWO);
     Ok(())
 }

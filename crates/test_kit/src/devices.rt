@@ -1,0 +1,119 @@
+//! Devices in memory that fail.
+
+use std::io;
+use std::io::{Read, Write};
+
+/// Fails at each call.
+#[derive(Drop)]
+pub struct BrokenWriter;
+
+impl Write for BrokenWriter {
+    fn write(&mut self, _buf: &[u8]) -> io::Result<usize> {
+        Err(io::Error::from(io::ErrorKind::BrokenPipe))
+    }
+
+    fn flush(&mut self) -> io::Result<()> {
+        Err(io::Error::from(io::ErrorKind::BrokenPipe))
+    }
+}
+
+/// How a writer ends.
+#[derive(Clone, Copy, PartialEq, Eq)]
+pub enum End {
+    /// It fails.
+    Fails,
+    /// It takes no byte.
+    TakesNone,
+}
+
+/// What a writer takes.
+#[derive(Clone, Copy)]
+pub struct Limit {
+    /// How many calls take bytes; those after them don't.
+    pub calls: usize,
+    /// The most bytes that a call takes.
+    pub most: usize,
+    /// What the calls after them do.
+    pub end: End,
+}
+
+/// A writer onto a page.
+#[derive(Drop)]
+pub struct PageWriter<'a> {
+    taken: &'a mut Vec<u8>,
+    /// What it takes from now on.
+    limit: Limit,
+}
+
+impl<'a> PageWriter<'a> {
+    /// A writer that takes all that it is given.
+    pub fn that_works(taken: &'a mut Vec<u8>) -> PageWriter<'a> {
+        PageWriter {
+            taken,
+            limit: Limit {
+                calls: usize::MAX,
+                most: usize::MAX,
+                end: End::Fails,
+            },
+        }
+    }
+
+    /// A writer that takes so much.
+    pub fn that_ends(taken: &'a mut Vec<u8>, limit: Limit) -> PageWriter<'a> {
+        PageWriter { taken, limit }
+    }
+}
+
+impl<'a> Write for PageWriter<'a> {
+    fn write(&mut self, buf: &[u8]) -> io::Result<usize> {
+        if self.limit.calls == 0 {
+            return match self.limit.end {
+                End::Fails => Err(io::Error::from(io::ErrorKind::BrokenPipe)),
+                End::TakesNone => Ok(0),
+            };
+        }
+        self.limit.calls -= 1;
+        let count = buf.len().min(self.limit.most);
+        self.taken.extend_from_slice(&buf[..count])?;
+        Ok(count)
+    }
+
+    fn flush(&mut self) -> io::Result<()> {
+        Ok(())
+    }
+}
+
+/// A reader of a text.
+#[derive(Drop)]
+pub struct StripReader<'a> {
+    rest: &'a [u8],
+    /// How many calls give bytes or the end; those after them fail.
+    good_calls: usize,
+    /// The most bytes that a call gives.
+    most: usize,
+}
+
+impl<'a> StripReader<'a> {
+    /// A reader that gives this many bytes a call, for this many calls, and then fails.
+    pub fn of(rest: &'a [u8], good_calls: usize, most: usize) -> StripReader<'a> {
+        StripReader {
+            rest,
+            good_calls,
+            most,
+        }
+    }
+}
+
+impl<'a> Read for StripReader<'a> {
+    fn read(&mut self, buf: &mut [u8]) -> io::Result<usize> {
+        if self.good_calls == 0 {
+            return Err(io::Error::from(io::ErrorKind::BrokenPipe));
+        }
+        self.good_calls -= 1;
+        let count = self.rest.len().min(buf.len()).min(self.most);
+        let (given, rest) = self.rest.split_at(count);
+        buf[..count].copy_from_slice(given);
+        self.rest = rest;
+        Ok(count)
+    }
+}

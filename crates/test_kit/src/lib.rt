@@ -1,0 +1,17 @@
+//! What several crates of tests share: events that are drawn, read from a text or written by hand,
+//! records and parts of worlds, long scripts, and devices that fail.
+//!
+//! There is no test here. What a caller's proof needs of a call is in its contract.
+#![tactic(auto)]
+
+mod devices;
+mod drawn;
+mod schedules;
+mod scripts;
+mod worlds;
+
+pub use devices::{BrokenWriter, End, Limit, PageWriter, StripReader};
+pub use drawn::{drawn_event, next};
+pub use schedules::{event_in, events_in};
+pub use scripts::{bytes_of, long_script};
+pub use worlds::{go, parts, record};

@@ -1,0 +1,52 @@
+//! Events, records and parts of worlds by what matters of them.
+
+ghost use Rattle.std.specs.Prelude.{◌≡◌, ◌≤◌};
+ghost use Rattle.rd_step.specs.Prelude.{MOST_CELLS};
+
+use rd_actor::{Act, Actor};
+use rd_cell::{Answer, Place, SegName, Wrote};
+use rd_step::{ArrayParts, Entry, Event, Parts, SegmentParts};
+use std::alloc::{AllocError, Global};
+
+/// The step of this actor where it is.
+pub fn go(actor: u8) -> Event
+    ensures { result.actor ≡ actor }
+{
+    Event {
+        actor,
+        act: Act::Go,
+    }
+}
+
+/// A record of what dependence looks at: the actor, the place, and what the access wrote of it.
+pub fn record((actor, place, wrote): (u8, Option<Place>, Wrote)) -> Entry {
+    Entry {
+        event: go(actor),
+        place,
+        wrote,
+        answer: Answer::Nothing,
+        reply: None,
+        old_actor: Actor::idle(),
+        old_content: None,
+    }
+}
+
+/// The parts of a world of one actor, with this root and the segments that the actor made. The
+/// queue's ends are at the root, and the array is fresh.
+pub fn parts<const R: usize>(
+    alloc: Global,
+    actor: Actor,
+    root: SegmentParts<R>,
+    made: Vec<SegmentParts<R>>,
+) -> Result<Parts<R>, AllocError>
+    requires { R ≤ MOST_CELLS }
+{
+    let roots = Vec::from_array(alloc, [root])?;
+    Ok(Parts {
+        actors: Vec::from_array(alloc, [actor])?,
+        segments: Vec::from_array(alloc, [roots, made])?,
+        qhead: SegName::ROOT,
+        qtail: SegName::ROOT,
+        array: ArrayParts::fresh(),
+    })
+}
