@@ -26,6 +26,7 @@ const MOST_SINGLE_REMOVALS: usize = 1_000;
 ///
 /// `AllocError` if memory was refused, which is asked for only where the room is missing after the
 /// first `n`. The index is as before then.
+#[inline(always)]
 pub(crate) fn index_instead(
     index: &mut DependIndex,
     records: &Records,

@@ -204,6 +204,7 @@ impl Records {
     }
 
     /// Makes room for this many records. Memory is asked for only if the room is missing.
+    #[inline(always)]
     pub(crate) fn make_room_for(&mut self, needed: usize) -> Result<(), AllocError>
         ensures live { live_records self.new ≡ live_records self.old }
         ensures ahead { ahead_records self.new ≡ ahead_records self.old }

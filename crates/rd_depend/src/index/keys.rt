@@ -62,6 +62,7 @@ impl Key {
     }
 
     /// Returns the number as which the key is hashed.
+    #[inline(always)]
     pub(crate) fn number(&self) -> u64
         ensures { result ≡ key_number self.now }
     {
@@ -73,6 +74,7 @@ impl Key {
 }
 
 /// Returns the number as which the key of a place is hashed.
+#[inline(always)]
 fn place_number(place: Place) -> u64
     ensures { result ≡ place_number place }
 {
@@ -106,6 +108,7 @@ impl PartialEq for Key {
     ghost laws = { partial_equiv_from_equiv key_equiv };
 
     /// Whether two keys are equal.
+    #[inline(always)]
     fn eq(&self, other: &Key) -> bool {
         match (*self, *other) {
             (Key::At(p), Key::At(q)) => p == q,

@@ -5,6 +5,9 @@ ghost use Rattle.rd_depend.specs.Lists.{one_if, list_at, capacity_at, spare_at, 
 
 use std::alloc::{AllocError, Global};
 
+/// How many positions a full list makes room for at least.
+const POSITIONS: usize = 8;
+
 /// Adds empty lists until there are this many.
 ///
 /// # Errors
@@ -73,7 +76,17 @@ fn reserve(list: &mut Vec<u32>) -> Result<(), AllocError>
     if list.len() < list.capacity() {
         return Ok(());
     }
-    list.reserve(1)
+    lengthen(list)
+}
+
+/// Makes room for more positions than one, since most lists stay short and asking takes longer than
+/// all else that is done to them.
+#[inline(never)]
+fn lengthen(list: &mut Vec<u32>) -> Result<(), AllocError>
+    ensures items { list.new.items ≡ list.old.items }
+    ensures ok { OnOk result (0 < spare_of list.new) }
+{
+    list.reserve(POSITIONS)
 }
 
 /// Puts a position at the end of the list of this number.

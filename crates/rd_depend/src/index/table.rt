@@ -1,5 +1,8 @@
 //! The lists of places and of segments: of each, the positions that touch it, and apart from these
 //! those that wrote it.
+//!
+//! A step looks for up to three keys, whose kinds are known where it looks. So what finds a key and
+//! its room is inlined there, and what is seldom needed is not: a new key, and a list that grows.
 
 ghost use Rattle.std.specs.Prelude.{◌≡◌, ◌<◌, length};
 
@@ -57,6 +60,7 @@ impl Table {
     }
 
     /// Whether the key of this index is this one.
+    #[inline(always)]
     fn is_at(&self, slot: usize, key: Key) -> bool
         ensures { result ≡ true → slot_in self.now.keys.keys key ≡ Some slot }
     {
@@ -86,6 +90,7 @@ impl Table {
     /// # Errors
     ///
     /// `AllocError` if memory was refused. No position has changed then.
+    #[inline(always)]
     pub(crate) fn reserve(
         &mut self,
         alloc: Global,
@@ -108,6 +113,7 @@ impl Table {
     /// # Errors
     ///
     /// `AllocError` if memory was refused. No position has changed then.
+    #[inline(always)]
     fn reserve_under(&mut self, alloc: Global, key: Key, wrote: bool) -> Result<usize, AllocError>
         ensures same { KeepsLists self.old self.new }
         ensures ready { IfOk result (IsReady self.new key wrote) }
@@ -121,6 +127,7 @@ impl Table {
 
     /// Returns the index of the key, which is added with empty lists if it isn't in the table yet.
     /// If its hint doesn't know the index, it is noted there for the next time.
+    #[inline(always)]
     fn slot_or_new(&mut self, alloc: Global, key: Key) -> Result<usize, AllocError>
         ensures same { KeepsLists self.old self.new }
         ensures slot { IfOk result (λ i. slot_in self.new.keys.keys key ≡ Some i) }
@@ -139,6 +146,7 @@ impl Table {
 
     /// Returns the index of the key, which is added with empty lists if it isn't in the table yet.
     /// No hint is changed.
+    #[inline(never)]
     fn found_or_new(&mut self, alloc: Global, key: Key) -> Result<usize, AllocError>
         ensures same { KeepsLists self.old self.new }
         ensures slot { IfOk result (λ i. slot_in self.new.keys.keys key ≡ Some i) }
@@ -222,6 +230,7 @@ impl Table {
 }
 
 /// Returns the number of the hint that may know where the key is.
+#[inline(always)]
 fn hint_of(key: Key) -> usize
     ensures { result < HINTS }
 {
