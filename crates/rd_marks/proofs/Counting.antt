@@ -16,13 +16,13 @@ use Rattle.rd_depend.specs.Beginnings.{Begins}
 use Rattle.rd_marks.specs.declared.names.MarkName.{MarkName}
 use Rattle.rd_marks.specs.declared.stretches.Stretch.{Stretch}
 use Rattle.rd_marks.specs.declared.stretches.Place.{Place}
-use Rattle.rd_marks.specs.Beginnings.{IsBeginning, AreDistinct, CountsBeginnings}
+use Rattle.rd_marks.specs.Beginnings.{IsBeginning, AreDistinct, CountsBeginnings, NeedsNoRecord}
 use Rattle.rd_marks.specs.Books.{Mark}
 use Rattle.rd_marks.specs.Marks.{mark_of, marks_of}
 use Rattle.rd_marks.specs.Layout.{named_lists}
-use Rattle.rd_marks.specs.Stretches.{stretch_list, shared_at, records_at, AreNested, AreFresh, number_if_in, greatest_in, AreNeeded, IsAlong, count_of}
+use Rattle.rd_marks.specs.Stretches.{stretch_list, shared_at, records_at, AreNested, AreFresh, number_if_in, greatest_in, AreNeeded, IsAlong, IsDeepest, count_of}
 use Rattle.rd_marks.proofs.StretchLists.{own_at, list_past, shared_past, shared_within, total, begins_shared}
-use Rattle.rd_marks.proofs.Fresh.{along_within, not_both}
+use Rattle.rd_marks.proofs.Fresh.{along_less, along_within, not_both}
 
 -- Elements
 
@@ -109,6 +109,34 @@ begun_within ss i es b = along_within ss i (length es) es (along_begun ss i es b
 begun_taken : (es : List Event) (xs ys : List Entry) → take (length es) xs ≡ take (length es) ys → Begins es (events xs) → Begins es (events ys)
 begun_taken es xs ys same b =
     take-map (λ (x : Entry). x.event) (length es) ys ∙ ap events (sym same) ∙ sym (take-map (λ (x : Entry). x.event) (length es) xs) ∙ b
+
+-- what begins the events of a bookmark begins those of a stretch's list
+begins_list : (ss : List Stretch) (ms : List (MarkName × Place)) (es : List Event) → IsBeginning (marks_of (named_lists ss ms)) es → (i : ℕ) × Begins es (events (stretch_list ss i))
+begins_list ss ms es h =
+    let found = mapped_contains (λ (x : MarkName × List Entry). mark_of x) (named_lists ss ms) h.mark h.kept in
+    let named = mapped_contains (λ (x : MarkName × Place). (x.0, records_at ss x.1)) ms found.0 found.1 in
+    let p = named.0.1 in
+    let b : Begins es (events (records_at ss p)) =
+    subst (λ (xs : List Entry). Begins es (events xs)) (sym (ap (λ (x : MarkName × List Entry). x.1) named.2))
+    (subst (λ (k : Mark). Begins es k.events) (sym found.2) h.begins) in
+    let its = length-map (records_at ss p) (λ (x : Entry). x.event) ∙ length-take p.number (stretch_list ss p.stretch) in
+    let short : length es ≤ p.number = omega (arith, length-take (length es) (events (records_at ss p)), ap length b, its) in
+    (p.stretch, begun_taken es (records_at ss p) (stretch_list ss p.stretch) (take-take (length es) p.number (stretch_list ss p.stretch) short) b)
+
+-- where a bookmark needs no new record, some list begins with all of its events
+pub all_along : (ss : List Stretch) (ms : List (MarkName × Place)) (at n : ℕ) (es : List Event) → IsAlong ss at n es → IsDeepest ss n es
+    → NeedsNoRecord (marks_of (named_lists ss ms)) es → n ≡ length es
+all_along ss ms at n es along deepest none =
+    elim (cases_lt n (length es)) [
+      | inl less ↦
+          let l = begins_list ss ms es (none (omega (arith, less))) in
+          let on = along_less ss l.0 (suc n) (length es) es (omega (arith, less)) (along_begun ss l.0 es l.1) in
+          elim (cases_lt l.0 (length ss)) [
+            | inl inside ↦ absurd (deepest l.0 inside on)
+            | inr past ↦ absurd (omega (arith, ap length (list_past ss l.0 past), along_within ss l.0 (suc n) es on))
+          ]
+      | inr all ↦ omega (arith, all, along.enough)
+    ]
 
 greatest_there : (i n : ℕ) (ps : List Place) → 0 < n → n ≤ greatest_in i ps → (p : Place) × Contains ps p × (p.stretch ≡ i) × (n ≤ p.number)
 greatest_there i n [] some h = absurd (omega (arith, some, h))
@@ -217,16 +245,8 @@ module _ (ss : List Stretch) (rule : AreNested ss) where
 
         is_one : (es : List Event) → IsBeginning (marks_of (named_lists ss ms)) es → Contains (lists_to ss (length ss)) es
         is_one es h =
-            let found = mapped_contains (λ (x : MarkName × List Entry). mark_of x) (named_lists ss ms) h.mark h.kept in
-            let named = mapped_contains (λ (x : MarkName × Place). (x.0, records_at ss x.1)) ms found.0 found.1 in
-            let p = named.0.1 in
-            let b : Begins es (events (records_at ss p)) =
-            subst (λ (xs : List Entry). Begins es (events xs)) (sym (ap (λ (x : MarkName × List Entry). x.1) named.2))
-            (subst (λ (k : Mark). Begins es k.events) (sym found.2) h.begins) in
-            let its = length-map (records_at ss p) (λ (x : Entry). x.event) ∙ length-take p.number (stretch_list ss p.stretch) in
-            let short : length es ≤ p.number = omega (arith, length-take (length es) (events (records_at ss p)), ap length b, its) in
-            let whole = begun_taken es (records_at ss p) (stretch_list ss p.stretch) (take-take (length es) p.number (stretch_list ss p.stretch) short) b in
-            let l = owner p.stretch es h.some whole in
+            let b = begins_list ss ms es h in
+            let l = owner b.0 es h.some b.1 in
             elim (cases_lt l.0 (length ss)) [
               | inl inside ↦ is_listed (length ss) l.0 es inside l.2 l.3
               | inr past ↦ absurd (omega (arith, ap length (list_past ss l.0 past), l.2, begun_within ss l.0 es l.3))

@@ -1,6 +1,6 @@
 -- The marks that a list of names with records is: looking one up, putting one last, taking one
 -- away.
-use Rattle.std.proofs.Common.{◌↔◌, IsTrue, true≢false, ◌⊎◌, inr, ◌≢◌, suc, Result, Ok, Err, IsOk, IfErr, OnOk, ne_eqb, ◌≡◌, ℕ, Bool, true, false, if◌then◌else◌, cond, map, refl, sym, ap, ◌∙◌, subst, List, [], ◌∷◌, ◌++◌, length, is_some, option_map, Option, Some, None, All, slice_get}
+use Rattle.std.proofs.Common.{◌↔◌, IsTrue, true≢false, is_ok, ◌⊎◌, inr, ◌≢◌, suc, Result, Ok, Err, IsOk, IfErr, OnOk, ne_eqb, ◌≡◌, ℕ, Bool, true, false, if◌then◌else◌, cond, map, refl, sym, ap, ◌∙◌, subst, List, [], ◌∷◌, ◌++◌, length, is_some, option_map, Option, Some, None, All, slice_get}
 use Rattle.std.specs.Map.{lookup, remove_entry}
 use Rattle.indexmap.specs.IndexMap.{insert_entry}
 use Rattle.std.proofs.lemmas.List.Elements.{All-cons, All-head, All-tail}
@@ -9,7 +9,7 @@ use Rattle.rd_step.specs.declared.entries.Event.{Event}
 use Rattle.rd_journal.specs.Journal.{events}
 use Rattle.rd_marks.specs.declared.names.MarkName.{MarkName}
 use Rattle.rd_marks.specs.Names.{same_name}
-use Rattle.std.proofs.lemmas.Bool.{eq-eqb}
+use Rattle.std.proofs.lemmas.Bool.{eq-eqb, false≢true}
 use Rattle.std.proofs.lemmas.List.{length-map}
 use Rattle.std.proofs.lemmas.Option.{get_or_from_slice_get, slice_get-map, slice_get_within}
 use Rattle.rd_step.specs.Prelude.{Refusal, World, NoMark, NoMemory, MarkTaken, TooManyMarks}
@@ -186,3 +186,7 @@ mark_taken b name h = rw h refl
 
 pub mark_too_many : (b : BookState) (name : MarkName) → is_some (marked_events b.marks name) ≡ false → length b.marks ≡ MOST_MARKS → mark b name ≡ Err TooManyMarks
 mark_too_many b name new h = rw (new, eq-eqb (length b.marks) MOST_MARKS h) refl
+
+-- what is refused does not go
+pub mark_refused : {P : Type 0} (b : BookState) (name : MarkName) (refusal : Refusal) → mark b name ≡ Err refusal → IsOk (mark b name) → P
+mark_refused b name refusal h goes = absurd (false≢true (sym (ap is_ok h) ∙ goes))

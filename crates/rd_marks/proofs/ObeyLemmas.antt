@@ -10,7 +10,7 @@ use Rattle.rd_marks.specs.Books.{Mark, BookState, with_marks, mark, drop_mark, a
 use Rattle.rd_marks.specs.NameBytes.{MOST_MARKS}
 use Rattle.rd_actor.specs.declared.actors.Act.TheVariants.{Enq as CallsEnq, Deq as CallsDeq, AEnq as CallsArrayEnq, ADeq as CallsArrayDeq, Go as GoesOn, Starve as Starves}
 use Rattle.rd_marks.specs.Events.{as_event}
-use Rattle.rd_marks.specs.Commands.{event, Answered, move_answer, event_answer, mark_answer, query_answer, happens, Happened, IsMade, IsObeyed, AreObeyed}
+use Rattle.rd_marks.specs.Commands.{event, Answered, move_answer, event_answer, mark_answer, query_answer, happens, Happened, IsMade, NeedsNoMemory, IsObeyed, AreObeyed}
 use Rattle.rd_marks.proofs.Starts.{apply_start, undo_start, undo_at_start, roll_start, back_start, redo_start, forward_start}
 
 -- what an answer leaves: the start, and everything if it is a refusal
@@ -140,3 +140,8 @@ event_obeyed R b (Show place) e a h happened = cc
 event_obeyed R b (Actor actor) e a h happened = cc
 event_obeyed R b (Step number) e a h happened = cc
 event_obeyed R b Len e a h happened = cc
+
+-- an event sets no mark
+pub event_needs : (b : BookState) (room : ℕ) (c : Command) (e : Event) → as_event c ≡ Some e → NeedsNoMemory b room c → ⊥
+event_needs b room (MarkAs name) e is needs = cc
+event_needs b room _ e is needs = needs

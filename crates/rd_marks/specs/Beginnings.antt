@@ -1,4 +1,5 @@
--- How many different lists begin the events of some mark.
+-- How many different lists begin the events of some mark, and which need no record that is not
+-- there.
 use Rattle.std.specs.Prelude.{◌≡◌, ◌↔◌, ℕ, ◌<◌, List, [], ◌∷◌, length}
 use Rattle.std.specs.List.{Contains}
 use Rattle.rd_step.specs.declared.entries.Event.{Event}
@@ -23,3 +24,8 @@ pub record CountsBeginnings (marks : List Mark) (count : ℕ) : Type 0 where
   pub distinct : AreDistinct lists
   pub all : (es : List Event) → Contains lists es ↔ IsBeginning marks es
   pub counted : count ≡ length lists
+
+-- setting a mark at these events needs no new record: if there are any, they begin those of some
+-- mark
+abbrev pub NeedsNoRecord : List Mark → List Event → Type 0
+NeedsNoRecord marks es = 0 < length es → IsBeginning marks es

@@ -1,5 +1,6 @@
 -- The code's book as its state: what public clauses cite.
 use Rattle.std.specs.Prelude.{ℕ}
+use Rattle.indexmap.specs.IndexMap.{spare}
 use Rattle.rd_journal.specs.Sessions.{state}
 use Rattle.rd_marks.specs.declared.books.Book.{Book}
 use Rattle.rd_marks.specs.Books.{BookState}
@@ -9,3 +10,7 @@ use Rattle.rd_marks.specs.Marks.{marks_of}
 -- the state of a book: its session's state, and its marks with their events
 abbrev pub book_state : {R : ℕ} → Book R → BookState
 book_state b = record { session = state b.session; marks = marks_of (lists_in b.bookmarks) }
+
+-- for how many more names of bookmarks there is room
+abbrev pub name_room : {R : ℕ} → Book R → ℕ
+name_room b = spare b.bookmarks.names

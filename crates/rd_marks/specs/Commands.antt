@@ -13,6 +13,7 @@ use Rattle.rd_marks.specs.declared.commands.Command.{Command}
 use Rattle.rd_marks.specs.declared.commands.Command.TheVariants.{Enq, Deq, ArrayEnq, ArrayDeq, Go, Starve, Undo, UndoAt, Roll, Back, Redo, Forward, Mark, DropMark, GotoMark, Marks, MarkAt, Same, Origin, Writer, Show, Actor, Step, Len}
 use Rattle.rd_marks.specs.declared.replies.Reply.{Reply}
 use Rattle.rd_marks.specs.declared.replies.Reply.TheVariants.{Applied, At, Marked, Dropped, Marks as MarksAre, Mark as MarkIs, Same as SameIs, Origin as OriginIs, Writer as WriterIs, Content as ContentIs, Actor as ActorIs, Step as StepIs}
+use Rattle.rd_marks.specs.Beginnings.{NeedsNoRecord}
 use Rattle.rd_marks.specs.Books.{BookState, with_session, marked_events, mark, drop_mark, goto_mark, mark_at, MakesSteps, AnswersSame}
 
 -- what a command answers, and the state after it
@@ -92,6 +93,12 @@ Happened R b e answered = (answered ≡ happens R b e) ⊎ ((length b.session.li
 -- it asks for room, by NoMemory with nothing changed
 abbrev pub IsMade : BookState → (BookState → Reply) → Result BookState Refusal → Type 0 → Answered → Type 0
 IsMade b reply made AsksForRoom answered = (answered ≡ mark_answer b reply made) ⊎ (AsksForRoom × (answered ≡ refused b NoMemory))
+
+-- a command to set a mark needs no memory: nothing else refuses it, there is room for this many
+-- more names, of which it takes one, and it needs no new record
+abbrev pub NeedsNoMemory : BookState → ℕ → Command → Type 0
+NeedsNoMemory b room (Mark name) = IsOk (mark b name) × (0 < room) × NeedsNoRecord b.marks b.session.live
+NeedsNoMemory b room _ = ⊥
 
 -- the comparison of two marks may be answered so, and leaves the state as it is
 pub record IsCompared (R : ℕ) (b : BookState) (one other : MarkName) (answered : Answered) : Type 0 where

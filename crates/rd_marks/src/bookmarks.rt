@@ -4,6 +4,7 @@
 ghost use Rattle.std.specs.Prelude.{◌≡◌, ◌<◌, ◌≤◌, ◌++◌, [], ◌∷◌, None, map, length, slice_get, is_some, option_map, IsOk, IfOk, IfSome, OnOk, OnErr};
 ghost use Rattle.std.specs.List.{IsDistinct};
 ghost use Rattle.std.specs.Map.{lookup, remove_entry};
+ghost use Rattle.indexmap.specs.IndexMap.{spare};
 ghost use Rattle.rd_depend.specs.Beginnings.{Begins, NeitherIsPrefix};
 ghost use Rattle.rd_depend.specs.Equivalence.{DecidesEquivalence};
 ghost use Rattle.rd_journal.specs.Journal.{events};
@@ -38,7 +39,7 @@ pub(crate) struct Bookmarks {
 }
 
 impl Bookmarks {
-    ghost use Rattle.rd_marks.specs.Beginnings.{CountsBeginnings};
+    ghost use Rattle.rd_marks.specs.Beginnings.{CountsBeginnings, NeedsNoRecord};
     ghost use Rattle.rd_marks.specs.Kept.{lists_in, records_in, here_in, IsPlaceIn};
     ghost use Rattle.rd_marks.specs.Layout.{AreRuns};
     ghost use Rattle.rd_marks.specs.Marks.{marks_of};
@@ -122,7 +123,8 @@ impl Bookmarks {
     ///
     /// # Errors
     ///
-    /// `AllocError` if the room for the others or for itself was refused. The bookmarks stay.
+    /// `AllocError` if the room for the others or for its name was refused, which is asked for only
+    /// where it is missing. The bookmarks stay.
     pub(crate) fn set<const R: usize>(
         &mut self,
         alloc: Global,
@@ -136,6 +138,7 @@ impl Bookmarks {
         ensures ok { OnOk result (lists_in self.new ≡ lists_in self.old ++ (name, (journal session.now).live) ∷ []) }
         ensures runs { AreRuns R (state session.now).start (lists_in self.new) }
         ensures stands { Begins (events (here_in self.new)) (track session.now) }
+        ensures succeeds { 0 < spare self.old.names → NeedsNoRecord (marks_of (lists_in self.old)) (state session.now).live → IsOk result }
         ensures unchanged { OnErr result (lists_in self.new ≡ lists_in self.old) }
     {
         let live = session.live();

@@ -13,7 +13,7 @@ mod obeying;
 mod queries;
 mod saving;
 
-ghost use Rattle.std.specs.Prelude.{◌≡◌, ◌⊎◌, [], length, Ok, Err, OnOk, OnErr, IfErr, IsOk};
+ghost use Rattle.std.specs.Prelude.{◌≡◌, ◌<◌, ◌⊎◌, [], length, Ok, Err, OnOk, OnErr, IfErr, IsOk};
 ghost use Rattle.rd_cell.specs.declared.refusal.Refusal.TheVariants.{NoMemory};
 ghost use Rattle.rd_step.specs.Run.{events};
 ghost use Rattle.rd_depend.specs.Beginnings.{Begins};
@@ -51,8 +51,8 @@ impl<const R: usize> Drop for Book<R> {
 }
 
 impl<const R: usize> Book<R> {
-    ghost use Rattle.rd_marks.specs.Beginnings.{CountsBeginnings};
-    ghost use Rattle.rd_marks.specs.BookViews.{book_state};
+    ghost use Rattle.rd_marks.specs.Beginnings.{CountsBeginnings, NeedsNoRecord};
+    ghost use Rattle.rd_marks.specs.BookViews.{book_state, name_room};
     ghost use Rattle.rd_marks.specs.Rules.{KeepsRules};
     ghost use Rattle.rd_marks.specs.Books.{marked_events, mark, drop_mark, goto_mark, mark_at, MakesSteps, AnswersSame};
 
@@ -80,12 +80,15 @@ impl<const R: usize> Book<R> {
     /// # Errors
     ///
     /// In this order: `MarkTaken` if there is one of that name; `TooManyMarks` if there are
-    /// `MOST_MARKS`; `NoMemory` if the room for its records or for itself was refused. Nothing has
-    /// changed then.
+    /// `MOST_MARKS`; `NoMemory` if the room for its records or for its name was refused, so not if
+    /// there is room for a name, and the live steps are none or begin those of a bookmark. Nothing
+    /// has changed then.
     pub fn mark(&mut self, name: MarkName) -> Result<(), Refusal>
         ensures ok { OnOk result (mark (book_state self.old) name ≡ Ok (book_state self.new)) }
         ensures err { IfErr result (λ refusal. (mark (book_state self.old) name ≡ Err refusal)
             ⊎ ((refusal ≡ Refusal.NoMemory) × IsOk (mark (book_state self.old) name))) }
+        ensures succeeds { IsOk (mark (book_state self.old) name) → 0 < name_room self.old
+            → NeedsNoRecord (book_state self.old).marks (book_state self.old).session.live → IsOk result }
         ensures unchanged { OnErr result (book_state self.new ≡ book_state self.old) }
     {
         if self.bookmarks.find(&name).is_some() {

@@ -8,15 +8,17 @@ use super::Book;
 use rd_cell::Refusal;
 
 impl<const R: usize> Book<R> {
-    ghost use Rattle.rd_marks.specs.BookViews.{book_state};
+    ghost use Rattle.rd_marks.specs.BookViews.{book_state, name_room};
     ghost use Rattle.rd_marks.specs.Books.{mark, drop_mark, goto_mark, mark_at, MakesSteps};
-    ghost use Rattle.rd_marks.specs.Commands.{IsMade, IsCompared, step_counts, mark_answer, reply_with};
+    ghost use Rattle.rd_marks.specs.Commands.{IsMade, IsCompared, NeedsNoMemory, step_counts, mark_answer, reply_with};
+    ghost use Rattle.rd_marks.specs.declared.commands.Command.TheVariants.{Mark as MarkAs};
     ghost use Rattle.rd_marks.specs.declared.replies.Reply.TheVariants.{Marked, Dropped, Mark as MarkIs};
 
     /// Sets a bookmark. Returns how many steps are live.
     pub(super) fn answer_mark(&mut self, name: MarkName) -> Result<Reply, Refusal>
-        ensures { IsMade (book_state self.old) (λ c. Marked (length c.session.live)) (mark (book_state self.old) name)
+        ensures answer { IsMade (book_state self.old) (λ c. Marked (length c.session.live)) (mark (book_state self.old) name)
             (IsOk (mark (book_state self.old) name)) (record { answer = result; state = book_state self.new }) }
+        ensures succeeds { NeedsNoMemory (book_state self.old) (name_room self.old) (MarkAs name) → IsOk result }
     {
         self.mark(name)?;
         Ok(Reply::Marked(self.session.len()))

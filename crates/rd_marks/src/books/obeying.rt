@@ -9,8 +9,8 @@ use rd_cell::Refusal;
 use std::alloc::Global;
 
 impl<const R: usize> Book<R> {
-    ghost use Rattle.rd_marks.specs.BookViews.{book_state};
-    ghost use Rattle.rd_marks.specs.Commands.{IsObeyed, AreObeyed};
+    ghost use Rattle.rd_marks.specs.BookViews.{book_state, name_room};
+    ghost use Rattle.rd_marks.specs.Commands.{IsObeyed, AreObeyed, NeedsNoMemory};
     ghost use Rattle.rd_marks.specs.Events.{as_event};
 
     /// Obeys a command, and returns the answer.
@@ -21,6 +21,7 @@ impl<const R: usize> Book<R> {
     /// then.
     pub fn obey(&mut self, command: Command) -> Result<Reply, Refusal>
         ensures answer { IsObeyed R (book_state self.old) command (record { answer = result; state = book_state self.new }) }
+        ensures succeeds { NeedsNoMemory (book_state self.old) (name_room self.old) command → IsOk result }
         ensures start { (book_state self.new).session.start ≡ (book_state self.old).session.start }
         ensures unchanged { OnErr result (book_state self.new ≡ book_state self.old) }
     {
@@ -61,7 +62,8 @@ impl<const R: usize> Book<R> {
     /// Obeys a command that is no event, and returns the answer.
     fn answer_to(&mut self, command: Command) -> Result<Reply, Refusal>
         requires no_event { as_event command ≡ None }
-        ensures { IsObeyed R (book_state self.old) command (record { answer = result; state = book_state self.new }) }
+        ensures answer { IsObeyed R (book_state self.old) command (record { answer = result; state = book_state self.new }) }
+        ensures succeeds { NeedsNoMemory (book_state self.old) (name_room self.old) command → IsOk result }
     {
         match command {
             Command::Undo => self.answer_undo(),

@@ -1,10 +1,11 @@
-//! Undos, redos, dropped bookmarks and queries while all memory is refused.
+//! Undos, redos, dropped bookmarks, one that needs no new record, and queries while all memory is
+//! refused.
 
 use super::trials::{Trial, look, plays};
 use std::alloc::Global;
 
-/// Two bookmarks of which neither begins the other, and the race of two actors to put a new ring
-/// behind a full one. Thirty steps are live.
+/// Two bookmarks of which neither begins the other, the race of two actors to put a new ring behind
+/// a full one, and a bookmark at its thirty steps, which are live.
 const BEFORE: &[&[u8]] = &[
     b"deq 3",
     b"mark x",
@@ -44,15 +45,17 @@ const BEFORE: &[&[u8]] = &[
     b"redo",
     b"go 2",
     b"go 1",
+    b"mark all",
 ];
 
-/// Lines that take no memory.
+/// Lines that take no memory. The steps of the bookmark that is set begin those of one that is
+/// there.
 const MOVES: &[u8] =
-    b"undo\nundo 28\nback 3\nredo\nforward 2\nroll 27\nundo 30\nundo 1\nforward 5\ndrop x\ndrop x\ngoto z";
+    b"undo\nmark most\nundo 28\nback 3\nredo\nforward 2\nroll 27\nundo 30\nundo 1\nforward 5\ndrop x\ndrop x\ngoto z";
 
 /// What they are answered.
 const MOVED: &[u8] =
-    b"at 29 1\nat 28 2\nat 25 5\nat 26 4\nat 28 2\nat 26 4\nrefused 12 NoSuchStep 26\nrefused 13 Depended 2\nrefused 11 NothingToRedo\ndropped\nrefused 14 NoMark\nrefused 14 NoMark\n";
+    b"at 29 1\nmarked 29\nat 28 2\nat 25 5\nat 26 4\nat 28 2\nat 26 4\nrefused 12 NoSuchStep 26\nrefused 13 Depended 2\nrefused 11 NothingToRedo\ndropped\nrefused 14 NoMark\nrefused 14 NoMark\n";
 
 /// A book with all these steps and bookmarks, if there was memory for them.
 fn ready(alloc: Global) -> Option<Trial> {

@@ -1,5 +1,7 @@
 use Rattle.std.proofs.Common.{◌++◌, ◌∙◌, [], ◌∷◌, List, All, sym, ap, subst, arith}
 use Rattle.std.specs.Map.{lookup}
+use Rattle.std.proofs.lemmas.Bool.{false≢true}
+use Rattle.std.proofs.lemmas.List.{length-map}
 use Rattle.std.proofs.lemmas.Map.Made.{lookup-map_values}
 use Rattle.rd_step.proofs.PassedUp.{fact_passed_up}
 use Rattle.rd_step.specs.declared.entries.Entry.{Entry}
@@ -12,6 +14,7 @@ use Rattle.rd_marks.specs.Changes.{IsLow}
 use Rattle.rd_marks.specs.Layout.{AreRuns, named_lists}
 use Rattle.rd_marks.specs.Names.{same_name}
 use Rattle.rd_marks.specs.Stretches.{records_at, IsWithin}
+use Rattle.rd_marks.proofs.Counting.{all_along}
 use Rattle.rd_marks.proofs.Here.{live_along, live_begin}
 use Rattle.rd_marks.proofs.Putting.{each, is_set, kept_same, none_named}
 use Rattle.rd_marks.proofs.bookmarks.Bookmarks.set.Goals as goal
@@ -65,6 +68,14 @@ returns-in_err-grown-clause-stands g c =
     let b = c.args.self.now in
     let same = kept_same b.stretches.list.items c.grow.new.self.list.items c.in_err-grown.ensures.err b.names.entries c.reserve.new.self.entries b.here c.reserve.ensures.entries b.kept in
     subst (λ (xs : List Entry). Begins (events xs) (track c.args.session.now)) (sym same.2) c.requires.stands
+
+pub returns-in_err-grown-clause-succeeds : goal.returns-in_err-grown-clause-succeeds
+returns-in_err-grown-clause-succeeds g c = λ room none.
+    let b = c.args.self.now in
+    let live = c.live-live in
+    let all = all_along b.stretches.list.items b.names.entries c.follow-at.result.stretch c.follow-at.result.number (events live.result) c.follow-at.ensures.along c.follow-at.ensures.deepest
+    (rw live.ensures.events none) in
+    absurd (false≢true (c.in_err-grown.ensures.succeeds (all ∙ length-map live.result (λ (x : Entry). x.event))))
 
 pub returns-in_err-grown-clause-unchanged : goal.returns-in_err-grown-clause-unchanged
 returns-in_err-grown-clause-unchanged g c =
