@@ -10,7 +10,7 @@ use Rattle.rd_step.proofs.RunParts.{first_step}
 use Rattle.rd_journal.specs.declared.sessions.Session.{Session}
 use Rattle.rd_journal.specs.Journal.{Journal, events, IsRun, IsRunFrom}
 use Rattle.rd_journal.specs.Kept.{with_undone, IsSession}
-use Rattle.rd_journal.specs.Moves.{IsMovedBack, IsMovedForward, IsTakenOutAt, IsSwitched}
+use Rattle.rd_journal.specs.Moves.{IsMovedBack, IsMovedForward, IsUndoneAlone, IsSwitched}
 use Rattle.rd_journal.specs.Sessions.{journal}
 use Rattle.rd_journal.proofs.RecordLemmas.{take_over}
 use Rattle.rd_journal.proofs.Runs.{preceded_entries}
@@ -67,7 +67,7 @@ forward_undone n k old new enough moved =
           ∙ sym (ap (λ (m : ℕ). drop k (take m old.undone)) all ∙ drop-take k (n - k) old.undone);
     }
 
-pub out_undone : (n k : ℕ) (old new : Journal) → 1 ≤ k → k ≤ length old.live → IsTakenOutAt k old new → IsTakenOutAt k (with_undone n old) (with_undone (n + 1) new)
+pub out_undone : (n k : ℕ) (old new : Journal) → 1 ≤ k → k ≤ length old.live → IsUndoneAlone k old new → IsUndoneAlone k (with_undone n old) (with_undone (n + 1) new)
 out_undone n k old new some within moved =
     let one : length (take 1 (drop (k - 1) old.live)) ≡ 1 = length-take-le 1 (drop (k - 1) old.live) (omega (arith, length-drop (k - 1) old.live)) in
     record {

@@ -8,7 +8,7 @@ use Rattle.rd_step.specs.Lists.{numbered}
 use Rattle.rd_step.specs.Dependence.IsInClosure.{itself, dependant}
 use Rattle.rd_step.specs.declared.entries.Entry.{Entry}
 use Rattle.rd_journal.specs.Journal.{Journal}
-use Rattle.rd_journal.specs.Moves.{IsTakenOutAt, IsRolledBack}
+use Rattle.rd_journal.specs.Moves.{IsUndoneAlone, IsRolledBack}
 use Rattle.rd_journal.proofs.Gathering.{cut_at}
 use Rattle.rd_journal.proofs.Finding.{numbered_in, scan_is}
 use Rattle.rd_journal.proofs.ListLemmas.{nth, drop_one_less}
@@ -363,7 +363,7 @@ alone l (suc i) some within free =
     }
 
 -- undone alone, it is rolled back
-pub alone_rolled : (k : ℕ) (old new : Journal) → IsAlone old.live k → IsTakenOutAt k old new → IsRolledBack k old new
+pub alone_rolled : (k : ℕ) (old new : Journal) → IsAlone old.live k → IsUndoneAlone k old new → IsRolledBack k old new
 alone_rolled k old new is out = record {
   live = out.live ∙ sym is.outside;
   undone = out.undone ∙ ap (λ (zs : List Entry). zs ++ old.undone) (sym is.inside);

@@ -9,8 +9,8 @@ use Rattle.rd_step.specs.declared.entries.Entry.{Entry}
 use Rattle.rd_step.specs.Dependence.{first_from, first_after}
 use Rattle.rd_step.specs.Laws.{WasStepped, IsTakenOut}
 use Rattle.rd_journal.specs.Journal.{Journal, events, start_of, IsRun}
-use Rattle.rd_journal.specs.Moves.{IsTakenOutAt, IsWithout, answer_unless, answer_at}
-use Rattle.rd_journal.specs.State.{State, state_of, run_of, dependant_in, one_out, one_out_unless, undo_at}
+use Rattle.rd_journal.specs.Moves.{IsUndoneAlone, IsRunWithout, answer_unless, answer_at}
+use Rattle.rd_journal.specs.State.{State, state_of, run_of, dependant_in, undone_alone, undone_alone_unless, undo_at}
 use Rattle.rd_journal.proofs.ListLemmas.{drop_one_less}
 use Rattle.rd_journal.proofs.Runs.{MayTakeOut, may_take_out}
 
@@ -56,11 +56,11 @@ around_it l k x at = sym (take-append-drop (k - 1) l) ∙ ap (λ (ys : List Entr
 -- The journal without it
 
 -- the k-th live record of the old journal is the front of the undone ones
-pub taken_out_front : (k : ℕ) (old new : Journal) (x : Entry) → IsNumber old.live k x → IsTakenOutAt k old new → new.undone ≡ x ∷ old.undone
+pub taken_out_front : (k : ℕ) (old new : Journal) (x : Entry) → IsNumber old.live k x → IsUndoneAlone k old new → new.undone ≡ x ∷ old.undone
 taken_out_front k old new x at moved = moved.undone ∙ ap (λ (ys : List Entry). take 1 ys ++ old.undone) (from_it old.live k x at)
 
 -- there are as many records as before
-pub taken_out_few : (k : ℕ) (old new : Journal) (x : Entry) → IsNumber old.live k x → IsTakenOutAt k old new
+pub taken_out_few : (k : ℕ) (old new : Journal) (x : Entry) → IsNumber old.live k x → IsUndoneAlone k old new
     → length old.live + length old.undone ≤ MOST_STEPS → length new.live + length new.undone ≤ MOST_STEPS
 taken_out_few k old new x at moved few =
     let all = ap length (around_it old.live k x at) ∙ length-append (take (k - 1) old.live) (x ∷ drop k old.live) in
@@ -71,24 +71,24 @@ taken_out_few k old new x at moved few =
 -- of the same start
 pub record MayUndoAt (R : ℕ) (old : Journal) (k : ℕ) (x : Entry) : Type 0 where
   pub was : WasStepped R old.world x
-  pub start : (new : Journal) → IsTakenOut R old.world new.world x was → IsTakenOutAt k old new → start_of new ≡ start_of old
-  pub runs : (new : Journal) → IsTakenOut R old.world new.world x was → IsTakenOutAt k old new → IsRun R new
+  pub start : (new : Journal) → IsTakenOut R old.world new.world x was → IsUndoneAlone k old new → start_of new ≡ start_of old
+  pub runs : (new : Journal) → IsTakenOut R old.world new.world x was → IsUndoneAlone k old new → IsRun R new
 
 may_undo_around : (R : ℕ) (old : Journal) (k : ℕ) (x : Entry) → IsNumber old.live k x
     → MayTakeOut R old.world (take (k - 1) old.live) (drop k old.live) old.undone x → MayUndoAt R old k x
 may_undo_around R old k x at may = record { was = may.was; start = start; runs = runs }
   where
-    same : (new : Journal) → IsTakenOutAt k old new
+    same : (new : Journal) → IsUndoneAlone k old new
         → new ≡ record { world = new.world; live = take (k - 1) old.live ++ drop k old.live; undone = x ∷ old.undone }
     same new moved =
         λ i. record { world = new.world; live = moved.live i; undone = taken_out_front k old new x at moved i }
 
-    start : (new : Journal) → IsTakenOut R old.world new.world x may.was → IsTakenOutAt k old new → start_of new ≡ start_of old
+    start : (new : Journal) → IsTakenOut R old.world new.world x may.was → IsUndoneAlone k old new → start_of new ≡ start_of old
     start new out moved =
         ap start_of (same new moved) ∙ may.start new.world out
         ∙ ap (λ (l : List Entry). start_of (record { world = old.world; live = l; undone = old.undone })) (sym (around_it old.live k x at))
 
-    runs : (new : Journal) → IsTakenOut R old.world new.world x may.was → IsTakenOutAt k old new → IsRun R new
+    runs : (new : Journal) → IsTakenOut R old.world new.world x may.was → IsUndoneAlone k old new → IsRun R new
     runs new out moved = subst (λ (j : Journal). IsRun R j) (sym (same new moved)) (may.runs new.world out)
 
 pub may_undo_at : (R : ℕ) (old : Journal) (k : ℕ) (x : Entry) → IsNumber old.live k x → first_dependant old.live k ≡ None → IsRun R old
@@ -101,14 +101,14 @@ may_undo_at R old k x at none runs =
 
 -- The state without it
 
-pub live_without : (k : ℕ) (old new : Journal) → IsTakenOutAt k old new → events new.live ≡ without (events old.live) k
+pub live_without : (k : ℕ) (old new : Journal) → IsUndoneAlone k old new → events new.live ≡ without (events old.live) k
 live_without k old new moved =
     let its = λ (x : Entry). x.event in
     ap events moved.live ∙ map-append its (take (k - 1) old.live) (drop k old.live)
     ∙ (λ i. sym (take-map its (k - 1) old.live) i ++ sym (drop-map its k old.live) i)
 
-pub one_out_state : (k : ℕ) (old new : Journal) → IsTakenOutAt k old new → start_of new ≡ start_of old → state_of new ≡ one_out (state_of old) k
-one_out_state k old new moved start =
+pub undone_alone_state : (k : ℕ) (old new : Journal) → IsUndoneAlone k old new → start_of new ≡ start_of old → state_of new ≡ undone_alone (state_of old) k
+undone_alone_state k old new moved start =
     let its = λ (x : Entry). x.event in
     let live = live_without k old new moved in
     let front : events (take 1 (drop (k - 1) old.live)) ≡ take 1 (drop (k - 1) (events old.live)) =
@@ -118,8 +118,8 @@ one_out_state k old new moved start =
     λ i. record { start = start i; live = live i; undone = undone i }
 
 -- what is left is the run of the live events without the k-th
-pub without_it : (R k : ℕ) (old new : Journal) → IsTakenOutAt k old new → state_of new ≡ one_out (state_of old) k → IsRun R new
-    → IsWithout R k old new
+pub without_it : (R k : ℕ) (old new : Journal) → IsUndoneAlone k old new → state_of new ≡ undone_alone (state_of old) k → IsRun R new
+    → IsRunWithout R k old new
 without_it R k old new moved state runs =
     let start : start_of new ≡ start_of old = ap (λ (s : State). s.start) state in
     (λ i. run R (sym start i) (sym (live_without k old new moved) i)) ∙ runs.live_ran
@@ -141,7 +141,7 @@ undo_at_missing R j (suc i) n len (inr past) =
     let s = state_of j in
     let same : length s.live ≡ n = length-map j.live (λ (x : Entry). x.event) ∙ sym len in
     let out : nat_lt i (length s.live) ≡ false = le-ltb i (length s.live) (omega arith) in
-    cond-false (nat_lt i (length s.live)) (one_out_unless s (suc i) (dependant_in (suc i) (run_of R s))) (Err (NoSuchStep (length s.live))) out
+    cond-false (nat_lt i (length s.live)) (undone_alone_unless s (suc i) (dependant_in (suc i) (run_of R s))) (Err (NoSuchStep (length s.live))) out
     ∙ ap (λ (m : ℕ). Err (NoSuchStep m)) same
 
 pub answer_there : (j : Journal) (k : ℕ) → 1 ≤ k → k ≤ length j.live → answer_at j k ≡ answer_unless (first_dependant j.live k)
@@ -151,11 +151,11 @@ answer_there j (suc i) some within =
     (lt-ltb i (length j.live) (omega arith))
 
 pub undo_at_there : (R : ℕ) (j : Journal) (k : ℕ) → IsRun R j → 1 ≤ k → k ≤ length j.live
-    → undo_at R (state_of j) k ≡ one_out_unless (state_of j) k (first_dependant j.live k)
+    → undo_at R (state_of j) k ≡ undone_alone_unless (state_of j) k (first_dependant j.live k)
 undo_at_there R j zero runs some within = absurd (omega arith)
 undo_at_there R j (suc i) runs some within =
     let s = state_of j in
     let len : length s.live ≡ length j.live = length-map j.live (λ (x : Entry). x.event) in
-    cond-true (nat_lt i (length s.live)) (one_out_unless s (suc i) (dependant_in (suc i) (run_of R s))) (Err (NoSuchStep (length s.live)))
+    cond-true (nat_lt i (length s.live)) (undone_alone_unless s (suc i) (dependant_in (suc i) (run_of R s))) (Err (NoSuchStep (length s.live)))
     (lt-ltb i (length s.live) (omega arith))
-    ∙ ap (λ (r : Result Ran Refusal). one_out_unless s (suc i) (dependant_in (suc i) r)) runs.live_ran
+    ∙ ap (λ (r : Result Ran Refusal). undone_alone_unless s (suc i) (dependant_in (suc i) r)) runs.live_ran

@@ -10,10 +10,10 @@ use Rattle.rd_step.specs.Laws.{IsTakenOut}
 use Rattle.rd_step.proofs.Removal.{taken_out}
 use Rattle.rd_journal.specs.Journal.{Journal, events, start_of, run_entries, IsRun}
 use Rattle.rd_journal.specs.Laws.{IsMovedLast, IsOneRun}
-use Rattle.rd_journal.specs.Moves.{IsTakenOutAt}
-use Rattle.rd_journal.specs.State.{State, state_of, run_of, dependant_in, forward_one, one_out, one_out_unless, undo_at, redo}
+use Rattle.rd_journal.specs.Moves.{IsUndoneAlone}
+use Rattle.rd_journal.specs.State.{State, state_of, run_of, dependant_in, forward_one, undone_alone, undone_alone_unless, undo_at, redo}
 use Rattle.rd_journal.proofs.ListLemmas.{nth}
-use Rattle.rd_journal.proofs.LoneUndo.{IsNumber, from_it, may_undo_at, one_out_state}
+use Rattle.rd_journal.proofs.LoneUndo.{IsNumber, from_it, may_undo_at, undone_alone_state}
 use Rattle.rd_journal.proofs.Runs.{as_ok, as_ok-same, step_event, run_joined, grown}
 use Rattle.rd_journal.proofs.There.{one_journal}
 use Rattle.rd_journal.proofs.Walks.{forward_state}
@@ -39,16 +39,16 @@ pub record WentOut (R : ℕ) (s t : State) (n : ℕ) : Type 0 where
   pub some : 1 ≤ n
   pub within : n ≤ length s.live
   pub free : dependant_in n (run_of R s) ≡ None
-  pub goes : t ≡ one_out s n
+  pub goes : t ≡ undone_alone s n
 
-unless_none : (s t : State) (n : ℕ) (o : Option ℕ) → one_out_unless s n o ≡ Ok t → (o ≡ None) × (t ≡ one_out s n)
-unless_none s t n None h = let same : as_ok (one_out s n) ≡ Ok t = h in (refl, sym (as_ok-same (one_out s n) t same))
+unless_none : (s t : State) (n : ℕ) (o : Option ℕ) → undone_alone_unless s n o ≡ Ok t → (o ≡ None) × (t ≡ undone_alone s n)
+unless_none s t n None h = let same : as_ok (undone_alone s n) ≡ Ok t = h in (refl, sym (as_ok-same (undone_alone s n) t same))
 unless_none s t n (Some j) h = cc
 
 went_out : (R : ℕ) (s t : State) (n : ℕ) → undo_at R s n ≡ Ok t → WentOut R s t n
 went_out R s t zero h = cc
 went_out R s t (suc i) h =
-    let some_out = one_out_unless s (suc i) (dependant_in (suc i) (run_of R s)) in
+    let some_out = undone_alone_unless s (suc i) (dependant_in (suc i) (run_of R s)) in
     elim (cases_Bool (nat_lt i (length s.live))) [
       | inl e ↦
           let out : some_out ≡ Ok t = sym (cond-true (nat_lt i (length s.live)) some_out (Err (NoSuchStep (length s.live))) e) ∙ h in
@@ -80,7 +80,7 @@ again_journal old n x = record { world = old.world; live = (take (n - 1) old.liv
 
 record IsAgain (R : ℕ) (old : Journal) (n : ℕ) (x : Entry) : Type 0 where
   pub runs : IsRun R (again_journal old n x)
-  pub state : state_of (again_journal old n x) ≡ forward_one (one_out (state_of old) n)
+  pub state : state_of (again_journal old n x) ≡ forward_one (undone_alone (state_of old) n)
 
 again : (R : ℕ) (old : Journal) (n : ℕ) (x : Entry) → IsNumber old.live n x → first_dependant old.live n ≡ None → IsRun R old → IsAgain R old n x
 again R old n x at none runs =
@@ -89,7 +89,7 @@ again R old n x at none runs =
     let out : IsTakenOut R old.world v x may.was = taken_out R old.world x may.was in
     let xs = take (n - 1) old.live ++ drop n old.live in
     let left : Journal = record { world = v; live = xs; undone = x ∷ old.undone } in
-    let moved : IsTakenOutAt n old left = record { live = refl; undone = sym (ap (λ (ys : List Entry). take 1 ys ++ old.undone) (from_it old.live n x at)) } in
+    let moved : IsUndoneAlone n old left = record { live = refl; undone = sym (ap (λ (ys : List Entry). take 1 ys ++ old.undone) (from_it old.live n x at)) } in
     let left_runs : IsRun R left = may.runs left out moved in
     let its : x.event ≡ may.was.event = step_event R v may.was.event (record { world = old.world; entry = x }) out.again in
     let goes : step R v x.event ≡ Ok (record { world = old.world; entry = x }) = ap (step R v) its ∙ out.again in
@@ -97,7 +97,7 @@ again R old n x at none runs =
       runs = grown R v old.world xs (x ∷ old.undone) old.undone x x.event left_runs goes runs.undone_run_on;
       state =
           forward_state R v old.world xs old.undone x left_runs goes
-          ∙ ap forward_one (one_out_state n old left moved (may.start left out moved));
+          ∙ ap forward_one (undone_alone_state n old left moved (may.start left out moved));
     }
 
 pub redone_last : (R : ℕ) (i j k : Journal) (n : ℕ) → IsRun R i → IsRun R k → undo_at R (state_of i) n ≡ Ok (state_of j)

@@ -12,7 +12,7 @@ use Rattle.rd_journal.specs.Journal.{Journal, events, world_before, start_of, Is
 use Rattle.rd_journal.specs.Moves.{IsMovedBack, IsRolledBack, IsWithoutClosure, roll_answer}
 use Rattle.rd_journal.specs.Kept.{IsSession}
 use Rattle.rd_journal.specs.Room.{HasRoom}
-use Rattle.rd_journal.specs.State.{State, state_of, run_of, back_one, times, closure_in, marked_out, roll}
+use Rattle.rd_journal.specs.State.{State, state_of, run_of, back_one, times, closure_in, undone_marked, roll}
 use Rattle.rd_journal.proofs.Calls.{back_start}
 use Rattle.rd_journal.proofs.Gathering.{cut_at, gathered_run}
 use Rattle.rd_journal.proofs.ListLemmas.{nth, drop_one_less}
@@ -131,7 +131,7 @@ unmarked-map (b ∷ bs) [] = refl
 unmarked-map (true ∷ bs) (x ∷ xs) = unmarked-map bs xs
 unmarked-map (false ∷ bs) (x ∷ xs) = ap (λ (es : List Event). x.event ∷ es) (unmarked-map bs xs)
 
-pub rolled_state : (k : ℕ) (old new : Journal) → IsRolledBack k old new → start_of new ≡ start_of old → state_of new ≡ marked_out (state_of old) (closure old.live k)
+pub rolled_state : (k : ℕ) (old new : Journal) → IsRolledBack k old new → start_of new ≡ start_of old → state_of new ≡ undone_marked (state_of old) (closure old.live k)
 rolled_state k old new is start =
     let ms = closure old.live k in
     let live : events new.live ≡ unmarked ms (events old.live) = ap events is.live ∙ sym (unmarked-map ms old.live) in
@@ -166,14 +166,14 @@ roll_missing R j (suc i) n len (inr past) =
     let s = state_of j in
     let same : length s.live ≡ n = length-map j.live (λ (x : Entry). x.event) ∙ sym len in
     let out : nat_lt i (length s.live) ≡ false = le-ltb i (length s.live) (omega arith) in
-    cond-false (nat_lt i (length s.live)) (Ok (marked_out s (closure_in (suc i) (run_of R s)))) (Err (NoSuchStep (length s.live))) out
+    cond-false (nat_lt i (length s.live)) (Ok (undone_marked s (closure_in (suc i) (run_of R s)))) (Err (NoSuchStep (length s.live))) out
     ∙ ap (λ (m : ℕ). Err (NoSuchStep m)) same
 
-pub roll_there : (R : ℕ) (j : Journal) (k : ℕ) → IsRun R j → 1 ≤ k → k ≤ length j.live → roll R (state_of j) k ≡ Ok (marked_out (state_of j) (closure j.live k))
+pub roll_there : (R : ℕ) (j : Journal) (k : ℕ) → IsRun R j → 1 ≤ k → k ≤ length j.live → roll R (state_of j) k ≡ Ok (undone_marked (state_of j) (closure j.live k))
 roll_there R j zero runs some within = absurd (omega arith)
 roll_there R j (suc i) runs some within =
     let s = state_of j in
     let len : length s.live ≡ length j.live = length-map j.live (λ (x : Entry). x.event) in
-    cond-true (nat_lt i (length s.live)) (Ok (marked_out s (closure_in (suc i) (run_of R s)))) (Err (NoSuchStep (length s.live)))
+    cond-true (nat_lt i (length s.live)) (Ok (undone_marked s (closure_in (suc i) (run_of R s)))) (Err (NoSuchStep (length s.live)))
     (lt-ltb i (length s.live) (omega arith))
-    ∙ ap (λ (r : Result Ran Refusal). Ok (marked_out s (closure_in (suc i) r))) runs.live_ran
+    ∙ ap (λ (r : Result Ran Refusal). Ok (undone_marked s (closure_in (suc i) r))) runs.live_ran

@@ -7,7 +7,7 @@ use Rattle.rd_step.specs.declared.entries.Event.{Event}
 use Rattle.rd_step.specs.declared.entries.Entry.{Entry}
 use Rattle.rd_journal.specs.Journal.{Journal, events, start_of, IsRun}
 use Rattle.rd_journal.specs.Laws.{IsClosureLast}
-use Rattle.rd_journal.specs.State.{State, state_of, run_of, forward_one, times, forward, closure_in, marked_out, roll}
+use Rattle.rd_journal.specs.State.{State, state_of, run_of, forward_one, times, forward, closure_in, undone_marked, roll}
 use Rattle.rd_journal.proofs.RolledBack.{closure_last, reordered, marked-map, unmarked-map}
 use Rattle.rd_journal.proofs.Runs.{as_ok, as_ok-same}
 use Rattle.rd_journal.proofs.There.{times_first, one_journal}
@@ -37,12 +37,12 @@ went_on s t n h =
 record Rolled (R : ℕ) (s t : State) (n : ℕ) : Type 0 where
   some : 1 ≤ n
   within : n ≤ length s.live
-  goes : t ≡ marked_out s (closure_in n (run_of R s))
+  goes : t ≡ undone_marked s (closure_in n (run_of R s))
 
 rolled : (R : ℕ) (s t : State) (n : ℕ) → roll R s n ≡ Ok t → Rolled R s t n
 rolled R s t zero h = cc
 rolled R s t (suc i) h =
-    let out = marked_out s (closure_in (suc i) (run_of R s)) in
+    let out = undone_marked s (closure_in (suc i) (run_of R s)) in
     elim (cases_Bool (nat_lt i (length s.live))) [
       | inl e ↦
           let same : as_ok out ≡ Ok t = sym (cond-true (nat_lt i (length s.live)) (Ok out) (Err (NoSuchStep (length s.live))) e) ∙ h in
@@ -64,7 +64,7 @@ closure_redone R i j k n ri rk back on =
     let xs = without_closure i.live n in
     let ys = closure_of i.live n in
     let left : state_of j ≡ record { start = start_of i; live = events xs; undone = events ys ++ events i.undone } =
-    went.goes ∙ ap (λ (r : Result Ran Refusal). marked_out (state_of i) (closure_in n r)) ri.live_ran
+    went.goes ∙ ap (λ (r : Result Ran Refusal). undone_marked (state_of i) (closure_in n r)) ri.live_ran
     ∙ (λ t. record { start = start_of i; live = unmarked-map ms i.live t; undone = marked-map ms i.live t ++ events i.undone }) in
     let many : length ys ≡ length (events ys) = sym (length-map ys its) in
     let there : state_of k ≡ record { start = start_of i; live = events xs ++ events ys; undone = events i.undone } =

@@ -27,13 +27,13 @@ IsBeforeLast R n old new =
 
 -- the k-th live record became the front of the undone ones, all others are as they were, and no
 -- record changed
-pub record IsTakenOutAt (k : ℕ) (old new : Journal) : Type 0 where
+pub record IsUndoneAlone (k : ℕ) (old new : Journal) : Type 0 where
   pub live : new.live ≡ take (k - 1) old.live ++ drop k old.live
   pub undone : new.undone ≡ take 1 (drop (k - 1) old.live) ++ old.undone
 
 -- world and live records are those of the run of the live events without the k-th
-abbrev pub IsWithout : ℕ → ℕ → Journal → Journal → Type 0
-IsWithout R k old new = run R (start_of old) (without (events old.live) k) ≡ Ok (record { world = new.world; entries = new.live })
+abbrev pub IsRunWithout : ℕ → ℕ → Journal → Journal → Type 0
+IsRunWithout R k old new = run R (start_of old) (without (events old.live) k) ≡ Ok (record { world = new.world; entries = new.live })
 
 -- the answer to undoing a step alone: done, or `Depended` with the first step that depends on it
 abbrev pub answer_unless : Option ℕ → Result Unit Refusal

@@ -82,20 +82,20 @@ dependant_in k (Err refusal) = None
 dependant_in k (Ok r) = first_dependant r.entries k
 
 -- the state where the k-th of live became the front of undone, and all others stay in their order
-abbrev pub one_out : State → ℕ → State
-one_out s k = record { start = s.start; live = without s.live k; undone = take 1 (drop (k - 1) s.live) ++ s.undone }
+abbrev pub undone_alone : State → ℕ → State
+undone_alone s k = record { start = s.start; live = without s.live k; undone = take 1 (drop (k - 1) s.live) ++ s.undone }
 
 -- the state without the k-th live step, if no later one depends on it
-abbrev pub one_out_unless : State → ℕ → Option ℕ → Result State Refusal
-one_out_unless s k (Some j) = Err (Depended j)
-one_out_unless s k None = Ok (one_out s k)
+abbrev pub undone_alone_unless : State → ℕ → Option ℕ → Result State Refusal
+undone_alone_unless s k (Some j) = Err (Depended j)
+undone_alone_unless s k None = Ok (undone_alone s k)
 
 -- the state after undoing the k-th live step alone: refused if there is none, and with the number
 -- of the first live step that depends on it, if there is one
 abbrev pub undo_at : ℕ → State → ℕ → Result State Refusal
 undo_at R s zero = Err (NoSuchStep (length s.live))
 undo_at R s (suc i) =
-    if nat_lt i (length s.live) then one_out_unless s (suc i) (dependant_in (suc i) (run_of R s)) else Err (NoSuchStep (length s.live))
+    if nat_lt i (length s.live) then undone_alone_unless s (suc i) (dependant_in (suc i) (run_of R s)) else Err (NoSuchStep (length s.live))
 
 -- for each step of a run, whether it is in the causal closure of the k-th
 abbrev pub closure_in : ℕ → Result Ran Refusal → List Bool
@@ -104,15 +104,15 @@ closure_in k (Ok r) = closure r.entries k
 
 -- the state where the marked live events became the front of undone, in their order, and all others
 -- stay in their order
-abbrev pub marked_out : State → List Bool → State
-marked_out s marks = record { start = s.start; live = unmarked marks s.live; undone = marked marks s.live ++ s.undone }
+abbrev pub undone_marked : State → List Bool → State
+undone_marked s marks = record { start = s.start; live = unmarked marks s.live; undone = marked marks s.live ++ s.undone }
 
 -- the state after rolling back the k-th live step: it and just the later ones that depend on it,
 -- directly or through others, became the front of undone; refused if there is none
 abbrev pub roll : ℕ → State → ℕ → Result State Refusal
 roll R s zero = Err (NoSuchStep (length s.live))
 roll R s (suc i) =
-    if nat_lt i (length s.live) then Ok (marked_out s (closure_in (suc i) (run_of R s))) else Err (NoSuchStep (length s.live))
+    if nat_lt i (length s.live) then Ok (undone_marked s (closure_in (suc i) (run_of R s))) else Err (NoSuchStep (length s.live))
 
 -- the state whose live events are the first n from before and then these, with nothing undone
 abbrev pub switch : State → ℕ → List Event → State

@@ -162,7 +162,7 @@ impl Records {
     }
 
     /// Makes the `k`-th live record the next one ahead. All others stay in their order.
-    pub(crate) fn take_out(&mut self, k: usize)
+    pub(crate) fn undo_alone(&mut self, k: usize)
         requires some { 1 ≤ k }
         requires position { k ≤ length (live_records self.old) }
         ensures live { live_records self.new ≡ take (k - 1) (live_records self.old) ++ drop k (live_records self.old) }

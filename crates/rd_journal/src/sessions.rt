@@ -29,7 +29,7 @@ ghost use Rattle.rd_journal.specs.Room.{IsOutOfMemory, ComesAfterRoom, LacksRoom
 ghost use Rattle.rd_depend.specs.Index.{IsIndexOf};
 ghost use Rattle.rd_journal.specs.Records.{ahead_records, kept_records};
 ghost use Rattle.rd_journal.specs.State.{apply, reply_to, undo, undo_at, back, redo, forward, roll, switch};
-ghost use Rattle.rd_journal.specs.Moves.{IsLengthened, IsMovedBack, IsMovedForward, IsBeforeLast, IsTakenOutAt, IsWithout, IsSwitched, IsRolledBack, IsWithoutClosure, answer_at, roll_answer};
+ghost use Rattle.rd_journal.specs.Moves.{IsLengthened, IsMovedBack, IsMovedForward, IsBeforeLast, IsUndoneAlone, IsRunWithout, IsSwitched, IsRolledBack, IsWithoutClosure, answer_at, roll_answer};
 
 use super::indexing::index_instead;
 use super::records::Records;
@@ -161,8 +161,8 @@ impl<const R: usize> Session<R> {
     /// changed then.
     pub fn undo_at(&mut self, k: u64) -> Result<(), Refusal>
         ensures ok { OnOk result (undo_at R (state self.old) k ≡ Ok (state self.new)) }
-        ensures records { OnOk result (IsTakenOutAt k (journal self.old) (journal self.new)) }
-        ensures run { OnOk result (IsWithout R k (journal self.old) (journal self.new)) }
+        ensures records { OnOk result (IsUndoneAlone k (journal self.old) (journal self.new)) }
+        ensures run { OnOk result (IsRunWithout R k (journal self.old) (journal self.new)) }
         ensures answer { result ≡ answer_at (journal self.old) k }
         ensures err { IfErr result (λ refusal. undo_at R (state self.old) k ≡ Err refusal) }
         ensures unchanged { OnErr result (journal self.new ≡ journal self.old) }
@@ -205,7 +205,7 @@ impl<const R: usize> Session<R> {
         if len < k || k == 0 {
             return Err(Refusal::NoSuchStep(len));
         }
-        self.undo_closure(k);
+        self.roll_back(k);
         Ok(())
     }
 

@@ -8,7 +8,7 @@ use Rattle.rd_step.specs.declared.entries.Entry.{Entry}
 use Rattle.rd_depend.specs.Beginnings.{Begins}
 use Rattle.rd_journal.specs.declared.sessions.Session.{Session}
 use Rattle.rd_journal.specs.Journal.{Journal, events}
-use Rattle.rd_journal.specs.Moves.{IsLengthened, IsTakenOutAt, IsRolledBack}
+use Rattle.rd_journal.specs.Moves.{IsLengthened, IsUndoneAlone, IsRolledBack}
 use Rattle.rd_journal.specs.Records.{ahead_records}
 use Rattle.rd_journal.specs.Sessions.{state, track}
 use Rattle.rd_journal.specs.State.{State, undo_at, roll}
@@ -25,8 +25,8 @@ without_leaves (suc m) zero xs h = absurd (omega (arith, h))
 without_leaves (suc m) (suc k) [] h = refl
 without_leaves {X} (suc m) (suc k) (x ∷ xs) h = ap (λ (ys : List X). x ∷ ys) (without_leaves m k xs (omega (arith, h)))
 
-pub one_out_leaves : (k n : ℕ) (old new : Journal) → n ≡ k - 1 → IsTakenOutAt k old new → take n new.live ≡ take n old.live
-one_out_leaves k n old new its taken =
+pub undone_alone_leaves : (k n : ℕ) (old new : Journal) → n ≡ k - 1 → IsUndoneAlone k old new → take n new.live ≡ take n old.live
+undone_alone_leaves k n old new its taken =
     ap (take n) (taken.live ∙ ap (λ (m : ℕ). take m old.live ++ drop k old.live) (sym its)) ∙ without_leaves n k old.live (omega (arith, its))
 
 closure_leaves : (n : ℕ) (xs : List Entry) → take n (unmarked (closure xs (suc n)) xs) ≡ take n xs

@@ -4,7 +4,7 @@ use Rattle.rd_step.specs.Prelude.{Refusal, World, Stepped}
 use Rattle.rd_step.specs.declared.entries.Event.{Event}
 use Rattle.rd_step.specs.declared.entries.Entry.{Entry}
 use Rattle.rd_journal.specs.Journal.{Journal, start_of}
-use Rattle.rd_journal.specs.State.{State, state_of, run_of, step_after, with_event, apply, back_one, forward_one, times, undo, back, redo, forward, one_out_unless, undo_at, dependant_in, roll, marked_out, closure_in}
+use Rattle.rd_journal.specs.State.{State, state_of, run_of, step_after, with_event, apply, back_one, forward_one, times, undo, back, redo, forward, undone_alone_unless, undo_at, dependant_in, roll, undone_marked, closure_in}
 use Rattle.rd_marks.specs.declared.names.MarkName.{MarkName}
 use Rattle.rd_marks.specs.Layout.{AreRuns}
 
@@ -47,17 +47,17 @@ undo_start s t h = unless_start s t (length s.live == 0) _ _ (of_ok (back_one s)
 pub redo_start : (s t : State) → redo s ≡ Ok t → t.start ≡ s.start
 redo_start s t h = unless_start s t (length s.undone == 0) _ _ (of_ok (forward_one s) t _ refl) h
 
-one_out_start : (s : State) (k : ℕ) (o : Option ℕ) (t : State) → one_out_unless s k o ≡ Ok t → t.start ≡ s.start
-one_out_start s k (Some j) t h = cc
-one_out_start s k None t h = of_ok _ t _ refl h
+undone_alone_start : (s : State) (k : ℕ) (o : Option ℕ) (t : State) → undone_alone_unless s k o ≡ Ok t → t.start ≡ s.start
+undone_alone_start s k (Some j) t h = cc
+undone_alone_start s k None t h = of_ok _ t _ refl h
 
 pub undo_at_start : (R : ℕ) (s : State) (k : ℕ) (t : State) → undo_at R s k ≡ Ok t → t.start ≡ s.start
 undo_at_start R s zero t h = cc
-undo_at_start R s (suc i) t h = if_start s t (nat_lt i (length s.live)) _ _ (one_out_start s (suc i) (dependant_in (suc i) (run_of R s)) t) h
+undo_at_start R s (suc i) t h = if_start s t (nat_lt i (length s.live)) _ _ (undone_alone_start s (suc i) (dependant_in (suc i) (run_of R s)) t) h
 
 pub roll_start : (R : ℕ) (s : State) (k : ℕ) (t : State) → roll R s k ≡ Ok t → t.start ≡ s.start
 roll_start R s zero t h = cc
-roll_start R s (suc i) t h = if_start s t (nat_lt i (length s.live)) _ _ (of_ok (marked_out s (closure_in (suc i) (run_of R s))) t _ refl) h
+roll_start R s (suc i) t h = if_start s t (nat_lt i (length s.live)) _ _ (of_ok (undone_marked s (closure_in (suc i) (run_of R s))) t _ refl) h
 
 -- the start stays, whatever a call answered
 pub start_stays : {X : Type 0} (r : Result X Refusal) (i j : Journal) (moved : Result State Refusal)

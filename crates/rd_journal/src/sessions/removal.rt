@@ -4,8 +4,8 @@
 ghost use Rattle.std.specs.Prelude.{◌≡◌, ◌≤◌, length, None};
 ghost use Rattle.rd_step.specs.Prelude.{first_dependant};
 ghost use Rattle.rd_journal.specs.Journal.{start_of};
-ghost use Rattle.rd_journal.specs.Moves.{IsTakenOutAt, IsRolledBack};
-ghost use Rattle.rd_journal.specs.State.{one_out};
+ghost use Rattle.rd_journal.specs.Moves.{IsUndoneAlone, IsRolledBack};
+ghost use Rattle.rd_journal.specs.State.{undone_alone};
 
 use super::super::indexing::{cut_index, fill_index};
 use super::Session;
@@ -20,19 +20,19 @@ impl<const R: usize> Session<R> {
         requires some { 1 ≤ k }
         requires position { k ≤ length (journal self.old).live }
         requires free { first_dependant (journal self.old).live k ≡ None }
-        ensures records { IsTakenOutAt k (journal self.old) (journal self.new) }
-        ensures state { state self.new ≡ one_out (state self.old) k }
+        ensures records { IsUndoneAlone k (journal self.old) (journal self.new) }
+        ensures state { state self.new ≡ undone_alone (state self.old) k }
         ensures capacity { capacity self.new ≡ capacity self.old }
     {
         unstep(&mut self.world, self.records.live_at(k as usize - 1));
         self.index.move_behind(k, self.records.live_len() as u64);
-        self.records.take_out(k as usize);
+        self.records.undo_alone(k as usize);
         self.undone += 1;
     }
 
     /// Undoes the `k`-th live step and all later ones that depend on it, directly or through
     /// others. If none depends on it directly, none does.
-    pub(super) fn undo_closure(&mut self, k: u64)
+    pub(super) fn roll_back(&mut self, k: u64)
         requires some { 1 ≤ k }
         requires position { k ≤ length (journal self.old).live }
         ensures records { IsRolledBack k (journal self.old) (journal self.new) }

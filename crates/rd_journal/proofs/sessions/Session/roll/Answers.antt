@@ -21,7 +21,7 @@ returns-clause-ok g c =
     let old = journal c.args.self.now in
     let within : c.args.k ≤ length old.live = omega (arith, c.len-len.ensures.records) in
     roll_there g.row.R old c.args.k (is_session c.args.self.now).runs (omega arith) within
-    ∙ ap (λ (s : State). Ok s) (sym (rolled_state c.args.k old (journal c.undo_closure.new.self) c.undo_closure.ensures.records c.undo_closure.ensures.start))
+    ∙ ap (λ (s : State). Ok s) (sym (rolled_state c.args.k old (journal c.roll_back.new.self) c.roll_back.ensures.records c.roll_back.ensures.start))
 
 pub returns-clause-answer : goal.returns-clause-answer
 returns-clause-answer g c =
@@ -31,5 +31,5 @@ returns-clause-answer g c =
 
 pub returns-clause-run : goal.returns-clause-run
 returns-clause-run g c =
-    rolled_run g.row.R c.args.k (journal c.args.self.now) (journal c.undo_closure.new.self) c.undo_closure.ensures.records
-    c.undo_closure.ensures.start (is_session c.undo_closure.new.self).runs
+    rolled_run g.row.R c.args.k (journal c.args.self.now) (journal c.roll_back.new.self) c.roll_back.ensures.records
+    c.roll_back.ensures.start (is_session c.roll_back.new.self).runs

@@ -4,11 +4,11 @@ use Rattle.rd_step.specs.declared.entries.Entry.{Entry}
 use Rattle.rd_depend.specs.Index.{IsIndexOf}
 use Rattle.rd_depend.specs.Moved.{moved_behind}
 use Rattle.rd_journal.specs.Records.{kept_records}
-use Rattle.rd_journal.specs.Moves.{IsTakenOutAt}
+use Rattle.rd_journal.specs.Moves.{IsUndoneAlone}
 use Rattle.rd_journal.specs.Kept.{whole_journal, with_undone}
 use Rattle.rd_journal.specs.Sessions.{journal}
 use Rattle.rd_journal.proofs.Ahead.{out_undone}
-use Rattle.rd_journal.proofs.LoneUndo.{IsNumber, may_undo_at, one_out_state, taken_out_front, taken_out_few}
+use Rattle.rd_journal.proofs.LoneUndo.{IsNumber, may_undo_at, undone_alone_state, taken_out_front, taken_out_few}
 use Rattle.rd_journal.proofs.RoomLemmas.{given_back}
 use Rattle.rd_journal.proofs.sessions.Session.undo_alone.Goals as goal
 
@@ -24,10 +24,10 @@ pub invariant_of-self : goal.invariant_of-self
 invariant_of-self g c =
     let self = c.args.self.now in
     let old = whole_journal (model self.world) self.records in
-    let new = whole_journal (model c.unstep.new.world) c.take_out.new.self in
+    let new = whole_journal (model c.unstep.new.world) c.undo_alone.new.self in
     let x = c.live_at.result.now in
     let at : IsNumber old.live c.args.k x = record { some = c.requires.some; within = c.requires.position; here = c.live_at.ensures } in
-    let moved : IsTakenOutAt c.args.k old new = record { live = c.take_out.ensures.live; undone = c.take_out.ensures.ahead } in
+    let moved : IsUndoneAlone c.args.k old new = record { live = c.undo_alone.ensures.live; undone = c.undo_alone.ensures.ahead } in
     let may = may_undo_at g.row.R old c.args.k x at c.requires.free self.kept.runs in
     let front = taken_out_front c.args.k old new x at moved in
     record {
@@ -39,7 +39,7 @@ invariant_of-self g c =
       within = omega (arith, self.within, ap length front);
       indexed =
           subst (λ (es : List Entry). IsIndexOf c.move_behind.new.self es)
-          (ap (λ (n : ℕ). moved_behind (kept_records self.records) c.args.k n) c.live_len.ensures ∙ sym c.take_out.ensures.kept)
+          (ap (λ (n : ℕ). moved_behind (kept_records self.records) c.args.k n) c.live_len.ensures ∙ sym c.undo_alone.ensures.kept)
           (c.move_behind.ensures.moved (kept_records self.records) self.indexed);
     }
 
@@ -47,17 +47,17 @@ pub returns-clause-records : goal.returns-clause-records
 returns-clause-records g c =
     let self = c.args.self.now in
     let old = whole_journal (model self.world) self.records in
-    let new = whole_journal (model c.unstep.new.world) c.take_out.new.self in
-    out_undone self.undone c.args.k old new c.requires.some c.requires.position (record { live = c.take_out.ensures.live; undone = c.take_out.ensures.ahead })
+    let new = whole_journal (model c.unstep.new.world) c.undo_alone.new.self in
+    out_undone self.undone c.args.k old new c.requires.some c.requires.position (record { live = c.undo_alone.ensures.live; undone = c.undo_alone.ensures.ahead })
 
 pub returns-clause-state : goal.returns-clause-state
 returns-clause-state g c =
     let self = c.args.self.now in
     let old = whole_journal (model self.world) self.records in
-    let new = whole_journal (model c.unstep.new.world) c.take_out.new.self in
+    let new = whole_journal (model c.unstep.new.world) c.undo_alone.new.self in
     let x = c.live_at.result.now in
     let at : IsNumber old.live c.args.k x = record { some = c.requires.some; within = c.requires.position; here = c.live_at.ensures } in
-    let moved : IsTakenOutAt c.args.k old new = record { live = c.take_out.ensures.live; undone = c.take_out.ensures.ahead } in
+    let moved : IsUndoneAlone c.args.k old new = record { live = c.undo_alone.ensures.live; undone = c.undo_alone.ensures.ahead } in
     let may = may_undo_at g.row.R old c.args.k x at c.requires.free self.kept.runs in
-    one_out_state c.args.k (journal self) (with_undone (self.undone + 1) new) (out_undone self.undone c.args.k old new c.requires.some c.requires.position moved)
+    undone_alone_state c.args.k (journal self) (with_undone (self.undone + 1) new) (out_undone self.undone c.args.k old new c.requires.some c.requires.position moved)
     (may.start new (c.unstep.ensures.taken_out may.was) moved)

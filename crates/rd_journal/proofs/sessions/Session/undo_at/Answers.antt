@@ -2,7 +2,7 @@ use Rattle.std.proofs.Common.{◌≡◌, ◌≤◌, ◌∙◌, Some, None, Ok, l
 use Rattle.rd_step.specs.Prelude.{first_dependant}
 use Rattle.rd_journal.specs.Moves.{answer_unless}
 use Rattle.rd_journal.specs.Sessions.{journal, state}
-use Rattle.rd_journal.specs.State.{State, one_out_unless}
+use Rattle.rd_journal.specs.State.{State, undone_alone_unless}
 use Rattle.rd_journal.proofs.Ahead.{is_session}
 use Rattle.rd_journal.proofs.LoneUndo.{answer_missing, undo_at_missing, answer_there, undo_at_there, without_it}
 use Rattle.rd_journal.proofs.sessions.Session.undo_at.Goals as goal
@@ -32,7 +32,7 @@ returns-in-Some-clause-err g c =
     let within : c.args.k ≤ length old.live = omega (arith, c.len-len.ensures.records) in
     let first : first_dependant old.live c.args.k ≡ Some c.in-Some.dependant =
     sym c.in-Some.ensures in
-    undo_at_there g.row.R old c.args.k (is_session c.args.self.now).runs (omega arith) within ∙ ap (one_out_unless (state c.args.self.now) c.args.k) first
+    undo_at_there g.row.R old c.args.k (is_session c.args.self.now).runs (omega arith) within ∙ ap (undone_alone_unless (state c.args.self.now) c.args.k) first
 
 pub undo_alone-requires : goal.undo_alone-requires
 undo_alone-requires g c = (
@@ -53,7 +53,7 @@ returns-clause-ok g c =
     let first : first_dependant old.live c.args.k ≡ None =
     sym c.first_dependant.ensures ∙ c.in_default.is in
     undo_at_there g.row.R old c.args.k (is_session c.args.self.now).runs (omega arith) within
-    ∙ ap (one_out_unless (state c.args.self.now) c.args.k) first ∙ ap (λ (s : State). Ok s) (sym c.undo_alone.ensures.state)
+    ∙ ap (undone_alone_unless (state c.args.self.now) c.args.k) first ∙ ap (λ (s : State). Ok s) (sym c.undo_alone.ensures.state)
 
 pub returns-clause-answer : goal.returns-clause-answer
 returns-clause-answer g c =

@@ -8,7 +8,7 @@ use Rattle.rd_journal.specs.State.{undo_at}
 use Rattle.rd_marks.specs.BookViews.{book_state}
 use Rattle.rd_marks.specs.Kept.{lists_in, here_in}
 use Rattle.rd_marks.proofs.AnswerLemmas.{move_answered_with}
-use Rattle.rd_marks.proofs.Here.{after_out, one_out_leaves, undone_within}
+use Rattle.rd_marks.proofs.Here.{after_out, undone_alone_leaves, undone_within}
 use Rattle.rd_marks.proofs.Starts.{undo_at_start, start_stays, runs_stay}
 use Rattle.rd_marks.proofs.books.Book.answer_undo_at.Goals as goal
 
@@ -28,7 +28,7 @@ invariant_of-self g c =
           (events (ahead_records book.session.records)) (events (ahead_records c.undo_at-done.new.self.records)) book.stands
           c.cut_back.ensures.short c.undo_at-done.ensures.track c.undo_at-done.ensures.ok
           (λ done. let there = undone_within g.row.R old c.args.k _ done in omega (arith, there, len)) c.undo_at-done.ensures.records
-          (one_out_leaves c.args.k n (journal book.session) (journal c.undo_at-done.new.self) c.saturating_sub.ensures);
+          (undone_alone_leaves c.args.k n (journal book.session) (journal c.undo_at-done.new.self) c.saturating_sub.ensures);
     }
 
 pub returns : goal.returns

@@ -3,7 +3,7 @@ use Rattle.rd_step.specs.Prelude.{first_dependant}
 use Rattle.rd_journal.specs.Sessions.{journal}
 use Rattle.rd_journal.specs.State.{State}
 use Rattle.rd_journal.proofs.Closures.{alone, alone_rolled}
-use Rattle.rd_journal.proofs.sessions.Session.undo_closure.Goals as goal
+use Rattle.rd_journal.proofs.sessions.Session.roll_back.Goals as goal
 
 pub returns-in-None-clause-records : goal.returns-in-None-clause-records
 returns-in-None-clause-records g c =

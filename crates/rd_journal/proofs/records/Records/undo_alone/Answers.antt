@@ -6,7 +6,7 @@ use Rattle.rd_journal.specs.Records.{all_records, live_records, ahead_records}
 use Rattle.rd_journal.proofs.ListLemmas.{behind_before, moved_behind-length}
 use Rattle.rd_journal.proofs.Numbers.{at-moved_behind, count-moved_behind, order_below, order_moved}
 use Rattle.rd_journal.proofs.RecordLemmas.{all-length, live-length, taken_out, moved_among}
-use Rattle.rd_journal.proofs.records.Records.take_out.Goals as goal
+use Rattle.rd_journal.proofs.records.Records.undo_alone.Goals as goal
 
 pub invariant_of-self : goal.invariant_of-self
 invariant_of-self c =
