@@ -21,6 +21,7 @@ use rd_segments::ArrayParts;
 use rd_step::{Entry, Event, Flaw, Parts, Unassembled, World};
 use std::alloc::{AllocError, Global};
 use std::test::Fail;
+use test_kit::go;
 
 /// The step of the first actor.
 const GO: Event = Event {
@@ -154,15 +155,12 @@ fn parts(alloc: Global, actor: Actor, puts: &[Put]) -> Result<Parts<4>, AllocErr
     for (place, content) in puts {
         put(&mut places, *place, *content);
     }
-    let roots = Vec::from_array(alloc, [places.root])?;
     let made = Vec::from_array(alloc, [ring()])?;
-    Ok(Parts {
-        actors: Vec::from_array(alloc, [actor])?,
-        segments: Vec::from_array(alloc, [roots, made])?,
-        qhead: places.qhead,
-        qtail: places.qtail,
-        array: places.array,
-    })
+    let mut parts = test_kit::parts(alloc, actor, places.root, made)?;
+    parts.qhead = places.qhead;
+    parts.qtail = places.qtail;
+    parts.array = places.array;
+    Ok(parts)
 }
 
 /// A fresh ring.
@@ -187,14 +185,6 @@ const EMPTY_1: Cell = Cell { idx: 1, ..EMPTY_0 };
 const EMPTY_2: Cell = Cell { idx: 2, ..EMPTY_0 };
 
 const EMPTY_3: Cell = Cell { idx: 3, ..EMPTY_0 };
-
-/// The step of this actor.
-fn go(actor: u8) -> Event {
-    Event {
-        actor,
-        act: Act::Go,
-    }
-}
 
 /// An open tail with this count.
 fn open(count: u64) -> Content {

@@ -4,11 +4,11 @@ use rd_command_line::{OptionsFault, Outcome, not_text, perform};
 use rd_script::{ReadSource, WriteSink};
 use std::alloc::Global;
 use std::fs::Files;
-use std::io;
 use std::process::ExitCode;
 use std::sync::Wait;
 use std::test::Fail;
 use std::thread::Threads;
+use test_kit::BrokenWriter;
 
 /// What an end leaves.
 #[derive(Drop)]
@@ -128,20 +128,6 @@ fn a_view_of_missing_files_leaves_the_output(rt: HostRuntime) -> Result<(), Fail
         assert_eq!(rt; left.errors.as_slice(), errors.as_bytes(), "{files}");
     }
     Ok(())
-}
-
-/// Fails at each write.
-#[derive(Drop)]
-struct BrokenWriter;
-
-impl io::Write for BrokenWriter {
-    fn write(&mut self, _buf: &[u8]) -> io::Result<usize> {
-        Err(io::Error::from(io::ErrorKind::BrokenPipe))
-    }
-
-    fn flush(&mut self) -> io::Result<()> {
-        Err(io::Error::from(io::ErrorKind::BrokenPipe))
-    }
 }
 
 #[test]

@@ -1,13 +1,14 @@
 //! Events at the ends of counters, of a maker's segments and of the array: refused through a
 //! session and through a book, with nothing changed.
 
-use rd_actor::{Act, Actor, Op, Pc};
-use rd_cell::{Cell, Refusal, SegName};
+use rd_actor::{Actor, Op, Pc};
+use rd_cell::{Cell, Refusal};
 use rd_journal::Session;
 use rd_marks::{Book, Command};
-use rd_step::{ArrayParts, Event, Parts, SegmentParts, World};
+use rd_step::{Parts, SegmentParts, World};
 use std::alloc::{AllocError, Global};
 use std::test::Fail;
+use test_kit::go;
 
 /// The end of the counters.
 const END: u64 = 1 << 62;
@@ -25,25 +26,12 @@ const RING: SegmentParts<1> = SegmentParts {
     }; 1],
 };
 
-/// A ring whose tail is at the end.
-const FULL_RING: SegmentParts<1> = SegmentParts {
-    head: 0,
-    tail: END,
-    closed: false,
-    next: None,
-    cells: [Cell {
-        safe: true,
-        idx: 0,
-        val: None,
-    }; 1],
-};
-
 /// A world whose one actor is where its next step is at an end.
 #[derive(Clone, Copy, Debug)]
 struct End {
     pc: Pc,
     op: Op,
-    root: SegmentParts<1>,
+    tail: u64,
     made: u32,
     array_tail: u64,
     refusal: Refusal,
@@ -53,7 +41,7 @@ const ENDS: [End; 3] = [
     End {
         pc: Pc::E4,
         op: Op::Enq(7),
-        root: FULL_RING,
+        tail: END,
         made: 0,
         array_tail: 0,
         refusal: Refusal::CounterEnd,
@@ -61,7 +49,7 @@ const ENDS: [End; 3] = [
     End {
         pc: Pc::E12,
         op: Op::Enq(7),
-        root: RING,
+        tail: 0,
         made: 65_535,
         array_tail: 0,
         refusal: Refusal::SegmentsEnd,
@@ -69,7 +57,7 @@ const ENDS: [End; 3] = [
     End {
         pc: Pc::A1,
         op: Op::AEnq(7),
-        root: RING,
+        tail: 0,
         made: 0,
         array_tail: 64,
         refusal: Refusal::ArrayEnd,
@@ -78,19 +66,15 @@ const ENDS: [End; 3] = [
 
 /// The parts of that world.
 fn parts(alloc: Global, end: End) -> Result<Parts<1>, AllocError> {
-    let mut list = Vec::new(alloc);
+    let mut made = Vec::new(alloc);
     for _ in 0..end.made {
-        list.push(RING)?;
+        made.push(RING)?;
     }
-    let mut array = ArrayParts::fresh();
-    array.tail = end.array_tail;
-    Ok(Parts {
-        actors: Vec::from_array(alloc, [Actor::calling(end.pc, end.op)])?,
-        segments: Vec::from_array(alloc, [Vec::from_array(alloc, [end.root])?, list])?,
-        qhead: SegName::ROOT,
-        qtail: SegName::ROOT,
-        array,
-    })
+    let mut root = RING;
+    root.tail = end.tail;
+    let mut parts = test_kit::parts(alloc, Actor::calling(end.pc, end.op), root, made)?;
+    parts.array.tail = end.array_tail;
+    Ok(parts)
 }
 
 #[test]
@@ -98,11 +82,7 @@ fn a_step_at_an_end_is_refused_by_session_and_book(rt: HostRuntime) -> Result<()
     for end in ENDS {
         let world = World::assemble(rt.alloc(), parts(rt.alloc(), end)?)?;
         let mut session = Session::open(rt.alloc(), world);
-        let event = Event {
-            actor: 1,
-            act: Act::Go,
-        };
-        assert_eq!(rt; session.apply(event), Err(end.refusal), "{end:?}");
+        assert_eq!(rt; session.apply(go(1)), Err(end.refusal), "{end:?}");
         let mut book = Book::open(rt.alloc(), session);
         assert_eq!(rt; book.obey(Command::Go(1)), Err(end.refusal), "{end:?}");
         let session = book.session();

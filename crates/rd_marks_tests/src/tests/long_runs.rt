@@ -4,35 +4,16 @@
 ghost use Rattle.std.specs.Prelude.{◌≤◌};
 ghost use Rattle.rd_step.specs.Prelude.{MOST_CELLS};
 
-use rd_actor::Pc;
 use rd_cell::{Place, Refusal};
 use rd_journal::Session;
 use rd_marks::{Book, Command, MarkName, Reply};
 use rd_step::World;
 use std::alloc::Global;
 use std::test::Fail;
+use test_kit::{drawn_event, next};
 
 /// How many commands a run has.
 const COMMANDS: u64 = 300;
-
-/// The next number of a fixed sequence that looks like chance.
-fn next(number: u64) -> u64 {
-    number
-        .wrapping_mul(6_364_136_223_846_793_005)
-        .wrapping_add(1_442_695_040_888_963_407)
-}
-
-/// An event of an actor that is at this control point, as the number has it.
-fn event(pc: Pc, actor: u8, number: u64) -> Command {
-    match (pc, (number >> 40) % 5) {
-        (Pc::Idle, 0 | 1) => Command::Enq(actor, number >> 50),
-        (Pc::Idle, 2) => Command::Deq(actor),
-        (Pc::Idle, 3) => Command::ArrayEnq(actor, number >> 50),
-        (Pc::Idle, _) => Command::ArrayDeq(actor),
-        (Pc::E10, chance) => Command::Starve(actor, chance == 0),
-        _ => Command::Go(actor),
-    }
-}
 
 /// A command on one of four bookmarks, as the number has it.
 fn on_bookmarks(number: u64) -> Result<Command, Refusal> {
@@ -71,9 +52,8 @@ fn command<const R: usize>(book: &Book<R>, actors: u8, number: u64) -> Result<Co
         0 | 1 | 2 => on_bookmarks(number),
         3 | 4 | 5 | 6 => Ok(on_steps(book.session().len(), number)),
         _ => {
-            let actor = ((number >> 48) % actors as u64) as u8 + 1;
-            let stands = book.session().world().actor(actor);
-            Ok(event(stands.map_or(Pc::Idle, |words| words.pc), actor, number))
+            let event = drawn_event(book.session().world(), actors, number);
+            Ok(Command::of_event(event))
         }
     }
 }

@@ -5,9 +5,10 @@ use rd_actor::{Act, Actor, OpReply};
 use rd_cell::{Cell, Place, Refusal, SegName};
 use rd_journal::Session;
 use rd_origin::Origin;
-use rd_step::{ArrayParts, Parts, SegmentParts, World};
+use rd_step::{Parts, SegmentParts, World};
 use std::alloc::{AllocError, Global};
 use std::test::Fail;
+use test_kit::parts;
 
 const ROOT: SegName = SegName::ROOT;
 
@@ -194,14 +195,7 @@ fn holding_7(alloc: Global) -> Result<Parts<4>, AllocError> {
             cell(3, None),
         ],
     };
-    let roots = Vec::from_array(alloc, [root])?;
-    Ok(Parts {
-        actors: Vec::from_array(alloc, [Actor::idle()])?,
-        segments: Vec::from_array(alloc, [roots, Vec::new(alloc)])?,
-        qhead: ROOT,
-        qtail: ROOT,
-        array: ArrayParts::fresh(),
-    })
+    parts(alloc, Actor::idle(), root, Vec::new(alloc))
 }
 
 /// A safe cell of this index and value.

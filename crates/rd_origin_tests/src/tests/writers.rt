@@ -1,13 +1,13 @@
 //! Last writers, of all places, against a scan of the live steps, in a session in which steps are
 //! made, undone, taken out, rolled back and redone as it is drawn.
 
-use rd_actor::{Act, Pc};
 use rd_cell::{Place, Refusal, SegName, overlaps};
 use rd_journal::Session;
 use rd_origin::last_writer;
-use rd_step::{Event, World};
+use rd_step::World;
 use std::process::Abort;
 use std::test::Fail;
+use test_kit::{drawn_event, next};
 
 const ROOT: SegName = SegName::ROOT;
 
@@ -67,36 +67,10 @@ fn compare(rt: &impl Abort, session: &Session<2>) {
     }
 }
 
-/// The next number of a fixed sequence that looks like chance.
-fn next(number: u64) -> u64 {
-    number
-        .wrapping_mul(6_364_136_223_846_793_005)
-        .wrapping_add(1_442_695_040_888_963_407)
-}
-
-/// What an actor that is here may do, as the number has it.
-fn choice(pc: Pc, number: u64) -> Act {
-    match (pc, (number >> 40) % 5) {
-        (Pc::Idle, 0 | 1) => Act::Enq(number >> 50),
-        (Pc::Idle, 2) => Act::Deq,
-        (Pc::Idle, 3) => Act::AEnq(number >> 50),
-        (Pc::Idle, _) => Act::ADeq,
-        (Pc::E10, chance) => Act::Starve(chance == 0),
-        _ => Act::Go,
-    }
-}
-
 /// Makes a step by one of four actors, as the number has it.
 fn step(session: &mut Session<2>, number: u64) -> Result<(), Refusal> {
-    let actor = ((number >> 33) % 4) as u8 + 1;
-    let pc = session
-        .world()
-        .actor(actor)
-        .map_or(Pc::Idle, |words| words.pc);
-    session.apply(Event {
-        actor,
-        act: choice(pc, number),
-    })?;
+    let event = drawn_event(session.world(), 4, number);
+    session.apply(event)?;
     Ok(())
 }
 

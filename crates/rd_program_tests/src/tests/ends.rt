@@ -8,8 +8,8 @@ use rd_step::Flaw;
 use rd_trace::{LoadTraceFault, WriteTraceFault};
 use rd_view::ViewFault;
 use std::alloc::Global;
-use std::io;
 use std::process::{Abort, ExitCode};
+use test_kit::BrokenWriter;
 
 /// Ends after each fault, and compares the status with 1 and what is written to standard error.
 fn faults_are(rt: &impl Abort, alloc: Global, rows: &[(ProgramFault, &str)]) {
@@ -94,20 +94,6 @@ fn a_run_that_came_to_its_end_has_status_0_and_no_line(rt: HostRuntime) {
     let status = end(&Ok(7), &mut WriteSink::new(&mut errors));
     assert_eq!(rt; status, ExitCode::SUCCESS);
     assert!(rt; errors.is_empty());
-}
-
-/// Fails at each write.
-#[derive(Drop)]
-struct BrokenWriter;
-
-impl io::Write for BrokenWriter {
-    fn write(&mut self, _buf: &[u8]) -> io::Result<usize> {
-        Err(io::Error::from(io::ErrorKind::BrokenPipe))
-    }
-
-    fn flush(&mut self) -> io::Result<()> {
-        Err(io::Error::from(io::ErrorKind::BrokenPipe))
-    }
 }
 
 #[test]

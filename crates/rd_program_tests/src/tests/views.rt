@@ -4,12 +4,12 @@ use rd_program::{ProgramFault, Setup, view};
 use rd_script::WriteSink;
 use rd_trace::Ring;
 use rd_view::ViewFault;
-use std::alloc::{AllocError, Global};
-use std::io;
+use std::alloc::Global;
 use std::process::Abort;
 use std::sync::Wait;
 use std::test::Fail;
 use std::thread::Threads;
+use test_kit::{BrokenWriter, bytes_of};
 
 /// Scripts and the text of their view, which is the same in whatever order the viewers' calls come.
 #[derive(Drop)]
@@ -19,15 +19,6 @@ struct View {
     scripts: &'static [&'static str],
     text: &'static str,
     calls: u64,
-}
-
-/// The bytes of each script.
-fn bytes_of(alloc: Global, scripts: &[&str]) -> Result<Vec<Vec<u8>>, AllocError> {
-    let mut bytes = Vec::new(alloc);
-    for script in scripts {
-        bytes.push(Vec::from_slice(alloc, script.as_bytes())?)?;
-    }
-    Ok(bytes)
 }
 
 /// Views the scripts and compares what is written, and the number of recorded calls.
@@ -128,20 +119,6 @@ fn there_may_be_64_viewers(rt: HostRuntime) -> Result<(), Fail> {
             .ends_with(b"viewer 64\nat 0 0\nhistory 64\n")
     );
     Ok(())
-}
-
-/// Fails at each write.
-#[derive(Drop)]
-struct BrokenWriter;
-
-impl io::Write for BrokenWriter {
-    fn write(&mut self, _buf: &[u8]) -> io::Result<usize> {
-        Err(io::Error::from(io::ErrorKind::BrokenPipe))
-    }
-
-    fn flush(&mut self) -> io::Result<()> {
-        Err(io::Error::from(io::ErrorKind::BrokenPipe))
-    }
 }
 
 #[test]

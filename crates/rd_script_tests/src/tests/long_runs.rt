@@ -9,55 +9,7 @@ use rd_script::{ReadSource, WriteSink, lines, run};
 use std::alloc::Global;
 use std::process::Abort;
 use std::test::Fail;
-
-/// How many lines a long script has.
-const LINES: u64 = 300;
-
-/// The next number of a fixed sequence that looks like chance.
-fn next(number: u64) -> u64 {
-    number
-        .wrapping_mul(6_364_136_223_846_793_005)
-        .wrapping_add(1_442_695_040_888_963_407)
-}
-
-/// Puts a line of a kind after a script: `A` stands for an actor, `K` for a number, and `N` for the
-/// number in a bookmark's name. Which ones they are is as the number has it.
-fn put_line(script: &mut String, kind: &str, actors: u64, number: u64) -> Result<(), Fail>
-    requires { 1 ≤ actors }
-{
-    for letter in kind.chars() {
-        let shown = match letter {
-            'A' => (number >> 33) % actors + 1,
-            'K' => (number >> 43) % 60,
-            'N' => (number >> 53) % 4,
-            _ => {
-                script.push(letter)?;
-                continue;
-            }
-        };
-        write!(script, "{shown}")?;
-    }
-    script.push('\n')?;
-    Ok(())
-}
-
-/// A script of lines of these kinds for this many actors, in which each second line or so is a
-/// step.
-fn long_script(alloc: Global, kinds: &[&str], actors: u64) -> Result<String, Fail>
-    requires { 1 ≤ actors }
-{
-    let mut script = String::new(alloc);
-    let mut number = actors;
-    for _ in 0..LINES {
-        number = next(number);
-        let kind = match kinds.get((number >> 58) as usize) {
-            Some(kind) => *kind,
-            None => "go A",
-        };
-        put_line(&mut script, kind, actors, number)?;
-    }
-    Ok(script)
-}
+use test_kit::long_script;
 
 /// Runs a script over a fresh world of this many actors: no line is refused memory.
 fn has_memory<const R: usize>(
@@ -79,7 +31,7 @@ fn has_memory<const R: usize>(
     );
     let report = str::from_utf8(&report)?;
     assert!(rt;
-        lines == Ok(LINES) && !report.contains("NoMemory"),
+        lines == Ok(300) && !report.contains("NoMemory"),
         "{actors} actors, rings of {R}"
     );
     Ok(())
@@ -89,7 +41,7 @@ fn has_memory<const R: usize>(
 /// cells: no line is refused memory.
 fn have_memory(rt: &impl Abort, alloc: Global, kinds: &[&str]) -> Result<(), Fail> {
     for actors in 1..17 {
-        let script = long_script(alloc, kinds, u64::from(actors))?;
+        let script = long_script(alloc, kinds, 64, u64::from(actors))?;
         has_memory::<2>(rt, alloc, &script, actors)?;
         has_memory::<4>(rt, alloc, &script, actors)?;
         has_memory::<8>(rt, alloc, &script, actors)?;

@@ -134,24 +134,6 @@ fn root<const R: usize>(changed: Changed) -> SegmentParts<R>
     }
 }
 
-/// The parts of a world of this actor and this root.
-fn parts_with<const R: usize>(
-    alloc: Global,
-    actor: Actor,
-    root: SegmentParts<R>,
-) -> Result<Parts<R>, AllocError>
-    requires { R ≤ MOST_CELLS }
-{
-    let roots = Vec::from_array(alloc, [root])?;
-    Ok(Parts {
-        actors: Vec::from_array(alloc, [actor])?,
-        segments: Vec::from_array(alloc, [roots, Vec::new(alloc)])?,
-        qhead: ROOT,
-        qtail: ROOT,
-        array: ArrayParts::fresh(),
-    })
-}
-
 /// Adds idle actors, each with an empty list of segments, up to this number of actors.
 fn add_actors<const R: usize>(
     alloc: Global,
@@ -187,7 +169,7 @@ fn flaw_if<const R: usize>(alloc: Global, changed: Changed) -> Result<Option<Fla
     requires few { R ≤ MOST_CELLS }
 {
     let actor = changed_actor(changed, END + R as u64);
-    let mut parts = parts_with(alloc, actor, root::<R>(changed))?;
+    let mut parts = test_kit::parts(alloc, actor, root::<R>(changed), Vec::new(alloc))?;
     match changed {
         Changed::Actors(count) => add_actors(alloc, &mut parts, count)?,
         Changed::QueueHead(n) => parts.qhead = segment(n),

@@ -88,13 +88,7 @@ fn makers(alloc: Global, made: u32) -> Result<Parts<1>, AllocError> {
     for _ in 0..made {
         list.push(ring)?;
     }
-    Ok(Parts {
-        actors: Vec::from_array(alloc, [actor_at(Pc::E12, Some(Op::Enq(7)), &[])])?,
-        segments: Vec::from_array(alloc, [Vec::from_array(alloc, [ring])?, list])?,
-        qhead: ROOT,
-        qtail: ROOT,
-        array: ArrayParts::fresh(),
-    })
+    test_kit::parts(alloc, actor_at(Pc::E12, ENQ, &[]), ring, list)
 }
 
 #[test]

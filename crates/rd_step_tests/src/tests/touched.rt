@@ -1,8 +1,8 @@
 //! What the record of a step says that the step touched, by examples.
 
-use rd_actor::{Act, Actor};
-use rd_cell::{Answer, Cell, Content, Place, SegName, Wrote};
-use rd_step::{Entry, Event};
+use rd_cell::{Cell, Content, Place, SegName, Wrote};
+use rd_step::Entry;
+use test_kit::record;
 
 /// A record, by what matters of it, and what it says.
 #[derive(Clone, Copy)]
@@ -70,16 +70,8 @@ const ROWS: [Row; 5] = [
 fn a_record_says_what_its_step_wrote_and_made(rt: HostRuntime) {
     for row in ROWS {
         let entry = Entry {
-            event: Event {
-                actor: 2,
-                act: Act::Go,
-            },
-            place: row.place,
-            wrote: row.wrote,
-            answer: Answer::Nothing,
-            reply: None,
-            old_actor: Actor::idle(),
             old_content: row.old_content,
+            ..record((2, row.place, row.wrote))
         };
         assert_eq!(rt; entry.written(), row.written, "{entry:?}");
         assert_eq!(rt; entry.made(), row.made, "{entry:?}");

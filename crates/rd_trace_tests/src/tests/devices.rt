@@ -4,34 +4,9 @@ use super::played;
 use rd_script::WriteSink;
 use rd_trace::{WriteTraceFault, write_trace};
 use std::alloc::Global;
-use std::io;
-use std::io::Write;
 use std::process::Abort;
 use std::test::Fail;
-
-/// Takes a few bytes a call, this many times; the calls after them fail.
-#[derive(Drop)]
-struct TestWriter<'a> {
-    taken: &'a mut Vec<u8>,
-    good_writes: u64,
-    most: usize,
-}
-
-impl<'a> Write for TestWriter<'a> {
-    fn write(&mut self, buf: &[u8]) -> io::Result<usize> {
-        if self.good_writes == 0 {
-            return Err(io::Error::from(io::ErrorKind::BrokenPipe));
-        }
-        self.good_writes -= 1;
-        let count = buf.len().min(self.most);
-        self.taken.extend_from_slice(&buf[..count])?;
-        Ok(count)
-    }
-
-    fn flush(&mut self) -> io::Result<()> {
-        Ok(())
-    }
-}
+use test_kit::{End, Limit, PageWriter};
 
 /// The trace of one event.
 const TRACE: &[u8] =
@@ -42,16 +17,17 @@ const TRACE: &[u8] =
 fn writes_are(
     rt: &impl Abort,
     alloc: Global,
-    rows: &[(u64, usize, Result<(), WriteTraceFault>, usize)],
+    rows: &[(usize, usize, Result<(), WriteTraceFault>, usize)],
 ) -> Result<(), Fail> {
     let book = played::<2>(alloc, &[("deq 1\n", 1)])?;
     for (good_writes, most, answer, len) in rows {
         let mut taken = Vec::new(alloc);
-        let writer = TestWriter {
-            taken: &mut taken,
-            good_writes: *good_writes,
+        let limit = Limit {
+            calls: *good_writes,
             most: *most,
+            end: End::Fails,
         };
+        let writer = PageWriter::that_ends(&mut taken, limit);
         let said = write_trace(alloc, &mut WriteSink::new(writer), &book);
         let began = TRACE.get(..*len) == Some(taken.as_slice());
         assert!(rt; said == *answer && began, "{good_writes} writes of {most}");

@@ -9,50 +9,7 @@ use rd_trace::{Ring, load_trace};
 use std::alloc::Global;
 use std::process::Abort;
 use std::test::Fail;
-
-/// The next number of a fixed sequence that looks like chance.
-fn next(number: u64) -> u64 {
-    number
-        .wrapping_mul(6_364_136_223_846_793_005)
-        .wrapping_add(1_442_695_040_888_963_407)
-}
-
-/// Puts a line of a kind after a script: `A` stands for an actor, and `K` for a number. Which ones
-/// they are is as the number has it.
-fn put_line(script: &mut String, kind: &str, actors: u64, number: u64) -> Result<(), Fail>
-    requires { 1 ≤ actors }
-{
-    for letter in kind.chars() {
-        let shown = match letter {
-            'A' => (number >> 33) % actors + 1,
-            'K' => (number >> 43) % 60,
-            _ => {
-                script.push(letter)?;
-                continue;
-            }
-        };
-        write!(script, "{shown}")?;
-    }
-    script.push('\n')?;
-    Ok(())
-}
-
-/// A script of 300 lines of these kinds for this many actors, of which most are steps.
-fn long_script(alloc: Global, kinds: &[&str], actors: u64) -> Result<String, Fail>
-    requires { 1 ≤ actors }
-{
-    let mut script = String::new(alloc);
-    let mut number = actors;
-    for _ in 0..300 {
-        number = next(number);
-        let kind = match kinds.get((number >> 59) as usize) {
-            Some(kind) => *kind,
-            None => "go A",
-        };
-        put_line(&mut script, kind, actors, number)?;
-    }
-    Ok(script)
-}
+use test_kit::long_script;
 
 /// The text that is written of a book.
 fn trace_of(alloc: Global, book: &AnyBook) -> Result<Vec<u8>, Fail> {
@@ -105,7 +62,7 @@ fn comes_back(
 /// Runs a long script of lines of these kinds for each number of actors over each ring.
 fn come_back(rt: &impl Abort, alloc: Global, kinds: &[&str]) -> Result<(), Fail> {
     for actors in 1..17 {
-        let script = long_script(alloc, kinds, u64::from(actors))?;
+        let script = long_script(alloc, kinds, 32, u64::from(actors))?;
         comes_back(rt, alloc, &script, Ring::Two, actors)?;
         comes_back(rt, alloc, &script, Ring::Four, actors)?;
         comes_back(rt, alloc, &script, Ring::Eight, actors)?;

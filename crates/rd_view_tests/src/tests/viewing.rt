@@ -6,20 +6,12 @@ use rd_marks::Book;
 use rd_script::WriteSink;
 use rd_step::World;
 use rd_view::view_scripts;
-use std::alloc::{AllocError, Global};
+use std::alloc::Global;
 use std::process::Abort;
 use std::sync::Wait;
 use std::test::Fail;
 use std::thread::Threads;
-
-/// The bytes of each script.
-fn bytes_of(alloc: Global, scripts: &[&str]) -> Result<Vec<Vec<u8>>, AllocError> {
-    let mut bytes = Vec::new(alloc);
-    for script in scripts {
-        bytes.push(Vec::from_slice(alloc, script.as_bytes())?)?;
-    }
-    Ok(bytes)
-}
+use test_kit::bytes_of;
 
 /// A book over the fresh world of four actors.
 fn fresh(alloc: Global) -> Result<Book<4>, Refusal> {

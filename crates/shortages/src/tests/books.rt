@@ -6,95 +6,22 @@ use std::process::Abort;
 
 /// Two actors that race to put a new ring behind a full one, over rings of two cells, and undos
 /// among their steps. Then bookmarks, calls on the array, and queries.
-const RACE: &[&[u8]] = &[
-    b"enq 1 7",
-    b"go 1",
-    b"go 1",
-    b"go 1",
-    b"go 1",
-    b"go 1",
-    b"go 1",
-    b"enq 1 8",
-    b"go 1",
-    b"go 1",
-    b"go 1",
-    b"go 1",
-    b"go 1",
-    b"go 1",
-    b"mark full",
-    b"enq 1 9",
-    b"go 1",
-    b"go 1",
-    b"enq 2 10",
-    b"go 2",
-    b"go 2",
-    b"go 1",
-    b"go 1",
-    b"go 1",
-    b"go 1",
-    b"go 1",
-    b"go 2",
-    b"go 1",
-    b"go 2",
-    b"undo 27",
-    b"redo",
-    b"go 2",
-    b"go 1",
-    b"mark race",
-    b"undo",
-    b"undo 28",
-    b"back 3",
-    b"forward 2",
-    b"roll 26",
-    b"deq 3",
-    b"go 3",
-    b"mark third",
-    b"same race third",
-    b"same race full",
-    b"goto full",
-    b"same race third",
-    b"goto race",
-    b"drop race",
-    b"goto third",
-    b"aenq 4 5",
-    b"go 4",
-    b"go 4",
-    b"adeq 4",
-    b"marks",
-    b"origin 3",
-    b"writer qtail",
-];
+const RACE: &str = "\
+    enq 1 7\ngo 1\ngo 1\ngo 1\ngo 1\ngo 1\ngo 1\nenq 1 8\ngo 1\ngo 1\ngo 1\ngo 1\ngo 1\ngo 1\n\
+    mark full\nenq 1 9\ngo 1\ngo 1\nenq 2 10\ngo 2\ngo 2\ngo 1\ngo 1\ngo 1\ngo 1\ngo 1\ngo 2\n\
+    go 1\ngo 2\nundo 27\nredo\ngo 2\ngo 1\nmark race\nundo\nundo 28\nback 3\nforward 2\nroll 26\n\
+    deq 3\ngo 3\nmark third\nsame race third\nsame race full\ngoto full\nsame race third\n\
+    goto race\ndrop race\ngoto third\naenq 4 5\ngo 4\ngo 4\nadeq 4\nmarks\norigin 3\nwriter qtail";
 
 /// An actor that starves: its cell was taken from it before it came, so it closes the ring and
 /// makes the next one.
-const STARVED: &[&[u8]] = &[
-    b"enq 1 7",
-    b"go 1",
-    b"go 1",
-    b"go 1",
-    b"deq 2",
-    b"go 2",
-    b"go 2",
-    b"go 2",
-    b"go 2",
-    b"go 2",
-    b"go 1",
-    b"go 1",
-    b"go 1",
-    b"mark a",
-    b"starve 1 yes",
-    b"go 1",
-    b"go 1",
-    b"go 1",
-    b"go 1",
-    b"goto a",
-    b"starve 1 no",
-    b"go 1",
-];
+const STARVED: &str = "\
+    enq 1 7\ngo 1\ngo 1\ngo 1\ndeq 2\ngo 2\ngo 2\ngo 2\ngo 2\ngo 2\ngo 1\ngo 1\ngo 1\nmark a\n\
+    starve 1 yes\ngo 1\ngo 1\ngo 1\ngo 1\ngoto a\nstarve 1 no\ngo 1";
 
 /// A book obeys the lines whatever is refused to it, and so does another, which is answered the
 /// same and is the same then.
-fn are_obeyed(rt: &impl Abort, alloc: Global, lines: &[&[u8]]) -> bool {
+fn are_obeyed(rt: &impl Abort, alloc: Global, lines: &str) -> bool {
     let mut first = on_trial(rt, alloc);
     let mut second = on_trial(rt, alloc);
     let obeyed = first.obeys_all(lines) && second.obeys_all(lines);

@@ -39,29 +39,9 @@ fn is_as(book: &mut Book<2>, twin: &mut Trial) -> bool {
 }
 
 /// Commands of each kind that may take memory, undos and queries.
-const LINES: &[&[u8]] = &[
-    b"enq 1 7",
-    b"go 1",
-    b"go 1",
-    b"mark a",
-    b"go 1",
-    b"undo 4",
-    b"mark b",
-    b"same a b",
-    b"go 1",
-    b"go 1",
-    b"deq 2",
-    b"go 2",
-    b"mark c",
-    b"same a c",
-    b"same b c",
-    b"goto a",
-    b"back 2",
-    b"goto c",
-    b"redo",
-    b"len",
-    b"markat 2",
-];
+const LINES: &str = "\
+    enq 1 7\ngo 1\ngo 1\nmark a\ngo 1\nundo 4\nmark b\nsame a b\ngo 1\ngo 1\ndeq 2\ngo 2\nmark c\n\
+    same a c\nsame b c\ngoto a\nback 2\ngoto c\nredo\nlen\nmarkat 2";
 
 /// Whether a call has to be asked again: it was not recorded, or it was recorded that memory was
 /// refused to its command.
@@ -87,8 +67,8 @@ fn asks_all<R: Wait>(rt: &R, desk: &Desk<2>, pass: &mut DeskPass<2>) -> bool
     requires own { IsViewerOf desk.now pass.old }
     ensures own { IsViewerOf desk.now pass.new }
 {
-    for line in LINES {
-        let Ok(command) = command_in(*line) else {
+    for line in LINES.lines() {
+        let Ok(command) = command_in(line.as_bytes()) else {
             return false;
         };
         if !asks(rt, desk, pass, &command) {
@@ -110,22 +90,23 @@ fn last_pass(rt: &impl Abort, desk: &Desk<2>, mut passes: Vec<DeskPass<2>>) -> D
 /// Whether a history has a call for what each line spells, in order, answered as the book answers
 /// it. Before one of them there may be another call of the same command, which was refused memory.
 fn has_calls_in_order(history: &History, book: &mut Book<2>) -> bool {
-    let mut next = 0;
+    let mut lines = LINES.lines();
+    let mut next = lines.next();
     for number in 1..history.len() + 1 {
-        let Some((_, call)) = history.entry(number) else {
+        let (Some((_, call)), Some(line)) = (history.entry(number), next) else {
             return false;
         };
-        if next >= LINES.len() || command_in(LINES[next]) != Ok(call.command) {
+        if command_in(line.as_bytes()) != Ok(call.command) {
             return false;
         }
         if call.answer != Err(Refusal::NoMemory) {
             if answer(book, &call.command) != call.answer {
                 return false;
             }
-            next += 1;
+            next = lines.next();
         }
     }
-    next == LINES.len()
+    next.is_none()
 }
 
 #[test]

@@ -3,13 +3,13 @@
 
 ghost use Rattle.rd_depend.specs.Index.{IsIndexOf};
 
-use rd_actor::{Act, Actor};
 use rd_cell::limits::MOST_STEPS;
-use rd_cell::{Answer, Place, SegName, Wrote};
+use rd_cell::{Place, SegName, Wrote};
 use rd_depend::{DependIndex, Probes, first_dependant};
-use rd_step::{Entry, Event};
+use rd_step::Entry;
 use std::alloc::{AllocError, Global};
 use std::process::Abort;
+use test_kit::record;
 
 /// An index beside the entries that it is of.
 #[derive(Drop)]
@@ -96,23 +96,6 @@ const STEPS: [Access; 16] = [
     (9, Some(Place::ArrCell(0)), Wrote::Place),
     (1, Some(Place::QTail), Wrote::Place),
 ];
-
-/// A record with this access.
-fn record(access: Access) -> Entry {
-    let (actor, place, wrote) = access;
-    Entry {
-        event: Event {
-            actor,
-            act: Act::Go,
-        },
-        place,
-        wrote,
-        answer: Answer::Nothing,
-        reply: None,
-        old_actor: Actor::idle(),
-        old_content: None,
-    }
-}
 
 /// An index of no entries.
 fn fresh(rt: &impl Abort, alloc: Global) -> Indexed {

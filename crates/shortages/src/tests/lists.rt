@@ -76,31 +76,23 @@ fn a_list_of_commands_is_obeyed_but_for_the_one_that_is_refused_memory(rt: HostR
 }
 
 /// A text whose lines are commands and faults.
-const TEXT: &[u8] = b"enq 1 7\nhello\ngo 1\nmark A\nsame a b\nlen";
-
-/// Its lines.
-const LINES: [&[u8]; 6] = [
-    b"enq 1 7",
-    b"hello",
-    b"go 1",
-    b"mark A",
-    b"same a b",
-    b"len",
-];
+const TEXT: &str = "enq 1 7\nhello\ngo 1\nmark A\nsame a b\nlen";
 
 /// Whether these are what the lines of the text say.
 fn are_said(said: &[Result<Command, LineFault>]) -> bool {
-    for i in 0..LINES.len().min(said.len()) {
-        if said[i] != command_in(LINES[i]) {
+    let mut number = 0;
+    for line in TEXT.lines() {
+        if said.get(number) != Some(&command_in(line.as_bytes())) {
             return false;
         }
+        number += 1;
     }
-    said.len() == LINES.len()
+    said.len() == number
 }
 
 /// Whether the lines of the text are read as they should be. If not, memory was refused.
 fn are_read(rt: &impl Abort, alloc: Global) -> bool {
-    match lines(alloc, TEXT) {
+    match lines(alloc, TEXT.as_bytes()) {
         Ok(said) => {
             assert!(rt; are_said(said.as_slice()));
             true

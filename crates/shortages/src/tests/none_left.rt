@@ -6,47 +6,10 @@ use std::alloc::Global;
 
 /// Two bookmarks of which neither begins the other, the race of two actors to put a new ring behind
 /// a full one, and a bookmark at its thirty steps, which are live.
-const BEFORE: &[&[u8]] = &[
-    b"deq 3",
-    b"mark x",
-    b"undo",
-    b"deq 4",
-    b"mark y",
-    b"undo",
-    b"enq 1 7",
-    b"go 1",
-    b"go 1",
-    b"go 1",
-    b"go 1",
-    b"go 1",
-    b"go 1",
-    b"enq 1 8",
-    b"go 1",
-    b"go 1",
-    b"go 1",
-    b"go 1",
-    b"go 1",
-    b"go 1",
-    b"enq 1 9",
-    b"go 1",
-    b"go 1",
-    b"enq 2 10",
-    b"go 2",
-    b"go 2",
-    b"go 1",
-    b"go 1",
-    b"go 1",
-    b"go 1",
-    b"go 1",
-    b"go 2",
-    b"go 1",
-    b"go 2",
-    b"undo 27",
-    b"redo",
-    b"go 2",
-    b"go 1",
-    b"mark all",
-];
+const BEFORE: &str = "\
+    deq 3\nmark x\nundo\ndeq 4\nmark y\nundo\nenq 1 7\ngo 1\ngo 1\ngo 1\ngo 1\ngo 1\ngo 1\n\
+    enq 1 8\ngo 1\ngo 1\ngo 1\ngo 1\ngo 1\ngo 1\nenq 1 9\ngo 1\ngo 1\nenq 2 10\ngo 2\ngo 2\ngo 1\n\
+    go 1\ngo 1\ngo 1\ngo 1\ngo 2\ngo 1\ngo 2\nundo 27\nredo\ngo 2\ngo 1\nmark all";
 
 /// Lines that take no memory. The steps of the bookmark that is set begin those of one that is
 /// there.

@@ -8,17 +8,8 @@ use std::alloc::Global;
 use std::process::Abort;
 
 /// The lines of a session: seven steps, a bookmark after them, and two undos.
-pub(super) const STEPS: &[&[u8]] = &[
-    b"enq 1 7",
-    b"go 1",
-    b"aenq 2 18446744073709551615",
-    b"deq 3",
-    b"go 3",
-    b"go 3",
-    b"go 3",
-    b"mark a",
-    b"back 2",
-];
+pub(super) const STEPS: &str = "\
+    enq 1 7\ngo 1\naenq 2 18446744073709551615\ndeq 3\ngo 3\ngo 3\ngo 3\nmark a\nback 2";
 
 /// Its trace.
 pub(super) const TRACE: &[u8] =

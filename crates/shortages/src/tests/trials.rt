@@ -62,9 +62,9 @@ impl Trial {
 
     /// Obeys each line. Returns whether each was played with memory at last, and changed nothing
     /// where it was refused some.
-    pub(super) fn obeys_all(&mut self, lines: &[&[u8]]) -> bool {
-        for line in lines {
-            if !self.obeys(line) {
+    pub(super) fn obeys_all(&mut self, lines: &str) -> bool {
+        for line in lines.lines() {
+            if !self.obeys(line.as_bytes()) {
                 return false;
             }
         }

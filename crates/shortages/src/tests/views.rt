@@ -1,6 +1,5 @@
 //! Views that are refused memory.
 
-use super::devices::PageWriter;
 use super::trials::{Trial, on_trial};
 use rd_script::WriteSink;
 use rd_view::{ViewFault, view_scripts};
@@ -8,6 +7,7 @@ use std::alloc::Global;
 use std::process::Abort;
 use std::sync::Wait;
 use std::thread::Threads;
+use test_kit::PageWriter;
 
 /// The text of a view of the two scripts below. What one is answered does not depend on the other.
 pub(super) const USUAL: &[u8] = b"viewer 1\nok 1\nat 1 0\nviewer 2\nis open 0\nhistory 3\n";

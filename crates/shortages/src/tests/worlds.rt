@@ -2,10 +2,10 @@
 
 use rd_actor::Actor;
 use rd_cell::{Cell, Place, Refusal, SegName};
-use rd_segments::ArrayParts;
 use rd_step::{Parts, SegmentParts, Unassembled, World};
 use std::alloc::{AllocError, Global};
 use std::process::Abort;
+use test_kit::parts;
 
 /// The places of the queue, of the first segment, and of the one that actor 1 makes first.
 const PLACES: [Place; 14] = [
@@ -94,19 +94,6 @@ const RING: SegmentParts<2> = SegmentParts {
     ],
 };
 
-/// The parts of a world of one actor, which has made a segment.
-fn parts(alloc: Global) -> Result<Parts<2>, AllocError> {
-    let root = Vec::from_array(alloc, [RING])?;
-    let made = Vec::from_array(alloc, [RING])?;
-    Ok(Parts {
-        actors: Vec::from_array(alloc, [Actor::poised(5)])?,
-        segments: Vec::from_array(alloc, [root, made])?,
-        qhead: SegName::ROOT,
-        qtail: SegName::ROOT,
-        array: ArrayParts::fresh(),
-    })
-}
-
 /// The world of some parts, which has no flaw.
 fn put_together(rt: &impl Abort, alloc: Global, parts: Parts<2>) -> Result<World<2>, Refusal> {
     match World::assemble(alloc, parts) {
@@ -116,9 +103,15 @@ fn put_together(rt: &impl Abort, alloc: Global, parts: Parts<2>) -> Result<World
     }
 }
 
+/// The parts of a world of one actor, which has made a segment.
+fn one_actor(alloc: Global) -> Result<Parts<2>, AllocError> {
+    let made = Vec::from_array(alloc, [RING])?;
+    parts(alloc, Actor::poised(5), RING, made)
+}
+
 /// The world of the parts above.
 fn assembled(rt: &impl Abort, alloc: Global) -> Result<World<2>, Refusal> {
-    put_together(rt, alloc, parts(alloc)?)
+    put_together(rt, alloc, one_actor(alloc)?)
 }
 
 /// The world of the parts of another.

@@ -1,11 +1,11 @@
 //! Runs of a script over devices that fail at each of their calls.
 
 use super::super::trials::{Trial, has_text, on_trial, plays};
-use super::{End, Limit, PageWriter, StripReader};
 use rd_marks::Book;
 use rd_script::{ReadSource, ScriptFault, WriteSink, run};
 use std::alloc::Global;
 use std::process::Abort;
+use test_kit::{End, Limit, PageWriter, StripReader};
 
 /// A script with each command, obeyed or refused, and lines that spell none. Its last line has no
 /// line feed.

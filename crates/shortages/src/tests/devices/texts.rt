@@ -3,7 +3,6 @@
 
 use super::super::trials::on_trial;
 use super::super::{traces, views};
-use super::{ENDS, End, Limit, PageWriter};
 use rd_marks::Book;
 use rd_script::WriteSink;
 use rd_trace::{WriteTraceFault, write_trace};
@@ -12,6 +11,10 @@ use std::alloc::Global;
 use std::process::Abort;
 use std::sync::Wait;
 use std::thread::Threads;
+use test_kit::{End, Limit, PageWriter};
+
+/// How a writer may end.
+const ENDS: [End; 2] = [End::Fails, End::TakesNone];
 
 /// Whether a trace whose writer ends after this many bytes ends with just these written.
 fn trace_ends(alloc: Global, book: &Book<2>, page: &mut Vec<u8>, calls: usize, end: End) -> bool {
