@@ -20,7 +20,7 @@ use Rattle.rd_marks.proofs.Fresh.{along_within, along_taken, AreApart, apart, fr
 abbrev pub with_place : List Place → ℕ → ℕ → List Place
 with_place ps i n = ps ++ record { stretch = i; number = n } ∷ []
 
-greatest_left : (i : ℕ) (ps qs : List Place) → greatest_in i ps ≤ greatest_in i (ps ++ qs)
+pub greatest_left : (i : ℕ) (ps qs : List Place) → greatest_in i ps ≤ greatest_in i (ps ++ qs)
 greatest_left i [] qs = omega arith
 greatest_left i (p ∷ ps) qs = omega (arith, greatest_left i ps qs)
 

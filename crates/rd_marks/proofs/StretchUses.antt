@@ -1,5 +1,5 @@
 -- What growing a list and shrinking a stretch leave, in the words of their contracts.
-use Rattle.std.proofs.Common.{◌≡◌, ℕ, zero, suc, ◌-◌, ◌<◌, ◌≤◌, ◌^◌, inl, inr, refl, sym, ap, ◌∙◌, subst, List, [], ◌∷◌, ◌++◌, map, length, take, drop, set, insert, remove, length-take, Result, Ok, Err, OnOk, OnErr, arith}
+use Rattle.std.proofs.Common.{◌≡◌, ℕ, zero, suc, ◌-◌, ◌<◌, ◌≤◌, ◌^◌, inl, inr, refl, sym, ap, ◌∙◌, subst, List, [], ◌∷◌, ◌++◌, length, take, drop, set, insert, remove, length-take, Result, Ok, Err, OnOk, OnErr, arith}
 use Rattle.std.proofs.Math.Seq.{drop-length}
 use Rattle.std.proofs.lemmas.Bool.{cases_eq, cases_lt}
 use Rattle.std.proofs.lemmas.Bool.Decides.{nat_tests}
@@ -13,18 +13,15 @@ use Rattle.rd_marks.specs.declared.stretches.Stretch.{Stretch}
 use Rattle.rd_marks.specs.declared.stretches.changes.Shift.{Shift}
 use Rattle.rd_marks.specs.declared.stretches.changes.Shift.TheVariants.{Same, Up, Down}
 use Rattle.rd_marks.specs.Stretches.{greatest_in, stretch_list, list_before, shared_at, records_at, IsWithin, IsEnd, IsAlong, IsDeepest, AreNested, AreFresh, raised, lowered}
-use Rattle.rd_marks.specs.Changes.{shifted, IsLow, IsGrown, IsShrunk, IsUnchanged}
+use Rattle.rd_marks.specs.Changes.{IsLow, IsGrown, IsShrunk, IsUnchanged}
 use Rattle.rd_marks.proofs.StretchLists.{own_at, shared_within, inserted_at, removed_at, appended_at, cut_at}
 use Rattle.rd_marks.proofs.Fresh.{along_taken}
-use Rattle.rd_marks.proofs.StretchChanges.{within_at, nested_inserted, nested_removed, fresh_inserted, fresh_removed, needed_inserted, needed_removed, records_raised, records_lowered, nested_replaced, fresh_appended, fresh_cut, needed_appended, needed_cut, records_appended, records_cut}
+use Rattle.rd_marks.proofs.StretchChanges.{greatest_left, within_at, nested_inserted, nested_removed, fresh_inserted, fresh_removed, needed_inserted, needed_removed, records_raised, records_lowered, nested_replaced, fresh_appended, fresh_cut, needed_appended, needed_cut, records_appended, records_cut}
 use Rattle.rd_marks.proofs.Starting.{stretch_within}
 
 -- a place in few stretches has a next number
 pub is_low : (ss : List Stretch) → length ss < 2 ^ 64 → (p : Place) → IsWithin ss p → IsLow p
 is_low ss few p within some = omega (arith, few, stretch_within ss p within some)
-
-moved_same : (ps : List Place) → map (shifted Same) ps ≡ ps
-moved_same ps = map-id ps
 
 -- the events of a list with those of others after it
 joined_events : (xs ys zs : List Entry) (n : ℕ) → zs ≡ xs ++ drop n ys → events xs ≡ take n (events ys) → events zs ≡ events ys
@@ -41,12 +38,8 @@ all_there ss few at live within all = record {
   low = is_low ss few;
   stays = λ p is. record { within = is; same = refl };
   needed = λ places needed i inside.
-      omega (arith, needed i inside, ap (greatest_in i) (ap (λ (ps : List Place). ps ++ at ∷ []) (moved_same places)), greatest_more i places (at ∷ []));
+      omega (arith, needed i inside, ap (greatest_in i) (ap (λ (ps : List Place). ps ++ at ∷ []) (map-id places)), greatest_left i places (at ∷ []));
 }
-  where
-    greatest_more : (i : ℕ) (ps qs : List Place) → greatest_in i ps ≤ greatest_in i (ps ++ qs)
-    greatest_more i [] qs = omega arith
-    greatest_more i (p ∷ ps) qs = omega (arith, greatest_more i ps qs)
 
 -- what a change leaves
 pub record Grows (old new : List Stretch) (at : Place) (records : List Entry) (shift : Shift) (place : Place) : Type 0 where
@@ -86,7 +79,7 @@ module _ (ss : List Stretch) (few : length ss < 2 ^ 64) (rule : AreNested ss) (f
               (let kept = records_appended ss new j change rest list p within in
               record { within = within_at ss new p p refl kept within; same = kept });
           needed = λ places needed.
-              rw (moved_same places) (needed_appended ss new j change places (length live) (omega (arith, long)) needed);
+              rw (map-id places) (needed_appended ss new j change places (length live) (omega (arith, long)) needed);
         };
       }
 
@@ -206,7 +199,7 @@ module _ (ss : List Stretch) (few : length ss < 2 ^ 64) (rule : AreNested ss) (f
           stays = λ p within own.
               (let kept = records_cut ss new j change n list p own in
               record { within = within_at ss new p p refl kept within; same = kept });
-          needed = λ places needed its. rw (moved_same places) (needed_cut ss new j change places (omega (arith, long, its)) needed);
+          needed = λ places needed its. rw (map-id places) (needed_cut ss new j change places (omega (arith, long, its)) needed);
         };
       }
 

@@ -1,4 +1,4 @@
-use Rattle.std.proofs.Common.{◌++◌, ◌∙◌, [], ◌∷◌, List, All, sym, ap, subst, arith}
+use Rattle.std.proofs.Common.{◌≡◌, ◌++◌, ◌∙◌, [], ◌∷◌, List, All, sym, ap, subst, arith}
 use Rattle.std.specs.Map.{lookup}
 use Rattle.std.proofs.lemmas.Bool.{false≢true}
 use Rattle.std.proofs.lemmas.List.{length-map}
@@ -11,12 +11,15 @@ use Rattle.rd_journal.specs.Sessions.{state, track}
 use Rattle.rd_marks.specs.declared.names.MarkName.{MarkName}
 use Rattle.rd_marks.specs.declared.stretches.Place.{Place}
 use Rattle.rd_marks.specs.Changes.{IsLow}
-use Rattle.rd_marks.specs.Layout.{AreRuns, named_lists}
+use Rattle.rd_marks.specs.Kept.{lists_in, here_in}
+use Rattle.rd_marks.specs.Layout.{AreRuns, IsKept, named_lists}
 use Rattle.rd_marks.specs.Names.{same_name}
 use Rattle.rd_marks.specs.Stretches.{records_at, IsWithin}
 use Rattle.rd_marks.proofs.Counting.{all_along}
 use Rattle.rd_marks.proofs.Here.{live_along, live_begin}
-use Rattle.rd_marks.proofs.Putting.{each, is_set, kept_same, none_named}
+use Rattle.rd_marks.proofs.Putting.{IsSet, each, is_set, kept_same, none_named}
+use Rattle.rd_marks.proofs.bookmarks.Bookmarks.set.Given.{Over}
+use Rattle.rd_marks.proofs.bookmarks.Bookmarks.set.Goals.{After-here_after-self, In_err-grown}
 use Rattle.rd_marks.proofs.bookmarks.Bookmarks.set.Goals as goal
 
 pub follow-at-requires-clause-within : goal.follow-at-requires-clause-within
@@ -49,6 +52,13 @@ pub returns-in_err-reserve-clause-runs : goal.returns-in_err-reserve-clause-runs
 returns-in_err-reserve-clause-runs g c =
     subst (λ (es : List (MarkName × Place)). AreRuns g.row.R (state c.args.session.now).start (named_lists c.args.self.now.stretches.list.items es)) (sym c.reserve.ensures.entries) c.requires.runs
 
+-- where no room was made for the records, all stays
+stay : (g : Over) (c : In_err-grown g) → let b = c.args.self.now in let new = c.grow.new.self.list.items in
+    IsKept new c.reserve.new.self.entries b.here × (named_lists new c.reserve.new.self.entries ≡ lists_in b) × (records_at new b.here ≡ here_in b)
+stay g c =
+    let b = c.args.self.now in
+    kept_same b.stretches.list.items c.grow.new.self.list.items c.in_err-grown.ensures.err b.names.entries c.reserve.new.self.entries b.here c.reserve.ensures.entries b.kept
+
 pub invariant_of-self-in-Break-branch-2 : goal.invariant_of-self-in-Break-branch-2
 invariant_of-self-in-Break-branch-2 g c =
     let b = c.args.self.now in
@@ -59,15 +69,11 @@ invariant_of-self-in-Break-branch-2 g c =
 
 pub returns-in_err-grown-clause-runs : goal.returns-in_err-grown-clause-runs
 returns-in_err-grown-clause-runs g c =
-    let b = c.args.self.now in
-    let same = kept_same b.stretches.list.items c.grow.new.self.list.items c.in_err-grown.ensures.err b.names.entries c.reserve.new.self.entries b.here c.reserve.ensures.entries b.kept in
-    subst (λ (ls : List (MarkName × List Entry)). AreRuns g.row.R (state c.args.session.now).start ls) (sym same.1) c.requires.runs
+    subst (λ (ls : List (MarkName × List Entry)). AreRuns g.row.R (state c.args.session.now).start ls) (sym (stay g (goal.at.returns-in_err-grown-clause-runs g c).In_err-grown).1) c.requires.runs
 
 pub returns-in_err-grown-clause-stands : goal.returns-in_err-grown-clause-stands
 returns-in_err-grown-clause-stands g c =
-    let b = c.args.self.now in
-    let same = kept_same b.stretches.list.items c.grow.new.self.list.items c.in_err-grown.ensures.err b.names.entries c.reserve.new.self.entries b.here c.reserve.ensures.entries b.kept in
-    subst (λ (xs : List Entry). Begins (events xs) (track c.args.session.now)) (sym same.2) c.requires.stands
+    subst (λ (xs : List Entry). Begins (events xs) (track c.args.session.now)) (sym (stay g (goal.at.returns-in_err-grown-clause-stands g c).In_err-grown).2) c.requires.stands
 
 pub returns-in_err-grown-clause-succeeds : goal.returns-in_err-grown-clause-succeeds
 returns-in_err-grown-clause-succeeds g c = λ room none.
@@ -78,46 +84,31 @@ returns-in_err-grown-clause-succeeds g c = λ room none.
     absurd (false≢true (c.in_err-grown.ensures.succeeds (all ∙ length-map live.result (λ (x : Entry). x.event))))
 
 pub returns-in_err-grown-clause-unchanged : goal.returns-in_err-grown-clause-unchanged
-returns-in_err-grown-clause-unchanged g c =
+returns-in_err-grown-clause-unchanged g c = fact_passed_up _ (stay g (goal.at.returns-in_err-grown-clause-unchanged g c).In_err-grown).1
+
+-- where all was put
+put_last : (g : Over) (c : After-here_after-self g)
+    → let b = c.args.self.now in IsSet g.row.R (state c.args.session.now).start b.stretches.list.items c.grow.new.self.list.items b.names.entries c.put.new.names.entries c.args.name c.live-live.result
+    (track c.args.session.now) c.here_after-self.result
+put_last g c =
     let b = c.args.self.now in
-    fact_passed_up _
-    (kept_same b.stretches.list.items c.grow.new.self.list.items c.in_err-grown.ensures.err b.names.entries c.reserve.new.self.entries b.here c.reserve.ensures.entries b.kept).1
+    let live = c.live-live in
+    let at = c.follow-at in
+    let there = c.here_after-self in
+    is_set g.row.R (state c.args.session.now).start b.stretches.list.items b.stretches.nested b.names.entries b.here b.kept c.requires.few c.requires.runs live.result
+    (record { few = live.ensures.few; ran = live.ensures.run }) (track c.args.session.now) c.requires.stands (live_begin c.args.session.now live.result live.ensures.events) at.result at.ensures.within
+    at.ensures.along c.grow.new.self.list.items c.in_ok-grown.grown c.in_ok-grown.ensures.ok c.args.name c.reserve.new.self.entries c.put.new.names.entries c.reserve.ensures.entries c.put.ensures
+    there.result c.len-2.result there.ensures.near there.ensures.far
 
 pub invariant_of-self-2 : goal.invariant_of-self-2
-invariant_of-self-2 g c =
-    let b = c.args.self.now in
-    record {
-      kept = (is_set g.row.R (state c.args.session.now).start b.stretches.list.items b.stretches.nested b.names.entries b.here b.kept c.requires.few c.requires.runs c.live-live.result
-          (record { few = c.live-live.ensures.few; ran = c.live-live.ensures.run }) (track c.args.session.now) c.requires.stands
-          (live_begin c.args.session.now c.live-live.result c.live-live.ensures.events) c.follow-at.result c.follow-at.ensures.within c.follow-at.ensures.along c.grow.new.self.list.items
-          c.in_ok-grown.grown c.in_ok-grown.ensures.ok c.args.name c.reserve.new.self.entries c.put.new.names.entries c.reserve.ensures.entries c.put.ensures c.here_after-self.result
-          c.len-2.result c.here_after-self.ensures.near c.here_after-self.ensures.far).kept;
-    }
+invariant_of-self-2 g c = record { kept = (put_last g (goal.at.invariant_of-self-2 g c).After-here_after-self).kept }
 
 pub returns-clause-ok : goal.returns-clause-ok
 returns-clause-ok g c =
-    let b = c.args.self.now in
-    (is_set g.row.R (state c.args.session.now).start b.stretches.list.items b.stretches.nested b.names.entries b.here b.kept c.requires.few c.requires.runs c.live-live.result
-    (record { few = c.live-live.ensures.few; ran = c.live-live.ensures.run }) (track c.args.session.now) c.requires.stands
-    (live_begin c.args.session.now c.live-live.result c.live-live.ensures.events) c.follow-at.result c.follow-at.ensures.within c.follow-at.ensures.along c.grow.new.self.list.items
-    c.in_ok-grown.grown c.in_ok-grown.ensures.ok c.args.name c.reserve.new.self.entries c.put.new.names.entries c.reserve.ensures.entries c.put.ensures c.here_after-self.result
-    c.len-2.result c.here_after-self.ensures.near c.here_after-self.ensures.far).lists
-    ∙ ap (λ (xs : List Entry). named_lists b.stretches.list.items b.names.entries ++ (c.args.name, xs) ∷ []) c.live-live.ensures.records
+    (put_last g (goal.at.returns-clause-ok g c).After-here_after-self).lists ∙ ap (λ (xs : List Entry). lists_in c.args.self.now ++ (c.args.name, xs) ∷ []) c.live-live.ensures.records
 
 pub returns-clause-runs : goal.returns-clause-runs
-returns-clause-runs g c =
-    let b = c.args.self.now in
-    (is_set g.row.R (state c.args.session.now).start b.stretches.list.items b.stretches.nested b.names.entries b.here b.kept c.requires.few c.requires.runs c.live-live.result
-    (record { few = c.live-live.ensures.few; ran = c.live-live.ensures.run }) (track c.args.session.now) c.requires.stands
-    (live_begin c.args.session.now c.live-live.result c.live-live.ensures.events) c.follow-at.result c.follow-at.ensures.within c.follow-at.ensures.along c.grow.new.self.list.items
-    c.in_ok-grown.grown c.in_ok-grown.ensures.ok c.args.name c.reserve.new.self.entries c.put.new.names.entries c.reserve.ensures.entries c.put.ensures c.here_after-self.result
-    c.len-2.result c.here_after-self.ensures.near c.here_after-self.ensures.far).runs
+returns-clause-runs g c = (put_last g (goal.at.returns-clause-runs g c).After-here_after-self).runs
 
 pub returns-clause-stands : goal.returns-clause-stands
-returns-clause-stands g c =
-    let b = c.args.self.now in
-    (is_set g.row.R (state c.args.session.now).start b.stretches.list.items b.stretches.nested b.names.entries b.here b.kept c.requires.few c.requires.runs c.live-live.result
-    (record { few = c.live-live.ensures.few; ran = c.live-live.ensures.run }) (track c.args.session.now) c.requires.stands
-    (live_begin c.args.session.now c.live-live.result c.live-live.ensures.events) c.follow-at.result c.follow-at.ensures.within c.follow-at.ensures.along c.grow.new.self.list.items
-    c.in_ok-grown.grown c.in_ok-grown.ensures.ok c.args.name c.reserve.new.self.entries c.put.new.names.entries c.reserve.ensures.entries c.put.ensures c.here_after-self.result
-    c.len-2.result c.here_after-self.ensures.near c.here_after-self.ensures.far).stands
+returns-clause-stands g c = (put_last g (goal.at.returns-clause-stands g c).After-here_after-self).stands
