@@ -1,6 +1,6 @@
 -- A line feed after printed tokens changes none of them, so that the text of a value is read the
 -- same with one after it.
-use Rattle.std.proofs.Common.{◌≡◌, ℕ, Bool, true, false, cond, ◌&&◌, List, [], ◌∷◌, ◌++◌, option_and_then, refl, sym, ap, ap₂, ◌∙◌, subst, append_assoc, append-nil}
+use Rattle.std.proofs.Common.{◌≡◌, ℕ, Bool, true, false, cond, ◌&&◌, List, [], ◌∷◌, ◌++◌, refl, sym, ap, ap₂, ◌∙◌, append_assoc, append-nil}
 use Rattle.json.specs.Token.{Token, begin_object, end_object, begin_array, end_array, key, string, number, boolean, null, bad}
 use Rattle.json.specs.Word.{ends_word, word}
 use Rattle.json.specs.Lex.{Lexeme, token, comma, string_token, lex, between, fresh, punctuate, tokens}
@@ -10,13 +10,7 @@ use Rattle.json.proofs.Printed.Numbers.{lex-number, in_word-ended}
 use Rattle.json.specs.Json as json
 use Rattle.json.specs.Print.{ArePrintableOrBad}
 use Rattle.json.specs.Tree.{json_tokens, items_tokens, members_tokens, HasNumbers, ItemsHaveNumbers, MembersHaveNumbers}
-use Rattle.json.proofs.Numbered.{ArePrintableOrBad-tokens}
 use Rattle.json.proofs.Printed.Tokens.{tokens-print}
-use Rattle.json.proofs.Printed.Trees.{ArePrintable-json_tokens}
-use Rattle.serde_json.specs.Data.{Data}
-use Rattle.serde_json.specs.Read.{of_json, read, max_depth}
-use Rattle.serde_json.specs.Written.{IsInOrder, has_float, outline}
-use Rattle.serde_json.proofs.Texts.{tokens_from_order}
 
 -- after a value is a comma, a closing bracket, or what is after the tokens
 ends_before : (ts : List Token) (z : List ℕ) → ends_word z ≡ true → ends_word (print_from true ts ++ z) ≡ true
@@ -101,7 +95,7 @@ both_parts (t ∷ ts) us h = let p = both_parts ts us h.1 in ((h.0, p.0), p.1)
 
 -- where no token of a value is amiss, its numbers are numbers
 mutual
-  numbers_of : (j : json.Json) → ArePrintableOrBad (json_tokens j) → HasNumbers j
+  pub numbers_of : (j : json.Json) → ArePrintableOrBad (json_tokens j) → HasNumbers j
   numbers_of json.null h = tt
   numbers_of (json.boolean b) h = tt
   numbers_of (json.number s) h = h.0
@@ -116,17 +110,3 @@ mutual
   numbers_of_members : (ms : json.Members) → ArePrintableOrBad (members_tokens ms) → MembersHaveNumbers ms
   numbers_of_members json.no_members h = tt
   numbers_of_members (json.member k j ms) h = let p = both_parts (json_tokens j) (members_tokens ms) h.1 in (numbers_of j p.0, numbers_of_members ms p.1)
-
-module _ (text : List ℕ) (d : Data) (order : IsInOrder text d) (whole : has_float d ≡ false) where
-  printable : ArePrintable (tokens text)
-  printable =
-      let same = tokens_from_order text d order whole in
-      subst ArePrintable (sym same) (ArePrintable-json_tokens (outline d) (numbers_of (outline d) (subst ArePrintableOrBad same (ArePrintableOrBad-tokens text))))
-
-  -- the text of a value has the same tokens with a line feed after it
-  pub same_tokens : text ≡ print (tokens text) → tokens (text ++ 10 ∷ []) ≡ tokens text
-  same_tokens compact = ap (λ s. tokens (s ++ 10 ∷ [])) compact ∙ tokens-line (tokens text) printable
-
-  -- and so it is read the same
-  pub read_line : text ≡ print (tokens text) → read (text ++ 10 ∷ []) ≡ read text
-  read_line compact = ap (λ ts. option_and_then of_json (option_and_then (λ p. json.if_last p.0 p.1) (json.value max_depth ts))) (same_tokens compact)

@@ -11,6 +11,7 @@ pub mod ReplayLemmas
 pub mod LoadLemmas
 pub mod LexLemmas
 pub mod WholeLemmas
+pub mod TextLemmas
 pub mod WriteLemmas
 pub mod OneTrace
 pub mod OneAnswer

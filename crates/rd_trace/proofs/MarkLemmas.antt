@@ -1,28 +1,35 @@
 -- Bookmarks as values.
-use Rattle.std.proofs.Common.{◌≡◌, ℕ, nat_eq, zero, suc, ◌+◌, ◌<◌, ◌≤◌, true, false, ◌||◌, List, [], ◌∷◌, ◌++◌, map, length, get_or, take, drop, slice_get, codes, Decides, Option, Some, None, option_map, IfSome, Ok, inl, inr, refl, sym, ap, ◌∙◌, subst, arith}
-use Rattle.std.specs.List.{AllByRecursion, list_any, IsDistinct}
+use Rattle.std.proofs.Common.{◌≡◌, ℕ, nat_eq, nat_lt, zero, suc, ◌+◌, ◌<◌, ◌≤◌, true, false, ◌||◌, List, [], ◌∷◌, ◌++◌, map, length, get_or, take, drop, slice_get, codes, Decides, Option, Some, None, option_map, IfSome, Ok, inl, inr, refl, sym, ap, ap₂, ◌∙◌, subst, arith}
+use Rattle.std.specs.Int.{is_in_range}
+use Rattle.std.specs.List.{AllByRecursion, list_any, list_all, IsDistinct}
 use Rattle.std.specs.Cmp.Lexicographic.{pointwise}
 use Rattle.std.specs.Cmp.{IsEquivalence}
 use Rattle.std.specs.Bool.{one_answer}
-use Rattle.std.proofs.lemmas.Bool.{or_cases, true≢false, false≢true}
+use Rattle.std.proofs.lemmas.Bool.{and_parts, or_cases, leb-true, eqb-true, true≢false, false≢true}
 use Rattle.std.proofs.lemmas.Option.{same_Some}
-use Rattle.std.proofs.lemmas.List.{map_push, take_all}
+use Rattle.std.proofs.lemmas.List.{map_push, take_all, length-take-le}
 use Rattle.std.proofs.lemmas.Map.Keys.{IsDistinct-head, IsDistinct-tail, IsDistinct-push}
 use Rattle.std.proofs.lemmas.Slice.Eq.{bytes_eq-Decides}
+use Rattle.json.specs.Print.{escape, escape_byte}
+use Rattle.json.proofs.Printed.Strings.{escape_byte_plain}
 use Rattle.serde_json.specs.Data.{Data}
 use Rattle.serde_json.specs.View.{view, items_view}
+use Rattle.serde_json.specs.Written.{compact_text, comma_if}
 use Rattle.serde_json.specs.declared.value.Value.{Value}
 use Rattle.rd_marks.specs.declared.names.MarkName.{MarkName}
-use Rattle.rd_marks.specs.NameBytes.{MOST_MARKS, is_mark_name}
+use Rattle.rd_step.specs.declared.entries.Event.{Event}
+use Rattle.rd_marks.specs.NameBytes.{MOST_MARKS, is_name_byte, is_mark_name}
 use Rattle.rd_marks.specs.Names.{bytes_of, same_name}
-use Rattle.rd_marks.specs.Rules.{HaveDifferentNames, KeepsRules}
+use Rattle.rd_marks.specs.Rules.{HaveDifferentNames}
 use Rattle.rd_marks.specs.Books.{Mark, BookState, mark_at, mark_events, name_and_length}
 use Rattle.rd_trace.specs.Numbers.{text_at}
-use Rattle.rd_trace.specs.Spelled.{Gives, SpellEach, items_by, AreSpelled}
+use Rattle.rd_trace.specs.Spelled.{Gives, SpellEach, items_by}
 use Rattle.rd_trace.specs.Events.{event_of, event_data}
 use Rattle.rd_trace.specs.Bookmarks.{HasMarkName, IsMark, AreMarks, saved_mark, mark_data}
+use Rattle.rd_trace.specs.Texts.{AreAppended, IsMarkAppended}
 use Rattle.rd_trace.specs.declared.bookmarks.SavedMark.{SavedMark}
-use Rattle.rd_trace.proofs.SpellLemmas.{split_at, spelled_at, spelled_length, spell_each-more, one_more_written}
+use Rattle.rd_trace.proofs.SpellLemmas.{split_at, spelled_at, spelled_length, spell_each-more}
+use Rattle.rd_trace.proofs.TextLemmas.{each_spelled, list_back, one_more_appended, two_parts, mark_text, mark_back}
 
 -- ---- names
 
@@ -137,10 +144,6 @@ too_many vs many ms h = omega (arith, many, h.few, spelled_length IsMark vs ms h
 
 -- ---- lists that are written
 
--- the values are those of these bookmarks
-abbrev pub AreWritten : List Value → List Mark → Type 0
-AreWritten = AreSpelled IsMark mark_data
-
 -- the list up to a bookmark and with it
 with_next : (ms : List Mark) (i : ℕ) (m : Mark) → slice_get ms i ≡ Some m → take (suc i) ms ≡ take i ms ++ m ∷ []
 with_next [] i m h = absurd (cc)
@@ -152,40 +155,74 @@ next_there [] i within none = omega (arith, within)
 next_there (m ∷ ms) zero within none = none m refl
 next_there (m ∷ ms) (suc i) within none = next_there ms i (omega (arith, within)) none
 
-module _ (vs : List Value) (ms : List Mark) (i : ℕ) (v : Value) (name : MarkName) (len : ℕ) (so_far : AreWritten vs (take i ms)) where
-  next_written_of : (o : Option Mark) → slice_get ms i ≡ o → name_and_length o ≡ Ok (name, len)
-      → IfSome (option_map (λ m. m.events) o) (λ es. view v ≡ mark_data (record { name = name; events = es }))
-      → IfSome (option_map (λ m. m.events) o) (λ es. IsMark (mark_data (record { name = name; events = es })) (record { name = name; events = es }))
-      → AreWritten (vs ++ v ∷ []) (take (suc i) ms)
-  next_written_of None there found is spells = absurd (cc)
-  next_written_of (Some m) there found is spells =
+within_bound : (ms : List Mark) (i : ℕ) (m : Mark) → slice_get ms i ≡ Some m → i ≤ length ms
+within_bound [] i m h = absurd (cc)
+within_bound (n ∷ ms) zero m h = omega arith
+within_bound (n ∷ ms) (suc i) m h = omega (arith, within_bound ms i m h)
+
+module _ (ms : List Mark) (i : ℕ) (name : MarkName) (len : ℕ) (old mid comma new : List ℕ) (so_far : AreAppended IsMark mark_data (take i ms) old mid)
+    (more : comma ≡ mid ++ comma_if (nat_lt 0 i)) where
+  next_appended_of : (o : Option Mark) → slice_get ms i ≡ o → name_and_length o ≡ Ok (name, len)
+      → IfSome (option_map (λ m. m.events) o) (λ es. IsMarkAppended (record { name = name; events = es }) comma new) → AreAppended IsMark mark_data (take (suc i) ms) old new
+  next_appended_of None there found h = absurd (cc)
+  next_appended_of (Some m) there found h =
       let both : (m.name, length m.events) ≡ (name, len) = cc in
       let same : m.name ≡ name = ap (λ (p : MarkName × ℕ). p.0) both in
-      subst (λ (ns : List Mark). AreWritten (vs ++ v ∷ []) ns) (sym (with_next ms i m there))
-      (one_more_written IsMark mark_data vs (take i ms) v m so_far (is ∙ ap (λ n. mark_data (record { name = n; events = m.events })) (sym same))
-      (subst (λ (n : MarkName). IsMark (mark_data (record { name = n; events = m.events })) (record { name = n; events = m.events })) (sym same) spells))
+      let is : IsMarkAppended m comma new = subst (λ (n : MarkName). IsMarkAppended (record { name = n; events = m.events }) comma new) (sym same) h in
+      subst (λ (ns : List Mark). AreAppended IsMark mark_data ns old new) (sym (with_next ms i m there))
+      (one_more_appended IsMark mark_data (take i ms) m i old mid new (length-take-le i ms (within_bound ms i m there)) so_far (two_parts mid comma new (comma_if (nat_lt 0 i)) (compact_text (mark_data m)) more is.text) is.kept)
 
 module _ (b : BookState) (i n : ℕ) (next : n ≡ suc i) where
-  -- one more bookmark is written
-  pub next_written : (vs : List Value) (v : Value) (name : MarkName) (len : ℕ) → AreWritten vs (take i b.marks) → mark_at b n ≡ Ok (name, len)
-      → IfSome (mark_events b n) (λ es. view v ≡ mark_data (record { name = name; events = es }))
-      → IfSome (mark_events b n) (λ es. IsMark (mark_data (record { name = name; events = es })) (record { name = name; events = es }))
-      → AreWritten (vs ++ v ∷ []) (take n b.marks)
-  next_written vs v name len so_far found is spells =
-      subst (λ (k : ℕ). AreWritten (vs ++ v ∷ []) (take k b.marks)) (sym next)
-      (next_written_of vs b.marks i v name len so_far (slice_get b.marks i) refl
+  -- one more bookmark is in the text
+  pub next_appended : (name : MarkName) (len : ℕ) (old mid comma new : List ℕ) → AreAppended IsMark mark_data (take i b.marks) old mid → mark_at b n ≡ Ok (name, len)
+      → comma ≡ mid ++ comma_if (nat_lt 0 i) → IfSome (mark_events b n) (λ es. IsMarkAppended (record { name = name; events = es }) comma new)
+      → AreAppended IsMark mark_data (take n b.marks) old new
+  next_appended name len old mid comma new so_far found more h =
+      subst (λ (k : ℕ). AreAppended IsMark mark_data (take k b.marks) old new) (sym next)
+      (next_appended_of b.marks i name len old mid comma new so_far more (slice_get b.marks i) refl
       (subst (λ (k : ℕ). mark_at b k ≡ Ok (name, len)) next found)
-      (subst (λ (k : ℕ). IfSome (mark_events b k) (λ es. view v ≡ mark_data (record { name = name; events = es }))) next is)
-      (subst (λ (k : ℕ). IfSome (mark_events b k) (λ es. IsMark (mark_data (record { name = name; events = es })) (record { name = name; events = es }))) next spells))
+      (subst (λ (k : ℕ). IfSome (mark_events b k) (λ es. IsMarkAppended (record { name = name; events = es }) comma new)) next h))
 
   -- there is one at each number
   pub some_mark : i < length b.marks → ((name : MarkName) (len : ℕ) → mark_at b n ≡ Ok (name, len) → ⊥) → ⊥
   some_mark within none =
       next_there b.marks i within (λ m h. none m.name (length m.events) (ap (mark_at b) next ∙ ap name_and_length h))
 
--- all bookmarks were written
-pub all_written : (R : ℕ) (b : BookState) (vs : List Value) (i : ℕ) → length b.marks ≤ i → AreWritten vs (take i b.marks) → KeepsRules R b
-    → (items_view vs ≡ items_by mark_data b.marks) × AreMarks (items_by mark_data b.marks) b.marks
-all_written R b vs i past h rules =
-    let all = subst (λ (ms : List Mark). AreWritten vs ms) (take_all i b.marks past) h in
-    (all.values, record { each = all.spelled; names = rules.names; few = rules.few })
+-- the text of a name is its bytes
+in_range : (lo hi x : ℕ) → is_in_range lo hi x ≡ true → (lo ≤ x) × (x ≤ hi)
+in_range lo hi x h = let p = and_parts _ _ h in (leb-true lo x p.0, leb-true x hi p.1)
+
+plain_byte : (x : ℕ) → is_name_byte x ≡ true → escape_byte x ≡ x ∷ []
+plain_byte x h =
+    let bounds : (32 ≤ x) × ((x ≡ 34 → ⊥) × (x ≡ 92 → ⊥)) = elim (or_cases _ _ h) [
+      | inl alphanumeric ↦ elim (or_cases _ _ alphanumeric) [
+        | inl letter ↦ let r = in_range 97 122 x letter in (omega (arith, r.0), ((λ e. omega (arith, r.0)), (λ e. omega (arith, r.0))))
+        | inr digit ↦ let r = in_range 48 57 x digit in (omega (arith, r.0), ((λ e. omega (arith, r.0)), (λ e. omega (arith, r.1))))
+      ]
+      | inr hyphen ↦ let r = eqb-true x 45 hyphen in (omega (arith, r), ((λ e. omega (arith, r)), (λ e. omega (arith, r))))
+    ] in
+    escape_byte_plain x bounds.1.0 bounds.1.1 bounds.0
+
+name_bytes : (bytes : List ℕ) → is_mark_name bytes ≡ true → list_all is_name_byte bytes ≡ true
+name_bytes bytes h = (and_parts _ _ h).1
+
+plain_name : (bytes : List ℕ) → list_all is_name_byte bytes ≡ true → escape bytes ≡ bytes
+plain_name [] h = refl
+plain_name (x ∷ xs) h =
+    let p = and_parts (is_name_byte x) _ h in
+    ap₂ (λ (ys zs : List ℕ). ys ++ zs) (plain_byte x p.0) (plain_name xs p.1)
+
+-- the text of a bookmark is put together of that of its events and its name
+pub mark_appended : (name : MarkName) (es : List Event) (old t u v w new : List ℕ) → t ≡ old ++ codes "{\"events\":[" → AreAppended (Gives event_of) event_data es t u
+    → v ≡ u ++ codes "],\"name\":\"" → w ≡ v ++ bytes_of name → new ≡ w ++ codes "\"}" → IsMarkAppended (record { name = name; events = es }) old new
+mark_appended name es old t u v w new opened events between named closed =
+    let ds = items_by event_data es in
+    let all =
+    two_parts old t new _ _ opened (two_parts t u new _ _ events.text (two_parts u v new _ _ between (two_parts v w new (bytes_of name) _ named closed))) in
+    record {
+      text = all ∙ ap (λ s. old ++ s) (sym (mark_text ds (bytes_of name) (plain_name (bytes_of name) (name_bytes (bytes_of name) name.valid))));
+      kept = record {
+        spelled = mark_spelled (record { name = name; events = es }) (each_spelled (Gives event_of) ds es events.kept);
+        back = mark_back ds (bytes_of name) (list_back (Gives event_of) ds es events.kept);
+      };
+    }

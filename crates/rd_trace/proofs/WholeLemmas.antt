@@ -185,10 +185,13 @@ book_plain R start b h =
     let ring = with_member 6 (number_plain 6 R) (with_member 6 h undone) in
     object_plain 6 (with_member 6 (array_plain 5 (events_plain 4 b.session.live)) (with_member 6 (array_plain 5 (each_plain 5 mark_data (mark_plain 2) b.marks)) ring))
 
--- no number of a book's value is a float
-pub whole_book : (R : ℕ) (start : Data) (b : BookState) → IsStartData R b.session.start start → has_float (book_data R start b) ≡ false
-whole_book R start b h = (book_plain R start b (start_plain R b.session.start start h)).whole
+-- no number of a start's value is a float, and it is no deeper than what is read
+pub whole_start : (R : ℕ) (w : World) (d : Data) → IsStartData R w d → has_float d ≡ false
+whole_start R w d h = (start_plain R w d h).whole
 
--- and it is no deeper than what is read
+pub shallow_start : (R : ℕ) (w : World) (d : Data) → IsStartData R w d → depth d ≤ max_depth
+shallow_start R w d h = let k = (start_plain R w d h).shallow in omega (arith, k)
+
+-- nor is that of a book deeper
 pub shallow_book : (R : ℕ) (start : Data) (b : BookState) → IsStartData R b.session.start start → depth (book_data R start b) ≤ max_depth
 shallow_book R start b h = let k = (book_plain R start b (start_plain R b.session.start start h)).shallow in omega (arith, k)

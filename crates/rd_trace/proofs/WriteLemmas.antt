@@ -1,37 +1,64 @@
 -- The text of a book is a trace of it.
-use Rattle.std.proofs.Common.{◌≡◌, ℕ, ◌≤◌, false, List, [], ◌∷◌, ◌++◌, Some, IsUtf8, inr, refl, sym, ap, ◌∙◌, subst}
-use Rattle.std.proofs.lemmas.Str.{IsUtf8-append}
-use Rattle.json.specs.Lex.{tokens}
-use Rattle.json.specs.Print.{print}
-use Rattle.json.proofs.Printed.Utf8.{IsUtf8-are_ascii}
+use Rattle.std.proofs.Common.{◌≡◌, ℕ, ◌^◌, ◌<◌, ◌≤◌, false, List, ◌++◌, Some, IsUtf8, inr, sym, ap, ◌∙◌}
 use Rattle.serde_json.specs.Data.{Data, depth}
 use Rattle.serde_json.specs.Read.{read, max_depth}
 use Rattle.serde_json.specs.Written.{has_float, compact_text, IsInOrder}
+use Rattle.rd_step.specs.Prelude.{World}
 use Rattle.rd_marks.specs.Books.{BookState}
-use Rattle.rd_trace.specs.Starts.{IsStartData}
-use Rattle.rd_trace.specs.Saved.{SpellsBook, book_data}
+use Rattle.rd_marks.specs.Rules.{KeepsRules}
+use Rattle.rd_trace.specs.Spelled.{Gives, SpellEach, items_by}
+use Rattle.rd_trace.specs.Events.{event_of, event_data}
+use Rattle.rd_trace.specs.Starts.{IsStartData, SpellsWorld}
+use Rattle.rd_trace.specs.Bookmarks.{IsMark, mark_data}
+use Rattle.rd_trace.specs.Saved.{book_data}
+use Rattle.rd_trace.specs.Texts.{IsReadBack, IsKept, IsStartAppended}
 use Rattle.rd_trace.specs.Loading.{IsReachable}
 use Rattle.rd_trace.specs.Writing.{IsTextOf}
-use Rattle.rd_trace.proofs.LexLemmas.{read_line}
-use Rattle.rd_trace.proofs.WholeLemmas.{whole_book, shallow_book}
+use Rattle.rd_trace.proofs.SavedLemmas.{book_spelled}
+use Rattle.rd_trace.proofs.WholeLemmas.{whole_start, shallow_start, shallow_book}
+use Rattle.rd_trace.proofs.TextLemmas.{each_spelled, list_back, whole_text, book_text, book_back, read_line, back_of_text}
 
--- what is known of the bytes that a value is written as
-pub record AreBytesOf (bytes : List ℕ) (d : Data) : Type 0 where
-  pub text : has_float d ≡ false → bytes ≡ compact_text d
-  pub compact : bytes ≡ print (tokens bytes)
-  pub utf8 : IsUtf8 bytes
-  pub order : IsInOrder bytes d
-  pub reads_back : depth d ≤ max_depth → read bytes ≡ Some d
+-- the text of the value of a start was appended
+pub start_appended : (R : ℕ) (w : World) (start : Data) (bytes old new : List ℕ) → IsStartData R w start → SpellsWorld R w start → (has_float start ≡ false → bytes ≡ compact_text start)
+    → IsInOrder bytes start → (depth start ≤ max_depth → read bytes ≡ Some start) → new ≡ old ++ bytes → IsStartAppended R w old new
+start_appended R w start bytes old new is_start spelled text order reads appended =
+    let none = whole_start R w start is_start in
+    let shallow = shallow_start R w start is_start in
+    record {
+      start = start;
+      is_start = is_start;
+      spelled = spelled;
+      back = back_of_text start shallow bytes order none (reads shallow);
+      text = appended ∙ ap (λ s. old ++ s) (text none);
+    }
 
--- the bytes of the value of a book are its text, with a line feed after them
-pub text_of_book : (R : ℕ) (b : BookState) (d : Data) (bytes text : List ℕ) → (start : Data) × IsStartData R b.session.start start × (d ≡ book_data R start b) → SpellsBook R b d → IsReachable R b
-    → AreBytesOf bytes d → text ≡ bytes ++ 10 ∷ [] → IsTextOf R b text
-text_of_book R b d bytes text (start, is_start, is) (t, second, flawless, same) reachable written ended =
-    let whole : has_float d ≡ false = ap has_float is ∙ whole_book R start b is_start in
-    let shallow : depth d ≤ max_depth = subst (λ e. depth e ≤ max_depth) (sym is) (shallow_book R start b is_start) in
-    let utf8 : IsUtf8 (bytes ++ 10 ∷ []) = IsUtf8-append bytes (10 ∷ []) written.utf8 (IsUtf8-are_ascii (10 ∷ []) refl) in
-    let reads : read (bytes ++ 10 ∷ []) ≡ Some d = read_line bytes d written.order whole written.compact ∙ written.reads_back shallow in
-    subst (IsTextOf R b) (sym ended) (record {
-      written = (start, is_start, ap (λ s. s ++ 10 ∷ []) (written.text whole ∙ ap compact_text is));
-      loads = λ ring. record { reachable = reachable; reads = (t, (utf8, d, reads, (ring, inr second)), flawless, same) };
-    })
+-- what is known of the values of a book's parts
+pub record AreItsParts (R : ℕ) (b : BookState) (start : Data) : Type 0 where
+  pub is_start : IsStartData R b.session.start start
+  pub spells_start : SpellsWorld R b.session.start start
+  pub start_back : IsReadBack start
+  pub live : SpellEach (IsKept (Gives event_of)) (items_by event_data b.session.live) b.session.live
+  pub marks : SpellEach (IsKept IsMark) (items_by mark_data b.marks) b.marks
+  pub undone : SpellEach (IsKept (Gives event_of)) (items_by event_data b.session.undone) b.session.undone
+  pub rules : KeepsRules R b
+  pub reachable : IsReachable R b
+
+-- the texts of its parts, put together, are the text of a book
+pub text_of_book : (R : ℕ) (b : BookState) (start : Data) (text : List ℕ) → R < 2 ^ 64 → AreItsParts R b start
+    → text ≡ whole_text (items_by event_data b.session.live) (items_by mark_data b.marks) R start (items_by event_data b.session.undone) → IsUtf8 text → IsTextOf R b text
+text_of_book R b start text fits parts is utf8 =
+    let live = items_by event_data b.session.live in
+    let marks = items_by mark_data b.marks in
+    let undone = items_by event_data b.session.undone in
+    let written = is ∙ sym (book_text live marks undone R start) in
+    let back =
+    book_back live marks undone R start fits (list_back (Gives event_of) live b.session.live parts.live) (list_back IsMark marks b.marks parts.marks) parts.start_back
+    (list_back (Gives event_of) undone b.session.undone parts.undone) in
+    let spelled =
+    book_spelled R b start parts.spells_start (each_spelled (Gives event_of) live b.session.live parts.live) (each_spelled (Gives event_of) undone b.session.undone parts.undone)
+    (record { each = each_spelled IsMark marks b.marks parts.marks; names = parts.rules.names; few = parts.rules.few }) in
+    let reads = ap read written ∙ read_line (book_data R start b) (shallow_book R start b parts.is_start) back in
+    record {
+      written = (start, parts.is_start, written);
+      loads = λ ring. record { reachable = parts.reachable; reads = (spelled.0, (utf8, book_data R start b, reads, (ring, inr spelled.1)), spelled.2, spelled.3) };
+    }

@@ -7,6 +7,7 @@ pub mod Segments
 pub mod Arrays
 pub mod Starts
 pub mod Bookmarks
+pub mod Texts
 pub mod Traces
 pub mod Saved
 pub mod Loading

@@ -13,7 +13,7 @@ ghost use Rattle.rd_trace.specs.Actors.{op_of, short_op, long_op, op_data, value
 use super::faults::FormFault;
 use super::members::{bit_at, byte_in, member_count, number_at};
 use super::names::{name_in, name_value};
-use super::spelled::Spelled;
+use super::spelled::{Spelled, Written};
 use rd_actor::{Actor, Op, Pc};
 use serde_json::{Map, Value, json, put};
 use std::alloc::{AllocError, Global};
@@ -48,12 +48,14 @@ const VAL: &str = "val";
 impl Spelled for Actor {
     ghost spells = { IsActor };
 
-    ghost datum = { actor_data };
-
     /// Returns the actor that a JSON value spells.
     fn read(_alloc: Global, value: &Value) -> Result<Actor, FormFault> {
         actor_in(value).ok_or(FormFault::BadForm)
     }
+}
+
+impl Written for Actor {
+    ghost datum = { actor_data };
 
     /// Returns the JSON value of the actor.
     fn write(&self, alloc: Global) -> Result<Value, AllocError> {

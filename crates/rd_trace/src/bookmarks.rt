@@ -1,6 +1,6 @@
 //! Bookmarks: an object with the name and the list of events.
 
-ghost use Rattle.std.specs.Prelude.{◌≡◌, IfOk, OnOk, IfSome, IfNone};
+ghost use Rattle.std.specs.Prelude.{◌≡◌, OnOk, IfSome, IfNone, string_bytes};
 ghost use Rattle.std.specs.List.{list_any};
 ghost use Rattle.serde_json.specs.View.{view, items_view};
 ghost use Rattle.rd_marks.specs.BookViews.{book_state};
@@ -8,16 +8,19 @@ ghost use Rattle.rd_marks.specs.Books.{mark_events};
 ghost use Rattle.rd_marks.specs.Names.{same_name};
 ghost use Rattle.rd_marks.specs.Rules.{KeepsRules};
 ghost use Rattle.rd_marks.specs.declared.names.MarkName.{MarkName};
-ghost use Rattle.rd_trace.specs.Spelled.{Reads, items_by};
-ghost use Rattle.rd_trace.specs.Bookmarks.{AreMarks, IsMark, HasMarkName, saved_mark, saved_marks, mark_data, mark_object};
+ghost use Rattle.rd_trace.specs.Spelled.{Reads};
+ghost use Rattle.rd_trace.specs.Bookmarks.{AreMarks, IsMark, HasMarkName, saved_mark, saved_marks, mark_data};
+ghost use Rattle.rd_trace.specs.Texts.{AreAppended, IsMarkAppended};
 
+use super::events::put_events;
 use super::faults::FormFault;
 use super::members::{member_count, text_at};
-use super::spelled::{list_at, list_value};
+use super::spelled::list_at;
+use super::texts::comma_after;
 use rd_cell::limits::MOST_MARKS;
 use rd_marks::{Book, MarkName};
 use rd_step::Event;
-use serde_json::{Value, json};
+use serde_json::Value;
 use std::alloc::{AllocError, Global};
 
 /// The number of members of a bookmark.
@@ -90,43 +93,42 @@ fn name_in(value: &Value) -> Option<MarkName>
     }
 }
 
-/// Returns the JSON values of the bookmarks of a book, in order.
-pub fn marks_value<const R: usize>(alloc: Global, book: &Book<R>) -> Result<Vec<Value>, AllocError>
-    ensures values { IfOk result (λ values. items_view values.items ≡ items_by mark_data (book_state book.now).marks) }
-    ensures spelled { OnOk result (AreMarks (items_by mark_data (book_state book.now).marks) (book_state book.now).marks) }
+/// Appends the texts of the bookmarks of a book to the text, in order, with commas between them.
+pub fn put_marks<const R: usize>(
+    alloc: Global,
+    text: &mut String,
+    book: &Book<R>,
+) -> Result<(), AllocError>
+    ensures marks { OnOk result (AreAppended IsMark mark_data (book_state book.now).marks (string_bytes text.old) (string_bytes text.new)) }
     ensures rules { KeepsRules R (book_state book.now) }
 {
     let count = book.marks();
-    let mut values = Vec::with_capacity(alloc, count as usize)?;
     for i in 0..count {
         let Ok((name, _)) = book.mark_at(i + 1) else {
             unreachable!();
         };
-        values.push_reserved(mark_value(alloc, book, i + 1, name)?);
+        text.push_str(comma_after(i as usize))?;
+        put_mark(alloc, text, book, i + 1, name)?;
     }
-    Ok(values)
+    Ok(())
 }
 
-/// Returns the JSON value of the bookmark of this number and this name.
-fn mark_value<const R: usize>(
+/// Appends the text of the bookmark of this number and this name.
+fn put_mark<const R: usize>(
     alloc: Global,
+    text: &mut String,
     book: &Book<R>,
     i: u64,
     name: MarkName,
-) -> Result<Value, AllocError>
-    ensures value { IfOk result (λ value. IfSome (mark_events (book_state book.now) i) (λ es. view value ≡ mark_data (record { name = name; events = es }))) }
-    ensures spelled { OnOk result (IfSome (mark_events (book_state book.now) i) (λ es. IsMark (mark_data (record { name = name; events = es })) (record { name = name; events = es }))) }
+) -> Result<(), AllocError>
+    ensures { OnOk result (IfSome (mark_events (book_state book.now) i) (λ es. IsMarkAppended (record { name = name; events = es }) (string_bytes text.old) (string_bytes text.new))) }
 {
     let Ok(events) = book.mark_events(alloc, i) else {
         return Err(AllocError);
     };
-    let events = list_value(alloc, &events)?;
-    mark_object(alloc, events, name.as_str())
-}
-
-/// Returns the JSON object of a bookmark, from the values of its events and its name.
-fn mark_object(alloc: Global, events: Vec<Value>, name: &str) -> Result<Value, AllocError>
-    ensures { IfOk result (λ value. view value ≡ mark_object (items_view events.items) name.now) }
-{
-    json!(in alloc; {EVENTS: events, NAME: name})
+    text.push_str("{\"events\":[")?;
+    put_events(text, &events)?;
+    text.push_str("],\"name\":\"")?;
+    text.push_str(name.as_str())?;
+    text.push_str("\"}")
 }

@@ -1,33 +1,32 @@
 //! Events: an array of a word and an actor, and of a number or a choice if the word takes one.
 
-ghost use Rattle.std.specs.Prelude.{◌≡◌, Some, IfOk, option_and_then};
+ghost use Rattle.std.specs.Prelude.{◌≡◌, ◌++◌, ◌∷◌, [], nat_lt, Some, OnOk, option_and_then, string_bytes, decimal};
+ghost use Rattle.json.specs.Token.{boolean};
+ghost use Rattle.json.specs.Print.{token_text};
+ghost use Rattle.serde_json.specs.Data.{number, unsigned};
 ghost use Rattle.serde_json.specs.Find.{as_str};
 ghost use Rattle.serde_json.specs.View.{view};
+ghost use Rattle.serde_json.specs.Written.{compact_text, comma_if};
 ghost use Rattle.rd_trace.specs.Numbers.{byte_number};
 ghost use Rattle.rd_trace.specs.Spelled.{Gives};
-ghost use Rattle.rd_trace.specs.Events.{act_of_word, act_with, event_by, event_of, short_data, long_data, event_data};
+ghost use Rattle.rd_trace.specs.Events.{act_of_word, act_with, event_by, event_of, event_data};
+ghost use Rattle.rd_trace.specs.Texts.{IsReadBack, IsKept, AreAppended};
 
 use super::faults::FormFault;
 use super::members::byte_in;
 use super::spelled::Spelled;
+use super::texts::{comma_after, put_number};
 use rd_actor::Act;
 use rd_step::Event;
-use serde_json::{Value, json};
+use serde_json::Value;
 use std::alloc::{AllocError, Global};
 
 impl Spelled for Event {
     ghost spells = { Gives event_of };
 
-    ghost datum = { event_data };
-
     /// Returns the event that a JSON value spells.
     fn read(_alloc: Global, value: &Value) -> Result<Event, FormFault> {
         event_in(value).ok_or(FormFault::BadForm)
-    }
-
-    /// Returns the JSON value of the event.
-    fn write(&self, alloc: Global) -> Result<Value, AllocError> {
-        event_value(alloc, *self)
     }
 }
 
@@ -90,31 +89,64 @@ fn act_with(word: &str, value: &Value) -> Option<Act>
     }
 }
 
-/// Returns the JSON value of an event.
-fn event_value(alloc: Global, event: Event) -> Result<Value, AllocError>
-    ensures value { IfOk result (λ value. view value ≡ event_data event) }
+/// Appends the texts of events to the text, with commas between them.
+pub fn put_events(text: &mut String, events: &[Event]) -> Result<(), AllocError>
+    ensures { OnOk result (AreAppended (Gives event_of) event_data events.now (string_bytes text.old) (string_bytes text.new)) }
+{
+    for i in 0..events.len() {
+        put_next(text, i, events[i])?;
+    }
+    Ok(())
+}
+
+/// Appends the text of an event to a text that has this many of its list.
+pub fn put_next(text: &mut String, count: usize, event: Event) -> Result<(), AllocError>
+    ensures ok { OnOk result (string_bytes text.new ≡ string_bytes text.old ++ (comma_if (nat_lt 0 count) ++ compact_text (event_data event))) }
+    ensures kept { OnOk result (IsKept (Gives event_of) (event_data event) event) }
+{
+    text.push_str(comma_after(count))?;
+    put_event(text, event)
+}
+
+/// Appends the text of an event.
+#[tactic(auto, unfolding(json::specs::Print::escape_byte))]
+fn put_event(text: &mut String, event: Event) -> Result<(), AllocError>
+    ensures ok { OnOk result (string_bytes text.new ≡ string_bytes text.old ++ compact_text (event_data event)) }
     ensures spelled { event_of (event_data event) ≡ Some event }
+    ensures back { IsReadBack (event_data event) }
 {
     match event.act {
-        Act::Enq(x) => long_value(alloc, "enq", event.actor, Value::from(x)),
-        Act::Deq => short_value(alloc, "deq", event.actor),
-        Act::AEnq(x) => long_value(alloc, "aenq", event.actor, Value::from(x)),
-        Act::ADeq => short_value(alloc, "adeq", event.actor),
-        Act::Go => short_value(alloc, "go", event.actor),
-        Act::Starve(choice) => long_value(alloc, "starve", event.actor, Value::from(choice)),
+        Act::Enq(x) => put_long(text, "[\"enq\",", event.actor, x),
+        Act::Deq => put_around(text, "[\"deq\",", event.actor, "]"),
+        Act::AEnq(x) => put_long(text, "[\"aenq\",", event.actor, x),
+        Act::ADeq => put_around(text, "[\"adeq\",", event.actor, "]"),
+        Act::Go => put_around(text, "[\"go\",", event.actor, "]"),
+        Act::Starve(choice) => put_around(text, "[\"starve\",", event.actor, choice_end(choice)),
     }
 }
 
-/// Returns the value of an event whose word takes no value.
-fn short_value(alloc: Global, word: &str, actor: u8) -> Result<Value, AllocError>
-    ensures { IfOk result (λ value. view value ≡ short_data word.now actor) }
+/// Appends the beginning of an event, its actor, and a number that ends it.
+fn put_long(text: &mut String, opening: &str, actor: u8, x: u64) -> Result<(), AllocError>
+    ensures ok { OnOk result (string_bytes text.new ≡ string_bytes text.old ++ (opening.now ++ (decimal actor ++ (44 ∷ (decimal x ++ 93 ∷ []))))) }
+    ensures back { IsReadBack (number (unsigned x)) }
 {
-    json!(in alloc; [word, actor])
+    put_around(text, opening, actor, ",")?;
+    put_number(text, x)?;
+    text.push_str("]")
 }
 
-/// Returns the value of an event whose word takes a value.
-fn long_value(alloc: Global, word: &str, actor: u8, last: Value) -> Result<Value, AllocError>
-    ensures { IfOk result (λ value. view value ≡ long_data word.now actor (view last)) }
+/// Appends the beginning of an event, its actor, and the end of it.
+fn put_around(text: &mut String, opening: &str, actor: u8, closing: &str) -> Result<(), AllocError>
+    ensures { OnOk result (string_bytes text.new ≡ string_bytes text.old ++ (opening.now ++ (decimal actor ++ closing.now))) }
 {
-    json!(in alloc; [word, actor, last])
+    text.push_str(opening)?;
+    put_number(text, u64::from(actor))?;
+    text.push_str(closing)
+}
+
+/// Returns the end of an event that a choice ends.
+fn choice_end(choice: bool) -> &'static str
+    ensures { result.now ≡ 44 ∷ (token_text (boolean choice) ++ 93 ∷ []) }
+{
+    if choice { ",true]" } else { ",false]" }
 }

@@ -24,6 +24,7 @@ mod saved;
 mod segments;
 mod spelled;
 mod starts;
+mod texts;
 mod write;
 
 pub use any_book::AnyBook;

@@ -1,9 +1,8 @@
 //! Whole sessions: the object of version 1, which is only read, and that of version 2, which is
 //! read and written.
 
-ghost use Rattle.std.specs.Prelude.{◌≡◌, ◌≤◌, ◌++◌, ℕ, Some, codes, IfOk, OnOk, IfSome, IfNone};
-ghost use Rattle.serde_json.specs.Data.{Data};
-ghost use Rattle.serde_json.specs.View.{view, items_view};
+ghost use Rattle.std.specs.Prelude.{◌≡◌, ◌≤◌, ◌++◌, ℕ, Some, codes, IfOk, OnOk, IfSome, IfNone, IsUtf8, string_bytes};
+ghost use Rattle.serde_json.specs.View.{view};
 ghost use Rattle.rd_step.specs.Prelude.{MOST_CELLS};
 ghost use Rattle.rd_journal.specs.Sessions.{state};
 ghost use Rattle.rd_marks.specs.BookViews.{book_state};
@@ -11,21 +10,24 @@ ghost use Rattle.rd_marks.specs.Rules.{GoThrough};
 ghost use Rattle.rd_trace.specs.Numbers.{member_count, number_at};
 ghost use Rattle.rd_trace.specs.Traces.{IsTraceRing, ring_length};
 ghost use Rattle.rd_trace.specs.Starts.{IsStartData, SpellsWorld};
-ghost use Rattle.rd_trace.specs.Spelled.{Reads, Gives, AreSpelled};
+ghost use Rattle.rd_trace.specs.Spelled.{Reads, Gives};
 ghost use Rattle.rd_trace.specs.Events.{event_of, event_data};
-ghost use Rattle.rd_trace.specs.Saved.{saved_trace, IsFirstTrace, IsSecondTrace, IsEither, SpellsBook, book_object, book_data};
-ghost use Rattle.rd_trace.specs.Loading.{IsReachable};
+ghost use Rattle.rd_trace.specs.Saved.{saved_trace, IsFirstTrace, IsSecondTrace, IsEither};
+ghost use Rattle.rd_trace.specs.Texts.{AreAppended, IsStartAppended};
+ghost use Rattle.rd_trace.specs.Writing.{IsTextOf};
 
-use super::bookmarks::{SavedMark, marks_in, marks_value};
+use super::bookmarks::{SavedMark, marks_in, put_marks};
+use super::events::put_next;
 use super::faults::FormFault;
 use super::members::{array_at, member_count, number_at};
 use super::rings::Ring;
-use super::spelled::{Spelled, list_at};
+use super::spelled::list_at;
 use super::starts::{Start, actors_at, start_in, start_value};
+use super::texts::put_number;
 use rd_journal::Session;
 use rd_marks::Book;
 use rd_step::Event;
-use serde_json::{Value, json};
+use serde_json::Value;
 use std::alloc::{AllocError, Global};
 
 /// The number of members of a trace of version 1.
@@ -140,41 +142,25 @@ fn second_session_in<const R: usize>(
     })
 }
 
-/// Returns the JSON value of a book's session and bookmarks, of version 2.
-pub fn book_value<const R: usize>(alloc: Global, book: &Book<R>) -> Result<Value, AllocError>
-    ensures value { IfOk result (λ value. (start : Data) × IsStartData R (book_state book.now).session.start start
-        × (view value ≡ book_data R start (book_state book.now))) }
-    ensures spelled { IfOk result (λ value. SpellsBook R (book_state book.now) (view value)) }
-    ensures reachable { OnOk result (IsReachable R (book_state book.now)) }
+/// Returns the text of a book's session and bookmarks, of version 2, with a line feed after it.
+pub fn text_of<const R: usize>(alloc: Global, book: &Book<R>) -> Result<String, AllocError>
+    ensures { IfOk result (λ text. IsUtf8 (string_bytes text) → IsTextOf R (book_state book.now) (string_bytes text)) }
 {
     let session = book.session();
     events_go_through(session);
-    let events = live_value(alloc, session)?;
-    let marks = marks_value(alloc, book)?;
-    let start = start_of(alloc, session)?;
-    let undone = undone_value(alloc, session)?;
-    book_object(alloc, events, marks, R as u64, start, undone)
-}
-
-/// Returns the JSON object of a book, from the values of its parts.
-fn book_object(
-    alloc: Global,
-    events: Vec<Value>,
-    marks: Vec<Value>,
-    cells: u64,
-    start: Value,
-    undone: Vec<Value>,
-) -> Result<Value, AllocError>
-    ensures { IfOk result (λ value. view value ≡ book_object (items_view events.items) (items_view marks.items) cells (view start) (items_view undone.items)) }
-{
-    json!(in alloc; {
-        EVENTS: events,
-        MARKS: marks,
-        RING: cells,
-        START: start,
-        UNDONE: undone,
-        VERSION: WRITTEN
-    })
+    let mut text = String::new(alloc);
+    text.push_str("{\"events\":[")?;
+    put_live(&mut text, session)?;
+    text.push_str("],\"marks\":[")?;
+    put_marks(alloc, &mut text, book)?;
+    text.push_str("],\"ring\":")?;
+    put_number(&mut text, R as u64)?;
+    text.push_str(",\"start\":")?;
+    put_start(alloc, &mut text, session)?;
+    text.push_str(",\"undone\":[")?;
+    put_undone(&mut text, session)?;
+    text.push_str("],\"version\":2}\n")?;
+    Ok(text)
 }
 
 /// The live events of a session, and then its undone ones, can run from its start: this law follows
@@ -196,32 +182,40 @@ fn start_of<const R: usize>(alloc: Global, session: &Session<R>) -> Result<Value
     start_value(alloc, &world)
 }
 
-/// Returns the JSON values of the live events of a session.
-fn live_value<const R: usize>(alloc: Global, session: &Session<R>) -> Result<Vec<Value>, AllocError>
-    ensures { IfOk result (λ values. AreSpelled (Gives event_of) event_data values.items (state session.now).live) }
+/// Appends the text of the start of a session.
+fn put_start<const R: usize>(
+    alloc: Global,
+    text: &mut String,
+    session: &Session<R>,
+) -> Result<(), AllocError>
+    ensures { OnOk result (IsStartAppended R (state session.now).start (string_bytes text.old) (string_bytes text.new)) }
 {
-    let live = session.live();
-    let mut values = Vec::with_capacity(alloc, live.len())?;
-    for k in 0..live.len() {
-        values.push_reserved(live.at(k).event.write(alloc)?);
-    }
-    Ok(values)
+    let start = start_of(alloc, session)?;
+    let written = start.to_string(alloc)?;
+    text.push_str(written.as_str())
 }
 
-/// Returns the JSON values of the undone events of a session, the one undone last first.
-fn undone_value<const R: usize>(
-    alloc: Global,
-    session: &Session<R>,
-) -> Result<Vec<Value>, AllocError>
-    ensures { IfOk result (λ values. AreSpelled (Gives event_of) event_data values.items (state session.now).undone) }
+/// Appends the texts of the live events of a session, with commas between them.
+fn put_live<const R: usize>(text: &mut String, session: &Session<R>) -> Result<(), AllocError>
+    ensures { OnOk result (AreAppended (Gives event_of) event_data (state session.now).live (string_bytes text.old) (string_bytes text.new)) }
 {
-    let count = session.undone_len();
-    let mut values = Vec::with_capacity(alloc, count as usize)?;
-    for k in 0..count {
+    let live = session.live();
+    for k in 0..live.len() {
+        put_next(text, k, live.at(k).event)?;
+    }
+    Ok(())
+}
+
+/// Appends the texts of the undone events of a session, the one undone last first, with commas
+/// between them.
+fn put_undone<const R: usize>(text: &mut String, session: &Session<R>) -> Result<(), AllocError>
+    ensures { OnOk result (AreAppended (Gives event_of) event_data (state session.now).undone (string_bytes text.old) (string_bytes text.new)) }
+{
+    for k in 0..session.undone_len() {
         let Some(event) = session.undone_event(k + 1) else {
             unreachable!();
         };
-        values.push_reserved(event.write(alloc)?);
+        put_next(text, k as usize, event)?;
     }
-    Ok(values)
+    Ok(())
 }

@@ -12,7 +12,7 @@ use super::actors::value_in;
 use super::faults::FormFault;
 use super::members::{array_at, bit_at, member_count, number_at};
 use super::names::{next_in, next_value};
-use super::spelled::{Spelled, list_in, list_value};
+use super::spelled::{Spelled, Written, list_in, list_value};
 use rd_cell::Cell;
 use rd_step::SegmentParts;
 use serde_json::{Value, json};
@@ -34,8 +34,6 @@ const TAIL: &str = "tail";
 impl<const R: usize> Spelled for Vec<SegmentParts<R>> {
     ghost spells = { IsSegmentList };
 
-    ghost datum = { list_data };
-
     ghost fits = { R ≤ MOST_CELLS };
 
     /// Returns the list of segments that a JSON value spells.
@@ -45,6 +43,10 @@ impl<const R: usize> Spelled for Vec<SegmentParts<R>> {
             Some(list) => list_in(alloc, list),
         }
     }
+}
+
+impl<const R: usize> Written for Vec<SegmentParts<R>> {
+    ghost datum = { list_data };
 
     /// Returns the JSON value of the list of segments.
     fn write(&self, alloc: Global) -> Result<Value, AllocError> {
@@ -55,14 +57,16 @@ impl<const R: usize> Spelled for Vec<SegmentParts<R>> {
 impl<const R: usize> Spelled for SegmentParts<R> {
     ghost spells = { IsSegment };
 
-    ghost datum = { segment_data };
-
     ghost fits = { R ≤ MOST_CELLS };
 
     /// Returns the segment that a JSON value spells.
     fn read(_alloc: Global, value: &Value) -> Result<SegmentParts<R>, FormFault> {
         segment_in(value).ok_or(FormFault::BadForm)
     }
+}
+
+impl<const R: usize> Written for SegmentParts<R> {
+    ghost datum = { segment_data };
 
     /// Returns the JSON value of the segment.
     fn write(&self, alloc: Global) -> Result<Value, AllocError> {
@@ -73,12 +77,14 @@ impl<const R: usize> Spelled for SegmentParts<R> {
 impl Spelled for Cell {
     ghost spells = { Gives cell_of };
 
-    ghost datum = { cell_data };
-
     /// Returns the cell that a JSON value spells.
     fn read(_alloc: Global, value: &Value) -> Result<Cell, FormFault> {
         cell_in(value).ok_or(FormFault::BadForm)
     }
+}
+
+impl Written for Cell {
+    ghost datum = { cell_data };
 
     /// Returns the JSON value of the cell.
     fn write(&self, alloc: Global) -> Result<Value, AllocError> {

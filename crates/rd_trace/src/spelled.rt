@@ -16,9 +16,6 @@ pub trait Spelled: Sized + Drop {
     /// Which values spell which things.
     ghost spells: { Data → Self → Type 0 };
 
-    /// The value as which each thing is written.
-    ghost datum: { Self → Data };
-
     /// A fact that must hold where a thing is read.
     ghost fits: { Type 0 } = { Unit {0} };
 
@@ -30,11 +27,17 @@ pub trait Spelled: Sized + Drop {
     fn read(alloc: Global, value: &Value) -> Result<Self, FormFault>
         requires { fits }
         ensures { Reads itself (spells (view value.now)) result };
+}
+
+/// What is written as a value.
+pub trait Written: Spelled {
+    /// The value as which each thing is written.
+    ghost datum: { Self → Data };
 
     /// Returns the value as which the thing is written, or fails if memory was refused.
     fn write(&self, alloc: Global) -> Result<Value, AllocError>
         ensures value { IfOk result (λ value. view value ≡ datum self.now) }
-        ensures spelled { OnOk result (spells (datum self.now) self.now) };
+        ensures spelled { OnOk result (Self.spells (datum self.now) self.now) };
 }
 
 /// Returns the things that the values of a list spell, in their order.
@@ -70,7 +73,7 @@ pub fn list_at<T: Spelled>(alloc: Global, value: &Value, key: &str) -> Result<Ve
 
 /// Returns the values as which these things are written, in their order, or fails if memory was
 /// refused.
-pub fn list_value<T: Spelled>(alloc: Global, things: &[T]) -> Result<Vec<Value>, AllocError>
+pub fn list_value<T: Written>(alloc: Global, things: &[T]) -> Result<Vec<Value>, AllocError>
     ensures { IfOk result (λ values. AreSpelled T.spells T.datum values.items things.now) }
 {
     let mut values = Vec::with_capacity(alloc, things.len())?;

@@ -1,0 +1,217 @@
+-- Texts that are put together: of lists, of events, of bookmarks and of a book; and that the text of
+-- a value is read as that value.
+use Rattle.std.proofs.Common.{◌≡◌, ℕ, ◌^◌, ◌<◌, ◌≤◌, nat_lt, Bool, true, false, List, [], ◌∷◌, ◌++◌, length, codes, decimal, Option, Some, option_map, option_and_then, refl, sym, ap, ◌∙◌, subst, arith, append_assoc, append-nil, suc, max, ap₂, lt-ltb, if◌then◌else◌, is_ok, Result, Ok, Err, OnOk}
+use Rattle.std.specs.Fmt.{digits}
+use Rattle.json.specs.Token.{Token}
+use Rattle.json.specs.Lex.{tokens}
+use Rattle.json.specs.Print.{escape, escape_byte, ArePrintableOrBad}
+use Rattle.json.specs.Json as json
+use Rattle.json.specs.Tree as tree
+use Rattle.json.proofs.Numbered.{ArePrintableOrBad-tokens}
+use Rattle.json.proofs.Printed.Decimals.{IsNumber-decimal}
+use Rattle.json.proofs.Printed.Trees.{value-json_tokens, ArePrintable-json_tokens}
+use Rattle.serde_json.specs.Data.{Data, null, boolean, number, string, array, object, unsigned, Items, no_items, item, Members, no_members, member, depth, items_depth, members_depth}
+use Rattle.serde_json.specs.Read.{of_json, of_items, read, max_depth}
+use Rattle.serde_json.specs.Written.{outline, items_outline, members_outline, compact_text, items_text, members_text, comma_if, has_float, IsInOrder}
+use Rattle.serde_json.proofs.Numbers.{number_of-decimal}
+use Rattle.serde_json.proofs.Texts.{print-outline, tokens_from_order}
+use Rattle.rd_trace.specs.Spelled.{SpellEach, items_by}
+use Rattle.rd_step.specs.Prelude.{Act}
+use Rattle.rd_step.specs.declared.entries.Event.{Event}
+use Rattle.rd_trace.specs.Events.{short_data, long_data, act_data, event_data}
+use Rattle.rd_trace.specs.Bookmarks.{mark_object}
+use Rattle.rd_trace.specs.Saved.{book_object}
+use Rattle.rd_trace.specs.Texts.{joined_text, IsReadBack, IsKept, AreAppended}
+use Rattle.rd_trace.proofs.LexLemmas.{tokens-line, numbers_of}
+
+-- ---- lists
+
+joined_after : {X : Type 0} (datum : X → Data) (xs : List X) (x : X)
+    → joined_text true (items_by datum (xs ++ x ∷ [])) ≡ joined_text true (items_by datum xs) ++ (44 ∷ compact_text (datum x))
+joined_after datum [] x = ap (λ s. 44 ∷ s) (append-nil (compact_text (datum x)))
+joined_after datum (y ∷ ys) x =
+    ap (λ s. 44 ∷ (compact_text (datum y) ++ s)) (joined_after datum ys x) ∙ ap (λ s. 44 ∷ s) (sym (append_assoc (compact_text (datum y)) (joined_text true (items_by datum ys)) _))
+
+-- one more value after so many
+joined_more : {X : Type 0} (datum : X → Data) (xs : List X) (x : X)
+    → joined_text false (items_by datum (xs ++ x ∷ [])) ≡ joined_text false (items_by datum xs) ++ (comma_if (nat_lt 0 (length xs)) ++ compact_text (datum x))
+joined_more datum [] x = append-nil (compact_text (datum x))
+joined_more datum (y ∷ ys) x =
+    let first = compact_text (datum y) in
+    let more = joined_text true (items_by datum ys) in
+    ap (λ s. first ++ s) (joined_after datum ys x) ∙ sym (append_assoc first more (44 ∷ compact_text (datum x)))
+    ∙ ap (λ b. (first ++ more) ++ (comma_if b ++ compact_text (datum x))) (sym (lt-ltb 0 (suc (length ys)) (omega arith)))
+
+items_text-joined : (later : Bool) (ds : Items) → items_text later ds ≡ joined_text later ds ++ 93 ∷ []
+items_text-joined later no_items = refl
+items_text-joined later (item d ds) =
+    ap (λ s. comma_if later ++ (compact_text d ++ s)) (items_text-joined true ds)
+    ∙ ap (λ s. comma_if later ++ s) (sym (append_assoc (compact_text d) (joined_text true ds) (93 ∷ [])))
+    ∙ sym (append_assoc (comma_if later) (compact_text d ++ joined_text true ds) (93 ∷ []))
+
+-- the text of a list with its closing bracket, and what is after it
+closed_text : (ds : Items) (z : List ℕ) → items_text false ds ++ z ≡ joined_text false ds ++ 93 ∷ z
+closed_text ds z = ap (λ s. s ++ z) (items_text-joined false ds) ∙ append_assoc (joined_text false ds) (93 ∷ []) z
+
+module _ {X : Type 0} (Spells : Data → X → Type 0) where
+  pub each_spelled : (ds : Items) (xs : List X) → SpellEach (IsKept Spells) ds xs → SpellEach Spells ds xs
+  each_spelled no_items [] h = tt
+  each_spelled no_items (x ∷ xs) h = absurd h
+  each_spelled (item d ds) [] h = absurd h
+  each_spelled (item d ds) (x ∷ xs) h = (h.0.spelled, each_spelled ds xs h.1)
+
+  items_numbers : (ds : Items) (xs : List X) → SpellEach (IsKept Spells) ds xs → tree.ItemsHaveNumbers (items_outline ds)
+  items_numbers no_items [] h = tt
+  items_numbers no_items (x ∷ xs) h = absurd h
+  items_numbers (item d ds) [] h = absurd h
+  items_numbers (item d ds) (x ∷ xs) h = (h.0.back.numbers, items_numbers ds xs h.1)
+
+  items_back : (ds : Items) (xs : List X) → SpellEach (IsKept Spells) ds xs → of_items (items_outline ds) ≡ Some ds
+  items_back no_items [] h = refl
+  items_back no_items (x ∷ xs) h = absurd h
+  items_back (item d ds) [] h = absurd h
+  items_back (item d ds) (x ∷ xs) h =
+      ap (λ o. option_and_then (λ e. option_map (item e) (of_items (items_outline ds))) o) h.0.back.back ∙ ap (λ o. option_map (item d) o) (items_back ds xs h.1)
+
+  pub list_back : (ds : Items) (xs : List X) → SpellEach (IsKept Spells) ds xs → IsReadBack (array ds)
+  list_back ds xs h = record { numbers = items_numbers ds xs h; back = ap (option_map array) (items_back ds xs h) }
+
+  module _ (datum : X → Data) where
+    pub none_appended : (old new : List ℕ) → new ≡ old → AreAppended Spells datum [] old new
+    none_appended old new e = record { text = e ∙ sym (append-nil old); kept = tt }
+
+    kept_more : (ys : List X) (x : X) → SpellEach (IsKept Spells) (items_by datum ys) ys → IsKept Spells (datum x) x
+        → SpellEach (IsKept Spells) (items_by datum (ys ++ x ∷ [])) (ys ++ x ∷ [])
+    kept_more [] x h k = (k, tt)
+    kept_more (y ∷ ys) x h k = (h.0, kept_more ys x h.1 k)
+
+    pub one_more_appended : (xs : List X) (x : X) (count : ℕ) (old mid new : List ℕ) → length xs ≡ count → AreAppended Spells datum xs old mid
+        → new ≡ mid ++ (comma_if (nat_lt 0 count) ++ compact_text (datum x)) → IsKept Spells (datum x) x → AreAppended Spells datum (xs ++ x ∷ []) old new
+    one_more_appended xs x count old mid new counted h is kept =
+        let more = comma_if (nat_lt 0 (length xs)) ++ compact_text (datum x) in
+        record {
+          text =
+              is ∙ ap (λ n. mid ++ (comma_if (nat_lt 0 n) ++ compact_text (datum x))) (sym counted) ∙ ap (λ s. s ++ more) h.text
+              ∙ append_assoc old (joined_text false (items_by datum xs)) more ∙ ap (λ s. old ++ s) (sym (joined_more datum xs x));
+          kept = kept_more xs x h.kept kept;
+        }
+
+-- ---- events
+
+pub number_back : (n : ℕ) → n < 2 ^ 64 → IsReadBack (number (unsigned n))
+number_back n fits = record { numbers = IsNumber-decimal n fits; back = ap (option_map number) (number_of-decimal n fits) }
+
+pub boolean_back : (b : Bool) → IsReadBack (boolean b)
+boolean_back b = record { numbers = tt; back = refl }
+
+pub short_back : (word : List ℕ) (actor : ℕ) → actor < 2 ^ 64 → IsReadBack (short_data word actor)
+short_back word actor fits = record { numbers = (tt, (IsNumber-decimal actor fits, tt)); back = rw (number_of-decimal actor fits) refl }
+
+pub long_back : (word : List ℕ) (actor : ℕ) (d : Data) → actor < 2 ^ 64 → IsReadBack d → IsReadBack (long_data word actor d)
+long_back word actor d fits h = record { numbers = (tt, (IsNumber-decimal actor fits, (h.numbers, tt))); back = rw (number_of-decimal actor fits, h.back) refl }
+
+pub act_back : (e : Event) (act : Act) → e.act ≡ act → IsReadBack (act_data e.actor act) → IsReadBack (event_data e)
+act_back e act is = subst (λ a. IsReadBack (act_data e.actor a)) (sym is)
+
+-- ---- bookmarks
+
+pub mark_text : (es : Items) (name : List ℕ) → escape name ≡ name
+    → compact_text (mark_object es name) ≡ codes "{\"events\":[" ++ (joined_text false es ++ (codes "],\"name\":\"" ++ (name ++ codes "\"}")))
+unfolding escape_byte
+mark_text es name plain =
+    ap (λ s. codes "{\"events\":[" ++ s)
+    (closed_text es _
+    ∙ ap (λ s. joined_text false es ++ (codes "],\"name\":\"" ++ s)) (append_assoc (escape name) (34 ∷ []) (125 ∷ []) ∙ ap (λ s. s ++ codes "\"}") plain))
+
+pub mark_back : (es : Items) (name : List ℕ) → IsReadBack (array es) → IsReadBack (mark_object es name)
+mark_back es name h = record { numbers = (h.numbers, (tt, tt)); back = rw h.back refl }
+
+-- ---- books
+
+-- the parts of the text of a book, in order
+abbrev pub whole_text : Items → Items → ℕ → Data → Items → List ℕ
+whole_text events marks cells start undone =
+    codes "{\"events\":[" ++ (joined_text false events ++ (codes "],\"marks\":[" ++ (joined_text false marks ++ (codes "],\"ring\":" ++ (decimal cells ++ (codes ",\"start\":" ++ (compact_text start
+    ++ (codes ",\"undone\":[" ++ (joined_text false undone ++ codes "],\"version\":2}\n")))))))))
+
+-- a list or another part, and what is put after all
+list_then : (ds : Items) (t n u : List ℕ) → t ++ n ≡ u → (items_text false ds ++ t) ++ n ≡ joined_text false ds ++ 93 ∷ u
+list_then ds t n u e = append_assoc (items_text false ds) t n ∙ closed_text ds (t ++ n) ∙ ap (λ s. joined_text false ds ++ 93 ∷ s) e
+
+part_then : (p t n u : List ℕ) → t ++ n ≡ u → (p ++ t) ++ n ≡ p ++ u
+part_then p t n u e = append_assoc p t n ∙ ap (λ s. p ++ s) e
+
+pub book_text : (events marks undone : Items) (cells : ℕ) (start : Data) → compact_text (book_object events marks cells start undone) ++ 10 ∷ [] ≡ whole_text events marks cells start undone
+unfolding escape_byte digits
+book_text events marks undone cells start =
+    let version : Members = member (codes "version") (number (unsigned 2)) no_members in
+    let from_undone : Members = member (codes "undone") (array undone) version in
+    let from_start : Members = member (codes "start") start from_undone in
+    let from_ring : Members = member (codes "ring") (number (unsigned cells)) from_start in
+    let from_marks : Members = member (codes "marks") (array marks) from_ring in
+    let ended = ap (λ s. codes ",\"undone\":[" ++ s) (list_then undone (members_text true version) (10 ∷ []) (codes ",\"version\":2}\n") refl) in
+    let started = ap (λ s. codes ",\"start\":" ++ s) (part_then (compact_text start) (members_text true from_undone) (10 ∷ []) _ ended) in
+    let ringed = ap (λ s. codes ",\"ring\":" ++ s) (part_then (decimal cells) (members_text true from_start) (10 ∷ []) _ started) in
+    let marked = ap (λ s. codes ",\"marks\":[" ++ s) (list_then marks (members_text true from_ring) (10 ∷ []) _ ringed) in
+    ap (λ s. codes "{\"events\":[" ++ s) (list_then events (members_text true from_marks) (10 ∷ []) _ marked)
+
+-- what holds where the last part is appended holds if that goes through
+pub last_appended : {T E : Type 0} (r : Result T E) (old new part : List ℕ) (P : Type 0) → new ≡ (if is_ok r then old ++ part else old) → (new ≡ old ++ part → P) → OnOk r P
+last_appended (Ok x) old new part P is h = h is
+last_appended (Err e) old new part P is h = tt
+
+-- a part after another one
+pub two_parts : (a b c p q : List ℕ) → b ≡ a ++ p → c ≡ b ++ q → c ≡ a ++ (p ++ q)
+two_parts a b c p q first second = second ∙ ap (λ s. s ++ q) first ∙ append_assoc a p q
+
+-- two parts, the second by a call that may fail
+pub both_appended : {T E : Type 0} (r : Result T E) (a b c p q : List ℕ) → b ≡ a ++ p → OnOk r (c ≡ b ++ q) → OnOk r (c ≡ a ++ (p ++ q))
+both_appended (Ok x) a b c p q first second = two_parts a b c p q first second
+both_appended (Err e) a b c p q first second = tt
+
+pub book_back : (events marks undone : Items) (cells : ℕ) (start : Data) → cells < 2 ^ 64 → IsReadBack (array events) → IsReadBack (array marks) → IsReadBack start → IsReadBack (array undone)
+    → IsReadBack (book_object events marks cells start undone)
+book_back events marks undone cells start fits es ms s us = record {
+  numbers = (es.numbers, (ms.numbers, (IsNumber-decimal cells fits, (s.numbers, (us.numbers, (IsNumber-decimal 2 (omega arith), tt))))));
+  back = rw (es.back, ms.back, number_of-decimal cells fits, s.back, us.back, number_of-decimal 2 (omega arith)) refl;
+}
+
+-- ---- what is read
+
+mutual
+  depth-outline : (d : Data) → tree.depth (outline d) ≡ depth d
+  depth-outline null = refl
+  depth-outline (boolean b) = refl
+  depth-outline (number n) = refl
+  depth-outline (string s) = refl
+  depth-outline (array ds) = ap (λ n. suc n) (items_depth-outline ds)
+  depth-outline (object ms) = ap (λ n. suc n) (members_depth-outline ms)
+
+  items_depth-outline : (ds : Items) → tree.items_depth (items_outline ds) ≡ items_depth ds
+  items_depth-outline no_items = refl
+  items_depth-outline (item d ds) = ap₂ max (depth-outline d) (items_depth-outline ds)
+
+  members_depth-outline : (ms : Members) → tree.members_depth (members_outline ms) ≡ members_depth ms
+  members_depth-outline no_members = refl
+  members_depth-outline (member k d ms) = ap₂ max (depth-outline d) (members_depth-outline ms)
+
+-- the value that was parsed, if nothing is after it
+abbrev parsed : Option (json.Json × List Token) → Option Data
+parsed o = option_and_then of_json (option_and_then (λ p. json.if_last p.0 p.1) o)
+
+module _ (d : Data) (shallow : depth d ≤ max_depth) where
+  -- what is read of the tokens of a value
+  read_tokens : (text : List ℕ) → tokens text ≡ tree.json_tokens (outline d) → read text ≡ of_json (outline d)
+  read_tokens text same =
+      ap parsed (ap (json.value max_depth) (same ∙ sym (append-nil _)) ∙ value-json_tokens (outline d) max_depth [] (omega (arith, depth-outline d, shallow)))
+
+  -- the text of a value and a line feed are read as the value
+  pub read_line : IsReadBack d → read (compact_text d ++ 10 ∷ []) ≡ Some d
+  read_line h =
+      read_tokens (compact_text d ++ 10 ∷ []) (ap (λ s. tokens (s ++ 10 ∷ [])) (sym (print-outline d)) ∙ tokens-line (tree.json_tokens (outline d)) (ArePrintable-json_tokens (outline d) h.numbers)) ∙ h.back
+
+  -- a value that a text in its order is read as is read back
+  pub back_of_text : (text : List ℕ) → IsInOrder text d → has_float d ≡ false → read text ≡ Some d → IsReadBack d
+  back_of_text text order none reads =
+      let same = tokens_from_order text d order none in
+      record { numbers = numbers_of (outline d) (subst ArePrintableOrBad same (ArePrintableOrBad-tokens text)); back = sym (read_tokens text same) ∙ reads }

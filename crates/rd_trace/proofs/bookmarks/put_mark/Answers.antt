@@ -1,0 +1,28 @@
+use Rattle.std.proofs.Common.{List, codes, Option, Some, None, Ok, IfSome, Vec, string_bytes, ap, ◌∙◌, ◌++◌, subst}
+use Rattle.std.specs.Global.{Global}
+use Rattle.rd_step.specs.declared.entries.Event.{Event}
+use Rattle.rd_marks.specs.BookViews.{book_state}
+use Rattle.rd_marks.specs.Books.{mark_events, AnswersEvents}
+use Rattle.rd_trace.specs.Spelled.{Gives}
+use Rattle.rd_trace.specs.Events.{event_of, event_data}
+use Rattle.rd_trace.specs.Texts.{AreAppended, IsMarkAppended}
+use Rattle.rd_trace.proofs.MarkLemmas.{mark_appended}
+use Rattle.rd_trace.proofs.TextLemmas.{last_appended}
+use Rattle.rd_trace.proofs.bookmarks.put_mark.Goals as goal
+
+-- what holds of the events that were answered holds of the bookmark's
+of_answered : (o : Option (List Event)) (list : Vec Event Global) (P : List Event → Type 0) → AnswersEvents o (Ok list) → P list.items → IfSome o P
+of_answered None list P said h = cc
+of_answered (Some es) list P said h = subst P said h
+
+pub returns : goal.returns
+returns g c =
+    let name = c.args.name in
+    let old = string_bytes c.args.text.now in
+    let new = string_bytes c.push_str-4.new.self in
+    let written = subst (λ (es : List Event). AreAppended (Gives event_of) event_data es (string_bytes c.push_str.new.self) (string_bytes c.put_events.new.text)) c.deref.ensures.value c.in_ok-put_events.ensures in
+    last_appended c.push_str-4.result (string_bytes c.push_str-3.new.self) new (codes "\"}") _ c.push_str-4.ensures.bytes
+    (λ closed.
+    of_answered (mark_events (book_state c.args.book.now) c.args.i) c.in-Ok.events (λ es. IsMarkAppended (record { name = name; events = es }) old new) c.in-Ok.ensures
+    (mark_appended name c.in-Ok.events.items old (string_bytes c.push_str.new.self) (string_bytes c.put_events.new.text) (string_bytes c.push_str-2.new.self) (string_bytes c.push_str-3.new.self) new c.in_ok-push_str.ensures.bytes written c.in_ok-push_str-2.ensures.bytes
+    (c.in_ok-push_str-3.ensures.bytes ∙ ap (λ s. string_bytes c.push_str-2.new.self ++ s) c.as_str.ensures.text) closed))

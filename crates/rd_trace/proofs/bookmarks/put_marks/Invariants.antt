@@ -1,0 +1,9 @@
+use Rattle.std.proofs.Common.{take, string_bytes}
+use Rattle.rd_marks.specs.BookViews.{book_state}
+use Rattle.rd_trace.specs.Bookmarks.{IsMark, mark_data}
+use Rattle.rd_trace.specs.Texts.{AreAppended}
+use Rattle.rd_trace.proofs.bookmarks.put_marks.Given as goal
+
+-- the texts of the bookmarks before this one
+abbrev pub invariant-loop-i : goal.invariant-loop-i
+invariant-loop-i g l = AreAppended IsMark mark_data (take l.i (book_state l.book).marks) (string_bytes l.initial.text) (string_bytes l.text)

@@ -1,0 +1,9 @@
+use Rattle.std.proofs.Common.{take, string_bytes}
+use Rattle.rd_trace.specs.Spelled.{Gives}
+use Rattle.rd_trace.specs.Events.{event_of, event_data}
+use Rattle.rd_trace.specs.Texts.{AreAppended}
+use Rattle.rd_trace.proofs.events.put_events.Given as goal
+
+-- the texts of the events before this one
+abbrev pub invariant-loop-i : goal.invariant-loop-i
+invariant-loop-i l = AreAppended (Gives event_of) event_data (take l.i l.events) (string_bytes l.initial.text) (string_bytes l.text)

@@ -1,0 +1,31 @@
+use Rattle.std.proofs.Common.{◌≡◌, ◌≤◌, ◌+◌, ◌++◌, ◌∷◌, [], List, length, take, string_bytes, refl, sym, ap, subst, arith}
+use Rattle.std.proofs.lemmas.List.{take_all, length-map, length-take-le}
+use Rattle.rd_step.specs.declared.entries.Event.{Event}
+use Rattle.rd_journal.specs.Sessions.{state}
+use Rattle.rd_trace.specs.Spelled.{Gives}
+use Rattle.rd_trace.specs.Events.{event_of, event_data}
+use Rattle.rd_trace.specs.Texts.{AreAppended}
+use Rattle.rd_trace.proofs.SavedLemmas.{live_next}
+use Rattle.rd_trace.proofs.TextLemmas.{none_appended, one_more_appended}
+use Rattle.rd_trace.proofs.saved.put_live.Goals as goal
+
+pub loop-k-init : goal.loop-k-init
+loop-k-init g c = none_appended (Gives event_of) event_data _ _ refl
+
+pub loop-k-preserved : goal.loop-k-preserved
+loop-k-preserved g c =
+    let k = c.loop-k.k in
+    let es = (state c.args.session.now).live in
+    let e = c.at.result.now.event in
+    let old = string_bytes c.args.text.now in
+    let within : k ≤ length es = omega (arith, ap length c.live-live.ensures.events, length-map c.live-live.result (λ x. x.event)) in
+    let next : take (k + 1) es ≡ take k es ++ e ∷ [] =
+    subst (λ (fs : List Event). take (k + 1) fs ≡ take k fs ++ e ∷ []) c.live-live.ensures.events (live_next c.live-live.result k c.at.result.now (omega arith) c.at.ensures) in
+    subst (λ (fs : List Event). AreAppended (Gives event_of) event_data fs old (string_bytes c.put_next.new.text)) (sym next)
+    (one_more_appended (Gives event_of) event_data (take k es) e k old (string_bytes c.loop-k.text) (string_bytes c.put_next.new.text) (length-take-le k es within) c.loop-k.invariant
+    c.in_ok-put_next.ensures.ok c.in_ok-put_next.ensures.kept)
+
+pub returns : goal.returns
+returns g c =
+    subst (λ (es : List Event). AreAppended (Gives event_of) event_data es (string_bytes c.args.text.now) (string_bytes c.loop-k.text))
+    (take_all c.loop-k.k (state c.args.session.now).live (omega (arith, ap length c.live-live.ensures.events, length-map c.live-live.result (λ x. x.event)))) c.loop-k.invariant

@@ -1,0 +1,33 @@
+use Rattle.std.proofs.Common.{◌+◌, List, take, string_bytes, refl, sym, ◌∙◌, subst, arith}
+use Rattle.std.proofs.lemmas.List.{take_all, length-take-le}
+use Rattle.rd_step.specs.declared.entries.Event.{Event}
+use Rattle.rd_journal.specs.Sessions.{state}
+use Rattle.rd_trace.specs.Spelled.{Gives}
+use Rattle.rd_trace.specs.Events.{event_of, event_data}
+use Rattle.rd_trace.specs.Texts.{AreAppended}
+use Rattle.rd_trace.proofs.SavedLemmas.{undone_next, some_undone}
+use Rattle.rd_trace.proofs.TextLemmas.{none_appended, one_more_appended}
+use Rattle.rd_trace.proofs.saved.put_undone.Goals as goal
+
+pub loop-k-init : goal.loop-k-init
+loop-k-init g c = none_appended (Gives event_of) event_data _ _ refl
+
+pub unreachable-requires : goal.unreachable-requires
+unreachable-requires g c =
+    let k = c.loop-k.k in
+    absurd (some_undone (state c.args.session.now).undone k (k + 1) (omega arith) (omega (arith, c.undone_len-k-end.ensures.count)) (λ e h. c.in_default.not-Some e (c.undone_event.ensures ∙ h)))
+
+pub loop-k-preserved : goal.loop-k-preserved
+loop-k-preserved g c =
+    let k = c.loop-k.k in
+    let es = (state c.args.session.now).undone in
+    let e = c.in-Some.event in
+    let old = string_bytes c.args.text.now in
+    subst (λ (fs : List Event). AreAppended (Gives event_of) event_data fs old (string_bytes c.put_next.new.text)) (sym (undone_next es k (k + 1) (omega arith) e (sym c.undone_event.ensures ∙ c.in-Some.is)))
+    (one_more_appended (Gives event_of) event_data (take k es) e k old (string_bytes c.loop-k.text) (string_bytes c.put_next.new.text) (length-take-le k es (omega (arith, c.undone_len-k-end.ensures.count)))
+    c.loop-k.invariant c.in_ok-put_next.ensures.ok c.in_ok-put_next.ensures.kept)
+
+pub returns : goal.returns
+returns g c =
+    subst (λ (es : List Event). AreAppended (Gives event_of) event_data es (string_bytes c.args.text.now) (string_bytes c.loop-k.text))
+    (take_all c.loop-k.k (state c.args.session.now).undone (omega (arith, c.undone_len-k-end.ensures.count))) c.loop-k.invariant

@@ -1,0 +1,44 @@
+-- The texts that the parts of a trace are put together of. No public clause cites them.
+use Rattle.std.specs.Prelude.{◌≡◌, ℕ, List, [], ◌++◌, Bool, true, false, Some}
+use Rattle.json.specs.Tree.{HasNumbers}
+use Rattle.serde_json.specs.Data.{Data, Items, no_items, item}
+use Rattle.serde_json.specs.Read.{of_json}
+use Rattle.serde_json.specs.Written.{outline, compact_text, comma_if}
+use Rattle.rd_step.specs.Prelude.{World}
+use Rattle.rd_marks.specs.Books.{Mark}
+use Rattle.rd_trace.specs.Spelled.{SpellEach, items_by}
+use Rattle.rd_trace.specs.Starts.{IsStartData, SpellsWorld}
+use Rattle.rd_trace.specs.Bookmarks.{IsMark, mark_data}
+
+-- the texts of values with commas between them, and one before the first if others are before it
+abbrev pub joined_text : Bool → Items → List ℕ
+joined_text later no_items = []
+joined_text later (item d ds) = comma_if later ++ (compact_text d ++ joined_text true ds)
+
+-- the tokens of a value give it again, and its numbers are numbers of JSON
+pub record IsReadBack (d : Data) : Type 0 where
+  pub numbers : HasNumbers (outline d)
+  pub back : of_json (outline d) ≡ Some d
+
+-- a value spells a thing, and is read back
+pub record IsKept {X : Type 0} (Spells : Data → X → Type 0) (d : Data) (x : X) : Type 0 where
+  pub spelled : Spells d x
+  pub back : IsReadBack d
+
+-- the texts of things were appended to a text, and each is kept
+pub record AreAppended {X : Type 0} (Spells : Data → X → Type 0) (datum : X → Data) (xs : List X) (old new : List ℕ) : Type 0 where
+  pub text : new ≡ old ++ joined_text false (items_by datum xs)
+  pub kept : SpellEach (IsKept Spells) (items_by datum xs) xs
+
+-- the text of a bookmark was appended
+pub record IsMarkAppended (m : Mark) (old new : List ℕ) : Type 0 where
+  pub text : new ≡ old ++ compact_text (mark_data m)
+  pub kept : IsKept IsMark (mark_data m) m
+
+-- so was the text of a value that a start is written as
+pub record IsStartAppended (R : ℕ) (w : World) (old new : List ℕ) : Type 0 where
+  pub start : Data
+  pub is_start : IsStartData R w start
+  pub spelled : SpellsWorld R w start
+  pub back : IsReadBack start
+  pub text : new ≡ old ++ compact_text start
