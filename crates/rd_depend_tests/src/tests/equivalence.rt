@@ -12,7 +12,7 @@ use test_kit::{drawn_event, events_in};
 /// An enqueue and a dequeue begin, and each reads a name.
 const TWO_CALLS: &str = "enq 1 7, deq 2, go 1, go 2";
 
-/// The same with the reads in the other order.
+/// The two calls of `TWO_CALLS`, with their reads in the other order.
 const READS_SWAPPED: &str = "enq 1 7, deq 2, go 2, go 1";
 
 /// The dequeue's steps first.
@@ -31,30 +31,33 @@ const ONE_READ: &str = "enq 1 7, deq 2, go 1";
 /// root's tail.
 const TWO_ADDS: &str = "enq 1 7, enq 2 8, go 1 2, go 2 2, go 1, go 2";
 
-/// The same with the reads in another order.
+/// The two enqueues of `TWO_ADDS`, with their reads in another order.
 const SAME_PLACES_READ: &str = "enq 2 8, go 2, enq 1 7, go 1, go 2, go 1 2, go 2";
 
-/// The same with the adds in the other order: each draws the other's position.
+/// The two enqueues of `TWO_ADDS`, with their adds in the other order: each draws the position that
+/// the other one draws there.
 const ADDS_SWAPPED: &str = "enq 1 7, enq 2 8, go 1 2, go 2 3, go 1";
 
 /// An enqueue draws cell 0 of the root. A dequeue moves the cell on to its next round, and then the
 /// enqueue reads its value.
 const MOVED_THEN_VALUE_READ: &str = "enq 1 7, go 1 3, deq 2, go 2 5, go 1";
 
-/// The same, but the enqueue reads the value just before the cell is moved on, which leaves the
-/// value as it is.
+/// The calls of `MOVED_THEN_VALUE_READ`, where the enqueue reads the value just before the cell is
+/// moved on, which leaves the value as it is.
 const VALUE_READ_THEN_MOVED: &str = "enq 1 7, go 1 3, deq 2, go 2 4, go 1, go 2";
 
 /// The enqueue reads the value and then the index, all after the cell is moved on.
 const MOVED_THEN_INDEX_READ: &str = "enq 1 7, go 1 3, deq 2, go 2 5, go 1 2";
 
-/// The same, but both before that: the index that it reads is another one.
+/// The enqueue reads the value and the index before the cell is moved on: the index that it reads
+/// is another one.
 const INDEX_READ_THEN_MOVED: &str = "enq 1 7, go 1 3, deq 2, go 2 4, go 1 2, go 2";
 
 /// Three dequeues begin, and each reads the queue's head.
 const THREE_CALLS: &str = "deq 1, deq 2, deq 3, go 1, go 2, go 3";
 
-/// The same in another order: what is looked for first is after what is looked for last.
+/// The calls of `THREE_CALLS` in another order: what is looked for first is after what is looked
+/// for last.
 const LAST_CALL_FIRST: &str = "deq 3, deq 2, go 3, deq 1, go 2, go 1";
 
 /// Two enqueues of one value on the array, the first actor's whole before the second's.

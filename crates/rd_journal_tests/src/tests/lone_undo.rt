@@ -135,7 +135,7 @@ fn a_read_is_kept_by_a_later_write(rt: HostRuntime) -> Result<(), Fail> {
     Ok(())
 }
 
-/// A dequeue draws the position of a value, and waits. Another one draws a position behind it,
+/// A dequeue draws the position of a value, and waits. Another one draws a later position,
 /// finds the older value, and marks its cell unsafe, which leaves the value.
 const MARKED: &str = "\
     enq 1 7 -> 1 0, go 1 6 -> 7 0, deq 2 -> 8 0, go 2 2 -> 10 0, deq 3 -> 11 0, go 3 11 -> 22 0, \
@@ -145,7 +145,8 @@ const MARKED: &str = "\
 /// safe bit and the index.
 const MARKING_UNDONE: &str = "go 2 -> 29 0, undo 28 -> 28 1";
 
-/// The same without the undoing: the first step that depends on the marking reads the safe bit.
+/// The first dequeue takes its value with the cell marked: the first step that depends on the
+/// marking reads the safe bit.
 const TAKEN: &str = "go 2 3 -> 31 0, undo 28 -> Depended(30)";
 
 /// The first cell of the root with a safe bit, holding 7.

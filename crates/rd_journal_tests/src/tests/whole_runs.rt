@@ -388,7 +388,7 @@ const MARKS_UNSAFE: &[Line] = &[
     Line::Is(Place::Cell(ROOT, 0), UNSAFE_2),
 ];
 
-/// An enqueue whose position is behind the head finds the unsafe cell, and leaves it.
+/// An enqueue whose position is after the head finds the unsafe cell, and leaves it.
 const MEETS_UNSAFE: &[Line] = &[
     Line::Act(4, Act::Enq(8)),
     Line::Walk(4, &[Pc::E1, Pc::E2, Pc::E4, Pc::E5, Pc::E6, Pc::E7], None),

@@ -18,7 +18,8 @@ fn line_keeps(rt: &impl Abort, book: &mut Book<4>, line: &str, nodes: u64) {
     );
 }
 
-/// The same for the lines of each row.
+/// Has a book obey the lines of each row, none of which is refused, and counts the nodes after each
+/// line.
 fn rows_keep(rt: &impl Abort, book: &mut Book<4>, rows: &[(&str, u64)]) {
     for (lines, nodes) in rows {
         for line in lines.lines() {
@@ -27,7 +28,7 @@ fn rows_keep(rt: &impl Abort, book: &mut Book<4>, rows: &[(&str, u64)]) {
     }
 }
 
-/// The same over a fresh world.
+/// Has a book over a fresh world obey the lines of each row, and counts the nodes after each line.
 fn over_fresh_keep(rt: &impl Abort, alloc: Global, rows: &[(&str, u64)]) -> Result<(), Fail> {
     rows_keep(rt, &mut fresh::<4>(alloc, 4)?, rows);
     Ok(())

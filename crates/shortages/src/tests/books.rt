@@ -4,7 +4,7 @@ use super::trials::on_trial;
 use std::alloc::Global;
 use std::process::Abort;
 
-/// Two actors that race to put a new ring behind a full one, over rings of two cells, and undos
+/// Two actors that race to put a new ring after a full one, over rings of two cells, and undos
 /// among their steps. Then bookmarks, calls on the array, and queries.
 const RACE: &str = "\
     enq 1 7\ngo 1\ngo 1\ngo 1\ngo 1\ngo 1\ngo 1\nenq 1 8\ngo 1\ngo 1\ngo 1\ngo 1\ngo 1\ngo 1\n\

@@ -110,7 +110,8 @@ fn is_pushed(indexed: &mut Indexed, entry: Entry) -> bool {
     indexed.push(entry).is_ok() || indexed.finds_all() && indexed.push(entry).is_ok()
 }
 
-/// The same of room for these.
+/// Makes room for these entries, again if memory was refused. Returns whether it was made at last,
+/// and the index found all there was between.
 fn has_room(indexed: &mut Indexed, entries: &[Entry]) -> bool {
     indexed.make_room(entries).is_ok() || indexed.finds_all() && indexed.make_room(entries).is_ok()
 }

@@ -4,7 +4,7 @@
 use super::trials::{Trial, look, plays};
 use std::alloc::Global;
 
-/// Two bookmarks of which neither begins the other, the race of two actors to put a new ring behind
+/// Two bookmarks of which neither begins the other, the race of two actors to put a new ring after
 /// a full one, and a bookmark at its thirty steps, which are live.
 const BEFORE: &str = "\
     deq 3\nmark x\nundo\ndeq 4\nmark y\nundo\nenq 1 7\ngo 1\ngo 1\ngo 1\ngo 1\ngo 1\ngo 1\n\

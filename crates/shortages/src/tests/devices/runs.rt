@@ -58,7 +58,7 @@ fn read_fails(failed: &mut Trial, twin: &mut Trial, bytes: usize) -> bool {
         && failed.is_as(twin)
 }
 
-/// The same over two fresh books.
+/// Whether a run over two fresh books is as `read_fails` says.
 fn read_fails_at(rt: &impl Abort, alloc: Global, bytes: usize) -> bool {
     let mut failed = on_trial(rt, alloc);
     let mut twin = on_trial(rt, alloc);
@@ -87,7 +87,7 @@ fn write_fails(failed: &mut Trial, twin: &mut Trial, limit: Limit) -> bool {
         && failed.is_as(twin)
 }
 
-/// The same over two fresh books, where each call takes one byte.
+/// Whether a run over two fresh books is as `write_fails` says where each call takes one byte.
 fn byte_fails_at(rt: &impl Abort, alloc: Global, calls: usize, end: End) -> bool {
     let mut failed = on_trial(rt, alloc);
     let mut twin = on_trial(rt, alloc);
@@ -95,7 +95,7 @@ fn byte_fails_at(rt: &impl Abort, alloc: Global, calls: usize, end: End) -> bool
     write_fails(&mut failed, &mut twin, Limit { calls, most, end }) && failed.report.len() == calls
 }
 
-/// The same over two fresh books, where each call takes a whole reply.
+/// Whether a run over two fresh books is as `write_fails` says where each call takes a whole reply.
 fn reply_fails_at(rt: &impl Abort, alloc: Global, calls: usize, end: End) -> bool {
     let mut failed = on_trial(rt, alloc);
     let mut twin = on_trial(rt, alloc);
@@ -104,7 +104,7 @@ fn reply_fails_at(rt: &impl Abort, alloc: Global, calls: usize, end: End) -> boo
         && line_feeds(failed.report.as_slice()) == calls
 }
 
-/// The same for each byte of the report.
+/// Lets the writer end at each byte of the report.
 fn bytes_fail(rt: &impl Abort, alloc: Global, end: End) {
     let mut usual = on_trial(rt, alloc);
     assert!(rt; plays(&mut usual.book, &[SCRIPT], &mut usual.report));
@@ -113,7 +113,7 @@ fn bytes_fail(rt: &impl Abort, alloc: Global, end: End) {
     }
 }
 
-/// The same for each reply.
+/// Lets the writer end at each reply.
 fn replies_fail(rt: &impl Abort, alloc: Global, end: End) {
     for calls in 0..line_feeds(SCRIPT).saturating_add(1) {
         assert!(rt; reply_fails_at(rt, alloc, calls, end), "{calls} replies");
