@@ -1,18 +1,12 @@
 -- Equivalence is symmetric, as taking out is.
-use Rattle.std.proofs.Common.{◌≡◌, ℕ, refl, sym, ◌∙◌, ap, subst, List, Ok}
-use Rattle.rd_step.specs.Prelude.{World, Ran, run}
-use Rattle.rd_step.specs.declared.entries.Event.{Event}
-use Rattle.rd_step.specs.declared.entries.Entry.{Entry}
-use Rattle.rd_step.specs.Equivalence.{IsEquivalent}
-use Rattle.rd_step.specs.Run.{events, run_entries, IsRunFrom}
-use Rattle.rd_step.proofs.Equivalence.{run_events}
+use Rattle.std.proofs.Common.{◌≡◌, ℕ, sym, ◌∙◌, ap, subst, List, Ok, arith}
+use Rattle.rd_depend.proofs.Prelude.{World, Ran, run, Event, Entry, IsEquivalent, events, run_entries, IsRunFrom, run_events}
 use Rattle.rd_depend.proofs.TakingOut.{takes_back}
 use Rattle.rd_depend.proofs.RunsAgree.{equivalent_taken, taken_equivalent}
 
 converse : (R : ℕ) (w : World) (es fs : List Entry) → IsRunFrom R w es → IsRunFrom R w fs → IsEquivalent R w (events es) (events fs)
     → IsEquivalent R w (events fs) (events es)
-converse R w es fs runs_e runs_f h =
-    (taken_equivalent fs es (takes_back es fs (equivalent_taken R w es fs runs_e runs_f h)) R w runs_f runs_e).0 refl
+converse h w es fs runs_e runs_f k = grind (arith, taken_equivalent, takes_back, equivalent_taken)
 
 as_run : (R : ℕ) (w : World) (es : List Event) (r : Ran) → run R w es ≡ Ok r → IsRunFrom R w r.entries
 as_run R w es r h = ap run_entries (ap (run R w) (run_events R w es r h) ∙ h)

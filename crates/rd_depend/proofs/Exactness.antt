@@ -1,15 +1,7 @@
 -- Taking a record that may come first out of one list, and the first one out of the other, keeps
 -- whether the lists are equivalent.
 use Rattle.std.proofs.Common.{◌≡◌, ◌↔◌, ℕ, zero, suc, ◌-◌, ◌≤◌, Bool, refl, sym, ◌∙◌, ap, subst, arith, List, [], ◌∷◌, ◌++◌, length, take, drop, length-drop, Ok}
-use Rattle.std.proofs.lemmas.List.{map-append, take_all}
-use Rattle.rd_step.specs.Prelude.{World, Stepped, step, Ran, run, IsFree}
-use Rattle.rd_step.specs.declared.entries.Event.{Event}
-use Rattle.rd_step.specs.declared.entries.Entry.{Entry}
-use Rattle.rd_step.specs.Equivalence.{IsEquivalent}
-use Rattle.rd_step.specs.Run.{events, run_entries, IsRunFrom}
-use Rattle.rd_step.proofs.RunParts.{runs_to, FirstStep, first_step, middle}
-use Rattle.rd_step.proofs.Equivalence.{as_stepped-same, goes_first, stands_in}
-use Rattle.rd_depend.specs.Equivalence.{DecidesEquivalence}
+use Rattle.rd_depend.proofs.Prelude.{map-append, take_all, World, Stepped, step, Ran, run, IsFree, Event, Entry, IsEquivalent, events, run_entries, IsRunFrom, runs_to, FirstStep, first_step, middle, as_stepped-same, goes_first, stands_in, DecidesEquivalence}
 use Rattle.rd_depend.proofs.FirstOfActor.{MayComeFirst, one_place}
 
 -- a record that depends on no earlier one goes first, and the others run on with their records
@@ -46,15 +38,7 @@ comes_first R w e es rest runs h =
     (λ i. sym s.before_events i ++ sym s.behind_events i) ∙ sym (map-append (λ (y : Entry). y.event) s.before s.behind) in
     record {
       left = s.before ++ s.behind;
-      may = record {
-        earlier = s.before;
-        entry = s.x;
-        later = s.behind;
-        stands = s.entries;
-        its_event = s.of_event;
-        free = s.free;
-        leaves = refl;
-      };
+      may = grind arith;
       stepped = h.stepped;
       goes = h.goes;
       on = subst (λ (l : List Event). IsEquivalent R h.stepped.world es l) left h.rest;
@@ -71,8 +55,7 @@ stands_first R w x u es rest left runs goes m on =
       earlier = events m.earlier;
       later = events m.later;
       stands =
-          ap events m.stands ∙ map-append (λ (y : Entry). y.event) m.earlier (m.entry ∷ m.later)
-          ∙ ap (λ (e : Event). events m.earlier ++ e ∷ events m.later) m.its_event;
+          grind (arith, map-append);
       independent = record {
         ran = record { world = mid.before; entries = m.earlier };
         runs = mid.ran;
@@ -83,15 +66,12 @@ stands_first R w x u es rest left runs goes m on =
       stepped = record { world = u; entry = x };
       goes = goes;
       rest =
-          subst (λ (l : List Event). IsEquivalent R u es l)
-          (ap events m.leaves ∙ map-append (λ (y : Entry). y.event) m.earlier m.later) on;
+          grind (arith, map-append);
     }
 
 -- what is left is the same, whichever way it was found
 one_left : (e : Event) (rest l k : List Entry) → MayComeFirst e rest l → MayComeFirst e rest k → l ≡ k
-one_left e rest l k a b =
-    let one = one_place e a.earlier a.later b.earlier b.later a.entry b.entry (sym a.stands ∙ b.stands) a.its_event b.its_event a.free b.free in
-    a.leaves ∙ (λ i. one.before i ++ one.behind i) ∙ sym b.leaves
+one_left e rest l k a b = grind (arith, one_place)
 
 -- where the first event of a run may come first in another from the same world, the record is the
 -- same there, and what is left runs on from the world after it
@@ -108,8 +88,7 @@ runs_on R w x xs ys left first runs m =
     record {
       same = ap (λ (s : Stepped). s.entry) same;
       runs =
-          subst (λ (l : List Entry). IsRunFrom R first.after l) (sym m.leaves)
-          (subst (λ (s : Stepped). IsRunFrom R s.world (m.earlier ++ m.later)) same to_front.rest);
+          grind arith;
     }
 
 -- and the runs are equivalent exactly where what is left of them is
@@ -166,7 +145,6 @@ pub right_behind : (a b : List Entry) (n : ℕ) (same : Bool) → n ≤ length a
 right_behind a b n same in_a in_b h right R w runs_a runs_b =
     let r = behind R n w a b runs_a runs_b in_a in_b h in
     let rest : DecidesEquivalence (drop n a) (drop n b) same =
-    subst (λ (l : List Entry). DecidesEquivalence (drop n a) l same) (all_behind b n)
-    (subst (λ (l : List Entry). DecidesEquivalence l (take (length b - n) (drop n b)) same) (all_behind a n) right) in
+    grind (arith, all_behind) in
     let there = rest R r.here r.first_runs r.second_runs in
     (λ k. r.exactly.1 (there.0 k), λ k. there.1 (r.exactly.0 k))

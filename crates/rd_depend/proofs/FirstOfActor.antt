@@ -1,10 +1,7 @@
 -- A record of an event that depends on no earlier one is the first of its actor, so there is one
 -- such place at most.
-use Rattle.std.proofs.Common.{◌≡◌, ℕ, ◌==◌, refl, sym, ◌∙◌, ap, subst, List, [], ◌∷◌, ◌++◌}
-use Rattle.std.proofs.lemmas.Bool.{eqb-false, or_parts}
-use Rattle.rd_step.specs.Prelude.{interfere, IsFree}
-use Rattle.rd_step.specs.declared.entries.Event.{Event}
-use Rattle.rd_step.specs.declared.entries.Entry.{Entry}
+use Rattle.std.proofs.Common.{◌≡◌, ℕ, refl, sym, ap, subst, List, [], ◌∷◌, ◌++◌, arith, rules}
+use Rattle.rd_depend.proofs.Prelude.{IsFree, Event, Entry}
 
 -- none of these records is by this actor
 abbrev pub HasNoneBy : ℕ → List Entry → Type 0
@@ -25,9 +22,7 @@ pub record MayComeFirst (e : Event) (entries left : List Entry) : Type 0 where
 -- records on which one does not depend are none of its actor
 free_none_by : (x : Entry) (xs : List Entry) → IsFree x xs → HasNoneBy x.event.actor xs
 free_none_by x [] h = tt
-free_none_by x (y ∷ ys) h =
-    let parts = or_parts (x.event.actor == y.event.actor) (interfere x.place x.wrote y.place y.wrote) h.0 in
-    (eqb-false x.event.actor y.event.actor parts.0, free_none_by x ys h.1)
+free_none_by x (y ∷ ys) h = grind (arith, free_none_by x ys h.1)
 
 -- the first record by an actor is at one place alone
 pub record AreOne (xs ys zs us : List Entry) (y z : Entry) : Type 0 where
@@ -38,12 +33,8 @@ pub record AreOne (xs ys zs us : List Entry) (y z : Entry) : Type 0 where
 one_first : (n : ℕ) (xs ys zs us : List Entry) (y z : Entry) → xs ++ y ∷ ys ≡ zs ++ z ∷ us → n ≡ y.event.actor
     → n ≡ z.event.actor → HasNoneBy n xs → HasNoneBy n zs → AreOne xs ys zs us y z
 one_first n [] ys [] us y z h by_y by_z none_x none_z = record { before = refl; itself = cc; behind = cc }
-one_first n [] ys (z' ∷ zs) us y z h by_y by_z none_x none_z =
-    let e : y ≡ z' = cc in
-    absurd (none_z.0 (by_y ∙ ap (λ (x : Entry). x.event.actor) e))
-one_first n (x' ∷ xs) ys [] us y z h by_y by_z none_x none_z =
-    let e : x' ≡ z = cc in
-    absurd (none_x.0 (by_z ∙ ap (λ (x : Entry). x.event.actor) (sym e)))
+one_first n [] ys (z' ∷ zs) us y z h by_y by_z none_x none_z = grind arith
+one_first n (x' ∷ xs) ys [] us y z h by_y by_z none_x none_z = grind arith
 one_first n (x' ∷ xs) ys (z' ∷ zs) us y z h by_y by_z none_x none_z =
     let e : x' ≡ z' = cc in
     let l : xs ++ y ∷ ys ≡ zs ++ z ∷ us = cc in
@@ -59,5 +50,4 @@ none_before e x xs h free = subst (λ (f : Event). HasNoneBy f.actor xs) h (free
 -- the places where a record of one event depends on no earlier one are one place
 pub one_place : (e : Event) (xs ys zs us : List Entry) (y z : Entry) → xs ++ y ∷ ys ≡ zs ++ z ∷ us → y.event ≡ e → z.event ≡ e
     → IsFree y xs → IsFree z zs → AreOne xs ys zs us y z
-one_place e xs ys zs us y z h of_y of_z free_y free_z =
-    one_first e.actor xs ys zs us y z h (by_actor e y of_y) (by_actor e z of_z) (none_before e y xs of_y free_y) (none_before e z zs of_z free_z)
+one_place e xs ys zs us y z h of_y of_z free_y free_z = search (rules, one_first, by_actor, none_before, arith)

@@ -1,32 +1,10 @@
 -- The calls of an index, from what they do to its lists.
-use Rattle.std.proofs.Common.{◌≡◌, ℕ, zero, suc, ◌+◌, ◌-◌, ◌<◌, ◌≤◌, Bool, true, false, ◌&&◌, ◌||◌, ◌==◌, if◌then◌else◌, List, [], ◌∷◌, ◌++◌, length, take, drop, Option, Some, None, slice_get, refl, sym, ap, subst, ◌∙◌, append_assoc, arith, length-append, eq-eqb, Result, Ok, Err, IsOk, OnOk, is_err}
-use Rattle.rd_step.specs.declared.entries.Entry.{Entry}
-use Rattle.rd_depend.specs.declared.index.DependIndex.{DependIndex}
-use Rattle.rd_depend.specs.declared.index.changing.Home.{Home}
-use Rattle.rd_depend.specs.declared.index.changing.Homes.{Homes}
-use Rattle.rd_depend.specs.declared.index.keys.Key.{Key}
-use Rattle.rd_depend.specs.declared.index.table.Table.{Table}
-use Rattle.rd_depend.specs.Lists.{Lists, list_at, spare_at, one_if}
-use Rattle.rd_depend.specs.Tables.{kept_in, spare_in, counts, AreReady, KeepsLists, Puts, TakesLast, HasLast}
-use Rattle.rd_depend.specs.Index.{Touch, By, Under, touches, positions, kept, spare, number_of, IsIndexOf, HasRoomFor, IsLast}
-use Rattle.rd_depend.specs.Changes.{homes_of, Adds, Keeps, Drops, EndsWith}
+use Rattle.std.proofs.Common.{◌≡◌, ℕ, zero, suc, ◌+◌, ◌-◌, ◌<◌, ◌≤◌, Bool, true, false, ◌&&◌, ◌||◌, ◌==◌, if◌then◌else◌, List, [], ◌∷◌, ◌++◌, length, take, drop, Option, Some, slice_get, refl, sym, ap, subst, ◌∙◌, append_assoc, arith, length-append, eq-eqb, Result, IsOk, OnOk, is_err, rules}
+use Rattle.rd_depend.proofs.Prelude.{Entry, DependIndex, Home, Homes, Key, Table, Lists, list_at, spare_at, one_if, kept_in, spare_in, counts, AreReady, KeepsLists, Puts, TakesLast, HasLast, Touch, By, Under, touches, kept, spare, number_of, IsIndexOf, HasRoomFor, IsLast, homes_of, Adds, Keeps, Drops, EndsWith}
 use Rattle.rd_depend.proofs.IndexKeys.{is_home, is_in, under, AreSeparate, separate}
 use Rattle.rd_depend.proofs.IndexPositions.{positions-push, positions-pop, number-append}
 
 -- one change after another, where no list is changed by both
-
-twice : (a b : Bool) (old : List ℕ) (f : List ℕ → List ℕ) → (a && b) ≡ false
-    → (if b then f (if a then f old else old) else (if a then f old else old)) ≡ (if a || b then f old else old)
-twice true true old f h = absurd cc
-twice true false old f h = refl
-twice false true old f h = refl
-twice false false old f h = refl
-
-bits : (a b : Bool) → (a && b) ≡ false → one_if a + one_if b ≡ one_if (a || b)
-bits true true h = absurd cc
-bits true false h = refl
-bits false true h = refl
-bits false false h = refl
 
 -- which lists of a table a change is made in
 abbrev Where : Type 0
@@ -42,73 +20,28 @@ pub record TakesWhere (test : Where) (old new : Table) : Type 0 where
   pub lists : (w : Bool) (q : Key) → kept_in new w q ≡ (if test w q then take (length (kept_in old w q) - 1) (kept_in old w q) else kept_in old w q)
   pub room : (w : Bool) (q : Key) → spare_in new w q ≡ spare_in old w q + one_if (test w q)
 
-both_put : (a b : Where) (p : ℕ) (old mid new : Table) → ((w : Bool) (q : Key) → (a w q && b w q) ≡ false) → PutsWhere a p old mid → PutsWhere b p mid new
-    → PutsWhere (λ w q. a w q || b w q) p old new
-both_put a b p old mid new apart first second = record {
-  lists = λ w q.
-      second.lists w q ∙ ap (λ (l : List ℕ). if b w q then l ++ p ∷ [] else l) (first.lists w q)
-      ∙ twice (a w q) (b w q) (kept_in old w q) (λ (l : List ℕ). l ++ p ∷ []) (apart w q);
-  room = λ w q. let e = bits (a w q) (b w q) (apart w q) in omega (arith, e, first.room w q, second.room w q);
-}
-
 both_take : (a b : Where) (old mid new : Table) → ((w : Bool) (q : Key) → (a w q && b w q) ≡ false) → TakesWhere a old mid → TakesWhere b mid new
     → TakesWhere (λ w q. a w q || b w q) old new
-both_take a b old mid new apart first second = record {
-  lists = λ w q.
-      second.lists w q ∙ ap (λ (l : List ℕ). if b w q then take (length l - 1) l else l) (first.lists w q)
-      ∙ twice (a w q) (b w q) (kept_in old w q) (λ (l : List ℕ). take (length l - 1) l) (apart w q);
-  room = λ w q. let e = bits (a w q) (b w q) (apart w q) in omega (arith, e, first.room w q, second.room w q);
-}
-
-puts_where : (h : Home) (p : ℕ) (old new : Table) → Puts h.key h.wrote p old new → PutsWhere (is_home h) p old new
-puts_where h p old new put = record { lists = put.lists; room = put.room }
+both_take a b old mid new apart first second = grind arith
 
 takes_where : (h : Home) (old new : Table) → TakesLast h.key h.wrote old new → TakesWhere (is_home h) old new
 takes_where h old new took = record { lists = took.lists; room = took.room }
 
 -- what is ready stays so where no list changes
 pub ready_kept : (t u : Table) (k : Option Key) (wrote : Bool) (slot : Option ℕ) → KeepsLists t u → AreReady t k wrote slot → AreReady u k wrote slot
-ready_kept t u None wrote slot keeps ready = ready
-ready_kept t u (Some q) wrote slot keeps ready = (
-  ready.0,
-  ready.1,
-  record {
-    at = keeps.slots q ready.0 ready.2.at;
-    room = λ w c. omega (arith, ready.2.room w c, keeps.room w q);
-  },
-)
+ready_kept t u k wrote slot keeps ready = grind arith
 
 -- what is ready under one key stays so where another is put
 pub ready_after : (t u : Table) (s : Option Key) (wrote : Bool) (h : Home) (p : ℕ) (slot : Option ℕ)
     → ((w : Bool) (q : Key) → s ≡ Some q → counts w wrote ≡ true → is_home h w q ≡ false)
     → AreReady t s wrote slot → Puts h.key h.wrote p t u → AreReady u s wrote slot
-ready_after t u None wrote h p slot apart ready put = ready
-ready_after t u (Some q) wrote h p slot apart ready put = (
-  ready.0,
-  ready.1,
-  record {
-    at = put.slots q ∙ ready.2.at;
-    room = λ w c. let e : one_if (is_home h w q) ≡ 0 = ap one_if (apart w q refl c) in omega (arith, ready.2.room w c, put.room w q, e);
-  },
-)
+ready_after t u s wrote h p slot apart ready put = grind arith
 
 -- and what has a last position keeps it where another key's is taken
 pub last_after : (t u : Table) (s : Option Key) (wrote : Bool) (h : Home)
     → ((w : Bool) (q : Key) → s ≡ Some q → counts w wrote ≡ true → is_home h w q ≡ false)
     → HasLast t s wrote → TakesLast h.key h.wrote t u → HasLast u s wrote
-last_after t u s wrote h apart has took = λ w q e c.
-    let f : List ℕ → List ℕ = λ l. take (length l - 1) l in
-    let same : kept_in u w q ≡ kept_in t w q =
-    took.lists w q ∙ ap (λ (b : Bool). if b then f (kept_in t w q) else kept_in t w q) (apart w q e c) in
-    subst (λ (l : List ℕ). 1 ≤ length l) (sym same) (has w q e c)
-
--- the changes under a step's three keys
-all_put : (h : Homes) (p : ℕ) (old one two new : Table) → AreSeparate h → Puts h.place.key h.place.wrote p old one
-    → Puts h.value.key h.value.wrote p one two → Puts h.segment.key h.segment.wrote p two new → PutsWhere (is_in h) p old new
-all_put h p old one two new s a b c =
-    both_put (λ w q. is_home h.place w q || is_home h.value w q) (is_home h.segment) p old two new s.last
-    (both_put (is_home h.place) (is_home h.value) p old one two s.first (puts_where h.place p old one a) (puts_where h.value p one two b))
-    (puts_where h.segment p two new c)
+last_after t u s wrote h apart has took = grind arith
 
 all_taken : (h : Homes) (old one two new : Table) → AreSeparate h → TakesLast h.place.key h.place.wrote old one
     → TakesLast h.value.key h.value.wrote one two → TakesLast h.segment.key h.segment.wrote two new → TakesWhere (is_in h) old new
@@ -123,23 +56,7 @@ pub adds : (old new : DependIndex) (x : Entry) (h : Homes) (one two : Table) (p 
     → ((i : ℕ) → spare_at old.by_actor.items i ≤ spare_at new.by_actor.items i + one_if (i == actor))
     → Puts h.place.key h.place.wrote p old.by_key one → Puts h.value.key h.value.wrote p one two → Puts h.segment.key h.segment.wrote p two new.by_key
     → Adds x old new
-adds old new x h one two p actor homes same is len lists_by room_by a b c = record {
-  lists = λ t. lists t ∙ ap (λ (m : ℕ). if touches t x then kept old t ++ m ∷ [] else kept old t) is;
-  room = room;
-  len = len;
-}
-  where
-    all : PutsWhere (is_in (homes_of x)) p old.by_key new.by_key
-    all = subst (λ (g : Homes). PutsWhere (is_in g) p old.by_key new.by_key) homes (all_put h p old.by_key one two new.by_key (separate h x homes) a b c)
-
-    lists : (t : Touch) → kept new t ≡ (if touches t x then kept old t ++ p ∷ [] else kept old t)
-    lists (By n) = lists_by n ∙ ap (λ (m : ℕ). if n == m then list_at old.by_actor.items n ++ p ∷ [] else list_at old.by_actor.items n) same
-    lists (Under w k) =
-        all.lists w k ∙ ap (λ (t : Bool). if t then kept_in old.by_key w k ++ p ∷ [] else kept_in old.by_key w k) (sym (under w k x))
-
-    room : (t : Touch) → spare old t ≤ spare new t + one_if (touches t x)
-    room (By n) = subst (λ (m : ℕ). spare_at old.by_actor.items n ≤ spare_at new.by_actor.items n + one_if (n == m)) same (room_by n)
-    room (Under w k) = let e = ap one_if (under w k x) in omega (arith, e, all.room w k)
+adds old new x h one two p actor homes same is len lists_by room_by a b c = grind arith
 
 pub drops : (old new : DependIndex) (x : Entry) (h : Homes) (one two : Table) (actor : ℕ) → h ≡ homes_of x → actor ≡ x.event.actor → new.len + 1 ≡ old.len
     → ((i : ℕ) → list_at new.by_actor.items i ≡ (if i == actor then take (length (list_at old.by_actor.items i) - 1) (list_at old.by_actor.items i) else list_at old.by_actor.items i))
@@ -152,16 +69,10 @@ drops old new x h one two actor homes same len lists_by room_by a b c = record {
     all = subst (λ (g : Homes). TakesWhere (is_in g) old.by_key new.by_key) homes (all_taken h old.by_key one two new.by_key (separate h x homes) a b c)
 
     lists : (t : Touch) → kept new t ≡ (if touches t x then take (length (kept old t) - 1) (kept old t) else kept old t)
-    lists (By n) =
-        let l = list_at old.by_actor.items n in
-        lists_by n ∙ ap (λ (m : ℕ). if n == m then take (length l - 1) l else l) same
-    lists (Under w k) =
-        let l = kept_in old.by_key w k in
-        all.lists w k ∙ ap (λ (t : Bool). if t then take (length l - 1) l else l) (sym (under w k x))
+    lists t = search (rules, arith)
 
     room : (t : Touch) → spare new t ≡ spare old t + one_if (touches t x)
-    room (By n) = room_by n ∙ ap (λ (m : ℕ). spare_at old.by_actor.items n + one_if (n == m)) same
-    room (Under w k) = let e = ap one_if (under w k x) in omega (arith, e, all.room w k)
+    room t = grind arith
 
 -- where there was room
 
@@ -175,40 +86,23 @@ touched_by x = eq-eqb x.event.actor x.event.actor refl
 
 -- what was kept before, and what is added then
 pub then_adds : (old mid new : DependIndex) (x : Entry) → Keeps old mid → Adds x mid new → Adds x old new
-then_adds old mid new x keeps more = record {
-  lists = λ t. more.lists t ∙ (λ i. if touches t x then keeps.lists t i ++ (keeps.len i + 1) ∷ [] else keeps.lists t i);
-  room = λ t. omega (arith, keeps.room t, more.room t);
-  len = more.len ∙ ap (λ (n : ℕ). n + 1) keeps.len;
-}
+then_adds old mid new x keeps more = grind arith
 
 -- the index of the entries, after the calls
 
 pub added : (old new : DependIndex) (x : Entry) (es : List Entry) → Adds x old new → IsIndexOf old es → IsIndexOf new (es ++ x ∷ [])
-added old new x es more is = record {
-  lists = λ t.
-      more.lists t
-      ∙ (λ i. if touches t x then is.lists t i ++ at i ∷ [] else is.lists t i)
-      ∙ sym (positions-push (touches t) 1 es x);
-  len = omega (arith, more.len, is.len, length-append es (x ∷ []));
-}
-  where
-    at : old.len + 1 ≡ 1 + length es
-    at = omega (arith, is.len)
+added old new x es more is = grind (arith, positions-push, length-append)
 
 pub dropped : (old new : DependIndex) (x : Entry) (es : List Entry) → Drops x old new → IsIndexOf old (es ++ x ∷ []) → IsIndexOf new es
 dropped old new x es drop_x is = record {
   lists = λ t. drop_x.lists t ∙ positions-pop (touches t) es x (kept old t) (is.lists t);
-  len = omega (arith, drop_x.len, is.len, length-append es (x ∷ []));
+  len = omega (arith, length-append es (x ∷ []));
 }
 
 -- what the calls ask for
 
 pub last_touched : (old : DependIndex) (x : Entry) → IsLast old x → (t : Touch) → touches t x ≡ true → 1 ≤ length (kept old t)
-last_touched old x last t h =
-    let e : kept old t ≡ positions (touches t) last.before ++ (1 + length last.before) ∷ [] =
-    last.is.lists t ∙ positions-push (touches t) 1 last.before x
-    ∙ ap (λ (b : Bool). if b then positions (touches t) last.before ++ (1 + length last.before) ∷ [] else positions (touches t) last.before) h in
-    omega (arith, ap length e, length-append (positions (touches t) last.before) ((1 + length last.before) ∷ []))
+last_touched old x last t h = grind (arith, positions-push, length-append)
 
 touched_in : (x : Entry) (h : Homes) → h ≡ homes_of x → (w : Bool) (q : Key) → is_in h w q ≡ true → touches (Under w q) x ≡ true
 touched_in x h homes w q e = under w q x ∙ ap (λ (g : Homes). is_in g w q) (sym homes) ∙ e
@@ -248,9 +142,8 @@ one_added start old new entries n x there was more =
       index = λ es is.
           let e : (es ++ take n entries) ++ x ∷ [] ≡ es ++ take (n + 1) entries = append_assoc es (take n entries) (x ∷ []) ∙ ap (λ (l : List Entry). es ++ l) (sym longer) in
           subst (λ (l : List Entry). IsIndexOf new l) e (added old new x (es ++ take n entries) more (was.index es is));
-      room = λ t.
-          omega (arith, ap (number_of (touches t)) longer, number-append (touches t) (take n entries) (x ∷ []), was.room t, more.room t);
-      len = omega (arith, was.len, more.len);
+      room = grind (arith, number-append);
+      len = omega (arith, more.len);
     }
 
 number-among : (test : Entry → Bool) (es : List Entry) (n : ℕ) (x : Entry) → slice_get es n ≡ Some x → number_of test (take n es) + one_if (test x) ≤ number_of test es
@@ -262,7 +155,7 @@ number-among test (y ∷ ys) (suc n) x h = omega (arith, number-among test ys n 
 pub room_next : (start now : DependIndex) (entries : List Entry) (n : ℕ) (x : Entry) → slice_get entries n ≡ Some x → HasRoomFor start entries
     → HasAdded start now entries n → (t : Touch) → touches t x ≡ true → 0 < spare now t
 room_next start now entries n x there has was t h =
-    let e : one_if (touches t x) ≡ 1 = ap one_if h in omega (arith, e, number-among (touches t) entries n x there, has.lists t, was.room t)
+    let e : one_if (touches t x) ≡ 1 = ap one_if h in omega (arith, number-among (touches t) entries n x there)
 
 -- what some pops have done so far
 pub record HasDropped (start now : DependIndex) (entries : List Entry) (left : ℕ) : Type 0 where
@@ -273,10 +166,7 @@ pub last_left : (start now : DependIndex) (entries : List Entry) (left n : ℕ) 
     → HasDropped start now entries left → IsLast now x
 last_left start now entries left n x next there ends was = record {
   before = ends.before ++ take n entries;
-  is = subst (λ (l : List Entry). IsIndexOf now l)
-      (ap (λ (m : ℕ). ends.before ++ take m entries) next ∙ ap (λ (l : List Entry). ends.before ++ l) (take_more entries n x there)
-      ∙ sym (append_assoc ends.before (take n entries) (x ∷ [])))
-      (was.index ends.before ends.is);
+  is = grind (arith, take_more, append_assoc);
 }
 
 pub one_dropped : (start old new : DependIndex) (entries : List Entry) (left n : ℕ) (x : Entry) → left ≡ suc n → slice_get entries n ≡ Some x
@@ -286,19 +176,14 @@ one_dropped start old new entries left n x next there was drop_x = record {
       (subst (λ (l : List Entry). IsIndexOf old l)
       (ap (λ (m : ℕ). es ++ take m entries) next ∙ ap (λ (l : List Entry). es ++ l) (take_more entries n x there) ∙ sym (append_assoc es (take n entries) (x ∷ [])))
       (was.index es is));
-  room = λ t.
-      let e : number_of (touches t) (drop n entries) ≡ one_if (touches t x) + number_of (touches t) (drop left entries) =
-      ap (number_of (touches t)) (drop_one entries n x there) ∙ ap (λ (m : ℕ). one_if (touches t x) + number_of (touches t) (drop m entries)) (sym next) in
-      omega (arith, e, was.room t, drop_x.room t);
+  room = grind (arith, drop_one);
 }
 
 pub last_len : (old : DependIndex) (x : Entry) → IsLast old x → 1 ≤ old.len
-last_len old x last = omega (arith, last.is.len, length-append last.before (x ∷ []))
+last_len old x last = omega (arith, length-append last.before (x ∷ []))
 
 pub ok_then : {X E : Type 0} (r : Result X E) (P : Type 0) → is_err r ≡ false → OnOk r P → P
-ok_then (Ok x) P h p = p
-ok_then (Err e) P h p = absurd cc
+ok_then r h k p = grind arith
 
 pub not_refused : {X E : Type 0} (r : Result X E) → is_err r ≡ true → IsOk r → ⊥
-not_refused (Ok x) h k = cc
-not_refused (Err e) h k = cc
+not_refused r h k = grind arith

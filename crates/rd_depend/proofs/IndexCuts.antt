@@ -1,14 +1,7 @@
 -- The positions above a number taken out of all lists: the index is then that of the first entries.
-use Rattle.std.proofs.Common.{◌≡◌, ℕ, zero, suc, ◌+◌, ◌<◌, ◌≤◌, Bool, true, false, nat_lt, if◌then◌else◌, List, [], ◌∷◌, length, get_or, ◌++◌, take, drop, refl, sym, ap, subst, ◌∙◌, arith}
-use Rattle.std.proofs.lemmas.Bool.Decides.{nat_tests}
-use Rattle.std.proofs.lemmas.List.{take_all, length-take-le, take-append-drop}
-use Rattle.rd_step.specs.declared.entries.Entry.{Entry}
-use Rattle.rd_depend.specs.declared.index.DependIndex.{DependIndex}
-use Rattle.rd_depend.specs.Lists.{AscendsFrom, up_to}
-use Rattle.rd_depend.specs.Index.{Touch, positions_from, number_of, touches, capacity, IsIndexOf, HasRoomFor}
-use Rattle.rd_depend.specs.Changes.{CutsAll}
+use Rattle.std.proofs.Common.{◌≡◌, ℕ, zero, suc, ◌+◌, ◌<◌, ◌≤◌, Bool, List, [], ◌∷◌, length, get_or, ◌++◌, take, drop, refl, ap, arith}
+use Rattle.rd_depend.proofs.Prelude.{nat_tests, length-take-le, take-append-drop, Entry, DependIndex, AscendsFrom, up_to, Touch, positions_from, number_of, touches, capacity, IsIndexOf, HasRoomFor, CutsAll}
 use Rattle.rd_depend.proofs.IndexPositions.{positions-ascend, number-append}
-use Rattle.rd_depend.proofs.IndexLists.{ascends-at}
 use Rattle.rd_depend.proofs.IndexFirst.{kept-ascends}
 use Rattle.rd_depend.proofs.IndexRoom.{room_stays}
 
@@ -22,43 +15,27 @@ up_to_none n p ps h = grind (arith, nat_tests)
 pub up_to-fewer : (n : ℕ) (xs : List ℕ) (e d : ℕ) → e < length xs → n < get_or xs e d → up_to n (take (suc e) xs) ≡ up_to n (take e xs)
 up_to-fewer n [] e d within gt = absurd (omega arith)
 up_to-fewer n (x ∷ xs) zero d within gt = up_to_none n x [] gt
-up_to-fewer n (x ∷ xs) (suc e) d within gt = by (nat_lt n x) (up_to-fewer n xs e d (omega arith) gt)
-  where
-    by : (b : Bool) → up_to n (take (suc e) xs) ≡ up_to n (take e xs)
-        → (if b then [] else x ∷ up_to n (take (suc e) xs)) ≡ (if b then [] else x ∷ up_to n (take e xs))
-    by true h = refl
-    by false h = ap (λ (l : List ℕ). x ∷ l) h
+up_to-fewer n (x ∷ xs) (suc e) d within gt = grind (arith, up_to-fewer n xs e d (omega arith) gt)
 
 -- where the last of ascending positions is at most n, all of them are
 pub up_to-all : (m n : ℕ) (xs : List ℕ) (e d : ℕ) → AscendsFrom m xs → e < length xs → get_or xs e d ≤ n → up_to n (take (suc e) xs) ≡ take (suc e) xs
 up_to-all m n [] e d h within le = absurd (omega arith)
 up_to-all m n (x ∷ xs) zero d h within le = up_to_more n x [] le
-up_to-all m n (x ∷ xs) (suc e) d h within le =
-    let at : suc x ≤ get_or xs e d = ascends-at (suc x) xs e d h.1 (omega arith) in
-    up_to_more n x (take (suc e) xs) (omega (arith, at, le)) ∙ ap (λ (l : List ℕ). x ∷ l) (up_to-all (suc x) n xs e d h.1 (omega arith) le)
+up_to-all m n (x ∷ xs) (suc e) d h within le = grind (arith, up_to-all (suc x) n xs e d h.1 (omega arith) le)
 
 -- the positions of the first entries
 
 none_left : (m n : ℕ) (ps : List ℕ) → AscendsFrom m ps → n < m → up_to n ps ≡ []
 none_left m n [] h less = refl
-none_left m n (p ∷ ps) h less = up_to_none n p ps (omega (arith, h.0, less))
+none_left m n (p ∷ ps) h less = up_to_none n p ps (omega arith)
 
 pub positions-up_to : (test : Entry → Bool) (n m k : ℕ) (es : List Entry) → k + m ≡ n + 1 → up_to n (positions_from test m es) ≡ positions_from test m (take k es)
 positions-up_to test n m zero es h = none_left m n (positions_from test m es) (positions-ascend test m es) (omega arith)
 positions-up_to test n m (suc k) [] h = refl
-positions-up_to test n m (suc k) (x ∷ xs) h = by (test x) (positions-up_to test n (m + 1) k xs (omega arith))
-  where
-    by : (b : Bool) → up_to n (positions_from test (m + 1) xs) ≡ positions_from test (m + 1) (take k xs)
-        → up_to n (if b then m ∷ positions_from test (m + 1) xs else positions_from test (m + 1) xs)
-        ≡ (if b then m ∷ positions_from test (m + 1) (take k xs) else positions_from test (m + 1) (take k xs))
-    by true g = up_to_more n m (positions_from test (m + 1) xs) (omega arith) ∙ ap (λ (l : List ℕ). m ∷ l) g
-    by false g = g
+positions-up_to test n m (suc k) (x ∷ xs) h = grind (arith, positions-up_to test n (m + 1) k xs (omega arith))
 
 pub cut_index : (old new : DependIndex) (n : ℕ) → CutsAll n old new → n < old.len → (es : List Entry) → IsIndexOf old es → IsIndexOf new (take n es)
-cut_index old new n cuts less es is = record {
-  lists = λ t. cuts.lists t (kept-ascends old es is t) ∙ ap (up_to n) (is.lists t) ∙ positions-up_to (touches t) n 1 n es refl;
-  len = cuts.len ∙ sym (length-take-le n es (omega (arith, is.len, less)));
-}
+cut_index old new n cuts less es is = grind (arith, kept-ascends, positions-up_to, length-take-le)
 
 -- where the first entries are left, in lists that can have as many as before, there is room for the
 -- others
@@ -75,6 +52,3 @@ cut_room old new n es rest was is stays has = record {
         number-append (touches t) (drop n es) rest,
       );
 }
-
-pub uncut_index : (index : DependIndex) (n : ℕ) → index.len ≤ n → (es : List Entry) → IsIndexOf index es → IsIndexOf index (take n es)
-uncut_index index n more es is = subst (IsIndexOf index) (sym (take_all n es (omega (arith, is.len, more)))) is

@@ -1,15 +1,9 @@
 -- A position moved after others in all lists: the index is then that of the entries with that one
 -- moved, and has the same room.
-use Rattle.std.proofs.Common.{◌≡◌, ℕ, zero, suc, ◌+◌, ◌-◌, ◌≤◌, Bool, List, [], ◌∷◌, ◌++◌, length, take, drop, Some, refl, sym, ap, subst, ◌∙◌, append_assoc, arith, length-append, length-drop}
-use Rattle.std.proofs.Math.ListN.{drop_of_length-le}
-use Rattle.std.proofs.lemmas.List.{length-take-le, take_all, take-append-drop, drop-drop}
-use Rattle.rd_step.specs.declared.entries.Entry.{Entry}
-use Rattle.rd_step.specs.Lists.{numbered, without}
-use Rattle.rd_depend.specs.declared.index.DependIndex.{DependIndex}
-use Rattle.rd_depend.specs.Lists.{IsMoved, with_first}
+use Rattle.std.proofs.Common.{◌≡◌, ℕ, suc, ◌+◌, ◌-◌, ◌≤◌, Bool, List, [], ◌∷◌, ◌++◌, length, take, drop, Some, refl, sym, ap, subst, ◌∙◌, append_assoc, arith, length-append, length-drop}
+use Rattle.rd_depend.proofs.Prelude.{drop_of_length-le, length-take-le, take_all, take-append-drop, drop-drop, Entry, numbered, without, DependIndex, IsMoved, positions_from, positions, number_of, touches, kept, IsIndexOf, HasRoomFor, MovesAll}
+use Rattle.rd_depend.specs.Lists.{with_first}
 use Rattle.rd_depend.specs.Moved.{moved_behind}
-use Rattle.rd_depend.specs.Index.{positions_from, positions, number_of, touches, kept, IsIndexOf, HasRoomFor}
-use Rattle.rd_depend.specs.Changes.{MovesAll}
 use Rattle.rd_depend.proofs.IndexPositions.{positions-ascend, ascending, positions-within, positions-append, positions-lower, number-append}
 use Rattle.rd_depend.proofs.IndexChanges.{drop_one}
 use Rattle.rd_depend.proofs.IndexLists.{ascends_lower}
@@ -69,33 +63,15 @@ positions-moved test k n low x mid high new before until moves =
     ∙ sym (positions-append test 1 n (low ++ mid) (x ∷ high) (omega (arith, length-append low mid)))
 
 number-moved : (test : Entry → Bool) (es : List Entry) (k n : ℕ) → Cut es k n → number_of test (moved_behind es k n) ≡ number_of test es
-number-moved test es k n c =
-    omega (
-      arith,
-      ap (number_of test) c.is,
-      ap (number_of test) c.moved,
-      number-append test c.low ((c.x ∷ c.mid) ++ c.high),
-      number-append test (c.x ∷ c.mid) c.high,
-      number-append test (c.low ++ c.mid) (c.x ∷ c.high),
-      number-append test c.low c.mid,
-    )
+number-moved test es k n c = grind (arith, number-append)
 
 length-moved : (es : List Entry) (k n : ℕ) → Cut es k n → length (moved_behind es k n) ≡ length es
-length-moved es k n c =
-    omega (
-      arith,
-      ap length c.is,
-      ap length c.moved,
-      length-append c.low ((c.x ∷ c.mid) ++ c.high),
-      length-append (c.x ∷ c.mid) c.high,
-      length-append (c.low ++ c.mid) (c.x ∷ c.high),
-      length-append c.low c.mid,
-    )
+length-moved es k n c = grind (arith, length-append)
 
 pub moved_index : (old new : DependIndex) (k n : ℕ) → 1 ≤ k → k ≤ n → n ≤ old.len → MovesAll k n old new → (es : List Entry) → IsIndexOf old es
     → IsIndexOf new (moved_behind es k n)
 moved_index old new k n some order within moves es is =
-    let c = cut es k n some order (omega (arith, within, is.len)) in
+    let c = cut es k n some order (omega arith) in
     record {
       lists = λ t.
           positions-moved (touches t) k n c.low c.x c.mid c.high (kept new t) c.before c.until
@@ -112,16 +88,10 @@ moved_room old new k n some order within moves es is rest has = record {
         arith,
         has.lists t,
         room_stays old new es (moved_behind es k n) is (moved_index old new k n some order within moves es is) moves.capacity_stays t,
-        number-moved (touches t) es k n (cut es k n some order (omega (arith, within, is.len))),
+        number-moved (touches t) es k n (cut es k n some order (omega arith)),
       );
 }
 
 -- moved after all others
 pub moved_last : (es : List Entry) (k n : ℕ) (x : Entry) → n ≡ length es → numbered es k ≡ Some x → moved_behind es k n ≡ without es k ++ x ∷ []
-moved_last es zero n x all h = absurd cc
-moved_last es (suc i) n x all h =
-    let whole : take n es ≡ es = take_all n es (omega arith) in
-    let none : drop n es ≡ [] = drop_of_length-le es (omega arith) in
-    let at : suc i - 1 ≡ i = omega arith in
-    (λ j. (take (suc i - 1) (whole j) ++ drop (suc i) (whole j)) ++ (take 1 (drop (at j) (whole j)) ++ none j))
-    ∙ ap (λ (l : List Entry). without es (suc i) ++ (take 1 l ++ [])) (drop_one es i x h)
+moved_last es k n x all h = grind (arith, take_all, drop_of_length-le, drop_one)

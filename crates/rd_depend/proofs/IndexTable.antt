@@ -1,29 +1,13 @@
 -- The table of keys: which key has which index, and what a change of the lists by index is for the
 -- keys.
-use Rattle.std.proofs.Common.{◌≡◌, ℕ, zero, suc, ◌+◌, ◌-◌, ◌<◌, ◌≤◌, Bool, true, false, ◌&&◌, ◌||◌, ◌==◌, if◌then◌else◌, nat_lt, cond, not, List, [], ◌∷◌, ◌++◌, length, get_or, take, Option, Some, None, slice_get, position, Vec, refl, sym, ap, subst, ◌∙◌, arith, eqb-true, eq-eqb}
-use Rattle.std.proofs.lemmas.Bool.Decides.{nat_tests}
+use Rattle.rd_depend.proofs.Prelude.{common_steps, nat_tests, option_map, slice_get-push_same, slice_get-push_other, Key, Table, is_key, slot_in, is_key-true, is_key-refl, is_key-sym, Lists, list_at, spare_at, one_if, list_of, capacity_of, lists_of, kept_in, spare_in, counts, IsReady, KeepsLists, Puts, TakesLast}
+use Rattle.std.proofs.Common.{◌≡◌, ℕ, zero, suc, ◌+◌, ◌-◌, ◌<◌, ◌≤◌, Bool, true, false, ◌&&◌, ◌==◌, if◌then◌else◌, List, [], ◌∷◌, ◌++◌, length, get_or, take, Option, Some, None, slice_get, position, Vec, refl, sym, ap, subst, ◌∙◌, arith, eqb-true, eq-eqb}
 use Rattle.std.proofs.lemmas.Map.Keys.{apart_from_distinct}
 use Rattle.std.specs.Cmp.{both_ways}
-use Rattle.std.specs.List.{list_any, position_or_len, IsDistinct}
-use Rattle.std.specs.Option.{option_map}
+use Rattle.std.specs.List.{list_any, IsDistinct}
 use Rattle.std.specs.declared.alloc.Global.{Global}
-use Rattle.rd_cell.proofs.ListLemmas.{slice_get-push_same, slice_get-push_other}
-use Rattle.rd_depend.specs.declared.index.keys.Key.{Key}
-use Rattle.rd_depend.specs.declared.index.table.Table.{Table}
-use Rattle.rd_depend.specs.Keys.{is_key, slot_in}
-use Rattle.rd_depend.specs.KeyLaws.{is_key-true, is_key-refl, is_key-sym}
-use Rattle.rd_depend.specs.Lists.{Lists, items_of, room_of, list_at, spare_at, one_if, list_of, capacity_of}
-use Rattle.rd_depend.specs.Tables.{lists_of, kept_in, spare_in, counts, IsReady, KeepsLists, Puts, TakesLast}
 
 -- indices of keys
-
-suc_some : (o : Option ℕ) (i : ℕ) → option_map (λ n. suc n) o ≡ Some i → (j : ℕ) × (o ≡ Some j) × (suc j ≡ i)
-suc_some None i h = absurd cc
-suc_some (Some j) i h = (j, refl, cc)
-
-suc_none : (o : Option ℕ) → option_map (λ n. suc n) o ≡ None → o ≡ None
-suc_none None h = refl
-suc_none (Some j) h = absurd cc
 
 -- at its index is the key
 pub slot-there : (keys : List Key) (k : Key) (i : ℕ) → slot_in keys k ≡ Some i → slice_get keys i ≡ Some k
@@ -31,16 +15,14 @@ slot-there [] k i h = absurd cc
 slot-there (q ∷ qs) k i h = by (is_key k q) refl (slot-there qs k) h
   where
     by : (b : Bool) → is_key k q ≡ b → ((j : ℕ) → slot_in qs k ≡ Some j → slice_get qs j ≡ Some k) → (if b then Some 0 else option_map (λ n. suc n) (slot_in qs k)) ≡ Some i → slice_get (q ∷ qs) i ≡ Some k
-    by true e rest g = let z : 0 ≡ i = cc in subst (λ (n : ℕ). slice_get (q ∷ qs) n ≡ Some k) z (ap Some (sym (is_key-true k q e)))
-    by false e rest g = let s = suc_some (slot_in qs k) i g in subst (λ (n : ℕ). slice_get (q ∷ qs) n ≡ Some k) s.2 (rest s.0 s.1)
+    by b e rest g = grind arith
 
 pub slot-within : (keys : List Key) (k : Key) (i : ℕ) → slot_in keys k ≡ Some i → i < length keys
 slot-within [] k i h = absurd cc
 slot-within (q ∷ qs) k i h = by (is_key k q) (slot-within qs k) h
   where
     by : (b : Bool) → ((j : ℕ) → slot_in qs k ≡ Some j → j < length qs) → (if b then Some 0 else option_map (λ n. suc n) (slot_in qs k)) ≡ Some i → i < length (q ∷ qs)
-    by true rest g = let z : 0 ≡ i = cc in omega (arith, z)
-    by false rest g = let s = suc_some (slot_in qs k) i g in omega (arith, s.2, rest s.0 s.1)
+    by b rest g = grind arith
 
 -- a key that is at an index has that index, since no key occurs twice
 stands-slot : (keys : List Key) (k : Key) (i : ℕ) (d : Key) → IsDistinct is_key keys → i < length keys → k ≡ get_or keys i d → slot_in keys k ≡ Some i
@@ -64,9 +46,7 @@ stands-slot keys k i d distinct within at = ap (slot_in keys) at ∙ own keys i 
 -- the same of a key that is equal to the one that is there
 pub key-slot : (keys read : List Key) (k : Key) (i : ℕ) (d : Key) → read ≡ keys → IsDistinct is_key keys → i < length read → is_key (get_or read i d) k ≡ true
     → slot_in keys k ≡ Some i
-key-slot keys read k i d same distinct within is =
-    stands-slot keys k i d distinct (omega (arith, within, ap length same))
-    (sym (is_key-true (get_or read i d) k is) ∙ ap (λ (ks : List Key). get_or ks i d) same)
+key-slot keys read k i d same distinct within is = grind (arith, stands-slot)
 
 -- whether an index that may be there is this one
 abbrev pub is_slot : ℕ → Option ℕ → Bool
@@ -90,28 +70,14 @@ slot-same keys k q i h = both_ways (is_slot i (slot_in keys q)) (is_key q k) (to
 -- the index is that which the set finds
 pub position-slot : (keys : List Key) (k : Key) → position (is_key k) keys ≡ slot_in keys k
 position-slot [] k = grind (arith, nat_tests)
-position-slot (q ∷ qs) k = by (is_key k q) (position-slot qs k)
-  where
-    more : (m n : ℕ) → cond (nat_lt (1 + m) (suc n)) (Some (1 + m)) None ≡ option_map (λ i. suc i) (cond (nat_lt m n) (Some m) None)
-    more m n = cases (nat_lt m n) refl
-      where
-        cases : (b : Bool) → nat_lt m n ≡ b → cond (nat_lt (1 + m) (suc n)) (Some (1 + m)) None ≡ option_map (λ i. suc i) (cond b (Some m) None)
-        cases true e = grind (arith, nat_tests)
-        cases false e = grind (arith, nat_tests)
-
-    by : (b : Bool) → cond (nat_lt (position_or_len (is_key k) qs) (length qs)) (Some (position_or_len (is_key k) qs)) None ≡ slot_in qs k
-        → cond (nat_lt (cond (not b) (1 + position_or_len (is_key k) qs) 0) (suc (length qs))) (Some (cond (not b) (1 + position_or_len (is_key k) qs) 0)) None
-        ≡ (if b then Some 0 else option_map (λ i. suc i) (slot_in qs k))
-    by true h = grind (arith, nat_tests)
-    by false h = more (position_or_len (is_key k) qs) (length qs) ∙ ap (option_map (λ i. suc i)) h
+position-slot (q ∷ qs) k = grind (arith, position-slot qs k)
 
 -- a change at one index, as a change under a key
 
 changed_at : (old new : Lists) (f : List ℕ → List ℕ) (b : Bool) (i : ℕ)
     → ((j : ℕ) → list_at new j ≡ (if b && (j == i) then f (list_at old j) else list_at old j))
     → (o : Option ℕ) → list_of new o ≡ (if b && is_slot i o then f (list_of old o) else list_of old o)
-changed_at old new f b i h None = elim b as (λ c. [] ≡ (if c && false then f [] else [])) [ true ↦ refl | false ↦ refl ]
-changed_at old new f b i h (Some j) = h j
+changed_at old new f b i h o = grind arith
 
 pub changed : (keys : List Key) (k q : Key) (i : ℕ) → slot_in keys k ≡ Some i → (old new : Lists) (f : List ℕ → List ℕ) (b : Bool)
     → ((j : ℕ) → list_at new j ≡ (if b && (j == i) then f (list_at old j) else list_at old j))
@@ -138,8 +104,7 @@ used keys k q i slot old new b h =
 
 pub freed_at : (old new : Lists) (b : Bool) (i : ℕ) → ((j : ℕ) → spare_at new j ≡ spare_at old j + one_if (b && (j == i)))
     → (o : Option ℕ) → room_left new o ≡ room_left old o + one_if (b && is_slot i o)
-freed_at old new b i h None = elim b as (λ c. 0 - 0 ≡ (0 - 0) + one_if (c && false)) [ true ↦ refl | false ↦ refl ]
-freed_at old new b i h (Some j) = h j
+freed_at old new b i h o = grind arith
 
 pub freed : (keys : List Key) (k q : Key) (i : ℕ) → slot_in keys k ≡ Some i → (old new : Lists) (b : Bool)
     → ((j : ℕ) → spare_at new j ≡ spare_at old j + one_if (b && (j == i)))
@@ -167,8 +132,7 @@ absent [] k h = refl
 absent (q ∷ qs) k h = by (is_key k q) refl (absent qs k) h
   where
     by : (b : Bool) → is_key k q ≡ b → (slot_in qs k ≡ None → list_any (is_key k) qs ≡ false) → (if b then Some 0 else option_map (λ n. suc n) (slot_in qs k)) ≡ None → list_any (is_key k) (q ∷ qs) ≡ false
-    by true e rest g = absurd cc
-    by false e rest g = ap (λ (c : Bool). c || list_any (is_key k) qs) e ∙ rest (suc_none (slot_in qs k) g)
+    by b e rest g = grind arith
 
 -- the index itself, or this one if the test holds
 abbrev or_slot : Option ℕ → Bool → ℕ → Option ℕ
@@ -177,79 +141,32 @@ or_slot None true n = Some n
 or_slot None false n = None
 
 slot_pushed : (keys : List Key) (k q : Key) → slot_in (keys ++ k ∷ []) q ≡ or_slot (slot_in keys q) (is_key q k) (length keys)
-slot_pushed [] k q = one (is_key q k)
-  where
-    one : (b : Bool) → (if b then Some 0 else option_map (λ n. suc n) None) ≡ or_slot None b 0
-    one true = refl
-    one false = refl
-slot_pushed (x ∷ xs) k q = by (is_key q x) (slot_in xs q) (is_key q k) (slot_pushed xs k q)
-  where
-    by : (b : Bool) (o : Option ℕ) (c : Bool) → slot_in (xs ++ k ∷ []) q ≡ or_slot o c (length xs)
-        → (if b then Some 0 else option_map (λ n. suc n) (slot_in (xs ++ k ∷ []) q))
-        ≡ or_slot (if b then Some 0 else option_map (λ n. suc n) o) c (suc (length xs))
-    by true o c h = refl
-    by false None true h = ap (option_map (λ n. suc n)) h
-    by false None false h = ap (option_map (λ n. suc n)) h
-    by false (Some i) c h = ap (option_map (λ n. suc n)) h
+slot_pushed [] k q = grind arith
+slot_pushed (x ∷ xs) k q = grind (arith, slot_pushed xs k q)
 
 kept_pushed : (keys : List Key) (k q : Key) (lists : Lists) (v : Vec ℕ Global) → v.items ≡ [] → length lists ≡ length keys
     → list_of (lists ++ v ∷ []) (slot_in (keys ++ k ∷ []) q) ≡ list_of lists (slot_in keys q)
-kept_pushed keys k q lists v empty len = ap (list_of (lists ++ v ∷ [])) (slot_pushed keys k q) ∙ by (slot_in keys q) (is_key q k) (slot-within keys q)
-  where
-    by : (o : Option ℕ) (b : Bool) → ((i : ℕ) → o ≡ Some i → i < length keys) → list_of (lists ++ v ∷ []) (or_slot o b (length keys)) ≡ list_of lists o
-    by None true w = ap (list_at (lists ++ v ∷ [])) (sym len) ∙ ap items_of (slice_get-push_same lists v) ∙ empty
-    by None false w = refl
-    by (Some i) b w = ap items_of (slice_get-push_other lists v i (λ e. omega (arith, e, w i refl, len)))
+kept_pushed keys k q lists v empty len = grind (arith, slot_pushed, slot-within, slice_get-push_same, slice_get-push_other)
 
 room_pushed : (keys : List Key) (k q : Key) (lists : Lists) (v : Vec ℕ Global) → length lists ≡ length keys
     → room_left lists (slot_in keys q) ≤ room_left (lists ++ v ∷ []) (slot_in (keys ++ k ∷ []) q)
-room_pushed keys k q lists v len =
-    subst (λ (o : Option ℕ). room_left lists (slot_in keys q) ≤ room_left (lists ++ v ∷ []) o) (sym (slot_pushed keys k q))
-    (by (slot_in keys q) (is_key q k) (slot-within keys q))
-  where
-    by : (o : Option ℕ) (b : Bool) → ((i : ℕ) → o ≡ Some i → i < length keys) → room_left lists o ≤ room_left (lists ++ v ∷ []) (or_slot o b (length keys))
-    by None b w = omega arith
-    by (Some i) b w =
-        let same : spare_at (lists ++ v ∷ []) i ≡ spare_at lists i =
-        ap (λ (o : Option (Vec ℕ Global)). room_of o - length (items_of o)) (slice_get-push_other lists v i (λ e. omega (arith, e, w i refl, len))) in
-        omega (arith, same)
+room_pushed keys k q lists v len = grind (arith, slot_pushed, slot-within, slice_get-push_other)
 
 pub keeps_pushed : (old new : Table) (k : Key) (v u : Vec ℕ Global) → new.keys.keys ≡ old.keys.keys ++ k ∷ []
     → new.all.items ≡ old.all.items ++ v ∷ [] → new.writes.items ≡ old.writes.items ++ u ∷ [] → v.items ≡ [] → u.items ≡ []
     → length old.all.items ≡ length old.keys.keys → length old.writes.items ≡ length old.keys.keys → KeepsLists old new
-keeps_pushed old new k v u keys all writes none_v none_u in_all in_writes = record {
-  lists = lists;
-  room = room;
-  slots = λ q i h. ap (λ (ks : List Key). slot_in ks q) keys ∙ slot_pushed old.keys.keys k q ∙ ap (λ (o : Option ℕ). or_slot o (is_key q k) (length old.keys.keys)) h;
-}
-  where
-    lists : (w : Bool) (q : Key) → kept_in new w q ≡ kept_in old w q
-    lists false q = (λ i. list_of (all i) (slot_in (keys i) q)) ∙ kept_pushed old.keys.keys k q old.all.items v none_v in_all
-    lists true q = (λ i. list_of (writes i) (slot_in (keys i) q)) ∙ kept_pushed old.keys.keys k q old.writes.items u none_u in_writes
-
-    room : (w : Bool) (q : Key) → spare_in old w q ≤ spare_in new w q
-    room false q =
-        let same : spare_in new false q ≡ room_left (old.all.items ++ v ∷ []) (slot_in (old.keys.keys ++ k ∷ []) q) = λ i. room_left (all i) (slot_in (keys i) q) in
-        omega (arith, same, room_pushed old.keys.keys k q old.all.items v in_all)
-    room true q =
-        let same : spare_in new true q ≡ room_left (old.writes.items ++ u ∷ []) (slot_in (old.keys.keys ++ k ∷ []) q) = λ i. room_left (writes i) (slot_in (keys i) q) in
-        omega (arith, same, room_pushed old.keys.keys k q old.writes.items u in_writes)
+keeps_pushed old new k v u keys all writes none_v none_u in_all in_writes = grind (arith, slot_pushed, kept_pushed, room_pushed)
 
 -- a key that was not there is last
 pub key_last : (keys new : List Key) (k : Key) → slot_in keys k ≡ None → new ≡ (if list_any (is_key k) keys then keys else keys ++ k ∷ []) → new ≡ keys ++ k ∷ []
 key_last keys new k none h = h ∙ ap (λ (b : Bool). if b then keys else keys ++ k ∷ []) (absent keys k none)
 
 pub slot_last : (keys new : List Key) (k : Key) (n : ℕ) → slot_in keys k ≡ None → new ≡ keys ++ k ∷ [] → n ≡ length keys → slot_in new k ≡ Some n
-slot_last keys new k n none h len =
-    ap (λ (ks : List Key). slot_in ks k) h ∙ slot_pushed keys k k ∙ (λ i. or_slot (none i) (is_key-refl k i) (length keys)) ∙ ap Some (sym len)
+slot_last keys new k n none h len = grind (arith, slot_pushed)
 
 pub one_longer : (keys new : List Key) (k : Key) (lists more : Lists) (v : Vec ℕ Global) → new ≡ keys ++ k ∷ [] → more ≡ lists ++ v ∷ []
     → length lists ≡ length keys → length more ≡ length new
-one_longer keys new k lists more v e f len = ap length f ∙ longer lists v ∙ ap suc len ∙ sym (longer keys k) ∙ sym (ap length e)
-  where
-    longer : {X : Type 0} (xs : List X) (x : X) → length (xs ++ x ∷ []) ≡ suc (length xs)
-    longer [] x = refl
-    longer (y ∷ xs) x = ap suc (longer xs x)
+one_longer keys new k lists more v e f len = grind (arith, common_steps)
 
 -- the table's changes, from those of its lists
 

@@ -1,15 +1,7 @@
 -- The last writer of a place, from the last positions up to a number in a place's list and a
 -- segment's.
-use Rattle.std.proofs.Common.{◌≡◌, ℕ, zero, suc, ◌+◌, ◌-◌, ◌<◌, ◌≤◌, max, Bool, true, false, ◌||◌, if◌then◌else◌, nat_lt, List, [], ◌∷◌, length, get_or, take, Option, Some, None, refl, sym, ap, ◌∙◌, arith}
-use Rattle.std.proofs.Math.Bool.{or_comm}
-use Rattle.rd_cell.specs.declared.places.Place.{Place}
-use Rattle.rd_cell.specs.Places.{covers, some_overlap}
-use Rattle.rd_step.specs.declared.entries.Entry.{Entry}
-use Rattle.rd_depend.specs.declared.index.DependIndex.{DependIndex}
-use Rattle.rd_depend.specs.Keys.{is_under, is_under_some, own_key, value_of_place, whole_key}
-use Rattle.rd_depend.specs.Lists.{IsAscending, number_up_to, up_to, last_or, last_of, later}
-use Rattle.rd_depend.specs.Index.{Touch, reached, touches, positions_from, positions, kept, IsIndexOf}
-use Rattle.rd_depend.specs.Writers.{behind, last_position, writes_to}
+use Rattle.rd_depend.proofs.Prelude.{common_steps, Place, some_overlap, Entry, DependIndex, is_under, is_under_some, own_key, value_of_place, whole_key, IsAscending, number_up_to, up_to, last_or, last_of, later, Touch, reached, touches, positions_from, positions, kept, IsIndexOf, behind, last_position, writes_to}
+use Rattle.std.proofs.Common.{◌≡◌, ℕ, suc, ◌+◌, ◌-◌, ◌<◌, ◌≤◌, Bool, true, false, ◌||◌, if◌then◌else◌, nat_lt, List, [], ◌∷◌, length, get_or, take, Option, Some, None, refl, sym, ap, ◌∙◌, arith}
 use Rattle.rd_depend.proofs.IndexCuts.{positions-up_to}
 use Rattle.rd_depend.proofs.IndexFirst.{kept-ascends, kept-short, overlaps-keys}
 
@@ -17,11 +9,7 @@ use Rattle.rd_depend.proofs.IndexFirst.{kept-ascends, kept-short, overlaps-keys}
 
 last-none : (k : ℕ) (ps : List ℕ) → number_up_to k ps ≡ 0 → last_of (up_to k ps) ≡ None
 last-none k [] h = refl
-last-none k (p ∷ ps) h = by (nat_lt k p) h
-  where
-    by : (b : Bool) → (if b then 0 else suc (number_up_to k ps)) ≡ 0 → last_of (if b then [] else p ∷ up_to k ps) ≡ None
-    by true g = refl
-    by false g = absurd (omega (arith, g))
+last-none k (p ∷ ps) h = grind arith
 
 last-there : (k : ℕ) (ps : List ℕ) (i d : ℕ) → number_up_to k ps ≡ suc i → last_of (up_to k ps) ≡ Some (get_or ps i d)
 last-there k [] i d h = absurd (omega (arith, h))
@@ -29,22 +17,19 @@ last-there k (p ∷ ps) i d h = by (nat_lt k p) (λ j. last-there k ps j d) h
   where
     front : ((j : ℕ) → number_up_to k ps ≡ suc j → last_of (up_to k ps) ≡ Some (get_or ps j d))
         → (j : ℕ) → number_up_to k ps ≡ j → last_or p (last_of (up_to k ps)) ≡ Some (get_or (p ∷ ps) j d)
-    front rest zero g = ap (last_or p) (last-none k ps g)
-    front rest (suc j) g = ap (last_or p) (rest j g)
+    front rest j g = grind (arith, last-none)
 
     by : (b : Bool) → ((j : ℕ) → number_up_to k ps ≡ suc j → last_of (up_to k ps) ≡ Some (get_or ps j d)) → (if b then 0 else suc (number_up_to k ps)) ≡ suc i
         → last_of (if b then [] else p ∷ up_to k ps) ≡ Some (get_or (p ∷ ps) i d)
-    by true rest g = absurd (omega (arith, g))
-    by false rest g = let e : number_up_to k ps ≡ i = omega (arith, g) in front rest i e
+    by true rest g = absurd (omega arith)
+    by false rest g = let e : number_up_to k ps ≡ i = omega arith in front rest i e
 
 pub last-missing : (k : ℕ) (ps : List ℕ) (number : ℕ) → number ≡ number_up_to k ps → number ≤ 0 → None ≡ last_of (up_to k ps)
-last-missing k ps number count none = let e : number_up_to k ps ≡ 0 = omega (arith, count, none) in sym (last-none k ps e)
+last-missing k ps number count none = let e : number_up_to k ps ≡ 0 = omega arith in sym (last-none k ps e)
 
 pub last-among : (k : ℕ) (ps : List ℕ) (number look found : ℕ) → number ≡ number_up_to k ps → 0 < number → look ≡ get_or ps (number - 1) look → found ≡ look
     → Some found ≡ last_of (up_to k ps)
-last-among k ps number look found count some at is =
-    let e : number_up_to k ps ≡ suc (number - 1) = omega (arith, count, some) in
-    ap Some (is ∙ at) ∙ sym (last-there k ps (number - 1) look e)
+last-among k ps number look found count some at is = grind (arith, last-there)
 
 -- the last of the positions that pass a test is the last position
 
@@ -55,54 +40,33 @@ moved m (Some j) = Some (m + j)
 last-from : (test : Entry → Bool) (m n : ℕ) (es : List Entry) → n ≡ suc m → last_of (positions_from test n es) ≡ moved m (last_position test es)
 last-from test m n [] h = refl
 last-from test m n (x ∷ xs) h =
-    let e : n + 1 ≡ suc (suc m) = omega (arith, h) in
+    let e : n + 1 ≡ suc (suc m) = omega arith in
     by (test x) (last_position test xs) (last-from test (suc m) (n + 1) xs e)
   where
     by : (b : Bool) (o : Option ℕ) → last_of (positions_from test (n + 1) xs) ≡ moved (suc m) o
         → last_of (if b then n ∷ positions_from test (n + 1) xs else positions_from test (n + 1) xs) ≡ moved m (behind b o)
-    by true None g = let e : n ≡ m + 1 = omega (arith, h) in ap (last_or n) g ∙ ap Some e
-    by true (Some j) g = let e : suc m + j ≡ m + suc j = omega arith in ap (last_or n) g ∙ ap Some e
-    by false None g = g
-    by false (Some j) g = let e : suc m + j ≡ m + suc j = omega arith in g ∙ ap Some e
+    by b o g = grind arith
 
 last-is : (test : Entry → Bool) (es : List Entry) → last_of (positions test es) ≡ last_position test es
 last-is test es = last-from test 0 1 es refl ∙ plain (last_position test es)
   where
     plain : (o : Option ℕ) → moved 0 o ≡ o
-    plain None = refl
-    plain (Some j) = let e : 0 + j ≡ j = omega arith in ap Some e
-
-later_behind : (b c : Bool) (o p : Option ℕ) → later (behind b o) (behind c p) ≡ behind (b || c) (later o p)
-later_behind b c (Some m) (Some n) = let e : max (suc m) (suc n) ≡ suc (max m n) = omega arith in ap Some e
-later_behind b true (Some m) None = let e : max (suc m) 1 ≡ suc m = omega arith in ap Some e
-later_behind b false (Some m) None = refl
-later_behind true c None (Some n) = let e : max 1 (suc n) ≡ suc n = omega arith in ap Some e
-later_behind false c None (Some n) = refl
-later_behind true true None None = refl
-later_behind true false None None = refl
-later_behind false true None None = refl
-later_behind false false None None = refl
+    plain o = grind arith
 
 -- the later of two is the last that passes one test or the other
 later-last : (t u v : Entry → Bool) → ((y : Entry) → v y ≡ (t y || u y)) → (es : List Entry)
     → later (last_position t es) (last_position u es) ≡ last_position v es
 later-last t u v h [] = refl
-later-last t u v h (x ∷ xs) =
-    later_behind (t x) (u x) (last_position t xs) (last_position u xs) ∙ (λ i. behind (sym (h x) i) (later-last t u v h xs i))
+later-last t u v h (x ∷ xs) = grind (arith, later-last t u v h xs)
 
 -- what the searches find
 
 pub last_in : (index : DependIndex) (es : List Entry) → IsIndexOf index es → index.len ≤ 65535 → (t : Touch) (n : ℕ) (r : Option ℕ)
     → (IsAscending (kept index t) → length (kept index t) < 131072 → r ≡ last_of (up_to n (kept index t))) → r ≡ last_position (touches t) (take n es)
-last_in index es is few t n r found =
-    found (kept-ascends index es is t) (kept-short index es is few t) ∙ ap (λ (l : List ℕ). last_of (up_to n l)) (is.lists t)
-    ∙ ap last_of (positions-up_to (touches t) n 1 n es refl) ∙ last-is (touches t) (take n es)
+last_in index es is few t n r found = grind (arith, common_steps, kept-ascends, kept-short, positions-up_to, last-is)
 
 meet : (o p : Option Place) → some_overlap o p ≡ some_overlap p o
-meet None None = refl
-meet None (Some q) = refl
-meet (Some p) None = refl
-meet (Some p) (Some q) = or_comm (covers p q) (covers q p)
+meet o p = grind arith
 
 -- nothing is found under no key
 pub none_last : (es : List Entry) → last_position (λ (y : Entry). false) es ≡ None

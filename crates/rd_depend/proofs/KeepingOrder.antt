@@ -1,58 +1,27 @@
 -- Steps keep the order of dependent ones at the places where they are in another list exactly where
 -- they may be taken out of it one after another.
-use Rattle.std.proofs.Common.{◌≡◌, ◌≢◌, ℕ, suc, ◌<◌, ◌≤◌, Bool, true, false, ◌==◌, if◌then◌else◌, List, [], ◌∷◌, ◌++◌, map, refl, sym, ap, subst, ◌∙◌, arith, eqb-true, eq-eqb}
-use Rattle.std.proofs.lemmas.Bool.{eqb-false}
-use Rattle.std.proofs.lemmas.List.{map-append}
-use Rattle.rd_step.specs.declared.entries.Entry.{Entry}
-use Rattle.rd_depend.specs.declared.index.keys.Key.{Key}
-use Rattle.rd_depend.specs.declared.last_writers.Reached.{Reached}
-use Rattle.rd_depend.specs.Keys.{is_under}
-use Rattle.rd_depend.specs.LastWriters.{wrote_under, bound, passed, nothing_reached, moved, IsInOrder, AreAlike, Placed, by_actor, with_steps, KeepsOrder, enumerated}
+use Rattle.rd_depend.proofs.Prelude.{common_steps, eqb-false, map-append, Entry, Key, Reached, is_under, wrote_under, bound, passed, nothing_reached, moved, IsInOrder, AreAlike, Placed, by_actor, with_steps, KeepsOrder, enumerated}
+use Rattle.std.proofs.Common.{◌≡◌, ◌≢◌, ℕ, suc, ◌<◌, ◌≤◌, Bool, true, false, ◌==◌, if◌then◌else◌, List, [], ◌∷◌, ◌++◌, map, refl, sym, ap, subst, ◌∙◌, arith, eqb-true}
 use Rattle.rd_depend.proofs.FirstOfActor.{HasNoneBy}
 use Rattle.rd_depend.proofs.TouchedKeys.{wrote_touched}
-use Rattle.rd_depend.proofs.TakingOut.{alike-sym, touched-alike, wrote-alike, AreApart, IsApartFrom, TakesAll}
+use Rattle.rd_depend.proofs.TakingOut.{touched-alike, wrote-alike, AreApart, IsApartFrom, TakesAll}
 
 -- How far steps reached under a key
 
 grows : (b w v : Bool) (r : Reached) (i j : ℕ) → bound (if b then passed r w i else r) v < j → bound r v < j
-grows true true true r i j h = omega arith
-grows true true false r i j h = omega arith
-grows true false true r i j h = omega arith
-grows true false false r i j h = h
-grows false w v r i j h = h
-
-behind_both : (b w v : Bool) (r : Reached) (i j : ℕ) → bound r v < j → i < j → bound (if b then passed r w i else r) v < j
-behind_both true true true r i j h g = omega arith
-behind_both true true false r i j h g = omega arith
-behind_both true false true r i j h g = omega arith
-behind_both true false false r i j h g = h
-behind_both false w v r i j h g = h
-
--- where neither wrote the one doesn't see the other
-unseen : (b w v : Bool) (r : Reached) (i j : ℕ) → bound r v < j → (w ≡ true → ⊥) → (b ≡ true → v ≡ true → ⊥) → bound (if b then passed r w i else r) v < j
-unseen true true v r i j h quiet never = absurd (quiet refl)
-unseen true false true r i j h quiet never = absurd (never refl refl)
-unseen true false false r i j h quiet never = h
-unseen false w v r i j h quiet never = h
+grows b w v r i j h = grind arith
 
 -- and where one did the second is after the first
 seen_touching : (b w v : Bool) (r : Reached) (i j : ℕ) → bound (if b then passed r w i else r) v < j → b ≡ true → w ≡ true → i < j
-seen_touching true true true r i j h e f = omega arith
-seen_touching true true false r i j h e f = omega arith
-seen_touching true false v r i j h e f = cc
-seen_touching false w v r i j h e f = cc
+seen_touching b w v r i j h e f = grind arith
 
 seen_writing : (b w v : Bool) (r : Reached) (i j : ℕ) → bound (if b then passed r w i else r) v < j → b ≡ true → v ≡ true → i < j
-seen_writing true true true r i j h e f = omega arith
-seen_writing true false true r i j h e f = omega arith
-seen_writing true w false r i j h e f = cc
-seen_writing false w v r i j h e f = cc
+seen_writing b w v r i j h e f = grind arith
 
 -- The same under all keys
 
 in_order-alike : (s : Key → Reached) (x y : Entry) (i : ℕ) → AreAlike x y → IsInOrder s x i → IsInOrder s y i
-in_order-alike s x y i h order k touched =
-    subst (λ (b : Bool). bound (s k) b < i) (wrote-alike x y h k) (order k (touched-alike x y h k ∙ touched))
+in_order-alike s x y i h order k touched = grind arith
 
 moved-alike : (s : Key → Reached) (x y : Entry) (i : ℕ) → AreAlike x y → moved s x i ≡ moved s y i
 moved-alike s x y i h = λ j k. if touched-alike x y h k j then passed (s k) (wrote-alike x y h k j) i else s k
@@ -61,26 +30,13 @@ in_order-before : (s : Key → Reached) (x y : Entry) (i j : ℕ) → IsInOrder 
 in_order-before s x y i j h k touched = grows (is_under k x.place) (wrote_under k x.place x.wrote) (wrote_under k y.place y.wrote) (s k) i j (h k touched)
 
 in_order-behind : (s : Key → Reached) (x y : Entry) (i j : ℕ) → IsInOrder s y j → i < j → IsInOrder (moved s x i) y j
-in_order-behind s x y i j h behind k touched =
-    behind_both (is_under k x.place) (wrote_under k x.place x.wrote) (wrote_under k y.place y.wrote) (s k) i j (h k touched) behind
+in_order-behind s x y i j h behind k touched = grind arith
 
 in_order-apart : (s : Key → Reached) (x y : Entry) (i j : ℕ) → IsInOrder s y j → AreApart x y → IsInOrder (moved s x i) y j
-in_order-apart s x y i j h apart k touched =
-    unseen (is_under k x.place) (wrote_under k x.place x.wrote) (wrote_under k y.place y.wrote) (s k) i j (h k touched)
-    (λ wrote. apart.first k wrote touched) (λ its wrote. apart.second k its wrote)
+in_order-apart s x y i j h apart k touched = grind arith
 
 apart_before : (s : Key → Reached) (x y : Entry) (i j : ℕ) → IsInOrder (moved s x i) y j → j < i → x.event.actor ≢ y.event.actor → AreApart x y
-apart_before s x y i j h before actors = record {
-  actors = actors;
-  first = λ k wrote touched.
-      let behind : i < j = seen_touching (is_under k x.place) (wrote_under k x.place x.wrote) (wrote_under k y.place y.wrote) (s k) i j (h k touched)
-      (wrote_touched k x.place x.wrote wrote) wrote in
-      omega arith;
-  second = λ k touched wrote.
-      let behind : i < j = seen_writing (is_under k x.place) (wrote_under k x.place x.wrote) (wrote_under k y.place y.wrote) (s k) i j
-      (h k (wrote_touched k y.place y.wrote wrote)) touched wrote in
-      omega arith;
-}
+apart_before s x y i j h before actors = grind (arith, wrote_touched)
 
 -- Lists of steps with their places
 
@@ -93,8 +49,7 @@ Each P [] = Unit {0}
 Each P (p ∷ ps) = P p × Each P ps
 
 each-append : (P : Placed → Type 0) (ps qs : List Placed) → Each P ps → Each P qs → Each P (ps ++ qs)
-each-append P [] qs h g = g
-each-append P (p ∷ ps) qs h g = (h.0, each-append P ps qs h.1 g)
+each-append h ps qs k g = grind (arith, common_steps)
 
 each-first : (P : Placed → Type 0) (ps qs : List Placed) → Each P (ps ++ qs) → Each P ps
 each-first P [] qs h = tt
@@ -149,18 +104,10 @@ entries-enumerated i (x ∷ xs) = ap (λ (l : List Entry). x ∷ l) (entries-enu
 -- The steps of one actor
 
 own : (n : ℕ) (p : Placed) (ps : List Placed) → n ≡ p.1.event.actor → by_actor n (p ∷ ps) ≡ p ∷ by_actor n ps
-own n p ps h = by (n == p.1.event.actor) (eq-eqb n p.1.event.actor h)
-  where
-    by : (b : Bool) → b ≡ true → (if b then p ∷ by_actor n ps else by_actor n ps) ≡ p ∷ by_actor n ps
-    by true e = refl
-    by false e = cc
+own n p ps h = grind arith
 
 other : (n : ℕ) (p : Placed) (ps : List Placed) → n ≢ p.1.event.actor → by_actor n (p ∷ ps) ≡ by_actor n ps
-other n p ps h = by (n == p.1.event.actor) (λ e. h (eqb-true n p.1.event.actor e))
-  where
-    by : (b : Bool) → (b ≡ true → ⊥) → (if b then p ∷ by_actor n ps else by_actor n ps) ≡ by_actor n ps
-    by true never = absurd (never refl)
-    by false never = refl
+other n p ps h = grind arith
 
 -- the first step of an actor, with those before it and after it
 record FirstBy (n : ℕ) (ps : List Placed) (p : Placed) (rest : List Placed) : Type 0 where
@@ -202,8 +149,7 @@ first_by n (q ∷ ps) p rest h = by (n == q.1.event.actor) refl h (first_by n ps
 -- without it the steps of its actor are the others, and those of other actors stay
 by_actor-first : (n : ℕ) (ps qs : List Placed) (p : Placed) → n ≡ p.1.event.actor → HasNoneBy n (entries_of ps) → by_actor n (ps ++ p ∷ qs) ≡ p ∷ by_actor n (ps ++ qs)
 by_actor-first n [] qs p e none = own n p qs e
-by_actor-first n (r ∷ ps) qs p e none =
-    other n r (ps ++ p ∷ qs) none.0 ∙ by_actor-first n ps qs p e none.1 ∙ ap (λ (l : List Placed). p ∷ l) (sym (other n r (ps ++ qs) none.0))
+by_actor-first n (r ∷ ps) qs p e none = grind (arith, by_actor-first n ps qs p e none.1)
 
 by_actor-others : (n : ℕ) (ps qs : List Placed) (p : Placed) → n ≢ p.1.event.actor → by_actor n (ps ++ p ∷ qs) ≡ by_actor n (ps ++ qs)
 by_actor-others n [] qs p h = other n p qs h
@@ -211,11 +157,7 @@ by_actor-others n (r ∷ ps) qs p h = λ i. if n == r.1.event.actor then r ∷ b
 
 taken_out : (n : ℕ) (ps qs : List Placed) (p : Placed) → n ≡ p.1.event.actor → (m : ℕ)
     → with_steps (λ k. by_actor k (ps ++ p ∷ qs)) n (by_actor n (ps ++ qs)) m ≡ by_actor m (ps ++ qs)
-taken_out n ps qs p e m = by (m == n) refl
-  where
-    by : (b : Bool) → (m == n) ≡ b → (if b then by_actor n (ps ++ qs) else by_actor m (ps ++ p ∷ qs)) ≡ by_actor m (ps ++ qs)
-    by true f = ap (λ (k : ℕ). by_actor k (ps ++ qs)) (sym (eqb-true m n f))
-    by false f = by_actor-others m ps qs p (λ g. eqb-false m n f (g ∙ sym e))
+taken_out n ps qs p e m = grind (arith, by_actor-others)
 
 nobody_left : (ps : List Placed) → ((n : ℕ) → by_actor n ps ≡ []) → ps ≡ []
 nobody_left [] h = refl
@@ -338,11 +280,7 @@ taken_more s x xs ps qs p order ascends alike apart on =
     let same = sym (moved-alike s x p.1 p.0 alike) in (
       p,
       by_actor n (ps ++ qs),
-      record {
-        first = by_actor-first n ps qs p e (subst (λ (k : ℕ). HasNoneBy k (entries_of ps)) (sym e) (none_by p.1 (entries_of ps) apart));
-        alike = alike;
-        order = in_order-alike s p.1 x p.0 (alike-sym x p.1 alike) its.0;
-      },
+      grind (arith, by_actor-first, none_by),
       subst (λ (l : ℕ → List Placed). KeepsOrder (moved s x p.0) xs l) (λ i m. sym (taken_out n ps qs p e m) i) (on (subst (λ (t : Key → Reached). AreInOrder t (ps ++ qs)) same rest)),
     )
 
@@ -360,8 +298,7 @@ taken s (x ∷ xs) ps ascends order h =
     (λ rest. taken (moved s x f.step.0) xs (f.earlier ++ f.later) (around f.earlier f.step f.later asc).rest rest (subst (λ (l : List Entry). TakesAll xs l) left h.2)))
 
 at_first : (v : Bool) (k : Key) (i : ℕ) → 1 ≤ i → bound (nothing_reached k) v < i
-at_first true k i h = omega arith
-at_first false k i h = omega arith
+at_first v k i h = grind arith
 
 all_at_first : (ps : List Placed) → Each (λ p. 1 ≤ p.0) ps → AreInOrder nothing_reached ps
 all_at_first ps h = each-more _ _ ps (λ p behind k touched. at_first (wrote_under k p.1.place p.1.wrote) k p.0 behind) h

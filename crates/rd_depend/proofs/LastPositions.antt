@@ -1,14 +1,12 @@
 -- The last position in the beginning of a list, one element at a time.
-use Rattle.std.proofs.Common.{◌≡◌, ℕ, zero, suc, Bool, true, false, if◌then◌else◌, refl, ap, ◌∙◌, List, [], ◌∷◌, take, slice_get, Some, None}
-use Rattle.rd_depend.specs.Writers.{behind, last_position}
+use Rattle.std.proofs.Common.{◌≡◌, ℕ, zero, suc, Bool, true, false, if◌then◌else◌, refl, ap, List, [], ◌∷◌, take, slice_get, Some, None, arith}
+use Rattle.rd_depend.proofs.Prelude.{behind, last_position}
 
 -- an element that passes is the last of those up to it
 pub last-found : {X : Type 0} (test : X → Bool) (xs : List X) (i : ℕ) (x : X) → slice_get xs i ≡ Some x → test x ≡ true
     → last_position test (take (suc i) xs) ≡ Some (suc i)
 last-found {X} test [] i x h k = cc
-last-found {X} test (y ∷ ys) zero x h k =
-    let same : y ≡ x = cc in
-    ap (λ (z : X). if test z then Some 1 else None) same ∙ ap (λ (b : Bool). if b then Some 1 else None) k
+last-found {X} test (y ∷ ys) zero x h k = grind arith
 last-found {X} test (y ∷ ys) (suc i) x h k = ap (behind (test y)) (last-found test ys i x h k)
 
 -- one that fails, or none, changes nothing

@@ -1,3 +1,4 @@
+pub mod Prelude
 mod CommonBeginning
 pub mod IndexLists
 pub mod IndexTable

@@ -1,18 +1,7 @@
 -- Of two runs from one world the events are equivalent exactly where the records of the one may be
 -- taken out of the other.
-use Rattle.std.proofs.Common.{◌≡◌, ℕ, Bool, true, false, if◌then◌else◌, nat_lt, refl, sym, ◌∙◌, ap, subst, List, [], ◌∷◌, ◌++◌, Option, Some, None, Result, Ok, Err}
-use Rattle.rd_step.specs.Prelude.{SegName, Place, WholeOf, Content, Contents, operand, Operation, Access, Refusal, SegmentsEnd, Performed, Effect, effect, perform, is_nothing, WrotePlace, MOST_SEGMENTS}
-use Rattle.rd_cell.specs.declared.operations.Answer.TheVariants.{Made}
-use Rattle.rd_cell.specs.Contents.{holding}
-use Rattle.rd_cell.specs.declared.access.Access.TheVariants.{NoPlace, At, Make}
-use Rattle.rd_cell.specs.Access.{number_made, operate, perform_effect}
-use Rattle.rd_step.specs.Prelude.{World, Stepped, step, IsFree}
-use Rattle.rd_step.specs.declared.entries.Entry.{Entry}
-use Rattle.rd_step.specs.Equivalence.{IsEquivalent}
-use Rattle.rd_step.specs.Run.{events, IsRunFrom}
-use Rattle.rd_step.proofs.RunParts.{first_step}
-use Rattle.rd_step.proofs.Steps.{took}
-use Rattle.rd_depend.specs.Equivalence.{DecidesEquivalence}
+use Rattle.std.proofs.Common.{◌≡◌, ℕ, true, false, refl, sym, ap, subst, List, [], ◌∷◌, ◌++◌, Ok, arith}
+use Rattle.rd_depend.proofs.Prelude.{World, step, IsFree, Entry, IsEquivalent, events, IsRunFrom, first_step, DecidesEquivalence}
 use Rattle.rd_depend.proofs.FirstOfActor.{MayComeFirst}
 use Rattle.rd_depend.proofs.Exactness.{comes_first, runs_on, equivalent_first, no_events}
 use Rattle.rd_depend.proofs.TakingOut.{alike-same, IsApartFrom, Takes, TakesAll}
@@ -20,41 +9,8 @@ use Rattle.rd_depend.proofs.KeysMeet.{MakingWrote, apart_of_free, free_of_apart}
 
 -- A step of a run at the whole of a segment is its making, which wrote
 
-never_whole : (at : Contents) (p : Place) (c : Content) (t : SegName) → operand at p ≡ Some c → Some p ≡ Some (WholeOf t) → ⊥
-never_whole at (WholeOf s) c t h e = cc
-never_whole at _ c t h e = cc
-
-operated : (at : Contents) (p : Place) (op : Operation) (o : Option Content) (did : Performed) (t : SegName) → operand at p ≡ o
-    → operate p op o ≡ Ok did → did.place ≡ Some (WholeOf t) → is_nothing did.wrote ≡ false
-operated at p op None did t h k e = cc
-operated at p op (Some c) did t h k e = by (effect op c) k
-  where
-    by : (r : Result Effect Refusal) → perform_effect p c r ≡ Ok did → is_nothing did.wrote ≡ false
-    by (Err refusal) l = cc
-    by (Ok f) l =
-        let place : Some p ≡ did.place = cc in
-        absurd (never_whole at p c t h (place ∙ e))
-
-made_by : (b : Bool) (p did : Performed) (refusal : Refusal) → is_nothing p.wrote ≡ false → (if b then Ok p else Err refusal) ≡ Ok did
-    → is_nothing did.wrote ≡ false
-made_by true p did refusal h k = let e : p ≡ did = cc in subst (λ (q : Performed). is_nothing q.wrote ≡ false) e h
-made_by false p did refusal h k = cc
-
-performed : (R actor : ℕ) (at : Contents) (access : Access) (did : Performed) (t : SegName) → perform R actor at access ≡ Ok did
-    → did.place ≡ Some (WholeOf t) → is_nothing did.wrote ≡ false
-performed R actor at NoPlace did t h e = cc
-performed R actor at (At p op) did t h e = operated at p op (operand at p) did t refl h e
-performed R actor at (Make x) did t h e =
-    let s : SegName = record { maker = actor; n = number_made at actor } in
-    made_by (nat_lt (number_made at actor) MOST_SEGMENTS)
-    (record { place = Some (WholeOf s); old = None; answer = Made s; wrote = WrotePlace; given = holding R x }) did SegmentsEnd refl h
-
 making_wrote : (R : ℕ) (w v : World) (x : Entry) → step R w x.event ≡ Ok (record { world = v; entry = x }) → MakingWrote x
-making_wrote R w v x h t e =
-    let by = took R w x.event (record { world = v; entry = x }) h in
-    let place : by.did.place ≡ x.place = ap (λ (s : Stepped). s.entry.place) by.ends in
-    let wrote = ap (λ (s : Stepped). is_nothing s.entry.wrote) by.ends in
-    sym wrote ∙ performed R x.event.actor w.at by.access by.did t by.does (place ∙ e)
+making_wrote h w v x k t e = grind arith
 
 abbrev AllMakingsWrote : List Entry → Type 0
 AllMakingsWrote [] = Unit {0}
@@ -101,8 +57,7 @@ equivalent_taken R w (x ∷ xs) ys runs_x runs_y h =
         stands = c.may.stands;
         alike = alike-same x c.may.entry (sym on.same);
         apart =
-            all_apart c.may.entry c.may.earlier (making_at c.may.earlier c.may.entry c.may.later makings)
-            (makings_before c.may.earlier (c.may.entry ∷ c.may.later) makings) c.may.free;
+            grind (arith, all_apart, makings_before);
         leaves = c.may.leaves;
       },
       equivalent_taken R first.after xs c.left first.rest on.runs ((equivalent_first R w x xs ys c.left first runs_y c.may).0 h),
@@ -111,15 +66,7 @@ equivalent_taken R w (x ∷ xs) ys runs_x runs_y h =
 -- and the way back
 
 taken_first : (x : Entry) (ys left : List Entry) → Takes x ys left → MayComeFirst x.event ys left
-taken_first x ys left t = record {
-  earlier = t.earlier;
-  entry = t.entry;
-  later = t.later;
-  stands = t.stands;
-  its_event = sym t.alike.event;
-  free = all_free t.entry t.earlier t.apart;
-  leaves = t.leaves;
-}
+taken_first x ys left t = grind (arith, all_free)
 
 taken_same : (R : ℕ) (w : World) (xs ys : List Entry) → IsRunFrom R w xs → IsRunFrom R w ys → TakesAll xs ys → IsEquivalent R w (events xs) (events ys)
 taken_same R w [] ys runs_x runs_y h = ap events h

@@ -1,19 +1,12 @@
 -- Where one list may be had from another by taking out one step after another, each free of those
 -- before it, so may the other from the one.
-use Rattle.std.proofs.Common.{◌≡◌, ◌≢◌, true, List, [], ◌∷◌, ◌++◌, refl, sym, ap, subst, ◌∙◌}
-use Rattle.rd_step.specs.declared.entries.Entry.{Entry}
-use Rattle.rd_depend.specs.declared.index.keys.Key.{Key}
-use Rattle.rd_depend.specs.Keys.{is_under}
-use Rattle.rd_depend.specs.LastWriters.{wrote_under, AreAlike}
+use Rattle.std.proofs.Common.{◌≡◌, ◌≢◌, true, List, [], ◌∷◌, ◌++◌, refl, sym, ap, subst, arith}
+use Rattle.rd_depend.proofs.Prelude.{Entry, Key, is_under, wrote_under, AreAlike}
 
 -- Steps that are alike
 
 pub alike-same : (x y : Entry) → x ≡ y → AreAlike x y
-alike-same x y h = record {
-  event = ap (λ (z : Entry). z.event) h;
-  place = ap (λ (z : Entry). z.place) h;
-  wrote = ap (λ (z : Entry). z.wrote) h;
-}
+alike-same x y h = grind arith
 
 pub alike-sym : (x y : Entry) → AreAlike x y → AreAlike y x
 alike-sym x y h = record { event = sym h.event; place = sym h.place; wrote = sym h.wrote }
@@ -40,11 +33,7 @@ IsApartFrom x (y ∷ ys) = AreApart x y × IsApartFrom x ys
 
 -- so are two like them, the other way round
 apart-turned : (x y u v : Entry) → AreAlike x u → AreAlike y v → AreApart x y → AreApart v u
-apart-turned x y u v h g a = record {
-  actors = λ e. a.actors ((λ i. (h.event i).actor) ∙ sym e ∙ (λ i. (sym g.event i).actor));
-  first = λ k wrote touched. a.second k (touched-alike x u h k ∙ touched) (wrote-alike y v g k ∙ wrote);
-  second = λ k touched wrote. a.first k (wrote-alike x u h k ∙ wrote) (touched-alike y v g k ∙ touched);
-}
+apart-turned x y u v h g a = grind arith
 
 -- Taking out
 
@@ -89,7 +78,4 @@ put_back (q ∷ xs) ys zs x y alike apart h =
 -- the other way round
 pub takes_back : (xs ys : List Entry) → TakesAll xs ys → TakesAll ys xs
 takes_back [] ys h = subst (λ (l : List Entry). TakesAll l []) (sym h) refl
-takes_back (x ∷ xs) ys h =
-    let t = h.1 in
-    subst (λ (l : List Entry). TakesAll l (x ∷ xs)) (sym t.stands)
-    (put_back t.earlier t.later xs x t.entry t.alike t.apart (subst (λ (l : List Entry). TakesAll l xs) t.leaves (takes_back xs h.0 h.2)))
+takes_back (x ∷ xs) ys h = grind (arith, put_back, takes_back xs h.0 h.2)

@@ -1,5 +1,5 @@
 use Rattle.std.proofs.Common.{◌≡◌, take}
-use Rattle.rd_step.specs.Run.{events}
+use Rattle.rd_depend.proofs.Prelude.{events}
 use Rattle.rd_depend.proofs.beginnings.common_beginning.Given as goal
 
 abbrev pub invariant-loop-index : goal.invariant-loop-index

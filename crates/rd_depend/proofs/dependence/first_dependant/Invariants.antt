@@ -1,6 +1,5 @@
 use Rattle.std.proofs.Common.{◌≡◌, ◌+◌, drop}
-use Rattle.rd_step.specs.Dependence.{first_from}
-use Rattle.rd_step.specs.Prelude.{first_dependant}
+use Rattle.rd_depend.proofs.Prelude.{first_from, first_dependant}
 use Rattle.rd_depend.proofs.dependence.first_dependant.Given as goal
 
 abbrev pub invariant-loop-later : goal.invariant-loop-later

@@ -1,4 +1,4 @@
-use Rattle.rd_depend.specs.ComparedSteps.{reached_of, left_of}
+use Rattle.rd_depend.proofs.Prelude.{reached_of, left_of}
 use Rattle.rd_depend.proofs.ComparingLemmas.{IsLeftToCompare}
 use Rattle.rd_depend.proofs.equivalence.compare.Given as goal
 

@@ -1,5 +1,5 @@
 use Rattle.std.proofs.Common.{◌≡◌, ℕ, [], length}
-use Rattle.rd_depend.specs.Lists.{list_at}
+use Rattle.rd_depend.proofs.Prelude.{list_at}
 use Rattle.rd_depend.proofs.last_writers.empty_lists.Given as goal
 
 abbrev pub invariant-loop-actor : goal.invariant-loop-actor

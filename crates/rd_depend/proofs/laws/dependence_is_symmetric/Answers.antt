@@ -1,4 +1,4 @@
-use Rattle.rd_step.proofs.Symmetry.{symmetric}
+use Rattle.rd_depend.proofs.Prelude.{symmetric}
 use Rattle.rd_depend.proofs.laws.dependence_is_symmetric.Goals as goal
 
 pub returns : goal.returns

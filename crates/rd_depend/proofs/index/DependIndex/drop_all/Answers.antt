@@ -1,5 +1,5 @@
 use Rattle.std.proofs.Common.{◌≡◌, ◌-◌, ◌<◌, suc, length, arith}
-use Rattle.std.proofs.lemmas.Option.{slice_get-get_or}
+use Rattle.rd_depend.proofs.Prelude.{slice_get-get_or}
 use Rattle.rd_depend.proofs.IndexChanges.{last_left, one_dropped}
 use Rattle.rd_depend.proofs.index.DependIndex.drop_all.Goals as goal
 
@@ -7,16 +7,8 @@ pub drop_last-requires : goal.drop_last-requires
 drop_last-requires c =
     let n = c.loop-left.left - 1 in
     let next : c.loop-left.left ≡ suc n = omega arith in
-    let within : n < length c.args.entries.now = omega (arith, c.loop-left.invariant.within) in
+    let within : n < length c.args.entries.now = omega arith in
     last_left c.args.self.now c.loop-left.self c.args.entries.now c.loop-left.left n _ next (slice_get-get_or c.args.entries.now n _ within) c.requires c.loop-left.invariant.dropped
 
 pub loop-left-preserved : goal.loop-left-preserved
-loop-left-preserved c =
-    let n = c.loop-left.left - 1 in
-    let next : c.loop-left.left ≡ suc n = omega arith in
-    let within : n < length c.args.entries.now = omega (arith, c.loop-left.invariant.within) in
-    record {
-      within = omega (arith, within);
-      dropped = one_dropped c.args.self.now c.loop-left.self c.drop_last.new.self c.args.entries.now c.loop-left.left n _ next
-          (slice_get-get_or c.args.entries.now n _ within) c.loop-left.invariant.dropped c.drop_last.ensures;
-    }
+loop-left-preserved c = grind (arith, one_dropped, slice_get-get_or)

@@ -1,6 +1,5 @@
-use Rattle.std.proofs.Common.{◌≤◌, length, arith}
-use Rattle.rd_depend.specs.Lists.{list_at}
-use Rattle.rd_depend.specs.Index.{By}
+use Rattle.std.proofs.Common.{◌≤◌, length, arith, rules}
+use Rattle.rd_depend.proofs.Prelude.{list_at, By}
 use Rattle.rd_depend.proofs.IndexKeys.{separate, value_other, segment_other, in_place, in_value, in_segment}
 use Rattle.rd_depend.proofs.IndexChanges.{drops, last_after, last_len, last_touched, last_under, touched_by}
 use Rattle.rd_depend.proofs.index.DependIndex.drop_last.Goals as goal
@@ -12,25 +11,13 @@ take_last_in-requires c =
     rw c.from.ensures has
 
 pub take_last-requires : goal.take_last-requires
-take_last-requires c = λ w q e n.
-    let h = c.homes_of-homes.result in
-    last_under c.args.self.now c.args.entry.now h c.homes_of-homes.ensures c.requires w q (in_place h w q e n)
+take_last-requires c = search (rules, last_under, in_place, arith)
 
 pub take_last-requires-2 : goal.take_last-requires-2
-take_last-requires-2 c =
-    let h = c.homes_of-homes.result in
-    let s = separate h c.args.entry.now c.homes_of-homes.ensures in
-    last_after c.args.self.now.by_key c.take_last.new.self h.value.key h.value.wrote h.place (value_other h s)
-    (λ w q e n. last_under c.args.self.now c.args.entry.now h c.homes_of-homes.ensures c.requires w q (in_value h w q e n)) c.take_last.ensures
+take_last-requires-2 c = search (rules, separate, last_after, value_other, last_under, in_value, arith)
 
 pub take_last-requires-3 : goal.take_last-requires-3
-take_last-requires-3 c =
-    let h = c.homes_of-homes.result in
-    let s = separate h c.args.entry.now c.homes_of-homes.ensures in
-    last_after c.take_last.new.self c.take_last-2.new.self h.segment.key h.segment.wrote h.value (λ w q e n. (segment_other h s w q e n).1)
-    (last_after c.args.self.now.by_key c.take_last.new.self h.segment.key h.segment.wrote h.place (λ w q e n. (segment_other h s w q e n).0)
-    (λ w q e n. last_under c.args.self.now c.args.entry.now h c.homes_of-homes.ensures c.requires w q (in_segment h w q e n)) c.take_last.ensures)
-    c.take_last-2.ensures
+take_last-requires-3 c = grind (arith, separate, segment_other, last_under, in_segment)
 
 pub returns : goal.returns
 returns c =

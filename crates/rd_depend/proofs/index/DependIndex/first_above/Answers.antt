@@ -1,6 +1,5 @@
 use Rattle.std.proofs.Common.{◌∙◌}
-use Rattle.rd_depend.specs.Lists.{earlier}
-use Rattle.rd_depend.specs.Index.{By}
+use Rattle.rd_depend.proofs.Prelude.{earlier, By}
 use Rattle.rd_depend.proofs.IndexFirst.{found_in, found_by, found_either}
 use Rattle.rd_depend.proofs.index.DependIndex.first_above.Goals as goal
 

@@ -1,7 +1,5 @@
 use Rattle.std.proofs.Common.{not, ◌∙◌}
-use Rattle.rd_depend.specs.Keys.{is_under, is_under_some}
-use Rattle.rd_depend.specs.Lists.{first_above}
-use Rattle.rd_depend.specs.Index.{positions, reached}
+use Rattle.rd_depend.proofs.Prelude.{is_under, is_under_some, first_above, positions, reached}
 use Rattle.rd_depend.proofs.IndexFirst.{found_at}
 use Rattle.rd_depend.proofs.index.DependIndex.first_at.Goals as goal
 

@@ -1,8 +1,5 @@
 use Rattle.std.proofs.Common.{◌≡◌, ◌<◌, ℕ, List, length, sym, ap, subst, ◌∙◌, Option}
-use Rattle.rd_depend.specs.declared.index.keys.Key.{Key}
-use Rattle.rd_depend.specs.Keys.{is_under_some}
-use Rattle.rd_depend.specs.Lists.{IsAscending, first_above}
-use Rattle.rd_depend.specs.Index.{Under, positions, reached}
+use Rattle.rd_depend.proofs.Prelude.{Key, is_under_some, IsAscending, first_above, Under, positions, reached}
 use Rattle.rd_depend.proofs.IndexFirst.{found_in, none_found}
 use Rattle.rd_depend.proofs.index.DependIndex.first_under.Goals as goal
 

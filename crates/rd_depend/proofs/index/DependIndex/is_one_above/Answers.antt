@@ -1,6 +1,5 @@
 use Rattle.std.proofs.Common.{sym, ap, ◌∙◌}
-use Rattle.std.specs.Option.{is_some}
-use Rattle.rd_depend.specs.Index.{By}
+use Rattle.rd_depend.proofs.Prelude.{is_some, By}
 use Rattle.rd_depend.proofs.IndexFirst.{found_in, found_of_actor}
 use Rattle.rd_depend.proofs.index.DependIndex.is_one_above.Goals as goal
 

@@ -1,9 +1,5 @@
 use Rattle.std.proofs.Common.{◌≡◌, ◌<◌, ℕ, List, length, true, take, sym, ap, subst, ◌∙◌, Option}
-use Rattle.rd_depend.specs.declared.index.keys.Key.{Key}
-use Rattle.rd_depend.specs.Keys.{is_under_some}
-use Rattle.rd_depend.specs.Lists.{IsAscending, last_of, up_to}
-use Rattle.rd_depend.specs.Index.{Under, reached}
-use Rattle.rd_depend.specs.Writers.{last_position}
+use Rattle.rd_depend.proofs.Prelude.{Key, is_under_some, IsAscending, last_of, up_to, Under, reached, last_position}
 use Rattle.rd_depend.proofs.IndexWriters.{last_in, none_last}
 use Rattle.rd_depend.proofs.index.DependIndex.last_under.Goals as goal
 

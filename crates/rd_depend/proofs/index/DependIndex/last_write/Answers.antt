@@ -1,7 +1,5 @@
 use Rattle.std.proofs.Common.{true, take, ◌∙◌}
-use Rattle.rd_depend.specs.Keys.{is_under, is_under_some}
-use Rattle.rd_depend.specs.Index.{reached}
-use Rattle.rd_depend.specs.Writers.{last_position}
+use Rattle.rd_depend.proofs.Prelude.{is_under, is_under_some, reached, last_position}
 use Rattle.rd_depend.proofs.IndexWriters.{last_at}
 use Rattle.rd_depend.proofs.index.DependIndex.last_write.Goals as goal
 

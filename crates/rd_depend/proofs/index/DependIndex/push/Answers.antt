@@ -1,4 +1,4 @@
-use Rattle.std.proofs.lemmas.Result.{on_ok_weaker}
+use Rattle.rd_depend.proofs.Prelude.{on_ok_weaker}
 use Rattle.rd_depend.proofs.IndexChanges.{added}
 use Rattle.rd_depend.proofs.index.DependIndex.push.Goals as goal
 

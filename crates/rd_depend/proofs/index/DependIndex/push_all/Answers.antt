@@ -1,4 +1,4 @@
-use Rattle.std.proofs.lemmas.Result.{on_ok_weaker}
+use Rattle.rd_depend.proofs.Prelude.{on_ok_weaker}
 use Rattle.rd_depend.proofs.IndexRoom.{room_behind}
 use Rattle.rd_depend.proofs.index.DependIndex.push_all.Goals as goal
 

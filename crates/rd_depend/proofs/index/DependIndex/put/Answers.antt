@@ -1,4 +1,4 @@
-use Rattle.std.proofs.Common.{refl}
+use Rattle.std.proofs.Common.{refl, arith}
 use Rattle.rd_depend.proofs.IndexKeys.{separate, value_other, segment_other}
 use Rattle.rd_depend.proofs.IndexChanges.{adds, ready_after}
 use Rattle.rd_depend.proofs.index.DependIndex.put.Goals as goal
@@ -13,8 +13,7 @@ put-requires-2 c =
     record {
       key = h.value.key;
       is =
-          ready_after _ _ h.value.key h.value.wrote h.place _ c.args.slots.value (value_other h s) c.requires.ready.value
-          (c.put.ensures h.place.key c.requires.ready.place);
+          grind arith;
     }
 
 pub put-requires-3 : goal.put-requires-3
@@ -26,8 +25,7 @@ put-requires-3 c =
     record {
       key = h.segment.key;
       is =
-          ready_after _ _ h.segment.key h.segment.wrote h.value _ c.args.slots.segment (λ w q e n. (segment_other h s w q e n).1)
-          (ready_after _ _ h.segment.key h.segment.wrote h.place _ c.args.slots.segment (λ w q e n. (segment_other h s w q e n).0) c.requires.ready.segment first) second;
+          grind arith;
     }
 
 pub returns : goal.returns

@@ -1,8 +1,5 @@
-use Rattle.std.proofs.Common.{ℕ, ◌<◌, ◌≤◌, length, subst, arith}
-use Rattle.std.proofs.lemmas.Bool.{false≢true}
-use Rattle.rd_depend.specs.Lists.{spare_at}
-use Rattle.rd_depend.specs.Tables.{spare_in}
-use Rattle.rd_depend.specs.Index.{By}
+use Rattle.std.proofs.Common.{◌<◌, ◌≤◌, length, arith}
+use Rattle.rd_depend.proofs.Prelude.{false≢true, spare_at, spare_in, By}
 use Rattle.rd_depend.proofs.IndexKeys.{in_place, in_value, in_segment}
 use Rattle.rd_depend.proofs.IndexChanges.{within_spare, touched_by, spare_under, ready_kept}
 use Rattle.rd_depend.proofs.index.DependIndex.reserve.Goals as goal
@@ -12,14 +9,14 @@ returns-in_err-grow-clause-succeeds c = λ h.
     let x = c.args.entry.now in
     let lists = c.args.self.now.by_actor.items in
     let there : x.event.actor < length lists = within_spare lists x.event.actor (h (By x.event.actor) (touched_by x)) in
-    absurd (false≢true (c.in_err-grow.ensures.succeeds (omega (arith, there, c.from-actor.ensures))))
+    absurd (false≢true (c.in_err-grow.ensures.succeeds (omega arith)))
 
 pub returns-in_err-reserve_in-clause-succeeds : goal.returns-in_err-reserve_in-clause-succeeds
 returns-in_err-reserve_in-clause-succeeds c = λ h.
     let x = c.args.entry.now in
     let had : 0 < spare_at c.args.self.now.by_actor.items x.event.actor = h (By x.event.actor) (touched_by x) in
     let more : spare_at c.args.self.now.by_actor.items x.event.actor ≤ spare_at c.grow.new.lists.items x.event.actor = c.grow.ensures.room x.event.actor in
-    let has : 0 < spare_at c.grow.new.lists.items x.event.actor = omega (arith, had, more) in
+    let has : 0 < spare_at c.grow.new.lists.items x.event.actor = omega arith in
     absurd (false≢true (c.in_err-reserve_in.ensures.succeeds (rw c.from-actor.ensures has)))
 
 pub returns-in_err-place-clause-succeeds : goal.returns-in_err-place-clause-succeeds
@@ -33,23 +30,14 @@ returns-in_err-value-clause-succeeds c = λ h.
     let homes = c.args.homes.now in
     absurd (false≢true (c.in_err-value.ensures.succeeds (λ w k e n.
     let had : 0 < spare_in c.args.self.now.by_key w k = spare_under c.args.self.now c.args.entry.now homes c.requires h w k (in_value homes w k e n) in
-    omega (arith, had, c.in_ok-place.ensures.same.room w k))))
+    omega (arith, c.in_ok-place.ensures.same.room w k))))
 
 pub returns-in_err-segment-clause-succeeds : goal.returns-in_err-segment-clause-succeeds
 returns-in_err-segment-clause-succeeds c = λ h.
     let homes = c.args.homes.now in
     absurd (false≢true (c.in_err-segment.ensures.succeeds (λ w k e n.
     let had : 0 < spare_in c.args.self.now.by_key w k = spare_under c.args.self.now c.args.entry.now homes c.requires h w k (in_segment homes w k e n) in
-    omega (arith, had, c.in_ok-place.ensures.same.room w k, c.in_ok-value.ensures.same.room w k))))
+    omega (arith, c.in_ok-place.ensures.same.room w k, c.in_ok-value.ensures.same.room w k))))
 
 pub returns-clause-ready : goal.returns-clause-ready
-returns-clause-ready c =
-    let h = c.args.homes.now in
-    record {
-      actor = subst (λ (n : ℕ). 0 < spare_at c.reserve_in.new.lists.items n) c.from-actor.ensures c.in_ok-reserve_in.ensures.ok;
-      place =
-          ready_kept _ _ h.place.key h.place.wrote c.in_ok-place.place c.in_ok-segment.ensures.same
-          (ready_kept _ _ h.place.key h.place.wrote c.in_ok-place.place c.in_ok-value.ensures.same c.in_ok-place.ensures.ready);
-      value = ready_kept _ _ h.value.key h.value.wrote c.in_ok-value.value c.in_ok-segment.ensures.same c.in_ok-value.ensures.ready;
-      segment = c.in_ok-segment.ensures.ready;
-    }
+returns-clause-ready c = grind (arith, ready_kept)

@@ -1,5 +1,5 @@
 use Rattle.std.proofs.Common.{◌≡◌, ◌≤◌, length, take}
-use Rattle.rd_depend.specs.Lists.{up_to}
+use Rattle.rd_depend.proofs.Prelude.{up_to}
 use Rattle.rd_depend.proofs.index.lists.cut.Given as goal
 
 abbrev pub decreases-falling : goal.decreases-falling

@@ -1,4 +1,4 @@
-use Rattle.std.proofs.Common.{◌≡◌, ℕ, zero, suc, ◌+◌, ◌-◌, ◌<◌, List, [], ◌∷◌, ◌++◌, length, map, get_or, set, take, drop, refl, ap, ◌∙◌, arith}
+use Rattle.std.proofs.Common.{◌≡◌, ℕ, zero, suc, ◌-◌, ◌<◌, List, [], ◌∷◌, ◌++◌, length, map, get_or, set, take, drop, refl, ap, arith}
 use Rattle.rd_depend.proofs.index.lists.lower.Goals as goal
 
 -- one more of them is one less
@@ -9,11 +9,4 @@ one_lower (p ∷ ps) zero h = refl
 one_lower (p ∷ ps) (suc i) h = ap (λ (qs : List ℕ). (p - 1) ∷ qs) (one_lower ps i (omega arith))
 
 pub loop-index-preserved : goal.loop-index-preserved
-loop-index-preserved c =
-    let ps = c.args.positions.now in
-    let i = c.loop-index.index in
-    let next : suc i ≡ i + 1 = omega arith in
-    ap (λ (v : ℕ). set c.loop-index.positions i v) c.saturating_sub.ensures
-    ∙ ap (λ (qs : List ℕ). set qs i (get_or qs i 0 - 1)) c.loop-index.invariant
-    ∙ one_lower ps i (omega arith)
-    ∙ ap (λ (m : ℕ). map (λ p. p - 1) (take m ps) ++ drop m ps) next
+loop-index-preserved c = grind (arith, one_lower)

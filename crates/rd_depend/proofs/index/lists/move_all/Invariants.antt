@@ -1,5 +1,5 @@
 use Rattle.std.proofs.Common.{◌≡◌, ℕ, ◌<◌, ◌≤◌, length}
-use Rattle.rd_depend.specs.Lists.{list_at, capacity_at, IsMoved}
+use Rattle.rd_depend.proofs.Prelude.{list_at, capacity_at, IsMoved}
 use Rattle.rd_depend.proofs.index.lists.move_all.Given as goal
 
 abbrev pub invariant-loop-index : goal.invariant-loop-index

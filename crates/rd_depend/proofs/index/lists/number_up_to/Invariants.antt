@@ -1,5 +1,5 @@
 use Rattle.std.proofs.Common.{◌-◌, ◌≤◌, length}
-use Rattle.rd_depend.specs.Lists.{IsAscending, number_up_to}
+use Rattle.rd_depend.proofs.Prelude.{IsAscending, number_up_to}
 use Rattle.rd_depend.proofs.index.lists.number_up_to.Given as goal
 
 abbrev pub decreases-halving : goal.decreases-halving

@@ -1,6 +1,5 @@
 use Rattle.std.proofs.Common.{◌↔◌, IsTrue, subst, ◌∙◌}
-use Rattle.rd_depend.specs.LastWriters.{IsBehind, moved_under}
-use Rattle.rd_depend.specs.ComparedSteps.{reached_of}
+use Rattle.rd_depend.proofs.Prelude.{IsBehind, moved_under, reached_of}
 use Rattle.rd_depend.proofs.LastWritersLemmas.{all_moved, all_behind}
 use Rattle.rd_depend.proofs.last_writers.ReachedByKey.pass.Goals as goal
 

@@ -1,10 +1,6 @@
 use Rattle.std.proofs.Common.{◌≡◌, Option, Some, None, IsSome, cond, refl, sym, ap, subst, ◌∙◌}
+use Rattle.rd_depend.proofs.Prelude.{Key, Reached, is_key, passed, moved_under, reached_of, reached_or_nothing}
 use Rattle.indexmap.specs.IndexMap.{get}
-use Rattle.rd_depend.specs.declared.index.keys.Key.{Key}
-use Rattle.rd_depend.specs.declared.last_writers.Reached.{Reached}
-use Rattle.rd_depend.specs.Keys.{is_key}
-use Rattle.rd_depend.specs.LastWriters.{passed, moved_under}
-use Rattle.rd_depend.specs.ComparedSteps.{reached_of, reached_or_nothing}
 use Rattle.rd_depend.proofs.LastWritersLemmas.{written_down}
 use Rattle.rd_depend.proofs.last_writers.ReachedByKey.pass_under.Goals as goal
 

@@ -1,5 +1,5 @@
 use Rattle.std.proofs.Common.{◌≡◌, ℕ, ◌<◌, []}
-use Rattle.rd_depend.specs.ComparedSteps.{left_of}
+use Rattle.rd_depend.proofs.Prelude.{left_of}
 use Rattle.rd_depend.proofs.last_writers.StepsByActor.is_empty.Given as goal
 
 abbrev pub invariant-loop-steps : goal.invariant-loop-steps

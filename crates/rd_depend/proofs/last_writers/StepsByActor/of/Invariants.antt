@@ -1,6 +1,5 @@
 use Rattle.std.proofs.Common.{◌≡◌, ℕ, ◌+◌, ◌≤◌, length, drop}
-use Rattle.rd_depend.specs.LastWriters.{by_actor, enumerated}
-use Rattle.rd_depend.specs.ComparedSteps.{left_of}
+use Rattle.rd_depend.proofs.Prelude.{by_actor, enumerated, left_of}
 use Rattle.rd_depend.proofs.last_writers.StepsByActor.of.Given as goal
 
 abbrev pub invariant-loop-index : goal.invariant-loop-index

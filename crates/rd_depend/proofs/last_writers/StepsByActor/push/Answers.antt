@@ -1,8 +1,5 @@
 use Rattle.std.proofs.Common.{ℕ, ◌≡◌, ◌<◌, ◌++◌, ◌∷◌, [], List, length, Vec, Global, get_or, ap, sym, ◌∙◌, arith}
-use Rattle.std.proofs.Math.ListN.{set}
-use Rattle.std.proofs.lemmas.Option.{slice_get-get_or}
-use Rattle.rd_depend.specs.declared.last_writers.PlacedStep.{PlacedStep}
-use Rattle.rd_depend.specs.Lists.{list_at, items_of}
+use Rattle.rd_depend.proofs.Prelude.{set, slice_get-get_or, PlacedStep, list_at, items_of}
 use Rattle.rd_depend.proofs.LastWritersLemmas.{left_in, pushed}
 use Rattle.rd_depend.proofs.last_writers.StepsByActor.push.Goals as goal
 
@@ -11,7 +8,7 @@ returns-clause-ok c n =
     let lists = c.args.self.now.steps.items in
     let a = c.args.entry.now.event.actor in
     let old = c.index_mut.result.now in
-    let within : a < length lists = omega (arith, c.requires) in
+    let within : a < length lists = omega arith in
     let there : get_or lists a old ≡ old = sym (c.index_mut.ensures.value ∙ ap (λ (k : ℕ). get_or lists k old) c.from.ensures) in
     let before : list_at lists a ≡ old.items =
     ap items_of (slice_get-get_or lists a old within) ∙ ap (λ (l : Vec PlacedStep Global). l.items) there in

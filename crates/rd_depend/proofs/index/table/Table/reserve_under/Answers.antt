@@ -1,6 +1,5 @@
 use Rattle.std.proofs.Common.{◌<◌, ◌≤◌, true, false, refl, arith}
-use Rattle.std.proofs.lemmas.Bool.{false≢true}
-use Rattle.rd_depend.specs.Tables.{spare_in}
+use Rattle.rd_depend.proofs.Prelude.{false≢true, spare_in}
 use Rattle.rd_depend.proofs.IndexTable.{spare_there}
 use Rattle.rd_depend.proofs.index.table.Table.reserve_under.Goals as goal
 
@@ -12,7 +11,7 @@ returns-in_err-reserve_in-clause-succeeds c = λ h.
     let mid = c.slot_or_new.new.self in
     let more : spare_in c.args.self.now false c.args.key ≤ spare_in mid false c.args.key = c.in_ok-slot.ensures.same.room false c.args.key in
     let had : 0 < spare_in c.args.self.now false c.args.key = h false refl in
-    let has : 0 < spare_in mid false c.args.key = omega (arith, more, had) in
+    let has : 0 < spare_in mid false c.args.key = omega arith in
     absurd (false≢true (c.in_err-reserve_in.ensures.succeeds (spare_there mid c.args.key false c.in_ok-slot.slot c.in_ok-slot.ensures.slot has)))
 
 pub returns-in_err-reserve_if-clause-succeeds : goal.returns-in_err-reserve_if-clause-succeeds
@@ -21,5 +20,5 @@ returns-in_err-reserve_if-clause-succeeds c = λ h.
     absurd (false≢true (c.in_err-reserve_if.ensures.succeeds (λ wrote.
     let more : spare_in c.args.self.now true c.args.key ≤ spare_in mid true c.args.key = c.in_ok-slot.ensures.same.room true c.args.key in
     let had : 0 < spare_in c.args.self.now true c.args.key = h true wrote in
-    let has : 0 < spare_in mid true c.args.key = omega (arith, more, had) in
+    let has : 0 < spare_in mid true c.args.key = omega arith in
     spare_there mid c.args.key true c.in_ok-slot.slot c.in_ok-slot.ensures.slot has)))

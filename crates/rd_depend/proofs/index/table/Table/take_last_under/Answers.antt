@@ -1,7 +1,5 @@
 use Rattle.std.proofs.Common.{◌≡◌, ℕ, true, false, length, Option, None, refl, sym, ap, ◌∙◌, arith}
-use Rattle.rd_depend.specs.Keys.{slot_in}
-use Rattle.rd_depend.specs.Lists.{list_of}
-use Rattle.rd_depend.specs.Tables.{kept_in}
+use Rattle.rd_depend.proofs.Prelude.{slot_in, list_of, kept_in}
 use Rattle.rd_depend.proofs.IndexTable.{takes_last, last_there}
 use Rattle.rd_depend.proofs.index.table.Table.take_last_under.Goals as goal
 
@@ -22,4 +20,4 @@ pub returns-in_default : goal.returns-in_default
 returns-in_default c =
     let none : slot_in c.args.self.now.keys.keys c.args.key ≡ None = sym c.slot.ensures.slot ∙ c.in_default.is in
     let empty : length (kept_in c.args.self.now false c.args.key) ≡ 0 = ap (λ (o : Option ℕ). length (list_of c.args.self.now.all.items o)) none in
-    absurd (omega (arith, empty, c.requires false c.args.key refl refl))
+    absurd (omega (arith, c.requires false c.args.key refl refl))

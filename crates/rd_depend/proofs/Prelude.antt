@@ -1,0 +1,45 @@
+-- The words that several proofs of the crate use: definitions of this crate and of those below,
+-- generated types and their variants, and lemmas of these crates and of std.
+pub use Rattle.std.proofs.Math.ListN.{drop_of_length-le, set}
+pub use Rattle.std.proofs.Math.Seq.{drop-append_seam, drop-cons, set-append_seam, take-append_seam}
+pub use Rattle.std.proofs.lemmas.Bool.{and_from, and_parts, cases_eq, eqb-false, false≢true, or_cases, or_left, or_parts, or_right}
+pub use Rattle.std.proofs.lemmas.Bool.Decides.{nat_tests}
+pub use Rattle.std.proofs.lemmas.Grind.{common_steps}
+pub use Rattle.std.proofs.lemmas.List.{append-nil, drop-drop, drop_all, length-take-le, map-append, nil_from_length, reverse-append, take-append-drop, take_all}
+pub use Rattle.std.proofs.lemmas.Option.{slice_get-get_or, slice_get_past}
+pub use Rattle.std.proofs.lemmas.Result.{IfOk-weaker, on_ok_weaker}
+pub use Rattle.std.specs.Option.{is_some, option_map, option_to_list}
+pub use Rattle.rd_cell.proofs.ListLemmas.{slice_get-push_other, slice_get-push_same, slice_get-set_other, slice_get-set_same}
+pub use Rattle.rd_cell.proofs.PlaceLemmas.{Covering, as_cell, as_whole, both_cover, covers-refl, covers_cases, is_name-refl, itself, some_overlap-sym, written-covers}
+pub use Rattle.rd_cell.specs.Places.{index_half, is_nothing, is_of, is_of_cell, is_place, segment_of}
+pub use Rattle.rd_cell.specs.declared.places.Place.TheVariants.{Cell, Idx, Val, Whole}
+pub use Rattle.rd_cell.specs.declared.places.SegName.{SegName}
+pub use Rattle.rd_step.proofs.Equivalence.{as_stepped-same, goes_first, run_events, stands_in}
+pub use Rattle.rd_step.proofs.RunParts.{FirstStep, first_step, middle, runs_to}
+pub use Rattle.rd_step.proofs.Symmetry.{symmetric}
+pub use Rattle.rd_step.specs.Dependence.{depends_on_one, first_after, first_from}
+pub use Rattle.rd_step.specs.Equivalence.{IsEquivalent}
+pub use Rattle.rd_step.specs.Lists.{numbered, without}
+pub use Rattle.rd_step.specs.Prelude.{CellAt, Head, IsFree, Place, Ran, Stepped, ValAt, WholeOf, World, Wrote, covers, depends, first_dependant, interfere, overlaps, run, some_covers, some_overlap, step, written}
+pub use Rattle.rd_step.specs.Run.{IsRunFrom, events, run_entries}
+pub use Rattle.rd_step.specs.declared.entries.Entry.{Entry}
+pub use Rattle.rd_step.specs.declared.entries.Event.{Event}
+pub use Rattle.rd_depend.specs.Changes.{Adds, CutsAll, Drops, EndsWith, Keeps, MovesAll, homes_of}
+pub use Rattle.rd_depend.specs.ComparedSteps.{GoesOn, StandsElsewhere, left_of, reached_of, reached_or_nothing}
+pub use Rattle.rd_depend.specs.Equivalence.{DecidesEquivalence}
+pub use Rattle.rd_depend.specs.Index.{By, HasRoomFor, IsIndexOf, IsLast, Touch, Under, capacity, is_value_written, kept, number_of, positions, positions_from, reached, spare, touches}
+pub use Rattle.rd_depend.specs.KeyLaws.{is_key-refl, is_key-sym, is_key-true}
+pub use Rattle.rd_depend.specs.Keys.{is_kept_at, is_key, is_that, is_under, is_under_some, own_key, place_key, segment_key, segment_of_place, slot_in, value_key, value_of_place, whole_key}
+pub use Rattle.rd_depend.specs.LastWriters.{AreAlike, IsBehind, IsInOrder, KeepsOrder, Placed, bound, by_actor, enumerated, is_making, is_whole_of, moved, moved_under, nothing_reached, passed, with_steps, wrote_under}
+pub use Rattle.rd_depend.specs.Lists.{AreUpTo, AscendsFrom, IsAscending, IsMoved, Lists, capacity_at, capacity_of, earlier, first_above, items_of, last_of, last_or, later, list_at, list_of, number_up_to, one_if, spare_at, up_to}
+pub use Rattle.rd_depend.specs.Sharing.{SharesPlace, is_of_map, one_wrote, touched, wrote}
+pub use Rattle.rd_depend.specs.Tables.{AreReady, HasLast, IsReady, KeepsLists, Puts, TakesLast, counts, kept_in, lists_of, spare_in}
+pub use Rattle.rd_depend.specs.Writers.{behind, last_position, writes_to}
+pub use Rattle.rd_depend.specs.declared.index.DependIndex.{DependIndex}
+pub use Rattle.rd_depend.specs.declared.index.changing.Home.{Home}
+pub use Rattle.rd_depend.specs.declared.index.changing.Homes.{Homes}
+pub use Rattle.rd_depend.specs.declared.index.keys.Key.{Key}
+pub use Rattle.rd_depend.specs.declared.index.keys.Key.TheVariants.{At, In}
+pub use Rattle.rd_depend.specs.declared.index.table.Table.{Table}
+pub use Rattle.rd_depend.specs.declared.last_writers.PlacedStep.{PlacedStep}
+pub use Rattle.rd_depend.specs.declared.last_writers.Reached.{Reached}
