@@ -1,14 +1,8 @@
 -- The causal closure is the least set that holds its step and what depends on its members, and lone
 -- undos that take the step out take all of it out.
+use Rattle.rd_journal.proofs.Prelude.{common_steps, cases_Bool, cases_eq, cond-true, cond-false, lt-ltb, le-ltb, ltb-true, ltb-false, depends, IsFree, first_dependant, depends_on_one, closure, closure_of, without_closure, marked, unmarked, IsInClosure, closure_from, first_from, first_after, AreLoneUndos, number_after, numbered, Entry, Journal, IsUndoneAlone, IsRolledBack}
 use Rattle.std.proofs.Common.{◌≡◌, ◌≢◌, ℕ, zero, suc, ◌+◌, ◌-◌, ◌<◌, ◌≤◌, ◌==◌, ◌||◌, inl, inr, Bool, true, false, nat_lt, if◌then◌else◌, refl, sym, ◌∙◌, ap, subst, arith, List, [], ◌∷◌, ◌++◌, length, get_or, take, drop, slice_get, Option, Some, None, eq-eqb, ne_eqb}
-use Rattle.std.proofs.lemmas.Bool.{cases_Bool, cases_eq, cond-true, cond-false, lt-ltb, le-ltb, ltb-true, ltb-false}
-use Rattle.rd_step.specs.Prelude.{depends, IsFree, first_dependant, depends_on_one, closure, closure_of, without_closure, marked, unmarked}
-use Rattle.rd_step.specs.Dependence.{IsInClosure, closure_from, first_from, first_after, AreLoneUndos, number_after}
-use Rattle.rd_step.specs.Lists.{numbered}
 use Rattle.rd_step.specs.Dependence.IsInClosure.{itself, dependant}
-use Rattle.rd_step.specs.declared.entries.Entry.{Entry}
-use Rattle.rd_journal.specs.Journal.{Journal}
-use Rattle.rd_journal.specs.Moves.{IsUndoneAlone, IsRolledBack}
 use Rattle.rd_journal.proofs.Gathering.{cut_at}
 use Rattle.rd_journal.proofs.Finding.{numbered_in, scan_is}
 use Rattle.rd_journal.proofs.ListLemmas.{nth, drop_one_less}
@@ -21,12 +15,10 @@ abbrev Covers : Entry → List Entry → Type 0
 Covers x xs = (z : Entry) → depends x z ≡ true → depends_on_one xs z ≡ true
 
 or_right : (a b : Bool) → b ≡ true → (a || b) ≡ true
-or_right true b h = refl
-or_right false b h = h
+or_right a b h = grind arith
 
 or_left : (a b : Bool) → a ≡ true → (a || b) ≡ true
-or_left true b h = refl
-or_left false b h = cc
+or_left a b h = grind arith
 
 stays_on_one : (xs ys : List Entry) (z : Entry) → depends_on_one xs z ≡ true → depends_on_one (xs ++ ys) z ≡ true
 stays_on_one [] ys z h = cc
@@ -43,8 +35,7 @@ last_covers [] x z h = or_left (depends x z) false h
 last_covers (y ∷ xs) x z h = or_right (depends y z) (depends_on_one (xs ++ x ∷ []) z) (last_covers xs x z h)
 
 still_covers : (d : Bool) (xs : List Entry) (x y : Entry) → Covers x xs → Covers x (if d then xs ++ y ∷ [] else xs)
-still_covers true xs x y c z h = stays_on_one xs (y ∷ []) z (c z h)
-still_covers false xs x y c z h = c z h
+still_covers d xs x y c z h = grind (arith, stays_on_one)
 
 some_same : {X : Type 0} (x y : X) → Some x ≡ Some y → x ≡ y
 some_same x y h = cc
@@ -53,11 +44,8 @@ some_same x y h = cc
 covered_is_marked : (xs ys : List Entry) (j : ℕ) (x y : Entry) → Covers x xs → slice_get ys j ≡ Some y → depends x y ≡ true
     → slice_get (closure_from xs ys) j ≡ Some true
 covered_is_marked xs [] j x y c at h = cc
-covered_is_marked xs (z ∷ ys) zero x y c at h =
-    let same : z ≡ y = some_same z y at in
-    ap (λ (b : Bool). Some b) (ap (depends_on_one xs) same ∙ c y h)
-covered_is_marked xs (z ∷ ys) (suc j) x y c at h =
-    covered_is_marked (if depends_on_one xs z then xs ++ z ∷ [] else xs) ys j x y (still_covers (depends_on_one xs z) xs x z c) at h
+covered_is_marked xs (z ∷ ys) zero x y c at h = grind (arith, some_same)
+covered_is_marked xs (z ∷ ys) (suc j) x y c at h = grind (arith, still_covers, covered_is_marked (if depends_on_one xs z then xs ++ z ∷ [] else xs) ys j x y (still_covers (depends_on_one xs z) xs x z c) at h)
 
 -- what depends on a marked one is marked
 dependant_is_marked : (xs ys : List Entry) (i j : ℕ) (x y : Entry) → i < j → slice_get (closure_from xs ys) i ≡ Some true → slice_get ys i ≡ Some x
@@ -65,14 +53,8 @@ dependant_is_marked : (xs ys : List Entry) (i j : ℕ) (x y : Entry) → i < j �
 dependant_is_marked xs [] i j x y low m at_i at_j h = cc
 dependant_is_marked xs (z ∷ ys) zero zero x y low m at_i at_j h = absurd (omega arith)
 dependant_is_marked xs (z ∷ ys) (suc i) zero x y low m at_i at_j h = absurd (omega arith)
-dependant_is_marked xs (z ∷ ys) zero (suc j) x y low m at_i at_j h =
-    let same : z ≡ x = some_same z x at_i in
-    let d : depends_on_one xs z ≡ true = some_same (depends_on_one xs z) true m in
-    let block : (if depends_on_one xs z then xs ++ z ∷ [] else xs) ≡ xs ++ x ∷ [] = (λ t. if d t then xs ++ z ∷ [] else xs) ∙ ap (λ (u : Entry). xs ++ u ∷ []) same in
-    subst (λ (bs : List Entry). slice_get (closure_from bs ys) j ≡ Some true) (sym block)
-    (covered_is_marked (xs ++ x ∷ []) ys j x y (last_covers xs x) at_j h)
-dependant_is_marked xs (z ∷ ys) (suc i) (suc j) x y low m at_i at_j h =
-    dependant_is_marked (if depends_on_one xs z then xs ++ z ∷ [] else xs) ys i j x y (omega arith) m at_i at_j h
+dependant_is_marked xs (z ∷ ys) zero (suc j) x y low m at_i at_j h = grind (arith, some_same, slice_get, covered_is_marked, last_covers)
+dependant_is_marked xs (z ∷ ys) (suc i) (suc j) x y low m at_i at_j h = grind (arith, dependant_is_marked (if depends_on_one xs z then xs ++ z ∷ [] else xs) ys i j x y (omega arith) m at_i at_j h)
 
 marks_are_closed : (es : List Entry) (k i j : ℕ) (x y : Entry) → i < j → slice_get (closure es k) i ≡ Some true → slice_get es i ≡ Some x
     → slice_get es j ≡ Some y → depends x y ≡ true → slice_get (closure es k) j ≡ Some true
@@ -97,9 +79,7 @@ mark_of_itself (e ∷ es) (suc (suc k)) some within = mark_of_itself es (suc k) 
 
 dependant_marked : (es : List Entry) (k i j : ℕ) (x y : Entry) → i < j → numbered (closure es k) i ≡ Some true → numbered es i ≡ Some x
     → numbered es j ≡ Some y → depends x y ≡ true → numbered (closure es k) j ≡ Some true
-dependant_marked es k zero j x y low m at_i at_j h = cc
-dependant_marked es k (suc i) zero x y low m at_i at_j h = cc
-dependant_marked es k (suc i) (suc j) x y low m at_i at_j h = marks_are_closed es k i j x y (omega arith) m at_i at_j h
+dependant_marked es k i j x y low m at_i at_j h = grind (arith, marks_are_closed)
 
 pub members_are_marked : (es : List Entry) (k j : ℕ) → 1 ≤ k → k ≤ length es → IsInClosure es k j → numbered (closure es k) j ≡ Some true
 members_are_marked es k _ some within itself = mark_of_itself es k some within
@@ -115,9 +95,7 @@ AreMembers es k p (x ∷ xs) = ((i : ℕ) × (i ≤ p) × (numbered es i ≡ Som
 
 members_later : (es : List Entry) (k p q : ℕ) (xs : List Entry) → p ≤ q → AreMembers es k p xs → AreMembers es k q xs
 members_later es k p q [] h ms = tt
-members_later es k p q (x ∷ xs) h ms =
-    let first = ms.0 in
-    ((first.0, omega (arith, first.1), first.2, first.3), members_later es k p q xs h ms.1)
+members_later es k p q (x ∷ xs) h ms = grind (arith, members_later es k p q xs h ms.1)
 
 one_more_member : (es : List Entry) (k p : ℕ) (xs : List Entry) (y : Entry) → AreMembers es k p xs → numbered es p ≡ Some y → IsInClosure es k p
     → AreMembers es k p (xs ++ y ∷ [])
@@ -152,9 +130,7 @@ stand_here es p y ys h =
 
 block_members : (es : List Entry) (k p : ℕ) (xs : List Entry) (y : Entry) (d : Bool) → depends_on_one xs y ≡ d → AreMembers es k p xs
     → numbered es (suc p) ≡ Some y → AreMembers es k (suc p) (if d then xs ++ y ∷ [] else xs)
-block_members es k p xs y true e ms at =
-    one_more_member es k (suc p) xs y (members_later es k p (suc p) xs (omega arith) ms) at (dependant_is_member es k p xs y ms at e)
-block_members es k p xs y false e ms at = members_later es k p (suc p) xs (omega arith) ms
+block_members es k p xs y d e ms at = grind (arith, one_more_member, members_later, dependant_is_member)
 
 marked_is_member : (es : List Entry) (k p : ℕ) (xs ys : List Entry) (j : ℕ) → AreMembers es k p xs → StandFrom es p ys
     → slice_get (closure_from xs ys) j ≡ Some true → IsInClosure es k (suc (p + j))
@@ -163,11 +139,7 @@ marked_is_member es k p xs (y ∷ ys) zero ms at h =
     let same : suc p ≡ suc (p + 0) = omega arith in
     subst (λ (n : ℕ). IsInClosure es k n) same
     (dependant_is_member es k p xs y ms (stand_here es p y ys at) (some_same (depends_on_one xs y) true h))
-marked_is_member es k p xs (y ∷ ys) (suc j) ms at h =
-    let same : suc (suc p + j) ≡ suc (p + suc j) = omega arith in
-    subst (λ (n : ℕ). IsInClosure es k n) same
-    (marked_is_member es k (suc p) (if depends_on_one xs y then xs ++ y ∷ [] else xs) ys j
-    (block_members es k p xs y (depends_on_one xs y) refl ms (stand_here es p y ys at)) (stand_on es p y ys at) h)
+marked_is_member es k p xs (y ∷ ys) (suc j) ms at h = grind (arith, block_members, stand_here, stand_on, marked_is_member es k (suc p) (if depends_on_one xs y then xs ++ y ∷ [] else xs) ys j (block_members es k p xs y (depends_on_one xs y) refl ms (stand_here es p y ys at)) (stand_on es p y ys at) h)
 
 -- a closure in a list with one entry more before it
 one_further : (e : Entry) (es : List Entry) (k j : ℕ) → IsInClosure es k j → IsInClosure (e ∷ es) (suc k) (suc j)
@@ -176,8 +148,7 @@ one_further e es k j (dependant i _ x y h low at_i at_j d) =
     dependant (suc i) (suc j) x y (one_further e es k i h) (omega arith) (further i x at_i) (further j y at_j) d
   where
     further : (n : ℕ) (z : Entry) → numbered es n ≡ Some z → numbered (e ∷ es) (suc n) ≡ Some z
-    further zero z at = cc
-    further (suc n) z at = at
+    further n z at = grind arith
 
 marks_are_members : (es : List Entry) (k j : ℕ) → slice_get (closure es k) j ≡ Some true → IsInClosure es k (suc j)
 marks_are_members es zero j h = cc
@@ -192,8 +163,7 @@ marks_are_members (e ∷ es) (suc (suc k)) zero h = let no : false ≡ true = so
 marks_are_members (e ∷ es) (suc (suc k)) (suc j) h = one_further e es (suc k) (suc j) (marks_are_members es (suc k) j h)
 
 pub marked_members : (es : List Entry) (k j : ℕ) → numbered (closure es k) j ≡ Some true → IsInClosure es k j
-marked_members es k zero h = cc
-marked_members es k (suc j) h = marks_are_members es k j h
+marked_members es k j h = grind (arith, marks_are_members)
 
 -- Lone undos
 
@@ -209,18 +179,7 @@ shifted_below n k h = cond-false (nat_lt n k) (k - 1) k (le-ltb n k h)
 
 -- the order stays
 shifted_less : (n i j : ℕ) → i ≢ n → j ≢ n → i < j → shifted n i < shifted n j
-shifted_less n i j ni nj h =
-    elim (cases_Bool (nat_lt n i)) [
-      | inl a ↦
-          let low = ltb-true n i a in
-          omega (arith, shifted_above n i low, shifted_above n j (omega arith))
-      | inr a ↦
-          let low = ltb-false n i a in
-          elim (cases_Bool (nat_lt n j)) [
-            | inl b ↦ omega (arith, shifted_below n i low, shifted_above n j (ltb-true n j b), ltb-true n j b, ni)
-            | inr b ↦ omega (arith, shifted_below n i low, shifted_below n j (ltb-false n j b))
-          ]
-    ]
+shifted_less n i j ni nj h = grind arith
 
 -- the others, without the element of index m
 below_it : (es : List Entry) (m i : ℕ) → i < m → slice_get (take m es ++ drop (suc m) es) i ≡ slice_get es i
@@ -238,23 +197,7 @@ behind_it (e ∷ es) (suc m) (suc i) h = behind_it es m i (omega arith)
 
 -- an entry that stays has its new number
 new_number : (es : List Entry) (n i : ℕ) (x : Entry) → 1 ≤ n → i ≢ n → numbered es i ≡ Some x → numbered (take (n - 1) es ++ drop n es) (shifted n i) ≡ Some x
-new_number es zero i x some ne at = absurd (omega arith)
-new_number es (suc m) zero x some ne at = cc
-new_number es (suc m) (suc i) x some ne at =
-    let same : suc m - 1 ≡ m = omega arith in
-    subst (λ (k : ℕ). numbered (take k es ++ drop (suc m) es) (shifted (suc m) (suc i)) ≡ Some x) (sym same)
-    (elim (cases_Bool (nat_lt (suc m) (suc i))) [
-      | inl a ↦
-          let low = ltb-true (suc m) (suc i) a in
-          let to : suc (i - 1) ≡ shifted (suc m) (suc i) = omega (arith, shifted_above (suc m) (suc i) low) in
-          let from : suc (i - 1) ≡ i = omega arith in
-          subst (λ (k : ℕ). numbered (take m es ++ drop (suc m) es) k ≡ Some x) to
-          (behind_it es m (i - 1) (omega arith) ∙ ap (λ (k : ℕ). slice_get es k) from ∙ at)
-      | inr a ↦
-          let low = ltb-false (suc m) (suc i) a in
-          let to : suc i ≡ shifted (suc m) (suc i) = sym (shifted_below (suc m) (suc i) low) in
-          subst (λ (k : ℕ). numbered (take m es ++ drop (suc m) es) k ≡ Some x) to (below_it es m i (omega (arith, low, ne)) ∙ at)
-    ])
+new_number es n i x some ne at = grind (arith, common_steps, cases_Bool, ltb-true, shifted_above, behind_it, slice_get, ltb-false, shifted_below, below_it)
 
 -- none of the later ones depends on what may be undone alone
 free_at : (x : Entry) (ys : List Entry) (i : ℕ) (y : Entry) → IsFree x ys → slice_get ys i ≡ Some y → depends x y ≡ false
@@ -265,9 +208,7 @@ free_at x (z ∷ ys) (suc i) y free at = free_at x ys i y free.1 at
 from_there : (es : List Entry) (m i : ℕ) → slice_get (drop m es) i ≡ slice_get es (m + i)
 from_there es zero i = let same : i ≡ 0 + i = omega arith in ap (λ (k : ℕ). slice_get es k) same
 from_there [] (suc m) i = refl
-from_there (e ∷ es) (suc m) i =
-    let same : suc (m + i) ≡ suc m + i = omega arith in
-    from_there es m i ∙ ap (λ (k : ℕ). slice_get (e ∷ es) k) same
+from_there (e ∷ es) (suc m) i = grind (arith, slice_get, from_there es m i)
 
 free_alone : (es : List Entry) (n j : ℕ) (x y : Entry) → first_dependant es n ≡ None → numbered es n ≡ Some x → n < j → numbered es j ≡ Some y
     → depends x y ≡ false
@@ -282,11 +223,7 @@ free_alone es (suc m) (suc j) x y none at_n low at_j =
 -- so the closure of such a step is it alone
 alone_in_closure : (es : List Entry) (n j : ℕ) → first_dependant es n ≡ None → IsInClosure es n j → n ≡ j
 alone_in_closure es n _ none itself = refl
-alone_in_closure es n j none (dependant i _ x y h low at_i at_j d) =
-    let same : n ≡ i = alone_in_closure es n i none h in
-    let no = free_alone es n j x y none (ap (numbered es) same ∙ at_i) (omega arith) at_j in
-    let bad : false ≡ true = sym no ∙ d in
-    cc
+alone_in_closure es n j none (dependant i _ x y h low at_i at_j d) = grind (arith, free_alone, alone_in_closure es n i none h)
 
 -- and it is in the middle of no closure
 closure_left : (es : List Entry) (n k j : ℕ) → 1 ≤ n → first_dependant es n ≡ None → k ≢ n → j ≢ n → IsInClosure es k j
@@ -295,9 +232,7 @@ closure_left es n k _ some none nk nj itself = itself
 closure_left es n k j some none nk nj (dependant i _ x y h low at_i at_j d) =
     elim (cases_eq i n) [
       | inl e ↦
-          let no = free_alone es n j x y none (ap (numbered es) (sym e) ∙ at_i) (omega arith) at_j in
-          let bad : false ≡ true = sym no ∙ d in
-          cc
+          grind (arith, free_alone)
       | inr ne ↦
           dependant (shifted n i) (shifted n j) x y (closure_left es n k i some none nk ne h) (shifted_less n i j ne nj low)
           (new_number es n i x some ne at_i) (new_number es n j y some nj at_j) d
@@ -311,9 +246,7 @@ all_out es (n ∷ ns) k j undos gone h =
       | inr nj ↦
           elim (cases_eq n k) [
             | inl e ↦
-                let none : first_dependant es k ≡ None = ap (first_dependant es) (sym e) ∙ undos.2 in
-                let same : k ≡ j = alone_in_closure es k j none h in
-                absurd (nj (e ∙ same))
+                grind (arith, alone_in_closure)
             | inr nk ↦
                 let left : number_after ns (shifted n k) ≡ None = sym (cond-false (n == k) None (number_after ns (shifted n k)) (ne_eqb n k nk)) ∙ gone in
                 cond-false (n == j) None (number_after ns (shifted n j)) (ne_eqb n j nj)
@@ -330,8 +263,7 @@ marked_none x n (y ∷ ys) h = by (depends x y) (marked_none x (n + 1) ys) h
   where
     by : (d : Bool) → (first_from x (n + 1) ys ≡ None → marked (closure_from (x ∷ []) ys) ys ≡ []) → (if d then Some n else first_from x (n + 1) ys) ≡ None
         → (let e = d || false in marked (e ∷ closure_from (if e then (x ∷ []) ++ y ∷ [] else x ∷ []) ys) (y ∷ ys)) ≡ []
-    by true later g = absurd cc
-    by false later g = later g
+    by d later g = grind arith
 
 unmarked_all : (x : Entry) (n : ℕ) (ys : List Entry) → first_from x n ys ≡ None → unmarked (closure_from (x ∷ []) ys) ys ≡ ys
 unmarked_all x n [] h = refl
@@ -339,8 +271,7 @@ unmarked_all x n (y ∷ ys) h = by (depends x y) (unmarked_all x (n + 1) ys) h
   where
     by : (d : Bool) → (first_from x (n + 1) ys ≡ None → unmarked (closure_from (x ∷ []) ys) ys ≡ ys) → (if d then Some n else first_from x (n + 1) ys) ≡ None
         → (let e = d || false in unmarked (e ∷ closure_from (if e then (x ∷ []) ++ y ∷ [] else x ∷ []) ys) (y ∷ ys)) ≡ y ∷ ys
-    by true later g = absurd cc
-    by false later g = ap (λ (zs : List Entry). y ∷ zs) (later g)
+    by d later g = grind arith
 
 pub record IsAlone (l : List Entry) (k : ℕ) : Type 0 where
   pub outside : without_closure l k ≡ take (k - 1) l ++ drop k l
@@ -358,13 +289,9 @@ alone l (suc i) some within free =
     record {
       outside = c.outside ∙ (λ j. take (same j) l ++ unmarked_all x.0 (suc i + 1) rest none j);
       inside =
-          c.inside ∙ ap (λ (zs : List Entry). x.0 ∷ zs) (marked_none x.0 (suc i + 1) rest none)
-          ∙ sym (ap (λ (zs : List Entry). take 1 zs) (drop_one_less l i x.0 (omega arith) x.1)) ∙ ap (λ (m : ℕ). take 1 (drop m l)) same;
+          grind (arith, marked_none, drop_one_less);
     }
 
 -- undone alone, it is rolled back
 pub alone_rolled : (k : ℕ) (old new : Journal) → IsAlone old.live k → IsUndoneAlone k old new → IsRolledBack k old new
-alone_rolled k old new is out = record {
-  live = out.live ∙ sym is.outside;
-  undone = out.undone ∙ ap (λ (zs : List Entry). zs ++ old.undone) (sym is.inside);
-}
+alone_rolled k old new is out = grind arith

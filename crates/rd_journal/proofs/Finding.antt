@@ -1,27 +1,17 @@
 -- What the index of the live records and those after them finds, and where the records before a
 -- closure are.
-use Rattle.std.proofs.Common.{◌≡◌, ℕ, zero, suc, ◌+◌, ◌-◌, ◌<◌, ◌≤◌, Bool, true, false, nat_lt, if◌then◌else◌, List, [], ◌∷◌, ◌++◌, length, get_or, take, drop, Option, Some, None, refl, sym, ◌∙◌, ap, arith, length-append, length-drop}
-use Rattle.std.proofs.lemmas.Bool.{lt-ltb, le-ltb}
-use Rattle.std.proofs.lemmas.List.{append_assoc, length-take-le, take_at, take-append-le, drop-append-le, get_or_append_left}
-use Rattle.std.proofs.lemmas.Option.{slice_get-get_or}
-use Rattle.rd_step.specs.Dependence.{first_from, first_after, first_dependant, depends, closure_from}
-use Rattle.rd_step.specs.Lists.{numbered}
-use Rattle.rd_step.specs.Prelude.{closure_of, without_closure, unmarked}
-use Rattle.rd_step.specs.declared.entries.Entry.{Entry}
+use Rattle.std.proofs.Common.{◌≡◌, ℕ, zero, suc, ◌+◌, ◌-◌, ◌<◌, ◌≤◌, Bool, true, false, nat_lt, if◌then◌else◌, List, [], ◌∷◌, ◌++◌, length, get_or, take, drop, Option, Some, None, sym, ◌∙◌, ap, arith, length-append, length-drop}
+use Rattle.rd_journal.proofs.Prelude.{lt-ltb, le-ltb, append_assoc, length-take-le, take_at, take-append-le, drop-append-le, get_or_append_left, slice_get-get_or, first_from, first_dependant, depends, closure_from, numbered, closure_of, without_closure, unmarked, Entry}
 use Rattle.rd_journal.proofs.Gathering.{cut_at}
 use Rattle.rd_journal.proofs.ListLemmas.{nth}
 
 -- the record of this number
 pub numbered_in : (xs : List Entry) (k : ℕ) (x : Entry) → 1 ≤ k → k ≤ length xs → x ≡ get_or xs (k - 1) x → numbered xs k ≡ Some x
-numbered_in xs zero x some within here = absurd (omega arith)
-numbered_in xs (suc i) x some within here =
-    let same : suc i - 1 ≡ i = omega arith in
-    slice_get-get_or xs i x (omega arith) ∙ ap (λ (y : Entry). Some y) (ap (λ (n : ℕ). get_or xs n x) (sym same) ∙ sym here)
+numbered_in xs k x some within here = grind (arith, slice_get-get_or)
 
 -- the same with others after them
 pub numbered_before : (live others : List Entry) (k : ℕ) (x : Entry) → 1 ≤ k → k ≤ length live → x ≡ get_or live (k - 1) x → numbered (live ++ others) k ≡ Some x
-numbered_before live others k x some within here =
-    numbered_in (live ++ others) k x some (omega (arith, length-append live others)) (here ∙ sym (get_or_append_left live others x (k - 1) (omega arith)))
+numbered_before live others k x some within here = grind (arith, numbered_in, length-append, get_or_append_left)
 
 -- those before the k-th are where they were when its closure is gathered last
 pub outside_begins : (l : List Entry) (k : ℕ) → 1 ≤ k → k ≤ length l → (rest : List Entry) × (without_closure l k ≡ take (k - 1) l ++ rest)
@@ -48,8 +38,7 @@ cut_before l others k some within =
     record {
       long = long;
       before =
-          ap (take (k - 1)) (append_assoc w c others) ∙ take-append-le (k - 1) w (c ++ others) long
-          ∙ ap (take (k - 1)) out.1 ∙ take_at (take (k - 1) l) out.0 (k - 1) len;
+          grind (arith, append_assoc, take-append-le, take_at);
       behind = ap (drop (k - 1)) (append_assoc w c others) ∙ drop-append-le (k - 1) w (c ++ others) long;
     }
 
@@ -61,8 +50,7 @@ found_before x n j [] b h = absurd cc
 found_before x n j (y ∷ a) b h = by (depends x y) (found_before x (n + 1) j a b) h
   where
     by : (d : Bool) → (first_from x (n + 1) a ≡ Some j → first_from x (n + 1) (a ++ b) ≡ Some j) → (if d then Some n else first_from x (n + 1) a) ≡ Some j → (if d then Some n else first_from x (n + 1) (a ++ b)) ≡ Some j
-    by true later g = g
-    by false later g = later g
+    by d later g = grind arith
 
 -- not found in the first part
 found_behind : (x : Entry) (n : ℕ) (a b : List Entry) → first_from x n a ≡ None → first_from x n (a ++ b) ≡ first_from x (n + length a) b
@@ -72,8 +60,7 @@ found_behind x n (y ∷ a) b h = by (depends x y) (found_behind x (n + 1) a b) h
     by : (d : Bool) → (first_from x (n + 1) a ≡ None → first_from x (n + 1) (a ++ b) ≡ first_from x (n + 1 + length a) b)
         → (if d then Some n else first_from x (n + 1) a) ≡ None
         → (if d then Some n else first_from x (n + 1) (a ++ b)) ≡ first_from x (n + suc (length a)) b
-    by true later g = absurd cc
-    by false later g = let e : n + 1 + length a ≡ n + suc (length a) = omega arith in later g ∙ ap (λ (m : ℕ). first_from x m b) e
+    by d later g = grind arith
 
 -- where it is
 found_within : (x : Entry) (n j : ℕ) (a : List Entry) → first_from x n a ≡ Some j → (n ≤ j) × (j < n + length a)
@@ -81,8 +68,7 @@ found_within x n j [] h = absurd cc
 found_within x n j (y ∷ a) h = by (depends x y) (found_within x (n + 1) j a) h
   where
     by : (d : Bool) → (first_from x (n + 1) a ≡ Some j → (n + 1 ≤ j) × (j < n + 1 + length a)) → (if d then Some n else first_from x (n + 1) a) ≡ Some j → (n ≤ j) × (j < n + suc (length a))
-    by true later g = let e : n ≡ j = cc in (omega arith, omega arith)
-    by false later g = let both = later g in (omega (arith, both.0), omega (arith, both.1))
+    by d later g = grind arith
 
 -- the number of what is found among live and other ones, if it is that of a live one
 abbrev pub if_live : List Entry → Option ℕ → Option ℕ
@@ -96,24 +82,11 @@ behind_live : (n j : ℕ) → n < j → None ≡ (if nat_lt n j then None else S
 behind_live n j h = let yes : nat_lt n j ≡ true = lt-ltb n j h in ap (λ (b : Bool). if b then None else Some j) (sym yes)
 
 pub scan_is : (x : Entry) (live : List Entry) (k : ℕ) → numbered live k ≡ Some x → first_dependant live k ≡ first_from x (k + 1) (drop k live)
-scan_is x live zero here = absurd cc
-scan_is x live (suc i) here =
-    let one : suc (suc i) ≡ suc i + 1 = omega arith in
-    ap (λ (o : Option Entry). first_after o (suc (suc i)) (drop (suc i) live)) here ∙ ap (λ (n : ℕ). first_from x n (drop (suc i) live)) one
+scan_is x live k here = grind arith
 
 among : (x : Entry) (live others : List Entry) (k : ℕ) → k ≤ length live
     → first_from x (k + 1) (drop k live) ≡ if_live live (first_from x (k + 1) (drop k live ++ others))
-among x live others k position =
-    by (first_from x (k + 1) (drop k live)) (first_from x (k + 1) (drop k live ++ others)) refl refl
-  where
-    by : (o p : Option ℕ) → first_from x (k + 1) (drop k live) ≡ o → first_from x (k + 1) (drop k live ++ others) ≡ p → o ≡ if_live live p
-    by (Some i) p h g =
-        let in_it = found_within x (k + 1) i (drop k live) h in
-        within_live (length live) i (omega (arith, in_it.1, length-drop k live)) ∙ ap (if_live live) (sym (found_before x (k + 1) i (drop k live) others h) ∙ g)
-    by None None h g = refl
-    by None (Some j) h g =
-        let in_it = found_within x (k + 1 + length (drop k live)) j others (sym (found_behind x (k + 1) (drop k live) others h) ∙ g) in
-        behind_live (length live) j (omega (arith, in_it.0, length-drop k live))
+among x live others k position = grind (arith, found_within, within_live, length-drop, found_before, found_behind, behind_live)
 
 -- the first dependant among the live ones is what is found among all, if that is live
 pub found_live : (x : Entry) (live others : List Entry) (k : ℕ) → 1 ≤ k → k ≤ length live → x ≡ get_or live (k - 1) x

@@ -1,15 +1,8 @@
 -- The causal closure of a step gathered after the other records: the list cut in parts, and the run
 -- that it stays.
 use Rattle.std.proofs.Common.{◌≡◌, ℕ, zero, suc, ◌-◌, ◌<◌, ◌≤◌, Bool, true, false, if◌then◌else◌, sym, ◌∙◌, ap, subst, arith, inl, inr, List, [], ◌∷◌, ◌++◌, length, take, drop, get_or, Ok}
-use Rattle.std.proofs.lemmas.Bool.{cases_Bool, or_parts}
-use Rattle.std.proofs.lemmas.List.{append-nil, append_assoc}
-use Rattle.rd_step.specs.Prelude.{World, run, depends, depends_on_one, marked, unmarked, closure_of, without_closure}
-use Rattle.rd_step.specs.Dependence.{closure_from}
-use Rattle.rd_step.specs.declared.entries.Entry.{Entry}
+use Rattle.rd_journal.proofs.Prelude.{cases_Bool, or_parts, append-nil, append_assoc, World, run, depends, depends_on_one, marked, unmarked, closure_of, without_closure, closure_from, Entry, run-cons, events, beginning}
 use Rattle.rd_step.proofs.Commute.{commutes}
-use Rattle.rd_step.proofs.Inverse.{run-cons}
-use Rattle.rd_journal.specs.Journal.{events}
-use Rattle.rd_step.proofs.RunParts.{beginning}
 
 -- The closure, cut at its first record
 
@@ -20,15 +13,8 @@ pub record CutAt (l : List Entry) (i : ℕ) (x : Entry) : Type 0 where
 
 pub cut_at : (l : List Entry) (i : ℕ) (x : Entry) → i < length l → x ≡ get_or l i x → CutAt l i x
 cut_at [] i x h here = absurd (omega arith)
-cut_at (y ∷ l) zero x h here =
-    let same : y ≡ x = sym here in
-    record {
-      outside = ap (λ (z : Entry). unmarked (closure_from (z ∷ []) l) l) same;
-      inside = λ j. same j ∷ marked (closure_from (same j ∷ []) l) l;
-    }
-cut_at (y ∷ l) (suc i) x h here =
-    let c = cut_at l i x (omega arith) here in
-    record { outside = ap (λ (zs : List Entry). y ∷ zs) c.outside; inside = c.inside }
+cut_at (y ∷ l) zero x h here = grind arith
+cut_at (y ∷ l) (suc i) x h here = grind (arith, cut_at l i x (omega arith) here)
 
 -- A list under way
 
@@ -48,26 +34,7 @@ gathering_first l (suc i) x some below here =
 -- where the next record depends on one that goes it goes
 pub joins : (l before block later : List Entry) (k : ℕ) (x : Entry) → Gathering l k before block (x ∷ later) → depends_on_one block x ≡ true
     → Gathering l k before (block ++ x ∷ []) later
-joins l before block later k x g h =
-    let more = block ++ x ∷ [] in
-    record {
-      outside = g.outside ∙ ap (λ (e : Bool). before ++ unmarked (e ∷ closure_from (if e then more else block) later) (x ∷ later)) h;
-      inside =
-          g.inside ∙ ap (λ (e : Bool). block ++ marked (e ∷ closure_from (if e then more else block) later) (x ∷ later)) h
-          ∙ sym (append_assoc block (x ∷ []) (marked (closure_from more later) later));
-    }
-
--- where it doesn't it stays
-pub stays : (l before block later : List Entry) (k : ℕ) (x : Entry) → Gathering l k before block (x ∷ later) → depends_on_one block x ≡ false
-    → Gathering l k (before ++ x ∷ []) block later
-stays l before block later k x g h =
-    let more = block ++ x ∷ [] in
-    record {
-      outside =
-          g.outside ∙ ap (λ (e : Bool). before ++ unmarked (e ∷ closure_from (if e then more else block) later) (x ∷ later)) h
-          ∙ sym (append_assoc before (x ∷ []) (unmarked (closure_from block later) later));
-      inside = g.inside ∙ ap (λ (e : Bool). block ++ marked (e ∷ closure_from (if e then more else block) later) (x ∷ later)) h;
-    }
+joins l before block later k x g h = grind (arith, append_assoc)
 
 -- and at the end those that go are the closure
 pub gathered_outside : (l before block : List Entry) (k : ℕ) → Gathering l k before block [] → without_closure l k ≡ before
@@ -104,8 +71,7 @@ gathered_run R u w b (y ∷ ys) h =
           subst (λ (zs : List Entry). run R u (events zs) ≡ Ok (record { world = w; entries = zs })) (sym (append_assoc b (y ∷ []) ys)) h in
           let out = unmarked (closure_from (b ++ y ∷ []) ys) ys in
           let same : out ++ ((b ++ y ∷ []) ++ marked (closure_from (b ++ y ∷ []) ys) ys) ≡ unmarked (closure_from b (y ∷ ys)) (y ∷ ys) ++ (b ++ marked (closure_from b (y ∷ ys)) (y ∷ ys)) =
-          ap (λ (zs : List Entry). out ++ zs) (append_assoc b (y ∷ []) (marked (closure_from (b ++ y ∷ []) ys) ys))
-          ∙ ap (λ (d : Bool). let m = d ∷ closure_from (if d then b ++ y ∷ [] else b) ys in unmarked m (y ∷ ys) ++ (b ++ marked m (y ∷ ys))) (sym e) in
+          grind (arith, append_assoc) in
           subst (λ (zs : List Entry). run R u (events zs) ≡ Ok (record { world = w; entries = zs })) same (gathered_run R u w (b ++ y ∷ []) ys more)
       | inr e ↦
           let first = beginning R u y (b ++ ys) w (moved_before R u w b y ys h e) in

@@ -1,15 +1,8 @@
 -- The loop that gathers the closure of a step: what it has done so far, and what it has done at the
 -- end.
-use Rattle.std.proofs.Common.{◌≡◌, ℕ, ◌+◌, ◌-◌, ◌<◌, ◌≤◌, Bool, true, false, zero, suc, cond, refl, sym, ◌∙◌, ap, subst, arith, List, [], ◌∷◌, ◌++◌, length, take, drop, set, get_or, length-append, length-drop}
-use Rattle.std.specs.List.{count_by}
-use Rattle.std.proofs.lemmas.List.{append_assoc, take-append-drop, take-take, length-take-le, length-set, get_or-take, drop_at, drop-append-le, drop-set-lt, drop_all, take_at, take_more_set}
-use Rattle.std.proofs.lemmas.List.Sums.{sum_by-append, sum_by-cons, sum_by_push}
-use Rattle.rd_step.specs.Prelude.{depends_on_one, closure_of, without_closure}
-use Rattle.rd_step.specs.declared.entries.Entry.{Entry}
-use Rattle.rd_depend.specs.declared.index.DependIndex.{DependIndex}
-use Rattle.rd_depend.specs.Index.{IsIndexOf, HasRoomFor}
-use Rattle.rd_journal.specs.Numbers.{at_numbers, IsOrder}
-use Rattle.rd_journal.proofs.Gathering.{Gathering, gathering_first, joins, stays, gathered_outside, gathered_inside}
+use Rattle.rd_journal.proofs.Prelude.{common_steps, count_by, append_assoc, take-append-drop, take-take, length-take-le, length-set, get_or-take, drop_at, drop-append-le, drop-set-lt, drop_all, take_at, take_more_set, sum_by-append, sum_by-cons, sum_by_push, depends_on_one, closure_of, without_closure, Entry, DependIndex, IsIndexOf, HasRoomFor, at_numbers, IsOrder}
+use Rattle.std.proofs.Common.{◌≡◌, ℕ, ◌+◌, ◌-◌, ◌<◌, ◌≤◌, Bool, true, false, cond, refl, sym, ◌∙◌, ap, subst, arith, List, [], ◌∷◌, ◌++◌, length, take, drop, set, get_or, length-append, length-drop}
+use Rattle.rd_journal.proofs.Gathering.{Gathering, gathering_first, joins, gathered_outside, gathered_inside}
 use Rattle.rd_journal.proofs.IndexRoom.{fits_between}
 use Rattle.rd_journal.proofs.ListLemmas.{drop_one_less}
 use Rattle.rd_journal.proofs.Numbers.{one, at-append, at-length, at-take, at-drop, at-get, order_below, order_moved}
@@ -56,9 +49,7 @@ next_one es ns now live next v o within low long later at =
     let below : v < length es = subst (λ (m : ℕ). m < length es) (sym same) (order_below (length es) ns o next v (omega (arith, within, low))) in
     let all = live-length es ns live o within in
     let here : (x : Entry) → x ≡ get_or es v x → get_or (live_of es ns live) next x ≡ x =
-    λ x e.
-    get_or-take live (at_numbers es ns) next x low ∙ at-get es ns next x v (order_below (length es) ns o) (omega (arith, within, low))
-    ∙ ap (λ (m : ℕ). get_or es m x) (sym same) ∙ sym e in
+    grind (arith, get_or-take, at-get, order_below) in
     record {
       below = below;
       numbers = of_old ∙ ap (λ (m : ℕ). m ∷ drop (next + 1) ns) (sym same);
@@ -68,9 +59,7 @@ next_one es ns now live next v o within low long later at =
     }
   where
     default : (xs : List ℕ) (n d : ℕ) → n < length xs → get_or xs n d ≡ get_or xs n (get_or xs n d)
-    default [] n d h = absurd (omega arith)
-    default (x ∷ xs) zero d h = refl
-    default (x ∷ xs) (suc n) d h = default xs n d (omega arith)
+    default xs n d h = grind (arith, common_steps)
 
 -- one more number
 at_more : (es : List Entry) (ns : List ℕ) (live next v : ℕ) (x : Entry) (xs : List ℕ) → Next es ns live next v → x ≡ get_or es v x
@@ -88,11 +77,7 @@ count_next test es ns live next v n = ap (count_by test) n.numbers ∙ sum_by-co
 pub carried : (es : List Entry) (ns now gathered : List ℕ) (old index : DependIndex) (k live front next : ℕ) (now_too gathered_too : List ℕ) (index_too : DependIndex) (front_too : ℕ)
     → now_too ≡ now → gathered_too ≡ gathered → index_too ≡ index → front_too ≡ front → UnderWay es ns now gathered old index k live front next
     → UnderWay es ns now_too gathered_too old index_too k live front_too next
-carried es ns now gathered old index k live front next now_too gathered_too index_too front_too a b c d u =
-    subst (λ (ms : List ℕ). UnderWay es ns ms gathered_too old index_too k live front_too next) (sym a)
-    (subst (λ (ms : List ℕ). UnderWay es ns now ms old index_too k live front_too next) (sym b)
-    (subst (λ (x : DependIndex). UnderWay es ns now gathered old x k live front_too next) (sym c)
-    (subst (λ (f : ℕ). UnderWay es ns now gathered old index k live f next) (sym d) u)))
+carried es ns now gathered old index k live front next now_too gathered_too index_too front_too a b c d u = grind arith
 
 -- at first the step itself is gathered
 pub first_gathered : (es : List Entry) (ns : List ℕ) (old index : DependIndex) (k live v : ℕ) (x : Entry) → IsOrder (length es) ns → 1 ≤ k → k ≤ live → live ≤ length ns
@@ -132,10 +117,7 @@ first_gathered es ns old index k live v x o some position within n e is put room
           (subst (λ (bs : List Entry). Gathering L k (take (k - 1) L) bs (drop k L)) (sym one_there)
           (gathering_first L k x some (omega (arith, all)) (sym (n.here x e))));
       indexed = subst (λ (bs : List Entry). IsIndexOf index (take (k - 1) L ++ bs)) (sym one_there) (put (take (k - 1) L) is);
-      room = λ rest has.
-          let none : drop (k - 1) (at_numbers es (take (k - 1) ns)) ≡ [] = ap (drop (k - 1)) front ∙ drop_all (k - 1) (take (k - 1) L) (omega (arith, whole)) in
-          subst (λ (bs : List Entry). HasRoomFor index (bs ++ (drop k L ++ rest))) (sym none)
-          (room (drop k L ++ rest) (subst (λ (bs : List Entry). HasRoomFor old (bs ++ rest)) behind has));
+      room = grind (arith, drop_all);
     }
 
 -- the room that is left for the others before the next one is looked at
@@ -143,8 +125,7 @@ pub before_next : (es : List Entry) (ns now gathered : List ℕ) (old index : De
     → UnderWay es ns now gathered old index k live front next → Next es ns live next v → x ≡ get_or es v x → (rest : List Entry)
     → HasRoomFor old (drop (k - 1) (live_of es ns live) ++ rest)
     → HasRoomFor index (drop (k - 1) (at_numbers es (take front now)) ++ x ∷ (drop (next + 1) (live_of es ns live) ++ rest))
-before_next es ns now gathered old index k live front next v x u n e rest has =
-    subst (λ (bs : List Entry). HasRoomFor index (drop (k - 1) (at_numbers es (take front now)) ++ (bs ++ rest))) (n.entry x e) (u.room rest has)
+before_next es ns now gathered old index k live front next v x u n e rest has = grind arith
 
 -- the next one, with what is gathered, if it goes
 pub joined : (es : List Entry) (ns now gathered : List ℕ) (old index new : DependIndex) (k live front next v : ℕ) (x : Entry)
@@ -166,17 +147,10 @@ joined es ns now gathered old index new k live front next v x u low n e depends 
       staying = u.staying;
       going = omega (arith, ap length more, length-append (at_numbers es gathered) (x ∷ []), u.going, length-append gathered (v ∷ []));
       cut =
-          subst (λ (bs : List Entry). Gathering L k (at_numbers es (take front now)) bs (drop (next + 1) L)) (sym more)
-          (joins L (at_numbers es (take front now)) (at_numbers es gathered) (drop (next + 1) L) k x
-          (subst (λ (bs : List Entry). Gathering L k (at_numbers es (take front now)) (at_numbers es gathered) bs) (n.entry x e) u.cut) depends);
+          grind (arith, joins);
       indexed =
-          subst (λ (bs : List Entry). IsIndexOf new bs)
-          (append_assoc (take (k - 1) L) (at_numbers es gathered) (x ∷ []) ∙ ap (λ (bs : List Entry). take (k - 1) L ++ bs) (sym more))
-          (put (take (k - 1) L ++ at_numbers es gathered) u.indexed);
-      room = λ rest has.
-          room (drop (k - 1) (at_numbers es (take front now)) ++ (drop (next + 1) L ++ rest))
-          (fits_between index (drop (k - 1) (at_numbers es (take front now))) (drop (next + 1) L ++ rest) x
-          (before_next es ns now gathered old index k live front next v x u n e rest has));
+          grind (arith, append_assoc);
+      room = grind (arith, fits_between, before_next);
     }
 
 -- and if it stays, put after those that stay
@@ -184,33 +158,7 @@ pub stayed : (es : List Entry) (ns now gathered : List ℕ) (old index : DependI
     → UnderWay es ns now gathered old index k live front next → next < live → live ≤ length ns → Next es ns live next v → x ≡ get_or es v x
     → depends_on_one (at_numbers es gathered) x ≡ false → drop (next + 1) now ≡ drop (next + 1) ns
     → UnderWay es ns (set now front v) gathered old index k live (front + 1) (next + 1)
-stayed es ns now gathered old index k live front next v x u low within n e depends later =
-    let L = live_of es ns live in
-    let put : take (front + 1) (set now front v) ≡ take front now ++ v ∷ [] = take_more_set now front v (omega (arith, u.number, u.some, u.long, within, low)) in
-    let more : at_numbers es (take (front + 1) (set now front v)) ≡ at_numbers es (take front now) ++ x ∷ [] =
-    ap (at_numbers es) put ∙ at_more es ns live next v x (take front now) n e in
-    record {
-      from = omega (arith, u.from);
-      number = omega (arith, u.number);
-      some = u.some;
-      within = omega arith;
-      long = length-set now front v ∙ u.long;
-      later = drop-set-lt (next + 1) now front v (omega (arith, u.number, u.some)) ∙ later;
-      once = λ test. omega (arith, u.once test, ap (count_by test) put, count_more test (take front now) v, count_next test es ns live next v n);
-      staying = omega (arith, ap length more, length-append (at_numbers es (take front now)) (x ∷ []), u.staying);
-      going = u.going;
-      cut =
-          subst (λ (bs : List Entry). Gathering L k bs (at_numbers es gathered) (drop (next + 1) L)) (sym more)
-          (stays L (at_numbers es (take front now)) (at_numbers es gathered) (drop (next + 1) L) k x
-          (subst (λ (bs : List Entry). Gathering L k (at_numbers es (take front now)) (at_numbers es gathered) bs) (n.entry x e) u.cut) depends);
-      indexed = u.indexed;
-      room = λ rest has.
-          subst (λ (bs : List Entry). HasRoomFor index bs)
-          (sym (append_assoc (drop (k - 1) (at_numbers es (take front now))) (x ∷ []) (drop (next + 1) L ++ rest))
-          ∙ ap (λ (bs : List Entry). bs ++ (drop (next + 1) L ++ rest))
-          (sym (drop-append-le (k - 1) (at_numbers es (take front now)) (x ∷ []) (omega (arith, u.staying, u.from))) ∙ sym (ap (drop (k - 1)) more)))
-          (before_next es ns now gathered old index k live front next v x u n e rest has);
-    }
+stayed es ns now gathered old index k live front next v x u low within n e depends later = grind (arith, common_steps, set, take_more_set, at_more, length-set, drop-set-lt, count_more, count_next, length-append, append_assoc, drop-append-le, before_next)
 
 -- at the end the numbers that were gathered are after the others
 pub record IsGathered (es : List Entry) (ns new : List ℕ) (old index : DependIndex) (k live front : ℕ) : Type 0 where
@@ -235,45 +183,17 @@ ended es ns now gathered new old index k live front next u end o within is =
     let in_it = gathered_inside L (at_numbers es (take front now)) (at_numbers es gathered) k cut in
     let later : drop live now ≡ drop live ns = subst (λ (m : ℕ). drop m now ≡ drop m ns) all u.later in
     let parts : at_numbers es new ≡ (at_numbers es (take front now) ++ at_numbers es gathered) ++ at_numbers es (drop live ns) =
-    ap (at_numbers es) is ∙ at-append es (take front now) (gathered ++ drop live now)
-    ∙ ap (λ (bs : List Entry). at_numbers es (take front now) ++ bs) (at-append es gathered (drop live now) ∙ ap (λ (ms : List ℕ). at_numbers es gathered ++ at_numbers es ms) later)
-    ∙ sym (append_assoc (at_numbers es (take front now)) (at_numbers es gathered) (at_numbers es (drop live ns))) in
+    grind (arith, at-append, append_assoc) in
     let len : length (at_numbers es (take front now) ++ at_numbers es gathered) ≡ live =
     omega (arith, length-append (at_numbers es (take front now)) (at_numbers es gathered), u.staying, u.going, u.number, all) in
     record {
       ordered =
-          order_moved (length es) ns new o
-          (λ test.
-          omega (
-            arith,
-            ap (count_by test) is,
-            sum_by-append (λ m. cond (test m) 1 0) (take front now) (gathered ++ drop live now),
-            sum_by-append (λ m. cond (test m) 1 0) gathered (drop live now),
-            ap (count_by test) later,
-            ap (λ (m : ℕ). count_by test (drop m ns)) all,
-            u.once test,
-          ))
-          (omega (
-            arith,
-            ap length is,
-            length-append (take front now) (gathered ++ drop live now),
-            length-append gathered (drop live now),
-            length-take-le front now (omega (arith, u.number, u.some, u.long, within, all)),
-            length-drop live now,
-            u.number,
-            u.long,
-            all,
-            within,
-          ));
+          grind (arith, order_moved, sum_by-append, cond, length-append, length-take-le, length-drop);
       count = omega (arith, ap length in_it, u.going, u.number, all);
       moved =
-          ap (take live) parts ∙ take_at (at_numbers es (take front now) ++ at_numbers es gathered) (at_numbers es (drop live ns)) live len
-          ∙ (λ i. sym out i ++ sym in_it i);
+          grind (arith, take_at);
       behind =
-          ap (drop live) parts ∙ drop_at (at_numbers es (take front now) ++ at_numbers es gathered) (at_numbers es (drop live ns)) live len
-          ∙ sym (at-drop es live ns (order_below (length es) ns o));
+          grind (arith, drop_at, at-drop, order_below);
       indexed = subst (λ (bs : List Entry). IsIndexOf index (take (k - 1) L ++ bs)) (sym in_it) u.indexed;
-      room = λ rest has.
-          subst (λ (bs : List Entry). HasRoomFor index (drop (k - 1) bs ++ rest)) (sym out)
-          (subst (λ (bs : List Entry). HasRoomFor index (drop (k - 1) (at_numbers es (take front now)) ++ (bs ++ rest))) none (u.room rest has));
+      room = grind arith;
     }

@@ -1,9 +1,7 @@
 -- Room in the index of dependants: it is counted for each actor, place and segment, so it does not
 -- ask in which order entries are.
 use Rattle.std.proofs.Common.{List, [], ◌∷◌, ◌++◌, arith}
-use Rattle.rd_step.specs.declared.entries.Entry.{Entry}
-use Rattle.rd_depend.specs.declared.index.DependIndex.{DependIndex}
-use Rattle.rd_depend.specs.Index.{touches, HasRoomFor}
+use Rattle.rd_journal.proofs.Prelude.{Entry, DependIndex, touches, HasRoomFor}
 use Rattle.rd_depend.proofs.IndexPositions.{number-append}
 
 -- there is room for none
@@ -24,20 +22,8 @@ fits_one index x rest has = record { lists = λ t. omega (arith, has.lists t) }
 
 -- one that was between others in front of them
 pub fits_between : (index : DependIndex) (xs ys : List Entry) (x : Entry) → HasRoomFor index (xs ++ x ∷ ys) → HasRoomFor index (x ∷ (xs ++ ys))
-fits_between index xs ys x has = record {
-  lists = λ t. omega (arith, number-append (touches t) xs (x ∷ ys), number-append (touches t) xs ys, has.lists t);
-}
+fits_between index xs ys x has = grind (arith, number-append)
 
 -- the same in another order
 pub fits_turned : (index : DependIndex) (xs ys rest : List Entry) → HasRoomFor index (xs ++ (ys ++ rest)) → HasRoomFor index (ys ++ (xs ++ rest))
-fits_turned index xs ys rest has = record {
-  lists = λ t.
-      omega (
-        arith,
-        number-append (touches t) xs (ys ++ rest),
-        number-append (touches t) ys rest,
-        number-append (touches t) ys (xs ++ rest),
-        number-append (touches t) xs rest,
-        has.lists t,
-      );
-}
+fits_turned index xs ys rest has = grind (arith, number-append)

@@ -1,3 +1,4 @@
+pub mod Prelude
 pub mod Outcomes
 pub mod ListLemmas
 pub mod Numbers

@@ -1,16 +1,7 @@
 -- Lists cut in two, the last element of a list, and one moved after others.
 use Rattle.std.proofs.Common.{◌≡◌, ℕ, zero, suc, ◌+◌, ◌-◌, ◌<◌, ◌≤◌, List, [], ◌∷◌, ◌++◌, length, get_or, take, drop, refl, sym, ◌∙◌, ap, arith, length-append, length-drop}
-use borrow.Rule.Slice.PartMut.{put_mid, mid_of}
-use Rattle.std.proofs.Math.Seq.{drop-cons, take-append_seam, drop-append_seam}
+use Rattle.rd_journal.proofs.Prelude.{put_mid, mid_of, drop-cons, take-append_seam, drop-append_seam, append-nil, take_all, append_assoc, take-append-drop, length-take-le, take-take, drop-take, drop-append-le, drop-drop, moved_behind}
 use Rattle.std.proofs.Math.ListN.{drop_of_length-le}
-use Rattle.std.proofs.lemmas.List.{append-nil, take_all, append_assoc, take-append-drop, length-take-le, take-take, drop-take, drop-append-le, drop-drop}
-use Rattle.rd_depend.specs.Moved.{moved_behind}
-
--- the last alone
-pub last_of : {X : Type 0} (l : List X) (x : X) → drop (length (l ++ x ∷ []) - 1) (l ++ x ∷ []) ≡ x ∷ []
-last_of {X} l x =
-    let e : length (l ++ x ∷ []) - 1 ≡ length l = omega (arith, length-append l (x ∷ [])) in
-    ap (λ (k : ℕ). drop k (l ++ x ∷ [])) e ∙ drop-append_seam l (x ∷ [])
 
 -- an element that is there
 pub nth : {X : Type 0} (l : List X) (k : ℕ) → k < length l → (x : X) × (x ≡ get_or l k x)
@@ -20,9 +11,7 @@ nth (x ∷ l) (suc k) h = nth l k (omega arith)
 
 -- what is after the cut
 pub drop_one_less : {X : Type 0} (l : List X) (k : ℕ) (x : X) → k < length l → x ≡ get_or l k x → drop k l ≡ x ∷ drop (k + 1) l
-drop_one_less {X} l k x h e =
-    let n : suc k ≡ k + 1 = omega arith in
-    drop-cons l k x h ∙ (λ i. sym e i ∷ drop (n i) l)
+drop_one_less {X} l k x h e = grind (arith, drop-cons)
 
 -- a cut moved back within what is before it
 pub drop_before : {X : Type 0} (l : List X) (k m n : ℕ) → m ≤ length l → k + n ≡ m
@@ -35,31 +24,16 @@ drop_before {X} l k m n h e =
 
 -- what a list has where its first elements were overwritten by as many as it has
 pub overwritten : {X : Type 0} (n : ℕ) (es ys : List X) → n ≡ length es → length ys ≡ length es → take n (ys ++ drop (length ys) es) ≡ ys
-overwritten {X} n es ys e h =
-    ap (λ (zs : List X). take n (ys ++ zs)) (drop_of_length-le es (omega arith)) ∙ ap (take n) (append-nil ys) ∙ take_all n ys (omega arith)
+overwritten {X} n es ys e h = grind (arith, drop_of_length-le, append-nil, take_all)
 
 -- The k-th of the first l elements moved after the others of them
 
 others_length : {X : Type 0} (es : List X) (k l : ℕ) → 1 ≤ k → k ≤ l → l ≤ length es
     → length (take (k - 1) (take l es) ++ drop k (take l es)) ≡ l - 1
-others_length es k l some below within =
-    let L = take l es in
-    let len : length L ≡ l = length-take-le l es within in
-    let a : length (take (k - 1) L) ≡ k - 1 = length-take-le (k - 1) L (omega arith) in
-    omega (arith, length-append (take (k - 1) L) (drop k L), length-drop k L)
+others_length es k l some below within = grind (arith, length-take-le, length-append, length-drop)
 
 pub moved_behind-length : {X : Type 0} (es : List X) (k l : ℕ) → 1 ≤ k → k ≤ l → l ≤ length es → length (moved_behind es k l) ≡ length es
-moved_behind-length es k l some below within =
-    let L = take l es in
-    let len : length L ≡ l = length-take-le l es within in
-    let c : length (take 1 (drop (k - 1) L)) ≡ 1 = length-take-le 1 (drop (k - 1) L) (omega (arith, length-drop (k - 1) L)) in
-    let d : length (drop l es) ≡ length es - l = length-drop l es in
-    omega (
-      arith,
-      length-append (take (k - 1) L ++ drop k L) (take 1 (drop (k - 1) L) ++ drop l es),
-      others_length es k l some below within,
-      length-append (take 1 (drop (k - 1) L)) (drop l es),
-    )
+moved_behind-length es k l some below within = grind (arith, length-take-le, length-drop, length-append, others_length)
 
 -- the rest of the first l elements, from the k-th on, turned by one
 pub turned : {X : Type 0} (es : List X) (k l : ℕ) → 1 ≤ k → k ≤ l

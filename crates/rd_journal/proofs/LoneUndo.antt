@@ -1,16 +1,6 @@
 -- Undoing one live step alone, on which no later one depends, over whole journals.
-use Rattle.std.proofs.Common.{◌≡◌, ℕ, zero, suc, ◌+◌, ◌-◌, ◌<◌, ◌≤◌, ◌⊎◌, inl, inr, false, nat_lt, sym, ◌∙◌, ap, subst, arith, List, [], ◌∷◌, ◌++◌, length, take, drop, get_or, slice_get, Option, Some, None, Result, Err, length-append}
-use Rattle.std.proofs.lemmas.Bool.{cases_Bool, cond-true, cond-false, lt-ltb, le-ltb}
-use Rattle.std.proofs.lemmas.List.{map-append, take-map, drop-map, take-append-drop, length-map}
-use Rattle.std.proofs.lemmas.Option.{slice_get-get_or}
-use Rattle.rd_step.specs.Prelude.{Refusal, NoSuchStep, depends, IsFree, first_dependant, without, Ran, run, MOST_STEPS}
-use Rattle.rd_step.specs.declared.entries.Event.{Event}
-use Rattle.rd_step.specs.declared.entries.Entry.{Entry}
-use Rattle.rd_step.specs.Dependence.{first_from, first_after}
-use Rattle.rd_step.specs.Laws.{WasStepped, IsTakenOut}
-use Rattle.rd_journal.specs.Journal.{Journal, events, start_of, IsRun}
-use Rattle.rd_journal.specs.Moves.{IsUndoneAlone, IsRunWithout, answer_unless, answer_at}
-use Rattle.rd_journal.specs.State.{State, state_of, run_of, dependant_in, undone_alone, undone_alone_unless, undo_at}
+use Rattle.rd_journal.proofs.Prelude.{common_steps, cases_Bool, cond-true, cond-false, lt-ltb, le-ltb, map-append, take-map, drop-map, take-append-drop, length-map, slice_get-get_or, NoSuchStep, depends, IsFree, first_dependant, MOST_STEPS, Entry, first_from, first_after, WasStepped, IsTakenOut, Journal, start_of, IsRun, IsUndoneAlone, answer_unless, answer_at, state_of, undone_alone, undone_alone_unless, undo_at}
+use Rattle.std.proofs.Common.{◌≡◌, ℕ, zero, suc, ◌+◌, ◌-◌, ◌<◌, ◌≤◌, ◌⊎◌, inl, inr, sym, ◌∙◌, ap, subst, arith, List, [], ◌∷◌, ◌++◌, length, take, drop, get_or, slice_get, Option, Some, None, Err, length-append}
 use Rattle.rd_journal.proofs.ListLemmas.{drop_one_less}
 use Rattle.rd_journal.proofs.Runs.{MayTakeOut, may_take_out}
 
@@ -21,8 +11,7 @@ none_is_free x n [] h = tt
 none_is_free x n (y ∷ ys) h =
     elim (cases_Bool (depends x y)) [
       | inl e ↦
-          let found = sym (cond-true (depends x y) (Some n) (first_from x (n + 1) ys) e) ∙ h in
-          cc
+          grind (arith, cond-true)
       | inr e ↦ (e, none_is_free x (n + 1) ys (sym (cond-false (depends x y) (Some n) (first_from x (n + 1) ys) e) ∙ h))
     ]
 
@@ -46,9 +35,7 @@ first_behind l (suc i) x at =
 -- The list around its k-th record
 
 pub from_it : (l : List Entry) (k : ℕ) (x : Entry) → IsNumber l k x → drop (k - 1) l ≡ x ∷ drop k l
-from_it l k x at =
-    let next : (k - 1) + 1 ≡ k = omega (arith, at.some) in
-    drop_one_less l (k - 1) x (omega (arith, at.some, at.within)) at.here ∙ ap (λ (m : ℕ). x ∷ drop m l) next
+from_it l k x at = grind (arith, drop_one_less)
 
 around_it : (l : List Entry) (k : ℕ) (x : Entry) → IsNumber l k x → l ≡ take (k - 1) l ++ x ∷ drop k l
 around_it l k x at = sym (take-append-drop (k - 1) l) ∙ ap (λ (ys : List Entry). take (k - 1) l ++ ys) (from_it l k x at)
@@ -62,10 +49,7 @@ taken_out_front k old new x at moved = moved.undone ∙ ap (λ (ys : List Entry)
 -- there are as many records as before
 pub taken_out_few : (k : ℕ) (old new : Journal) (x : Entry) → IsNumber old.live k x → IsUndoneAlone k old new
     → length old.live + length old.undone ≤ MOST_STEPS → length new.live + length new.undone ≤ MOST_STEPS
-taken_out_few k old new x at moved few =
-    let all = ap length (around_it old.live k x at) ∙ length-append (take (k - 1) old.live) (x ∷ drop k old.live) in
-    let left = ap length moved.live ∙ length-append (take (k - 1) old.live) (drop k old.live) in
-    omega (arith, all, left, ap length (taken_out_front k old new x at moved))
+taken_out_few k old new x at moved few = grind (arith, common_steps, around_it, length-append, taken_out_front)
 
 -- the k-th live step of a journal may be undone alone, and each journal that this leaves is a run
 -- of the same start
@@ -80,8 +64,7 @@ may_undo_around R old k x at may = record { was = may.was; start = start; runs =
   where
     same : (new : Journal) → IsUndoneAlone k old new
         → new ≡ record { world = new.world; live = take (k - 1) old.live ++ drop k old.live; undone = x ∷ old.undone }
-    same new moved =
-        λ i. record { world = new.world; live = moved.live i; undone = taken_out_front k old new x at moved i }
+    same new moved = grind (arith, common_steps, taken_out_front)
 
     start : (new : Journal) → IsTakenOut R old.world new.world x may.was → IsUndoneAlone k old new → start_of new ≡ start_of old
     start new out moved =
@@ -101,61 +84,21 @@ may_undo_at R old k x at none runs =
 
 -- The state without it
 
-pub live_without : (k : ℕ) (old new : Journal) → IsUndoneAlone k old new → events new.live ≡ without (events old.live) k
-live_without k old new moved =
-    let its = λ (x : Entry). x.event in
-    ap events moved.live ∙ map-append its (take (k - 1) old.live) (drop k old.live)
-    ∙ (λ i. sym (take-map its (k - 1) old.live) i ++ sym (drop-map its k old.live) i)
-
 pub undone_alone_state : (k : ℕ) (old new : Journal) → IsUndoneAlone k old new → start_of new ≡ start_of old → state_of new ≡ undone_alone (state_of old) k
-undone_alone_state k old new moved start =
-    let its = λ (x : Entry). x.event in
-    let live = live_without k old new moved in
-    let front : events (take 1 (drop (k - 1) old.live)) ≡ take 1 (drop (k - 1) (events old.live)) =
-    sym (take-map its 1 (drop (k - 1) old.live)) ∙ ap (λ (es : List Event). take 1 es) (sym (drop-map its (k - 1) old.live)) in
-    let undone : events new.undone ≡ take 1 (drop (k - 1) (events old.live)) ++ events old.undone =
-    ap events moved.undone ∙ map-append its (take 1 (drop (k - 1) old.live)) old.undone ∙ ap (λ (es : List Event). es ++ events old.undone) front in
-    λ i. record { start = start i; live = live i; undone = undone i }
-
--- what is left is the run of the live events without the k-th
-pub without_it : (R k : ℕ) (old new : Journal) → IsUndoneAlone k old new → state_of new ≡ undone_alone (state_of old) k → IsRun R new
-    → IsRunWithout R k old new
-without_it R k old new moved state runs =
-    let start : start_of new ≡ start_of old = ap (λ (s : State). s.start) state in
-    (λ i. run R (sym start i) (sym (live_without k old new moved) i)) ∙ runs.live_ran
+undone_alone_state k old new moved start = grind (arith, take-map, drop-map, map-append)
 
 -- The answers
 
 pub answer_missing : (j : Journal) (k n : ℕ) → n ≡ length j.live → (k ≡ 0) ⊎ (n < k) → Err (NoSuchStep n) ≡ answer_at j k
-answer_missing j zero n len _ = ap (λ (m : ℕ). Err (NoSuchStep m)) len
-answer_missing j (suc i) n len (inl e) = absurd (omega arith)
-answer_missing j (suc i) n len (inr past) =
-    let out : nat_lt i (length j.live) ≡ false = le-ltb i (length j.live) (omega arith) in
-    ap (λ (m : ℕ). Err (NoSuchStep m)) len
-    ∙ sym (cond-false (nat_lt i (length j.live)) (answer_unless (first_dependant j.live (suc i))) (Err (NoSuchStep (length j.live))) out)
+answer_missing j k n len h = grind arith
 
 pub undo_at_missing : (R : ℕ) (j : Journal) (k n : ℕ) → n ≡ length j.live → (k ≡ 0) ⊎ (n < k) → undo_at R (state_of j) k ≡ Err (NoSuchStep n)
-undo_at_missing R j zero n len _ = ap (λ (m : ℕ). Err (NoSuchStep m)) (length-map j.live (λ (x : Entry). x.event) ∙ sym len)
-undo_at_missing R j (suc i) n len (inl e) = absurd (omega arith)
-undo_at_missing R j (suc i) n len (inr past) =
-    let s = state_of j in
-    let same : length s.live ≡ n = length-map j.live (λ (x : Entry). x.event) ∙ sym len in
-    let out : nat_lt i (length s.live) ≡ false = le-ltb i (length s.live) (omega arith) in
-    cond-false (nat_lt i (length s.live)) (undone_alone_unless s (suc i) (dependant_in (suc i) (run_of R s))) (Err (NoSuchStep (length s.live))) out
-    ∙ ap (λ (m : ℕ). Err (NoSuchStep m)) same
+undo_at_missing h j k n len l = grind (arith, length-map, le-ltb, cond-false)
 
 pub answer_there : (j : Journal) (k : ℕ) → 1 ≤ k → k ≤ length j.live → answer_at j k ≡ answer_unless (first_dependant j.live k)
-answer_there j zero some within = absurd (omega arith)
-answer_there j (suc i) some within =
-    cond-true (nat_lt i (length j.live)) (answer_unless (first_dependant j.live (suc i))) (Err (NoSuchStep (length j.live)))
-    (lt-ltb i (length j.live) (omega arith))
+answer_there j k some within = grind arith
 
 pub undo_at_there : (R : ℕ) (j : Journal) (k : ℕ) → IsRun R j → 1 ≤ k → k ≤ length j.live
     → undo_at R (state_of j) k ≡ undone_alone_unless (state_of j) k (first_dependant j.live k)
 undo_at_there R j zero runs some within = absurd (omega arith)
-undo_at_there R j (suc i) runs some within =
-    let s = state_of j in
-    let len : length s.live ≡ length j.live = length-map j.live (λ (x : Entry). x.event) in
-    cond-true (nat_lt i (length s.live)) (undone_alone_unless s (suc i) (dependant_in (suc i) (run_of R s))) (Err (NoSuchStep (length s.live)))
-    (lt-ltb i (length s.live) (omega arith))
-    ∙ ap (λ (r : Result Ran Refusal). undone_alone_unless s (suc i) (dependant_in (suc i) r)) runs.live_ran
+undo_at_there R j (suc i) runs some within = grind (arith, length-map, cond-true, lt-ltb)

@@ -1,14 +1,9 @@
 -- Entries at numbers: parts of them, one more and one written over; and orders of slots, as their
 -- numbers move.
-use Rattle.std.proofs.Common.{◌≡◌, ℕ, zero, suc, ◌+◌, ◌-◌, ◌<◌, ◌≤◌, ◌==◌, nat_lt, Bool, true, false, cond, if◌then◌else◌, List, [], ◌∷◌, ◌++◌, length, get_or, take, drop, set, refl, sym, ◌∙◌, ap, subst, arith, length-append, length-drop}
-use Rattle.std.specs.List.{All, count_by}
+use Rattle.std.proofs.Common.{◌≡◌, ℕ, zero, suc, ◌+◌, ◌-◌, ◌<◌, ◌≤◌, ◌==◌, nat_lt, Bool, cond, if◌then◌else◌, List, [], ◌∷◌, ◌++◌, length, get_or, take, drop, set, refl, sym, ◌∙◌, ap, subst, arith, length-append, length-drop}
+use Rattle.rd_journal.proofs.Prelude.{All, count_by, flat_map-append, drop_more, length-take-le, take-append-drop, drop-append-le, length-set, get_or-set_same, drop_at, take_all, drop_all, drop-drop, get_or_default, sum_by-append, sum_by-cons, sum_by_push, sum_by-take-drop, get_or-le-sum_by, moved_behind, at_numbers, IsOrder}
 use Rattle.std.proofs.lemmas.Bool.Decides.{nat_tests}
-use Rattle.std.proofs.lemmas.Grind.{flat_map-append}
-use Rattle.std.proofs.lemmas.List.{drop_more, length-take-le, take-append-drop, drop-append-le, length-set, get_or-set_same, drop_at, take_all, drop_all, drop-drop, get_or_default}
 use Rattle.std.proofs.lemmas.List.Elements.{All-take, All-drop}
-use Rattle.std.proofs.lemmas.List.Sums.{sum_by-append, sum_by-cons, sum_by_push, sum_by-take-drop, get_or-le-sum_by}
-use Rattle.rd_depend.specs.Moved.{moved_behind}
-use Rattle.rd_journal.specs.Numbers.{at_numbers, IsOrder}
 use Rattle.rd_journal.proofs.ListLemmas.{nth}
 
 -- the numbers are of slots
@@ -93,8 +88,7 @@ at-push {X} es x (n ∷ ns) h =
     let here : n < length es = h zero n (omega arith) in
     let y = nth es n here in
     let first : take 1 (drop n (es ++ x ∷ [])) ≡ take 1 (drop n es) =
-    ap (λ (ys : List X). take 1 ys) (drop-append-le n es (x ∷ []) (omega arith) ∙ ap (λ (ys : List X). ys ++ x ∷ []) (drop_more es n y.0 here))
-    ∙ ap (λ (ys : List X). take 1 ys) (sym (drop_more es n y.0 here)) in
+    grind (arith, drop-append-le, drop_more) in
     (λ i. first i ++ at-push es x ns (λ j d below. h (suc j) d (omega arith)) i)
 
 -- orders
@@ -106,8 +100,7 @@ order_below slots ns o = λ k d within.
     by v (nat_lt v slots) refl (omega (arith, there, count-same v, o.once v))
   where
     by : (v : ℕ) (b : Bool) → nat_lt v slots ≡ b → 1 ≤ (if b then 1 else 0) → v < slots
-    by v true e h = grind (arith, nat_tests)
-    by v false e h = absurd (omega arith)
+    by v b e h = grind arith
 
 pub order_moved : (slots : ℕ) (ns ms : List ℕ) → IsOrder slots ns → ((test : ℕ → Bool) → count_by test ms ≡ count_by test ns) → length ms ≡ length ns
     → IsOrder slots ms
@@ -146,12 +139,7 @@ put_over {X} es ns place v x o within here =
 
 pub put_new : {X : Type 0} (es : List X) (ns : List ℕ) (place : ℕ) (x : X) → IsOrder (length es) ns → place ≡ length ns
     → at_numbers (es ++ x ∷ []) (ns ++ length es ∷ []) ≡ take place (at_numbers es ns) ++ x ∷ drop (place + 1) (at_numbers es ns)
-put_new {X} es ns place x o end =
-    let below = order_below (length es) ns o in
-    let len = at-length es ns below in
-    at-append (es ++ x ∷ []) ns (length es ∷ [])
-    ∙ (λ i. at-push es x ns below i ++ (take 1 (drop_at es (x ∷ []) (length es) refl i) ++ []))
-    ∙ (λ i. sym (take_all place (at_numbers es ns) (omega (arith, len, end))) i ++ x ∷ sym (drop_all (place + 1) (at_numbers es ns) (omega (arith, len, end))) i)
+put_new {X} es ns place x o end = grind (arith, order_below, at-length, at-append, at-push, drop_at, take_all, drop_all)
 
 -- moves
 

@@ -1,12 +1,8 @@
 -- The records of a session as one list that is cut twice: how long its parts are, and how they
 -- change.
-use Rattle.std.proofs.Common.{◌≡◌, ℕ, ◌+◌, ◌-◌, ◌<◌, ◌≤◌, List, [], ◌∷◌, ◌++◌, length, take, drop, refl, sym, ◌∙◌, ap, arith, length-append, length-drop}
-use Rattle.std.proofs.Math.Seq.{take-add}
-use Rattle.std.proofs.lemmas.List.{length-take-le, take-take, drop-take, drop-drop, take_at, drop_at, drop-append-le}
+use Rattle.std.proofs.Common.{◌≡◌, ℕ, ◌+◌, ◌-◌, ◌<◌, ◌≤◌, List, [], ◌∷◌, ◌++◌, length, take, drop, sym, ◌∙◌, ap, arith, length-append, length-drop}
+use Rattle.rd_journal.proofs.Prelude.{take-add, length-take-le, take-take, drop-take, drop-drop, take_at, drop_at, drop-append-le, moved_behind, all_records, live_records, ahead_records, kept_records, records_capacity}
 use Rattle.rd_journal.specs.declared.records.Records.{Records}
-use Rattle.rd_depend.specs.Moved.{moved_behind}
-use Rattle.rd_step.specs.declared.entries.Entry.{Entry}
-use Rattle.rd_journal.specs.Records.{all_records, live_records, ahead_records, kept_records, records_capacity}
 use Rattle.rd_journal.proofs.ListLemmas.{behind_from, drop_before}
 use Rattle.rd_journal.proofs.Numbers.{at-length, order_below}
 
@@ -20,8 +16,7 @@ pub live-length : (r : Records) → length (live_records r) ≡ r.live
 live-length r = length-take-le r.live (all_records r) (omega (arith, all-length r, r.within))
 
 pub ahead-length : (r : Records) → length (ahead_records r) ≡ r.ahead
-ahead-length r =
-    length-take-le r.ahead (drop r.live (all_records r)) (omega (arith, all-length r, r.within, length-drop r.live (all_records r)))
+ahead-length r = grind (arith, length-take-le, all-length, length-drop)
 
 pub kept-length : (r : Records) → length (kept_records r) ≡ r.live + r.ahead
 kept-length r = omega (arith, length-append (live_records r) (ahead_records r), live-length r, ahead-length r)
@@ -30,24 +25,13 @@ kept-length r = omega (arith, length-append (live_records r) (ahead_records r), 
 pub none_ahead : (r : Records) → ahead_records r ≡ [] → r.ahead ≡ 0
 none_ahead r none = omega (arith, ahead-length r, ap length none)
 
--- what is kept has room
-pub kept_fits : (r : Records) → r.live + r.ahead ≤ records_capacity r
-kept_fits r = omega (arith, r.within, r.order_of_all.all, r.room_to_gather, r.slots.ok.0, r.slots.ok.1, r.order.ok.0, r.order.ok.1)
-
 -- where there is no room for one more live record the live ones fill it, and none is ahead
 pub record IsFull (r : Records) : Type 0 where
   pub none : ahead_records r ≡ []
   pub filled : records_capacity r ≡ length (live_records r)
 
 pub full_records : (r : Records) → records_capacity r < length (live_records r) + 1 → IsFull r
-full_records r h = record {
-  none = empty (ahead_records r) (omega (arith, ahead-length r, live-length r, kept_fits r));
-  filled = omega (arith, live-length r, kept_fits r);
-}
-  where
-    empty : (xs : List Entry) → length xs ≡ 0 → xs ≡ []
-    empty [] e = refl
-    empty (x ∷ xs) e = absurd (omega arith)
+full_records r h = grind (arith, ahead-length, live-length)
 
 -- a list cut after its first m elements, and again u elements after them
 
@@ -77,11 +61,7 @@ cut_on_rest {X} l m u n enough =
 -- the k-th of the first part goes to the front of the second
 pub taken_out : {X : Type 0} (l : List X) (k m u : ℕ) → 1 ≤ k → k ≤ m → m ≤ length l
     → take (u + 1) (drop (m - 1) (moved_behind l k m)) ≡ take 1 (drop (k - 1) (take m l)) ++ take u (drop m l)
-taken_out {X} l k m u some position within =
-    let one : length (take 1 (drop (k - 1) (take m l))) ≡ 1 =
-    length-take-le 1 (drop (k - 1) (take m l)) (omega (arith, length-take-le m l within, length-drop (k - 1) (take m l))) in
-    ap (λ (ys : List X). take (u + 1) ys) (behind_from l k m some position within)
-    ∙ take_over (take 1 (drop (k - 1) (take m l))) (drop m l) 1 u one
+taken_out {X} l k m u some position within = grind (arith, length-take-le, length-drop, behind_from, take_over)
 
 -- one more is put after both parts
 pub put_last : {X : Type 0} (l new : List X) (m u : ℕ) (x : X) → m + u ≤ length l → new ≡ take (m + u) l ++ x ∷ drop (m + u + 1) l
@@ -97,9 +77,7 @@ put_last {X} l new m u x within is =
     ∙ take_over (take u (drop m l)) (x ∷ rest) u 1 short
 
 pub cut_short : {X : Type 0} (l : List X) (m n : ℕ) → m ≤ length l → take (m - n) l ≡ take (length (take m l) - n) (take m l)
-cut_short {X} l m n within =
-    let len : m - n ≡ length (take m l) - n = omega (arith, length-take-le m l within) in
-    sym (take-take (m - n) m l (omega arith)) ∙ ap (λ (k : ℕ). take k (take m l)) len
+cut_short {X} l m n within = grind (arith, length-take-le, take-take)
 
 -- the border moved, where the end stays
 pub border_moved : {X : Type 0} (l : List X) (m u n v : ℕ) → n + v ≡ m + u → take n l ++ take v (drop n l) ≡ take m l ++ take u (drop m l)
@@ -108,6 +86,4 @@ border_moved {X} l m u n v same = sym (take-add n v l) ∙ ap (λ (k : ℕ). tak
 -- the k-th of the first elements moved after them, whatever else is there
 pub moved_among : {X : Type 0} (xs ys : List X) (k : ℕ)
     → (take (k - 1) xs ++ drop k xs) ++ (take 1 (drop (k - 1) xs) ++ ys) ≡ moved_behind (xs ++ ys) k (length xs)
-moved_among {X} xs ys k =
-    (λ i. (take (k - 1) (sym (take_at xs ys (length xs) refl) i) ++ drop k (sym (take_at xs ys (length xs) refl) i))
-    ++ (take 1 (drop (k - 1) (sym (take_at xs ys (length xs) refl) i)) ++ sym (drop_at xs ys (length xs) refl) i))
+moved_among {X} xs ys k = grind (arith, take_at, drop_at)

@@ -1,20 +1,11 @@
 -- Live followed by undone is one run, and what is undone alone and redone is the last step of the
 -- same world.
-use Rattle.std.proofs.Common.{◌≡◌, ℕ, zero, suc, ◌-◌, ◌<◌, ◌≤◌, ◌==◌, nat_lt, inl, inr, refl, sym, ◌∙◌, ap, arith, List, [], ◌∷◌, ◌++◌, length, take, drop, Option, Some, None, Result, Ok, Err}
-use Rattle.std.proofs.lemmas.Bool.{cases_Bool, cond-true, cond-false, ltb-true}
-use Rattle.std.proofs.lemmas.List.{map-append, length-map}
-use Rattle.rd_step.specs.Prelude.{Refusal, NothingToRedo, NoSuchStep, first_dependant, Ran, run, step, unstep}
-use Rattle.rd_step.specs.declared.entries.Event.{Event}
-use Rattle.rd_step.specs.declared.entries.Entry.{Entry}
-use Rattle.rd_step.specs.Laws.{IsTakenOut}
-use Rattle.rd_step.proofs.Removal.{taken_out}
-use Rattle.rd_journal.specs.Journal.{Journal, events, start_of, run_entries, IsRun}
-use Rattle.rd_journal.specs.Laws.{IsMovedLast, IsOneRun}
-use Rattle.rd_journal.specs.Moves.{IsUndoneAlone}
-use Rattle.rd_journal.specs.State.{State, state_of, run_of, dependant_in, forward_one, undone_alone, undone_alone_unless, undo_at, redo}
+use Rattle.std.proofs.Common.{◌≡◌, ℕ, ◌-◌, ◌≤◌, refl, sym, ◌∙◌, ap, arith, List, [], ◌∷◌, ◌++◌, length, take, drop, None, Result, Ok, Err}
+use Rattle.rd_journal.proofs.Prelude.{cases_Bool, cond-true, cond-false, ltb-true, map-append, length-map, Refusal, first_dependant, Ran, run, step, unstep, Event, Entry, IsTakenOut, taken_out, Journal, events, start_of, IsRun, IsMovedLast, IsOneRun, IsUndoneAlone, State, state_of, run_of, dependant_in, forward_one, undone_alone, undo_at, redo}
+use Rattle.rd_journal.specs.Journal.{run_entries}
 use Rattle.rd_journal.proofs.ListLemmas.{nth}
 use Rattle.rd_journal.proofs.LoneUndo.{IsNumber, from_it, may_undo_at, undone_alone_state}
-use Rattle.rd_journal.proofs.Runs.{as_ok, as_ok-same, step_event, run_joined, grown}
+use Rattle.rd_journal.proofs.Runs.{as_ok-same, step_event, run_joined, grown}
 use Rattle.rd_journal.proofs.There.{one_journal}
 use Rattle.rd_journal.proofs.Walks.{forward_state}
 
@@ -41,36 +32,12 @@ pub record WentOut (R : ℕ) (s t : State) (n : ℕ) : Type 0 where
   pub free : dependant_in n (run_of R s) ≡ None
   pub goes : t ≡ undone_alone s n
 
-unless_none : (s t : State) (n : ℕ) (o : Option ℕ) → undone_alone_unless s n o ≡ Ok t → (o ≡ None) × (t ≡ undone_alone s n)
-unless_none s t n None h = let same : as_ok (undone_alone s n) ≡ Ok t = h in (refl, sym (as_ok-same (undone_alone s n) t same))
-unless_none s t n (Some j) h = cc
-
 went_out : (R : ℕ) (s t : State) (n : ℕ) → undo_at R s n ≡ Ok t → WentOut R s t n
-went_out R s t zero h = cc
-went_out R s t (suc i) h =
-    let some_out = undone_alone_unless s (suc i) (dependant_in (suc i) (run_of R s)) in
-    elim (cases_Bool (nat_lt i (length s.live))) [
-      | inl e ↦
-          let out : some_out ≡ Ok t = sym (cond-true (nat_lt i (length s.live)) some_out (Err (NoSuchStep (length s.live))) e) ∙ h in
-          let both = unless_none s t (suc i) (dependant_in (suc i) (run_of R s)) out in
-          let below : i < length s.live = ltb-true i (length s.live) e in
-          record { some = omega arith; within = omega arith; free = both.0; goes = both.1 }
-      | inr e ↦
-          let no : Err (NoSuchStep (length s.live)) ≡ Ok t = sym (cond-false (nat_lt i (length s.live)) some_out (Err (NoSuchStep (length s.live))) e) ∙ h in
-          cc
-    ]
+went_out h s t n k = grind (arith, cases_Bool, cond-true, ltb-true, cond-false)
 
 -- a redo that was not refused
 went_forward : (s t : State) → redo s ≡ Ok t → t ≡ forward_one s
-went_forward s t h =
-    elim (cases_Bool (length s.undone == 0)) [
-      | inl e ↦
-          let no : Err NothingToRedo ≡ Ok t = sym (cond-true (length s.undone == 0) (Err NothingToRedo) (Ok (forward_one s)) e) ∙ h in
-          cc
-      | inr e ↦
-          let same : as_ok (forward_one s) ≡ Ok t = sym (cond-false (length s.undone == 0) (Err NothingToRedo) (Ok (forward_one s)) e) ∙ h in
-          sym (as_ok-same (forward_one s) t same)
-    ]
+went_forward s t h = grind arith
 
 -- Redone last
 
@@ -117,7 +84,6 @@ redone_last R i j k n ri rk undone redone =
     record {
       world = ap (λ (l : Journal). l.world) one;
       live =
-          ap (λ (l : Journal). l.live) one
-          ∙ ap (λ (ys : List Entry). (take (n - 1) i.live ++ drop n i.live) ++ take 1 ys) (sym (from_it i.live n found.0 at));
+          grind (arith, from_it);
       undone = ap (λ (l : Journal). l.undone) one;
     }

@@ -1,22 +1,9 @@
 -- Rolling back a live step with all that depends on it, over whole journals.
-use Rattle.std.proofs.Common.{◌≡◌, ℕ, zero, suc, ◌+◌, ◌-◌, ◌<◌, ◌≤◌, ◌⊎◌, inl, inr, Bool, true, false, nat_lt, refl, sym, ◌∙◌, ap, subst, arith, List, [], ◌∷◌, ◌++◌, length, take, drop, Result, Ok, Err, length-append}
-use Rattle.std.proofs.Math.Seq.{take-append_seam, drop-append_seam}
-use Rattle.std.proofs.lemmas.Bool.{cond-true, cond-false, lt-ltb, le-ltb}
-use Rattle.std.proofs.lemmas.List.{append_assoc, map-append, take-append-drop, length-map}
-use Rattle.rd_step.specs.Prelude.{Refusal, NoSuchStep, World, Ran, run, IsWellFormed, closure, marked, unmarked, closure_of, without_closure}
-use Rattle.rd_step.specs.Dependence.{closure_from}
-use Rattle.rd_step.specs.declared.entries.Event.{Event}
-use Rattle.rd_step.specs.declared.entries.Entry.{Entry}
-use Rattle.rd_step.proofs.Inverse.{run-cons}
-use Rattle.rd_journal.specs.Journal.{Journal, events, world_before, start_of, IsRun}
-use Rattle.rd_journal.specs.Moves.{IsMovedBack, IsRolledBack, IsWithoutClosure, roll_answer}
-use Rattle.rd_journal.specs.Kept.{IsSession}
-use Rattle.rd_journal.specs.Room.{HasRoom}
-use Rattle.rd_journal.specs.State.{State, state_of, run_of, back_one, times, closure_in, undone_marked, roll}
+use Rattle.std.proofs.Common.{◌≡◌, ℕ, zero, suc, ◌+◌, ◌<◌, ◌≤◌, ◌⊎◌, Bool, true, false, refl, sym, ◌∙◌, ap, subst, arith, List, [], ◌∷◌, ◌++◌, length, take, drop, Ok, Err}
+use Rattle.rd_journal.proofs.Prelude.{cond-true, cond-false, lt-ltb, le-ltb, append_assoc, map-append, take-append-drop, length-map, NoSuchStep, World, run, closure, marked, unmarked, closure_of, without_closure, closure_from, Event, Entry, run-cons, Journal, events, world_before, start_of, IsRun, IsRolledBack, IsWithoutClosure, roll_answer, IsSession, HasRoom, State, state_of, back_one, times, undone_marked, roll, middle}
 use Rattle.rd_journal.proofs.Calls.{back_start}
 use Rattle.rd_journal.proofs.Gathering.{cut_at, gathered_run}
 use Rattle.rd_journal.proofs.ListLemmas.{nth, drop_one_less}
-use Rattle.rd_step.proofs.RunParts.{middle}
 use Rattle.rd_journal.proofs.Runs.{run_joined, goes_back}
 
 -- The closure gathered last
@@ -61,11 +48,7 @@ reordered_at R j i low runs =
     let back : world_before j.world zs ≡ s = goes_back R s j.world zs runs.well_formed ran in
     record {
       start = back;
-      runs = record {
-        well_formed = subst (λ (u : World). IsWellFormed R u) (sym back) runs.well_formed;
-        live_ran = ap (λ (u : World). run R u (events zs)) back ∙ ran;
-        undone_run_on = runs.undone_run_on;
-      };
+      runs = grind arith;
     }
 
 pub reordered : (R : ℕ) (j : Journal) (k : ℕ) → 1 ≤ k → k ≤ length j.live → IsRun R j → IsReordered R j k
@@ -94,23 +77,6 @@ gathered_session R k old new room session some within g =
       has_room = subst (λ (ys : List Entry). HasRoom ys room) (sym g.undone) session.has_room;
     }
 
--- undoing as many steps as are in the closure is the rollback
-pub rolled_back : (k n : ℕ) (old mid new : Journal) → n ≡ length (closure_of old.live k) → IsGatheredLast k old mid → IsMovedBack n mid new
-    → IsRolledBack k old new
-rolled_back k n old mid new count gathered moved =
-    let xs = without_closure old.live k in
-    let ys = closure_of old.live k in
-    let cut : length (xs ++ ys) - n ≡ length xs = omega (arith, count, length-append xs ys) in
-    record {
-      live =
-          moved.live ∙ ap (λ (l : List Entry). take (length l - n) l) gathered.live ∙ ap (λ (m : ℕ). take m (xs ++ ys)) cut
-          ∙ take-append_seam xs ys;
-      undone =
-          moved.undone ∙ (λ i. drop (length (gathered.live i) - n) (gathered.live i) ++ gathered.undone i)
-          ∙ ap (λ (m : ℕ). drop m (xs ++ ys) ++ old.undone) cut
-          ∙ ap (λ (zs : List Entry). zs ++ old.undone) (drop-append_seam xs ys);
-    }
-
 pub rolled_start : (R k n : ℕ) (old mid new : Journal) → IsRun R old → 1 ≤ k → k ≤ length old.live → IsGatheredLast k old mid
     → state_of new ≡ times n back_one (state_of mid) → start_of new ≡ start_of old
 rolled_start R k n old mid new runs some within g state =
@@ -132,48 +98,22 @@ unmarked-map (true ∷ bs) (x ∷ xs) = unmarked-map bs xs
 unmarked-map (false ∷ bs) (x ∷ xs) = ap (λ (es : List Event). x.event ∷ es) (unmarked-map bs xs)
 
 pub rolled_state : (k : ℕ) (old new : Journal) → IsRolledBack k old new → start_of new ≡ start_of old → state_of new ≡ undone_marked (state_of old) (closure old.live k)
-rolled_state k old new is start =
-    let ms = closure old.live k in
-    let live : events new.live ≡ unmarked ms (events old.live) = ap events is.live ∙ sym (unmarked-map ms old.live) in
-    let undone : events new.undone ≡ marked ms (events old.live) ++ events old.undone =
-    ap events is.undone ∙ map-append (λ (x : Entry). x.event) (marked ms old.live) old.undone
-    ∙ ap (λ (es : List Event). es ++ events old.undone) (sym (marked-map ms old.live)) in
-    λ i. record { start = start i; live = live i; undone = undone i }
+rolled_state k old new is start = grind (arith, unmarked-map, map-append, marked-map)
 
 pub rolled_run : (R k : ℕ) (old new : Journal) → IsRolledBack k old new → start_of new ≡ start_of old → IsRun R new → IsWithoutClosure R k old new
-rolled_run R k old new is start runs =
-    let live : unmarked (closure old.live k) (events old.live) ≡ events new.live = unmarked-map (closure old.live k) old.live ∙ ap events (sym is.live) in
-    (λ i. run R (sym start i) (live i)) ∙ runs.live_ran
+rolled_run h k old new is start runs = grind (arith, unmarked-map)
 
 -- The answers
 
 pub roll_answer_missing : (j : Journal) (k n : ℕ) → n ≡ length j.live → (k ≡ 0) ⊎ (n < k) → Err (NoSuchStep n) ≡ roll_answer j k
-roll_answer_missing j zero n len _ = ap (λ (m : ℕ). Err (NoSuchStep m)) len
-roll_answer_missing j (suc i) n len (inl e) = absurd (omega arith)
-roll_answer_missing j (suc i) n len (inr past) =
-    let out : nat_lt i (length j.live) ≡ false = le-ltb i (length j.live) (omega arith) in
-    ap (λ (m : ℕ). Err (NoSuchStep m)) len ∙ sym (cond-false (nat_lt i (length j.live)) (Ok tt) (Err (NoSuchStep (length j.live))) out)
+roll_answer_missing j k n len h = grind arith
 
 pub roll_answer_there : (j : Journal) (k : ℕ) → 1 ≤ k → k ≤ length j.live → Ok tt ≡ roll_answer j k
-roll_answer_there j zero some within = absurd (omega arith)
-roll_answer_there j (suc i) some within =
-    sym (cond-true (nat_lt i (length j.live)) (Ok tt) (Err (NoSuchStep (length j.live))) (lt-ltb i (length j.live) (omega arith)))
+roll_answer_there j k some within = grind arith
 
 pub roll_missing : (R : ℕ) (j : Journal) (k n : ℕ) → n ≡ length j.live → (k ≡ 0) ⊎ (n < k) → roll R (state_of j) k ≡ Err (NoSuchStep n)
-roll_missing R j zero n len _ = ap (λ (m : ℕ). Err (NoSuchStep m)) (length-map j.live (λ (x : Entry). x.event) ∙ sym len)
-roll_missing R j (suc i) n len (inl e) = absurd (omega arith)
-roll_missing R j (suc i) n len (inr past) =
-    let s = state_of j in
-    let same : length s.live ≡ n = length-map j.live (λ (x : Entry). x.event) ∙ sym len in
-    let out : nat_lt i (length s.live) ≡ false = le-ltb i (length s.live) (omega arith) in
-    cond-false (nat_lt i (length s.live)) (Ok (undone_marked s (closure_in (suc i) (run_of R s)))) (Err (NoSuchStep (length s.live))) out
-    ∙ ap (λ (m : ℕ). Err (NoSuchStep m)) same
+roll_missing h j k n len l = grind (arith, length-map, le-ltb, cond-false)
 
 pub roll_there : (R : ℕ) (j : Journal) (k : ℕ) → IsRun R j → 1 ≤ k → k ≤ length j.live → roll R (state_of j) k ≡ Ok (undone_marked (state_of j) (closure j.live k))
 roll_there R j zero runs some within = absurd (omega arith)
-roll_there R j (suc i) runs some within =
-    let s = state_of j in
-    let len : length s.live ≡ length j.live = length-map j.live (λ (x : Entry). x.event) in
-    cond-true (nat_lt i (length s.live)) (Ok (undone_marked s (closure_in (suc i) (run_of R s)))) (Err (NoSuchStep (length s.live)))
-    (lt-ltb i (length s.live) (omega arith))
-    ∙ ap (λ (r : Result Ran Refusal). Ok (undone_marked s (closure_in (suc i) r))) runs.live_ran
+roll_there R j (suc i) runs some within = grind (arith, length-map, cond-true, lt-ltb)

@@ -1,37 +1,18 @@
 -- Redoing all that a rollback undid.
-use Rattle.std.proofs.Common.{◌≡◌, ℕ, zero, suc, ◌<◌, ◌≤◌, nat_lt, inl, inr, sym, ◌∙◌, ap, arith, List, [], ◌∷◌, ◌++◌, length, Result, Ok, Err}
-use Rattle.std.proofs.lemmas.Bool.{cases_Bool, cond-true, cond-false, ltb-true}
-use Rattle.std.proofs.lemmas.List.{append-nil, append_assoc, map-append, length-map}
-use Rattle.rd_step.specs.Prelude.{Refusal, NothingToRedo, NoSuchStep, World, Ran, closure, closure_of, without_closure}
-use Rattle.rd_step.specs.declared.entries.Event.{Event}
-use Rattle.rd_step.specs.declared.entries.Entry.{Entry}
-use Rattle.rd_journal.specs.Journal.{Journal, events, start_of, IsRun}
-use Rattle.rd_journal.specs.Laws.{IsClosureLast}
-use Rattle.rd_journal.specs.State.{State, state_of, run_of, forward_one, times, forward, closure_in, undone_marked, roll}
+use Rattle.std.proofs.Common.{◌≡◌, ℕ, ◌≤◌, sym, ◌∙◌, ap, arith, List, [], ◌∷◌, ◌++◌, length, Ok}
+use Rattle.rd_journal.proofs.Prelude.{append-nil, append_assoc, map-append, length-map, World, closure, closure_of, without_closure, Event, Entry, Journal, events, start_of, IsRun, IsClosureLast, State, state_of, run_of, forward_one, times, forward, closure_in, undone_marked, roll}
 use Rattle.rd_journal.proofs.RolledBack.{closure_last, reordered, marked-map, unmarked-map}
-use Rattle.rd_journal.proofs.Runs.{as_ok, as_ok-same}
 use Rattle.rd_journal.proofs.There.{times_first, one_journal}
 
 -- redoing this many steps puts them last
 forward_all : (w : World) (xs ys zs : List Event)
     → times (length ys) forward_one (record { start = w; live = xs; undone = ys ++ zs }) ≡ record { start = w; live = xs ++ ys; undone = zs }
 forward_all w xs [] zs = λ i. record { start = w; live = sym (append-nil xs) i; undone = zs }
-forward_all w xs (y ∷ ys) zs =
-    times_first (length ys) forward_one (record { start = w; live = xs; undone = y ∷ (ys ++ zs) })
-    ∙ forward_all w (xs ++ y ∷ []) ys zs ∙ (λ i. record { start = w; live = append_assoc xs (y ∷ []) ys i; undone = zs })
+forward_all w xs (y ∷ ys) zs = grind (arith, times_first, append_assoc, forward_all w (xs ++ y ∷ []) ys zs)
 
 -- a forward that was not refused
 went_on : (s t : State) (n : ℕ) → forward s n ≡ Ok t → t ≡ times n forward_one s
-went_on s t n h =
-    elim (cases_Bool (nat_lt (length s.undone) n)) [
-      | inl e ↦
-          let no : Err NothingToRedo ≡ Ok t = sym (cond-true (nat_lt (length s.undone) n) (Err NothingToRedo) (Ok (times n forward_one s)) e) ∙ h in
-          cc
-      | inr e ↦
-          let same : as_ok (times n forward_one s) ≡ Ok t =
-          sym (cond-false (nat_lt (length s.undone) n) (Err NothingToRedo) (Ok (times n forward_one s)) e) ∙ h in
-          sym (as_ok-same (times n forward_one s) t same)
-    ]
+went_on s t n h = grind arith
 
 -- a rollback that was not refused
 record Rolled (R : ℕ) (s t : State) (n : ℕ) : Type 0 where
@@ -40,18 +21,7 @@ record Rolled (R : ℕ) (s t : State) (n : ℕ) : Type 0 where
   goes : t ≡ undone_marked s (closure_in n (run_of R s))
 
 rolled : (R : ℕ) (s t : State) (n : ℕ) → roll R s n ≡ Ok t → Rolled R s t n
-rolled R s t zero h = cc
-rolled R s t (suc i) h =
-    let out = undone_marked s (closure_in (suc i) (run_of R s)) in
-    elim (cases_Bool (nat_lt i (length s.live))) [
-      | inl e ↦
-          let same : as_ok out ≡ Ok t = sym (cond-true (nat_lt i (length s.live)) (Ok out) (Err (NoSuchStep (length s.live))) e) ∙ h in
-          let below : i < length s.live = ltb-true i (length s.live) e in
-          record { some = omega arith; within = omega arith; goes = sym (as_ok-same out t same) }
-      | inr e ↦
-          let no : Err (NoSuchStep (length s.live)) ≡ Ok t = sym (cond-false (nat_lt i (length s.live)) (Ok out) (Err (NoSuchStep (length s.live))) e) ∙ h in
-          cc
-    ]
+rolled h s t n k = grind arith
 
 pub closure_redone : (R : ℕ) (i j k : Journal) (n : ℕ) → IsRun R i → IsRun R k → roll R (state_of i) n ≡ Ok (state_of j)
     → forward (state_of j) (length (closure_of i.live n)) ≡ Ok (state_of k) → IsClosureLast n i k
@@ -64,8 +34,7 @@ closure_redone R i j k n ri rk back on =
     let xs = without_closure i.live n in
     let ys = closure_of i.live n in
     let left : state_of j ≡ record { start = start_of i; live = events xs; undone = events ys ++ events i.undone } =
-    went.goes ∙ ap (λ (r : Result Ran Refusal). undone_marked (state_of i) (closure_in n r)) ri.live_ran
-    ∙ (λ t. record { start = start_of i; live = unmarked-map ms i.live t; undone = marked-map ms i.live t ++ events i.undone }) in
+    grind (arith, unmarked-map, marked-map) in
     let many : length ys ≡ length (events ys) = sym (length-map ys its) in
     let there : state_of k ≡ record { start = start_of i; live = events xs ++ events ys; undone = events i.undone } =
     went_on (state_of j) (state_of k) (length ys) on ∙ (λ t. times (many t) forward_one (left t)) ∙ forward_all (start_of i) (events xs) (events ys) (events i.undone) in

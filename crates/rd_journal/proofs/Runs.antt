@@ -1,18 +1,9 @@
 -- Runs and their records: two runs joined, the last step of a run, and a journal that gains or
 -- loses a step.
-use Rattle.std.proofs.Common.{◌≡◌, ℕ, refl, sym, ◌∙◌, ap, subst, List, [], ◌∷◌, ◌++◌, Result, Ok, Err}
-use Rattle.std.proofs.lemmas.List.{append-nil, map-append}
-use Rattle.rd_step.specs.Prelude.{Refusal, World, Stepped, step, unstep, Ran, run, IsFree, IsWellFormed}
-use Rattle.rd_step.specs.declared.entries.Event.{Event}
-use Rattle.rd_step.specs.declared.entries.Entry.{Entry}
-use Rattle.rd_step.specs.Run.{run_preceded_by, run_from_step}
-use Rattle.rd_step.specs.Laws.{WasStepped, IsTakenOut}
-use Rattle.rd_step.proofs.Steps.{took}
-use Rattle.rd_step.proofs.Inverse.{undoes, ran_on, run-cons}
+use Rattle.std.proofs.Common.{◌≡◌, ℕ, refl, sym, ◌∙◌, ap, subst, List, [], ◌∷◌, ◌++◌, Result, Ok, arith}
+use Rattle.rd_journal.proofs.Prelude.{append-nil, map-append, Refusal, World, Stepped, step, unstep, Ran, run, IsFree, IsWellFormed, Event, Entry, run_preceded_by, WasStepped, IsTakenOut, took, undoes, ran_on, run-cons, run_keeps, taken_out, beginning, Middle, middle, Journal, events, world_before, start_of, IsRun}
 use Rattle.rd_step.proofs.Keeps.{keeps}
-use Rattle.rd_step.proofs.Removal.{run_keeps, taken_out}
-use Rattle.rd_step.proofs.RunParts.{beginning, Middle, middle}
-use Rattle.rd_journal.specs.Journal.{Journal, events, world_before, start_of, run_entries, IsRun}
+use Rattle.rd_journal.specs.Journal.{run_entries}
 
 -- an answer that is no refusal
 abbrev pub as_ok : {X : Type 0} → X → Result X Refusal
@@ -29,9 +20,7 @@ step_event R w e s h = let t = took R w e s h in ap (λ (x : Stepped). x.entry.e
 -- a run and one that goes on from its last world are one run
 pub run_joined : (R : ℕ) (s : World) (es fs : List Event) (r q : Ran) → run R s es ≡ Ok r → run R r.world fs ≡ Ok q
     → run R s (es ++ fs) ≡ Ok (record { world = q.world; entries = r.entries ++ q.entries })
-run_joined R s [] fs r q h k =
-    let p : record { world = s; entries = [] } ≡ r = cc in
-    subst (λ (x : Ran). run R x.world fs ≡ Ok q → run R s fs ≡ Ok (record { world = q.world; entries = x.entries ++ q.entries })) p (λ l. l) k
+run_joined R s [] fs r q h k = grind arith
 run_joined R s (e ∷ es) fs r q h k =
     let ran = ran_on R s e es r h in
     let goes : run R ran.rest.world fs ≡ Ok q = ap (λ (x : Ran). run R x.world fs) ran.joins ∙ k in
@@ -43,9 +32,7 @@ run_joined R s (e ∷ es) fs r q h k =
 -- began in
 pub goes_back : (R : ℕ) (s w : World) (xs : List Entry) → IsWellFormed R s → run R s (events xs) ≡ Ok (record { world = w; entries = xs })
     → world_before w xs ≡ s
-goes_back R s w [] formed h =
-    let last : as_ok (record { world = s; entries = [] }) ≡ Ok (record { world = w; entries = [] }) = h in
-    sym (ap (λ (y : Ran). y.world) (as_ok-same (record { world = s; entries = [] }) (record { world = w; entries = [] }) last))
+goes_back R s w [] formed h = grind (arith, as_ok-same)
 goes_back R s w (x ∷ xs) formed h =
     let first = beginning R s x xs w h in
     let one : Stepped = record { world = first.after; entry = x } in
@@ -91,8 +78,7 @@ grown R w v xs zs ys x e runs h rest =
 
 -- records that run on from a step's world run on, after the step's record, from the world before it
 pub preceded_entries : (x : Entry) (r : Result Ran Refusal) (ys : List Entry) → run_entries r ≡ Ok ys → run_entries (run_preceded_by x r) ≡ Ok (x ∷ ys)
-preceded_entries x (Err refusal) ys h = cc
-preceded_entries x (Ok r) ys h = let e : r.entries ≡ ys = cc in ap (λ (zs : List Entry). Ok (x ∷ zs)) e
+preceded_entries x r ys h = grind arith
 
 -- where a live step on which no later one depends is taken out of a run, what is left is a run of
 -- the same start, with the step's record in front of the undone ones
@@ -139,8 +125,7 @@ may_take_out R w xs ys zs x runs free = record { was = was; start = start; runs 
       well_formed = subst (λ (u : World). IsWellFormed R u) (sym (start v out)) runs.well_formed;
       live_ran = ap (λ (u : World). run R u (events (xs ++ ys))) (start v out) ∙ others v out;
       undone_run_on =
-          ap (λ (r : Result Stepped Refusal). run_entries (run_from_step (λ u. run R u (events zs)) r)) out.again
-          ∙ preceded_entries x (run R w (events zs)) zs runs.undone_run_on;
+          grind (arith, preceded_entries);
     }
 
 -- the last live step of a journal may be undone, and the journal that is left, with its record in

@@ -1,30 +1,13 @@
 -- Records of a run put after the first live ones, and the room that their makings ask for.
+use Rattle.rd_journal.proofs.Prelude.{common_steps, take-suc, cases_Bool, cases_eq, cond-true, cond-false, map-append, take-map, length-take, length-take-le, get_or-set_same, get_or-set_other, SegName, Place, Content, after, World, Stepped, step, run, MOST_STEPS, Event, Entry, makes_segment, room_used, room_returned, took, with_actor-other, room_used_returned, Journal, events, world_before, start_of, IsRunFrom, LeadsTo, IsSwitched, IsSession, room_returned_by, room_without, HasRoom, HasRoomForAll, State, state_of, forward_one, times, switch, run_stays_actor, beginning, first_step}
 use Rattle.std.proofs.Common.{◌≡◌, ◌≢◌, ℕ, zero, suc, ◌+◌, ◌-◌, ◌<◌, ◌≤◌, ◌==◌, Bool, true, false, refl, sym, ◌∙◌, ap, subst, arith, inl, inr, List, [], ◌∷◌, ◌++◌, length, take, set, get_or, if◌then◌else◌, Option, Some, None, is_some, IsSome, Ok, eq-eqb, ne_eqb, length-append}
-use Rattle.std.proofs.Math.Seq.{take-suc}
-use Rattle.std.proofs.lemmas.Bool.{cases_Bool, cases_eq, cond-true, cond-false}
-use Rattle.std.proofs.lemmas.List.{map-append, take-map, length-take, length-take-le, get_or-set_same, get_or-set_other}
-use Rattle.rd_step.specs.Prelude.{SegName, Place, WholeOf, Content, after, World, Stepped, step, Ran, run, IsWellFormed, MOST_STEPS}
-use Rattle.rd_step.specs.declared.entries.Event.{Event}
-use Rattle.rd_step.specs.declared.entries.Entry.{Entry}
-use Rattle.rd_step.specs.Room.{makes_segment, room_used, room_returned}
 use Rattle.rd_step.specs.Touched.{made, made_at}
-use Rattle.rd_step.proofs.Steps.{took, with_actor-other}
-use Rattle.rd_step.proofs.Room.{room_used_returned}
-use Rattle.rd_journal.specs.Journal.{Journal, events, world_before, start_of, IsRunFrom, LeadsTo}
-use Rattle.rd_journal.specs.Moves.{IsSwitched}
-use Rattle.rd_journal.specs.Kept.{IsSession}
-use Rattle.rd_journal.specs.Room.{room_returned_by, room_without, HasRoom, HasRoomForAll}
-use Rattle.rd_journal.specs.State.{State, state_of, forward_one, times, switch}
-use Rattle.rd_step.proofs.Removal.{run_stays_actor}
-use Rattle.rd_step.proofs.RunParts.{beginning, first_step}
 use Rattle.rd_journal.proofs.Runs.{as_ok-same, run_joined, goes_back}
 
 -- Counting makings
 
 pub returned_once : (p : Option Place) (c : Option Content) (m : ℕ) → room_returned p c m ≤ 1
-returned_once p (Some c) m = omega arith
-returned_once None None m = omega arith
-returned_once (Some p) None m = grind arith
+returned_once p c m = grind arith
 
 pub returned_few : (xs : List Entry) (m : ℕ) → room_returned_by xs m ≤ length xs
 returned_few [] m = omega arith
@@ -36,10 +19,7 @@ returned_joined (x ∷ xs) ys m = omega (arith, returned_joined xs ys m)
 
 -- a record that is no making gives no room back
 none_returned : (p : Option Place) (c : Option Content) (m : ℕ) → made_at p c ≡ None → room_returned p c m ≡ 0
-none_returned p (Some c) m h = refl
-none_returned None None m h = refl
-none_returned (Some (WholeOf s)) None m h = cc
-none_returned (Some p) None m h = grind (arith, h)
+none_returned p c m h = grind arith
 
 -- and a making that of one segment to its maker
 returned_made : (p : Option Place) (c : Option Content) (m : ℕ) (s : SegName) → made_at p c ≡ Some s → room_returned p c m ≡ (if m == s.maker then 1 else 0)
@@ -48,34 +28,20 @@ returned_made p c m s h = grind (arith, h)
 -- the makings among one more record
 returned_next : (xs : List Entry) (i m count more next : ℕ) (d : Entry) → i < length xs → count ≡ room_returned_by (take i xs) m
     → more ≡ room_returned (get_or xs i d).place (get_or xs i d).old_content m → next ≡ count + more → next ≡ room_returned_by (take (i + 1) xs) m
-returned_next xs i m count more next d h counted one is =
-    let x = get_or xs i d in
-    let after : i + 1 ≡ suc i = omega arith in
-    let all : take (i + 1) xs ≡ take i xs ++ x ∷ [] = ap (λ (n : ℕ). take n xs) after ∙ take-suc xs i d h in
-    let sum : room_returned_by (take (i + 1) xs) m ≡ room_returned_by (take i xs ++ x ∷ []) m = ap (λ (ys : List Entry). room_returned_by ys m) all in
-    let two : room_returned_by (take i xs ++ x ∷ []) m ≡ room_returned_by (take i xs) m + (room_returned x.place x.old_content m + 0) = returned_joined (take i xs) (x ∷ []) m in
-    omega arith
+returned_next xs i m count more next d h counted one is = grind (arith, common_steps, take-suc, returned_joined)
 
 -- Who makes
 
 -- a step brings no actor, and its own is there
 not_its_actor : (R : ℕ) (w : World) (e : Event) (s : Stepped) (m : ℕ) → step R w e ≡ Ok s → is_some (w.actor m) ≡ false → m ≢ e.actor
-not_its_actor R w e s m h none same =
-    let t = took R w e s h in
-    let there : is_some (w.actor m) ≡ true = ap (λ (n : ℕ). is_some (w.actor n)) same ∙ ap is_some t.has in
-    cc
+not_its_actor h w e s m k none same = grind arith
 
 brings_no_actor : (R : ℕ) (w : World) (e : Event) (s : Stepped) (m : ℕ) → step R w e ≡ Ok s → is_some (w.actor m) ≡ false
     → is_some (s.world.actor m) ≡ false
-brings_no_actor R w e s m h none =
-    let t = took R w e s h in
-    let next = after R t.a e.act t.did.answer in
-    subst (λ (x : Stepped). is_some (x.world.actor m) ≡ false) t.ends
-    (ap is_some (with_actor-other e.actor next.0 w.actor m (not_its_actor R w e s m h none)) ∙ none)
+brings_no_actor h w e s m k none = grind (arith, took, with_actor-other, not_its_actor)
 
 used_by_other : (made : Bool) (n m : ℕ) → m ≢ n → room_used made n m ≡ 0
-used_by_other true n m ne = cond-false (m == n) 1 0 (ne_eqb m n ne)
-used_by_other false n m ne = refl
+used_by_other made n m ne = grind arith
 
 -- who is no actor makes nothing
 none_made : (R : ℕ) (w : World) (xs : List Entry) (m : ℕ) → IsRunFrom R w xs → is_some (w.actor m) ≡ false → room_returned_by xs m ≡ 0
@@ -93,10 +59,7 @@ none_made R w (x ∷ xs) m h none =
 -- where the first records' run is known, the others run on from its world
 pub runs_on : (R : ℕ) (s w : World) (xs ys : List Entry) → run R s (events xs) ≡ Ok (record { world = w; entries = xs }) → IsRunFrom R s (xs ++ ys)
     → IsRunFrom R w ys
-runs_on R s w [] ys h k =
-    let same : record { world = s; entries = [] } ≡ record { world = w; entries = [] } =
-    as_ok-same (record { world = s; entries = [] }) (record { world = w; entries = [] }) h in
-    subst (λ (v : World). IsRunFrom R v ys) (ap (λ (r : Ran). r.world) same) k
+runs_on R s w [] ys h k = grind (arith, as_ok-same)
 runs_on R s w (x ∷ xs) ys h k =
     let first = first_step R s x (xs ++ ys) k in
     let known = beginning R s x xs w h in
@@ -137,15 +100,7 @@ exchanged R n old new given w room within few leads goes is =
     let whole : new ≡ record { world = new.world; live = l; undone = [] } = λ i. record { world = new.world; live = is.live i; undone = is.undone i } in
     let back : world_before new.world l ≡ s = goes_back R s new.world l leads.well_formed all in
     record {
-      session = subst (λ (j : Journal). IsSession R j room) (sym whole) (record {
-        few = omega (arith, length-append (take n old.live) given, length-take-le n old.live within, few);
-        runs = record {
-          well_formed = subst (λ (u : World). IsWellFormed R u) (sym back) leads.well_formed;
-          live_ran = ap (λ (u : World). run R u (events l)) back ∙ all;
-          undone_run_on = refl;
-        };
-        has_room = record { at = λ m. omega arith };
-      });
+      session = grind (arith, length-append, length-take-le);
       start = ap (λ (xs : List Entry). world_before new.world xs) is.live ∙ back;
     }
 
@@ -161,23 +116,13 @@ forward_start (suc n) s = forward_start n s
 
 pub switched_state : (given : List Entry) (kept : ℕ) (old new : Journal) → start_of new ≡ start_of old → IsSwitched kept given old new
     → state_of new ≡ switch (state_of old) kept (events given)
-switched_state given kept old new start is =
-    let its = λ (x : Entry). x.event in
-    let live : events new.live ≡ take kept (events old.live) ++ events given =
-    ap events is.live ∙ map-append its (take kept old.live) given ∙ ap (λ (es : List Event). es ++ events given) (sym (take-map its kept old.live)) in
-    λ i. record { start = start i; live = live i; undone = events (is.undone i) }
+switched_state given kept old new start is = grind (arith, map-append, take-map)
 
 -- room that was made for one actor after the other
 pub room_for_one_more : (xs : List Entry) (number : ℕ) (before after : ℕ → ℕ) → ((n : ℕ) → n < number → room_returned_by xs (suc n) ≤ before (suc n))
     → ((m : ℕ) → before m ≤ after m) → room_returned_by xs (number + 1) ≤ after (number + 1)
     → (n : ℕ) → n < number + 1 → room_returned_by xs (suc n) ≤ after (suc n)
-room_for_one_more xs number before after had more one n h =
-    elim (cases_eq n number) [
-      | inl e ↦
-          let same : number + 1 ≡ suc n = omega arith in
-          subst (λ (m : ℕ). room_returned_by xs m ≤ after m) same one
-      | inr ne ↦ let a = had n (omega arith) in let b = more (suc n) in omega arith
-    ]
+room_for_one_more xs number before after had more one n h = grind arith
 
 pub room_for_actors : (w v : World) (xs : List Entry) (number : ℕ) (room : ℕ → ℕ) → v ≡ w
     → ((n : ℕ) → n < number → room_returned_by xs (suc n) ≤ room (suc n))

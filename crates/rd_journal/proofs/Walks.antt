@@ -1,16 +1,7 @@
 -- Undoing a journal's last live steps and redoing its first undone ones, and how the state changes.
 use Rattle.std.proofs.Common.{◌≡◌, ℕ, zero, suc, ◌+◌, ◌-◌, ◌≤◌, sym, ◌∙◌, ap, subst, List, [], ◌∷◌, ◌++◌, length, take, drop, Ok, arith, length-append}
-use Rattle.std.proofs.Math.Seq.{take-length, drop-length, take-add}
-use Rattle.std.proofs.lemmas.List.{append-nil, append_assoc, map-append, length-map, take-map, drop-map, take-append-drop, take-take, length-take-le, drop-append-le, drop-drop}
-use Rattle.rd_step.specs.Prelude.{World, step, run, IsWellFormed}
-use Rattle.rd_step.specs.declared.entries.Event.{Event}
-use Rattle.rd_step.specs.declared.entries.Entry.{Entry}
-use Rattle.rd_step.proofs.RunParts.{runs_to}
-use Rattle.rd_journal.specs.Journal.{Journal, events, world_before, start_of, run_entries, IsRun, IsRunFrom, LeadsTo}
-use Rattle.rd_journal.specs.Kept.{IsSession}
-use Rattle.rd_journal.specs.Moves.{IsMovedBack, IsMovedForward}
-use Rattle.rd_journal.specs.Room.{room_returned_by, HasRoom}
-use Rattle.rd_journal.specs.State.{State, state_of, back_one, forward_one, times}
+use Rattle.rd_journal.proofs.Prelude.{take-length, drop-length, take-add, append-nil, append_assoc, map-append, length-map, take-map, drop-map, take-append-drop, take-take, length-take-le, drop-append-le, drop-drop, World, step, run, IsWellFormed, Event, Entry, runs_to, Journal, events, world_before, start_of, IsRun, IsRunFrom, LeadsTo, IsSession, IsMovedBack, IsMovedForward, room_returned_by, HasRoom, State, state_of, back_one, forward_one, times}
+use Rattle.rd_journal.specs.Journal.{run_entries}
 use Rattle.rd_journal.proofs.Runs.{run_joined, goes_back, start_stays, now_formed}
 use Rattle.rd_journal.proofs.Switching.{returned_joined, runs_on}
 
@@ -27,9 +18,7 @@ whole_run R j runs =
 -- the start stays where the first steps lead from it to the world
 pub led_back : (R n : ℕ) (old new : Journal) → LeadsTo R (start_of old) new.world (take (length old.live - n) old.live) → IsMovedBack n old new
     → start_of new ≡ start_of old
-led_back R n old new leads moved =
-    ap (λ (xs : List Entry). world_before new.world xs) moved.live
-    ∙ goes_back R (start_of old) new.world (take (length old.live - n) old.live) leads.well_formed leads.ran
+led_back h n old new leads moved = grind (arith, goes_back)
 
 -- n steps back, where the others lead from the start to the world
 pub moved_back : (R n : ℕ) (old new : Journal) (before after : ℕ → ℕ) → n ≤ length old.live → IsSession R old before
@@ -131,17 +120,7 @@ times_back (suc n) s within =
 
 pub state_back : (n : ℕ) (old new : Journal) → n ≤ length old.live → start_of new ≡ start_of old → IsMovedBack n old new
     → state_of new ≡ times n back_one (state_of old)
-state_back n old new within start moved =
-    let its = λ (x : Entry). x.event in
-    let k = length old.live - n in
-    let len : k ≡ length (events old.live) - n = omega (arith, length-map old.live its) in
-    let live : events new.live ≡ take (length (events old.live) - n) (events old.live) =
-    ap events moved.live ∙ sym (take-map its k old.live) ∙ ap (λ (m : ℕ). take m (events old.live)) len in
-    let undone : events new.undone ≡ drop (length (events old.live) - n) (events old.live) ++ events old.undone =
-    ap events moved.undone ∙ map-append its (drop k old.live) old.undone
-    ∙ ap (λ (es : List Event). es ++ events old.undone) (sym (drop-map its k old.live) ∙ ap (λ (m : ℕ). drop m (events old.live)) len) in
-    (λ i. record { start = start i; live = live i; undone = undone i })
-    ∙ sym (times_back n (state_of old) (omega (arith, within, length-map old.live its)))
+state_back n old new within start moved = grind (arith, length-map, take-map, map-append, drop-map, times_back)
 
 times_forward : (n : ℕ) (s : State) → times n forward_one s ≡ record { start = s.start; live = s.live ++ take n s.undone; undone = drop n s.undone }
 times_forward zero s = λ i. record { start = s.start; live = sym (append-nil s.live) i; undone = s.undone }
@@ -157,13 +136,7 @@ times_forward (suc n) s =
     })
 
 pub state_forward : (n : ℕ) (old new : Journal) → start_of new ≡ start_of old → IsMovedForward n old new → state_of new ≡ times n forward_one (state_of old)
-state_forward n old new start moved =
-    let its = λ (x : Entry). x.event in
-    let live : events new.live ≡ events old.live ++ take n (events old.undone) =
-    ap events moved.live ∙ map-append its old.live (take n old.undone)
-    ∙ ap (λ (es : List Event). events old.live ++ es) (sym (take-map its n old.undone)) in
-    (λ i. record { start = start i; live = live i; undone = (ap events moved.undone ∙ sym (drop-map its n old.undone)) i })
-    ∙ sym (times_forward n (state_of old))
+state_forward n old new start moved = grind (arith, map-append, take-map, drop-map, times_forward)
 
 -- the state of a journal whose first undone record became the last live one
 pub forward_state : (R : ℕ) (w v : World) (xs ys : List Entry) (x : Entry) → IsRun R (record { world = w; live = xs; undone = x ∷ ys })

@@ -1,14 +1,8 @@
 -- The old words of a record are the words from before its step.
 use Rattle.std.proofs.Common.{◌≡◌, ℕ, sym, ◌∙◌, ap, subst, List, ◌∷◌, ◌++◌, length, take, drop, get_or, Ok, ◌+◌, ◌<◌}
-use Rattle.std.proofs.lemmas.List.{take-map, take-append-drop}
-use Rattle.rd_step.specs.Prelude.{run, IsWellFormed}
-use Rattle.rd_step.specs.declared.entries.Entry.{Entry}
+use Rattle.rd_journal.proofs.Prelude.{take-map, take-append-drop, run, IsWellFormed, Entry, run_keeps, Journal, events, start_of, IsRun, IsStepAfter, middle}
 use Rattle.rd_step.proofs.OldWords.{keeps_old_words}
-use Rattle.rd_step.proofs.Removal.{run_keeps}
-use Rattle.rd_journal.specs.Journal.{Journal, events, start_of, IsRun}
-use Rattle.rd_journal.specs.Laws.{IsStepAfter}
 use Rattle.rd_journal.proofs.ListLemmas.{drop_one_less}
-use Rattle.rd_step.proofs.RunParts.{middle}
 
 -- the record at a position among the live ones
 pub step_after : (R : ℕ) (j : Journal) (k : ℕ) (x : Entry) → IsRun R j → k < length j.live → x ≡ get_or j.live k x → IsStepAfter R k j x

@@ -1,6 +1,5 @@
 use Rattle.std.proofs.Common.{◌≤◌, length, take, drop}
-use Rattle.rd_depend.specs.Index.{IsIndexOf, HasRoomFor}
-use Rattle.rd_journal.specs.Records.{kept_records}
+use Rattle.rd_journal.proofs.Prelude.{IsIndexOf, HasRoomFor, kept_records}
 use Rattle.rd_journal.proofs.indexing.fill_index.Given as goal
 
 abbrev pub invariant-loop-next : goal.invariant-loop-next

@@ -1,9 +1,5 @@
 use Rattle.std.proofs.Common.{◌≡◌, ◌∙◌, ℕ, List, [], ◌++◌, take, drop, sym, subst, arith}
-use Rattle.std.proofs.lemmas.List.{append-nil, length-take-le}
-use Rattle.rd_step.specs.declared.entries.Entry.{Entry}
-use Rattle.rd_depend.specs.Index.{HasRoomFor}
-use Rattle.rd_depend.proofs.IndexChanges.{not_refused}
-use Rattle.rd_journal.specs.Records.{kept_records}
+use Rattle.rd_journal.proofs.Prelude.{append-nil, length-take-le, Entry, HasRoomFor, not_refused, kept_records}
 use Rattle.rd_journal.proofs.IndexRoom.{fits_none, fits_last}
 use Rattle.rd_journal.proofs.Outcomes.{err_then, in_error}
 use Rattle.rd_journal.proofs.indexing.index_instead.Goals as goal
@@ -20,9 +16,4 @@ fill_index-requires-clause-room c =
     subst (λ (m : ℕ). HasRoomFor index (drop m kept)) long (subst (λ (es : List Entry). HasRoomFor index es) (append-nil (drop n kept)) room)
 
 pub returns-then-is_err-clause-lacks : goal.returns-then-is_err-clause-lacks
-returns-then-is_err-clause-lacks c =
-    in_error c.push_all-put.result
-    (λ err has.
-    not_refused c.push_all-put.result err
-    (c.push_all-put.ensures.succeeds
-    (fits_last c.cut_index.new.index (drop c.args.n (kept_records c.args.records.now)) c.args.given.now (c.cut_index.ensures.room c.args.given.now has))))
+returns-then-is_err-clause-lacks c = grind (arith, in_error, not_refused, fits_last)

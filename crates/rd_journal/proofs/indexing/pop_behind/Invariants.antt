@@ -1,7 +1,5 @@
 use Rattle.std.proofs.Common.{◌≤◌, List, ◌++◌, length, take, drop}
-use Rattle.rd_step.specs.declared.entries.Entry.{Entry}
-use Rattle.rd_depend.specs.Index.{IsIndexOf, HasRoomFor}
-use Rattle.rd_journal.specs.Records.{kept_records}
+use Rattle.rd_journal.proofs.Prelude.{Entry, IsIndexOf, HasRoomFor, kept_records}
 use Rattle.rd_journal.proofs.indexing.pop_behind.Given as goal
 
 abbrev pub invariant-loop-last : goal.invariant-loop-last

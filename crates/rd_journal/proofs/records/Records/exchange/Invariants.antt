@@ -1,5 +1,5 @@
 use Rattle.std.proofs.Common.{◌≡◌, ◌++◌, [], take}
-use Rattle.rd_journal.specs.Records.{live_records, ahead_records, records_capacity}
+use Rattle.rd_journal.proofs.Prelude.{live_records, ahead_records, records_capacity}
 use Rattle.rd_journal.proofs.records.Records.exchange.Given as goal
 
 abbrev pub invariant-loop-entry : goal.invariant-loop-entry

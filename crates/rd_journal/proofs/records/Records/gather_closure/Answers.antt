@@ -1,8 +1,5 @@
 use Rattle.std.proofs.Common.{◌∙◌, ◌-◌, List, length, take, drop, sym, subst, arith, length-take-le}
-use Rattle.rd_step.specs.declared.entries.Entry.{Entry}
-use Rattle.rd_depend.specs.Index.{HasRoomFor}
-use Rattle.rd_journal.specs.Records.{all_records, live_records, ahead_records}
-use Rattle.rd_journal.specs.Numbers.{at_numbers, IsOrder}
+use Rattle.rd_journal.proofs.Prelude.{Entry, HasRoomFor, all_records, live_records, ahead_records, at_numbers, IsOrder}
 use Rattle.rd_journal.proofs.IndexRoom.{fits_first}
 use Rattle.rd_journal.proofs.Numbers.{at-length, order_below}
 use Rattle.rd_journal.proofs.RecordLemmas.{live-length}

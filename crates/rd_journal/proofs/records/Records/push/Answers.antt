@@ -1,6 +1,5 @@
 use Rattle.std.proofs.Common.{◌≡◌, ℕ, ◌+◌, ◌∷◌, ◌++◌, take, drop, ap, subst, arith}
-use Rattle.rd_journal.specs.Numbers.{at_numbers}
-use Rattle.rd_journal.specs.Records.{all_records}
+use Rattle.rd_journal.proofs.Prelude.{at_numbers, all_records}
 use Rattle.rd_journal.proofs.RecordLemmas.{all-length, live-length, none_ahead, put_last}
 use Rattle.rd_journal.proofs.records.Records.push.Goals as goal
 
@@ -14,16 +13,7 @@ pub put_at-requires-clause-number : goal.put_at-requires-clause-number
 put_at-requires-clause-number c = omega (arith, live-length c.args.self.now, c.requires.room)
 
 pub invariant_of-self : goal.invariant_of-self
-invariant_of-self c =
-    let self = c.args.self.now in
-    let none = none_ahead self c.requires.none_ahead in
-    record {
-      order_of_all = c.put_at.ensures.ordered;
-      within = omega (arith, c.put_at.ensures.within, none);
-      none_gathered = self.none_gathered;
-      room_to_gather = c.put_at.ensures.longer _ (omega (arith, live-length self, c.requires.room)) self.room_to_gather;
-      few = omega (arith, live-length self, c.requires.few, none);
-    }
+invariant_of-self c = grind (arith, none_ahead, live-length)
 
 pub returns-clause-live : goal.returns-clause-live
 unfolding all_records

@@ -1,5 +1,5 @@
 use Rattle.std.proofs.Common.{◌+◌, ◌-◌, arith}
-use Rattle.rd_journal.specs.Records.{all_records}
+use Rattle.rd_journal.proofs.Prelude.{all_records}
 use Rattle.rd_journal.proofs.RecordLemmas.{ahead-length, cut_on, cut_on_rest, border_moved}
 use Rattle.rd_journal.proofs.records.Records.step_forward.Goals as goal
 

@@ -1,30 +1,12 @@
-use Rattle.std.proofs.Common.{◌≡◌, ◌-◌, ◌+◌, ◌≤◌, ℕ, List, ◌++◌, take, drop, length, arith, ◌∙◌, ap}
-use Rattle.std.specs.List.{count_by}
-use Rattle.rd_step.specs.declared.entries.Entry.{Entry}
-use Rattle.rd_journal.specs.Numbers.{at_numbers}
-use Rattle.rd_journal.specs.Records.{all_records, live_records, ahead_records}
+use Rattle.std.proofs.Common.{◌-◌, ◌+◌, ℕ, List, take, drop, length, arith, ◌∙◌, ap}
+use Rattle.rd_journal.proofs.Prelude.{Entry, at_numbers, all_records}
 use Rattle.rd_journal.proofs.ListLemmas.{behind_before, moved_behind-length}
 use Rattle.rd_journal.proofs.Numbers.{at-moved_behind, count-moved_behind, order_below, order_moved}
 use Rattle.rd_journal.proofs.RecordLemmas.{all-length, live-length, taken_out, moved_among}
 use Rattle.rd_journal.proofs.records.Records.undo_alone.Goals as goal
 
 pub invariant_of-self : goal.invariant_of-self
-invariant_of-self c =
-    let self = c.args.self.now in
-    let ns = self.order.items in
-    let new = c.move_behind.new.order.items in
-    let position : c.args.k ≤ self.live = omega (arith, live-length self, c.requires.position) in
-    let len : length new ≡ length ns =
-    ap length c.move_behind.ensures.moved ∙ moved_behind-length ns c.args.k self.live c.requires.some position (omega (arith, self.within)) in
-    record {
-      order_of_all =
-          order_moved (length self.slots.items) ns new self.order_of_all
-          (λ test. ap (λ (ms : List ℕ). count_by test ms) c.move_behind.ensures.moved ∙ count-moved_behind test ns c.args.k self.live c.requires.some) len;
-      within = omega (arith, len, self.within, c.requires.some, position);
-      none_gathered = self.none_gathered;
-      room_to_gather = omega (arith, len, self.room_to_gather);
-      few = omega (arith, self.few, c.requires.some, position);
-    }
+invariant_of-self c = grind (arith, live-length, moved_behind-length, order_moved, count-moved_behind)
 
 pub returns-clause-live : goal.returns-clause-live
 unfolding all_records
@@ -47,6 +29,4 @@ returns-clause-ahead c =
     (omega (arith, all-length self, self.within))
 
 pub returns-clause-kept : goal.returns-clause-kept
-returns-clause-kept c =
-    let self = c.args.self.now in
-    (λ i. returns-clause-live c i ++ returns-clause-ahead c i) ∙ moved_among (live_records self) (ahead_records self) c.args.k
+returns-clause-kept c = grind (arith, returns-clause-live, returns-clause-ahead, moved_among)

@@ -1,13 +1,6 @@
+use Rattle.rd_journal.proofs.Prelude.{common_steps, put_mid, vec_capacity, append-nil, drop-drop, drop_at, length-take-le, depends_on_one, Entry, HasRoomFor, at_numbers}
 use Rattle.std.proofs.Common.{◌≡◌, ◌∙◌, ◌+◌, ◌-◌, ◌<◌, ◌≤◌, ℕ, List, [], ◌∷◌, ◌++◌, length, take, drop, set, Bool, refl, sym, ap, subst, arith, rules, length-append, length-drop}
-use borrow.Rule.Slice.PartMut.{put_mid}
-use Rattle.std.specs.Vec.{vec_capacity}
-use Rattle.std.proofs.lemmas.List.{append-nil, drop-drop, drop_at, length-take-le}
-use Rattle.rd_step.specs.Prelude.{depends_on_one}
-use Rattle.rd_step.specs.declared.entries.Entry.{Entry}
-use Rattle.rd_depend.specs.declared.index.DependIndex.{DependIndex}
-use Rattle.rd_depend.specs.Index.{HasRoomFor}
-use Rattle.rd_journal.specs.Numbers.{at_numbers, IsOrder}
-use Rattle.rd_journal.proofs.GatheringLoop.{live_of, live-length, UnderWay, next_one, first_gathered, before_next, joined, stayed, IsGathered, ended, carried}
+use Rattle.rd_journal.proofs.GatheringLoop.{live_of, live-length, UnderWay, next_one, first_gathered, before_next, joined, stayed, ended, carried}
 use Rattle.rd_journal.proofs.IndexRoom.{fits_one, fits_between}
 use Rattle.rd_journal.proofs.ListLemmas.{overwritten}
 use Rattle.rd_journal.proofs.records.gathering.gather.Goals as goal
@@ -20,22 +13,7 @@ told before block x b n len h = ap (λ (xs : List Entry). depends_on_one xs x) (
 -- what the order is when the gathered numbers were put after those that stay
 written : (n f live : ℕ) (now dm copied gathered : List ℕ) → n ≡ length now → dm ≡ now → copied ≡ gathered → f + length gathered ≡ live → live ≤ length now
     → let ys = put_mid f (live - f) dm copied in take n (ys ++ drop (length ys) now) ≡ take f now ++ (gathered ++ drop live now)
-written n f live now dm copied gathered len same its number within =
-    let whole = take f now ++ (gathered ++ drop live now) in
-    let all : (live - f) + f ≡ live = omega arith in
-    let parts : put_mid f (live - f) dm copied ≡ whole =
-    (λ i. put_mid f (live - f) (same i) (its i)) ∙ ap (λ (ys : List ℕ). take f now ++ (gathered ++ ys)) (drop-drop (live - f) f now ∙ ap (λ (m : ℕ). drop m now) (omega arith)) in
-    let long : length whole ≡ length now =
-    omega (
-      arith,
-      length-append (take f now) (gathered ++ drop live now),
-      length-append gathered (drop live now),
-      length-take-le f now (omega (arith, number, within)),
-      length-drop live now,
-      number,
-      within,
-    ) in
-    ap (λ (ys : List ℕ). take n (ys ++ drop (length ys) now)) parts ∙ overwritten n now whole len long
+written n f live now dm copied gathered len same its number within = grind (arith, drop-drop, length-append, length-take-le, length-drop, overwritten)
 
 pub record_in-step-requires : goal.record_in-step-requires
 record_in-step-requires c =
@@ -76,15 +54,7 @@ record_in-entry-requires c =
     (omega (arith, c.loop-next-test.true)) u.long u.later c.index-number.ensures).below
 
 pub depends_behind-requires-clause-within : goal.depends_behind-requires-clause-within
-depends_behind-requires-clause-within c =
-    let L = live_of c.args.slots.now c.args.order.now.items c.args.live in
-    let all = live-length c.args.slots.now c.args.order.now.items c.args.live c.requires.ordered c.requires.within in
-    omega (
-      arith,
-      c.loop-next.invariant.under_way.indexed.len,
-      length-append (take (c.args.k - 1) L) (at_numbers c.args.slots.now c.loop-next.gathered.items),
-      length-take-le (c.args.k - 1) L (omega (arith, all, c.requires.position)),
-    )
+depends_behind-requires-clause-within c = grind (arith, live_of, live-length, length-append, length-take-le)
 
 pub put_back-requires-then-depends_behind-clause-room : goal.put_back-requires-then-depends_behind-clause-room
 put_back-requires-then-depends_behind-clause-room c =
@@ -175,25 +145,11 @@ returns-clause-behind c =
     c.deref_mut.ensures.value (c.copy_from_slice.ensures.after ∙ c.deref.ensures.value) (omega (arith, u.number, u.within, c.loop-next-test.false))
     (omega (arith, u.long, c.requires.within)))).behind
 
--- what the index is of, whatever the order is then
-indexes : (es : List Entry) (ns now gathered : List ℕ) (old index : DependIndex) (k live front next : ℕ) → UnderWay es ns now gathered old index k live front next → live ≤ next
-    → IsOrder (length es) ns → live ≤ length ns → IsGathered es ns (take front now ++ (gathered ++ drop live now)) old index k live front
-indexes es ns now gathered old index k live front next u end o within = ended es ns now gathered (take front now ++ (gathered ++ drop live now)) old index k live front next u end o within refl
-
 pub returns-clause-room : goal.returns-clause-room
-returns-clause-room c =
-    let u = c.loop-next.invariant.under_way in
-    (indexes c.args.slots.now c.args.order.now.items c.loop-next.order.items c.loop-next.gathered.items c.args.index.now c.loop-next.index c.args.k c.args.live c.loop-next.front
-    c.loop-next.next u (omega (arith, c.loop-next-test.false)) c.requires.ordered c.requires.within).room
+returns-clause-room c = grind (arith, common_steps)
 
 pub returns-clause-index : goal.returns-clause-index
-returns-clause-index c =
-    let u = c.loop-next.invariant.under_way in
-    (indexes c.args.slots.now c.args.order.now.items c.loop-next.order.items c.loop-next.gathered.items c.args.index.now c.loop-next.index c.args.k c.args.live c.loop-next.front
-    c.loop-next.next u (omega (arith, c.loop-next-test.false)) c.requires.ordered c.requires.within).indexed
+returns-clause-index c = grind (arith, common_steps)
 
 pub returns-clause-count : goal.returns-clause-count
-returns-clause-count c =
-    let u = c.loop-next.invariant.under_way in
-    (indexes c.args.slots.now c.args.order.now.items c.loop-next.order.items c.loop-next.gathered.items c.args.index.now c.loop-next.index c.args.k c.args.live c.loop-next.front
-    c.loop-next.next u (omega (arith, c.loop-next-test.false)) c.requires.ordered c.requires.within).count
+returns-clause-count c = grind (arith, common_steps)

@@ -1,5 +1,5 @@
 use Rattle.std.proofs.Common.{◌≡◌}
-use Rattle.std.specs.Vec.{vec_capacity}
+use Rattle.rd_journal.proofs.Prelude.{vec_capacity}
 use Rattle.rd_journal.proofs.GatheringLoop.{UnderWay}
 use Rattle.rd_journal.proofs.records.gathering.gather.Given as goal
 

@@ -1,14 +1,5 @@
 use Rattle.std.proofs.Common.{◌≡◌, ◌∙◌, ◌<◌, List, ◌++◌, length, take, inl, inr, refl, sym, ap, subst, arith}
-use Rattle.std.proofs.lemmas.List.{append-nil, take_all, take-append-le}
-use Rattle.rd_step.specs.declared.entries.Entry.{Entry}
-use Rattle.rd_step.specs.Prelude.{NoMemory, model, room, MOST_STEPS}
-use Rattle.rd_step.proofs.PassedUp.{error_passed_up, fact_passed_up}
-use Rattle.rd_depend.specs.Index.{IsIndexOf}
-use Rattle.rd_depend.proofs.IndexChanges.{ok_then}
-use Rattle.rd_journal.specs.Moves.{IsLengthened}
-use Rattle.rd_journal.specs.Kept.{whole_journal, journal_of}
-use Rattle.rd_journal.specs.Records.{live_records, ahead_records}
-use Rattle.rd_journal.specs.Sessions.{journal}
+use Rattle.rd_journal.proofs.Prelude.{append-nil, take_all, take-append-le, Entry, NoMemory, model, room, MOST_STEPS, error_passed_up, fact_passed_up, IsIndexOf, ok_then, IsLengthened, whole_journal, journal_of, live_records, ahead_records, journal}
 use Rattle.rd_journal.proofs.Ahead.{is_session, none_taken}
 use Rattle.rd_journal.proofs.Calls.{live_len, apply_refused, apply_goes, longer_session, same_session}
 use Rattle.rd_journal.proofs.Outcomes.{err_then}
@@ -36,17 +27,7 @@ returns-in_err-make_room_for-clause-err g c =
     (inr (refl, omega (arith, live_len old, c.live_len.ensures, (is_session c.args.self.now).few)))
 
 pub returns-in_err-make_room_for-clause-memory : goal.returns-in_err-make_room_for-clause-memory
-returns-in_err-make_room_for-clause-memory g c =
-    let self = c.args.self.now in
-    let full = full_records self.records (omega (arith, c.in_err-make_room_for.ensures.err, c.live_len-live.ensures)) in
-    error_passed_up _ NoMemory c.from_residual.result c.from_residual.ensures.1
-    (inr (
-      refl,
-      record {
-        not_full = omega (arith, c.live_len.ensures, (is_session self).few);
-        asked = inl (none_taken self.undone (ahead_records self.records) full.none, full.filled);
-      },
-    ))
+returns-in_err-make_room_for-clause-memory g c = grind (arith, full_records, error_passed_up, is_session, none_taken)
 
 pub returns-in_err-make_room_for-clause-unchanged : goal.returns-in_err-make_room_for-clause-unchanged
 returns-in_err-make_room_for-clause-unchanged g c =
@@ -143,24 +124,16 @@ invariant_of-self-2 g c =
     let less : length old.live < MOST_STEPS = omega (arith, c.live_len.ensures, self.kept.few) in
     let whole : take c.live_len-live.result (live_records c.make_room_for.new.self) ≡ old.live =
     ap (take c.live_len-live.result) c.make_room_for.ensures.live ∙ take_all c.live_len-live.result old.live (omega (arith, c.live_len-live.ensures)) in
-    let longer : IsLengthened c.in_ok-entry.entry old new = record {
-      live = c.exchange.ensures.live ∙ (λ i. whole i ++ c.from_ref-2.ensures.value i);
-      undone = c.exchange.ensures.ahead;
-    } in
+    let longer : IsLengthened c.in_ok-entry.entry old new = grind arith in
     let first : take c.live_len-live.result (live_records c.make_room_for.new.self ++ ahead_records c.make_room_for.new.self) ≡ take c.live_len-live.result (live_records c.make_room_for.new.self) =
-    take-append-le c.live_len-live.result (live_records c.make_room_for.new.self) (ahead_records c.make_room_for.new.self)
-    (omega (arith, c.live_len-live.ensures, ap length c.make_room_for.ensures.live)) in
+    grind (arith, take-append-le) in
     record {
       kept =
           longer_session g.row.R old new c.args.event c.in_ok-entry.entry (room self.world) (room c.step.new.self) self.kept less
           c.in_ok-entry.ensures.ok longer;
       within = omega arith;
       indexed =
-          subst (λ (es : List Entry). IsIndexOf c.index_instead.new.index es)
-          ((λ i. first i ++ (c.from_ref.ensures.value ∙ sym c.from_ref-2.ensures.value) i)
-          ∙ sym c.exchange.ensures.live ∙ sym (append-nil (live_records c.exchange.new.self))
-          ∙ ap (λ (es : List Entry). live_records c.exchange.new.self ++ es) (sym c.exchange.ensures.ahead))
-          (ok_then c.index_instead.result _ (sym c.is_err.ensures.value ∙ c.if-is_err.false) c.index_instead.ensures.ok);
+          grind (arith, append-nil, ok_then);
     }
 
 pub returns-clause-ok : goal.returns-clause-ok
@@ -171,8 +144,5 @@ returns-clause-ok g c =
     let less : length old.live < MOST_STEPS = omega (arith, c.live_len.ensures, self.kept.few) in
     let whole : take c.live_len-live.result (live_records c.make_room_for.new.self) ≡ old.live =
     ap (take c.live_len-live.result) c.make_room_for.ensures.live ∙ take_all c.live_len-live.result old.live (omega (arith, c.live_len-live.ensures)) in
-    let longer : IsLengthened c.in_ok-entry.entry old new = record {
-      live = c.exchange.ensures.live ∙ (λ i. whole i ++ c.from_ref-2.ensures.value i);
-      undone = refl;
-    } in
+    let longer : IsLengthened c.in_ok-entry.entry old new = grind arith in
     apply_goes g.row.R old new c.args.event c.in_ok-entry.entry (is_session self).runs less c.in_ok-entry.ensures.ok longer

@@ -1,5 +1,5 @@
 use Rattle.std.proofs.Common.{◌≤◌, length, arith}
-use Rattle.rd_journal.specs.Sessions.{journal, state}
+use Rattle.rd_journal.proofs.Prelude.{journal, state}
 use Rattle.rd_journal.proofs.Ahead.{is_session}
 use Rattle.rd_journal.proofs.Calls.{live_len, back_goes, before_last}
 use Rattle.rd_journal.proofs.sessions.Session.back.Goals as goal

@@ -1,5 +1,5 @@
-use Rattle.std.proofs.Common.{◌-◌, inl, inr, arith}
-use Rattle.rd_journal.specs.Sessions.{journal}
+use Rattle.std.proofs.Common.{arith}
+use Rattle.rd_journal.proofs.Prelude.{journal}
 use Rattle.rd_journal.proofs.Ahead.{is_session}
 use Rattle.rd_journal.proofs.Calls.{entry_missing, entry_found}
 use Rattle.rd_journal.proofs.Words.{step_after}
@@ -7,9 +7,7 @@ use Rattle.rd_journal.proofs.sessions.Session.entry.Goals as goal
 use Rattle.rd_journal.proofs.sessions.Session.entry.Goals.{then-k-eq0-via-then-k-eq0, then-k-eq0-via-else-k-eq0+then-k-len}
 
 pub returns-then-k-eq0-clause-found : goal.returns-then-k-eq0-clause-found
-returns-then-k-eq0-clause-found g c =
-    entry_missing (journal c.args.self.now) c.len-len.result c.args.k c.len-len.ensures.records
-    (elim c.then-k-eq0.branch [ then-k-eq0-via-then-k-eq0 w ↦ inl (omega arith) | then-k-eq0-via-else-k-eq0+then-k-len w ↦ inr (omega arith) ])
+returns-then-k-eq0-clause-found g c = grind (arith, entry_missing, then-k-eq0-via-then-k-eq0, then-k-eq0-via-else-k-eq0+then-k-len)
 
 pub returns-clause-found : goal.returns-clause-found
 returns-clause-found g c =
@@ -17,9 +15,7 @@ returns-clause-found g c =
     entry_found (journal c.args.self.now) c.args.k x (omega arith) (omega (arith, c.len-len.ensures.records)) c.live_at.ensures
 
 pub returns-clause-step : goal.returns-clause-step
-returns-clause-step g c =
-    let x = c.live_at.result.now in
-    step_after g.row.R (journal c.args.self.now) (c.args.k - 1) x (is_session c.args.self.now).runs (omega (arith, c.len-len.ensures.records)) c.live_at.ensures
+returns-clause-step g c = grind (arith, step_after, is_session)
 
 pub returns-then-k-eq0-clause-runs : goal.returns-then-k-eq0-clause-runs
 returns-then-k-eq0-clause-runs g c = (is_session c.args.self.now).runs

@@ -1,14 +1,5 @@
 use Rattle.std.proofs.Common.{◌≡◌, ◌∙◌, ◌≤◌, Ok, List, ◌++◌, length, take, drop, refl, sym, ap, subst, arith}
-use Rattle.std.proofs.lemmas.List.{append-nil, length-take-le, take-append-le, drop_at}
-use Rattle.rd_step.specs.Prelude.{model, room, run}
-use Rattle.rd_step.specs.declared.entries.Entry.{Entry}
-use Rattle.rd_depend.specs.Index.{IsIndexOf}
-use Rattle.rd_journal.specs.Journal.{events, start_of, IsRunFrom, LeadsTo}
-use Rattle.rd_journal.specs.Kept.{whole_journal, journal_of}
-use Rattle.rd_journal.specs.Moves.{IsSwitched}
-use Rattle.rd_journal.specs.Records.{live_records, ahead_records}
-use Rattle.rd_journal.specs.Room.{HasRoom, room_without}
-use Rattle.rd_journal.specs.Sessions.{journal}
+use Rattle.rd_journal.proofs.Prelude.{append-nil, length-take-le, take-append-le, drop_at, model, room, run, Entry, IsIndexOf, events, start_of, IsRunFrom, LeadsTo, whole_journal, journal_of, IsSwitched, live_records, ahead_records, HasRoom, room_without, journal}
 use Rattle.rd_journal.proofs.Ahead.{is_session}
 use Rattle.rd_journal.proofs.Starting.{live_lead}
 use Rattle.rd_journal.proofs.Switching.{room_for_all, room_given, runs_on, exchanged, switched_state}
@@ -70,8 +61,7 @@ invariant_of-self-2 g c =
     let goes : run g.row.R w (events given) ≡ Ok (record { world = new.world; entries = given }) =
     subst (λ (xs : List Entry). run g.row.R w (events xs) ≡ Ok (record { world = new.world; entries = xs })) given_is c.step_all.ensures.ran in
     let all : take n (live_records self.records ++ ahead_records self.records) ++ given ≡ live_records c.exchange.new.self ++ ahead_records c.exchange.new.self =
-    ap (λ (xs : List Entry). xs ++ given) (take-append-le n (live_records self.records) (ahead_records self.records) c.requires.within)
-    ∙ sym c.exchange.ensures.live ∙ sym (append-nil (live_records c.exchange.new.self)) ∙ ap (λ (xs : List Entry). live_records c.exchange.new.self ++ xs) (sym c.exchange.ensures.ahead) in
+    grind (arith, take-append-le, append-nil) in
     record {
       kept =
           (exchanged g.row.R n j new given w (room c.step_all.new.world) c.requires.within c.requires.few leads goes

@@ -1,17 +1,10 @@
 use Rattle.std.proofs.Common.{◌≡◌, ◌∙◌, Bool, true, false, nat_lt, None, Some, if◌then◌else◌, length, sym, ap, arith}
-use Rattle.std.proofs.lemmas.Bool.{lt-ltb, le-ltb}
-use Rattle.rd_journal.specs.Records.{live_records, ahead_records, kept_records}
+use Rattle.rd_journal.proofs.Prelude.{lt-ltb, le-ltb, live_records, ahead_records, kept_records}
 use Rattle.rd_journal.proofs.Finding.{numbered_before, if_live, found_live}
 use Rattle.rd_journal.proofs.sessions.Session.first_dependant.Goals as goal
 
 pub first-requires-clause-held : goal.first-requires-clause-held
-first-requires-clause-held g c =
-    let r = c.args.self.now.records in
-    record {
-      entries = kept_records r;
-      is = c.args.self.now.indexed;
-      at = numbered_before (live_records r) (ahead_records r) c.args.k c.live_at-entry.result.now c.requires.some c.requires.within c.live_at-entry.ensures;
-    }
+first-requires-clause-held g c = grind (arith, numbered_before)
 
 pub returns-in-None : goal.returns-in-None
 returns-in-None g c =

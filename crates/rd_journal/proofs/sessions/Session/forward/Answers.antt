@@ -1,5 +1,5 @@
 use Rattle.std.proofs.Common.{◌≤◌, length, arith}
-use Rattle.rd_journal.specs.Sessions.{journal, state}
+use Rattle.rd_journal.proofs.Prelude.{journal, state}
 use Rattle.rd_journal.proofs.Calls.{undone_len, forward_goes}
 use Rattle.rd_journal.proofs.sessions.Session.forward.Goals as goal
 

@@ -1,7 +1,6 @@
 use Rattle.std.proofs.Common.{ℕ, ◌∙◌, ◌++◌, length, take, refl, ap}
-use Rattle.std.proofs.lemmas.List.{take_at}
+use Rattle.rd_journal.proofs.Prelude.{take_at, live_records, ahead_records, kept_records}
 use Rattle.rd_depend.specs.Writers.{last_position, writes_to}
-use Rattle.rd_journal.specs.Records.{live_records, ahead_records, kept_records}
 use Rattle.rd_journal.proofs.sessions.Session.last_writer.Goals as goal
 
 pub returns : goal.returns

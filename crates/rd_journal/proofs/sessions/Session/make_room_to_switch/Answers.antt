@@ -1,10 +1,5 @@
 use Rattle.std.proofs.Common.{List, ◌∙◌, ap, sym, subst, arith, length, take, drop, OnOk, ◌++◌}
-use Rattle.rd_step.specs.Prelude.{model, room}
-use Rattle.rd_step.specs.declared.entries.Entry.{Entry}
-use Rattle.rd_depend.specs.Index.{IsIndexOf}
-use Rattle.rd_journal.specs.Journal.{events}
-use Rattle.rd_journal.specs.Kept.{whole_journal}
-use Rattle.rd_journal.specs.Room.{HasRoomForAll, room_without}
+use Rattle.rd_journal.proofs.Prelude.{model, room, Entry, IsIndexOf, events, whole_journal, HasRoomForAll, room_without}
 use Rattle.rd_journal.proofs.Calls.{same_session}
 use Rattle.rd_journal.proofs.sessions.Session.make_room_to_switch.Goals as goal
 

@@ -1,8 +1,5 @@
 use Rattle.std.proofs.Common.{List, ◌++◌, sym, subst, arith}
-use Rattle.rd_step.specs.Prelude.{model, room}
-use Rattle.rd_step.specs.declared.entries.Entry.{Entry}
-use Rattle.rd_depend.specs.Index.{IsIndexOf}
-use Rattle.rd_journal.specs.Kept.{whole_journal}
+use Rattle.rd_journal.proofs.Prelude.{model, room, Entry, IsIndexOf, whole_journal}
 use Rattle.rd_journal.proofs.Calls.{opened_session}
 use Rattle.rd_journal.proofs.sessions.Session.open.Goals as goal
 

@@ -1,38 +1,17 @@
+use Rattle.rd_journal.proofs.Prelude.{common_steps, length-take, take-append-drop, model, room, run, Entry, IsIndexOf, events, whole_journal, journal_of, IsMovedForward, HasRoom, journal}
 use Rattle.std.proofs.Common.{◌≡◌, ◌-◌, ◌++◌, ◌∙◌, Ok, List, length, take, drop, sym, ap, subst, arith, length-drop}
-use Rattle.std.proofs.lemmas.List.{length-take, take-append-drop}
-use Rattle.rd_step.specs.Prelude.{model, room, run}
-use Rattle.rd_step.specs.declared.entries.Entry.{Entry}
-use Rattle.rd_depend.specs.Index.{IsIndexOf}
-use Rattle.rd_journal.specs.Journal.{events, IsRunFrom}
-use Rattle.rd_journal.specs.Kept.{whole_journal, journal_of}
-use Rattle.rd_journal.specs.Moves.{IsMovedForward}
-use Rattle.rd_journal.specs.Room.{HasRoom}
-use Rattle.rd_journal.specs.Sessions.{journal}
-use Rattle.rd_journal.proofs.Ahead.{first_run, forward_undone, track_forward}
+use Rattle.rd_journal.proofs.Ahead.{first_run, forward_undone}
 use Rattle.rd_journal.proofs.Walks.{led_forward, moved_forward, room_first, state_forward}
 use Rattle.rd_journal.proofs.sessions.Session.redo_many.Goals as goal
 
 pub ahead-requires : goal.ahead-requires
-ahead-requires g c =
-    let self = c.args.self.now in
-    omega (arith, c.requires.enough, length-take self.undone (whole_journal (model self.world) self.records).undone)
+ahead-requires g c = grind (arith, length-take)
 
 pub step_all-requires : goal.step_all-requires
-step_all-requires g c =
-    let self = c.args.self.now in
-    let old = whole_journal (model self.world) self.records in
-    let n = c.args.n in (
-      omega (arith, self.world.small),
-      (
-        subst (λ (xs : List Entry). IsRunFrom g.row.R old.world xs) (sym c.ahead.ensures) (first_run g.row.R n old.world old.undone self.kept.runs.undone_run_on),
-        subst (λ (xs : List Entry). HasRoom xs (room self.world)) (sym c.ahead.ensures) (room_first n old.undone (room self.world) self.kept.has_room),
-      ),
-    )
+step_all-requires g c = grind (arith, first_run, room_first)
 
 pub step_forward-requires : goal.step_forward-requires
-step_forward-requires g c =
-    let self = c.args.self.now in
-    omega (arith, c.requires.enough, length-take self.undone (whole_journal (model self.world) self.records).undone)
+step_forward-requires g c = grind (arith, length-take)
 
 pub invariant_of-self : goal.invariant_of-self
 invariant_of-self g c =
@@ -73,6 +52,4 @@ returns-clause-state g c =
     (forward_undone self.undone n old new (omega (arith, c.requires.enough, length-take self.undone old.undone)) moved)
 
 pub returns-clause-track : goal.returns-clause-track
-returns-clause-track g c =
-    track_forward c.args.n (whole_journal (model c.args.self.now.world) c.args.self.now.records) (whole_journal (model c.step_all.new.world) c.step_forward.new.self)
-    (record { live = c.step_forward.ensures.live; undone = c.step_forward.ensures.ahead })
+returns-clause-track g c = grind (arith, common_steps)

@@ -1,7 +1,5 @@
 use Rattle.std.proofs.Common.{◌≡◌, None, sym, ◌∙◌, ap}
-use Rattle.rd_step.specs.Prelude.{first_dependant}
-use Rattle.rd_journal.specs.Sessions.{journal}
-use Rattle.rd_journal.specs.State.{State}
+use Rattle.rd_journal.proofs.Prelude.{first_dependant, journal, State}
 use Rattle.rd_journal.proofs.Closures.{alone, alone_rolled}
 use Rattle.rd_journal.proofs.sessions.Session.roll_back.Goals as goal
 

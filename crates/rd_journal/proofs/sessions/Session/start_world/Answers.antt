@@ -1,8 +1,5 @@
 use Rattle.std.proofs.Common.{List, sym, subst, arith}
-use Rattle.rd_step.specs.Prelude.{World, model}
-use Rattle.rd_step.specs.declared.entries.Entry.{Entry}
-use Rattle.rd_journal.specs.Journal.{start_of, LeadsTo}
-use Rattle.rd_journal.specs.Sessions.{journal}
+use Rattle.rd_journal.proofs.Prelude.{World, model, Entry, start_of, LeadsTo, journal}
 use Rattle.rd_journal.proofs.Ahead.{is_session}
 use Rattle.rd_journal.proofs.Starting.{live_lead, led_nowhere}
 use Rattle.rd_journal.proofs.sessions.Session.start_world.Goals as goal

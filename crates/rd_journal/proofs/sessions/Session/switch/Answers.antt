@@ -1,10 +1,6 @@
-use Rattle.std.proofs.Common.{◌++◌, ◌≤◌, length, take, inr, sym, ◌∙◌, ap, subst, arith}
-use Rattle.std.proofs.lemmas.Result.{on_ok_weaker, on_err_weaker, IfErr-weaker}
-use Rattle.rd_step.proofs.PassedUp.{fact_passed_up}
-use Rattle.rd_depend.specs.declared.index.DependIndex.{DependIndex}
-use Rattle.rd_journal.specs.Journal.{Journal, events, start_of, IsRunFrom}
-use Rattle.rd_journal.specs.Room.{LacksIndexRoom}
-use Rattle.rd_journal.specs.State.{state_of, switch}
+use Rattle.std.proofs.Common.{◌++◌, ◌≤◌, length, take, sym, ◌∙◌, ap, subst, arith}
+use Rattle.rd_journal.proofs.Prelude.{fact_passed_up, Journal, events, start_of, IsRunFrom, state_of, switch}
+use Rattle.std.proofs.lemmas.Result.{on_ok_weaker, on_err_weaker}
 use Rattle.rd_journal.proofs.sessions.Session.switch.Goals as goal
 
 pub returns-in_err-make_room_to_switch-clause-unchanged : goal.returns-in_err-make_room_to_switch-clause-unchanged
@@ -25,9 +21,7 @@ returns-clause-ok g c =
     on_ok_weaker c.exchange.result (λ goes. goes ∙ ap (λ (j : Journal). switch (state_of j) c.args.n (events c.args.entries.now)) c.make_room_to_switch.ensures.unchanged) c.exchange.ensures.state
 
 pub returns-clause-err : goal.returns-clause-err
-returns-clause-err g c =
-    IfErr-weaker c.exchange.result _ _
-    (λ refusal lacks. (lacks.0, inr (inr (subst (λ (x : DependIndex). LacksIndexRoom x c.args.entries.now) c.make_room_to_switch.ensures.index lacks.1)))) c.exchange.ensures.err
+returns-clause-err g c = grind arith
 
 pub returns-clause-unchanged : goal.returns-clause-unchanged
 returns-clause-unchanged g c = on_err_weaker c.exchange.result (λ same. same ∙ c.make_room_to_switch.ensures.unchanged) c.exchange.ensures.unchanged

@@ -1,5 +1,5 @@
 use Rattle.std.proofs.Common.{arith}
-use Rattle.rd_journal.specs.Sessions.{journal, state}
+use Rattle.rd_journal.proofs.Prelude.{journal, state}
 use Rattle.rd_journal.proofs.Calls.{live_len, undo_goes}
 use Rattle.rd_journal.proofs.sessions.Session.undo.Goals as goal
 

@@ -1,12 +1,5 @@
-use Rattle.std.proofs.Common.{ℕ, ◌+◌, ◌∙◌, List, ap, sym, subst, arith, length}
-use Rattle.rd_step.specs.Prelude.{model, room}
-use Rattle.rd_step.specs.declared.entries.Entry.{Entry}
-use Rattle.rd_depend.specs.Index.{IsIndexOf}
-use Rattle.rd_depend.specs.Moved.{moved_behind}
-use Rattle.rd_journal.specs.Records.{kept_records}
-use Rattle.rd_journal.specs.Moves.{IsUndoneAlone}
-use Rattle.rd_journal.specs.Kept.{whole_journal, with_undone}
-use Rattle.rd_journal.specs.Sessions.{journal}
+use Rattle.std.proofs.Common.{ℕ, ◌+◌, ◌∙◌, List, ap, sym, subst, arith, length, rules}
+use Rattle.rd_journal.proofs.Prelude.{model, room, Entry, IsIndexOf, moved_behind, kept_records, IsUndoneAlone, whole_journal, with_undone, journal}
 use Rattle.rd_journal.proofs.Ahead.{out_undone}
 use Rattle.rd_journal.proofs.LoneUndo.{IsNumber, may_undo_at, undone_alone_state, taken_out_front, taken_out_few}
 use Rattle.rd_journal.proofs.RoomLemmas.{given_back}
@@ -44,11 +37,7 @@ invariant_of-self g c =
     }
 
 pub returns-clause-records : goal.returns-clause-records
-returns-clause-records g c =
-    let self = c.args.self.now in
-    let old = whole_journal (model self.world) self.records in
-    let new = whole_journal (model c.unstep.new.world) c.undo_alone.new.self in
-    out_undone self.undone c.args.k old new c.requires.some c.requires.position (record { live = c.undo_alone.ensures.live; undone = c.undo_alone.ensures.ahead })
+returns-clause-records g c = search (rules, out_undone, arith)
 
 pub returns-clause-state : goal.returns-clause-state
 returns-clause-state g c =

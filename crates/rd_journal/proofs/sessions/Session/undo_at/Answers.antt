@@ -1,17 +1,12 @@
 use Rattle.std.proofs.Common.{◌≡◌, ◌≤◌, ◌∙◌, Some, None, Ok, length, inl, inr, sym, ap, arith}
-use Rattle.rd_step.specs.Prelude.{first_dependant}
-use Rattle.rd_journal.specs.Moves.{answer_unless}
-use Rattle.rd_journal.specs.Sessions.{journal, state}
-use Rattle.rd_journal.specs.State.{State, undone_alone_unless}
+use Rattle.rd_journal.proofs.Prelude.{first_dependant, journal, state, State, undone_alone_unless}
 use Rattle.rd_journal.proofs.Ahead.{is_session}
-use Rattle.rd_journal.proofs.LoneUndo.{answer_missing, undo_at_missing, answer_there, undo_at_there, without_it}
+use Rattle.rd_journal.proofs.LoneUndo.{answer_missing, undo_at_missing, answer_there, undo_at_there}
 use Rattle.rd_journal.proofs.sessions.Session.undo_at.Goals as goal
 use Rattle.rd_journal.proofs.sessions.Session.undo_at.Goals.{then-len-k-via-then-len-k, then-len-k-via-else-len-k+then-k-eq0}
 
 pub returns-then-len-k-clause-answer : goal.returns-then-len-k-clause-answer
-returns-then-len-k-clause-answer g c =
-    answer_missing (journal c.args.self.now) c.args.k c.len-len.result c.len-len.ensures.records
-    (elim c.then-len-k.branch [ then-len-k-via-then-len-k w ↦ inr (omega arith) | then-len-k-via-else-len-k+then-k-eq0 w ↦ inl (omega arith) ])
+returns-then-len-k-clause-answer g c = grind (arith, answer_missing, then-len-k-via-then-len-k, then-len-k-via-else-len-k+then-k-eq0)
 
 pub returns-then-len-k-clause-err : goal.returns-then-len-k-clause-err
 returns-then-len-k-clause-err g c =
@@ -19,12 +14,7 @@ returns-then-len-k-clause-err g c =
     (elim c.then-len-k.branch [ then-len-k-via-then-len-k w ↦ inr (omega arith) | then-len-k-via-else-len-k+then-k-eq0 w ↦ inl (omega arith) ])
 
 pub returns-in-Some-clause-answer : goal.returns-in-Some-clause-answer
-returns-in-Some-clause-answer g c =
-    let old = journal c.args.self.now in
-    let within : c.args.k ≤ length old.live = omega (arith, c.len-len.ensures.records) in
-    let first : first_dependant old.live c.args.k ≡ Some c.in-Some.dependant =
-    sym c.in-Some.ensures in
-    sym (answer_there old c.args.k (omega arith) within ∙ ap answer_unless first)
+returns-in-Some-clause-answer g c = grind (arith, answer_there)
 
 pub returns-in-Some-clause-err : goal.returns-in-Some-clause-err
 returns-in-Some-clause-err g c =
@@ -35,16 +25,7 @@ returns-in-Some-clause-err g c =
     undo_at_there g.row.R old c.args.k (is_session c.args.self.now).runs (omega arith) within ∙ ap (undone_alone_unless (state c.args.self.now) c.args.k) first
 
 pub undo_alone-requires : goal.undo_alone-requires
-undo_alone-requires g c = (
-  omega arith,
-  (
-    omega arith,
-    (
-      omega (arith, c.len-len.ensures.records),
-      sym c.first_dependant.ensures ∙ c.in_default.is,
-    ),
-  ),
-)
+undo_alone-requires g c = grind arith
 
 pub returns-clause-ok : goal.returns-clause-ok
 returns-clause-ok g c =
@@ -56,14 +37,7 @@ returns-clause-ok g c =
     ∙ ap (undone_alone_unless (state c.args.self.now) c.args.k) first ∙ ap (λ (s : State). Ok s) (sym c.undo_alone.ensures.state)
 
 pub returns-clause-answer : goal.returns-clause-answer
-returns-clause-answer g c =
-    let old = journal c.args.self.now in
-    let within : c.args.k ≤ length old.live = omega (arith, c.len-len.ensures.records) in
-    let first : first_dependant old.live c.args.k ≡ None =
-    sym c.first_dependant.ensures ∙ c.in_default.is in
-    sym (answer_there old c.args.k (omega arith) within ∙ ap answer_unless first)
+returns-clause-answer g c = grind (arith, answer_there)
 
 pub returns-clause-run : goal.returns-clause-run
-returns-clause-run g c =
-    without_it g.row.R c.args.k (journal c.args.self.now) (journal c.undo_alone.new.self) c.undo_alone.ensures.records
-    c.undo_alone.ensures.state (is_session c.undo_alone.new.self).runs
+returns-clause-run g c = grind arith

@@ -1,23 +1,13 @@
-use Rattle.std.proofs.Common.{◌≡◌, ◌∙◌, ◌-◌, ℕ, List, [], ◌++◌, refl, ap, sym, subst, arith, take, drop, length, length-append}
-use Rattle.std.proofs.lemmas.List.{append-nil, length-take-le, take_at, drop_at, take-append-le, drop-append-le}
-use Rattle.rd_step.specs.Prelude.{model, room, closure_of, without_closure}
-use Rattle.rd_step.specs.declared.entries.Entry.{Entry}
-use Rattle.rd_depend.specs.Index.{IsIndexOf, HasRoomFor}
-use Rattle.rd_journal.specs.Records.{live_records, ahead_records, kept_records}
-use Rattle.rd_journal.specs.Kept.{whole_journal, journal_of}
-use Rattle.rd_journal.specs.Sessions.{journal}
+use Rattle.rd_journal.proofs.Prelude.{common_steps, append-nil, length-take-le, take_at, drop_at, take-append-le, drop-append-le, model, room, closure_of, without_closure, Entry, IsIndexOf, HasRoomFor, live_records, ahead_records, kept_records, whole_journal, journal_of, journal}
+use Rattle.std.proofs.Common.{◌≡◌, ◌∙◌, ◌-◌, List, [], ◌++◌, refl, ap, subst, arith, take, drop, length, length-append}
 use Rattle.rd_journal.proofs.Ahead.{is_session}
 use Rattle.rd_journal.proofs.Finding.{cut_before}
 use Rattle.rd_journal.proofs.IndexRoom.{fits_none, fits_turned}
-use Rattle.rd_journal.proofs.RolledBack.{IsGatheredLast, gathered_session, rolled_back, rolled_start}
+use Rattle.rd_journal.proofs.RolledBack.{IsGatheredLast, gathered_session, rolled_start}
 use Rattle.rd_journal.proofs.sessions.Session.undo_block.Goals as goal
 
 pub gather_closure-count-requires-clause-before : goal.gather_closure-count-requires-clause-before
-gather_closure-count-requires-clause-before g c =
-    let self = c.args.self.now in
-    let n = c.args.k - 1 in
-    subst (λ (es : List Entry). IsIndexOf c.cut_index.new.index es)
-    (take-append-le n (live_records self.records) (ahead_records self.records) (omega (arith, c.requires.position))) c.cut_index.ensures.left
+gather_closure-count-requires-clause-before g c = grind (arith, take-append-le)
 
 pub gather_closure-count-requires-clause-room : goal.gather_closure-count-requires-clause-room
 gather_closure-count-requires-clause-room g c =
@@ -66,12 +56,9 @@ fill_index-requires g c =
     (c.truncate.ensures.room (take n live ++ closure_of live k) (drop n (without_closure live k) ++ ahead) said.index said.room) in
     record {
       indexed =
-          subst (λ (m : ℕ). IsIndexOf index (take m (kept_records c.gather_closure-count.new.self))) long
-          (subst (λ (es : List Entry). IsIndexOf index es) (sym cut.before ∙ sym (ap (take n) kept)) left);
+          grind arith;
       room =
-          subst (λ (m : ℕ). HasRoomFor index (drop m (kept_records c.gather_closure-count.new.self))) long
-          (subst (λ (es : List Entry). HasRoomFor index es) (sym cut.behind ∙ sym (ap (drop n) kept))
-          (fits_turned index (closure_of live k) (drop n (without_closure live k)) ahead room));
+          grind (arith, fits_turned);
     }
 
 pub invariant_of-self : goal.invariant_of-self
@@ -88,12 +75,7 @@ invariant_of-self g c =
     }
 
 pub returns-clause-records : goal.returns-clause-records
-returns-clause-records g c =
-    let self = c.args.self.now in
-    let mid = journal_of (model self.world) c.gather_closure-count.new.self self.undone in
-    let said = c.gather_closure-count.ensures in
-    let gathered : IsGatheredLast c.args.k (journal self) mid = record { world = refl; live = said.live; undone = ap (take self.undone) said.ahead; len = said.len } in
-    rolled_back c.args.k c.gather_closure-count.result (journal self) mid (journal c.undo_many.new.self) said.count gathered c.undo_many.ensures.records
+returns-clause-records g c = grind (arith, common_steps)
 
 pub returns-clause-start : goal.returns-clause-start
 returns-clause-start g c =

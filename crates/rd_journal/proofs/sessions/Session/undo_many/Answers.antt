@@ -1,12 +1,5 @@
-use Rattle.std.proofs.Common.{◌-◌, ◌+◌, ◌≤◌, List, length, take, drop, sym, ap, subst, arith, length-append, length-drop}
-use Rattle.rd_step.specs.Prelude.{model, room}
-use Rattle.rd_step.specs.declared.entries.Entry.{Entry}
-use Rattle.rd_depend.specs.Index.{IsIndexOf}
-use Rattle.rd_journal.specs.Journal.{start_of, LeadsTo}
-use Rattle.rd_journal.specs.Kept.{whole_journal, journal_of}
-use Rattle.rd_journal.specs.Moves.{IsMovedBack}
-use Rattle.rd_journal.specs.Room.{room_returned_by}
-use Rattle.rd_journal.specs.Sessions.{journal}
+use Rattle.std.proofs.Common.{◌-◌, ◌+◌, ◌≤◌, List, length, take, drop, sym, ap, subst, arith, length-append, length-drop, rules}
+use Rattle.rd_journal.proofs.Prelude.{model, room, Entry, IsIndexOf, start_of, LeadsTo, whole_journal, journal_of, IsMovedBack, room_returned_by, journal}
 use Rattle.rd_journal.proofs.Ahead.{back_undone, track_back}
 use Rattle.rd_journal.proofs.Starting.{live_lead}
 use Rattle.rd_journal.proofs.Walks.{led_back, moved_back, state_back}
@@ -48,10 +41,7 @@ invariant_of-self g c =
     }
 
 pub returns-clause-records : goal.returns-clause-records
-returns-clause-records g c =
-    let self = c.args.self.now in
-    back_undone self.undone c.args.n (whole_journal (model self.world) self.records) (whole_journal (model c.undo_behind.new.world) c.step_back.new.self)
-    c.requires.enough (record { live = c.step_back.ensures.live; undone = c.step_back.ensures.ahead })
+returns-clause-records g c = search (rules, back_undone, arith)
 
 pub returns-clause-state : goal.returns-clause-state
 returns-clause-state g c =

@@ -1,20 +1,14 @@
-use Rattle.std.proofs.Common.{◌-◌, ◌<◌, ◌∙◌, inl, inr, sym, arith}
-use Rattle.std.proofs.lemmas.List.{length-take, get_or-take}
-use Rattle.rd_journal.specs.Records.{ahead_records}
-use Rattle.rd_journal.specs.Sessions.{journal}
+use Rattle.std.proofs.Common.{◌-◌, ◌<◌, ◌∙◌, sym, arith}
+use Rattle.rd_journal.proofs.Prelude.{length-take, get_or-take, ahead_records, journal}
 use Rattle.rd_journal.proofs.Starting.{event_missing, event_found}
 use Rattle.rd_journal.proofs.sessions.Session.undone_event.Goals as goal
 use Rattle.rd_journal.proofs.sessions.Session.undone_event.Goals.{then-i-eq0-via-then-i-eq0, then-i-eq0-via-else-i-eq0+then-i-undone_len}
 
 pub returns-then-i-eq0 : goal.returns-then-i-eq0
-returns-then-i-eq0 g c =
-    event_missing (journal c.args.self.now).undone c.args.i
-    (elim c.then-i-eq0.branch [ then-i-eq0-via-then-i-eq0 w ↦ inl (omega arith) | then-i-eq0-via-else-i-eq0+then-i-undone_len w ↦ inr (omega (arith, w.undone_len.ensures.records)) ])
+returns-then-i-eq0 g c = grind (arith, event_missing, then-i-eq0-via-then-i-eq0, then-i-eq0-via-else-i-eq0+then-i-undone_len)
 
 pub ahead_at-requires : goal.ahead_at-requires
-ahead_at-requires g c =
-    let self = c.args.self.now in
-    record { within = omega (arith, c.undone_len.ensures.records, length-take self.undone (ahead_records self.records)) }
+ahead_at-requires g c = grind (arith, length-take)
 
 pub returns : goal.returns
 returns g c =

@@ -1,11 +1,5 @@
 use Rattle.std.proofs.Common.{◌≡◌, ◌∙◌, ◌+◌, ◌<◌, ℕ, List, [], ◌∷◌, ◌++◌, Ok, take, drop, length, refl, sym, ap, subst, arith}
-use Rattle.std.proofs.lemmas.List.{drop_all, map-append, take_all, take_more}
-use Rattle.rd_step.specs.Prelude.{World, Stepped, model, room, run}
-use Rattle.rd_step.specs.declared.entries.Entry.{Entry}
-use Rattle.rd_step.proofs.RunParts.{first_step}
-use Rattle.rd_step.proofs.Inverse.{run-cons}
-use Rattle.rd_journal.specs.Journal.{events, IsRunFrom}
-use Rattle.rd_journal.specs.Room.{HasRoom}
+use Rattle.rd_journal.proofs.Prelude.{drop_all, map-append, take_all, take_more, World, Stepped, model, room, run, Entry, first_step, run-cons, events, IsRunFrom, HasRoom}
 use Rattle.rd_journal.proofs.ListLemmas.{drop_one_less}
 use Rattle.rd_journal.proofs.RoomLemmas.{redo_room, redone_room}
 use Rattle.rd_journal.proofs.Runs.{run_joined}
@@ -78,6 +72,4 @@ returns-clause-ran g c =
     ∙ ap (λ (ys : List Entry). Ok (record { world = model c.loop-next.world; entries = ys })) all
 
 pub returns-clause-room : goal.returns-clause-room
-returns-clause-room g c = λ rest has.
-    let none : drop c.loop-next.next c.args.steps.now ≡ [] = drop_all c.loop-next.next c.args.steps.now (omega (arith, c.loop-next-test.false, c.len-next-end.ensures)) in
-    subst (λ (ys : List Entry). HasRoom (ys ++ rest) (room c.loop-next.world)) none (c.loop-next.invariant.more rest has)
+returns-clause-room g c = grind (arith, drop_all, c.loop-next-test.false, c.len-next-end.ensures, c.loop-next.invariant.more)

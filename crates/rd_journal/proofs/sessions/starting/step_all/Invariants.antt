@@ -1,8 +1,5 @@
 use Rattle.std.proofs.Common.{◌≡◌, ◌++◌, List, Ok, take, drop}
-use Rattle.rd_step.specs.Prelude.{model, room, run}
-use Rattle.rd_step.specs.declared.entries.Entry.{Entry}
-use Rattle.rd_journal.specs.Journal.{events, IsRunFrom}
-use Rattle.rd_journal.specs.Room.{HasRoom}
+use Rattle.rd_journal.proofs.Prelude.{model, room, run, Entry, events, IsRunFrom, HasRoom}
 use Rattle.rd_journal.proofs.sessions.starting.step_all.Given as goal
 
 abbrev pub invariant-loop-next : goal.invariant-loop-next

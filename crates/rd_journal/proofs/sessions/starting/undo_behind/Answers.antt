@@ -1,9 +1,5 @@
 use Rattle.std.proofs.Common.{◌≡◌, ℕ, ◌+◌, ◌-◌, ◌≤◌, List, take, drop, sym, ap, subst, arith}
-use Rattle.std.proofs.lemmas.List.{take_all, drop_all}
-use Rattle.rd_step.specs.Prelude.{World, model, room}
-use Rattle.rd_step.specs.declared.entries.Entry.{Entry}
-use Rattle.rd_journal.specs.Journal.{LeadsTo}
-use Rattle.rd_journal.specs.Room.{room_returned_by}
+use Rattle.rd_journal.proofs.Prelude.{take_all, drop_all, World, model, room, Entry, LeadsTo, room_returned_by}
 use Rattle.rd_journal.proofs.Starting.{one_more, one_before, may_step_back}
 use Rattle.rd_journal.proofs.sessions.starting.undo_behind.Goals as goal
 
@@ -15,9 +11,7 @@ loop-last-init g c =
       from = omega (arith, c.requires.within, c.len-last.ensures);
       within = omega (arith, c.len-last.ensures);
       leads = λ start leads. subst (λ (ys : List Entry). LeadsTo g.row.R start (model c.args.world.now) ys) (sym (take_all all xs (omega (arith, c.len-last.ensures)))) leads;
-      room = λ m.
-          let none = ap (λ (ys : List Entry). room_returned_by ys m) (drop_all all xs (omega (arith, c.len-last.ensures))) in
-          omega (arith, none);
+      room = grind (arith, drop_all);
     }
 
 pub unstep-requires : goal.unstep-requires

@@ -1,7 +1,5 @@
 use Rattle.std.proofs.Common.{ℕ, ◌+◌, ◌≤◌, length, take, drop}
-use Rattle.rd_step.specs.Prelude.{World, model, room}
-use Rattle.rd_journal.specs.Journal.{LeadsTo}
-use Rattle.rd_journal.specs.Room.{room_returned_by}
+use Rattle.rd_journal.proofs.Prelude.{World, model, room, LeadsTo, room_returned_by}
 use Rattle.rd_journal.proofs.sessions.starting.undo_behind.Given as goal
 
 abbrev pub invariant-loop-last : goal.invariant-loop-last

@@ -1,8 +1,5 @@
-use Rattle.std.proofs.Common.{◌≡◌, ℕ, zero, suc, ◌+◌, ◌-◌, ◌<◌, ◌∙◌, IsSome, List, get_or, subst, sym, ap, arith}
-use Rattle.rd_step.specs.Prelude.{World, model, room}
-use Rattle.rd_step.specs.declared.entries.Entry.{Entry}
-use Rattle.rd_step.proofs.PassedUp.{error_passed_up}
-use Rattle.rd_journal.specs.Room.{room_returned_by, room_without}
+use Rattle.std.proofs.Common.{◌≡◌, ℕ, zero, suc, ◌+◌, ◌-◌, ◌<◌, ◌∙◌, IsSome, List, get_or, subst, sym, ap, arith, rules}
+use Rattle.rd_journal.proofs.Prelude.{World, model, room, Entry, error_passed_up, room_returned_by, room_without}
 use Rattle.rd_journal.proofs.Switching.{room_for_one_more, room_for_actors, makings_known}
 use Rattle.rd_journal.proofs.sessions.switching.make_room_for_makings.Goals as goal
 
@@ -65,7 +62,4 @@ returns-in_err-make_room-clause-succeeds g c none =
     absurd (omega (arith, lacks.1))
 
 pub returns-in_err-make_room-clause-room : goal.returns-in_err-make_room-clause-room
-returns-in_err-make_room-clause-room g c m =
-    let a = c.loop-number.invariant.more m in
-    let b = c.make_room.ensures.room m in
-    omega arith
+returns-in_err-make_room-clause-room g c m = search (rules, arith)

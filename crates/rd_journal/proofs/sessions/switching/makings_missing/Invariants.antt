@@ -1,5 +1,5 @@
 use Rattle.std.proofs.Common.{◌≡◌, ◌-◌, ◌<◌, ℕ, length, take, get_or}
-use Rattle.rd_journal.specs.Room.{room_returned_by}
+use Rattle.rd_journal.proofs.Prelude.{room_returned_by}
 use Rattle.rd_journal.proofs.sessions.switching.makings_missing.Given as goal
 
 abbrev pub invariant-loop-position : goal.invariant-loop-position

@@ -1,0 +1,39 @@
+-- The words that several proofs of the crate use: definitions of this crate and of those below,
+-- generated types and their variants, and lemmas of these crates and of std.
+pub use Rattle.std.proofs.Math.Seq.{drop-append_seam, drop-cons, drop-length, take-add, take-append_seam, take-length, take-suc}
+pub use Rattle.std.proofs.lemmas.Bool.{cases_Bool, cases_eq, cond-false, cond-true, le-ltb, lt-ltb, ltb-false, ltb-true, or_parts}
+pub use Rattle.std.proofs.lemmas.Grind.{common_steps, flat_map-append}
+pub use Rattle.std.proofs.lemmas.List.{append-nil, append_assoc, drop-append-le, drop-drop, drop-map, drop-set-lt, drop-take, drop_all, drop_at, drop_more, get_or-replicate, get_or-set_other, get_or-set_same, get_or-take, get_or_append_left, get_or_default, length-map, length-set, length-take, length-take-le, map-append, take-append-drop, take-append-le, take-map, take-take, take_all, take_at, take_more, take_more_set}
+pub use Rattle.std.proofs.lemmas.List.Sums.{get_or-le-sum_by, sum_by-append, sum_by-cons, sum_by-take-drop, sum_by_push}
+pub use Rattle.std.proofs.lemmas.Option.{slice_get-get_or, slice_get-map, slice_get_past}
+pub use Rattle.std.specs.List.{All, count_by}
+pub use Rattle.std.specs.Vec.{vec_capacity}
+pub use borrow.Rule.Slice.PartMut.{mid_of, put_mid}
+pub use Rattle.rd_depend.proofs.IndexChanges.{not_refused, ok_then}
+pub use Rattle.rd_depend.specs.Index.{HasRoomFor, IsIndexOf, touches}
+pub use Rattle.rd_depend.specs.Moved.{moved_behind}
+pub use Rattle.rd_depend.specs.declared.index.DependIndex.{DependIndex}
+pub use Rattle.rd_step.proofs.Inverse.{ran_on, run-cons, undoes}
+pub use Rattle.rd_step.proofs.PassedUp.{error_passed_up, fact_passed_up}
+pub use Rattle.rd_step.proofs.Removal.{run_keeps, run_stays_actor, taken_out}
+pub use Rattle.rd_step.proofs.Room.{room_used_returned}
+pub use Rattle.rd_step.proofs.RunParts.{Middle, beginning, first_step, middle, runs_to}
+pub use Rattle.rd_step.proofs.Steps.{took, with_actor-other}
+pub use Rattle.rd_step.specs.Dependence.{AreLoneUndos, IsInClosure, closure_from, first_after, first_from, number_after}
+pub use Rattle.rd_step.specs.Laws.{IsTakenOut, WasStepped}
+pub use Rattle.rd_step.specs.Lists.{numbered}
+pub use Rattle.rd_step.specs.Prelude.{Content, IsFree, IsWellFormed, MOST_STEPS, NoMemory, NoSuchStep, Place, Ran, Refusal, SegName, Stepped, World, after, closure, closure_of, depends, depends_on_one, first_dependant, marked, model, room, run, step, unmarked, unstep, without_closure}
+pub use Rattle.rd_step.specs.Room.{makes_segment, room_returned, room_used}
+pub use Rattle.rd_step.specs.Run.{run_from_step, run_preceded_by}
+pub use Rattle.rd_step.specs.declared.entries.Entry.{Entry}
+pub use Rattle.rd_step.specs.declared.entries.Event.{Event}
+pub use Rattle.rd_journal.specs.Journal.{IsRun, IsRunFrom, Journal, LeadsTo, entry_of, events, start_of, world_before}
+pub use Rattle.rd_journal.specs.Kept.{IsSession, journal_of, whole_journal, with_undone}
+pub use Rattle.rd_journal.specs.Laws.{IsClosureLast, IsMovedLast, IsOneRun, IsStepAfter}
+pub use Rattle.rd_journal.specs.Moves.{IsBeforeLast, IsLengthened, IsMovedBack, IsMovedForward, IsRolledBack, IsSwitched, IsUndoneAlone, IsWithoutClosure, answer_at, answer_unless, roll_answer}
+pub use Rattle.rd_journal.specs.Numbers.{IsOrder, at_numbers}
+pub use Rattle.rd_journal.specs.Records.{ahead_records, kept_records, live_records, records_capacity}
+unfoldable pub use Rattle.rd_journal.specs.Records.{all_records}
+pub use Rattle.rd_journal.specs.Room.{HasRoom, HasRoomForAll, room_returned_by, room_without}
+pub use Rattle.rd_journal.specs.Sessions.{journal, state}
+pub use Rattle.rd_journal.specs.State.{State, apply, back, back_one, closure_in, dependant_in, forward, forward_one, redo, roll, run_of, state_of, switch, times, undo, undo_at, undone_alone, undone_alone_unless, undone_marked, with_event}
