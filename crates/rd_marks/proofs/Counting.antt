@@ -1,26 +1,10 @@
 -- The records of the stretches are as many as the lists that begin the events of a bookmark, the
 -- empty one apart.
 use Rattle.std.proofs.Common.{◌≡◌, ℕ, zero, suc, ◌+◌, ◌-◌, ◌<◌, ◌≤◌, inl, inr, refl, sym, ap, ◌∙◌, subst, List, [], ◌∷◌, ◌++◌, length, take, map, sum_by, Contains, length-append, length-take, arith}
-use Rattle.std.specs.List.{range_with_len}
-use Rattle.std.proofs.Math.Seq.{take-length}
-use Rattle.std.proofs.lemmas.Bool.{cases_lt, cases_eq}
-use Rattle.std.proofs.lemmas.Bool.Decides.{nat_tests}
-use Rattle.std.proofs.lemmas.List.{get_or-map, length-map, length-take-le, take-map, take-take}
+use Rattle.rd_marks.proofs.Prelude.{range_with_len, take-length, cases_lt, cases_eq, nat_tests, get_or-map, length-map, length-take-le, take-map, take-take, sum_by-cons, Contains-append_left, Contains-append_right, Contains-append_cases, Event, Entry, Begins, MarkName, Stretch, Place, mark_of, marks_of, named_lists, stretch_list, shared_at, records_at, AreNested, AreFresh, number_if_in, greatest_in, AreNeeded, IsAlong, IsDeepest, count_of}
 use Rattle.std.proofs.lemmas.List.FromFn.{length-map-range_with_len, get_or-map-range_with_len}
-use Rattle.std.proofs.lemmas.List.Sums.{sum_by-cons}
-use Rattle.std.proofs.lemmas.List.Elements.{Contains-append_left, Contains-append_right, Contains-append_cases}
 use Rattle.rd_step.specs.Run.{events}
-use Rattle.rd_step.specs.declared.entries.Event.{Event}
-use Rattle.rd_step.specs.declared.entries.Entry.{Entry}
-use Rattle.rd_depend.specs.Beginnings.{Begins}
-use Rattle.rd_marks.specs.declared.names.MarkName.{MarkName}
-use Rattle.rd_marks.specs.declared.stretches.Stretch.{Stretch}
-use Rattle.rd_marks.specs.declared.stretches.Place.{Place}
 use Rattle.rd_marks.specs.Beginnings.{IsBeginning, AreDistinct, CountsBeginnings, NeedsNoRecord}
-use Rattle.rd_marks.specs.Books.{Mark}
-use Rattle.rd_marks.specs.Marks.{mark_of, marks_of}
-use Rattle.rd_marks.specs.Layout.{named_lists}
-use Rattle.rd_marks.specs.Stretches.{stretch_list, shared_at, records_at, AreNested, AreFresh, number_if_in, greatest_in, AreNeeded, IsAlong, IsDeepest, count_of}
 use Rattle.rd_marks.proofs.StretchLists.{own_at, list_past, shared_past, shared_within, total, begins_shared}
 use Rattle.rd_marks.proofs.Fresh.{along_less, along_within, not_both}
 
@@ -38,9 +22,7 @@ contains_mapped f xs x c = (c.0, omega (arith, c.1, length-map xs f), get_or-map
 mapped_contains : {X Y : Type 0} (f : X → Y) (xs : List X) (y : Y) → Contains (map f xs) y → (x : X) × Contains xs x × (f x ≡ y)
 mapped_contains f [] y c = absurd (omega (arith, c.1))
 mapped_contains f (x ∷ xs) y (zero, h, e) = (x, contains_first x xs, e)
-mapped_contains f (x ∷ xs) y (suc k, h, e) =
-    let rest = mapped_contains f xs y (k, omega (arith, h), e) in
-    (rest.0, contains_later x rest.0 xs rest.1, rest.2)
+mapped_contains f (x ∷ xs) y (suc k, h, e) = grind (arith, contains_later, mapped_contains f xs y (k, omega (arith, h), e))
 
 distinct_joined : {X : Type 0} (xs ys : List X) → AreDistinct xs → AreDistinct ys → ((x : X) → Contains xs x → Contains ys x → ⊥) → AreDistinct (xs ++ ys)
 distinct_joined [] ys h k apart = k
@@ -54,11 +36,7 @@ abbrev levels : List Event → ℕ → ℕ → List (List Event)
 levels fs a n = map (λ (m : ℕ). take m fs) (range_with_len a n)
 
 level_of : (fs : List Event) (a n : ℕ) (es : List Event) → a + n ≤ suc (length fs) → Contains (levels fs a n) es → (a ≤ length es) × Begins es fs
-level_of fs a n es h c =
-    let inside : c.0 < n = omega (arith, c.1, length-map-range_with_len (λ (m : ℕ). take m fs) a n) in
-    let is = sym (get_or-map-range_with_len (λ (m : ℕ). take m fs) a n c.0 (a + c.0) es inside refl) ∙ c.2 in
-    let long : length es ≡ a + c.0 = ap length (sym is) ∙ length-take-le (a + c.0) fs (omega (arith, inside, h)) in
-    (omega (arith, long), ap (λ (m : ℕ). take m fs) long ∙ is)
+level_of fs a n es h c = grind (arith, length-map-range_with_len, get_or-map-range_with_len, length-take-le)
 
 of_level : (fs : List Event) (a n : ℕ) (es : List Event) → a ≤ length es → length es < a + n → Begins es fs → Contains (levels fs a n) es
 of_level fs a n es more within b = (
@@ -84,8 +62,7 @@ lists_to ss zero = []
 lists_to ss (suc n) = lists_to ss n ++ own_lists ss n
 
 lists_length : (ss : List Stretch) (n : ℕ) → length (lists_to ss (suc n)) ≡ length (lists_to ss n) + length (own_at ss n)
-lists_length ss n =
-    omega (arith, length-append (lists_to ss n) (own_lists ss n), length-map-range_with_len (λ (m : ℕ). take m (events (stretch_list ss n))) (suc (shared_at ss n)) (length (own_at ss n)))
+lists_length ss n = grind (arith, length-append, length-map-range_with_len, own_at)
 
 lists_more : (s : Stretch) (ss : List Stretch) (n : ℕ) → length (lists_to (s ∷ ss) (suc n)) ≡ length s.records.items + length (lists_to ss n)
 lists_more s ss zero = omega (arith, lists_length (s ∷ ss) 0)
@@ -107,8 +84,7 @@ begun_within ss i es b = along_within ss i (length es) es (along_begun ss i es b
 
 -- lists that begin alike are begun by the same
 begun_taken : (es : List Event) (xs ys : List Entry) → take (length es) xs ≡ take (length es) ys → Begins es (events xs) → Begins es (events ys)
-begun_taken es xs ys same b =
-    take-map (λ (x : Entry). x.event) (length es) ys ∙ ap events (sym same) ∙ sym (take-map (λ (x : Entry). x.event) (length es) xs) ∙ b
+begun_taken es xs ys same b = grind (arith, take-map)
 
 -- what begins the events of a bookmark begins those of a stretch's list
 begins_list : (ss : List Stretch) (ms : List (MarkName × Place)) (es : List Event) → IsBeginning (marks_of (named_lists ss ms)) es → (i : ℕ) × Begins es (events (stretch_list ss i))
@@ -117,8 +93,7 @@ begins_list ss ms es h =
     let named = mapped_contains (λ (x : MarkName × Place). (x.0, records_at ss x.1)) ms found.0 found.1 in
     let p = named.0.1 in
     let b : Begins es (events (records_at ss p)) =
-    subst (λ (xs : List Entry). Begins es (events xs)) (sym (ap (λ (x : MarkName × List Entry). x.1) named.2))
-    (subst (λ (k : Mark). Begins es k.events) (sym found.2) h.begins) in
+    grind arith in
     let its = length-map (records_at ss p) (λ (x : Entry). x.event) ∙ length-take p.number (stretch_list ss p.stretch) in
     let short : length es ≤ p.number = omega (arith, length-take (length es) (events (records_at ss p)), ap length b, its) in
     (p.stretch, begun_taken es (records_at ss p) (stretch_list ss p.stretch) (take-take (length es) p.number (stretch_list ss p.stretch) short) b)
@@ -204,8 +179,7 @@ module _ (ss : List Stretch) (rule : AreNested ss) where
               let m = mapped_contains (λ (m : MarkName × Place). m.1) ms p.0 p.1 in (
                 m.0,
                 m.1,
-                ap (λ (q : Place). take n (records_at ss q)) m.2 ∙ take-take n p.0.number (stretch_list ss p.0.stretch) (omega (arith, p.3, h))
-                    ∙ ap (λ (k : ℕ). take n (stretch_list ss k)) p.2,
+                grind (arith, take-take),
               )
           | inl less ↦
               let next : length (stretch_list ss i) ≤ shared_at ss (suc i) = omega (arith, needed i inside, less) in

@@ -1,13 +1,7 @@
 -- Which lists begin alike, and how far the stretches can be followed along a list of events.
 use Rattle.std.proofs.Common.{◌≡◌, ◌⊎◌, ℕ, zero, suc, ◌<◌, ◌≤◌, inl, inr, refl, sym, ap, ◌∙◌, subst, List, length, take, length-take, arith}
-use Rattle.std.proofs.lemmas.Bool.{cases_lt, cases_eq}
-use Rattle.std.proofs.lemmas.List.{length-map, take-take, take-map, length-take-le}
+use Rattle.rd_marks.proofs.Prelude.{cases_lt, cases_eq, length-map, take-take, take-map, length-take-le, Event, Entry, Begins, Stretch, stretch_list, shared_at, AreNested, AreFresh, IsAlong, IsDeepest}
 use Rattle.rd_step.specs.Run.{events}
-use Rattle.rd_step.specs.declared.entries.Event.{Event}
-use Rattle.rd_step.specs.declared.entries.Entry.{Entry}
-use Rattle.rd_depend.specs.Beginnings.{Begins}
-use Rattle.rd_marks.specs.declared.stretches.Stretch.{Stretch}
-use Rattle.rd_marks.specs.Stretches.{stretch_list, shared_at, AreNested, AreFresh, IsAlong, IsDeepest}
 use Rattle.rd_marks.proofs.StretchLists.{list_past, begins_shared, shared_records}
 
 abbrev as_event : Entry → Event
@@ -24,30 +18,21 @@ along_less ss i m n es h a =
 
 -- so is each list that begins alike
 pub along_taken : (ss rs : List Stretch) (i m n : ℕ) (es : List Event) → take n (stretch_list ss i) ≡ take n (stretch_list rs m) → IsAlong rs m n es → IsAlong ss i n es
-along_taken ss rs i m n es same a = record {
-  enough = a.enough;
-  alike = take-map as_event n (stretch_list ss i) ∙ ap events same ∙ sym (take-map as_event n (stretch_list rs m)) ∙ a.alike;
-}
+along_taken ss rs i m n es same a = grind (arith, take-map)
 
 pub along_itself : (ss : List Stretch) (i n : ℕ) → n ≤ length (stretch_list ss i) → IsAlong ss i n (events (stretch_list ss i))
 along_itself ss i n h = let its = length-map (stretch_list ss i) as_event in record { enough = omega (arith, its, h); alike = refl }
 
 -- two that are along the same are along each other
 along_both : (ss rs : List Stretch) (i m n : ℕ) (es : List Event) → IsAlong ss i n es → IsAlong rs m n es → IsAlong ss i n (events (stretch_list rs m))
-along_both ss rs i m n es a b =
-    record { enough = omega (arith, length-map (stretch_list rs m) as_event, along_within rs m n es b); alike = a.alike ∙ sym b.alike }
+along_both ss rs i m n es a b = grind (arith, length-map, along_within)
 
 -- beginning with the first events of a list is going along it
 pub opened : (ss : List Stretch) (i n : ℕ) (es : List Event) → n ≤ length (stretch_list ss i) → Begins (take n (events (stretch_list ss i))) es → IsAlong ss i n es
-opened ss i n es h b =
-    let long : length (take n (events (stretch_list ss i))) ≡ n = length-take-le n (events (stretch_list ss i)) (omega (arith, length-map (stretch_list ss i) as_event, h)) in
-    let same : take n es ≡ take n (events (stretch_list ss i)) = ap (λ (m : ℕ). take m es) (sym long) ∙ b in
-    record { enough = omega (arith, length-take n es, ap length same, long); alike = sym same }
+opened ss i n es h b = grind (arith, length-take-le, length-map, length-take)
 
 opens : (ss : List Stretch) (i n : ℕ) (es : List Event) → IsAlong ss i n es → Begins (take n (events (stretch_list ss i))) es
-opens ss i n es a =
-    let inside : n ≤ length (events (stretch_list ss i)) = omega (arith, length-map (stretch_list ss i) as_event, along_within ss i n es a) in
-    ap (λ (m : ℕ). take m es) (length-take-le n (events (stretch_list ss i)) inside) ∙ sym a.alike
+opens ss i n es a = grind (arith, length-map, along_within, length-take-le)
 
 -- what freshness says of lists along the same events
 abbrev pub AreApart : List Stretch → Type 0
@@ -119,14 +104,6 @@ module _ (ss : List Stretch) (rule : AreNested ss) (fresh : AreFresh ss) (es : L
     along = a;
     shared = λ j low high. absurd (omega (arith, low, high));
     none = λ j high b. grind (arith, f.none j, most, along_less ss j (suc n) (suc m) es, cases_eq j k);
-  }
-
-  -- the stretch branches off just there, to another event
-  pub follows_parted : (k at n : ℕ) → Follows ss es k at n → (at ≡ k) ⊎ (shared_at ss k ≡ n) → (IsAlong ss k (suc n) es → ⊥) → Follows ss es (suc k) at n
-  follows_parted k at n f here most = record {
-    along = f.along;
-    shared = λ j low high. grind (arith, here, f.shared j low);
-    none = λ j high b. grind (arith, f.none j, most, cases_eq j k);
   }
 
   -- where the stretches end, or one shares fewer, no list has one more

@@ -1,20 +1,8 @@
 -- Where the session's track lies among the bookmarks' records, and what each call leaves of that.
-use Rattle.std.proofs.Common.{◌≡◌, ℕ, zero, suc, ◌-◌, ◌≤◌, Bool, true, false, nat_lt, if◌then◌else◌, refl, sym, ap, ◌∙◌, subst, List, [], ◌∷◌, ◌++◌, length, take, drop, Result, Ok, Err, OnOk, OnErr, arith, ltb-true}
-use Rattle.std.proofs.Math.Seq.{take-append_seam, take-length}
-use Rattle.std.proofs.lemmas.List.{take-map, take-take, take-append-le, length-map, length-take}
-use Rattle.rd_step.specs.Prelude.{Refusal, closure, unmarked}
-use Rattle.rd_step.specs.declared.entries.Event.{Event}
-use Rattle.rd_step.specs.declared.entries.Entry.{Entry}
-use Rattle.rd_depend.specs.Beginnings.{Begins}
-use Rattle.rd_journal.specs.declared.sessions.Session.{Session}
-use Rattle.rd_journal.specs.Journal.{Journal, events}
+use Rattle.std.proofs.Common.{◌≡◌, ℕ, zero, suc, ◌-◌, ◌≤◌, Bool, nat_lt, if◌then◌else◌, refl, sym, ap, ◌∙◌, List, [], ◌∷◌, ◌++◌, length, take, drop, Result, Ok, Err, OnOk, OnErr, arith}
+use Rattle.rd_marks.proofs.Prelude.{take-append_seam, take-length, take-map, take-take, take-append-le, length-map, length-take, Refusal, closure, unmarked, Event, Entry, Begins, Session, Journal, ahead_records, state, track, State, undo_at, roll, Place, Stretch, stretch_list, records_at, IsWithin, IsAlong}
+use Rattle.rd_journal.specs.Journal.{events}
 use Rattle.rd_journal.specs.Moves.{IsLengthened, IsUndoneAlone, IsRolledBack}
-use Rattle.rd_journal.specs.Records.{ahead_records}
-use Rattle.rd_journal.specs.Sessions.{state, track}
-use Rattle.rd_journal.specs.State.{State, undo_at, roll}
-use Rattle.rd_marks.specs.declared.stretches.Place.{Place}
-use Rattle.rd_marks.specs.declared.stretches.Stretch.{Stretch}
-use Rattle.rd_marks.specs.Stretches.{stretch_list, records_at, IsWithin, IsAlong}
 use Rattle.rd_marks.proofs.Starting.{begins_events, begins_shorter, begins_trans, events_length, events_of_first, fewer_begin, records_length}
 
 -- What a call leaves of the first live records
@@ -26,8 +14,7 @@ without_leaves (suc m) (suc k) [] h = refl
 without_leaves {X} (suc m) (suc k) (x ∷ xs) h = ap (λ (ys : List X). x ∷ ys) (without_leaves m k xs (omega (arith, h)))
 
 pub undone_alone_leaves : (k n : ℕ) (old new : Journal) → n ≡ k - 1 → IsUndoneAlone k old new → take n new.live ≡ take n old.live
-undone_alone_leaves k n old new its taken =
-    ap (take n) (taken.live ∙ ap (λ (m : ℕ). take m old.live ++ drop k old.live) (sym its)) ∙ without_leaves n k old.live (omega (arith, its))
+undone_alone_leaves k n old new its taken = grind (arith, without_leaves)
 
 closure_leaves : (n : ℕ) (xs : List Entry) → take n (unmarked (closure xs (suc n)) xs) ≡ take n xs
 closure_leaves zero xs = refl
@@ -35,27 +22,22 @@ closure_leaves (suc n) [] = refl
 closure_leaves (suc n) (x ∷ xs) = ap (λ (ys : List Entry). x ∷ ys) (closure_leaves n xs)
 
 pub roll_leaves : (k n : ℕ) (old new : Journal) → n ≡ k - 1 → IsRolledBack k old new → take n new.live ≡ take n old.live
-roll_leaves zero zero old new its rolled = refl
-roll_leaves zero (suc n) old new its rolled = absurd (omega (arith, its))
-roll_leaves (suc k) n old new its rolled = let same : n ≡ k = omega (arith, its) in rw (rolled.live, same) (closure_leaves k old.live)
+roll_leaves k n old new its rolled = grind (arith, closure_leaves)
 
 pub added_leaves : (n : ℕ) (x : Entry) (old new : Journal) → n ≡ length old.live → IsLengthened x old new → take n new.live ≡ take n old.live
-added_leaves n x old new all more =
-    rw (all, more.live) (take-append_seam old.live (x ∷ []) ∙ sym (take-length old.live))
+added_leaves n x old new all more = grind (arith, take-append_seam, take-length)
 
 -- What was undone by its number was there
 
 within_by : {X Y : Type 0} (b : Bool) (i l : ℕ) (r : Result X Y) (e : Y) (x : X) → nat_lt i l ≡ b → (if b then r else Err e) ≡ Ok x → suc i ≤ l
-within_by true i l r e x below h = omega (arith, ltb-true i l below)
-within_by false i l r e x below h = cc
+within_by b i l r e x below h = grind arith
 
 pub undone_within : (R : ℕ) (s : State) (k : ℕ) (t : State) → undo_at R s k ≡ Ok t → k ≤ length s.live
 undone_within R s zero t h = omega arith
 undone_within R s (suc i) t h = within_by (nat_lt i (length s.live)) i (length s.live) _ _ t refl h
 
 pub rolled_within : (R : ℕ) (s : State) (k : ℕ) (t : State) → roll R s k ≡ Ok t → k ≤ length s.live
-rolled_within R s zero t h = omega arith
-rolled_within R s (suc i) t h = within_by (nat_lt i (length s.live)) i (length s.live) _ _ t refl h
+rolled_within h s k t l = grind arith
 
 module _ (here there : List Entry) (begins : Begins there here) where
   -- what begins it begins the same track
@@ -87,9 +69,7 @@ module _ (here there : List Entry) (begins : Begins there here) where
 
 -- records with the events of the live steps begin the track
 pub live_begin : {R : ℕ} (session : Session R) (xs : List Entry) → events xs ≡ (state session).live → Begins (events xs) (track session)
-live_begin session xs its =
-    let ahead = events (ahead_records session.records) in
-    subst (λ (es : List Event). Begins (events xs) (es ++ ahead)) its (take-append_seam (events xs) ahead)
+live_begin session xs its = grind (arith, take-append_seam)
 
 -- The place of the records of a list with which the live steps begin
 

@@ -1,3 +1,4 @@
+pub mod Prelude
 pub mod NameLemmas
 pub mod Starts
 pub mod MarkLemmas

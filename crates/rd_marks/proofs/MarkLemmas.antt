@@ -1,26 +1,8 @@
 -- The marks that a list of names with records is: looking one up, putting one last, taking one
 -- away.
-use Rattle.std.proofs.Common.{◌↔◌, IsTrue, true≢false, is_ok, ◌⊎◌, inr, ◌≢◌, suc, Result, Ok, Err, IsOk, IfErr, OnOk, ne_eqb, ◌≡◌, ℕ, Bool, true, false, if◌then◌else◌, cond, map, refl, sym, ap, ◌∙◌, subst, List, [], ◌∷◌, ◌++◌, length, is_some, option_map, Option, Some, None, All, slice_get}
-use Rattle.std.specs.Map.{lookup, remove_entry}
-use Rattle.indexmap.specs.IndexMap.{insert_entry}
-use Rattle.std.proofs.lemmas.List.Elements.{All-cons, All-head, All-tail}
-use Rattle.rd_step.specs.declared.entries.Entry.{Entry}
-use Rattle.rd_step.specs.declared.entries.Event.{Event}
+use Rattle.std.proofs.Common.{◌↔◌, IsTrue, true≢false, is_ok, ◌⊎◌, ◌≢◌, suc, Result, Ok, Err, IsOk, IfErr, ne_eqb, ◌≡◌, ℕ, Bool, true, false, if◌then◌else◌, cond, map, refl, sym, ap, ◌∙◌, subst, List, [], ◌∷◌, ◌++◌, length, is_some, option_map, Option, Some, None, All, slice_get, arith}
+use Rattle.rd_marks.proofs.Prelude.{lookup, remove_entry, insert_entry, All-cons, All-head, All-tail, Entry, Event, MarkName, same_name, eq-eqb, false≢true, length-map, get_or_from_slice_get, slice_get-map, slice_get_within, Refusal, World, NoMark, NoMemory, MarkTaken, TooManyMarks, MOST_MARKS, IsRecordOfRun, Begins, Mark, BookState, with_marks, marked_events, without_mark, mark, drop_mark, goto_mark, mark_at, mark_events, name_and_length, MakesSteps, AnswersSame, IsEquivalent, DecidesEquivalence, mark_of, marks_of}
 use Rattle.rd_journal.specs.Journal.{events}
-use Rattle.rd_marks.specs.declared.names.MarkName.{MarkName}
-use Rattle.rd_marks.specs.Names.{same_name}
-use Rattle.std.proofs.lemmas.Bool.{eq-eqb, false≢true}
-use Rattle.std.proofs.lemmas.List.{length-map}
-use Rattle.std.proofs.lemmas.Option.{get_or_from_slice_get, slice_get-map, slice_get_within}
-use Rattle.rd_step.specs.Prelude.{Refusal, World, NoMark, NoMemory, MarkTaken, TooManyMarks}
-use Rattle.rd_journal.specs.State.{State}
-use Rattle.rd_marks.specs.NameBytes.{MOST_MARKS}
-use Rattle.rd_marks.specs.Layout.{IsRecordOfRun}
-use Rattle.rd_depend.specs.Beginnings.{Begins}
-use Rattle.rd_marks.specs.Books.{Mark, BookState, with_session, with_marks, marked_events, without_mark, mark, drop_mark, goto_mark, at_events, mark_at, mark_events, name_and_length, MakesSteps, AnswersSame}
-use Rattle.rd_step.specs.Equivalence.{IsEquivalent}
-use Rattle.rd_depend.specs.Equivalence.{DecidesEquivalence}
-use Rattle.rd_marks.specs.Marks.{mark_of, marks_of}
 
 -- taking an entry away, whatever is made of the values
 pub removed_mapped : {K V W : Type 0} (f : V → W) (test : K → Bool) (ms : List (K × V)) → map (λ m. (m.0, f m.1)) (remove_entry test ms) ≡ remove_entry test (map (λ m. (m.0, f m.1)) ms)
@@ -52,19 +34,13 @@ pub all_at : {X : Type 0} (P : X → Type 0) (xs : List X) (k : ℕ) (x : X) →
 all_at P xs k x h at = subst P (get_or_from_slice_get xs k x x at) (h k x (slice_get_within xs k x at))
 
 is_some_map : {X Y : Type 0} (f : X → Y) (o : Option X) → is_some (option_map f o) ≡ is_some o
-is_some_map f None = refl
-is_some_map f (Some x) = refl
+is_some_map f o = grind arith
 
 module _ (name : MarkName) where
   -- what is found under a name is the events of its mark
   pub found_events : (ls : List (MarkName × List Entry)) → marked_events (marks_of ls) name ≡ option_map (λ xs. events xs) (lookup (same_name name) ls)
   found_events [] = refl
-  found_events (l ∷ ls) =
-      elim (same_name name l.0) as (λ b. (if b then Some (events l.1) else marked_events (marks_of ls) name)
-      ≡ option_map (λ xs. events xs) (cond b (Some l.1) (lookup (same_name name) ls))) [
-        | true ↦ refl
-        | false ↦ found_events ls
-      ]
+  found_events (l ∷ ls) = grind (arith, option_map, cond, found_events ls)
 
   -- something is found exactly if there is a mark of that name
   pub found_marked : (ls : List (MarkName × List Entry)) → is_some (marked_events (marks_of ls) name) ≡ is_some (lookup (same_name name) ls)
@@ -73,24 +49,12 @@ module _ (name : MarkName) where
   -- without the entry of a name, the marks are without its mark
   pub marks_without : (ls : List (MarkName × List Entry)) → marks_of (remove_entry (same_name name) ls) ≡ without_mark (marks_of ls) name
   marks_without [] = refl
-  marks_without (l ∷ ls) =
-      elim (same_name name l.0) as (λ b. marks_of (cond b ls (l ∷ remove_entry (same_name name) ls))
-      ≡ (if b then marks_of ls else mark_of l ∷ without_mark (marks_of ls) name)) [
-        | true ↦ refl
-        | false ↦ ap (λ (rest : List Mark). mark_of l ∷ rest) (marks_without ls)
-      ]
+  marks_without (l ∷ ls) = grind (arith, cond, marks_without ls)
 
 -- whether something is found
 module _ {X : Type 0} (f : X → List Entry) (name : MarkName) (ls : List (MarkName × List Entry)) (o : Option X) (b : Bool) (found : option_map f o ≡ lookup (same_name name) ls) (is : b ≡ is_some o) where
   pub found_at : is_some (marked_events (marks_of ls) name) ≡ b
   found_at = found_marked name ls ∙ ap is_some (sym found) ∙ is_some_map f o ∙ sym is
-
-  pub none_at : b ≡ false → lookup (same_name name) ls ≡ None
-  none_at none = sym found ∙ by o (sym is ∙ none)
-    where
-      by : (p : Option X) → is_some p ≡ false → option_map f p ≡ None
-      by None h = refl
-      by (Some x) h = absurd (true≢false h)
 
 -- a new name goes last
 pub insert_last : {V : Type 0} (name : MarkName) (v : V) (ms : List (MarkName × V)) → lookup (same_name name) ms ≡ None → insert_entry same_name ms name v ≡ ms ++ (name, v) ∷ []
@@ -126,31 +90,15 @@ none_removed {K} {V} test (m ∷ ms) h =
       | false ↦ λ k. ap (λ (rest : List (K × V)). m ∷ rest) (none_removed test ms k)
     ]) h
 
--- going to a mark
-pub goto_missing : (b : BookState) (name : MarkName) → marked_events b.marks name ≡ None → goto_mark b name ≡ Err NoMark
-goto_missing b name none = ap (at_events b) none
-
-pub goto_done : {X : Type 0} (r : Result X Refusal) (b c : BookState) (name : MarkName) (es : List Event) → marked_events b.marks name ≡ Some es → c ≡ with_session b c.session
-    → OnOk r (c.session ≡ record { start = b.session.start; live = es; undone = [] }) → OnOk r (goto_mark b name ≡ Ok c)
-goto_done (Ok x) b c name es there marks same = ap (at_events b) there ∙ ap (λ (t : State). Ok (with_session b t)) (sym same) ∙ ap (λ (d : BookState). Ok d) (sym marks)
-goto_done (Err e) b c name es there marks same = tt
-
 -- which only memory for its steps can refuse
 pub goto_not_done : {X : Type 0} (r : Result X Refusal) (b : BookState) (name : MarkName) (es : List Event) → marked_events b.marks name ≡ Some es
     → IfErr r (λ refusal. refusal ≡ NoMemory) → (Begins es b.session.live → IsOk r)
     → IfErr r (λ refusal. (goto_mark b name ≡ Err refusal) ⊎ ((refusal ≡ NoMemory) × MakesSteps b name))
-goto_not_done (Ok x) b name es there h goes = tt
-goto_not_done (Err e) b name es there h goes = inr (h, (es, there, λ (begins : Begins es b.session.live). let no = goes begins in cc))
+goto_not_done r b name es there h goes = grind arith
 
 -- The comparison of two marks
 
 module _ (R : ℕ) (w : World) (o p : Option (List Event)) where
-  pub first_missing : o ≡ None → AnswersSame R w o p (Err NoMark)
-  first_missing h = rw h refl
-
-  pub second_missing : (es : List Event) → o ≡ Some es → p ≡ None → AnswersSame R w o p (Err NoMark)
-  second_missing es h k = rw (h, k) refl
-
   pub both_there : (es fs : List Event) (said : Result Bool Refusal) → o ≡ Some es → p ≡ Some fs → AnswersSame R w (Some es) (Some fs) said → AnswersSame R w o p said
   both_there es fs said h k a = rw (h, k) a
 

@@ -1,22 +1,11 @@
 -- Changing what each name has, one after another, and reading it.
 use Rattle.std.proofs.Common.{◌≡◌, ℕ, zero, suc, ◌≤◌, max, refl, sym, ap, subst, List, [], ◌∷◌, ◌++◌, map, length, take, drop, slice_get, Some, All, arith}
-use Rattle.std.specs.Map.{values_of}
-use Rattle.std.proofs.lemmas.List.Elements.{All-head, All-tail}
-use Rattle.indexmap.specs.IndexMap.{set_value_at}
-use Rattle.rd_marks.specs.declared.names.MarkName.{MarkName}
-use Rattle.rd_marks.specs.declared.stretches.Place.{Place}
-use Rattle.rd_marks.specs.Layout.{places_of}
-use Rattle.rd_marks.specs.Stretches.{greatest_in, number_if_in}
+use Rattle.rd_marks.proofs.Prelude.{values_of, All-head, All-tail, set_value_at, MarkName, Place, places_of, greatest_in, number_if_in}
 
 module _ {K V : Type 0} (f : V → V) where
   -- the first n changed
   abbrev pub changed : ℕ → List (K × V) → List (K × V)
   changed n es = map (λ (e : K × V). (e.0, f e.1)) (take n es) ++ drop n es
-
-  pub changed_length : (n : ℕ) (es : List (K × V)) → length (changed n es) ≡ length es
-  changed_length zero es = refl
-  changed_length (suc n) [] = refl
-  changed_length (suc n) (e ∷ es) = ap suc (changed_length n es)
 
   -- and the next one
   pub changed_next : (n : ℕ) (es : List (K × V)) (v : V) → slice_get (values_of (changed n es)) n ≡ Some v → set_value_at (changed n es) n (f v) ≡ changed (suc n) es
@@ -46,12 +35,6 @@ pub greatest_next : (i k : ℕ) (ms : List (MarkName × Place)) (m : MarkName ×
 greatest_next i k [] m h = cc
 greatest_next i zero (n ∷ ms) m h = (let same : n ≡ m = cc in ap (λ (d : MarkName × Place). max (number_if_in i d.1) (greatest_in i (places_of ms))) same)
 greatest_next i (suc k) (n ∷ ms) m h = greatest_next i k ms m h
-
-pub none_left : (i k : ℕ) (ms : List (MarkName × Place)) → length ms ≤ k → greatest_in i (places_of (drop k ms)) ≡ 0
-none_left i zero [] h = refl
-none_left i zero (m ∷ ms) h = absurd (omega (arith, h))
-none_left i (suc k) [] h = refl
-none_left i (suc k) (m ∷ ms) h = none_left i k ms (omega (arith, h))
 
 -- taking them in is as good
 pub max_assoc : (a b c : ℕ) → max (max a b) c ≡ max a (max b c)

@@ -1,12 +1,9 @@
 -- A name is ASCII, so it is text.
 use Rattle.std.proofs.Common.{◌≡◌, ℕ, ◌<◌, ◌==◌, true, not, nat_lt, ◌&&◌, List, [], ◌∷◌, length, arith}
+use Rattle.rd_marks.proofs.Prelude.{list_all, and_parts, nat_tests, is_mark_name, is_name_byte, MOST_NAME_BYTES}
 use Rattle.std.specs.Str.{IsAscii, IsUtf8}
-use Rattle.std.specs.List.{list_all}
 use Rattle.std.proofs.lemmas.Str.{IsUtf8-from_ascii}
 use Rattle.std.proofs.lemmas.Str.Ascii.{IsAscii-nil, IsAscii-cons}
-use Rattle.std.proofs.lemmas.Bool.{and_parts}
-use Rattle.std.proofs.lemmas.Bool.Decides.{nat_tests}
-use Rattle.rd_marks.specs.NameBytes.{is_mark_name, is_name_byte, MOST_NAME_BYTES}
 
 name_byte_small : (b : ℕ) → is_name_byte b ≡ true → b < 128
 name_byte_small b h = grind (arith, nat_tests)

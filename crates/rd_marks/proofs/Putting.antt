@@ -1,28 +1,12 @@
 -- What the bookmarks are after one was put, and after stretches were shrunk.
-use Rattle.std.proofs.Common.{◌≡◌, ℕ, zero, suc, ◌^◌, ◌<◌, ◌≤◌, inl, inr, refl, sym, ap, ◌∙◌, subst, List, [], ◌∷◌, ◌++◌, map, length, take, drop, length-append, option_map, Option, Some, None, All, arith}
-use Rattle.std.proofs.lemmas.Bool.{cases_lt}
-use Rattle.std.proofs.lemmas.List.Sums.{sum_by-le}
-use Rattle.std.proofs.lemmas.List.{length-map, map-append, take-append-drop}
-use Rattle.std.proofs.lemmas.List.Elements.{All-push, All-contains, All-cons, All-head, All-map, All-nil, All-tail}
-use Rattle.rd_step.specs.Prelude.{World, MOST_STEPS}
+use Rattle.std.proofs.Common.{◌≡◌, ℕ, zero, suc, ◌^◌, ◌<◌, ◌≤◌, inl, inr, refl, sym, ap, ◌∙◌, subst, List, [], ◌∷◌, ◌++◌, map, length, take, drop, length-append, option_map, Option, None, All, arith}
+use Rattle.rd_marks.proofs.Prelude.{cases_lt, sum_by-le, length-map, map-append, take-append-drop, All-push, All-contains, All-head, All-map, All-nil, All-tail, World, MOST_STEPS, Event, Entry, Begins, MarkName, Place, Stretch, Shift, shifted, Stays, IsGrown, IsShrunk, IsUnchanged, MOST_MARKS, IsRecordOfRun, AreRuns, IsKept, IsPruned, named_lists, places_of, count_of, stretch_list, records_at, greatest_in, needed_at, IsWithin, IsAlong, AreNested, AreNeeded, AreNeededFrom, nat_tests}
 use Rattle.rd_step.specs.Run.{events}
-use Rattle.rd_step.specs.declared.entries.Event.{Event}
-use Rattle.rd_step.specs.declared.entries.Entry.{Entry}
-use Rattle.rd_depend.specs.Beginnings.{Begins}
 use Rattle.rd_journal.specs.Journal.{IsRunFrom}
-use Rattle.rd_marks.specs.declared.names.MarkName.{MarkName}
-use Rattle.rd_marks.specs.declared.stretches.Place.{Place}
-use Rattle.rd_marks.specs.declared.stretches.Stretch.{Stretch}
 use Rattle.rd_marks.specs.declared.stretches.changes.Grown.{Grown}
-use Rattle.rd_marks.specs.declared.stretches.changes.Shift.{Shift}
-use Rattle.rd_marks.specs.Changes.{shifted, Stays, IsGrown, IsShrunk, IsUnchanged}
-use Rattle.rd_marks.specs.NameBytes.{MOST_MARKS}
-use Rattle.rd_marks.specs.Layout.{IsRecordOfRun, AreRuns, IsKept, IsPruned, named_lists, places_of}
-use Rattle.rd_marks.specs.Stretches.{count_of, stretch_list, records_at, greatest_in, needed_at, IsWithin, IsAlong, AreNested, AreNeeded, AreNeededFrom}
 use Rattle.rd_marks.proofs.Counting.{begins_one, contains_mapped, count_bounded}
 use Rattle.rd_marks.proofs.RecordLemmas.{begin_alike}
 use Rattle.rd_marks.proofs.Starting.{begins_itself, begins_trans, events_of_first, fewer_begin, stretch_within}
-use Rattle.std.proofs.lemmas.Bool.Decides.{nat_tests}
 
 -- the names with where their places moved
 abbrev pub names_shifted : Shift → List (MarkName × Place) → List (MarkName × Place)
@@ -105,12 +89,7 @@ module _ (old new : List Stretch) (unchanged : IsUnchanged old new) where
       → IsKept new es here × (named_lists new es ≡ named_lists old ms) × (records_at new here ≡ records_at old here)
   kept_same ms es here its kept =
       subst (λ (fs : List (MarkName × Place)). IsKept new fs here × (named_lists new fs ≡ named_lists old ms) × (records_at new here ≡ records_at old here)) (sym its) (
-        record {
-          few = kept.few;
-          within = each (IsWithin old) (IsWithin new) ms (λ p within. (unchanged.stays p within).within) kept.within;
-          needed = unchanged.needed (places_of ms) kept.needed;
-          lies = (unchanged.stays here kept.lies).within;
-        },
+        grind (arith, each),
         lists_same ms kept.within,
         (unchanged.stays here kept.lies).same,
       )
@@ -135,10 +114,7 @@ same_records R w ss rule ms needed runs at within live run along = by at.number 
 
 pub greatest_of : (i : ℕ) (ms : List (MarkName × Place)) → All (λ (m : MarkName × Place). m.1.stretch ≡ i → m.1.number ≤ greatest_in i (places_of ms)) ms
 greatest_of i [] = All-nil (λ (m : MarkName × Place). m.1.stretch ≡ i → m.1.number ≤ 0)
-greatest_of i (m ∷ ms) =
-    All-cons (λ (n : MarkName × Place). n.1.stretch ≡ i → n.1.number ≤ greatest_in i (places_of (m ∷ ms))) m ms
-    (λ here. grind (arith, nat_tests))
-    (λ k d inside here. let rest = greatest_of i ms k d inside here in grind (arith, nat_tests))
+greatest_of i (m ∷ ms) = grind (arith, nat_tests, greatest_of i ms)
 
 module _ (old new : List Stretch) (i n : ℕ) (shift : Shift) (shrunk : IsShrunk old new i n shift) (ms : List (MarkName × Place)) (its : n ≡ needed_at old (places_of ms) i)
     (within : All (λ (m : MarkName × Place). IsWithin old m.1) ms) (needed : AreNeededFrom (suc i) old (places_of ms)) where
@@ -162,26 +138,15 @@ module _ (old new : List Stretch) (i n : ℕ) (shift : Shift) (shrunk : IsShrunk
 -- nothing pruned yet, and once more
 pub not_pruned : (ss : List Stretch) (ms : List (MarkName × Place)) (here : Place) → All (λ (m : MarkName × Place). IsWithin ss m.1) ms → IsWithin ss here
     → IsPruned (length ss) ss ss ms ms here here
-not_pruned ss ms here within lies =
-    record { lists = refl; within = within; needed = λ i high inside. absurd (omega (arith, high, inside)); lies = lies; begins = begins_itself (records_at ss here) }
+not_pruned ss ms here within lies = grind (arith, begins_itself)
 
 pub pruned_on : (i k : ℕ) (a b c : List Stretch) (ms ns ls : List (MarkName × Place)) (p q r : Place) → IsPruned k a b ms ns p q → IsPruned i b c ns ls q r → IsPruned i a c ms ls p r
-pruned_on i k a b c ms ns ls p q r first second = record {
-  lists = second.lists ∙ first.lists;
-  within = second.within;
-  needed = second.needed;
-  lies = second.lies;
-  begins = begins_trans (records_at c r) (records_at b q) (records_at a p) second.begins first.begins;
-}
+pruned_on i k a b c ms ns ls p q r first second = grind (arith, begins_trans)
 
 -- The number of all records
 
 number_few : (ss : List Stretch) → AreNested ss → (p : Place) → IsWithin ss p → p.number ≤ MOST_STEPS
-number_few ss rule p within =
-    elim (cases_lt 0 p.number) [
-      | inl some ↦ omega (arith, rule.few p.stretch (stretch_within ss p within some), within)
-      | inr none ↦ omega (arith, none)
-    ]
+number_few ss rule p within = grind (arith, stretch_within)
 
 -- it is a number of a machine
 pub count_fits : (ss : List Stretch) → AreNested ss → (ms : List (MarkName × Place)) → AreNeeded ss (places_of ms) → All (λ (m : MarkName × Place). IsWithin ss m.1) ms
@@ -198,8 +163,7 @@ runs_put R w ls ms name xs runs run its =
 
 -- a name that none of the lists has is none of the names
 pub none_named : (f : Place → List Entry) (o : Option Place) → option_map f o ≡ None → o ≡ None
-none_named f None h = refl
-none_named f (Some p) h = cc
+none_named f o h = grind arith
 
 -- Setting a bookmark
 

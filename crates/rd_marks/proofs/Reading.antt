@@ -1,18 +1,10 @@
 -- Reading the records of a place, and what the stretches have in common with other records.
 use Rattle.std.proofs.Common.{◌≡◌, ◌⊎◌, ℕ, zero, suc, ◌+◌, ◌-◌, ◌<◌, ◌≤◌, min, inl, inr, refl, sym, ap, ◌∙◌, subst, List, [], ◌∷◌, ◌++◌, length, take, drop, get_or, reverse, slice_get, option_map, Some, arith}
-use Rattle.std.proofs.Math.Seq.{drop-cons, take-add}
-use Rattle.std.proofs.lemmas.Bool.{cases_eq, cases_lt}
-use Rattle.std.proofs.lemmas.List.{append_assoc, drop-map, drop-take, length-map, reverse-append, take-take}
-use Rattle.std.proofs.lemmas.Option.{slice_get-map, slice_get_read, slice_get_within}
+use Rattle.rd_marks.proofs.Prelude.{drop-cons, take-add, cases_eq, cases_lt, append_assoc, drop-map, drop-take, length-map, reverse-append, take-take, slice_get-map, slice_get_read, slice_get_within, Event, Entry, Place, Stretch, count_of, stretch_list, list_before, shared_at, records_at, IsWithin, IsOwn, IsAlong, AreNested, AreFresh}
 use Rattle.rd_step.specs.Run.{events}
-use Rattle.rd_step.specs.declared.entries.Event.{Event}
-use Rattle.rd_step.specs.declared.entries.Entry.{Entry}
 use Rattle.rd_step.specs.Lists.{numbered}
-use Rattle.rd_marks.specs.declared.stretches.Place.{Place}
-use Rattle.rd_marks.specs.declared.stretches.Stretch.{Stretch}
-use Rattle.rd_marks.specs.Stretches.{count_of, stretch_list, list_before, shared_at, records_at, IsWithin, IsOwn, IsAlong, AreNested, AreFresh}
 use Rattle.rd_marks.proofs.StretchLists.{own_at, stretch_there, total, shared_within, begins_shared, behind_shared, list_past}
-use Rattle.rd_marks.proofs.Fresh.{Follows, follows_compared, follows_parted, follows_skipped, along_itself, between}
+use Rattle.rd_marks.proofs.Fresh.{Follows, follows_compared, follows_skipped, along_itself, between}
 use Rattle.rd_marks.proofs.Starting.{first_events, stretch_within}
 
 -- Positions in lists
@@ -59,23 +51,17 @@ alike_on xs ys n x y inside inside_too its its_too same alike =
     rw e (one_more (events xs) n x.event here ∙ (λ i. alike i ++ same i ∷ []) ∙ sym (one_more (events ys) n y.event there))
 
 pub alike_past : (xs ys : List Entry) (n : ℕ) → min (length xs) (length ys) ≤ n → (e : Event) → slice_get (events xs) n ≡ Some e → slice_get (events ys) n ≡ Some e → ⊥
-alike_past xs ys n past e here there =
-    omega (arith, past, slice_get_within (events xs) n e here, slice_get_within (events ys) n e there, length-map xs (λ (x : Entry). x.event), length-map ys (λ (y : Entry). y.event))
+alike_past xs ys n past e here there = grind (arith, slice_get_within, length-map)
 
 -- From the last one up
 
 -- one more record read
 pub read_on : {X : Type 0} (ps qs rs xs : List X) (x : X) → ps ≡ qs ++ x ∷ [] → xs ≡ ps ++ reverse rs → xs ≡ qs ++ reverse (rs ++ x ∷ [])
-read_on {X} ps qs rs xs x h k =
-    k ∙ ap (λ (ys : List X). ys ++ reverse rs) h ∙ append_assoc qs (x ∷ []) (reverse rs) ∙ ap (λ (ys : List X). qs ++ ys) (sym (reverse-append rs (x ∷ [])))
+read_on {X} ps qs rs xs x h k = grind (arith, reverse, append_assoc, reverse-append)
 
 -- the last record of a beginning is of the event whose number is its length
 pub event_there : (xs : List Entry) (m n k : ℕ) (x : Entry) → 1 ≤ n → m ≡ n → k ≡ m - 1 → slice_get (take m xs) k ≡ Some x → (l : ℕ) → n ≤ l → Some x.event ≡ numbered (events (take l xs)) n
-event_there xs m zero k x some same at h l fewer = absurd (omega (arith, some))
-event_there xs m (suc n) k x some same at h l fewer =
-    let its : k ≡ n = omega (arith, same, at) in
-    let here : slice_get xs n ≡ Some x = sym (slice_get_take xs m n (omega (arith, same))) ∙ ap (slice_get (take m xs)) (sym its) ∙ h in
-    sym (slice_get-map (λ (y : Entry). y.event) (take l xs) n ∙ ap (option_map (λ (y : Entry). y.event)) (slice_get_take xs l n (omega (arith, fewer)) ∙ here))
+event_there xs m n k x some same at h l fewer = grind (arith, slice_get, slice_get_take, slice_get-map, option_map)
 
 -- events after the first are those of the records after the first
 pub events_behind : (k : ℕ) (xs : List Entry) → events (drop k xs) ≡ drop k (events xs)
@@ -83,15 +69,11 @@ events_behind k xs = sym (drop-map (λ (x : Entry). x.event) k xs)
 
 -- a stretch that was read
 pub stretch_at : (ss xs : List Stretch) (i : ℕ) (s : Stretch) → xs ≡ ss → i < length xs → s ≡ get_or xs i s → (i < length ss) × (shared_at ss i ≡ s.shared) × (own_at ss i ≡ s.records.items)
-stretch_at ss xs i s same inside its =
-    let there = stretch_there ss i s (omega (arith, inside, ap length same)) in
-    let is : get_or ss i s ≡ s = ap (λ (rs : List Stretch). get_or rs i s) (sym same) ∙ sym its in
-    (omega (arith, inside, ap length same), there.0 ∙ ap (λ (r : Stretch). r.shared) is, there.1 ∙ ap (λ (r : Stretch). r.records.items) is)
+stretch_at ss xs i s same inside its = grind (arith, stretch_there)
 
 -- one stretch of those that are counted
 pub count_on : (ss : List Stretch) (i : ℕ) (s : Stretch) → i < length ss → s ≡ get_or ss i s → count_of (drop i ss) ≡ length s.records.items + count_of (drop (suc i) ss)
-count_on ss i s inside its =
-    ap count_of (drop-cons ss i s inside) ∙ ap (λ (r : Stretch). length r.records.items + count_of (drop (suc i) ss)) (sym its)
+count_on ss i s inside its = grind (arith, drop-cons)
 
 module _ (ss : List Stretch) (rule : AreNested ss) where
   -- a place none of whose records is its stretch's own, and that in the stretch before
@@ -112,26 +94,14 @@ module _ (ss : List Stretch) (rule : AreNested ss) where
       begins_shared ss rule (suc i) d shared ∙ sym (take-take d c (stretch_list ss i) less) ∙ ap (take d) same ∙ take-take d c (stretch_list ss one) less
 
   pub own_cases : (p : Place) → IsOwn ss p → (p.stretch ≡ 0) ⊎ (shared_at ss p.stretch < p.number)
-  own_cases p own =
-      elim (cases_lt 0 p.stretch) [
-        | inl some ↦ inr (own some)
-        | inr none ↦ inl (omega (arith, none))
-      ]
+  own_cases p own = grind arith
 
   -- the number of a place in its own stretch is no less than what is shared
   pub own_number : (p : Place) → IsOwn ss p → shared_at ss p.stretch ≤ p.number
-  own_number p own =
-      elim (own_cases p own) [
-        | inl first ↦ omega (arith, shared_within ss rule 0, ap (shared_at ss) first)
-        | inr less ↦ omega (arith, less)
-      ]
+  own_number p own = grind (arith, shared_within)
 
   pub own_less : (p : Place) → IsOwn ss p → 0 < p.number → shared_at ss p.stretch < p.number
-  own_less p own some =
-      elim (own_cases p own) [
-        | inl first ↦ omega (arith, shared_within ss rule 0, some, ap (shared_at ss) first)
-        | inr less ↦ less
-      ]
+  own_less p own some = grind (arith, shared_within)
 
   -- a place has one record more than that of one fewer
   pub without_last : (p : Place) (x : Entry) → 0 < p.number → slice_get (records_at ss p) (p.number - 1) ≡ Some x
@@ -189,13 +159,7 @@ module _ (ss : List Stretch) (rule : AreNested ss) (fresh : AreFresh ss) (es : L
         | inl further ↦
             rw (more further) (follows_compared ss rule fresh es k at.stretch at.number m f h along most, omega arith)
         | inr no_further ↦
-            let same : m ≡ at.number = omega (arith, h, no_further) in
-            let which : (at.stretch ≡ k) ⊎ (shared_at ss k ≡ at.number) =
-            elim low [
-              | inl here ↦ inl here
-              | inr less ↦ inr (omega (arith, less, shared))
-            ] in
-            rw (others same) (follows_parted ss rule fresh es k at.stretch at.number f which (subst (λ (n : ℕ). IsAlong ss k (suc n) es → ⊥) same most), high)
+            grind (arith)
       ]
 
   pub step_skipped : (at.stretch ≡ k → shared_at ss k ≤ at.number) → at.number < shared_at ss k → Follows ss es (suc k) at.stretch at.number × (at.stretch ≤ k)
@@ -225,17 +189,8 @@ pub record Reaches (ss : List Stretch) (at : Place) (i : ℕ) : Type 0 where
   pub same : take at.number (list_before ss i) ≡ records_at ss at
 
 module _ (ss : List Stretch) (rule : AreNested ss) (at : Place) (within : IsWithin ss at) where
-  reaches_first : (i : ℕ) → at.stretch ≡ i → Reaches ss at (suc i)
-  reaches_first i here = record { enough = rw (sym here) within; same = ap (λ (k : ℕ). take at.number (stretch_list ss k)) (sym here) }
-
   pub reaches_on : (i : ℕ) → (at.stretch ≡ i) ⊎ (at.number < shared_at ss i) → (at.stretch < i → Reaches ss at i) → at.stretch ≤ i → Reaches ss at (suc i)
-  reaches_on i (inl here) before high = reaches_first i here
-  reaches_on i (inr less) before high =
-      elim (cases_lt at.stretch i) [
-        | inl low ↦
-            record { enough = omega (arith, total ss rule i, less); same = begins_shared ss rule i at.number (omega (arith, less)) ∙ (before low).same }
-        | inr same ↦ reaches_first i (omega (arith, same, high))
-      ]
+  reaches_on i h before high = grind (arith, total, begins_shared)
 
   -- after the last one
   pub reaches_end : (i n : ℕ) → n ≡ length ss → (at.stretch < length ss → i ≡ n) → (at.stretch < i → Reaches ss at i) → Reaches ss at n
@@ -243,6 +198,5 @@ module _ (ss : List Stretch) (rule : AreNested ss) (at : Place) (within : IsWith
       elim (cases_lt at.stretch (length ss)) [
         | inl inside ↦ subst (λ (k : ℕ). Reaches ss at k) (end inside) (before (omega (arith, inside, all, end inside)))
         | inr past ↦
-            let no_records : at.number ≡ 0 = omega (arith, ap length (list_past ss at.stretch past), within) in
-            record { enough = omega (arith, no_records); same = rw no_records refl }
+            grind (arith, list_past)
       ]

@@ -1,14 +1,7 @@
 -- The records of a session's live steps, and that they are those of a run.
-use Rattle.std.proofs.Common.{◌≡◌, ℕ, zero, suc, drop, ◌+◌, ◌≤◌, refl, sym, ap, subst, ◌∙◌, List, [], ◌∷◌, ◌++◌, length, take, ◌-◌, Result, Ok, Err, OnOk, length-drop, arith}
-use Rattle.std.proofs.Math.Seq.{take-length}
-use Rattle.rd_step.specs.Prelude.{Refusal, MOST_STEPS, World, Stepped, step, Ran, run}
-use Rattle.rd_step.specs.Run.{run_preceded_by, run_from_step}
-use Rattle.rd_step.specs.declared.entries.Event.{Event}
-use Rattle.std.proofs.lemmas.List.{take-append-drop, drop-map}
-use Rattle.rd_step.specs.declared.entries.Entry.{Entry}
-use Rattle.rd_journal.specs.State.{State, state_of, switch}
-use Rattle.rd_journal.specs.Journal.{Journal, start_of, events, run_entries, IsRunFrom}
-use Rattle.rd_marks.specs.Layout.{IsRecordOfRun}
+use Rattle.std.proofs.Common.{◌≡◌, ℕ, zero, suc, drop, ◌+◌, ◌≤◌, refl, sym, ap, subst, ◌∙◌, List, [], ◌∷◌, ◌++◌, length, take, ◌-◌, Result, Ok, OnOk, length-drop, arith}
+use Rattle.rd_marks.proofs.Prelude.{take-length, Refusal, MOST_STEPS, World, Stepped, step, run, run_from_step, Event, take-append-drop, drop-map, Entry, State, state_of, switch, Journal, start_of, IsRecordOfRun}
+use Rattle.rd_journal.specs.Journal.{events, run_entries, IsRunFrom}
 
 -- A start and its events determine the records of a run
 
@@ -19,16 +12,9 @@ pub record Began (R : ℕ) (w : World) (x : Entry) (xs : List Entry) : Type 0 wh
   pub entry : stepped.entry ≡ x
   pub rest : run_entries (run R stepped.world (events xs)) ≡ Ok xs
 
-preceded : (y x : Entry) (xs : List Entry) (q : Result Ran Refusal) → run_entries (run_preceded_by y q) ≡ Ok (x ∷ xs) → (y ≡ x) × (run_entries q ≡ Ok xs)
-preceded y x xs (Err e) h = cc
-preceded y x xs (Ok ran) h = (cc, let rest : ran.entries ≡ xs = cc in ap (λ (es : List Entry). Ok es) rest)
-
 began_by : (R : ℕ) (w : World) (x : Entry) (xs : List Entry) (r : Result Stepped Refusal) → step R w x.event ≡ r
     → run_entries (run_from_step (λ v. run R v (events xs)) r) ≡ Ok (x ∷ xs) → Began R w x xs
-began_by R w x xs (Err e) goes h = cc
-began_by R w x xs (Ok s) goes h =
-    let p = preceded s.entry x xs (run R s.world (events xs)) h in
-    record { stepped = s; goes = goes; entry = p.0; rest = p.1 }
+began_by h w x xs r goes k = grind arith
 
 pub began : (R : ℕ) (w : World) (x : Entry) (xs : List Entry) → run_entries (run R w (events (x ∷ xs))) ≡ Ok (x ∷ xs) → Began R w x xs
 began R w x xs h = began_by R w x xs (step R w x.event) refl h
@@ -64,10 +50,7 @@ joined_events n es ys h =
 -- the state after a switch to records of a run
 pub switched : {X : Type 0} (r : Result X Refusal) (s t : State) (n : ℕ) (zs ys : List Entry) → zs ≡ drop n ys → take n s.live ≡ take n (events ys)
     → OnOk r (t ≡ switch s n (events zs)) → OnOk r (t ≡ record { start = s.start; live = events ys; undone = [] })
-switched (Err e) s t n zs ys given h k = tt
-switched (Ok x) s t n zs ys given h k =
-    k ∙ ap (λ (xs : List Entry). record { start = s.start; live = take n s.live ++ events xs; undone = [] }) given
-    ∙ ap (λ (es : List Event). record { start = s.start; live = es; undone = [] }) (joined_events n s.live ys h)
+switched r s t n zs ys given h k = grind (arith, joined_events)
 
 -- what a switch to records of a run asks for
 pub may_switch : (R : ℕ) (j : Journal) (n : ℕ) (zs ys : List Entry) → zs ≡ drop n ys → IsRunFrom R (start_of j) j.live → IsRecordOfRun R (start_of j) ys

@@ -1,24 +1,13 @@
 -- The rules that the bookmarks of a book keep, from how it keeps them.
-use Rattle.std.proofs.Common.{◌≡◌, ◌≤◌, ℕ, refl, sym, ap, subst, List, [], ◌∷◌, map, length, Result, Ok, Err, IsOk, arith}
-use Rattle.std.specs.List.{IsDistinct}
-use Rattle.std.proofs.lemmas.List.{length-map}
-use Rattle.std.proofs.lemmas.List.Elements.{All-head, All-tail}
-use Rattle.rd_step.specs.Prelude.{World, Refusal, run}
-use Rattle.rd_step.specs.Run.{Ran, run_entries}
-use Rattle.rd_step.specs.declared.entries.Entry.{Entry}
+use Rattle.std.proofs.Common.{◌≡◌, ◌≤◌, ℕ, refl, sym, ap, subst, List, [], ◌∷◌, map, length, Result, Ok, IsOk, arith}
+use Rattle.rd_marks.proofs.Prelude.{IsDistinct, length-map, All-head, All-tail, World, Refusal, run, Ran, Entry, MarkName, MOST_MARKS, same_name, Mark, BookState, AreRuns, IsRecordOfRun, mark_of, marks_of}
+use Rattle.rd_step.specs.Run.{run_entries}
 use Rattle.rd_journal.specs.Journal.{events}
-use Rattle.rd_marks.specs.declared.names.MarkName.{MarkName}
-use Rattle.rd_marks.specs.NameBytes.{MOST_MARKS}
-use Rattle.rd_marks.specs.Names.{same_name}
-use Rattle.rd_marks.specs.Books.{Mark, BookState}
-use Rattle.rd_marks.specs.Layout.{AreRuns, IsRecordOfRun}
-use Rattle.rd_marks.specs.Marks.{mark_of, marks_of}
-use Rattle.rd_marks.specs.Rules.{GoThrough, MarksGoThrough, HaveDifferentNames, KeepsRules}
+use Rattle.rd_marks.specs.Rules.{GoThrough, MarksGoThrough, KeepsRules}
 
 -- a run that leaves entries goes through
 went : (ran : Result Ran Refusal) (xs : List Entry) → run_entries ran ≡ Ok xs → IsOk ran
-went (Ok r) xs h = refl
-went (Err refusal) xs h = absurd (cc)
+went ran xs h = grind arith
 
 events_go : (R : ℕ) (w : World) (xs : List Entry) → IsRecordOfRun R w xs → GoThrough R w (events xs)
 events_go R w xs h = record { few = omega (arith, h.few, length-map xs (λ (x : Entry). x.event)); runs = went (run R w (events xs)) xs h.ran }
@@ -37,7 +26,6 @@ pub keeps_rules : (R : ℕ) (b : BookState) (ls : List (MarkName × List Entry))
 keeps_rules R b ls same few runs distinct = record {
   few = omega (arith, few, ap length same, length-map ls (λ l. mark_of l));
   names =
-      subst (λ (xs : List Mark). HaveDifferentNames xs) (sym same)
-      (subst (λ (names : List MarkName). IsDistinct same_name names) (names_of ls) distinct);
+      grind (arith, names_of);
   through = subst (λ (xs : List Mark). MarksGoThrough R b.session.start xs) (sym same) (marks_go R b.session.start ls runs);
 }

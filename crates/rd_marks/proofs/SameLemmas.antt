@@ -1,14 +1,7 @@
 -- Lists of which one begins the other are equivalent only if they are one.
-use Rattle.std.proofs.Common.{◌≡◌, ℕ, ◌⊎◌, inl, inr, Bool, ◌==◌, refl, sym, ap, ◌∙◌, subst, List, [], ◌∷◌, ◌++◌, length, take, drop, ◌-◌, ◌≤◌, length-append, arith, eqb-true}
-use Rattle.std.proofs.lemmas.Bool.{eq-eqb}
-use Rattle.std.proofs.lemmas.List.{length-map, take_all}
-use Rattle.rd_step.specs.Prelude.{World}
+use Rattle.std.proofs.Common.{◌≡◌, ℕ, ◌⊎◌, Bool, ◌==◌, refl, sym, ap, ◌∙◌, subst, List, [], ◌∷◌, ◌++◌, length, take, drop, ◌-◌, ◌≤◌, length-append, arith, eqb-true}
+use Rattle.rd_marks.proofs.Prelude.{eq-eqb, length-map, take_all, World, IsEquivalent, Event, Entry, Begins, DecidesEquivalence}
 use Rattle.rd_step.specs.Run.{events, IsRunFrom}
-use Rattle.rd_step.specs.Equivalence.{IsEquivalent}
-use Rattle.rd_step.specs.declared.entries.Event.{Event}
-use Rattle.rd_step.specs.declared.entries.Entry.{Entry}
-use Rattle.rd_depend.specs.Beginnings.{Begins}
-use Rattle.rd_depend.specs.Equivalence.{DecidesEquivalence}
 use Rattle.rd_depend.proofs.Exactness.{right_behind}
 use Rattle.rd_marks.proofs.RecordLemmas.{began, to_the_end}
 use Rattle.rd_marks.proofs.Starting.{begins_shorter}
@@ -16,11 +9,7 @@ use Rattle.rd_marks.proofs.Starting.{begins_shorter}
 -- equivalent lists are equally long
 pub equivalent_length : (R : ℕ) (w : World) (es fs : List Event) → IsEquivalent R w es fs → length es ≡ length fs
 equivalent_length R w [] fs h = sym (ap length h)
-equivalent_length R w (e ∷ es) fs h =
-    let rest = equivalent_length R h.stepped.world es (h.earlier ++ h.later) h.rest in
-    let left = length-append h.earlier h.later in
-    let all = ap length h.stands ∙ length-append h.earlier (e ∷ h.later) in
-    omega (arith, rest, left, all)
+equivalent_length R w (e ∷ es) fs h = grind (arith, length-append, equivalent_length R h.stepped.world es (h.earlier ++ h.later) h.rest)
 
 -- a list that runs is equivalent to itself
 pub equivalent_itself : (R : ℕ) (w : World) (xs : List Entry) → IsRunFrom R w xs → IsEquivalent R w (events xs) (events xs)
@@ -43,17 +32,7 @@ event_length xs = length-map xs (λ (x : Entry). x.event)
 module _ (ones others : List Entry) (m n c : ℕ) (long : length ones ≡ m) (long_too : length others ≡ n) (alike : take c ones ≡ take c others) where
   -- lists that are alike up to the end of one are equivalent exactly if they are equally long
   pub decided_by_length : (c ≡ m) ⊎ (c ≡ n) → (same : Bool) → same ≡ (m == n) → DecidesEquivalence ones others same
-  decided_by_length meets same tested R w p q = (
-    λ h.
-        (let deep : m ≡ n = eqb-true m n (sym tested ∙ h) in
-        let at_end : c ≡ m = elim meets [ inl is ↦ is | inr is ↦ is ∙ sym deep ] in
-        let one : ones ≡ others =
-        sym (take_all c ones (omega (arith, long, at_end))) ∙ alike ∙ take_all c others (omega (arith, long_too, at_end, deep)) in
-        subst (λ (xs : List Entry). IsEquivalent R w (events ones) (events xs)) one (equivalent_itself R w ones p)),
-    λ h.
-        (let as_long = sym (event_length ones) ∙ equivalent_length R w (events ones) (events others) h ∙ event_length others in
-        tested ∙ eq-eqb m n (omega (arith, as_long, long, long_too))),
-  )
+  decided_by_length meets same tested h w p q = grind (arith, eqb-true, take_all, equivalent_itself, event_length, equivalent_length, eq-eqb)
 
   -- an answer for what is after what they have in common is one for the lists
   pub decided_behind : c ≤ m → c ≤ n → (same : Bool) (xs ys : List Entry) → xs ≡ drop c ones → ys ≡ drop c others → DecidesEquivalence xs ys same → DecidesEquivalence ones others same
@@ -66,12 +45,4 @@ module _ (ones others : List Entry) (m n c : ℕ) (long : length ones ≡ m) (lo
 pub not_begun : (xs ys : List Entry) (c : ℕ)
     → ((n : ℕ) → n ≤ length xs → n ≤ length ys → take n (events xs) ≡ take n (events ys) → n ≤ c) → c ≤ length xs → (c ≡ length xs → ⊥)
     → Begins (events xs) (events ys) → ⊥
-not_begun xs ys c most within apart h =
-    let lx = event_length xs in
-    let ly = event_length ys in
-    let short = begins_shorter (events xs) (events ys) h in
-    let n = length xs in
-    let alike : take n (events xs) ≡ take n (events ys) =
-    take_all n (events xs) (omega (arith, lx)) ∙ sym h ∙ ap (λ (m : ℕ). take m (events ys)) lx in
-    let all = most n (omega arith) (omega (arith, lx, ly, short)) alike in
-    apart (omega (arith, all, within))
+not_begun xs ys c most within apart h = grind (arith, event_length, begins_shorter, take_all)

@@ -1,14 +1,7 @@
 -- Lists that begin others, and the records up to a place.
-use Rattle.std.proofs.Common.{◌≡◌, ℕ, ◌<◌, ◌≤◌, inl, inr, sym, ap, ◌∙◌, List, length, take, length-take, arith}
-use Rattle.std.proofs.Math.Seq.{take-length}
-use Rattle.std.proofs.lemmas.Bool.{cases_lt}
-use Rattle.std.proofs.lemmas.List.{length-map, length-take-le, take-map, take-take}
+use Rattle.std.proofs.Common.{◌≡◌, ℕ, ◌<◌, ◌≤◌, sym, ap, ◌∙◌, List, length, take, length-take, arith}
+use Rattle.rd_marks.proofs.Prelude.{take-length, length-map, length-take-le, take-map, take-take, Entry, Begins, Place, Stretch, stretch_list, records_at, IsWithin}
 use Rattle.rd_step.specs.Run.{events}
-use Rattle.rd_step.specs.declared.entries.Entry.{Entry}
-use Rattle.rd_depend.specs.Beginnings.{Begins}
-use Rattle.rd_marks.specs.declared.stretches.Place.{Place}
-use Rattle.rd_marks.specs.declared.stretches.Stretch.{Stretch}
-use Rattle.rd_marks.specs.Stretches.{stretch_list, records_at, IsWithin}
 use Rattle.rd_marks.proofs.StretchLists.{list_past}
 
 pub begins_itself : {X : Type 0} (xs : List X) → Begins xs xs
@@ -41,11 +34,7 @@ module _ (ss : List Stretch) where
 
   -- it is in a stretch if it has any
   pub stretch_within : (p : Place) → IsWithin ss p → 0 < p.number → p.stretch < length ss
-  stretch_within p within some =
-      elim (cases_lt p.stretch (length ss)) [
-        | inl inside ↦ inside
-        | inr past ↦ absurd (omega (arith, ap length (list_past ss p.stretch past), within, some))
-      ]
+  stretch_within p within some = grind (arith, list_past)
 
   -- the first of them are the first of the list
   pub first_records : (p : Place) (n : ℕ) → n ≤ p.number → take n (records_at ss p) ≡ take n (stretch_list ss p.stretch)

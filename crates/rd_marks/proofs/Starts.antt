@@ -1,28 +1,16 @@
 -- No call of a session moves its start, so the marks of a book stay runs from there.
-use Rattle.std.proofs.Common.{◌≡◌, ℕ, zero, suc, ◌==◌, nat_lt, Bool, true, false, if◌then◌else◌, refl, sym, ap, ◌∙◌, List, [], length, Option, Some, None, Result, Ok, Err, OnOk, OnErr}
-use Rattle.rd_step.specs.Prelude.{Refusal, World, Stepped}
-use Rattle.rd_step.specs.declared.entries.Event.{Event}
-use Rattle.rd_step.specs.declared.entries.Entry.{Entry}
-use Rattle.rd_journal.specs.Journal.{Journal, start_of}
-use Rattle.rd_journal.specs.State.{State, state_of, run_of, step_after, with_event, apply, back_one, forward_one, times, undo, back, redo, forward, undone_alone_unless, undo_at, dependant_in, roll, undone_marked, closure_in}
-use Rattle.rd_marks.specs.declared.names.MarkName.{MarkName}
-use Rattle.rd_marks.specs.Layout.{AreRuns}
+use Rattle.std.proofs.Common.{◌≡◌, ℕ, zero, suc, ◌==◌, nat_lt, Bool, if◌then◌else◌, refl, sym, ap, ◌∙◌, List, [], length, Result, Ok, Err, OnOk, OnErr, arith}
+use Rattle.rd_marks.proofs.Prelude.{Refusal, World, Stepped, Event, Entry, Journal, start_of, State, state_of, run_of, step_after, with_event, apply, back_one, forward_one, times, undo, back, redo, forward, undo_at, roll, MarkName, AreRuns}
 
 of_ok : (s t : State) (r : Result State Refusal) → r ≡ Ok s → r ≡ Ok t → t.start ≡ s.start
 of_ok s t r k h = let e : s ≡ t = cc in ap (λ (u : State). u.start) (sym e)
 
 -- a call that is refused in one case starts where it starts in the other
 unless_start : (s t : State) (b : Bool) (e : Refusal) (r : Result State Refusal) → (r ≡ Ok t → t.start ≡ s.start) → (if b then Err e else r) ≡ Ok t → t.start ≡ s.start
-unless_start s t true e r f h = cc
-unless_start s t false e r f h = f h
-
-if_start : (s t : State) (b : Bool) (e : Refusal) (r : Result State Refusal) → (r ≡ Ok t → t.start ≡ s.start) → (if b then r else Err e) ≡ Ok t → t.start ≡ s.start
-if_start s t true e r f h = f h
-if_start s t false e r f h = cc
+unless_start s t b e r f h = grind arith
 
 with_event_start : (s : State) (e : Event) (r : Result Stepped Refusal) (t : State) → with_event s e r ≡ Ok t → t.start ≡ s.start
-with_event_start s e (Err refusal) t h = cc
-with_event_start s e (Ok stepped) t h = of_ok _ t _ refl h
+with_event_start s e r t h = grind arith
 
 pub apply_start : (R : ℕ) (s : State) (e : Event) (t : State) → apply R s e ≡ Ok t → t.start ≡ s.start
 apply_start R s e t h = unless_start s t (length s.live == 65535) _ _ (with_event_start s e (step_after R (run_of R s) e) t) h
@@ -47,28 +35,20 @@ undo_start s t h = unless_start s t (length s.live == 0) _ _ (of_ok (back_one s)
 pub redo_start : (s t : State) → redo s ≡ Ok t → t.start ≡ s.start
 redo_start s t h = unless_start s t (length s.undone == 0) _ _ (of_ok (forward_one s) t _ refl) h
 
-undone_alone_start : (s : State) (k : ℕ) (o : Option ℕ) (t : State) → undone_alone_unless s k o ≡ Ok t → t.start ≡ s.start
-undone_alone_start s k (Some j) t h = cc
-undone_alone_start s k None t h = of_ok _ t _ refl h
-
 pub undo_at_start : (R : ℕ) (s : State) (k : ℕ) (t : State) → undo_at R s k ≡ Ok t → t.start ≡ s.start
-undo_at_start R s zero t h = cc
-undo_at_start R s (suc i) t h = if_start s t (nat_lt i (length s.live)) _ _ (undone_alone_start s (suc i) (dependant_in (suc i) (run_of R s)) t) h
+undo_at_start h s k t l = grind arith
 
 pub roll_start : (R : ℕ) (s : State) (k : ℕ) (t : State) → roll R s k ≡ Ok t → t.start ≡ s.start
-roll_start R s zero t h = cc
-roll_start R s (suc i) t h = if_start s t (nat_lt i (length s.live)) _ _ (of_ok (undone_marked s (closure_in (suc i) (run_of R s))) t _ refl) h
+roll_start h s k t l = grind arith
 
 -- the start stays, whatever a call answered
 pub start_stays : {X : Type 0} (r : Result X Refusal) (i j : Journal) (moved : Result State Refusal)
     → ((u : State) → moved ≡ Ok u → u.start ≡ start_of i) → OnOk r (moved ≡ Ok (state_of j)) → OnErr r (j ≡ i) → start_of j ≡ start_of i
-start_stays (Ok x) i j moved starts h g = starts (state_of j) h
-start_stays (Err e) i j moved starts h g = ap start_of g
+start_stays r i j moved starts h g = grind arith
 
 -- going somewhere leaves it as well
 pub start_kept : {X : Type 0} (r : Result X Refusal) (i j : Journal) (es : List Event) → OnOk r (state_of j ≡ record { start = start_of i; live = es; undone = [] }) → OnErr r (j ≡ i) → start_of j ≡ start_of i
-start_kept (Ok x) i j es h g = ap (λ (s : State). s.start) h
-start_kept (Err e) i j es h g = ap start_of g
+start_kept r i j es h g = grind arith
 
 -- so the bookmarks' records stay runs from it
 pub runs_stay : (R : ℕ) (v w : World) (lists kept : List (MarkName × List Entry)) → w ≡ v → kept ≡ lists → AreRuns R v lists → AreRuns R w kept

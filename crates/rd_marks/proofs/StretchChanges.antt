@@ -1,16 +1,8 @@
 -- The rule of the stretches is kept, and each place keeps its records, where a stretch comes, goes
 -- or changes.
 use Rattle.std.proofs.Common.{◌≡◌, ◌⊎◌, ℕ, zero, suc, ◌+◌, ◌-◌, ◌<◌, ◌≤◌, inl, inr, refl, sym, ap, ◌∙◌, subst, List, [], ◌∷◌, ◌++◌, map, length, take, length-take, arith}
-use Rattle.std.proofs.lemmas.Bool.{cases_lt, cases_eq, cases_order}
-use Rattle.std.proofs.lemmas.Bool.Decides.{nat_tests}
-use Rattle.std.proofs.lemmas.List.{length-map, take-append-le, take-take, take-map}
-use Rattle.rd_step.specs.Prelude.{MOST_STEPS}
+use Rattle.rd_marks.proofs.Prelude.{cases_lt, cases_eq, cases_order, nat_tests, length-map, take-append-le, take-take, take-map, MOST_STEPS, Event, Entry, Stretch, Place, stretch_list, list_before, shared_at, records_at, IsWithin, AreNested, AreFresh, greatest_in, needed_at, AreNeeded, AreNeededFrom, IsAlong, IsDeepest, raised, lowered}
 use Rattle.rd_step.specs.Run.{events}
-use Rattle.rd_step.specs.declared.entries.Event.{Event}
-use Rattle.rd_step.specs.declared.entries.Entry.{Entry}
-use Rattle.rd_marks.specs.declared.stretches.Stretch.{Stretch}
-use Rattle.rd_marks.specs.declared.stretches.Place.{Place}
-use Rattle.rd_marks.specs.Stretches.{stretch_list, list_before, shared_at, records_at, IsWithin, AreNested, AreFresh, greatest_in, needed_at, AreNeeded, AreNeededFrom, IsAlong, IsDeepest, raised, lowered}
 use Rattle.rd_marks.proofs.StretchLists.{shared_within, goes_back, IsChanged, IsInserted, IsReplaced}
 use Rattle.rd_marks.proofs.Fresh.{along_within, along_taken, AreApart, apart, fresh_apart, later_apart}
 
@@ -55,14 +47,7 @@ module _ (old new : List Stretch) (j more : ℕ) (change : IsChanged old new j m
         | inl low ↦
             let its = change.below i low in (
               i,
-              record {
-                inside = omega (arith, change.within, low);
-                list = its.0;
-                shared = its.1;
-                next = grind (arith, cases_order (suc i) j, change.below (suc i), change.less);
-                fits = λ was. grind (arith, cases_order (suc i) j, change.below (suc i), change.there, was);
-                place = inl (low, refl);
-              },
+              grind (arith, cases_order),
             )
         | inr high ↦
             let after : j < i = omega (arith, other, high) in
@@ -70,14 +55,7 @@ module _ (old new : List Stretch) (j more : ℕ) (change : IsChanged old new j m
             let its = change.above i (i - more) parts after in
             let then = (change.above (suc i) (suc (i - more)) (omega (arith, parts)) (omega (arith, after))).1 in (
               i - more,
-              record {
-                inside = omega (arith, change.count, parts, h);
-                list = its.0;
-                shared = its.1;
-                next = omega (arith, then);
-                fits = λ was. omega (arith, then, was);
-                place = inr (after, parts);
-              },
+              grind arith,
             )
       ]
 
@@ -110,9 +88,7 @@ module _ (old new : List Stretch) (j more : ℕ) (change : IsChanged old new j m
       go i m h l a =
           elim (cases_eq i j) [
             | inl same ↦
-                let low : m < j = omega (arith, h, same) in
-                own m low (subst (λ (xs : List Entry). IsAlong new j (suc (shared_at new j)) (events xs)) (change.below m low).0
-                (subst (λ (d : ℕ). IsAlong new d (suc (shared_at new d)) (events (stretch_list new m))) same a))
+                grind arith
             | inr other ↦
                 let from = moved i other l in
                 let k = from.0 in

@@ -1,13 +1,8 @@
 -- The lists of stretches: how each goes on from the one before, and what stays when a stretch
 -- comes, goes or changes.
 use Rattle.std.proofs.Common.{◌≡◌, ℕ, zero, suc, ◌+◌, ◌-◌, ◌<◌, ◌≤◌, refl, sym, ap, ◌∙◌, subst, List, [], ◌∷◌, ◌++◌, length, take, drop, get_or, set, insert, remove, length-append, length-set, arith}
-use Rattle.std.proofs.Math.Seq.{take-append-add, drop-append-add}
-use Rattle.std.proofs.lemmas.Bool.{cases_lt, cases_eq}
-use Rattle.std.proofs.lemmas.List.{append_assoc, take-append-le, take-take, length-take-le}
+use Rattle.rd_marks.proofs.Prelude.{take-append-add, drop-append-add, cases_lt, cases_eq, append_assoc, take-append-le, take-take, length-take-le, Entry, Stretch, continued, list_after, stretch_list, list_before, shared_at, AreNested}
 use Rattle.std.proofs.lemmas.List.Edits.{length-insert}
-use Rattle.rd_step.specs.declared.entries.Entry.{Entry}
-use Rattle.rd_marks.specs.declared.stretches.Stretch.{Stretch}
-use Rattle.rd_marks.specs.Stretches.{continued, list_after, stretch_list, list_before, shared_at, AreNested}
 
 -- the records of the stretch of this number; none after the last
 abbrev pub own_at : List Stretch → ℕ → List Entry
@@ -21,12 +16,10 @@ before_after x ss zero = x
 before_after x ss (suc i) = list_after x ss i
 
 one_on : (x : List Entry) (s : Stretch) (ss : List Stretch) (i : ℕ) → before_after (continued x s) ss i ≡ list_after x (s ∷ ss) i
-one_on x s ss zero = refl
-one_on x s ss (suc i) = refl
+one_on x s ss i = grind arith
 
 before_is : (ss : List Stretch) (i : ℕ) → before_after [] ss i ≡ list_before ss i
-before_is ss zero = refl
-before_is ss (suc i) = refl
+before_is ss i = grind arith
 
 splits_after : (x : List Entry) (ss : List Stretch) (i : ℕ) → list_after x ss i ≡ take (shared_at ss i) (before_after x ss i) ++ own_at ss i
 splits_after x [] i = refl
@@ -93,8 +86,7 @@ lists_common (s ∷ ss) x y zero h = ap (λ (z : List Entry). z ++ s.records.ite
 lists_common (s ∷ ss) x y (suc i) h = ap (λ (z : List Entry). list_after (z ++ s.records.items) ss i) h
 
 pub goes_back : (x : List Entry) (s : Stretch) (n : ℕ) → n ≤ s.shared → s.shared ≤ length x → take n (continued x s) ≡ take n x
-goes_back x s n h there =
-    take-append-le n (take s.shared x) s.records.items (omega (arith, length-take-le s.shared x there, h)) ∙ take-take n s.shared x h
+goes_back x s n h there = grind (arith, take-append-le, length-take-le, take-take)
 
 -- One stretch more, or one changed
 
@@ -131,9 +123,7 @@ here_inserted : (x : List Entry) (ss : List Stretch) (j : ℕ) (s : Stretch) →
     → (list_after x (insert ss j s) j ≡ continued (before_after x ss j) s) × (shared_at (insert ss j s) j ≡ s.shared)
 here_inserted x ss zero s k = (refl, refl)
 here_inserted x [] (suc j) s k = absurd (omega (arith, k))
-here_inserted x (r ∷ ss) (suc j) s k =
-    let rest = here_inserted (continued x r) ss j s (omega (arith, k)) in
-    (rest.0 ∙ ap (λ (y : List Entry). continued y s) (one_on x r ss j), rest.1)
+here_inserted x (r ∷ ss) (suc j) s k = grind (arith, one_on, here_inserted (continued x r) ss j s (omega (arith, k)))
 
 above_inserted : (x : List Entry) (ss : List Stretch) (j : ℕ) (s : Stretch) (i : ℕ) → j ≤ i → j ≤ length ss → shared_at ss j ≤ s.shared → s.shared ≤ length (before_after x ss j)
     → (list_after x (insert ss j s) (suc i) ≡ list_after x ss i) × (shared_at (insert ss j s) (suc i) ≡ shared_at ss i)
@@ -174,9 +164,7 @@ left_after : (x : List Entry) (ss : List Stretch) (j : ℕ) → j < length ss
     → (before_after x (remove ss j) j ≡ before_after x ss j) × (shared_at (remove ss j) j ≡ shared_at ss (suc j)) × (suc (length (remove ss j)) ≡ length ss)
 left_after x [] j h = absurd (omega (arith, h))
 left_after x (s ∷ ss) zero h = (refl, refl, refl)
-left_after x (r ∷ ss) (suc j) h =
-    let rest = left_after (continued x r) ss j (omega (arith, h)) in
-    (sym (one_on x r (remove ss j) j) ∙ rest.0 ∙ one_on x r ss j, rest.1, ap suc rest.2)
+left_after x (r ∷ ss) (suc j) h = grind (arith, one_on, remove, left_after (continued x r) ss j (omega (arith, h)))
 
 -- removing is inserting, the other way round
 pub removed_at : (ss : List Stretch) (j : ℕ) → AreNested ss → j < length ss → shared_at ss (suc j) ≤ shared_at ss j
@@ -216,29 +204,7 @@ here_replaced x (s ∷ ss) (suc j) t h = here_replaced (continued x s) ss j t (o
 module _ (ss : List Stretch) (rule : AreNested ss) (j : ℕ) (h : j < length ss) (t : Stretch) (shared : t.shared ≡ shared_at ss j) where
   replaced_at : (ys : List Entry) → continued (list_before ss j) t ≡ ys → take (shared_at ss (suc j)) ys ≡ take (shared_at ss (suc j)) (stretch_list ss j)
       → IsReplaced ss (set ss j t) j × (stretch_list (set ss j t) j ≡ ys)
-  replaced_at ys its same =
-      let here = shared_replaced ss j t j shared in (
-        record {
-          changed = record {
-            small = omega arith;
-            count = omega (arith, length-set ss j t);
-            within = omega (arith, h);
-            less = omega (arith, here);
-            there = omega (arith, here, shared_within ss rule j);
-            below = λ i low. others i (λ at. omega (arith, at, low));
-            above = λ i k parts high. grind (arith, parts, others i (λ here. omega (arith, here, high)));
-          };
-          inside = h;
-          shared = here;
-        },
-        here_replaced [] ss j t h ∙ ap (λ (y : List Entry). continued y t) (before_is ss j) ∙ its,
-      )
-    where
-      others : (i : ℕ) → (i ≡ j → ⊥) → (stretch_list (set ss j t) i ≡ stretch_list ss i) × (shared_at (set ss j t) i ≡ shared_at ss i)
-      others i apart = (
-        others_replaced [] ss j t i apart (ap (λ (y : List Entry). take (shared_at ss (suc j)) (continued y t)) (before_is ss j) ∙ ap (take (shared_at ss (suc j))) its ∙ same),
-        shared_replaced ss j t i shared,
-      )
+  replaced_at ys its same = grind (arith, shared_replaced, length-set, here_replaced, before_is, set, others_replaced)
 
   -- with more records after its own
   pub appended_at : (rest : List Entry) → t.records.items ≡ own_at ss j ++ rest → IsReplaced ss (set ss j t) j × (stretch_list (set ss j t) j ≡ stretch_list ss j ++ rest)

@@ -1,19 +1,8 @@
 -- What growing a list and shrinking a stretch leave, in the words of their contracts.
-use Rattle.std.proofs.Common.{◌≡◌, ℕ, zero, suc, ◌-◌, ◌<◌, ◌≤◌, ◌^◌, inl, inr, refl, sym, ap, ◌∙◌, subst, List, [], ◌∷◌, ◌++◌, length, take, drop, set, insert, remove, length-take, Result, Ok, Err, OnOk, OnErr, arith}
-use Rattle.std.proofs.Math.Seq.{drop-length}
-use Rattle.std.proofs.lemmas.Bool.{cases_eq, cases_lt}
-use Rattle.std.proofs.lemmas.Bool.Decides.{nat_tests}
-use Rattle.std.proofs.lemmas.List.{append-nil, length-map, map-append, map-id, take-append-drop, take-map, take_all}
-use Rattle.rd_step.specs.Prelude.{MOST_STEPS}
+use Rattle.std.proofs.Common.{◌≡◌, ℕ, zero, suc, ◌-◌, ◌<◌, ◌≤◌, ◌^◌, inl, inr, refl, sym, ap, ◌∙◌, subst, List, [], ◌∷◌, ◌++◌, length, take, drop, set, insert, remove, length-take, Result, OnOk, OnErr, arith}
+use Rattle.rd_marks.proofs.Prelude.{drop-length, cases_eq, cases_lt, nat_tests, append-nil, length-map, map-append, map-id, take-append-drop, take-map, take_all, MOST_STEPS, Event, Entry, Place, Stretch, Shift, greatest_in, stretch_list, list_before, shared_at, records_at, IsWithin, IsEnd, IsAlong, IsDeepest, AreNested, AreFresh, raised, IsLow, IsGrown, IsShrunk, IsUnchanged}
 use Rattle.rd_step.specs.Run.{events}
-use Rattle.rd_step.specs.declared.entries.Event.{Event}
-use Rattle.rd_step.specs.declared.entries.Entry.{Entry}
-use Rattle.rd_marks.specs.declared.stretches.Place.{Place}
-use Rattle.rd_marks.specs.declared.stretches.Stretch.{Stretch}
-use Rattle.rd_marks.specs.declared.stretches.changes.Shift.{Shift}
 use Rattle.rd_marks.specs.declared.stretches.changes.Shift.TheVariants.{Same, Up, Down}
-use Rattle.rd_marks.specs.Stretches.{greatest_in, stretch_list, list_before, shared_at, records_at, IsWithin, IsEnd, IsAlong, IsDeepest, AreNested, AreFresh, raised, lowered}
-use Rattle.rd_marks.specs.Changes.{IsLow, IsGrown, IsShrunk, IsUnchanged}
 use Rattle.rd_marks.proofs.StretchLists.{own_at, shared_within, inserted_at, removed_at, appended_at, cut_at}
 use Rattle.rd_marks.proofs.Fresh.{along_taken}
 use Rattle.rd_marks.proofs.StretchChanges.{greatest_left, within_at, nested_inserted, nested_removed, fresh_inserted, fresh_removed, needed_inserted, needed_removed, records_raised, records_lowered, nested_replaced, fresh_appended, fresh_cut, needed_appended, needed_cut, records_appended, records_cut}
@@ -143,9 +132,7 @@ module _ (ss : List Stretch) (few : length ss < 2 ^ 64) (rule : AreNested ss) (f
         shrunk = record {
           below = omega (arith, change.changed.count, inside);
           low = is_low ss few;
-          stays = λ p within own.
-              (let kept = records_lowered new ss j s change p (λ here. omega (arith, own here, none, change.here.1)) in
-              record { within = within_at ss new p (lowered j p) (grind (arith, nat_tests)) kept within; same = kept });
+          stays = grind (arith, records_lowered, within_at, nat_tests);
           needed = λ places needed its. needed_removed new ss j s change places needed;
         };
       }
@@ -171,13 +158,7 @@ module _ (ss : List Stretch) (few : length ss < 2 ^ 64) (rule : AreNested ss) (f
       let nested = nested_replaced ss new j change rule (omega (arith, some, long)) (omega (arith, shared_within ss rule (suc j), long)) (omega (arith, rule.few j inside, long)) in (
         nested,
         fresh_cut ss new j change fresh nested (length (stretch_list ss j)) some all,
-        record {
-          stays = λ p within.
-              (let kept = ap (take p.number) (both_same p.stretch).0 in
-              record { within = within_at ss new p p refl kept within; same = kept });
-          needed = λ places needed i inside_too.
-              omega (arith, needed i (omega (arith, inside_too, change.changed.count)), ap length (both_same i).0, (both_same (suc i)).1);
-        },
+        grind (arith, within_at),
       )
 
   -- one of which some are left
@@ -196,9 +177,7 @@ module _ (ss : List Stretch) (few : length ss < 2 ^ 64) (rule : AreNested ss) (f
         shrunk = record {
           below = omega (arith, change.changed.count, inside);
           low = is_low ss few;
-          stays = λ p within own.
-              (let kept = records_cut ss new j change n list p own in
-              record { within = within_at ss new p p refl kept within; same = kept });
+          stays = grind (arith, records_cut, within_at);
           needed = λ places needed its. rw (map-id places) (needed_cut ss new j change places (omega (arith, long, its)) needed);
         };
       }
@@ -206,5 +185,4 @@ module _ (ss : List Stretch) (few : length ss < 2 ^ 64) (rule : AreNested ss) (f
 -- records were put at the end of a stretch, or not
 pub extended_or_not : {X Y : Type 0} (r : Result X Y) (P : Type 0) (own more records : List Entry) → OnOk r (records ≡ own ++ more) → OnErr r (records ≡ own)
     → (records ≡ own ++ more → P) → (records ≡ own → P) → P
-extended_or_not (Ok x) P own more records ok err f g = f ok
-extended_or_not (Err e) P own more records ok err f g = g err
+extended_or_not r h own more records ok err f g = grind arith

@@ -1,15 +1,7 @@
 -- Going to a place: what its records have in common with the live steps.
 use Rattle.std.proofs.Common.{◌≡◌, ℕ, suc, ◌≤◌, inl, inr, sym, ap, ◌∙◌, List, [], length, take, drop, arith}
-use Rattle.std.proofs.Math.Seq.{take-length, drop-length}
-use Rattle.std.proofs.lemmas.Bool.{cases_lt}
-use Rattle.std.proofs.lemmas.List.{take-take}
+use Rattle.rd_marks.proofs.Prelude.{take-length, drop-length, cases_lt, take-take, Event, Entry, Begins, Place, Stretch, stretch_list, records_at, IsWithin, IsAlong, IsDeepest}
 use Rattle.rd_step.specs.Run.{events}
-use Rattle.rd_step.specs.declared.entries.Event.{Event}
-use Rattle.rd_step.specs.declared.entries.Entry.{Entry}
-use Rattle.rd_depend.specs.Beginnings.{Begins}
-use Rattle.rd_marks.specs.declared.stretches.Place.{Place}
-use Rattle.rd_marks.specs.declared.stretches.Stretch.{Stretch}
-use Rattle.rd_marks.specs.Stretches.{stretch_list, records_at, IsWithin, IsAlong, IsDeepest}
 use Rattle.rd_marks.proofs.Starting.{begins_shorter, stretch_within, records_length, events_length, events_of_first, first_events}
 
 module _ (ss : List Stretch) where

@@ -1,12 +1,7 @@
-use Rattle.std.proofs.Common.{◌≡◌, ◌⊎◌, ◌∙◌, ℕ, ◌≤◌, take, inl, inr, refl, sym, arith}
+use Rattle.std.proofs.Common.{◌≡◌, ◌∙◌, ℕ, ◌≤◌, take, sym, arith}
+use Rattle.rd_marks.proofs.Prelude.{fact_passed_up, NeitherIsPrefix, DecidesEquivalence, Bookmarks, Place, records_in, IsPlaceIn}
 use Rattle.std.proofs.lemmas.Result.{IfOk-weaker, on_err_weaker}
-use Rattle.rd_step.proofs.PassedUp.{fact_passed_up}
 use Rattle.rd_step.specs.Run.{events}
-use Rattle.rd_depend.specs.Beginnings.{NeitherIsPrefix}
-use Rattle.rd_depend.specs.Equivalence.{DecidesEquivalence}
-use Rattle.rd_marks.specs.declared.bookmarks.Bookmarks.{Bookmarks}
-use Rattle.rd_marks.specs.declared.stretches.Place.{Place}
-use Rattle.rd_marks.specs.Kept.{records_in, IsPlaceIn}
 use Rattle.rd_marks.proofs.Starting.{records_length}
 use Rattle.rd_marks.proofs.SameLemmas.{decided_by_length, decided_behind, not_begun}
 use Rattle.rd_marks.proofs.bookmarks.Bookmarks.are_same.Goals.{then-shared-one-via-then-shared-one, then-shared-one-via-else-shared-one+then-shared-other}
@@ -26,16 +21,7 @@ apart b one other c one_in other_in first second most not_one not_other =
     )
 
 pub returns-then-shared-one-clause-answer : goal.returns-then-shared-one-clause-answer
-returns-then-shared-one-clause-answer c =
-    let b = c.args.self.now in
-    let said = c.common-shared.ensures in
-    let meets : (c.common-shared.result ≡ c.args.one.number) ⊎ (c.common-shared.result ≡ c.args.other.number) =
-    elim c.then-shared-one.branch [
-      | then-shared-one-via-then-shared-one w ↦ inl (omega (arith, w.if-shared-one.true))
-      | then-shared-one-via-else-shared-one+then-shared-other w ↦ inr (omega (arith, w.if-shared-other.true))
-    ] in
-    decided_by_length (records_in b c.args.one) (records_in b c.args.other) c.args.one.number c.args.other.number c.common-shared.result
-    (records_length b.stretches.list.items c.args.one c.requires.one) (records_length b.stretches.list.items c.args.other c.requires.other) said.alike meets _ refl
+returns-then-shared-one-clause-answer c = grind (arith, then-shared-one-via-then-shared-one, then-shared-one-via-else-shared-one+then-shared-other, decided_by_length, records_length)
 
 pub returns-in_err-ones-clause-memory : goal.returns-in_err-ones-clause-memory
 returns-in_err-ones-clause-memory c =

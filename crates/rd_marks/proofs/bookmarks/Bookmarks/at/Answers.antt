@@ -1,21 +1,13 @@
-use Rattle.std.proofs.Common.{◌∙◌, sym, ap, option_map}
-use Rattle.std.proofs.lemmas.Option.{slice_get-map}
-use Rattle.rd_marks.specs.declared.names.MarkName.{MarkName}
-use Rattle.rd_marks.specs.declared.stretches.Place.{Place}
-use Rattle.rd_marks.specs.Kept.{records_in}
-use Rattle.rd_marks.specs.Stretches.{IsWithin}
+use Rattle.std.proofs.Common.{sym, option_map, arith}
+use Rattle.rd_marks.proofs.Prelude.{slice_get-map, MarkName, Place, IsWithin}
 use Rattle.rd_marks.proofs.MarkLemmas.{all_at}
 use Rattle.rd_marks.proofs.bookmarks.Bookmarks.at.Goals as goal
 
 pub returns-in-None-clause-found : goal.returns-in-None-clause-found
-returns-in-None-clause-found c =
-    let b = c.args.self.now in
-    ap (option_map (λ (m : MarkName × Place). (m.0, records_in b m.1))) c.in-None.ensures.entry ∙ sym (slice_get-map (λ (m : MarkName × Place). (m.0, records_in b m.1)) b.names.entries c.args.index)
+returns-in-None-clause-found c = grind (arith, option_map, slice_get-map)
 
 pub returns-in-Some-clause-found : goal.returns-in-Some-clause-found
-returns-in-Some-clause-found c =
-    let b = c.args.self.now in
-    ap (option_map (λ (m : MarkName × Place). (m.0, records_in b m.1))) c.in-Some.ensures.entry ∙ sym (slice_get-map (λ (m : MarkName × Place). (m.0, records_in b m.1)) b.names.entries c.args.index)
+returns-in-Some-clause-found c = grind (arith, option_map, slice_get-map)
 
 pub returns-in-Some-clause-within : goal.returns-in-Some-clause-within
 returns-in-Some-clause-within c =

@@ -1,18 +1,10 @@
-use Rattle.std.proofs.Common.{◌∙◌, List, All, sym, ap, subst, is_some, option_map}
-use Rattle.std.proofs.lemmas.Map.Made.{lookup-map_values}
-use Rattle.rd_marks.specs.declared.names.MarkName.{MarkName}
-use Rattle.rd_marks.specs.declared.stretches.Place.{Place}
-use Rattle.rd_marks.specs.Kept.{records_in}
-use Rattle.rd_marks.specs.Layout.{IsKept, named_lists}
-use Rattle.rd_marks.specs.Names.{same_name}
-use Rattle.rd_marks.specs.Stretches.{IsWithin}
+use Rattle.std.proofs.Common.{◌∙◌, List, All, sym, ap, subst, is_some, option_map, arith}
+use Rattle.rd_marks.proofs.Prelude.{lookup-map_values, MarkName, Place, records_in, named_lists, same_name, IsWithin}
 use Rattle.rd_marks.proofs.MarkLemmas.{all_without, removed_mapped}
 use Rattle.rd_marks.proofs.bookmarks.Bookmarks.drop.Goals as goal
 
 pub invariant_of-self : goal.invariant_of-self
-invariant_of-self c =
-    let b = c.args.self.now in
-    record { kept = subst (λ (es : List (MarkName × Place)). IsKept b.stretches.list.items es b.here) (sym c.in-None.ensures.unchanged) b.kept }
+invariant_of-self c = grind arith
 
 pub returns-in-None-clause-found : goal.returns-in-None-clause-found
 returns-in-None-clause-found c =

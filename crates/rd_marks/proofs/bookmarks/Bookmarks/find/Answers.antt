@@ -1,8 +1,5 @@
 use Rattle.std.proofs.Common.{◌∙◌, sym, ap, option_map}
-use Rattle.std.proofs.lemmas.Map.Made.{lookup-map_values}
-use Rattle.rd_marks.specs.Kept.{records_in}
-use Rattle.rd_marks.specs.Names.{same_name}
-use Rattle.rd_marks.specs.Stretches.{IsWithin}
+use Rattle.rd_marks.proofs.Prelude.{lookup-map_values, records_in, same_name, IsWithin}
 use Rattle.rd_marks.proofs.MarkLemmas.{all_found}
 use Rattle.rd_marks.proofs.bookmarks.Bookmarks.find.Goals as goal
 

@@ -1,12 +1,6 @@
 use Rattle.std.proofs.Common.{◌≡◌, ◌≤◌, [], ℕ, List, length, take, lit<, refl, subst, ap, ◌∙◌, arith}
-use Rattle.rd_step.proofs.PassedUp.{fact_passed_up}
-use Rattle.rd_step.specs.declared.entries.Event.{Event}
-use Rattle.rd_depend.specs.Beginnings.{Begins}
+use Rattle.rd_marks.proofs.Prelude.{fact_passed_up, Event, Begins, state, track, Bookmarks, Place, here_in, records_in, IsPlaceIn}
 use Rattle.rd_journal.specs.Journal.{events}
-use Rattle.rd_journal.specs.Sessions.{state, track}
-use Rattle.rd_marks.specs.declared.bookmarks.Bookmarks.{Bookmarks}
-use Rattle.rd_marks.specs.declared.stretches.Place.{Place}
-use Rattle.rd_marks.specs.Kept.{here_in, records_in, IsPlaceIn}
 use Rattle.rd_marks.proofs.Here.{along_to}
 use Rattle.rd_marks.proofs.bookmarks.Bookmarks.go_to.Goals as goal
 

@@ -1,20 +1,6 @@
 use Rattle.std.proofs.Common.{◌≡◌, ◌++◌, ◌∙◌, [], ◌∷◌, List, All, sym, ap, subst, arith}
-use Rattle.std.specs.Map.{lookup}
-use Rattle.std.proofs.lemmas.Bool.{false≢true}
-use Rattle.std.proofs.lemmas.List.{length-map}
-use Rattle.std.proofs.lemmas.Map.Made.{lookup-map_values}
-use Rattle.rd_step.proofs.PassedUp.{fact_passed_up}
-use Rattle.rd_step.specs.declared.entries.Entry.{Entry}
-use Rattle.rd_depend.specs.Beginnings.{Begins}
+use Rattle.rd_marks.proofs.Prelude.{lookup, false≢true, length-map, lookup-map_values, fact_passed_up, Entry, Begins, state, track, MarkName, Place, IsLow, lists_in, here_in, AreRuns, IsKept, named_lists, same_name, records_at, IsWithin}
 use Rattle.rd_journal.specs.Journal.{events}
-use Rattle.rd_journal.specs.Sessions.{state, track}
-use Rattle.rd_marks.specs.declared.names.MarkName.{MarkName}
-use Rattle.rd_marks.specs.declared.stretches.Place.{Place}
-use Rattle.rd_marks.specs.Changes.{IsLow}
-use Rattle.rd_marks.specs.Kept.{lists_in, here_in}
-use Rattle.rd_marks.specs.Layout.{AreRuns, IsKept, named_lists}
-use Rattle.rd_marks.specs.Names.{same_name}
-use Rattle.rd_marks.specs.Stretches.{records_at, IsWithin}
 use Rattle.rd_marks.proofs.Counting.{all_along}
 use Rattle.rd_marks.proofs.Here.{live_along, live_begin}
 use Rattle.rd_marks.proofs.Putting.{IsSet, each, is_set, kept_same, none_named}
@@ -23,9 +9,7 @@ use Rattle.rd_marks.proofs.bookmarks.Bookmarks.set.Goals.{After-here_after-self,
 use Rattle.rd_marks.proofs.bookmarks.Bookmarks.set.Goals as goal
 
 pub follow-at-requires-clause-within : goal.follow-at-requires-clause-within
-follow-at-requires-clause-within g c =
-    (live_along c.args.self.now.stretches.list.items c.args.session.now c.args.self.now.here c.cut.result c.live-live.result c.live-live.ensures.events c.args.self.now.kept.lies c.requires.stands
-    c.cut.ensures.stretch (omega (arith, c.cut.ensures.number)) (omega (arith, c.cut.ensures.number, c.len.ensures))).0
+follow-at-requires-clause-within g c = grind arith
 
 pub follow-at-requires-clause-along : goal.follow-at-requires-clause-along
 follow-at-requires-clause-along g c =
@@ -49,15 +33,12 @@ pub here_after-self-requires : goal.here_after-self-requires
 here_after-self-requires g c = c.in_ok-grown.ensures.ok.low c.args.self.now.here c.args.self.now.kept.lies
 
 pub returns-in_err-reserve-clause-runs : goal.returns-in_err-reserve-clause-runs
-returns-in_err-reserve-clause-runs g c =
-    subst (λ (es : List (MarkName × Place)). AreRuns g.row.R (state c.args.session.now).start (named_lists c.args.self.now.stretches.list.items es)) (sym c.reserve.ensures.entries) c.requires.runs
+returns-in_err-reserve-clause-runs g c = grind (arith, c.reserve.ensures.entries, c.requires.runs)
 
 -- where no room was made for the records, all stays
 stay : (g : Over) (c : In_err-grown g) → let b = c.args.self.now in let new = c.grow.new.self.list.items in
     IsKept new c.reserve.new.self.entries b.here × (named_lists new c.reserve.new.self.entries ≡ lists_in b) × (records_at new b.here ≡ here_in b)
-stay g c =
-    let b = c.args.self.now in
-    kept_same b.stretches.list.items c.grow.new.self.list.items c.in_err-grown.ensures.err b.names.entries c.reserve.new.self.entries b.here c.reserve.ensures.entries b.kept
+stay g c = grind (arith, kept_same)
 
 pub invariant_of-self-in-Break-branch-2 : goal.invariant_of-self-in-Break-branch-2
 invariant_of-self-in-Break-branch-2 g c =

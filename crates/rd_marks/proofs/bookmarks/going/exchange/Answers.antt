@@ -1,11 +1,6 @@
 use Rattle.std.proofs.Common.{List, lit<, ap, subst, sym, length, ◌∙◌, arith}
-use Rattle.std.proofs.lemmas.List.{length-map}
-use Rattle.rd_step.specs.declared.entries.Event.{Event}
-use Rattle.rd_step.specs.declared.entries.Entry.{Entry}
-use Rattle.rd_depend.specs.Beginnings.{Begins}
+use Rattle.rd_marks.proofs.Prelude.{length-map, Event, Entry, Begins, journal, state, records_at}
 use Rattle.rd_journal.specs.Journal.{events, IsRunFrom}
-use Rattle.rd_journal.specs.Sessions.{journal, state}
-use Rattle.rd_marks.specs.Stretches.{records_at}
 use Rattle.rd_marks.proofs.Here.{live_along}
 use Rattle.rd_marks.proofs.Starting.{records_length}
 use Rattle.rd_marks.proofs.RecordLemmas.{switched, may_switch, few_enough}
@@ -13,9 +8,7 @@ use Rattle.rd_marks.proofs.Switches.{common_live, none_behind, whole_common}
 use Rattle.rd_marks.proofs.bookmarks.going.exchange.Goals as goal
 
 pub follow-beginning-requires-clause-within : goal.follow-beginning-requires-clause-within
-follow-beginning-requires-clause-within g c =
-    (live_along c.args.stretches.now.list.items c.args.session.now c.args.here c.cut.result c.live-live.result c.live-live.ensures.events c.requires.here c.requires.stands c.cut.ensures.stretch
-    (omega (arith, c.cut.ensures.number)) (omega (arith, c.cut.ensures.number, c.len.ensures))).0
+follow-beginning-requires-clause-within g c = grind arith
 
 pub follow-beginning-requires-clause-along : goal.follow-beginning-requires-clause-along
 follow-beginning-requires-clause-along g c =

@@ -1,6 +1,5 @@
 use Rattle.std.proofs.Common.{◌≡◌, ◌+◌, ◌∙◌, ℕ, suc, max, sym, ap, drop, arith}
-use Rattle.rd_marks.specs.Layout.{places_of}
-use Rattle.rd_marks.specs.Stretches.{greatest_in}
+use Rattle.rd_marks.proofs.Prelude.{places_of, greatest_in}
 use Rattle.rd_marks.proofs.Moving.{greatest_next, max_assoc}
 use Rattle.rd_marks.proofs.bookmarks.keeping.greatest_in.Goals as goal
 

@@ -1,6 +1,5 @@
 use Rattle.std.proofs.Common.{◌≡◌, max, drop}
-use Rattle.rd_marks.specs.Layout.{places_of}
-use Rattle.rd_marks.specs.Stretches.{greatest_in}
+use Rattle.rd_marks.proofs.Prelude.{places_of, greatest_in}
 use Rattle.rd_marks.proofs.bookmarks.keeping.greatest_in.Given as goal
 
 abbrev pub invariant-loop-index : goal.invariant-loop-index

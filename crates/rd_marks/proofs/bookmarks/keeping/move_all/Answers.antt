@@ -1,9 +1,5 @@
 use Rattle.std.proofs.Common.{◌≡◌, ◌+◌, ◌∙◌, ℕ, List, suc, sym, ap, slice_get, arith}
-use Rattle.std.specs.Map.{values_of}
-use Rattle.indexmap.specs.IndexMap.{set_value_at}
-use Rattle.rd_marks.specs.declared.names.MarkName.{MarkName}
-use Rattle.rd_marks.specs.declared.stretches.Place.{Place}
-use Rattle.rd_marks.specs.Changes.{shifted, IsLow}
+use Rattle.rd_marks.proofs.Prelude.{values_of, set_value_at, MarkName, Place, shifted, IsLow}
 use Rattle.rd_marks.proofs.Moving.{changed, changed_next, value_next, all_changed}
 use Rattle.rd_marks.proofs.bookmarks.keeping.move_all.Goals as goal
 

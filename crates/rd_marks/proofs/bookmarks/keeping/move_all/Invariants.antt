@@ -1,6 +1,5 @@
 use Rattle.std.proofs.Common.{◌≡◌}
-use Rattle.indexmap.specs.IndexMap.{spare}
-use Rattle.rd_marks.specs.Changes.{shifted}
+use Rattle.rd_marks.proofs.Prelude.{spare, shifted}
 use Rattle.rd_marks.proofs.Moving.{changed}
 use Rattle.rd_marks.proofs.bookmarks.keeping.move_all.Given as goal
 

@@ -1,6 +1,5 @@
-use Rattle.std.proofs.Common.{◌≡◌, ◌-◌, ℕ, suc, sym, subst, arith}
-use Rattle.rd_marks.specs.Layout.{IsPruned, places_of}
-use Rattle.rd_marks.specs.Stretches.{AreNeededFrom}
+use Rattle.std.proofs.Common.{◌-◌, ℕ, sym, subst, arith}
+use Rattle.rd_marks.proofs.Prelude.{IsPruned}
 use Rattle.rd_marks.proofs.Putting.{not_pruned, pruned_on}
 use Rattle.rd_marks.proofs.bookmarks.keeping.prune.Goals as goal
 
@@ -15,9 +14,7 @@ loop-i-init c =
     }
 
 pub trim-requires-clause-needed : goal.trim-requires-clause-needed
-trim-requires-clause-needed c =
-    let e : c.loop-i.i ≡ suc (c.loop-i.i - 1) = omega (arith, c.loop-i-test.true) in
-    subst (λ (k : ℕ). AreNeededFrom k c.loop-i.stretches.list.items (places_of c.loop-i.names.entries)) e c.loop-i.invariant.pruned.needed
+trim-requires-clause-needed c = grind arith
 
 pub loop-i-preserved : goal.loop-i-preserved
 loop-i-preserved c = record {
@@ -28,7 +25,4 @@ loop-i-preserved c = record {
 }
 
 pub returns : goal.returns
-returns c =
-    let e : c.loop-i.i ≡ 0 = omega (arith, c.loop-i-test.false) in
-    subst (λ (k : ℕ). IsPruned k c.args.stretches.now.list.items c.loop-i.stretches.list.items c.args.names.now.entries c.loop-i.names.entries c.args.here.now c.loop-i.here) e
-    c.loop-i.invariant.pruned
+returns c = grind arith

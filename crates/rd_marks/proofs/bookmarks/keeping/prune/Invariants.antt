@@ -1,5 +1,5 @@
 use Rattle.std.proofs.Common.{◌≤◌, length}
-use Rattle.rd_marks.specs.Layout.{IsPruned}
+use Rattle.rd_marks.proofs.Prelude.{IsPruned}
 use Rattle.rd_marks.proofs.bookmarks.keeping.prune.Given as goal
 
 abbrev pub invariant-loop-i : goal.invariant-loop-i

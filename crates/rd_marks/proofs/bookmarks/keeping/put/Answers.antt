@@ -1,11 +1,5 @@
 use Rattle.std.proofs.Common.{◌≡◌, ◌∙◌, None, List, ap, option_map}
-use Rattle.std.specs.Map.{lookup}
-use Rattle.std.proofs.lemmas.Map.Made.{lookup-map_values}
-use Rattle.indexmap.specs.IndexMap.{insert_entry}
-use Rattle.rd_marks.specs.declared.names.MarkName.{MarkName}
-use Rattle.rd_marks.specs.declared.stretches.Place.{Place}
-use Rattle.rd_marks.specs.Changes.{shifted}
-use Rattle.rd_marks.specs.Names.{same_name}
+use Rattle.rd_marks.proofs.Prelude.{lookup, lookup-map_values, insert_entry, MarkName, Place, shifted, same_name}
 use Rattle.rd_marks.proofs.MarkLemmas.{insert_last}
 use Rattle.rd_marks.proofs.Putting.{names_shifted}
 use Rattle.rd_marks.proofs.bookmarks.keeping.put.Goals as goal

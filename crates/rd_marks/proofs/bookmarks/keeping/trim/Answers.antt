@@ -1,25 +1,16 @@
 use Rattle.std.proofs.Common.{◌≡◌, ◌+◌, suc, List, sym, ap, subst, arith}
-use Rattle.rd_marks.specs.declared.names.MarkName.{MarkName}
-use Rattle.rd_marks.specs.declared.stretches.Place.{Place}
-use Rattle.rd_marks.specs.Changes.{IsLow}
-use Rattle.rd_marks.specs.Layout.{IsPruned, places_of}
-use Rattle.rd_marks.specs.Stretches.{needed_at, shared_at, IsWithin}
-use Rattle.rd_marks.proofs.Starting.{fewer_begin}
+use Rattle.rd_marks.proofs.Prelude.{MarkName, Place, IsLow, IsPruned, places_of, needed_at, shared_at, IsWithin}
 use Rattle.rd_marks.proofs.Putting.{each, names_shifted, pruned}
 use Rattle.rd_marks.proofs.bookmarks.keeping.trim.Goals as goal
 
 pub shrink-shift-requires-clause-next : goal.shrink-shift-requires-clause-next
-shrink-shift-requires-clause-next c =
-    let e : c.args.i + 1 ≡ suc c.args.i = omega arith in
-    omega (arith, c.max-needed.ensures, c.shared.ensures, ap (shared_at c.args.stretches.now.list.items) e)
+shrink-shift-requires-clause-next c = grind arith
 
 pub move_all-requires : goal.move_all-requires
 move_all-requires c = each (IsWithin c.args.stretches.now.list.items) IsLow c.args.names.now.entries c.shrink-shift.ensures.low c.requires.within
 
 pub shifted-requires : goal.shifted-requires
-shifted-requires c =
-    c.shrink-shift.ensures.low c.kept_of.result
-    (fewer_begin c.args.stretches.now.list.items c.args.here.now c.kept_of.result c.requires.here c.kept_of.ensures.stretch c.kept_of.ensures.number).0
+shifted-requires c = grind arith
 
 pub returns-clause-pruned : goal.returns-clause-pruned
 returns-clause-pruned c =

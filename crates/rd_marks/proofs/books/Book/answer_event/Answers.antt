@@ -1,18 +1,6 @@
-use Rattle.std.proofs.Common.{◌≡◌, ◌+◌, ◌∙◌, [], ◌∷◌, inl, List, Ok, length, length-append, refl, sym, ap, subst, arith}
-use Rattle.std.proofs.lemmas.List.{length-map}
-use Rattle.rd_step.specs.declared.entries.Event.{Event}
-use Rattle.rd_step.specs.declared.entries.Entry.{Entry}
-use Rattle.rd_depend.specs.Beginnings.{Begins}
-use Rattle.rd_marks.specs.declared.names.MarkName.{MarkName}
-use Rattle.rd_marks.specs.declared.replies.Reply.TheVariants.{Applied}
-use Rattle.rd_marks.specs.BookViews.{book_state}
-use Rattle.rd_marks.specs.Marks.{marks_of}
-use Rattle.rd_marks.proofs.AnswerLemmas.{event_happened}
+use Rattle.std.proofs.Common.{◌≡◌, ◌+◌, ◌∙◌, [], ◌∷◌, List, length, length-append, refl, sym, ap, subst, arith}
+use Rattle.rd_marks.proofs.Prelude.{length-map, Event, Begins, ahead_records, journal, state, apply, lists_in, here_in}
 use Rattle.rd_step.specs.Run.{events}
-use Rattle.rd_journal.specs.Records.{ahead_records}
-use Rattle.rd_journal.specs.Sessions.{journal, state}
-use Rattle.rd_journal.specs.State.{apply}
-use Rattle.rd_marks.specs.Kept.{lists_in, here_in}
 use Rattle.rd_marks.proofs.Here.{track_cut, added_leaves}
 use Rattle.rd_marks.proofs.Starts.{apply_start, start_stays, runs_stay}
 use Rattle.rd_marks.proofs.books.Book.answer_event.Goals as goal
@@ -49,9 +37,4 @@ invariant_of-self-2 g c =
     }
 
 pub returns : goal.returns
-returns g c =
-    let book = c.args.self.now in
-    inl (ap (λ (ls : List (MarkName × List Entry)). record { answer = Ok (Applied c.in_ok-step.step c.in_ok-step.entry.reply); state = record { session = state c.apply.new.self; marks = marks_of ls } })
-    c.cut_here.ensures.lists
-    ∙ event_happened g.row.R (book_state book) (state c.apply.new.self) c.args.event c.in_ok-step.step c.in_ok-step.entry.reply c.in_ok-step.ensures.ok
-    (c.in_ok-step.ensures.number ∙ sym (length-map (journal c.apply.new.self).live (λ (x : Entry). x.event))) c.in_ok-step.ensures.reply)
+returns g c = grind (arith, length-map)

@@ -1,4 +1,4 @@
-use Rattle.std.proofs.lemmas.Bool.{false≢true}
+use Rattle.rd_marks.proofs.Prelude.{false≢true}
 use Rattle.rd_marks.proofs.books.Book.answer_mark.Goals as goal
 
 pub returns-in_err-mark-clause-succeeds : goal.returns-in_err-mark-clause-succeeds

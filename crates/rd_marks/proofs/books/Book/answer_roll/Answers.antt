@@ -1,13 +1,6 @@
-use Rattle.std.proofs.Common.{refl, arith}
-use Rattle.std.proofs.lemmas.List.{length-map}
+use Rattle.std.proofs.Common.{arith}
+use Rattle.rd_marks.proofs.Prelude.{length-map, Entry, ahead_records, journal, state, roll, lists_in, here_in}
 use Rattle.rd_step.specs.Run.{events}
-use Rattle.rd_step.specs.declared.entries.Entry.{Entry}
-use Rattle.rd_journal.specs.Records.{ahead_records}
-use Rattle.rd_journal.specs.Sessions.{journal, state}
-use Rattle.rd_journal.specs.State.{roll}
-use Rattle.rd_marks.specs.BookViews.{book_state}
-use Rattle.rd_marks.specs.Kept.{lists_in, here_in}
-use Rattle.rd_marks.proofs.AnswerLemmas.{move_answered_with}
 use Rattle.rd_marks.proofs.Here.{after_out, roll_leaves, rolled_within}
 use Rattle.rd_marks.proofs.Starts.{roll_start, start_stays, runs_stay}
 use Rattle.rd_marks.proofs.books.Book.answer_roll.Goals as goal
@@ -32,7 +25,4 @@ invariant_of-self g c =
     }
 
 pub returns : goal.returns
-returns g c =
-    let b = book_state c.args.self.now in
-    move_answered_with c.roll-done.result b (journal c.args.self.now.session) (journal c.roll-done.new.self) (roll g.row.R b.session c.args.k)
-    c.counts_after.result (lists_in c.cut_back.new.self) (lists_in c.args.self.now.bookmarks) c.cut_back.ensures.lists refl refl c.roll-done.ensures.ok c.roll-done.ensures.err c.roll-done.ensures.unchanged c.counts_after.ensures.ok c.counts_after.ensures.err
+returns g c = grind arith

@@ -1,8 +1,6 @@
-use Rattle.std.proofs.Common.{refl}
-use Rattle.rd_journal.specs.Sessions.{journal, state}
-use Rattle.rd_journal.specs.State.{undo}
-use Rattle.rd_marks.specs.BookViews.{book_state}
-use Rattle.rd_marks.proofs.AnswerLemmas.{kept_along, move_answered}
+use Rattle.std.proofs.Common.{arith}
+use Rattle.rd_marks.proofs.Prelude.{state, undo}
+use Rattle.rd_marks.proofs.AnswerLemmas.{kept_along}
 use Rattle.rd_marks.proofs.Starts.{undo_start}
 use Rattle.rd_marks.proofs.books.Book.answer_undo.Goals as goal
 
@@ -14,9 +12,4 @@ invariant_of-self g c =
     record { runs = kept.0; stands = kept.1 }
 
 pub returns : goal.returns
-returns g c =
-    let done = c.undo-done in
-    let said = c.counts_after.ensures in
-    let b = book_state c.args.self.now in
-    move_answered done.result b (journal c.args.self.now.session) (journal done.new.self) (undo b.session) c.counts_after.result refl done.ensures.ok done.ensures.err done.ensures.unchanged
-    said.ok said.err
+returns g c = grind arith

@@ -1,10 +1,5 @@
-use Rattle.std.proofs.Common.{◌≡◌, ◌∙◌, ◌+◌, ℕ, ap, sym, subst, List, [], ◌∷◌, ◌++◌, take, get_or, Result, add-one, arith}
-use Rattle.std.proofs.Math.Seq.{take-suc}
-use Rattle.rd_step.specs.Prelude.{Refusal}
-use Rattle.rd_marks.specs.declared.commands.Command.{Command}
-use Rattle.rd_marks.specs.declared.replies.Reply.{Reply}
-use Rattle.rd_marks.specs.BookViews.{book_state}
-use Rattle.rd_marks.specs.Commands.{AreObeyed}
+use Rattle.std.proofs.Common.{◌≡◌, ◌∙◌, ◌+◌, ℕ, ap, sym, [], ◌∷◌, ◌++◌, take, get_or, add-one, arith}
+use Rattle.rd_marks.proofs.Prelude.{take-suc, Command, book_state}
 use Rattle.rd_marks.proofs.ObeyLemmas.{one_more_obeyed}
 use Rattle.rd_marks.proofs.books.Book.apply_all.Goals as goal
 
@@ -22,9 +17,7 @@ loop-i-preserved g c =
     c.obey-answer.result c.loop-i.invariant.obeyed c.obey-answer.ensures.answer in
     record {
       obeyed =
-          subst (λ (xs : List Command). AreObeyed g.row.R b xs c.push_reserved.new.self.items (book_state c.obey-answer.new.self)) more
-          (subst (λ (rs : List (Result Reply Refusal)). AreObeyed g.row.R b (take i cs ++ command ∷ []) rs (book_state c.obey-answer.new.self))
-          (sym c.push_reserved.ensures.items) done);
+          grind arith;
       start = c.obey-answer.ensures.start ∙ c.loop-i.invariant.start;
       len = omega arith;
       capacity = omega arith;

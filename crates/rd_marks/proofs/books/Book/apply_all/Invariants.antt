@@ -1,6 +1,5 @@
 use Rattle.std.proofs.Common.{◌≡◌, take, length, vec_len, vec_capacity}
-use Rattle.rd_marks.specs.BookViews.{book_state}
-use Rattle.rd_marks.specs.Commands.{AreObeyed}
+use Rattle.rd_marks.proofs.Prelude.{book_state, AreObeyed}
 use Rattle.rd_marks.proofs.books.Book.apply_all.Given as goal
 
 abbrev pub invariant-loop-i : goal.invariant-loop-i

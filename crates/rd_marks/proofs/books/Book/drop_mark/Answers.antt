@@ -1,12 +1,5 @@
-use Rattle.std.proofs.Common.{◌∙◌, List, refl, sym, ap, subst}
-use Rattle.rd_step.specs.declared.entries.Entry.{Entry}
-use Rattle.rd_journal.specs.Sessions.{state, track}
-use Rattle.rd_marks.specs.declared.names.MarkName.{MarkName}
-use Rattle.rd_marks.specs.BookViews.{book_state}
-use Rattle.rd_marks.specs.Kept.{lists_in, here_in}
-use Rattle.rd_marks.specs.Layout.{AreRuns, IsRecordOfRun}
-use Rattle.rd_marks.specs.Marks.{marks_of}
-use Rattle.rd_marks.specs.Names.{same_name}
+use Rattle.std.proofs.Common.{◌∙◌, List, refl, sym, subst, arith}
+use Rattle.rd_marks.proofs.Prelude.{Entry, state, track, MarkName, book_state, lists_in, here_in, AreRuns, IsRecordOfRun, same_name}
 use Rattle.rd_marks.proofs.Here.{still_begins}
 use Rattle.rd_marks.proofs.MarkLemmas.{all_without, drop_goes, drop_missing, none_removed}
 use Rattle.rd_marks.proofs.books.Book.drop_mark.Goals as goal
@@ -31,7 +24,4 @@ returns-else-drop-clause-err g c =
     drop_missing (book_state c.args.self.now) c.args.name (lists_in c.args.self.now.bookmarks) refl (sym c.drop.ensures.found ∙ c.if-drop.false)
 
 pub returns-else-drop-clause-unchanged : goal.returns-else-drop-clause-unchanged
-returns-else-drop-clause-unchanged g c =
-    let book = c.args.self.now in
-    let same = c.drop.ensures.lists ∙ none_removed (same_name c.args.name) (lists_in book.bookmarks) (sym c.drop.ensures.found ∙ c.if-drop.false) in
-    ap (λ (ls : List (MarkName × List Entry)). record { session = state book.session; marks = marks_of ls }) same
+returns-else-drop-clause-unchanged g c = grind (arith, none_removed)

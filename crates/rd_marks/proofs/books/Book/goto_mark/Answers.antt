@@ -1,21 +1,12 @@
-use Rattle.std.proofs.Common.{List, lit<, sym, inl, ap, ◌∙◌, option_map}
-use Rattle.rd_step.specs.declared.entries.Entry.{Entry}
+use Rattle.std.proofs.Common.{List, lit<, sym, ap, ◌∙◌, option_map, arith}
+use Rattle.rd_marks.proofs.Prelude.{Entry, journal, state, book_state, lists_in, records_in, IsRecordOfRun, same_name}
 use Rattle.rd_journal.specs.Journal.{events}
-use Rattle.rd_journal.specs.Sessions.{journal, state}
-use Rattle.rd_marks.specs.declared.names.MarkName.{MarkName}
-use Rattle.rd_marks.specs.BookViews.{book_state}
-use Rattle.rd_marks.specs.Kept.{lists_in, records_in}
-use Rattle.rd_marks.specs.Layout.{IsRecordOfRun}
-use Rattle.rd_marks.specs.Marks.{marks_of}
-use Rattle.rd_marks.specs.Names.{same_name}
-use Rattle.rd_marks.proofs.MarkLemmas.{all_found, found_events, goto_missing, goto_done, goto_not_done}
+use Rattle.rd_marks.proofs.MarkLemmas.{all_found, found_events, goto_not_done}
 use Rattle.rd_marks.proofs.Starts.{runs_stay, start_kept}
 use Rattle.rd_marks.proofs.books.Book.goto_mark.Goals as goal
 
 pub returns-in_default-clause-err : goal.returns-in_default-clause-err
-returns-in_default-clause-err g c =
-    inl (goto_missing (book_state c.args.self.now) c.args.name
-    (found_events c.args.name (lists_in c.args.self.now.bookmarks) ∙ ap (option_map events) (sym c.in_default.ensures.found)))
+returns-in_default-clause-err g c = grind (arith, found_events, option_map)
 
 pub go_to-requires : goal.go_to-requires
 go_to-requires g c =
@@ -32,11 +23,7 @@ go_to-requires g c =
     )
 
 pub returns-clause-ok : goal.returns-clause-ok
-returns-clause-ok g c =
-    let b = book_state c.args.self.now in
-    goto_done c.go_to.result b (record { session = state c.go_to.new.session; marks = marks_of (lists_in c.go_to.new.self) }) c.args.name (events (records_in c.args.self.now.bookmarks c.in-Some.place))
-    (found_events c.args.name (lists_in c.args.self.now.bookmarks) ∙ ap (option_map events) (sym c.in-Some.ensures.found))
-    (ap (λ (ls : List (MarkName × List Entry)). record { session = state c.go_to.new.session; marks = marks_of ls }) c.go_to.ensures.lists) c.go_to.ensures.ok
+returns-clause-ok g c = grind (arith, found_events, option_map)
 
 pub returns-clause-err : goal.returns-clause-err
 returns-clause-err g c =

@@ -1,12 +1,6 @@
-use Rattle.std.proofs.Common.{◌≡◌, ◌≢◌, ◌∙◌, lit<, inl, inr, refl, sym, ap, subst, List, Result, Ok, IsOk, length, arith}
-use Rattle.std.proofs.lemmas.List.{length-map, map-append}
-use Rattle.rd_step.specs.Prelude.{Refusal, MarkTaken, TooManyMarks}
-use Rattle.rd_marks.specs.Books.{BookState, Mark, with_marks}
-use Rattle.rd_marks.specs.BookViews.{book_state}
-use Rattle.rd_marks.specs.Kept.{lists_in, records_in}
-use Rattle.rd_marks.specs.Marks.{mark_of, marks_of}
-use Rattle.rd_marks.specs.NameBytes.{MOST_MARKS}
-use Rattle.rd_marks.proofs.MarkLemmas.{found_at, none_at, mark_goes, mark_refused, mark_taken, mark_too_many}
+use Rattle.std.proofs.Common.{◌≡◌, ◌≢◌, ◌∙◌, inl, inr, refl, sym, ap, subst, List, Result, Ok, IsOk, length, arith}
+use Rattle.rd_marks.proofs.Prelude.{length-map, map-append, Refusal, MarkTaken, BookState, Mark, with_marks, book_state, lists_in, records_in, mark_of, marks_of, MOST_MARKS}
+use Rattle.rd_marks.proofs.MarkLemmas.{found_at, mark_goes, mark_refused, mark_taken, mark_too_many}
 use Rattle.rd_marks.proofs.books.Book.mark.Goals as goal
 
 pub returns-then-is_some-clause-err : goal.returns-then-is_some-clause-err
@@ -29,21 +23,10 @@ returns-then-is_some-clause-succeeds g c = λ goes.
     (found_at (records_in bookmarks) c.args.name (lists_in bookmarks) c.find.result c.is_some.result c.find.ensures.found c.is_some.ensures ∙ c.if-is_some.true)) goes
 
 pub returns-then-len-eq-MOST_MARKS-clause-succeeds : goal.returns-then-len-eq-MOST_MARKS-clause-succeeds
-returns-then-len-eq-MOST_MARKS-clause-succeeds g c = λ goes.
-    let bookmarks = c.args.self.now.bookmarks in
-    let full : length (book_state c.args.self.now).marks ≡ MOST_MARKS = omega (arith, length-map (lists_in bookmarks) mark_of, c.len.ensures.count, c.if-len-eq-MOST_MARKS.true) in
-    mark_refused (book_state c.args.self.now) c.args.name TooManyMarks (mark_too_many (book_state c.args.self.now) c.args.name
-    (found_at (records_in bookmarks) c.args.name (lists_in bookmarks) c.find.result c.is_some.result c.find.ensures.found c.is_some.ensures ∙ c.if-is_some.false) full) goes
+returns-then-len-eq-MOST_MARKS-clause-succeeds g c = grind (arith, length-map, mark_refused, mark_too_many, found_at, c.len.ensures.count, c.if-len-eq-MOST_MARKS.true, c.find.ensures.found, c.is_some.ensures, c.if-is_some.false)
 
 pub set-requires : goal.set-requires
-set-requires g c =
-    let bookmarks = c.args.self.now.bookmarks in (
-      lit< tt,
-      (
-        none_at (records_in bookmarks) c.args.name (lists_in bookmarks) c.find.result c.is_some.result c.find.ensures.found c.is_some.ensures c.if-is_some.false,
-        (omega (arith, c.len.ensures.count, c.len.ensures.few, c.if-len-eq-MOST_MARKS.false), (c.args.self.now.runs, c.args.self.now.stands)),
-      ),
-    )
+set-requires g c = grind arith
 
 pub returns-in-Err-clause-err : goal.returns-in-Err-clause-err
 returns-in-Err-clause-err g c =

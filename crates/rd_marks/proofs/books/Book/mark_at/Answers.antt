@@ -1,6 +1,5 @@
 use Rattle.std.proofs.Common.{◌-◌, None, Some, refl, sym, ◌∙◌, arith}
-use Rattle.rd_marks.specs.BookViews.{book_state}
-use Rattle.rd_marks.specs.Kept.{lists_in, records_in}
+use Rattle.rd_marks.proofs.Prelude.{book_state, lists_in, records_in}
 use Rattle.rd_marks.proofs.Starting.{records_length}
 use Rattle.rd_marks.proofs.MarkLemmas.{mark_said, length_said}
 use Rattle.rd_marks.proofs.books.Book.mark_at.Goals as goal

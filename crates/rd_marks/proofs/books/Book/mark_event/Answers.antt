@@ -1,8 +1,5 @@
 use Rattle.std.proofs.Common.{◌∙◌, ◌-◌, List, Option, Some, None, refl, sym, ap, arith}
-use Rattle.rd_step.specs.declared.entries.Event.{Event}
-use Rattle.rd_marks.specs.Books.{event_in}
-use Rattle.rd_marks.specs.BookViews.{book_state}
-use Rattle.rd_marks.specs.Kept.{lists_in, records_in}
+use Rattle.rd_marks.proofs.Prelude.{Event, event_in, book_state, lists_in, records_in}
 use Rattle.rd_marks.proofs.MarkLemmas.{events_said, no_mark}
 use Rattle.rd_marks.proofs.books.Book.mark_event.Goals as goal
 

@@ -1,16 +1,11 @@
 use Rattle.std.proofs.Common.{◌-◌, List, Option, Some, None, Ok, Err, refl, sym, subst, ap, length, true≢false, arith}
-use Rattle.rd_step.specs.Prelude.{NoMark, NoMemory}
-use Rattle.rd_step.specs.declared.entries.Event.{Event}
-use Rattle.rd_marks.specs.Books.{AnswersEvents}
-use Rattle.rd_marks.specs.BookViews.{book_state}
-use Rattle.rd_marks.specs.Kept.{lists_in, records_in}
+use Rattle.rd_marks.proofs.Prelude.{NoMark, NoMemory, Event, AnswersEvents, book_state, lists_in, records_in}
 use Rattle.rd_marks.proofs.Starting.{events_length}
-use Rattle.rd_marks.proofs.MarkLemmas.{events_said, no_mark}
+use Rattle.rd_marks.proofs.MarkLemmas.{events_said}
 use Rattle.rd_marks.proofs.books.Book.mark_events.Goals as goal
 
 pub returns-then-i-eq0 : goal.returns-then-i-eq0
-returns-then-i-eq0 g c =
-    subst (λ (es : Option (List Event)). AnswersEvents es (Err NoMark)) (sym (no_mark (book_state c.args.self.now) c.args.i (omega arith))) refl
+returns-then-i-eq0 g c = grind arith
 
 pub returns-in_default : goal.returns-in_default
 returns-in_default g c =

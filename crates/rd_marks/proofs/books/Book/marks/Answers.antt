@@ -1,6 +1,5 @@
 use Rattle.std.proofs.Common.{refl, arith}
-use Rattle.rd_marks.specs.BookViews.{book_state}
-use Rattle.rd_marks.specs.Kept.{lists_in}
+use Rattle.rd_marks.proofs.Prelude.{book_state, lists_in}
 use Rattle.rd_marks.proofs.RulesLemmas.{keeps_rules}
 use Rattle.rd_marks.proofs.books.Book.marks.Goals as goal
 

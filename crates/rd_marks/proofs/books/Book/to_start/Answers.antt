@@ -1,10 +1,6 @@
 use Rattle.std.proofs.Common.{List, refl, sym, ap, subst}
+use Rattle.rd_marks.proofs.Prelude.{Event, Begins, state, State, lists_in, here_in}
 use Rattle.rd_step.specs.Run.{events}
-use Rattle.rd_step.specs.declared.entries.Event.{Event}
-use Rattle.rd_depend.specs.Beginnings.{Begins}
-use Rattle.rd_journal.specs.Sessions.{state}
-use Rattle.rd_journal.specs.State.{State}
-use Rattle.rd_marks.specs.Kept.{lists_in, here_in}
 use Rattle.rd_marks.proofs.Starts.{runs_stay}
 use Rattle.rd_marks.proofs.books.Book.to_start.Goals as goal
 

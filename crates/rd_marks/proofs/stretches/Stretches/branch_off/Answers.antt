@@ -1,5 +1,5 @@
 use Rattle.std.proofs.Common.{◌≡◌, ◌++◌, ◌∙◌, true, is_ok, insert, refl, drop, arith}
-use Rattle.rd_marks.specs.declared.stretches.Stretch.{Stretch}
+use Rattle.rd_marks.proofs.Prelude.{Stretch}
 use Rattle.rd_marks.proofs.StretchUses.{branched}
 use Rattle.rd_marks.proofs.stretches.Stretches.branch_off.Goals as goal
 

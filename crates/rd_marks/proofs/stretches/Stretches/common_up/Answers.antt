@@ -1,5 +1,4 @@
-use Rattle.std.proofs.Common.{◌≡◌, ◌+◌, suc, ap, arith}
-use Rattle.rd_marks.specs.Stretches.{shared_at}
+use Rattle.std.proofs.Common.{◌≡◌, ◌+◌, suc, arith}
 use Rattle.rd_marks.proofs.Reading.{common_most, common_on}
 use Rattle.rd_marks.proofs.stretches.Stretches.common_up.Goals as goal
 
@@ -14,8 +13,7 @@ loop-i-preserved c =
       first = omega (arith, inv.first, c.min-common-in-loop-i.ensures);
       second = omega (arith, inv.second, c.min-common-in-loop-i.ensures);
       alike =
-          rw e (common_on ss c.args.self.now.nested c.args.one.stretch i c.loop-i.common d (omega (arith, c.min-common-in-loop-i.ensures))
-          (omega (arith, c.min-common-in-loop-i.ensures, c.shared.ensures, ap (shared_at ss) e)) inv.alike);
+          grind (arith, common_on);
       most = λ n h k all.
           omega (arith, inv.most n h k (λ j low high. all j low (omega (arith, high))), all (i + 1) (omega (arith, c.loop-i.auto.i)) (omega arith), c.min-common-in-loop-i.ensures, c.shared.ensures);
     }

@@ -1,7 +1,5 @@
 use Rattle.std.proofs.Common.{◌++◌, ◌∙◌, ◌<◌, ◌^◌, length, set, refl, sym, arith}
-use Rattle.rd_step.proofs.PassedUp.{fact_passed_up}
-use Rattle.rd_marks.specs.declared.stretches.Stretch.{Stretch}
-use Rattle.rd_marks.specs.Stretches.{AreNested, AreFresh}
+use Rattle.rd_marks.proofs.Prelude.{fact_passed_up, Stretch, AreNested, AreFresh}
 use Rattle.rd_marks.proofs.Reading.{stretch_at}
 use Rattle.rd_marks.proofs.StretchUses.{extended, extended_or_not, same_left}
 use Rattle.rd_marks.proofs.stretches.Stretches.extend.Goals as goal
@@ -25,14 +23,7 @@ invariant_of-self c =
     record { nested = p.0; fresh = p.1 }
 
 pub returns-in_err-append-clause-err : goal.returns-in_err-append-clause-err
-returns-in_err-append-clause-err c =
-    let ss = c.args.self.now.list.items in
-    let s = c.index_mut.result.now in
-    let t : Stretch = record { shared = s.shared; records = c.append.new.records } in
-    let at = stretch_at ss ss c.args.at.stretch s refl c.requires.end.there c.index_mut.ensures.value in
-    fact_passed_up _
-    (same_left ss (omega (arith, c.args.self.now.list.ok, c.args.self.now.list.small)) c.args.self.now.nested c.args.self.now.fresh c.args.at.stretch c.requires.end.there t (sym at.1)
-    (c.in_err-append.ensures.err ∙ sym at.2)).2
+returns-in_err-append-clause-err c = grind (arith, stretch_at, fact_passed_up, same_left)
 
 pub returns-clause-ok : goal.returns-clause-ok
 returns-clause-ok c =

@@ -1,5 +1,5 @@
-use Rattle.std.proofs.Common.{◌≡◌, ◌⊎◌, ◌+◌, ◌<◌, suc, inl, inr, arith}
-use Rattle.rd_marks.specs.Stretches.{shared_at}
+use Rattle.std.proofs.Common.{◌≡◌, ◌⊎◌, ◌+◌, ◌<◌, suc, arith}
+use Rattle.rd_marks.proofs.Prelude.{shared_at}
 use Rattle.rd_marks.proofs.StretchLists.{shared_past}
 use Rattle.rd_marks.proofs.Reading.{reaches_on, reaches_end}
 use Rattle.rd_marks.proofs.stretches.Stretches.next_off.Goals.{else-shared-at-via-then-shared-at+else-i-at, else-shared-at-via-else-shared-at}
@@ -12,10 +12,7 @@ loop-i-preserved c =
     let i = c.loop-i.i in
     let at = c.args.at in
     let which : (at.stretch ≡ i) ⊎ (at.number < shared_at ss i) =
-    elim c.else-shared-at.branch [
-      | else-shared-at-via-then-shared-at+else-i-at w ↦ inl (omega (arith, w.if-i-at.false, inv.high))
-      | else-shared-at-via-else-shared-at w ↦ inr (omega (arith, w.if-shared-at.false, c.shared.ensures))
-    ] in
+    grind (arith, else-shared-at-via-then-shared-at+else-i-at, else-shared-at-via-else-shared-at) in
     let e : i + 1 ≡ suc i = omega arith in
     record { high = omega (arith, inv.high); reaches = λ h. rw e (reaches_on ss c.args.self.now.nested at c.requires i which inv.reaches inv.high) }
 

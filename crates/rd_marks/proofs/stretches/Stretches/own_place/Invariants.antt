@@ -1,5 +1,5 @@
 use Rattle.std.proofs.Common.{◌≡◌}
-use Rattle.rd_marks.specs.Stretches.{records_at, IsWithin}
+use Rattle.rd_marks.proofs.Prelude.{records_at, IsWithin}
 use Rattle.rd_marks.proofs.stretches.Stretches.own_place.Given as goal
 
 abbrev pub invariant-loop-at : goal.invariant-loop-at

@@ -1,5 +1,5 @@
 use Rattle.std.proofs.Common.{◌≡◌, ◌+◌, drop}
-use Rattle.rd_marks.specs.Stretches.{count_of}
+use Rattle.rd_marks.proofs.Prelude.{count_of}
 use Rattle.rd_marks.proofs.stretches.Stretches.records.Given as goal
 
 abbrev pub invariant-loop-i : goal.invariant-loop-i

@@ -7,5 +7,4 @@ pub returns-in-None : goal.returns-in-None
 returns-in-None c = sym (shared_past c.args.self.now.list.items c.args.i (omega (arith, c.in-None.ensures.lookup.3, c.deref.ensures.len)))
 
 pub returns-in-Some : goal.returns-in-Some
-returns-in-Some c =
-    sym (stretch_at c.args.self.now.list.items c.deref.result.now c.args.i c.in-Some.stretch.now c.deref.ensures.value c.in-Some.ensures.lookup.3.0 c.in-Some.ensures.lookup.1).1
+returns-in-Some c = grind (arith, stretch_at)

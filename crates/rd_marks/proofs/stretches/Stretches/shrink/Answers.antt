@@ -1,5 +1,5 @@
 use Rattle.std.proofs.Common.{◌-◌, ◌∙◌, refl, sym, take, arith}
-use Rattle.rd_marks.specs.declared.stretches.Stretch.{Stretch}
+use Rattle.rd_marks.proofs.Prelude.{Stretch}
 use Rattle.rd_marks.proofs.Reading.{stretch_at}
 use Rattle.rd_marks.proofs.StretchUses.{gone, left}
 use Rattle.rd_marks.proofs.stretches.Stretches.shrink.Goals as goal
@@ -30,10 +30,4 @@ invariant_of-self-2 c =
     record { nested = all.nested; fresh = all.fresh }
 
 pub returns : goal.returns
-returns c =
-    let ss = c.args.self.now.list.items in
-    let s = c.index_mut.result.now in
-    let t : Stretch = record { shared = s.shared; records = c.cut.new.records } in
-    let at = stretch_at ss ss c.args.i s refl c.requires.there c.index_mut.ensures.value in
-    (left ss (omega (arith, c.args.self.now.list.ok, c.args.self.now.list.small)) c.args.self.now.nested c.args.self.now.fresh c.args.i c.requires.there c.args.n c.requires.next
-    (omega (arith, c.if-n-shared.false, c.shared-shared.ensures)) t (sym at.1) (c.cut.ensures ∙ (λ k. take (c.args.n - c.shared-shared.ensures k) (sym at.2 k)))).shrunk
+returns c = grind (arith, stretch_at, left)
