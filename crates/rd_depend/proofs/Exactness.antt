@@ -1,10 +1,10 @@
--- Taking a record that may come first out of one list, and the first one out of the other, keeps
+-- Taking an entry that may come first out of one list, and the first one out of the other, keeps
 -- whether the lists are equivalent.
 use Rattle.std.proofs.Common.{◌≡◌, ◌↔◌, ℕ, zero, suc, ◌-◌, ◌≤◌, Bool, refl, sym, ◌∙◌, ap, subst, arith, List, [], ◌∷◌, ◌++◌, length, take, drop, length-drop, Ok}
 use Rattle.rd_depend.proofs.Prelude.{map-append, take_all, World, Stepped, step, Ran, run, IsFree, Event, Entry, IsEquivalent, events, run_entries, IsRunFrom, runs_to, FirstStep, first_step, middle, as_stepped-same, goes_first, stands_in, DecidesEquivalence}
 use Rattle.rd_depend.proofs.FirstOfActor.{MayComeFirst, one_place}
 
--- a record that depends on no earlier one goes first, and the others run on with their records
+-- an entry that depends on no earlier one goes first, and the others run on with their entries
 pub front : (R : ℕ) (w : World) (xs : List Entry) (x : Entry) (ys : List Entry) → IsRunFrom R w (xs ++ x ∷ ys) → IsFree x xs → FirstStep R w x (xs ++ ys)
 front R w xs x ys h free =
     let to = runs_to R w (xs ++ x ∷ ys) h in
@@ -19,7 +19,7 @@ front R w xs x ys h free =
 
 -- Where the first event of the one list may be in the other
 
--- equivalent lists have it at a record that depends on no earlier one; without it there and in the
+-- equivalent lists have it at an entry that depends on no earlier one; without it there and in the
 -- world after it the rests are equivalent
 pub record ComesFirst (R : ℕ) (w : World) (e : Event) (es : List Event) (rest : List Entry) : Type 0 where
   pub left : List Entry
@@ -73,7 +73,7 @@ stands_first R w x u es rest left runs goes m on =
 one_left : (e : Event) (rest l k : List Entry) → MayComeFirst e rest l → MayComeFirst e rest k → l ≡ k
 one_left e rest l k a b = grind (arith, one_place)
 
--- where the first event of a run may come first in another from the same world, the record is the
+-- where the first event of a run may come first in another from the same world, the entry is the
 -- same there, and what is left runs on from the world after it
 pub record RunsOn (R : ℕ) (v : World) (x entry : Entry) (left : List Entry) : Type 0 where
   pub same : entry ≡ x

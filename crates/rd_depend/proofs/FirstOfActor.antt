@@ -1,14 +1,14 @@
--- A record of an event that depends on no earlier one is the first of its actor, so there is one
+-- An entry of an event that depends on no earlier one is the first of its actor, so there is one
 -- such place at most.
 use Rattle.std.proofs.Common.{◌≡◌, ℕ, refl, sym, ap, subst, List, [], ◌∷◌, ◌++◌, arith, rules}
 use Rattle.rd_depend.proofs.Prelude.{IsFree, Event, Entry}
 
--- none of these records is by this actor
+-- none of these entries is by this actor
 abbrev pub HasNoneBy : ℕ → List Entry → Type 0
 HasNoneBy n [] = Unit {0}
 HasNoneBy n (x ∷ xs) = (n ≡ x.event.actor → ⊥) × HasNoneBy n xs
 
--- a record of this event is at a place where it depends on no earlier one, and without it there
+-- an entry of this event is at a place where it depends on no earlier one, and without it there
 -- these are left
 pub record MayComeFirst (e : Event) (entries left : List Entry) : Type 0 where
   pub earlier : List Entry
@@ -19,12 +19,12 @@ pub record MayComeFirst (e : Event) (entries left : List Entry) : Type 0 where
   pub free : IsFree entry earlier
   pub leaves : left ≡ earlier ++ later
 
--- records on which one does not depend are none of its actor
+-- entries on which one does not depend are none of its actor
 free_none_by : (x : Entry) (xs : List Entry) → IsFree x xs → HasNoneBy x.event.actor xs
 free_none_by x [] h = tt
 free_none_by x (y ∷ ys) h = grind (arith, free_none_by x ys h.1)
 
--- the first record by an actor is at one place alone
+-- the first entry by an actor is at one place alone
 pub record AreOne (xs ys zs us : List Entry) (y z : Entry) : Type 0 where
   pub before : xs ≡ zs
   pub itself : y ≡ z
@@ -47,7 +47,7 @@ by_actor e x h = ap (λ (f : Event). f.actor) (sym h)
 none_before : (e : Event) (x : Entry) (xs : List Entry) → x.event ≡ e → IsFree x xs → HasNoneBy e.actor xs
 none_before e x xs h free = subst (λ (f : Event). HasNoneBy f.actor xs) h (free_none_by x xs free)
 
--- the places where a record of one event depends on no earlier one are one place
+-- the places where an entry of one event depends on no earlier one are one place
 pub one_place : (e : Event) (xs ys zs us : List Entry) (y z : Entry) → xs ++ y ∷ ys ≡ zs ++ z ∷ us → y.event ≡ e → z.event ≡ e
     → IsFree y xs → IsFree z zs → AreOne xs ys zs us y z
 one_place e xs ys zs us y z h of_y of_z free_y free_z = search (rules, one_first, by_actor, none_before, arith)

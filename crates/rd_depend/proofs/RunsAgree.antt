@@ -1,4 +1,4 @@
--- Of two runs from one world the events are equivalent exactly where the records of the one may be
+-- Of two runs from one world the events are equivalent exactly where the entries of the one may be
 -- taken out of the other.
 use Rattle.std.proofs.Common.{◌≡◌, ℕ, true, false, refl, sym, ap, subst, List, [], ◌∷◌, ◌++◌, Ok, arith}
 use Rattle.rd_depend.proofs.Prelude.{World, step, IsFree, Entry, IsEquivalent, events, IsRunFrom, first_step, DecidesEquivalence}

@@ -1,4 +1,4 @@
--- Two records depend on each other exactly where they have one actor, or share a place of the map
+-- Two entries depend on each other exactly where they have one actor, or share a place of the map
 -- that one of them wrote.
 use Rattle.std.proofs.Common.{◌≡◌, ◌↔◌, ◌⊎◌, Bool, true, false, inl, inr, Option, Some, eq-eqb, arith}
 use Rattle.rd_depend.proofs.Prelude.{or_cases, or_left, or_right, covers-refl, both_cover, written-covers, Place, Head, CellAt, ValAt, WholeOf, covers, overlaps, some_covers, some_overlap, written, interfere, depends, Entry, is_of_map, wrote, SharesPlace, one_wrote}
@@ -70,7 +70,7 @@ interferes x y s =
 pub shared : (x y : Entry) → (depends x y ≡ true) ↔ ((x.event.actor ≡ y.event.actor) ⊎ SharesPlace x y)
 shared x y = grind (arith, or_cases, shares, eq-eqb, interferes)
 
--- where two records interfere, one of them wrote, and their places overlap
+-- where two entries interfere, one of them wrote, and their places overlap
 
 by_one : (x y : Entry) → SharesPlace x y → one_wrote x y ≡ true
 by_one x y s = grind arith

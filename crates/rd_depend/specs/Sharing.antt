@@ -1,4 +1,4 @@
--- Dependence in terms of the map from places to contents: what two records touched of it, and what
+-- Dependence in terms of the map from places to contents: what two entries touched of it, and what
 -- they wrote.
 use Rattle.std.specs.Prelude.{◌≡◌, Bool, true, false, not, ◌||◌}
 use Rattle.rd_step.specs.Prelude.{Place, CellAt, WholeOf, some_covers, written, is_nothing}
@@ -11,15 +11,15 @@ is_of_map (CellAt s i) = false
 is_of_map (WholeOf s) = false
 is_of_map _ = true
 
--- whether a record touched a place of the map
+-- whether an entry touched a place of the map
 abbrev pub touched : Entry → Place → Bool
 touched x q = some_covers x.place q
 
--- whether a record wrote a place of the map
+-- whether an entry wrote a place of the map
 abbrev pub wrote : Entry → Place → Bool
 wrote x q = some_covers (written x.place x.wrote) q
 
--- there is a place of the map that both records touched and at least one of them wrote
+-- there is a place of the map that both entries touched and at least one of them wrote
 pub record SharesPlace (x y : Entry) : Type 0 where
   pub place : Place
   pub is_of_the_map : is_of_map place ≡ true
@@ -27,6 +27,6 @@ pub record SharesPlace (x y : Entry) : Type 0 where
   pub second : touched y place ≡ true
   pub one_wrote : (wrote x place || wrote y place) ≡ true
 
--- whether at least one of two records wrote anything
+-- whether at least one of two entries wrote anything
 abbrev pub one_wrote : Entry → Entry → Bool
 one_wrote x y = not (is_nothing x.wrote) || not (is_nothing y.wrote)

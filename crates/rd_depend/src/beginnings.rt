@@ -6,7 +6,7 @@ ghost use Rattle.rd_depend.specs.Beginnings.{Begins};
 
 use rd_step::{Entry, Event};
 
-/// How many events two lists of records have in common at their beginning, up to the first that
+/// How many events two lists of entries have in common at their beginning, up to the first that
 /// differs or to the end of the shorter list. It takes no memory, and time that grows with the
 /// answer.
 pub(crate) fn common_beginning(a: &[Entry], b: &[Entry]) -> usize

@@ -1,4 +1,4 @@
-//! Dependence of two records, and the first dependant in a list of them.
+//! Dependence of two entries, and the first dependant in a list of them.
 
 ghost use Rattle.std.specs.Prelude.{◌≡◌, ◌≤◌, length};
 ghost use Rattle.rd_step.specs.Prelude.{some_overlap, interfere, depends, first_dependant};

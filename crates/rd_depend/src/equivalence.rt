@@ -1,4 +1,4 @@
-//! Whether two lists of records are of causally equivalent events.
+//! Whether two lists of entries are of causally equivalent events.
 //!
 //! After the events that they have in common at their beginning, one pass over each list compares
 //! them: they are equivalent exactly where each actor makes the same steps in the same order, and

@@ -6,7 +6,7 @@
 //! callers give those that are meant.
 
 ghost use Rattle.std.specs.Prelude.{◌≡◌, ◌+◌, ◌-◌, ◌<◌, ◌≤◌, ◌^◌, ◌++◌, ◌∷◌, [], length, take, drop, List, Some, IsOk, OnOk, OnErr};
-ghost use Rattle.rd_step.specs.declared.entries.Entry.{Entry as Record};
+ghost use Rattle.rd_step.specs.declared.entries.Entry.{Entry as SomeEntry};
 ghost use Rattle.rd_step.specs.Lists.{numbered, without};
 ghost use Rattle.rd_step.specs.Prelude.{first_dependant, depends_on_one};
 ghost use Rattle.rd_depend.specs.Index.{IsIndexOf, IsIndex, IsHeld, IsLast, HasRoomFor};
@@ -70,11 +70,11 @@ impl DependIndex {
     /// `AllocError` if memory was refused. No position has changed then.
     pub fn push(&mut self, entry: &Entry) -> Result<(), AllocError>
         requires { self.old.len < MOST_STEPS }
-        ensures ok { OnOk result ((es : List Record) → IsIndexOf self.old es → IsIndexOf self.new (es ++ entry.now ∷ [])) }
-        ensures err { OnErr result ((es : List Record) → IsIndexOf self.old es → IsIndexOf self.new es) }
-        ensures succeeds { (rest : List Record) → HasRoomFor self.old (entry.now ∷ rest) → IsOk result }
-        ensures room { OnOk result ((rest : List Record) → HasRoomFor self.old (entry.now ∷ rest) → HasRoomFor self.new rest) }
-        ensures room_stays { OnErr result ((rest : List Record) → HasRoomFor self.old rest → HasRoomFor self.new rest) }
+        ensures ok { OnOk result ((es : List SomeEntry) → IsIndexOf self.old es → IsIndexOf self.new (es ++ entry.now ∷ [])) }
+        ensures err { OnErr result ((es : List SomeEntry) → IsIndexOf self.old es → IsIndexOf self.new es) }
+        ensures succeeds { (rest : List SomeEntry) → HasRoomFor self.old (entry.now ∷ rest) → IsOk result }
+        ensures room { OnOk result ((rest : List SomeEntry) → HasRoomFor self.old (entry.now ∷ rest) → HasRoomFor self.new rest) }
+        ensures room_stays { OnErr result ((rest : List SomeEntry) → HasRoomFor self.old rest → HasRoomFor self.new rest) }
     {
         self.add(entry)
     }
@@ -83,8 +83,8 @@ impl DependIndex {
     /// takes no memory.
     pub fn pop(&mut self, entry: &Entry)
         requires { IsLast self.old entry.now }
-        ensures left { (es : List Record) → IsIndexOf self.old (es ++ entry.now ∷ []) → IsIndexOf self.new es }
-        ensures room { (rest : List Record) → HasRoomFor self.old rest → HasRoomFor self.new (entry.now ∷ rest) }
+        ensures left { (es : List SomeEntry) → IsIndexOf self.old (es ++ entry.now ∷ []) → IsIndexOf self.new es }
+        ensures room { (rest : List SomeEntry) → HasRoomFor self.old rest → HasRoomFor self.new (entry.now ∷ rest) }
     {
         self.drop_last(entry);
     }
@@ -94,8 +94,8 @@ impl DependIndex {
     pub fn remove(&mut self, k: u64, entry: &Entry)
         requires held { IsHeld self.old k entry.now }
         requires few { self.old.len ≤ MOST_STEPS }
-        ensures left { (es : List Record) → IsIndexOf self.old es → numbered es k ≡ Some entry.now → IsIndexOf self.new (without es k) }
-        ensures room { (rest : List Record) → HasRoomFor self.old rest → HasRoomFor self.new (entry.now ∷ rest) }
+        ensures left { (es : List SomeEntry) → IsIndexOf self.old es → numbered es k ≡ Some entry.now → IsIndexOf self.new (without es k) }
+        ensures room { (rest : List SomeEntry) → HasRoomFor self.old rest → HasRoomFor self.new (entry.now ∷ rest) }
     {
         self.move_behind(k, self.len());
         self.drop_last(entry);
@@ -109,8 +109,8 @@ impl DependIndex {
         requires order { k ≤ n }
         requires within { n ≤ self.old.len }
         requires few { self.old.len ≤ MOST_STEPS }
-        ensures moved { (es : List Record) → IsIndexOf self.old es → IsIndexOf self.new (moved_behind es k n) }
-        ensures room { (rest : List Record) → HasRoomFor self.old rest → HasRoomFor self.new rest }
+        ensures moved { (es : List SomeEntry) → IsIndexOf self.old es → IsIndexOf self.new (moved_behind es k n) }
+        ensures room { (rest : List SomeEntry) → HasRoomFor self.old rest → HasRoomFor self.new rest }
     {
         self.move_position(k as u32, n as u32);
     }
@@ -119,8 +119,8 @@ impl DependIndex {
     /// were there, and takes no memory.
     pub fn truncate(&mut self, n: u64)
         requires few { self.old.len ≤ MOST_STEPS }
-        ensures left { (es : List Record) → IsIndexOf self.old es → IsIndexOf self.new (take n es) }
-        ensures room { (es rest : List Record) → IsIndexOf self.old es → HasRoomFor self.old rest → HasRoomFor self.new (drop n es ++ rest) }
+        ensures left { (es : List SomeEntry) → IsIndexOf self.old es → IsIndexOf self.new (take n es) }
+        ensures room { (es rest : List SomeEntry) → IsIndexOf self.old es → HasRoomFor self.old rest → HasRoomFor self.new (drop n es ++ rest) }
     {
         if n < self.len() {
             self.cut(n as u32);
@@ -137,10 +137,10 @@ impl DependIndex {
     pub fn make_room(&mut self, entries: &[Entry]) -> Result<(), AllocError>
         requires index { IsIndex self.old }
         requires few { self.old.len + length entries.now ≤ MOST_STEPS }
-        ensures same { (es : List Record) → IsIndexOf self.old es → IsIndexOf self.new es }
+        ensures same { (es : List SomeEntry) → IsIndexOf self.old es → IsIndexOf self.new es }
         ensures room { OnOk result (HasRoomFor self.new entries.now) }
         ensures succeeds { HasRoomFor self.old entries.now → IsOk result }
-        ensures room_stays { (rest : List Record) → HasRoomFor self.old rest → HasRoomFor self.new rest }
+        ensures room_stays { (rest : List SomeEntry) → HasRoomFor self.old rest → HasRoomFor self.new rest }
     {
         self.add_all(entries)?;
         self.drop_all(entries);
@@ -156,11 +156,11 @@ impl DependIndex {
     pub fn push_all(&mut self, entries: &[Entry]) -> Result<(), AllocError>
         requires index { IsIndex self.old }
         requires few { self.old.len + length entries.now ≤ MOST_STEPS }
-        ensures ok { OnOk result ((es : List Record) → IsIndexOf self.old es → IsIndexOf self.new (es ++ entries.now)) }
-        ensures err { OnErr result ((es : List Record) → IsIndexOf self.old es → IsIndexOf self.new es) }
+        ensures ok { OnOk result ((es : List SomeEntry) → IsIndexOf self.old es → IsIndexOf self.new (es ++ entries.now)) }
+        ensures err { OnErr result ((es : List SomeEntry) → IsIndexOf self.old es → IsIndexOf self.new es) }
         ensures succeeds { HasRoomFor self.old entries.now → IsOk result }
-        ensures room { OnOk result ((rest : List Record) → HasRoomFor self.old (entries.now ++ rest) → HasRoomFor self.new rest) }
-        ensures room_stays { OnErr result ((rest : List Record) → HasRoomFor self.old rest → HasRoomFor self.new rest) }
+        ensures room { OnOk result ((rest : List SomeEntry) → HasRoomFor self.old (entries.now ++ rest) → HasRoomFor self.new rest) }
+        ensures room_stays { OnErr result ((rest : List SomeEntry) → HasRoomFor self.old rest → HasRoomFor self.new rest) }
     {
         self.add_all(entries)
     }
@@ -169,7 +169,7 @@ impl DependIndex {
     pub fn depends_behind(&self, n: u64, entry: &Entry) -> bool
         requires few { self.now.len ≤ MOST_STEPS }
         requires within { n ≤ self.now.len }
-        ensures { (es : List Record) → IsIndexOf self.now es → result ≡ depends_on_one (drop n es) entry.now }
+        ensures { (es : List SomeEntry) → IsIndexOf self.now es → result ≡ depends_on_one (drop n es) entry.now }
     {
         let mut probes = Probes::new();
         self.is_one_above(n as u32, entry, &mut probes)
@@ -182,7 +182,7 @@ impl DependIndex {
         requires held { IsHeld self.now k entry.now }
         requires few { self.now.len ≤ MOST_STEPS }
         requires counted { probes.old.count < 2 ^ 32 }
-        ensures answer { (es : List Record) → IsIndexOf self.now es → numbered es k ≡ Some entry.now → result ≡ first_dependant es k }
+        ensures answer { (es : List SomeEntry) → IsIndexOf self.now es → numbered es k ≡ Some entry.now → result ≡ first_dependant es k }
         ensures cost { probes.new.count ≤ probes.old.count + 96 }
         ensures counts { probes.old.count < probes.new.count }
     {
@@ -196,7 +196,7 @@ impl DependIndex {
         requires within { n ≤ self.now.len }
         requires few { self.now.len ≤ MOST_STEPS }
         requires counted { probes.old.count < 2 ^ 32 }
-        ensures answer { (es : List Record) → IsIndexOf self.now es → result ≡ last_position (writes_to place) (take n es) }
+        ensures answer { (es : List SomeEntry) → IsIndexOf self.now es → result ≡ last_position (writes_to place) (take n es) }
         ensures cost { probes.new.count ≤ probes.old.count + 57 }
         ensures counts { probes.old.count < probes.new.count }
     {

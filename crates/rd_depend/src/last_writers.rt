@@ -120,7 +120,7 @@ fn is_making(place: Option<Place>) -> bool
 pub(crate) struct PlacedStep<'a> {
     /// Its place.
     pub(crate) at: usize,
-    /// Its record.
+    /// Its entry.
     pub(crate) entry: &'a Entry,
 }
 

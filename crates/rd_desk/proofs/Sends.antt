@@ -24,7 +24,7 @@ use Rattle.rd_actor.specs.contracts.actors.OpReply as OpReply
 use Rattle.rd_step.specs.contracts.entries.Event as Event
 use Rattle.rd_step.specs.contracts.entries.Entry as Entry
 use Rattle.rd_step.specs.contracts.worlds.World as World
-use Rattle.rd_journal.specs.contracts.records.Records as Records
+use Rattle.rd_journal.specs.contracts.entries.Entries as Entries
 use Rattle.rd_journal.specs.contracts.sessions.Session as Session
 use Rattle.rd_marks.specs.contracts.books.Book as Book
 use Rattle.rd_marks.specs.contracts.bookmarks.Bookmarks as Bookmarks
@@ -88,11 +88,11 @@ refusal_send = search (sendable, crosses) depth 60 fits 100000
 pub world_fields : (R : RattleType) → IsSend (World.the_field R).row
 world_fields R = search (sendable, crosses) depth 60 fits 100000
 
-pub records_fields : IsSend (Records.the_field).row
-records_fields = search (entry_send, sendable, crosses) depth 60 fits 100000
+pub entries_fields : IsSend (Entries.the_field).row
+entries_fields = search (entry_send, sendable, crosses) depth 60 fits 100000
 
 pub session_fields : (R : RattleType) → IsSend (Session.the_field R).row
-session_fields R = struct_send (shape (Session.the_type R)) (world_fields R, (records_fields, (search (sendable, crosses) depth 60 fits 100000, (search (sendable, crosses) depth 60 fits 100000, tt))))
+session_fields R = struct_send (shape (Session.the_type R)) (world_fields R, (entries_fields, (search (sendable, crosses) depth 60 fits 100000, (search (sendable, crosses) depth 60 fits 100000, tt))))
 
 pub mark_place_send : IsSend MarkPlace.the_row
 mark_place_send = search (sendable, crosses) depth 60 fits 100000

@@ -3,7 +3,7 @@ use Rattle.std.proofs.Common.{◌≡◌, ℕ, zero, suc, ◌+◌, ◌-◌, ◌�
 use Rattle.rd_journal.proofs.Prelude.{length-take, length-take-le, map-append, append_assoc, take-append-drop, take-take, drop-take, Refusal, World, Stepped, run, room, run_from_step, Event, Entry, first_step, Journal, events, IsRun, IsRunFrom, with_undone, IsSession, IsMovedBack, IsMovedForward, IsUndoneAlone, journal}
 use Rattle.rd_step.specs.Run.{run_entries}
 use Rattle.rd_journal.specs.declared.sessions.Session.{Session}
-use Rattle.rd_journal.proofs.RecordLemmas.{take_over}
+use Rattle.rd_journal.proofs.EntryLemmas.{take_over}
 use Rattle.rd_journal.proofs.Runs.{preceded_entries}
 use Rattle.rd_journal.proofs.Walks.{room_first}
 

@@ -38,7 +38,7 @@ pub before_last : (R n : ℕ) (old new : Journal) → IsMovedBack n old new → 
     → IsBeforeLast R n old new
 before_last h n old new moved runs goes = grind (arith, back_start, take-map)
 
--- Records by number
+-- Entries by number
 
 pub entry_missing : (j : Journal) (n k : ℕ) → n ≡ length j.live → (k ≡ 0) ⊎ (n < k) → Err (NoSuchStep n) ≡ entry_of j k
 entry_missing j n k len h = grind (arith, ok_or, slice_get_past)

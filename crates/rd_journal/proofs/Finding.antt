@@ -1,11 +1,11 @@
--- What the index of the live records and those after them finds, and where the records before a
+-- What the index of the live entries and those after them finds, and where the entries before a
 -- closure are.
 use Rattle.std.proofs.Common.{◌≡◌, ℕ, zero, suc, ◌+◌, ◌-◌, ◌<◌, ◌≤◌, Bool, true, false, nat_lt, if◌then◌else◌, List, [], ◌∷◌, ◌++◌, length, get_or, take, drop, Option, Some, None, sym, ◌∙◌, ap, arith, length-append, length-drop}
 use Rattle.rd_journal.proofs.Prelude.{lt-ltb, le-ltb, append_assoc, length-take-le, take_at, take-append-le, drop-append-le, get_or_append_left, slice_get-get_or, first_from, first_dependant, depends, closure_from, numbered, closure_of, without_closure, unmarked, Entry}
 use Rattle.rd_journal.proofs.Gathering.{cut_at}
 use Rattle.rd_journal.proofs.ListLemmas.{nth}
 
--- the record of this number
+-- the entry of this number
 pub numbered_in : (xs : List Entry) (k : ℕ) (x : Entry) → 1 ≤ k → k ≤ length xs → x ≡ get_or xs (k - 1) x → numbered xs k ≡ Some x
 numbered_in xs k x some within here = grind (arith, slice_get-get_or)
 

@@ -1,12 +1,12 @@
--- The causal closure of a step gathered after the other records: the list cut in parts, and the run
+-- The causal closure of a step gathered after the other entries: the list cut in parts, and the run
 -- that it stays.
 use Rattle.std.proofs.Common.{◌≡◌, ℕ, zero, suc, ◌-◌, ◌<◌, ◌≤◌, Bool, true, false, if◌then◌else◌, sym, ◌∙◌, ap, subst, arith, inl, inr, List, [], ◌∷◌, ◌++◌, length, take, drop, get_or, Ok}
 use Rattle.rd_journal.proofs.Prelude.{cases_Bool, or_parts, append-nil, append_assoc, World, run, depends, depends_on_one, marked, unmarked, closure_of, without_closure, closure_from, Entry, run-cons, events, beginning}
 use Rattle.rd_step.proofs.Commute.{commutes}
 
--- The closure, cut at its first record
+-- The closure, cut at its first entry
 
--- the list around its record of index i, with the marks of the closure
+-- the list around its entry of index i, with the marks of the closure
 pub record CutAt (l : List Entry) (i : ℕ) (x : Entry) : Type 0 where
   pub outside : without_closure l (suc i) ≡ take i l ++ unmarked (closure_from (x ∷ []) (drop (suc i) l)) (drop (suc i) l)
   pub inside : closure_of l (suc i) ≡ x ∷ marked (closure_from (x ∷ []) (drop (suc i) l)) (drop (suc i) l)
@@ -18,7 +18,7 @@ cut_at (y ∷ l) (suc i) x h here = grind (arith, cut_at l i x (omega arith) her
 
 -- A list under way
 
--- of the live records those that stay so far, those that go, and those that are still to come
+-- of the live entries those that stay so far, those that go, and those that are still to come
 pub record Gathering (l : List Entry) (k : ℕ) (before block later : List Entry) : Type 0 where
   pub outside : without_closure l k ≡ before ++ unmarked (closure_from block later) later
   pub inside : closure_of l k ≡ block ++ marked (closure_from block later) later
@@ -31,7 +31,7 @@ gathering_first l (suc i) x some below here =
     let c = cut_at l i x (omega arith) (here ∙ ap (λ (n : ℕ). get_or l n x) same) in
     record { outside = c.outside ∙ ap (λ (n : ℕ). take n l ++ unmarked (closure_from (x ∷ []) (drop (suc i) l)) (drop (suc i) l)) (sym same); inside = c.inside }
 
--- where the next record depends on one that goes it goes
+-- where the next entry depends on one that goes it goes
 pub joins : (l before block later : List Entry) (k : ℕ) (x : Entry) → Gathering l k before block (x ∷ later) → depends_on_one block x ≡ true
     → Gathering l k before (block ++ x ∷ []) later
 joins l before block later k x g h = grind (arith, append_assoc)

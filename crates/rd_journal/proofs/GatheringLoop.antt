@@ -11,8 +11,8 @@ use Rattle.rd_journal.proofs.Numbers.{one, at-append, at-length, at-take, at-dro
 abbrev pub live_of : List Entry → List ℕ → ℕ → List Entry
 live_of es ns live = take live (at_numbers es ns)
 
--- of the live records those before the next are looked at: the numbers of those that stay are the
--- first ones now, those of the others are gathered, and the index is that of the records before the
+-- of the live entries those before the next are looked at: the numbers of those that stay are the
+-- first ones now, those of the others are gathered, and the index is that of the entries before the
 -- k-th and of these
 pub record UnderWay (es : List Entry) (ns now gathered : List ℕ) (old index : DependIndex) (k live front next : ℕ) : Type 0 where
   pub from : k - 1 ≤ front
@@ -29,7 +29,7 @@ pub record UnderWay (es : List Entry) (ns now gathered : List ℕ) (old index : 
   pub room : (rest : List Entry) → HasRoomFor old (drop (k - 1) (live_of es ns live) ++ rest)
       → HasRoomFor index (drop (k - 1) (at_numbers es (take front now)) ++ (drop next (live_of es ns live) ++ rest))
 
--- the next number, and the record in its slot
+-- the next number, and the entry in its slot
 pub record Next (es : List Entry) (ns : List ℕ) (live next v : ℕ) : Type 0 where
   pub below : v < length es
   pub numbers : drop next ns ≡ v ∷ drop (next + 1) ns

@@ -2,7 +2,7 @@ pub mod Prelude
 pub mod Outcomes
 pub mod ListLemmas
 pub mod Numbers
-pub mod RecordLemmas
+pub mod EntryLemmas
 pub mod Runs
 pub mod Walks
 pub mod Starting

@@ -15,7 +15,7 @@ none_is_free x n (y ∷ ys) h =
       | inr e ↦ (e, none_is_free x (n + 1) ys (sym (cond-false (depends x y) (Some n) (first_from x (n + 1) ys) e) ∙ h))
     ]
 
--- the record x is the k-th of the list, counted from 1
+-- the entry x is the k-th of the list, counted from 1
 pub record IsNumber (l : List Entry) (k : ℕ) (x : Entry) : Type 0 where
   pub some : 1 ≤ k
   pub within : k ≤ length l
@@ -32,7 +32,7 @@ first_behind l (suc i) x at =
     ap (λ (o : Option Entry). first_after o (suc (suc i)) (drop (suc i) l)) there
     ∙ ap (λ (n : ℕ). first_from x n (drop (suc i) l)) next
 
--- The list around its k-th record
+-- The list around its k-th entry
 
 pub from_it : (l : List Entry) (k : ℕ) (x : Entry) → IsNumber l k x → drop (k - 1) l ≡ x ∷ drop k l
 from_it l k x at = grind (arith, drop_one_less)
@@ -42,11 +42,11 @@ around_it l k x at = sym (take-append-drop (k - 1) l) ∙ ap (λ (ys : List Entr
 
 -- The journal without it
 
--- the k-th live record of the old journal is the front of the undone ones
+-- the k-th live entry of the old journal is the front of the undone ones
 pub taken_out_front : (k : ℕ) (old new : Journal) (x : Entry) → IsNumber old.live k x → IsUndoneAlone k old new → new.undone ≡ x ∷ old.undone
 taken_out_front k old new x at moved = moved.undone ∙ ap (λ (ys : List Entry). take 1 ys ++ old.undone) (from_it old.live k x at)
 
--- there are as many records as before
+-- there are as many entries as before
 pub taken_out_few : (k : ℕ) (old new : Journal) (x : Entry) → IsNumber old.live k x → IsUndoneAlone k old new
     → length old.live + length old.undone ≤ MOST_STEPS → length new.live + length new.undone ≤ MOST_STEPS
 taken_out_few k old new x at moved few = grind (arith, common_steps, around_it, length-append, taken_out_front)

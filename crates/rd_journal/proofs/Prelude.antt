@@ -32,8 +32,8 @@ pub use Rattle.rd_journal.specs.Kept.{IsSession, journal_of, whole_journal, with
 pub use Rattle.rd_journal.specs.Laws.{IsClosureLast, IsMovedLast, IsOneRun, IsStepAfter}
 pub use Rattle.rd_journal.specs.Moves.{IsBeforeLast, IsLengthened, IsMovedBack, IsMovedForward, IsRolledBack, IsSwitched, IsUndoneAlone, IsWithoutClosure, answer_at, answer_unless, roll_answer}
 pub use Rattle.rd_journal.specs.Numbers.{IsOrder, at_numbers}
-pub use Rattle.rd_journal.specs.Records.{ahead_records, kept_records, live_records, records_capacity}
-unfoldable pub use Rattle.rd_journal.specs.Records.{all_records}
+pub use Rattle.rd_journal.specs.Entries.{ahead_entries, kept_entries, live_entries, entries_capacity}
+unfoldable pub use Rattle.rd_journal.specs.Entries.{all_entries}
 pub use Rattle.rd_journal.specs.Room.{HasRoom, HasRoomForAll, room_returned_by, room_without}
 pub use Rattle.rd_journal.specs.Sessions.{journal, state}
 pub use Rattle.rd_journal.specs.State.{State, apply, back, back_one, closure_in, dependant_in, forward, forward_one, redo, roll, run_of, state_of, switch, times, undo, undo_at, undone_alone, undone_alone_unless, undone_marked, with_event}

@@ -8,7 +8,7 @@ use Rattle.rd_journal.proofs.Runs.{run_joined, goes_back}
 
 -- The closure gathered last
 
--- the journal with the closure of k after the other live records
+-- the journal with the closure of k after the other live entries
 abbrev pub closure_last : Journal → ℕ → Journal
 closure_last j k = record { world = j.world; live = without_closure j.live k ++ closure_of j.live k; undone = j.undone }
 
@@ -57,7 +57,7 @@ reordered R j (suc i) some within runs = reordered_at R j i (omega arith) runs
 
 -- The session with the closure gathered last
 
--- the closure is after the other live records, and all else is as it was
+-- the closure is after the other live entries, and all else is as it was
 pub record IsGatheredLast (k : ℕ) (old new : Journal) : Type 0 where
   pub world : new.world ≡ old.world
   pub live : new.live ≡ without_closure old.live k ++ closure_of old.live k

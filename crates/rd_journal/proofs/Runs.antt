@@ -1,4 +1,4 @@
--- Runs and their records: two runs joined, the last step of a run, and a journal that gains or
+-- Runs and their entries: two runs joined, the last step of a run, and a journal that gains or
 -- loses a step.
 use Rattle.std.proofs.Common.{◌≡◌, ℕ, refl, sym, ◌∙◌, ap, subst, List, [], ◌∷◌, ◌++◌, Result, Ok, arith}
 use Rattle.rd_journal.proofs.Prelude.{append-nil, map-append, Refusal, World, Stepped, step, unstep, Ran, run, IsFree, IsWellFormed, Event, Entry, run_preceded_by, WasStepped, IsTakenOut, took, undoes, ran_on, run-cons, run_keeps, taken_out, beginning, Middle, middle, Journal, events, world_before, start_of, IsRun}
@@ -13,7 +13,7 @@ as_ok x = Ok x
 pub as_ok-same : {X : Type 0} (x y : X) → as_ok x ≡ Ok y → x ≡ y
 as_ok-same x y h = cc
 
--- a step's record names its event
+-- a step's entry names its event
 pub step_event : (R : ℕ) (w : World) (e : Event) (s : Stepped) → step R w e ≡ Ok s → s.entry.event ≡ e
 step_event R w e s h = let t = took R w e s h in ap (λ (x : Stepped). x.entry.event) (sym t.ends)
 
@@ -28,7 +28,7 @@ run_joined R s (e ∷ es) fs r q h k =
     run-cons R s e (es ++ fs) ran.one (record { world = q.world; entries = ran.rest.entries ++ q.entries }) ran.goes joined
     ∙ ap (λ (x : Ran). Ok (record { world = q.world; entries = x.entries ++ q.entries })) ran.joins
 
--- the loop lemma for runs: putting back the old words of a run's records gives the world that it
+-- the loop lemma for runs: putting back the old words of a run's entries gives the world that it
 -- began in
 pub goes_back : (R : ℕ) (s w : World) (xs : List Entry) → IsWellFormed R s → run R s (events xs) ≡ Ok (record { world = w; entries = xs })
     → world_before w xs ≡ s
@@ -39,7 +39,7 @@ goes_back R s w (x ∷ xs) formed h =
     ap (λ (u : World). unstep u x) (goes_back R first.after w xs (keeps R s x.event one formed first.goes) first.rest)
     ∙ undoes R s x.event one formed first.goes
 
--- putting back begins with the last record
+-- putting back begins with the last entry
 pub world_before-last : (w : World) (xs : List Entry) (x : Entry) → world_before w (xs ++ x ∷ []) ≡ world_before (unstep w x) xs
 world_before-last w [] x = refl
 world_before-last w (y ∷ ys) x = ap (λ (v : World). unstep v y) (world_before-last w ys x)
@@ -54,7 +54,7 @@ start_stays R w v xs x e formed h =
 pub now_formed : (R : ℕ) (j : Journal) → IsRun R j → IsWellFormed R j.world
 now_formed R j runs = run_keeps R (start_of j) (events j.live) (record { world = j.world; entries = j.live }) runs.well_formed runs.live_ran
 
--- a step from a journal's world, with its record put last, makes a journal, whatever runs on from
+-- a step from a journal's world, with its entry put last, makes a journal, whatever runs on from
 -- there being undone
 pub grown : (R : ℕ) (w v : World) (xs zs ys : List Entry) (x : Entry) (e : Event) → IsRun R (record { world = w; live = xs; undone = zs })
     → step R w e ≡ Ok (record { world = v; entry = x }) → run_entries (run R v (events ys)) ≡ Ok ys
@@ -76,12 +76,12 @@ grown R w v xs zs ys x e runs h rest =
       undone_run_on = rest;
     }
 
--- records that run on from a step's world run on, after the step's record, from the world before it
+-- entries that run on from a step's world run on, after the step's entry, from the world before it
 pub preceded_entries : (x : Entry) (r : Result Ran Refusal) (ys : List Entry) → run_entries r ≡ Ok ys → run_entries (run_preceded_by x r) ≡ Ok (x ∷ ys)
 preceded_entries x r ys h = grind arith
 
 -- where a live step on which no later one depends is taken out of a run, what is left is a run of
--- the same start, with the step's record in front of the undone ones
+-- the same start, with the step's entry in front of the undone ones
 pub record MayTakeOut (R : ℕ) (w : World) (xs ys zs : List Entry) (x : Entry) : Type 0 where
   pub was : WasStepped R w x
   pub start : (v : World) → IsTakenOut R w v x was → world_before v (xs ++ ys) ≡ world_before w (xs ++ x ∷ ys)
@@ -128,7 +128,7 @@ may_take_out R w xs ys zs x runs free = record { was = was; start = start; runs 
           grind (arith, preceded_entries);
     }
 
--- the last live step of a journal may be undone, and the journal that is left, with its record in
+-- the last live step of a journal may be undone, and the journal that is left, with its entry in
 -- front of the undone ones, is one of the same start
 pub record MayUndo (R : ℕ) (w : World) (xs ys : List Entry) (x : Entry) : Type 0 where
   pub was : WasStepped R w x

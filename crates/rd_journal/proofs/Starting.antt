@@ -43,6 +43,6 @@ one_before {X} xs n x some within here = grind (arith, drop_one_less)
 pub event_missing : (xs : List Entry) (i : ℕ) → (i ≡ 0) ⊎ (length xs < i) → None ≡ numbered (events xs) i
 event_missing xs i h = grind (arith, slice_get-map, option_map, slice_get_past)
 
--- it is that of the record at its place
+-- it is that of the entry at its place
 pub event_found : (xs : List Entry) (i : ℕ) (x : Entry) → 1 ≤ i → i ≤ length xs → x ≡ get_or xs (i - 1) x → Some x.event ≡ numbered (events xs) i
 event_found xs i x some within here = grind (arith, slice_get, slice_get-get_or, slice_get-map, option_map)

@@ -1,4 +1,4 @@
--- Records of a run put after the first live ones, and the room that their makings ask for.
+-- Entries of a run put after the first live ones, and the room that their makings ask for.
 use Rattle.rd_journal.proofs.Prelude.{common_steps, take-suc, cases_Bool, cases_eq, cond-true, cond-false, map-append, take-map, length-take, length-take-le, get_or-set_same, get_or-set_other, SegName, Place, Content, after, World, Stepped, step, run, MOST_STEPS, Event, Entry, makes_segment, room_used, room_returned, took, with_actor-other, room_used_returned, Journal, events, world_before, start_of, IsRunFrom, LeadsTo, IsSwitched, IsSession, room_returned_by, room_without, HasRoom, HasRoomForAll, State, state_of, forward_one, times, switch, run_stays_actor, beginning, first_step}
 use Rattle.std.proofs.Common.{◌≡◌, ◌≢◌, ℕ, zero, suc, ◌+◌, ◌-◌, ◌<◌, ◌≤◌, ◌==◌, Bool, true, false, refl, sym, ◌∙◌, ap, subst, arith, inl, inr, List, [], ◌∷◌, ◌++◌, length, take, set, get_or, if◌then◌else◌, Option, Some, None, is_some, IsSome, Ok, eq-eqb, ne_eqb, length-append}
 use Rattle.rd_step.specs.Touched.{made, made_at}
@@ -17,7 +17,7 @@ pub returned_joined : (xs ys : List Entry) (m : ℕ) → room_returned_by (xs ++
 returned_joined [] ys m = omega arith
 returned_joined (x ∷ xs) ys m = omega (arith, returned_joined xs ys m)
 
--- a record that is no making gives no room back
+-- an entry that is no making gives no room back
 none_returned : (p : Option Place) (c : Option Content) (m : ℕ) → made_at p c ≡ None → room_returned p c m ≡ 0
 none_returned p c m h = grind arith
 
@@ -25,7 +25,7 @@ none_returned p c m h = grind arith
 returned_made : (p : Option Place) (c : Option Content) (m : ℕ) (s : SegName) → made_at p c ≡ Some s → room_returned p c m ≡ (if m == s.maker then 1 else 0)
 returned_made p c m s h = grind (arith, h)
 
--- the makings among one more record
+-- the makings among one more entry
 returned_next : (xs : List Entry) (i m count more next : ℕ) (d : Entry) → i < length xs → count ≡ room_returned_by (take i xs) m
     → more ≡ room_returned (get_or xs i d).place (get_or xs i d).old_content m → next ≡ count + more → next ≡ room_returned_by (take (i + 1) xs) m
 returned_next xs i m count more next d h counted one is = grind (arith, common_steps, take-suc, returned_joined)
@@ -56,7 +56,7 @@ none_made R w (x ∷ xs) m h none =
 
 -- Runs cut in two
 
--- where the first records' run is known, the others run on from its world
+-- where the first entries' run is known, the others run on from its world
 pub runs_on : (R : ℕ) (s w : World) (xs ys : List Entry) → run R s (events xs) ≡ Ok (record { world = w; entries = xs }) → IsRunFrom R s (xs ++ ys)
     → IsRunFrom R w ys
 runs_on R s w [] ys h k = grind (arith, as_ok-same)
@@ -67,7 +67,7 @@ runs_on R s w (x ∷ xs) ys h k =
     let there : first.after ≡ known.after = ap (λ (t : Stepped). t.world) both in
     runs_on R known.after w xs ys known.rest (subst (λ (v : World). IsRunFrom R v (xs ++ ys)) there first.rest)
 
--- The session with these records after the border
+-- The session with these entries after the border
 
 -- there is room for every maker where there is for those that are actors after the live steps
 pub room_for_all : (R : ℕ) (w : World) (xs ys : List Entry) (room : ℕ → ℕ) → run R (world_before w xs) (events xs) ≡ Ok (record { world = w; entries = xs })
@@ -136,11 +136,11 @@ room_for_actors w v xs number room same made none count =
 
 -- Counting the makings of each actor
 
--- there are no more makings among the first records than these are
+-- there are no more makings among the first entries than these are
 pub few_makings : (xs : List Entry) (i m : ℕ) → room_returned_by (take i xs) m ≤ i
 few_makings xs i m = omega (arith, returned_few (take i xs) m, length-take i xs)
 
--- a record that is no making leaves the counts
+-- an entry that is no making leaves the counts
 pub no_making_counted : (xs : List Entry) (i m count : ℕ) (d : Entry) → i < length xs → made (get_or xs i d) ≡ None
     → count ≡ room_returned_by (take i xs) m → count ≡ room_returned_by (take (i + 1) xs) m
 no_making_counted xs i m count d h none counted =
@@ -164,7 +164,7 @@ making_counted counts xs i k m d s h makes its within counted =
           (get_or-set_other counts k m more 0 ne ∙ omega arith)
     ]
 
--- where the makings among other records are taken off, one that is takes one off
+-- where the makings among other entries are taken off, one that is takes one off
 pub making_missed : (counts : List ℕ) (xs : List Entry) (i k m base : ℕ) (x : Entry) (s : SegName) → i < length xs → x ≡ get_or xs i x → made x ≡ Some s → k ≡ s.maker
     → k < length counts → get_or counts m 0 ≡ base - room_returned_by (take i xs) m
     → get_or (set counts k (get_or counts k 0 - 1)) m 0 ≡ base - room_returned_by (take (i + 1) xs) m

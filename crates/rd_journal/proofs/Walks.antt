@@ -7,7 +7,7 @@ use Rattle.rd_journal.proofs.Switching.{returned_joined, runs_on}
 
 -- What is left is a session
 
--- the live and the undone records are those of one run from the start
+-- the live and the undone entries are those of one run from the start
 whole_run : (R : ℕ) (j : Journal) → IsRun R j → IsRunFrom R (start_of j) (j.live ++ j.undone)
 whole_run R j runs =
     let on = runs_to R j.world j.undone runs.undone_run_on in
@@ -81,7 +81,7 @@ moved_forward R n old new before after session goes has moved =
       has_room = has;
     })
 
--- there is room for the first of some records where there is for all
+-- there is room for the first of some entries where there is for all
 pub room_first : (n : ℕ) (xs : List Entry) (room : ℕ → ℕ) → HasRoom xs room → HasRoom (take n xs) room
 room_first n xs room has = record {
   at = λ m.
@@ -138,7 +138,7 @@ times_forward (suc n) s =
 pub state_forward : (n : ℕ) (old new : Journal) → start_of new ≡ start_of old → IsMovedForward n old new → state_of new ≡ times n forward_one (state_of old)
 state_forward n old new start moved = grind (arith, map-append, take-map, drop-map, times_forward)
 
--- the state of a journal whose first undone record became the last live one
+-- the state of a journal whose first undone entry became the last live one
 pub forward_state : (R : ℕ) (w v : World) (xs ys : List Entry) (x : Entry) → IsRun R (record { world = w; live = xs; undone = x ∷ ys })
     → step R w x.event ≡ Ok (record { world = v; entry = x })
     → state_of (record { world = v; live = xs ++ x ∷ []; undone = ys })

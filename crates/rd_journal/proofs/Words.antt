@@ -1,10 +1,10 @@
--- The old words of a record are the words from before its step.
+-- The old words of an entry are the words from before its step.
 use Rattle.std.proofs.Common.{◌≡◌, ℕ, sym, ◌∙◌, ap, subst, List, ◌∷◌, ◌++◌, length, take, drop, get_or, Ok, ◌+◌, ◌<◌}
 use Rattle.rd_journal.proofs.Prelude.{take-map, take-append-drop, run, IsWellFormed, Entry, run_keeps, Journal, events, start_of, IsRun, IsStepAfter, middle}
 use Rattle.rd_step.proofs.OldWords.{keeps_old_words}
 use Rattle.rd_journal.proofs.ListLemmas.{drop_one_less}
 
--- the record at a position among the live ones
+-- the entry at a position among the live ones
 pub step_after : (R : ℕ) (j : Journal) (k : ℕ) (x : Entry) → IsRun R j → k < length j.live → x ≡ get_or j.live k x → IsStepAfter R k j x
 step_after R j k x runs low at =
     let w = j.world in

@@ -1,17 +1,17 @@
--- What a session keeps: its world and the records of its steps, and the run that they are of.
+-- What a session keeps: its world and the entries of its steps, and the run that they are of.
 use Rattle.std.specs.Prelude.{◌≡◌, ℕ, zero, suc, List, [], ◌∷◌, length, ok_or, slice_get, Result, Ok, Err}
 use Rattle.rd_step.specs.Prelude.{Refusal, NoSuchStep, World, unstep, run, IsWellFormed}
 pub use Rattle.rd_step.specs.Run.{events, run_entries, IsRunFrom}
 use Rattle.rd_step.specs.declared.entries.Entry.{Entry}
 
--- the world, the records of the live steps in their order, and those of the undone steps, the one
+-- the world, the entries of the live steps in their order, and those of the undone steps, the one
 -- undone last in front
 pub record Journal : Type 0 where
   pub world : World
   pub live : List Entry
   pub undone : List Entry
 
--- the world with the old words of these records put back, those of the last one first
+-- the world with the old words of these entries put back, those of the last one first
 abbrev pub world_before : World → List Entry → World
 world_before w [] = w
 world_before w (x ∷ xs) = unstep (world_before w xs) x
@@ -21,19 +21,19 @@ world_before w (x ∷ xs) = unstep (world_before w xs) x
 abbrev pub start_of : Journal → World
 start_of j = world_before j.world j.live
 
--- these are the records of a run from a well-formed world to another
+-- these are the entries of a run from a well-formed world to another
 pub record LeadsTo (R : ℕ) (start w : World) (xs : List Entry) : Type 0 where
   pub well_formed : IsWellFormed R start
   pub ran : run R start (events xs) ≡ Ok (record { world = w; entries = xs })
 
 -- the journal is a run: the live events run from a well-formed start to its world and leave its
--- live records, and the undone events run on from there and leave its undone records
+-- live entries, and the undone events run on from there and leave its undone entries
 pub record IsRun (R : ℕ) (j : Journal) : Type 0 where
   pub well_formed : IsWellFormed R (start_of j)
   pub live_ran : run R (start_of j) (events j.live) ≡ Ok (record { world = j.world; entries = j.live })
   pub undone_run_on : IsRunFrom R j.world j.undone
 
--- the record of the live step of this number, from 1
+-- the entry of the live step of this number, from 1
 abbrev pub entry_of : Journal → ℕ → Result Entry Refusal
 entry_of j zero = Err (NoSuchStep (length j.live))
 entry_of j (suc k) = ok_or (slice_get j.live k) (NoSuchStep (length j.live))

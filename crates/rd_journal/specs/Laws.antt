@@ -4,8 +4,8 @@ use Rattle.rd_step.specs.Prelude.{Place, operand, World, step, closure_of, witho
 use Rattle.rd_step.specs.declared.entries.Entry.{Entry}
 use Rattle.rd_journal.specs.Journal.{Journal, start_of, events, run_entries}
 
--- the record is that of the live step that k others are before: their run leads from the start to a
--- world where the step leaves this record, and its old words are the actor's words and the place's
+-- the entry is that of the live step that k others are before: their run leads from the start to a
+-- world where the step leaves this entry, and its old words are the actor's words and the place's
 -- content in that world
 pub record IsStepAfter (R k : ℕ) (j : Journal) (x : Entry) : Type 0 where
   pub before : World
@@ -15,20 +15,20 @@ pub record IsStepAfter (R k : ℕ) (j : Journal) (x : Entry) : Type 0 where
   pub old_actor : before.actor x.event.actor ≡ Some x.old_actor
   pub old_content : (p : Place) → x.place ≡ Some p → operand before.at p ≡ x.old_content
 
--- the n-th live record is the last one, all others are in their order, and no record changed, nor
+-- the n-th live entry is the last one, all others are in their order, and no entry changed, nor
 -- did the world
 pub record IsMovedLast (n : ℕ) (old new : Journal) : Type 0 where
   pub world : new.world ≡ old.world
   pub live : new.live ≡ (take (n - 1) old.live ++ drop n old.live) ++ take 1 (drop (n - 1) old.live)
   pub undone : new.undone ≡ old.undone
 
--- the live records of the causal closure of n are last, in their order, before them all others in
--- their order, and no record changed, nor did the world
+-- the live entries of the causal closure of n are last, in their order, before them all others in
+-- their order, and no entry changed, nor did the world
 pub record IsClosureLast (n : ℕ) (old new : Journal) : Type 0 where
   pub world : new.world ≡ old.world
   pub live : new.live ≡ without_closure old.live n ++ closure_of old.live n
   pub undone : new.undone ≡ old.undone
 
--- live followed by undone is one run from the start, with the records of both
+-- live followed by undone is one run from the start, with the entries of both
 abbrev pub IsOneRun : ℕ → Journal → Type 0
 IsOneRun R j = run_entries (run R (start_of j) (events (j.live ++ j.undone))) ≡ Ok (j.live ++ j.undone)

@@ -2,7 +2,7 @@ pub mod Numbers
 pub mod Journal
 pub mod State
 pub mod Room
-pub mod Records
+pub mod Entries
 pub mod Kept
 pub mod Moves
 pub mod Sessions

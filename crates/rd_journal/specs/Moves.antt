@@ -1,37 +1,37 @@
--- How a call changes the records of a journal.
+-- How a call changes the entries of a journal.
 use Rattle.std.specs.Prelude.{◌≡◌, ℕ, zero, suc, ◌-◌, nat_lt, if◌then◌else◌, List, [], ◌∷◌, ◌++◌, length, take, drop, Option, Some, None, Result, Ok, Err}
 use Rattle.rd_step.specs.Prelude.{Refusal, NoSuchStep, Depended, first_dependant, without, unmarked, closure, closure_of, without_closure, run}
 use Rattle.rd_step.specs.declared.entries.Entry.{Entry}
 use Rattle.rd_journal.specs.Journal.{Journal, start_of, events}
 
--- the journal got one more live record, the last, and none is undone
+-- the journal got one more live entry, the last, and none is undone
 pub record IsLengthened (x : Entry) (old new : Journal) : Type 0 where
   pub live : new.live ≡ old.live ++ x ∷ []
   pub undone : new.undone ≡ []
 
--- the last n live records became the front of the undone ones, in their order, and no record
+-- the last n live entries became the front of the undone ones, in their order, and no entry
 -- changed
 pub record IsMovedBack (n : ℕ) (old new : Journal) : Type 0 where
   pub live : new.live ≡ take (length old.live - n) old.live
   pub undone : new.undone ≡ drop (length old.live - n) old.live ++ old.undone
 
--- the first n undone records became the last live ones, in their order, and no record changed
+-- the first n undone entries became the last live ones, in their order, and no entry changed
 pub record IsMovedForward (n : ℕ) (old new : Journal) : Type 0 where
   pub live : new.live ≡ old.live ++ take n old.undone
   pub undone : new.undone ≡ drop n old.undone
 
--- world and live records are those of the run of all but the last n live events
+-- world and live entries are those of the run of all but the last n live events
 abbrev pub IsBeforeLast : ℕ → ℕ → Journal → Journal → Type 0
 IsBeforeLast R n old new =
     run R (start_of old) (take (length old.live - n) (events old.live)) ≡ Ok (record { world = new.world; entries = new.live })
 
--- the k-th live record became the front of the undone ones, all others are as they were, and no
--- record changed
+-- the k-th live entry became the front of the undone ones, all others are as they were, and no
+-- entry changed
 pub record IsUndoneAlone (k : ℕ) (old new : Journal) : Type 0 where
   pub live : new.live ≡ take (k - 1) old.live ++ drop k old.live
   pub undone : new.undone ≡ take 1 (drop (k - 1) old.live) ++ old.undone
 
--- world and live records are those of the run of the live events without the k-th
+-- world and live entries are those of the run of the live events without the k-th
 abbrev pub IsRunWithout : ℕ → ℕ → Journal → Journal → Type 0
 IsRunWithout R k old new = run R (start_of old) (without (events old.live) k) ≡ Ok (record { world = new.world; entries = new.live })
 
@@ -46,18 +46,18 @@ abbrev pub answer_at : Journal → ℕ → Result Unit Refusal
 answer_at j zero = Err (NoSuchStep (length j.live))
 answer_at j (suc i) = if nat_lt i (length j.live) then answer_unless (first_dependant j.live (suc i)) else Err (NoSuchStep (length j.live))
 
--- the first n live records stayed, the given ones are after them now, and none is undone
+-- the first n live entries stayed, the given ones are after them now, and none is undone
 pub record IsSwitched (n : ℕ) (given : List Entry) (old new : Journal) : Type 0 where
   pub live : new.live ≡ take n old.live ++ given
   pub undone : new.undone ≡ []
 
--- the records of the causal closure of k became the front of the undone ones, in their order, all
--- others are as they were, and no record changed
+-- the entries of the causal closure of k became the front of the undone ones, in their order, all
+-- others are as they were, and no entry changed
 pub record IsRolledBack (k : ℕ) (old new : Journal) : Type 0 where
   pub live : new.live ≡ without_closure old.live k
   pub undone : new.undone ≡ closure_of old.live k ++ old.undone
 
--- world and live records are those of the run of the live events outside the causal closure of k
+-- world and live entries are those of the run of the live events outside the causal closure of k
 abbrev pub IsWithoutClosure : ℕ → ℕ → Journal → Journal → Type 0
 IsWithoutClosure R k old new =
     run R (start_of old) (unmarked (closure old.live k) (events old.live)) ≡ Ok (record { world = new.world; entries = new.live })

@@ -9,21 +9,21 @@ use Rattle.rd_depend.specs.declared.index.DependIndex.{DependIndex}
 use Rattle.rd_depend.specs.Index.{HasRoomFor}
 use Rattle.rd_journal.specs.Journal.{Journal}
 
--- how much of m's room undoing these records gave back
+-- how much of m's room undoing these entries gave back
 abbrev pub room_returned_by : List Entry → ℕ → ℕ
 room_returned_by [] m = 0
 room_returned_by (x ∷ xs) m = room_returned x.place x.old_content m + room_returned_by xs m
 
--- each maker has the room that undoing these records gave back, so that redoing them takes no
+-- each maker has the room that undoing these entries gave back, so that redoing them takes no
 -- memory
 pub record HasRoom (undone : List Entry) (room : ℕ → ℕ) : Type 0 where
   pub at : (m : ℕ) → room_returned_by undone m ≤ room m
 
--- each maker that is an actor of the world has the room that undoing these records gave back
+-- each maker that is an actor of the world has the room that undoing these entries gave back
 pub record HasRoomForAll (w : World) (given : List Entry) (room : ℕ → ℕ) : Type 0 where
   pub at : (m : ℕ) → IsSome (w.actor m) → room_returned_by given m ≤ room m
 
--- the index has no room for all of these records after its own
+-- the index has no room for all of these entries after its own
 abbrev pub LacksIndexRoom : DependIndex → List Entry → Type 0
 LacksIndexRoom index given = HasRoomFor index given → ⊥
 
@@ -33,7 +33,7 @@ pub record IsNotIndexed (stepped : Result Stepped Refusal) (index : DependIndex)
   pub goes : stepped ≡ Ok after
   pub lacks : LacksIndexRoom index (after.entry ∷ [])
 
--- memory was refused to the event, while fewer steps are live than may be: for one more record,
+-- memory was refused to the event, while fewer steps are live than may be: for one more entry,
 -- where none is undone and the live ones fill the room that there is; for a segment that nothing
 -- else refuses, where the maker has no room; or for the index of dependants
 pub record IsOutOfMemory (R : ℕ) (j : Journal) (capacity : ℕ) (room : ℕ → ℕ) (index : DependIndex) (e : Event) : Type 0 where
@@ -41,19 +41,19 @@ pub record IsOutOfMemory (R : ℕ) (j : Journal) (capacity : ℕ) (room : ℕ �
   pub asked : ((j.undone ≡ []) × (capacity ≡ length j.live)) ⊎ FindsNoRoom (step R j.world e) (makes_segment R j.world e) (room e.actor)
       ⊎ IsNotIndexed (step R j.world e) index
 
--- the refusal of the step itself is answered only where there is room for its record
+-- the refusal of the step itself is answered only where there is room for its entry
 abbrev pub ComesAfterRoom : ℕ → ℕ → Refusal → Type 0
 ComesAfterRoom live capacity refusal = (refusal ≡ TooLong) ⊎ (refusal ≡ NoMemory) ⊎ (live < capacity)
 
--- the room of each maker after these records were undone
+-- the room of each maker after these entries were undone
 abbrev pub room_without : List Entry → (ℕ → ℕ) → ℕ → ℕ
 room_without dropped room m = room m + room_returned_by dropped m
 
--- some maker has no room for the makings among these records
+-- some maker has no room for the makings among these entries
 abbrev pub LacksRoomForMakings : List Entry → (ℕ → ℕ) → Type 0
 LacksRoomForMakings given room = (m : ℕ) × (room m < room_returned_by given m)
 
--- room is missing for a switch: for the given records after the first n, or, once the others are
+-- room is missing for a switch: for the given entries after the first n, or, once the others are
 -- undone, for the makings among them at some maker, or in the index
 abbrev pub LacksRoom : ℕ → List Entry → List Entry → ℕ → (ℕ → ℕ) → DependIndex → Type 0
 LacksRoom n live given capacity room index =

@@ -7,12 +7,12 @@ use Rattle.rd_journal.specs.declared.sessions.Session.{Session}
 use Rattle.rd_step.specs.declared.entries.Event.{Event}
 use Rattle.rd_journal.specs.Journal.{Journal, events}
 use Rattle.rd_journal.specs.Kept.{journal_of}
-use Rattle.rd_journal.specs.Records.{ahead_records, records_capacity}
+use Rattle.rd_journal.specs.Entries.{ahead_entries, entries_capacity}
 use Rattle.rd_journal.specs.State.{State, state_of}
 
--- the session's world and records
+-- the session's world and entries
 abbrev pub journal : {R : ℕ} → Session R → Journal
-journal s = journal_of (model s.world) s.records s.undone
+journal s = journal_of (model s.world) s.entries s.undone
 
 -- the session's start, live events and undone events
 abbrev pub state : {R : ℕ} → Session R → State
@@ -22,15 +22,15 @@ state s = state_of (journal s)
 -- and after them those of the steps ahead, which can be made again as they are (the undone ones,
 -- and then those that it went back over)
 abbrev pub track : {R : ℕ} → Session R → List Event
-track s = (state s).live ++ events (ahead_records s.records)
+track s = (state s).live ++ events (ahead_entries s.entries)
 
 -- how many more segments an actor can make without memory being asked for
 abbrev pub room : {R : ℕ} → Session R → ℕ → ℕ
 room s m = world_room s.world m
 
--- how many records, live and undone ones, there is room for
+-- how many entries, live and undone ones, there is room for
 abbrev pub capacity : {R : ℕ} → Session R → ℕ
-capacity s = records_capacity s.records
+capacity s = entries_capacity s.entries
 
 -- the session's index of dependants: that of the live steps and, after them, of those ahead
 abbrev pub index : {R : ℕ} → Session R → DependIndex

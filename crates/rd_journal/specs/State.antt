@@ -1,5 +1,5 @@
 -- What a session is to its callers: a start world, the live events and the undone events. It has no
--- record, no old word and no position in a run, and its definitions use only the run of a list.
+-- entry, no old word and no position in a run, and its definitions use only the run of a list.
 use Rattle.std.specs.Prelude.{ℕ, zero, suc, Bool, ◌-◌, ◌==◌, nat_lt, if◌then◌else◌, List, [], ◌∷◌, ◌++◌, length, take, drop, Option, Some, None, Result, Ok, Err}
 use Rattle.rd_step.specs.Prelude.{Refusal, TooLong, NothingToUndo, NothingToRedo, NoSuchStep, Depended, OpReply, World, Stepped, step, Ran, run, first_dependant, without, closure, marked, unmarked, MOST_STEPS}
 use Rattle.rd_step.specs.declared.entries.Event.{Event}

@@ -2,7 +2,7 @@
 //! nothing.
 
 ghost use Rattle.std.specs.Prelude.{◌≡◌, ◌≤◌, ◌↔◌, ℕ, true, List, length, None, Some, Ok};
-ghost use Rattle.rd_step.specs.declared.entries.Entry.{Entry as Record};
+ghost use Rattle.rd_step.specs.declared.entries.Entry.{Entry as SomeEntry};
 ghost use Rattle.rd_step.specs.Prelude.{closure, closure_of};
 ghost use Rattle.rd_step.specs.Dependence.{IsInClosure, AreLoneUndos, number_after};
 ghost use Rattle.rd_step.specs.Lists.{numbered};
@@ -16,13 +16,13 @@ pub fn forward_after_back_gives_the_state_back()
     ensures { (s t : State) (n : ℕ) → back s n ≡ Ok t → forward t n ≡ Ok s }
 {}
 
-/// A start, live events and undone events determine the world and every record: what a call does to
+/// A start, live events and undone events determine the world and every entry: what a call does to
 /// the state determines what it does to the whole session.
 pub fn a_state_has_one_journal()
     ensures { (R : ℕ) (i j : Journal) → IsRun R i → IsRun R j → state_of i ≡ state_of j → i ≡ j }
 {}
 
-/// The loop lemma: going back and then forward as far gives the world and every record, live and
+/// The loop lemma: going back and then forward as far gives the world and every entry, live and
 /// undone, from before. For one step it is among the laws of rd_step, as
 /// `entries_undo_their_steps`.
 pub fn forward_after_back_gives_the_journal_back()
@@ -37,7 +37,7 @@ pub fn live_and_undone_are_one_run()
 {}
 
 /// A step that is undone alone, from anywhere among the live ones, and then redone is the last one,
-/// with the record that it had; the world and all other records are those from before.
+/// with the entry that it had; the world and all other entries are those from before.
 ///
 /// With the removal that `Session::undo_at` promises (its clause `run`) this is causal consistency
 /// for a step: it may be undone exactly if no remaining one depends on it, and what is left is as
@@ -50,22 +50,22 @@ pub fn a_step_undone_alone_and_redone_is_the_last()
         → redo (state_of j) ≡ Ok (state_of k) → IsMovedLast n i k }
 {}
 
-/// The closure of a step among records, whose marks `Session::roll` takes out, is just the least
-/// set of positions that holds the step's and, with each position, every later one whose record
+/// The closure of a step among entries, whose marks `Session::roll` takes out, is just the least
+/// set of positions that holds the step's and, with each position, every later one whose entry
 /// depends on that one's.
 pub fn the_closure_is_the_least_set()
-    ensures { (entries : List Record) (k j : ℕ) → 1 ≤ k → k ≤ length entries
+    ensures { (entries : List SomeEntry) (k j : ℕ) → 1 ≤ k → k ≤ length entries
         → ((numbered (closure entries k) j ≡ Some true) ↔ IsInClosure entries k j) }
 {}
 
 /// If undos of single steps, none refused, take a step out of a run, they take out all of its
 /// closure. So `Session::roll` takes out no step that could stay.
 pub fn lone_undos_that_take_a_step_out_take_its_closure_out()
-    ensures { (entries : List Record) (ns : List ℕ) (k j : ℕ) → AreLoneUndos ns entries → number_after ns k ≡ None
+    ensures { (entries : List SomeEntry) (ns : List ℕ) (k j : ℕ) → AreLoneUndos ns entries → number_after ns k ≡ None
         → IsInClosure entries k j → number_after ns j ≡ None }
 {}
 
-/// If all steps that a rollback undid are redone, the world is that from before it, no record has
+/// If all steps that a rollback undid are redone, the world is that from before it, no entry has
 /// changed, and the redone steps are the last ones, in their order.
 pub fn a_closure_rolled_back_and_redone_is_last()
     ensures { (R : ℕ) (i j k : Journal) (n : ℕ) → IsRun R i → IsRun R k → roll R (state_of i) n ≡ Ok (state_of j)

@@ -2,16 +2,16 @@
 //! which no later one depends, or a step together with all that depends on it, and going over to
 //! another run with the same beginning.
 //!
-//! A session is seen as a start world, the live events and the undone events. It keeps each record
+//! A session is seen as a start world, the live events and the undone events. It keeps each entry
 //! where it was put, orders their numbers, with a border in that order, and undoes from the old
-//! words of the records; the start is never stored and never replayed from.
+//! words of the entries; the start is never stored and never replayed from.
 #![tactic(auto)]
 
+mod entries;
 mod indexing;
 pub mod laws;
-mod live_records;
-mod records;
+mod live_entries;
 mod sessions;
 
-pub use live_records::LiveRecords;
+pub use live_entries::LiveEntries;
 pub use sessions::Session;

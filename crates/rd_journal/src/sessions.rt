@@ -1,16 +1,16 @@
-//! The session: the world and the records of its live and undone steps.
+//! The session: the world and the entries of its live and undone steps.
 //!
-//! Undoing puts the old words of a live record back, and the record goes to the front of the undone
-//! ones: the last one, or any other on which no later one depends, or a record with all that depend
+//! Undoing puts the old words of a live entry back, and the entry goes to the front of the undone
+//! ones: the last one, or any other on which no later one depends, or an entry with all that depend
 //! on it. Redoing steps again. So the room that an undo needs was made by the step that it undoes.
 //! A switch undoes the steps after the first ones and makes others again.
 //!
-//! Beside the records is their index of dependants, at every moment that of the live ones and,
+//! Beside the entries is their index of dependants, at every moment that of the live ones and,
 //! after them, of those ahead: a dependant that it finds after the live ones is none.
 //!
 //! The live steps with those ahead of them are the session's track. A caller that knows which steps
 //! are on it goes along it: the steps that this leaves ahead stay there, though no caller sees them
-//! as undone, and can be made again with no record copied and the index as it is.
+//! as undone, and can be made again with no entry copied and the index as it is.
 //!
 //! The calls that change a session are here, and how they move its steps in the other files of
 //! `sessions/`; `queries` has those that only read it.
@@ -27,12 +27,12 @@ ghost use Rattle.rd_journal.specs.Journal.{events, start_of, IsRunFrom};
 ghost use Rattle.rd_journal.specs.Kept.{whole_journal, IsSession};
 ghost use Rattle.rd_journal.specs.Room.{IsOutOfMemory, ComesAfterRoom, LacksRoom};
 ghost use Rattle.rd_depend.specs.Index.{IsIndexOf};
-ghost use Rattle.rd_journal.specs.Records.{ahead_records, kept_records};
+ghost use Rattle.rd_journal.specs.Entries.{ahead_entries, kept_entries};
 ghost use Rattle.rd_journal.specs.State.{apply, reply_to, undo, undo_at, back, redo, forward, roll, switch};
 ghost use Rattle.rd_journal.specs.Moves.{IsLengthened, IsMovedBack, IsMovedForward, IsBeforeLast, IsUndoneAlone, IsRunWithout, IsSwitched, IsRolledBack, IsWithoutClosure, answer_at, roll_answer};
 
+use super::entries::Entries;
 use super::indexing::index_instead;
-use super::records::Records;
 use rd_cell::Refusal;
 use rd_cell::limits::MOST_STEPS;
 use rd_depend::DependIndex;
@@ -46,14 +46,14 @@ pub struct Session<const R: usize> {
     world: World<R>,
     /// Of the live steps and of those ahead of them: these are the undone ones, and after them
     /// those that the live ones went back over.
-    records: Records,
-    /// Of the live records and, after them, of those ahead.
+    entries: Entries,
+    /// Of the live entries and, after them, of those ahead.
     index: DependIndex,
     /// How many of the steps ahead are undone.
     undone: usize,
-    ghost kept: { IsSession R (whole_journal (model world) records) (world_room world) },
-    ghost within: { undone ≤ length (ahead_records records) },
-    ghost indexed: { IsIndexOf index (kept_records records) },
+    ghost kept: { IsSession R (whole_journal (model world) entries) (world_room world) },
+    ghost within: { undone ≤ length (ahead_entries entries) },
+    ghost indexed: { IsIndexOf index (kept_entries entries) },
 }
 
 /// Written out and not derived, so that a proof of a function in which a session ends has one step
@@ -63,7 +63,7 @@ impl<const R: usize> Drop for Session<R> {
     fn drop(self) {
         let Session {
             world: _world,
-            records: _records,
+            entries: _entries,
             index: _index,
             undone: _,
         } = self;
@@ -81,19 +81,19 @@ impl<const R: usize> Session<R> {
     {
         Session {
             world,
-            records: Records::new(alloc),
+            entries: Entries::new(alloc),
             index: DependIndex::new(alloc),
             undone: 0,
         }
     }
 
     /// Makes an event happen as the last live step, and discards what was undone. Returns the
-    /// step's number and its record.
+    /// step's number and its entry.
     ///
     /// # Errors
     ///
     /// In this order: `TooLong` if `MOST_STEPS` steps are live; `NoMemory` if the room for one more
-    /// record was refused, which is asked for only if no step is undone and the records fill their
+    /// entry was refused, which is asked for only if no step is undone and the entries fill their
     /// room; the refusal of the step itself, `NoMemory` for a making whose maker has no room;
     /// `NoMemory` if the index of dependants has no room for the step and was refused it. Nothing
     /// has changed then.
@@ -101,7 +101,7 @@ impl<const R: usize> Session<R> {
         ensures ok { OnOk result (apply R (state self.old) event ≡ Ok (state self.new)) }
         ensures step { IfOk result (λ done. step R (journal self.old).world event
             ≡ Ok (record { world = (journal self.new).world; entry = done.1 })) }
-        ensures records { IfOk result (λ done. IsLengthened done.1 (journal self.old) (journal self.new)) }
+        ensures entries { IfOk result (λ done. IsLengthened done.1 (journal self.old) (journal self.new)) }
         ensures number { IfOk result (λ done. done.0 ≡ length (journal self.new).live) }
         ensures reply { IfOk result (λ done. reply_to R (state self.old) event ≡ done.1.reply) }
         ensures err { IfErr result (λ refusal. (apply R (state self.old) event ≡ Err refusal)
@@ -112,17 +112,17 @@ impl<const R: usize> Session<R> {
         ensures unchanged { OnErr result (journal self.new ≡ journal self.old) }
         ensures track { OnErr result (track self.new ≡ track self.old) }
     {
-        if self.records.live_len() == MOST_STEPS {
+        if self.entries.live_len() == MOST_STEPS {
             return Err(Refusal::TooLong);
         }
-        let live = self.records.live_len();
-        self.records.make_room_for(live + 1)?;
+        let live = self.entries.live_len();
+        self.entries.make_room_for(live + 1)?;
         let entry = self.world.step(event)?;
-        if index_instead(&mut self.index, &self.records, live, from_ref(&entry)).is_err() {
+        if index_instead(&mut self.index, &self.entries, live, from_ref(&entry)).is_err() {
             unstep(&mut self.world, &entry);
             return Err(Refusal::NoMemory);
         }
-        self.records.exchange(live, from_ref(&entry));
+        self.entries.exchange(live, from_ref(&entry));
         self.undone = 0;
         Ok((live as u64 + 1, entry))
     }
@@ -134,7 +134,7 @@ impl<const R: usize> Session<R> {
     /// `NothingToUndo(0)` if no step is live. Nothing has changed then.
     pub fn undo(&mut self) -> Result<(), Refusal>
         ensures ok { OnOk result (undo (state self.old) ≡ Ok (state self.new)) }
-        ensures records { OnOk result (IsMovedBack 1 (journal self.old) (journal self.new)) }
+        ensures entries { OnOk result (IsMovedBack 1 (journal self.old) (journal self.new)) }
         ensures succeeds { 1 ≤ length (journal self.old).live → IsOk result }
         ensures err { IfErr result (λ refusal. undo (state self.old) ≡ Err refusal) }
         ensures unchanged { OnErr result (journal self.new ≡ journal self.old) }
@@ -142,7 +142,7 @@ impl<const R: usize> Session<R> {
         ensures track { track self.new ≡ track self.old }
         ensures index { index self.new ≡ index self.old }
     {
-        if self.records.live_len() == 0 {
+        if self.entries.live_len() == 0 {
             return Err(Refusal::NothingToUndo(0));
         }
         self.undo_many(1);
@@ -152,7 +152,7 @@ impl<const R: usize> Session<R> {
     /// Undoes the `k`-th live step alone, counted from 1, if no later live step depends on it. It
     /// becomes the front of the undone steps, and all other steps stay as they are. It takes no
     /// memory and makes no step again; it looks for the first later step that depends on it, and
-    /// moves the records after it.
+    /// moves the entries after it.
     ///
     /// # Errors
     ///
@@ -161,7 +161,7 @@ impl<const R: usize> Session<R> {
     /// changed then.
     pub fn undo_at(&mut self, k: u64) -> Result<(), Refusal>
         ensures ok { OnOk result (undo_at R (state self.old) k ≡ Ok (state self.new)) }
-        ensures records { OnOk result (IsUndoneAlone k (journal self.old) (journal self.new)) }
+        ensures entries { OnOk result (IsUndoneAlone k (journal self.old) (journal self.new)) }
         ensures run { OnOk result (IsRunWithout R k (journal self.old) (journal self.new)) }
         ensures answer { result ≡ answer_at (journal self.old) k }
         ensures err { IfErr result (λ refusal. undo_at R (state self.old) k ≡ Err refusal) }
@@ -193,7 +193,7 @@ impl<const R: usize> Session<R> {
     /// then.
     pub fn roll(&mut self, k: u64) -> Result<(), Refusal>
         ensures ok { OnOk result (roll R (state self.old) k ≡ Ok (state self.new)) }
-        ensures records { OnOk result (IsRolledBack k (journal self.old) (journal self.new)) }
+        ensures entries { OnOk result (IsRolledBack k (journal self.old) (journal self.new)) }
         ensures run { OnOk result (IsWithoutClosure R k (journal self.old) (journal self.new)) }
         ensures answer { result ≡ roll_answer (journal self.old) k }
         ensures err { IfErr result (λ refusal. roll R (state self.old) k ≡ Err refusal) }
@@ -218,7 +218,7 @@ impl<const R: usize> Session<R> {
     /// then.
     pub fn back(&mut self, n: u64) -> Result<(), Refusal>
         ensures ok { OnOk result (back (state self.old) n ≡ Ok (state self.new)) }
-        ensures records { OnOk result (IsMovedBack n (journal self.old) (journal self.new)) }
+        ensures entries { OnOk result (IsMovedBack n (journal self.old) (journal self.new)) }
         ensures run { OnOk result (IsBeforeLast R n (journal self.old) (journal self.new)) }
         ensures succeeds { n ≤ length (journal self.old).live → IsOk result }
         ensures err { IfErr result (λ refusal. back (state self.old) n ≡ Err refusal) }
@@ -235,7 +235,7 @@ impl<const R: usize> Session<R> {
         Ok(())
     }
 
-    /// Redoes the step that was undone last, which leaves the record that it left before. It takes
+    /// Redoes the step that was undone last, which leaves the entry that it left before. It takes
     /// no memory.
     ///
     /// # Errors
@@ -243,7 +243,7 @@ impl<const R: usize> Session<R> {
     /// `NothingToRedo` if no step is undone. Nothing has changed then.
     pub fn redo(&mut self) -> Result<(), Refusal>
         ensures ok { OnOk result (redo (state self.old) ≡ Ok (state self.new)) }
-        ensures records { OnOk result (IsMovedForward 1 (journal self.old) (journal self.new)) }
+        ensures entries { OnOk result (IsMovedForward 1 (journal self.old) (journal self.new)) }
         ensures err { IfErr result (λ refusal. redo (state self.old) ≡ Err refusal) }
         ensures unchanged { OnErr result (journal self.new ≡ journal self.old) }
         ensures capacity { capacity self.new ≡ capacity self.old }
@@ -265,7 +265,7 @@ impl<const R: usize> Session<R> {
     /// `NothingToRedo` if fewer than `n` steps are undone. Nothing has changed then.
     pub fn forward(&mut self, n: u64) -> Result<(), Refusal>
         ensures ok { OnOk result (forward (state self.old) n ≡ Ok (state self.new)) }
-        ensures records { OnOk result (IsMovedForward n (journal self.old) (journal self.new)) }
+        ensures entries { OnOk result (IsMovedForward n (journal self.old) (journal self.new)) }
         ensures err { IfErr result (λ refusal. forward (state self.old) n ≡ Err refusal) }
         ensures unchanged { OnErr result (journal self.new ≡ journal self.old) }
         ensures capacity { capacity self.new ≡ capacity self.old }
@@ -280,20 +280,20 @@ impl<const R: usize> Session<R> {
     }
 
     /// Keeps the first `n` live steps, undoes the others, discards what was undone, and makes the
-    /// steps of the given records again, which become the last live ones. Room for the records, in
+    /// steps of the given entries again, which become the last live ones. Room for the entries, in
     /// the index of dependants, and for each maker for the makings among them is asked for before
     /// the first undo.
     ///
     /// # Errors
     ///
     /// `NoMemory` if room was refused, which is asked for only where it is missing once the others
-    /// are undone, and never if no record is given. Nothing has changed then.
+    /// are undone, and never if no entry is given. Nothing has changed then.
     pub fn switch(&mut self, n: u64, entries: &[Entry]) -> Result<(), Refusal>
         requires within { n ≤ length (journal self.old).live }
         requires few { n + length entries.now ≤ MOST_STEPS }
         requires run { IsRunFrom R (start_of (journal self.old)) (take n (journal self.old).live ++ entries.now) }
         ensures ok { OnOk result (state self.new ≡ switch (state self.old) n (events entries.now)) }
-        ensures records { OnOk result (IsSwitched n entries.now (journal self.old) (journal self.new)) }
+        ensures entries { OnOk result (IsSwitched n entries.now (journal self.old) (journal self.new)) }
         ensures err { IfErr result (λ refusal. (refusal ≡ Refusal.NoMemory)
             × LacksRoom n (journal self.old).live entries.now (capacity self.old) (room self.old) (index self.old)) }
         ensures unchanged { OnErr result (journal self.new ≡ journal self.old) }
@@ -307,7 +307,7 @@ impl<const R: usize> Session<R> {
 
     /// Goes along the session's track, which is the live steps with those ahead of them: its first
     /// `n` steps become the live ones, and none is undone. The track stays as it is. It copies no
-    /// record and takes no memory, and its time grows only with the number of steps that it undoes
+    /// entry and takes no memory, and its time grows only with the number of steps that it undoes
     /// or makes again.
     pub fn go_along(&mut self, n: u64)
         requires within { n ≤ length (track self.old) }

@@ -1,10 +1,10 @@
--- The records of the stretches are as many as the lists that begin the events of a bookmark, the
+-- The entries of the stretches are as many as the lists that begin the events of a bookmark, the
 -- empty one apart.
 use Rattle.std.proofs.Common.{◌≡◌, ℕ, zero, suc, ◌+◌, ◌-◌, ◌<◌, ◌≤◌, inl, inr, refl, sym, ap, ◌∙◌, subst, List, [], ◌∷◌, ◌++◌, length, take, map, sum_by, Contains, length-append, length-take, arith}
-use Rattle.rd_marks.proofs.Prelude.{range_with_len, take-length, cases_lt, cases_eq, nat_tests, get_or-map, length-map, length-take-le, take-map, take-take, sum_by-cons, Contains-append_left, Contains-append_right, Contains-append_cases, Event, Entry, Begins, MarkName, Stretch, Place, mark_of, marks_of, named_lists, stretch_list, shared_at, records_at, AreNested, AreFresh, number_if_in, greatest_in, AreNeeded, IsAlong, IsDeepest, count_of}
+use Rattle.rd_marks.proofs.Prelude.{range_with_len, take-length, cases_lt, cases_eq, nat_tests, get_or-map, length-map, length-take-le, take-map, take-take, sum_by-cons, Contains-append_left, Contains-append_right, Contains-append_cases, Event, Entry, Begins, MarkName, Stretch, Place, mark_of, marks_of, named_lists, stretch_list, shared_at, entries_at, AreNested, AreFresh, number_if_in, greatest_in, AreNeeded, IsAlong, IsDeepest, count_of}
 use Rattle.std.proofs.lemmas.List.FromFn.{length-map-range_with_len, get_or-map-range_with_len}
 use Rattle.rd_step.specs.Run.{events}
-use Rattle.rd_marks.specs.Beginnings.{IsBeginning, AreDistinct, CountsBeginnings, NeedsNoRecord}
+use Rattle.rd_marks.specs.Beginnings.{IsBeginning, AreDistinct, CountsBeginnings, NeedsNoEntry}
 use Rattle.rd_marks.proofs.StretchLists.{own_at, list_past, shared_past, shared_within, total, begins_shared}
 use Rattle.rd_marks.proofs.Fresh.{along_less, along_within, not_both}
 
@@ -64,7 +64,7 @@ lists_to ss (suc n) = lists_to ss n ++ own_lists ss n
 lists_length : (ss : List Stretch) (n : ℕ) → length (lists_to ss (suc n)) ≡ length (lists_to ss n) + length (own_at ss n)
 lists_length ss n = grind (arith, length-append, length-map-range_with_len, own_at)
 
-lists_more : (s : Stretch) (ss : List Stretch) (n : ℕ) → length (lists_to (s ∷ ss) (suc n)) ≡ length s.records.items + length (lists_to ss n)
+lists_more : (s : Stretch) (ss : List Stretch) (n : ℕ) → length (lists_to (s ∷ ss) (suc n)) ≡ length s.entries.items + length (lists_to ss n)
 lists_more s ss zero = omega (arith, lists_length (s ∷ ss) 0)
 lists_more s ss (suc n) = omega (arith, lists_more s ss n, lists_length (s ∷ ss) (suc n), lists_length ss n)
 
@@ -90,17 +90,17 @@ begun_taken es xs ys same b = grind (arith, take-map)
 begins_list : (ss : List Stretch) (ms : List (MarkName × Place)) (es : List Event) → IsBeginning (marks_of (named_lists ss ms)) es → (i : ℕ) × Begins es (events (stretch_list ss i))
 begins_list ss ms es h =
     let found = mapped_contains (λ (x : MarkName × List Entry). mark_of x) (named_lists ss ms) h.mark h.kept in
-    let named = mapped_contains (λ (x : MarkName × Place). (x.0, records_at ss x.1)) ms found.0 found.1 in
+    let named = mapped_contains (λ (x : MarkName × Place). (x.0, entries_at ss x.1)) ms found.0 found.1 in
     let p = named.0.1 in
-    let b : Begins es (events (records_at ss p)) =
+    let b : Begins es (events (entries_at ss p)) =
     grind arith in
-    let its = length-map (records_at ss p) (λ (x : Entry). x.event) ∙ length-take p.number (stretch_list ss p.stretch) in
-    let short : length es ≤ p.number = omega (arith, length-take (length es) (events (records_at ss p)), ap length b, its) in
-    (p.stretch, begun_taken es (records_at ss p) (stretch_list ss p.stretch) (take-take (length es) p.number (stretch_list ss p.stretch) short) b)
+    let its = length-map (entries_at ss p) (λ (x : Entry). x.event) ∙ length-take p.number (stretch_list ss p.stretch) in
+    let short : length es ≤ p.number = omega (arith, length-take (length es) (events (entries_at ss p)), ap length b, its) in
+    (p.stretch, begun_taken es (entries_at ss p) (stretch_list ss p.stretch) (take-take (length es) p.number (stretch_list ss p.stretch) short) b)
 
--- where a bookmark needs no new record, some list begins with all of its events
+-- where a bookmark needs no new entry, some list begins with all of its events
 pub all_along : (ss : List Stretch) (ms : List (MarkName × Place)) (at n : ℕ) (es : List Event) → IsAlong ss at n es → IsDeepest ss n es
-    → NeedsNoRecord (marks_of (named_lists ss ms)) es → n ≡ length es
+    → NeedsNoEntry (marks_of (named_lists ss ms)) es → n ≡ length es
 all_along ss ms at n es along deepest none =
     elim (cases_lt n (length es)) [
       | inl less ↦
@@ -170,7 +170,7 @@ module _ (ss : List Stretch) (rule : AreNested ss) where
 
   module _ (ms : List (MarkName × Place)) (needed : AreNeeded ss (map (λ (m : MarkName × Place). m.1) ms)) where
     reached : (fuel i n : ℕ) → length ss ≤ i + fuel → i < length ss → n ≤ length (stretch_list ss i)
-        → (m : MarkName × Place) × Contains ms m × (take n (records_at ss m.1) ≡ take n (stretch_list ss i))
+        → (m : MarkName × Place) × Contains ms m × (take n (entries_at ss m.1) ≡ take n (stretch_list ss i))
     reached zero i n enough inside h = absurd (omega (arith, enough, inside))
     reached (suc fuel) i n enough inside h =
         elim (cases_lt (greatest_in i (map (λ (m : MarkName × Place). m.1) ms)) (length (stretch_list ss i))) [
@@ -191,8 +191,8 @@ module _ (ss : List Stretch) (rule : AreNested ss) where
               ]
         ]
 
-    -- each beginning of the list of a stretch begins the records of a bookmark
-    pub begins_one : (i n : ℕ) → i < length ss → n ≤ length (stretch_list ss i) → (m : MarkName × Place) × Contains ms m × (take n (records_at ss m.1) ≡ take n (stretch_list ss i))
+    -- each beginning of the list of a stretch begins the entries of a bookmark
+    pub begins_one : (i n : ℕ) → i < length ss → n ≤ length (stretch_list ss i) → (m : MarkName × Place) × Contains ms m × (take n (entries_at ss m.1) ≡ take n (stretch_list ss i))
     begins_one i n inside h = reached (length ss) i n (omega arith) inside h
 
     pub counts : AreFresh ss → CountsBeginnings (marks_of (named_lists ss ms)) (count_of ss)
@@ -210,11 +210,11 @@ module _ (ss : List Stretch) (rule : AreNested ss) where
             let m = r.0 in
             record {
               some = omega (arith, l.2);
-              mark = mark_of (m.0, records_at ss m.1);
+              mark = mark_of (m.0, entries_at ss m.1);
               kept =
-                  contains_mapped (λ (x : MarkName × List Entry). mark_of x) (named_lists ss ms) (m.0, records_at ss m.1)
-                  (contains_mapped (λ (x : MarkName × Place). (x.0, records_at ss x.1)) ms m r.1);
-              begins = begun_taken es (stretch_list ss l.0) (records_at ss m.1) (sym r.2) l.3;
+                  contains_mapped (λ (x : MarkName × List Entry). mark_of x) (named_lists ss ms) (m.0, entries_at ss m.1)
+                  (contains_mapped (λ (x : MarkName × Place). (x.0, entries_at ss x.1)) ms m r.1);
+              begins = begun_taken es (stretch_list ss l.0) (entries_at ss m.1) (sym r.2) l.3;
             }
 
         is_one : (es : List Event) → IsBeginning (marks_of (named_lists ss ms)) es → Contains (lists_to ss (length ss)) es
@@ -226,7 +226,7 @@ module _ (ss : List Stretch) (rule : AreNested ss) where
               | inr past ↦ absurd (omega (arith, ap length (list_past ss l.0 past), l.2, begun_within ss l.0 es l.3))
             ]
 
--- The records are no more than those of the places together
+-- The entries are no more than those of the places together
 
 abbrev greatest_to : List Place → ℕ → ℕ
 greatest_to ps zero = 0

@@ -2,7 +2,7 @@
 use Rattle.std.proofs.Common.{◌≡◌, ◌⊎◌, ℕ, zero, suc, ◌<◌, ◌≤◌, inl, inr, refl, sym, ap, ◌∙◌, subst, List, length, take, length-take, arith}
 use Rattle.rd_marks.proofs.Prelude.{cases_lt, cases_eq, length-map, take-take, take-map, length-take-le, Event, Entry, Begins, Stretch, stretch_list, shared_at, AreNested, AreFresh, IsAlong, IsDeepest}
 use Rattle.rd_step.specs.Run.{events}
-use Rattle.rd_marks.proofs.StretchLists.{list_past, begins_shared, shared_records}
+use Rattle.rd_marks.proofs.StretchLists.{list_past, begins_shared, shared_entries}
 
 abbrev as_event : Entry → Event
 as_event x = x.event
@@ -83,7 +83,7 @@ module _ (ss : List Stretch) (rule : AreNested ss) (fresh : AreFresh ss) (es : L
   follows_here k at n f h here =
       elim here [
         | inl same ↦ subst (λ (i : ℕ). IsAlong ss i n es) same f.along
-        | inr less ↦ along_taken ss ss k at n es (shared_records ss rule at k n h (λ j low high. grind (arith, less, f.shared j low))) f.along
+        | inr less ↦ along_taken ss ss k at n es (shared_entries ss rule at k n h (λ j low high. grind (arith, less, f.shared j low))) f.along
       ]
 
   -- the stretch branches off further on than that

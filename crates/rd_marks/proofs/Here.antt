@@ -1,11 +1,11 @@
--- Where the session's track lies among the bookmarks' records, and what each call leaves of that.
+-- Where the session's track lies among the bookmarks' entries, and what each call leaves of that.
 use Rattle.std.proofs.Common.{◌≡◌, ℕ, zero, suc, ◌-◌, ◌≤◌, Bool, nat_lt, if◌then◌else◌, refl, sym, ap, ◌∙◌, List, [], ◌∷◌, ◌++◌, length, take, drop, Result, Ok, Err, OnOk, OnErr, arith}
-use Rattle.rd_marks.proofs.Prelude.{take-append_seam, take-length, take-map, take-take, take-append-le, length-map, length-take, Refusal, closure, unmarked, Event, Entry, Begins, Session, Journal, ahead_records, state, track, State, undo_at, roll, Place, Stretch, stretch_list, records_at, IsWithin, IsAlong}
+use Rattle.rd_marks.proofs.Prelude.{take-append_seam, take-length, take-map, take-take, take-append-le, length-map, length-take, Refusal, closure, unmarked, Event, Entry, Begins, Session, Journal, ahead_entries, state, track, State, undo_at, roll, Place, Stretch, stretch_list, entries_at, IsWithin, IsAlong}
 use Rattle.rd_journal.specs.Journal.{events}
 use Rattle.rd_journal.specs.Moves.{IsLengthened, IsUndoneAlone, IsRolledBack}
-use Rattle.rd_marks.proofs.Starting.{begins_events, begins_shorter, begins_trans, events_length, events_of_first, fewer_begin, records_length}
+use Rattle.rd_marks.proofs.Starting.{begins_events, begins_shorter, begins_trans, events_length, events_of_first, fewer_begin, entries_length}
 
--- What a call leaves of the first live records
+-- What a call leaves of the first live entries
 
 without_leaves : {X : Type 0} (m k : ℕ) (xs : List X) → m ≤ k → take m (take m xs ++ drop k xs) ≡ take m xs
 without_leaves zero k xs h = refl
@@ -67,34 +67,34 @@ module _ (here there : List Entry) (begins : Begins there here) where
       track_cut n old new old_ahead new_ahead stands short (within done) (leaves left)
   after_out (Err e) n old new old_ahead new_ahead stands short unchanged done within left leaves = rw unchanged (still_begins (events old.live ++ old_ahead) stands)
 
--- records with the events of the live steps begin the track
+-- entries with the events of the live steps begin the track
 pub live_begin : {R : ℕ} (session : Session R) (xs : List Entry) → events xs ≡ (state session).live → Begins (events xs) (track session)
 live_begin session xs its = grind (arith, take-append_seam)
 
--- The place of the records of a list with which the live steps begin
+-- The place of the entries of a list with which the live steps begin
 
 module _ (ss : List Stretch) where
   -- where they are: no further than they are, at the place where their track lies
   pub live_along : {R : ℕ} (session : Session R) (here at : Place) (xs : List Entry) → events xs ≡ (state session).live → IsWithin ss here
-      → Begins (events (records_at ss here)) (track session) → at.stretch ≡ here.stretch → at.number ≤ here.number → at.number ≤ length xs
+      → Begins (events (entries_at ss here)) (track session) → at.stretch ≡ here.stretch → at.number ≤ here.number → at.number ≤ length xs
       → IsWithin ss at × IsAlong ss at.stretch at.number (events xs)
   live_along session here at xs its within stands same fewer few =
       let first = fewer_begin ss here at within same fewer in
       let n = at.number in
-      let ahead = events (ahead_records session.records) in
+      let ahead = events (ahead_entries session.entries) in
       let all = length-map xs (λ (x : Entry). x.event) in
       let alike =
-      events_of_first n (stretch_list ss at.stretch) ∙ sym (still_begins (records_at ss here) (records_at ss at) first.1 (track session) stands)
+      events_of_first n (stretch_list ss at.stretch) ∙ sym (still_begins (entries_at ss here) (entries_at ss at) first.1 (track session) stands)
       ∙ ap (λ (m : ℕ). take m (track session)) (events_length ss at first.0) ∙ ap (λ (es : List Event). take n (es ++ ahead)) (sym its)
       ∙ take-append-le n (events xs) ahead (omega (arith, few, all)) in
       (first.0, record { enough = omega (arith, few, all); alike = alike })
 
   -- so its steps are the first ones of the track
-  pub along_to : (at here : Place) (steps : List Event) → IsWithin ss at → IsWithin ss here → Begins (events (records_at ss here)) steps → (n : ℕ) → n ≡ at.number → n ≤ here.number
-      → take n (records_at ss here) ≡ take n (records_at ss at) → (n ≤ length steps) × (take n steps ≡ events (records_at ss at))
+  pub along_to : (at here : Place) (steps : List Event) → IsWithin ss at → IsWithin ss here → Begins (events (entries_at ss here)) steps → (n : ℕ) → n ≡ at.number → n ≤ here.number
+      → take n (entries_at ss here) ≡ take n (entries_at ss at) → (n ≤ length steps) × (take n steps ≡ events (entries_at ss at))
   along_to at here steps is within stands n all fewer alike =
       let long = events_length ss here within in (
-        omega (arith, begins_shorter (events (records_at ss here)) steps stands, long, fewer),
-        sym (take-take n (length (events (records_at ss here))) steps (omega (arith, long, fewer))) ∙ ap (take n) stands ∙ events_of_first n (records_at ss here) ∙ ap events alike
-            ∙ ap (λ (m : ℕ). events (take m (records_at ss at))) (all ∙ sym (records_length ss at is)) ∙ ap events (take-length (records_at ss at)),
+        omega (arith, begins_shorter (events (entries_at ss here)) steps stands, long, fewer),
+        sym (take-take n (length (events (entries_at ss here))) steps (omega (arith, long, fewer))) ∙ ap (take n) stands ∙ events_of_first n (entries_at ss here) ∙ ap events alike
+            ∙ ap (λ (m : ℕ). events (take m (entries_at ss at))) (all ∙ sym (entries_length ss at is)) ∙ ap events (take-length (entries_at ss at)),
       )

@@ -2,7 +2,7 @@ pub mod Prelude
 pub mod NameLemmas
 pub mod Starts
 pub mod MarkLemmas
-pub mod RecordLemmas
+pub mod EntryLemmas
 pub mod AnswerLemmas
 pub mod ObeyLemmas
 pub mod StretchLists

@@ -1,7 +1,7 @@
--- The marks that a list of names with records is: looking one up, putting one last, taking one
+-- The marks that a list of names with entries is: looking one up, putting one last, taking one
 -- away.
 use Rattle.std.proofs.Common.{◌↔◌, IsTrue, true≢false, is_ok, ◌⊎◌, ◌≢◌, suc, Result, Ok, Err, IsOk, IfErr, ne_eqb, ◌≡◌, ℕ, Bool, true, false, if◌then◌else◌, cond, map, refl, sym, ap, ◌∙◌, subst, List, [], ◌∷◌, ◌++◌, length, is_some, option_map, Option, Some, None, All, slice_get, arith}
-use Rattle.rd_marks.proofs.Prelude.{lookup, remove_entry, insert_entry, All-cons, All-head, All-tail, Entry, Event, MarkName, same_name, eq-eqb, false≢true, length-map, get_or_from_slice_get, slice_get-map, slice_get_within, Refusal, World, NoMark, NoMemory, MarkTaken, TooManyMarks, MOST_MARKS, IsRecordOfRun, Begins, Mark, BookState, with_marks, marked_events, without_mark, mark, drop_mark, goto_mark, mark_at, mark_events, name_and_length, MakesSteps, AnswersSame, IsEquivalent, DecidesEquivalence, mark_of, marks_of}
+use Rattle.rd_marks.proofs.Prelude.{lookup, remove_entry, insert_entry, All-cons, All-head, All-tail, Entry, Event, MarkName, same_name, eq-eqb, false≢true, length-map, get_or_from_slice_get, slice_get-map, slice_get_within, Refusal, World, NoMark, NoMemory, MarkTaken, TooManyMarks, MOST_MARKS, AreEntriesOfRun, Begins, Mark, BookState, with_marks, marked_events, without_mark, mark, drop_mark, goto_mark, mark_at, mark_events, name_and_length, MakesSteps, AnswersSame, IsEquivalent, DecidesEquivalence, mark_of, marks_of}
 use Rattle.rd_journal.specs.Journal.{events}
 
 -- taking an entry away, whatever is made of the values
@@ -102,8 +102,8 @@ module _ (R : ℕ) (w : World) (o p : Option (List Event)) where
   pub both_there : (es fs : List Event) (said : Result Bool Refusal) → o ≡ Some es → p ≡ Some fs → AnswersSame R w (Some es) (Some fs) said → AnswersSame R w o p said
   both_there es fs said h k a = rw (h, k) a
 
--- records that are those of runs from the start are compared from there
-pub decided : (R : ℕ) (w : World) (xs ys : List Entry) (same : Bool) → IsRecordOfRun R w xs → IsRecordOfRun R w ys
+-- entries that are those of runs from the start are compared from there
+pub decided : (R : ℕ) (w : World) (xs ys : List Entry) (same : Bool) → AreEntriesOfRun R w xs → AreEntriesOfRun R w ys
     → DecidesEquivalence xs ys same → IsTrue same ↔ IsEquivalent R w (events xs) (events ys)
 decided R w xs ys same p q d = d R w p.ran q.ran
 

@@ -14,7 +14,7 @@ pub use Rattle.indexmap.specs.IndexMap.{insert_entry, set_value_at, spare}
 pub use Rattle.rd_depend.specs.Beginnings.{Begins, NeitherIsPrefix}
 pub use Rattle.rd_depend.specs.Equivalence.{DecidesEquivalence}
 pub use Rattle.rd_journal.specs.Journal.{Journal, start_of}
-pub use Rattle.rd_journal.specs.Records.{ahead_records}
+pub use Rattle.rd_journal.specs.Entries.{ahead_entries}
 pub use Rattle.rd_journal.specs.Sessions.{journal, state, track}
 pub use Rattle.rd_journal.specs.State.{State, apply, back, back_one, forward, forward_one, redo, reply_to, roll, run_of, state_of, step_after, switch, times, undo, undo_at, with_event}
 pub use Rattle.rd_journal.specs.declared.sessions.Session.{Session}
@@ -28,12 +28,12 @@ pub use Rattle.rd_marks.specs.BookViews.{book_state}
 pub use Rattle.rd_marks.specs.Books.{AnswersEvents, AnswersSame, BookState, MakesSteps, Mark, at_events, drop_mark, event_in, goto_mark, mark, mark_at, mark_events, marked_events, name_and_length, with_marks, without_mark}
 pub use Rattle.rd_marks.specs.Changes.{IsGrown, IsLow, IsShrunk, IsUnchanged, Stays, shifted}
 pub use Rattle.rd_marks.specs.Commands.{Answered, AreObeyed, Happened, IsMade, IsObeyed, NeedsNoMemory, event_answer, happens, move_answer, query_answer}
-pub use Rattle.rd_marks.specs.Kept.{IsPlaceIn, here_in, lists_in, records_in}
-pub use Rattle.rd_marks.specs.Layout.{AreRuns, IsKept, IsPruned, IsRecordOfRun, named_lists, places_of}
+pub use Rattle.rd_marks.specs.Kept.{IsPlaceIn, here_in, lists_in, entries_in}
+pub use Rattle.rd_marks.specs.Layout.{AreRuns, IsKept, IsPruned, AreEntriesOfRun, named_lists, places_of}
 pub use Rattle.rd_marks.specs.Marks.{mark_of, marks_of}
 pub use Rattle.rd_marks.specs.NameBytes.{MOST_MARKS, MOST_NAME_BYTES, is_mark_name, is_name_byte}
 pub use Rattle.rd_marks.specs.Names.{same_name}
-pub use Rattle.rd_marks.specs.Stretches.{AreFresh, AreNeeded, AreNeededFrom, AreNested, IsAlong, IsDeepest, IsEnd, IsOwn, IsWithin, continued, count_of, greatest_in, list_after, list_before, lowered, needed_at, number_if_in, raised, records_at, shared_at, stretch_list}
+pub use Rattle.rd_marks.specs.Stretches.{AreFresh, AreNeeded, AreNeededFrom, AreNested, IsAlong, IsDeepest, IsEnd, IsOwn, IsWithin, continued, count_of, greatest_in, list_after, list_before, lowered, needed_at, number_if_in, raised, entries_at, shared_at, stretch_list}
 pub use Rattle.rd_marks.specs.declared.bookmarks.Bookmarks.{Bookmarks}
 pub use Rattle.rd_marks.specs.declared.commands.Command.{Command}
 pub use Rattle.rd_marks.specs.declared.names.MarkName.{MarkName}

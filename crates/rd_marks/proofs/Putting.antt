@@ -1,11 +1,11 @@
 -- What the bookmarks are after one was put, and after stretches were shrunk.
 use Rattle.std.proofs.Common.{◌≡◌, ℕ, zero, suc, ◌^◌, ◌<◌, ◌≤◌, inl, inr, refl, sym, ap, ◌∙◌, subst, List, [], ◌∷◌, ◌++◌, map, length, take, drop, length-append, option_map, Option, None, All, arith}
-use Rattle.rd_marks.proofs.Prelude.{cases_lt, sum_by-le, length-map, map-append, take-append-drop, All-push, All-contains, All-head, All-map, All-nil, All-tail, World, MOST_STEPS, Event, Entry, Begins, MarkName, Place, Stretch, Shift, shifted, Stays, IsGrown, IsShrunk, IsUnchanged, MOST_MARKS, IsRecordOfRun, AreRuns, IsKept, IsPruned, named_lists, places_of, count_of, stretch_list, records_at, greatest_in, needed_at, IsWithin, IsAlong, AreNested, AreNeeded, AreNeededFrom, nat_tests}
+use Rattle.rd_marks.proofs.Prelude.{cases_lt, sum_by-le, length-map, map-append, take-append-drop, All-push, All-contains, All-head, All-map, All-nil, All-tail, World, MOST_STEPS, Event, Entry, Begins, MarkName, Place, Stretch, Shift, shifted, Stays, IsGrown, IsShrunk, IsUnchanged, MOST_MARKS, AreEntriesOfRun, AreRuns, IsKept, IsPruned, named_lists, places_of, count_of, stretch_list, entries_at, greatest_in, needed_at, IsWithin, IsAlong, AreNested, AreNeeded, AreNeededFrom, nat_tests}
 use Rattle.rd_step.specs.Run.{events}
 use Rattle.rd_journal.specs.Journal.{IsRunFrom}
 use Rattle.rd_marks.specs.declared.stretches.changes.Grown.{Grown}
 use Rattle.rd_marks.proofs.Counting.{begins_one, contains_mapped, count_bounded}
-use Rattle.rd_marks.proofs.RecordLemmas.{begin_alike}
+use Rattle.rd_marks.proofs.EntryLemmas.{begin_alike}
 use Rattle.rd_marks.proofs.Starting.{begins_itself, begins_trans, events_of_first, fewer_begin, stretch_within}
 
 -- the names with where their places moved
@@ -44,10 +44,10 @@ module _ (old new : List Stretch) (at : Place) (live : List Entry) (grown : Grow
   abbrev put : List (MarkName × Place)
   put = names_shifted grown.shift ms ++ (name, grown.place) ∷ []
 
-  pub lists_put : named_lists new put ≡ named_lists old ms ++ (name, records_at new grown.place) ∷ []
+  pub lists_put : named_lists new put ≡ named_lists old ms ++ (name, entries_at new grown.place) ∷ []
   lists_put =
-      map-append (λ (m : MarkName × Place). (m.0, records_at new m.1)) (names_shifted grown.shift ms) ((name, grown.place) ∷ [])
-      ∙ ap (λ (ls : List (MarkName × List Entry)). ls ++ (name, records_at new grown.place) ∷ []) (lists_shifted old new grown.shift ms stay)
+      map-append (λ (m : MarkName × Place). (m.0, entries_at new m.1)) (names_shifted grown.shift ms) ((name, grown.place) ∷ [])
+      ∙ ap (λ (ls : List (MarkName × List Entry)). ls ++ (name, entries_at new grown.place) ∷ []) (lists_shifted old new grown.shift ms stay)
 
   pub within_put : All (λ (m : MarkName × Place). IsWithin new m.1) put
   within_put =
@@ -68,9 +68,9 @@ module _ (old new : List Stretch) (at : Place) (live : List Entry) (grown : Grow
         lies = lies;
       })
 
-  -- and the track begins with the records of where it lies
-  here_put : (here there : Place) (n : ℕ) (steps : List Event) → IsWithin old here → Begins (events (records_at old here)) steps → Begins (events (records_at new grown.place)) steps
-      → (here.number ≤ n → there ≡ grown.place) → (n < here.number → there ≡ shifted grown.shift here) → IsWithin new there × Begins (events (records_at new there)) steps
+  -- and the track begins with the entries of where it lies
+  here_put : (here there : Place) (n : ℕ) (steps : List Event) → IsWithin old here → Begins (events (entries_at old here)) steps → Begins (events (entries_at new grown.place)) steps
+      → (here.number ≤ n → there ≡ grown.place) → (n < here.number → there ≡ shifted grown.shift here) → IsWithin new there × Begins (events (entries_at new there)) steps
   here_put here there n steps lies stands begins near far =
       elim (cases_lt n here.number) [
         | inl over ↦ let stays = grows.stays here lies in rw (far over) (stays.within, rw stays.same stands)
@@ -86,26 +86,26 @@ module _ (old new : List Stretch) (unchanged : IsUnchanged old new) where
       ∷ lists_same ms (All-tail (λ (n : MarkName × Place). IsWithin old n.1) m ms h) i
 
   pub kept_same : (ms es : List (MarkName × Place)) (here : Place) → es ≡ ms → IsKept old ms here
-      → IsKept new es here × (named_lists new es ≡ named_lists old ms) × (records_at new here ≡ records_at old here)
+      → IsKept new es here × (named_lists new es ≡ named_lists old ms) × (entries_at new here ≡ entries_at old here)
   kept_same ms es here its kept =
-      subst (λ (fs : List (MarkName × Place)). IsKept new fs here × (named_lists new fs ≡ named_lists old ms) × (records_at new here ≡ records_at old here)) (sym its) (
+      subst (λ (fs : List (MarkName × Place)). IsKept new fs here × (named_lists new fs ≡ named_lists old ms) × (entries_at new here ≡ entries_at old here)) (sym its) (
         grind (arith, each),
         lists_same ms kept.within,
         (unchanged.stays here kept.lies).same,
       )
 
--- The records of a place with which the live steps begin are theirs
+-- The entries of a place with which the live steps begin are theirs
 
-pub same_records : (R : ℕ) (w : World) (ss : List Stretch) → AreNested ss → (ms : List (MarkName × Place)) → AreNeeded ss (places_of ms) → AreRuns R w (named_lists ss ms)
-    → (at : Place) → IsWithin ss at → (live : List Entry) → IsRunFrom R w live → IsAlong ss at.stretch at.number (events live) → records_at ss at ≡ take at.number live
-same_records R w ss rule ms needed runs at within live run along = by at.number refl
+pub same_entries : (R : ℕ) (w : World) (ss : List Stretch) → AreNested ss → (ms : List (MarkName × Place)) → AreNeeded ss (places_of ms) → AreRuns R w (named_lists ss ms)
+    → (at : Place) → IsWithin ss at → (live : List Entry) → IsRunFrom R w live → IsAlong ss at.stretch at.number (events live) → entries_at ss at ≡ take at.number live
+same_entries R w ss rule ms needed runs at within live run along = by at.number refl
   where
-    by : (n : ℕ) → at.number ≡ n → records_at ss at ≡ take at.number live
+    by : (n : ℕ) → at.number ≡ n → entries_at ss at ≡ take at.number live
     by zero none = ap (λ (k : ℕ). take k (stretch_list ss at.stretch)) none ∙ sym (ap (λ (k : ℕ). take k live) none)
     by (suc n) some =
         let r = begins_one ss rule ms needed at.stretch at.number (stretch_within ss at within (omega (arith, some))) within in
-        let xs = records_at ss r.0.1 in
-        let all = All-contains (λ (l : MarkName × List Entry). IsRecordOfRun R w l.1) (named_lists ss ms) (r.0.0, xs) runs (contains_mapped (λ (m : MarkName × Place). (m.0, records_at ss m.1)) ms r.0 r.1) in
+        let xs = entries_at ss r.0.1 in
+        let all = All-contains (λ (l : MarkName × List Entry). AreEntriesOfRun R w l.1) (named_lists ss ms) (r.0.0, xs) runs (contains_mapped (λ (m : MarkName × Place). (m.0, entries_at ss m.1)) ms r.0 r.1) in
         let alike : take at.number (events xs) ≡ take at.number (events live) =
         events_of_first at.number xs ∙ ap events r.2 ∙ sym (events_of_first at.number (stretch_list ss at.stretch)) ∙ along.alike in
         sym r.2 ∙ begin_alike R at.number w xs live all.ran run alike
@@ -132,7 +132,7 @@ module _ (old new : List Stretch) (i n : ℕ) (shift : Shift) (shrunk : IsShrunk
         within = within_shifted old new shift ms stay_left;
         needed = subst (λ (ps : List Place). AreNeededFrom i new ps) (sym (places_shifted shift ms)) (shrunk.needed (places_of ms) needed its);
         lies = stays.within;
-        begins = subst (λ (xs : List Entry). Begins xs (records_at old here)) (sym stays.same) first.1;
+        begins = subst (λ (xs : List Entry). Begins xs (entries_at old here)) (sym stays.same) first.1;
       }
 
 -- nothing pruned yet, and once more
@@ -143,7 +143,7 @@ not_pruned ss ms here within lies = grind (arith, begins_itself)
 pub pruned_on : (i k : ℕ) (a b c : List Stretch) (ms ns ls : List (MarkName × Place)) (p q r : Place) → IsPruned k a b ms ns p q → IsPruned i b c ns ls q r → IsPruned i a c ms ls p r
 pruned_on i k a b c ms ns ls p q r first second = grind (arith, begins_trans)
 
--- The number of all records
+-- The number of all entries
 
 number_few : (ss : List Stretch) → AreNested ss → (p : Place) → IsWithin ss p → p.number ≤ MOST_STEPS
 number_few ss rule p within = grind (arith, stretch_within)
@@ -155,11 +155,11 @@ count_fits ss rule ms needed within few =
     let all = All-map (λ (p : Place). p.number ≤ MOST_STEPS) (λ (m : MarkName × Place). m.1) ms (λ k d inside. number_few ss rule _ (within k d inside)) in
     omega (arith, count_bounded ss rule (places_of ms) needed, sum_by-le (λ (p : Place). p.number) MOST_STEPS (places_of ms) all, length-map ms (λ (m : MarkName × Place). m.1), few)
 
--- The records of the new list are those of a run as well
+-- The entries of the new list are those of a run as well
 
-pub runs_put : (R : ℕ) (w : World) (ls ms : List (MarkName × List Entry)) (name : MarkName) (xs : List Entry) → AreRuns R w ls → IsRecordOfRun R w xs → ms ≡ ls ++ (name, xs) ∷ [] → AreRuns R w ms
+pub runs_put : (R : ℕ) (w : World) (ls ms : List (MarkName × List Entry)) (name : MarkName) (xs : List Entry) → AreRuns R w ls → AreEntriesOfRun R w xs → ms ≡ ls ++ (name, xs) ∷ [] → AreRuns R w ms
 runs_put R w ls ms name xs runs run its =
-    rw its (All-push (λ (l : MarkName × List Entry). IsRecordOfRun R w l.1) ls (name, xs) runs run)
+    rw its (All-push (λ (l : MarkName × List Entry). AreEntriesOfRun R w l.1) ls (name, xs) runs run)
 
 -- a name that none of the lists has is none of the names
 pub none_named : (f : Place → List Entry) (o : Option Place) → option_map f o ≡ None → o ≡ None
@@ -172,24 +172,24 @@ pub record IsSet (R : ℕ) (w : World) (old new : List Stretch) (ms es : List (M
   pub kept : IsKept new es there
   pub lists : named_lists new es ≡ named_lists old ms ++ (name, live) ∷ []
   pub runs : AreRuns R w (named_lists new es)
-  pub stands : Begins (events (records_at new there)) steps
+  pub stands : Begins (events (entries_at new there)) steps
 
 module _ (R : ℕ) (w : World) (old : List Stretch) (rule : AreNested old) (ms : List (MarkName × Place)) (here : Place) (kept : IsKept old ms here) (fewer : length (named_lists old ms) < MOST_MARKS)
-    (runs : AreRuns R w (named_lists old ms)) (live : List Entry) (run : IsRecordOfRun R w live) (steps : List Event) (stands : Begins (events (records_at old here)) steps)
+    (runs : AreRuns R w (named_lists old ms)) (live : List Entry) (run : AreEntriesOfRun R w live) (steps : List Event) (stands : Begins (events (entries_at old here)) steps)
     (began : Begins (events live) steps) (at : Place) (within : IsWithin old at) (along : IsAlong old at.stretch at.number (events live)) where
   pub is_set : (new : List Stretch) (grown : Grown) → IsGrown old new at live grown → (name : MarkName) (mid es : List (MarkName × Place)) → mid ≡ ms
       → es ≡ names_shifted grown.shift mid ++ (name, grown.place) ∷ [] → (there : Place) (n : ℕ) → (here.number ≤ n → there ≡ grown.place) → (n < here.number → there ≡ shifted grown.shift here)
       → IsSet R w old new ms es name live steps there
   is_set new grown grows name mid es reserved its there n near far =
-      let all : records_at new grown.place ≡ live =
-      grows.put ∙ ap (λ (xs : List Entry). xs ++ drop at.number live) (same_records R w old rule ms kept.needed runs at within live run.ran along) ∙ take-append-drop at.number live in
+      let all : entries_at new grown.place ≡ live =
+      grows.put ∙ ap (λ (xs : List Entry). xs ++ drop at.number live) (same_entries R w old rule ms kept.needed runs at within live run.ran along) ∙ take-append-drop at.number live in
       let put_now = its ∙ ap (λ (fs : List (MarkName × Place)). names_shifted grown.shift fs ++ (name, grown.place) ∷ []) reserved in
       let lists : named_lists new es ≡ named_lists old ms ++ (name, live) ∷ [] =
       ap (named_lists new) put_now ∙ lists_put old new at live grown grows name ms kept.within ∙ ap (λ (xs : List Entry). named_lists old ms ++ (name, xs) ∷ []) all in
       let lies =
       here_put old new at live grown grows name ms kept.within here there n steps kept.lies stands (subst (λ (xs : List Entry). Begins (events xs) steps) (sym all) began) near far in
       record {
-        kept = kept_put old new at live grown grows name ms kept.within here there kept (omega (arith, fewer, length-map {B = MarkName × List Entry} ms (λ m. (m.0, records_at old m.1)))) es put_now lies.0;
+        kept = kept_put old new at live grown grows name ms kept.within here there kept (omega (arith, fewer, length-map {B = MarkName × List Entry} ms (λ m. (m.0, entries_at old m.1)))) es put_now lies.0;
         lists = lists;
         runs = runs_put R w (named_lists old ms) (named_lists new es) name live runs run lists;
         stands = lies.1;

@@ -1,6 +1,6 @@
--- Reading the records of a place, and what the stretches have in common with other records.
+-- Reading the entries of a place, and what the stretches have in common with other entries.
 use Rattle.std.proofs.Common.{◌≡◌, ◌⊎◌, ℕ, zero, suc, ◌+◌, ◌-◌, ◌<◌, ◌≤◌, min, inl, inr, refl, sym, ap, ◌∙◌, subst, List, [], ◌∷◌, ◌++◌, length, take, drop, get_or, reverse, slice_get, option_map, Some, arith}
-use Rattle.rd_marks.proofs.Prelude.{drop-cons, take-add, cases_eq, cases_lt, append_assoc, drop-map, drop-take, length-map, reverse-append, take-take, slice_get-map, slice_get_read, slice_get_within, Event, Entry, Place, Stretch, count_of, stretch_list, list_before, shared_at, records_at, IsWithin, IsOwn, IsAlong, AreNested, AreFresh}
+use Rattle.rd_marks.proofs.Prelude.{drop-cons, take-add, cases_eq, cases_lt, append_assoc, drop-map, drop-take, length-map, reverse-append, take-take, slice_get-map, slice_get_read, slice_get_within, Event, Entry, Place, Stretch, count_of, stretch_list, list_before, shared_at, entries_at, IsWithin, IsOwn, IsAlong, AreNested, AreFresh}
 use Rattle.rd_step.specs.Run.{events}
 use Rattle.rd_step.specs.Lists.{numbered}
 use Rattle.rd_marks.proofs.StretchLists.{own_at, stretch_there, total, shared_within, begins_shared, behind_shared, list_past}
@@ -55,33 +55,33 @@ alike_past xs ys n past e here there = grind (arith, slice_get_within, length-ma
 
 -- From the last one up
 
--- one more record read
+-- one more entry read
 pub read_on : {X : Type 0} (ps qs rs xs : List X) (x : X) → ps ≡ qs ++ x ∷ [] → xs ≡ ps ++ reverse rs → xs ≡ qs ++ reverse (rs ++ x ∷ [])
 read_on {X} ps qs rs xs x h k = grind (arith, reverse, append_assoc, reverse-append)
 
--- the last record of a beginning is of the event whose number is its length
+-- the last entry of a beginning is of the event whose number is its length
 pub event_there : (xs : List Entry) (m n k : ℕ) (x : Entry) → 1 ≤ n → m ≡ n → k ≡ m - 1 → slice_get (take m xs) k ≡ Some x → (l : ℕ) → n ≤ l → Some x.event ≡ numbered (events (take l xs)) n
 event_there xs m n k x some same at h l fewer = grind (arith, slice_get, slice_get_take, slice_get-map, option_map)
 
--- events after the first are those of the records after the first
+-- events after the first are those of the entries after the first
 pub events_behind : (k : ℕ) (xs : List Entry) → events (drop k xs) ≡ drop k (events xs)
 events_behind k xs = sym (drop-map (λ (x : Entry). x.event) k xs)
 
 -- a stretch that was read
-pub stretch_at : (ss xs : List Stretch) (i : ℕ) (s : Stretch) → xs ≡ ss → i < length xs → s ≡ get_or xs i s → (i < length ss) × (shared_at ss i ≡ s.shared) × (own_at ss i ≡ s.records.items)
+pub stretch_at : (ss xs : List Stretch) (i : ℕ) (s : Stretch) → xs ≡ ss → i < length xs → s ≡ get_or xs i s → (i < length ss) × (shared_at ss i ≡ s.shared) × (own_at ss i ≡ s.entries.items)
 stretch_at ss xs i s same inside its = grind (arith, stretch_there)
 
 -- one stretch of those that are counted
-pub count_on : (ss : List Stretch) (i : ℕ) (s : Stretch) → i < length ss → s ≡ get_or ss i s → count_of (drop i ss) ≡ length s.records.items + count_of (drop (suc i) ss)
+pub count_on : (ss : List Stretch) (i : ℕ) (s : Stretch) → i < length ss → s ≡ get_or ss i s → count_of (drop i ss) ≡ length s.entries.items + count_of (drop (suc i) ss)
 count_on ss i s inside its = grind (arith, drop-cons)
 
 module _ (ss : List Stretch) (rule : AreNested ss) where
-  -- a place none of whose records is its stretch's own, and that in the stretch before
+  -- a place none of whose entries is its stretch's own, and that in the stretch before
   pub one_down : (k n : ℕ) → n ≤ shared_at ss (suc k) → (n ≤ length (stretch_list ss k)) × (take n (stretch_list ss k) ≡ take n (stretch_list ss (suc k)))
   one_down k n h = (omega (arith, h, shared_within ss rule (suc k)), sym (begins_shared ss rule (suc k) n h))
 
   pub down : (p : Place) → 0 < p.stretch → p.number ≤ shared_at ss p.stretch
-      → IsWithin ss (record { stretch = p.stretch - 1; number = p.number }) × (records_at ss (record { stretch = p.stretch - 1; number = p.number }) ≡ records_at ss p)
+      → IsWithin ss (record { stretch = p.stretch - 1; number = p.number }) × (entries_at ss (record { stretch = p.stretch - 1; number = p.number }) ≡ entries_at ss p)
   down p some h =
       let k = p.stretch - 1 in
       let e : p.stretch ≡ suc k = omega (arith, some) in
@@ -103,17 +103,17 @@ module _ (ss : List Stretch) (rule : AreNested ss) where
   pub own_less : (p : Place) → IsOwn ss p → 0 < p.number → shared_at ss p.stretch < p.number
   own_less p own some = grind (arith, shared_within)
 
-  -- a place has one record more than that of one fewer
-  pub without_last : (p : Place) (x : Entry) → 0 < p.number → slice_get (records_at ss p) (p.number - 1) ≡ Some x
-      → records_at ss p ≡ records_at ss (record { stretch = p.stretch; number = p.number - 1 }) ++ x ∷ []
+  -- a place has one entry more than that of one fewer
+  pub without_last : (p : Place) (x : Entry) → 0 < p.number → slice_get (entries_at ss p) (p.number - 1) ≡ Some x
+      → entries_at ss p ≡ entries_at ss (record { stretch = p.stretch; number = p.number - 1 }) ++ x ∷ []
   without_last p x some its =
       let parts : p.number ≡ suc (p.number - 1) = omega (arith, some) in
       ap (λ (n : ℕ). take n (stretch_list ss p.stretch)) parts
       ∙ one_more (stretch_list ss p.stretch) (p.number - 1) x (sym (slice_get_take (stretch_list ss p.stretch) p.number (p.number - 1) (omega (arith, some))) ∙ its)
 
-  -- the records after the first n, where they are the stretch's own
+  -- the entries after the first n, where they are the stretch's own
   pub lent : (p : Place) (n : ℕ) → IsWithin ss p → shared_at ss p.stretch ≤ n → n ≤ p.number
-      → take (p.number - shared_at ss p.stretch - (n - shared_at ss p.stretch)) (drop (n - shared_at ss p.stretch) (own_at ss p.stretch)) ≡ drop n (records_at ss p)
+      → take (p.number - shared_at ss p.stretch - (n - shared_at ss p.stretch)) (drop (n - shared_at ss p.stretch) (own_at ss p.stretch)) ≡ drop n (entries_at ss p)
   lent p n within shared fewer =
       let d = p.number - n in
       let parts : n + d ≡ p.number = omega (arith, fewer) in
@@ -123,7 +123,7 @@ module _ (ss : List Stretch) (rule : AreNested ss) where
 
   -- the last one
   pub last_own : (p : Place) (x : Entry) → shared_at ss p.stretch < p.number → slice_get (own_at ss p.stretch) (p.number - shared_at ss p.stretch - 1) ≡ Some x
-      → slice_get (records_at ss p) (p.number - 1) ≡ Some x
+      → slice_get (entries_at ss p) (p.number - 1) ≡ Some x
   last_own p x less its =
       let n = shared_at ss p.stretch in
       let k = p.number - n - 1 in
@@ -172,7 +172,7 @@ module _ (ss : List Stretch) (rule : AreNested ss) (fresh : AreFresh ss) (es : L
 -- What two places have in common
 
 module _ (ss : List Stretch) (rule : AreNested ss) (fresh : AreFresh ss) (one other : Place) (within : IsWithin ss one) (within_too : IsWithin ss other) where
-  pub common_most : (n : ℕ) → n ≤ one.number → n ≤ other.number → take n (events (records_at ss one)) ≡ take n (events (records_at ss other))
+  pub common_most : (n : ℕ) → n ≤ one.number → n ≤ other.number → take n (events (entries_at ss one)) ≡ take n (events (entries_at ss other))
       → (k : ℕ) → one.stretch < k → k ≤ other.stretch → n ≤ shared_at ss k
   common_most zero h l same k low high = omega arith
   common_most (suc n) h l same k low high =
@@ -183,10 +183,10 @@ module _ (ss : List Stretch) (rule : AreNested ss) (fresh : AreFresh ss) (one ot
 
 -- The next stretch that no longer goes on as a place's does
 
--- the list before a stretch begins with the records of the place
+-- the list before a stretch begins with the entries of the place
 pub record Reaches (ss : List Stretch) (at : Place) (i : ℕ) : Type 0 where
   pub enough : at.number ≤ length (list_before ss i)
-  pub same : take at.number (list_before ss i) ≡ records_at ss at
+  pub same : take at.number (list_before ss i) ≡ entries_at ss at
 
 module _ (ss : List Stretch) (rule : AreNested ss) (at : Place) (within : IsWithin ss at) where
   pub reaches_on : (i : ℕ) → (at.stretch ≡ i) ⊎ (at.number < shared_at ss i) → (at.stretch < i → Reaches ss at i) → at.stretch ≤ i → Reaches ss at (suc i)

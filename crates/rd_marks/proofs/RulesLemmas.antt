@@ -1,6 +1,6 @@
 -- The rules that the bookmarks of a book keep, from how it keeps them.
 use Rattle.std.proofs.Common.{◌≡◌, ◌≤◌, ℕ, refl, sym, ap, subst, List, [], ◌∷◌, map, length, Result, Ok, IsOk, arith}
-use Rattle.rd_marks.proofs.Prelude.{IsDistinct, length-map, All-head, All-tail, World, Refusal, run, Ran, Entry, MarkName, MOST_MARKS, same_name, Mark, BookState, AreRuns, IsRecordOfRun, mark_of, marks_of}
+use Rattle.rd_marks.proofs.Prelude.{IsDistinct, length-map, All-head, All-tail, World, Refusal, run, Ran, Entry, MarkName, MOST_MARKS, same_name, Mark, BookState, AreRuns, AreEntriesOfRun, mark_of, marks_of}
 use Rattle.rd_step.specs.Run.{run_entries}
 use Rattle.rd_journal.specs.Journal.{events}
 use Rattle.rd_marks.specs.Rules.{GoThrough, MarksGoThrough, KeepsRules}
@@ -9,13 +9,13 @@ use Rattle.rd_marks.specs.Rules.{GoThrough, MarksGoThrough, KeepsRules}
 went : (ran : Result Ran Refusal) (xs : List Entry) → run_entries ran ≡ Ok xs → IsOk ran
 went ran xs h = grind arith
 
-events_go : (R : ℕ) (w : World) (xs : List Entry) → IsRecordOfRun R w xs → GoThrough R w (events xs)
+events_go : (R : ℕ) (w : World) (xs : List Entry) → AreEntriesOfRun R w xs → GoThrough R w (events xs)
 events_go R w xs h = record { few = omega (arith, h.few, length-map xs (λ (x : Entry). x.event)); runs = went (run R w (events xs)) xs h.ran }
 
 marks_go : (R : ℕ) (w : World) (ls : List (MarkName × List Entry)) → AreRuns R w ls → MarksGoThrough R w (marks_of ls)
 marks_go R w [] h = tt
 marks_go R w (l ∷ ls) h =
-    (events_go R w l.1 (All-head (λ n. IsRecordOfRun R w n.1) l ls h), marks_go R w ls (All-tail (λ n. IsRecordOfRun R w n.1) l ls h))
+    (events_go R w l.1 (All-head (λ n. AreEntriesOfRun R w n.1) l ls h), marks_go R w ls (All-tail (λ n. AreEntriesOfRun R w n.1) l ls h))
 
 names_of : (ls : List (MarkName × List Entry)) → map (λ l. l.0) ls ≡ map (λ m. m.name) (marks_of ls)
 names_of [] = refl

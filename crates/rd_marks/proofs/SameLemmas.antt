@@ -3,7 +3,7 @@ use Rattle.std.proofs.Common.{◌≡◌, ℕ, ◌⊎◌, Bool, ◌==◌, refl, s
 use Rattle.rd_marks.proofs.Prelude.{eq-eqb, length-map, take_all, World, IsEquivalent, Event, Entry, Begins, DecidesEquivalence}
 use Rattle.rd_step.specs.Run.{events, IsRunFrom}
 use Rattle.rd_depend.proofs.Exactness.{right_behind}
-use Rattle.rd_marks.proofs.RecordLemmas.{began, to_the_end}
+use Rattle.rd_marks.proofs.EntryLemmas.{began, to_the_end}
 use Rattle.rd_marks.proofs.Starting.{begins_shorter}
 
 -- equivalent lists are equally long

@@ -1,6 +1,6 @@
--- Lists that begin others, and the records up to a place.
+-- Lists that begin others, and the entries up to a place.
 use Rattle.std.proofs.Common.{◌≡◌, ℕ, ◌<◌, ◌≤◌, sym, ap, ◌∙◌, List, length, take, length-take, arith}
-use Rattle.rd_marks.proofs.Prelude.{take-length, length-map, length-take-le, take-map, take-take, Entry, Begins, Place, Stretch, stretch_list, records_at, IsWithin}
+use Rattle.rd_marks.proofs.Prelude.{take-length, length-map, length-take-le, take-map, take-take, Entry, Begins, Place, Stretch, stretch_list, entries_at, IsWithin}
 use Rattle.rd_step.specs.Run.{events}
 use Rattle.rd_marks.proofs.StretchLists.{list_past}
 
@@ -16,37 +16,37 @@ begins_trans xs ys zs h k = sym (take-take (length xs) (length ys) zs (begins_sh
 event_length : (xs : List Entry) → length (events xs) ≡ length xs
 event_length xs = length-map xs (λ (x : Entry). x.event)
 
--- the events of records that begin others begin theirs
+-- the events of entries that begin others begin theirs
 pub begins_events : (xs ys : List Entry) → Begins xs ys → Begins (events xs) (events ys)
 begins_events xs ys h = ap (λ (n : ℕ). take n (events ys)) (event_length xs) ∙ take-map (λ (x : Entry). x.event) (length xs) ys ∙ ap events h
 
--- the first events are those of the first records
+-- the first events are those of the first entries
 pub events_of_first : (n : ℕ) (xs : List Entry) → take n (events xs) ≡ events (take n xs)
 events_of_first n xs = take-map (λ (x : Entry). x.event) n xs
 
 module _ (ss : List Stretch) where
   -- up to a place there are as many as its number says
-  pub records_length : (p : Place) → IsWithin ss p → length (records_at ss p) ≡ p.number
-  records_length p within = length-take-le p.number (stretch_list ss p.stretch) within
+  pub entries_length : (p : Place) → IsWithin ss p → length (entries_at ss p) ≡ p.number
+  entries_length p within = length-take-le p.number (stretch_list ss p.stretch) within
 
-  pub events_length : (p : Place) → IsWithin ss p → length (events (records_at ss p)) ≡ p.number
-  events_length p within = event_length (records_at ss p) ∙ records_length p within
+  pub events_length : (p : Place) → IsWithin ss p → length (events (entries_at ss p)) ≡ p.number
+  events_length p within = event_length (entries_at ss p) ∙ entries_length p within
 
   -- it is in a stretch if it has any
   pub stretch_within : (p : Place) → IsWithin ss p → 0 < p.number → p.stretch < length ss
   stretch_within p within some = grind (arith, list_past)
 
   -- the first of them are the first of the list
-  pub first_records : (p : Place) (n : ℕ) → n ≤ p.number → take n (records_at ss p) ≡ take n (stretch_list ss p.stretch)
-  first_records p n h = take-take n p.number (stretch_list ss p.stretch) h
+  pub first_entries : (p : Place) (n : ℕ) → n ≤ p.number → take n (entries_at ss p) ≡ take n (stretch_list ss p.stretch)
+  first_entries p n h = take-take n p.number (stretch_list ss p.stretch) h
 
-  pub first_events : (p : Place) (n : ℕ) → n ≤ p.number → take n (events (records_at ss p)) ≡ take n (events (stretch_list ss p.stretch))
-  first_events p n h = events_of_first n (records_at ss p) ∙ ap events (first_records p n h) ∙ sym (events_of_first n (stretch_list ss p.stretch))
+  pub first_events : (p : Place) (n : ℕ) → n ≤ p.number → take n (events (entries_at ss p)) ≡ take n (events (stretch_list ss p.stretch))
+  first_events p n h = events_of_first n (entries_at ss p) ∙ ap events (first_entries p n h) ∙ sym (events_of_first n (stretch_list ss p.stretch))
 
   -- those up to a place of the same list with no greater number begin them
-  pub fewer_begin : (p q : Place) → IsWithin ss p → q.stretch ≡ p.stretch → q.number ≤ p.number → IsWithin ss q × Begins (records_at ss q) (records_at ss p)
+  pub fewer_begin : (p q : Place) → IsWithin ss p → q.stretch ≡ p.stretch → q.number ≤ p.number → IsWithin ss q × Begins (entries_at ss q) (entries_at ss p)
   fewer_begin p q within same fewer =
       let is : IsWithin ss q = omega (arith, within, fewer, ap (λ (i : ℕ). length (stretch_list ss i)) same) in (
         is,
-        ap (λ (n : ℕ). take n (records_at ss p)) (records_length q is) ∙ first_records p q.number fewer ∙ ap (λ (i : ℕ). take q.number (stretch_list ss i)) (sym same),
+        ap (λ (n : ℕ). take n (entries_at ss p)) (entries_length q is) ∙ first_entries p q.number fewer ∙ ap (λ (i : ℕ). take q.number (stretch_list ss i)) (sym same),
       )

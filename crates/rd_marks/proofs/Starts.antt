@@ -50,6 +50,6 @@ start_stays r i j moved starts h g = grind arith
 pub start_kept : {X : Type 0} (r : Result X Refusal) (i j : Journal) (es : List Event) → OnOk r (state_of j ≡ record { start = start_of i; live = es; undone = [] }) → OnErr r (j ≡ i) → start_of j ≡ start_of i
 start_kept r i j es h g = grind arith
 
--- so the bookmarks' records stay runs from it
+-- so the bookmarks' entries stay runs from it
 pub runs_stay : (R : ℕ) (v w : World) (lists kept : List (MarkName × List Entry)) → w ≡ v → kept ≡ lists → AreRuns R v lists → AreRuns R w kept
 runs_stay R v w lists kept e same runs = rw (e, same) runs

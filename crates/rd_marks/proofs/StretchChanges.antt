@@ -1,7 +1,7 @@
--- The rule of the stretches is kept, and each place keeps its records, where a stretch comes, goes
+-- The rule of the stretches is kept, and each place keeps its entries, where a stretch comes, goes
 -- or changes.
 use Rattle.std.proofs.Common.{◌≡◌, ◌⊎◌, ℕ, zero, suc, ◌+◌, ◌-◌, ◌<◌, ◌≤◌, inl, inr, refl, sym, ap, ◌∙◌, subst, List, [], ◌∷◌, ◌++◌, map, length, take, length-take, arith}
-use Rattle.rd_marks.proofs.Prelude.{cases_lt, cases_eq, cases_order, nat_tests, length-map, take-append-le, take-take, take-map, MOST_STEPS, Event, Entry, Stretch, Place, stretch_list, list_before, shared_at, records_at, IsWithin, AreNested, AreFresh, greatest_in, needed_at, AreNeeded, AreNeededFrom, IsAlong, IsDeepest, raised, lowered}
+use Rattle.rd_marks.proofs.Prelude.{cases_lt, cases_eq, cases_order, nat_tests, length-map, take-append-le, take-take, take-map, MOST_STEPS, Event, Entry, Stretch, Place, stretch_list, list_before, shared_at, entries_at, IsWithin, AreNested, AreFresh, greatest_in, needed_at, AreNeeded, AreNeededFrom, IsAlong, IsDeepest, raised, lowered}
 use Rattle.rd_step.specs.Run.{events}
 use Rattle.rd_marks.proofs.StretchLists.{shared_within, goes_back, IsChanged, IsInserted, IsReplaced}
 use Rattle.rd_marks.proofs.Fresh.{along_within, along_taken, AreApart, apart, fresh_apart, later_apart}
@@ -185,12 +185,12 @@ module _ (old new : List Stretch) (j : ℕ) (s : Stretch) (change : IsInserted o
       let above = λ (i : ℕ). change.changed.above (suc i) i (omega arith) in
       grind (arith, needed (suc k), change.changed.count, above k, above (suc k), greatest_lowered k j ps high)
 
-  -- each place has its records
-  pub records_raised : (p : Place) → records_at new (raised j p) ≡ records_at old p
-  records_raised p = grind (arith, nat_tests, change.changed.below p.stretch, change.changed.above (suc p.stretch) p.stretch (omega arith))
+  -- each place has its entries
+  pub entries_raised : (p : Place) → entries_at new (raised j p) ≡ entries_at old p
+  entries_raised p = grind (arith, nat_tests, change.changed.below p.stretch, change.changed.above (suc p.stretch) p.stretch (omega arith))
 
-  pub records_lowered : (p : Place) → (p.stretch ≡ j → p.number ≤ s.shared) → records_at old (lowered j p) ≡ records_at new p
-  records_lowered p own =
+  pub entries_lowered : (p : Place) → (p.stretch ≡ j → p.number ≤ s.shared) → entries_at old (lowered j p) ≡ entries_at new p
+  entries_lowered p own =
       grind (arith, nat_tests, change.changed.below p.stretch, λ (high : j ≤ p.stretch). above p.stretch p.number high own)
     where
       above : (q n : ℕ) → j ≤ q → (q ≡ j → n ≤ s.shared) → take n (stretch_list new q) ≡ take n (stretch_list old (q - 1))
@@ -203,12 +203,12 @@ module _ (old new : List Stretch) (j : ℕ) (s : Stretch) (change : IsInserted o
           let back = goes_back (list_before old j) s n in
           grind (arith, down, cases_order (suc q) j, own, change.here.0, back, change.changed.there, change.here.1, change.changed.above (suc q) q (omega arith))
 
--- a place with the same records is within
-pub within_at : (old new : List Stretch) (p q : Place) → q.number ≡ p.number → records_at new q ≡ records_at old p → IsWithin old p → IsWithin new q
-within_at old new p q same records h =
-    omega (arith, length-take q.number (stretch_list new q.stretch), ap length records, length-take p.number (stretch_list old p.stretch), same, h)
+-- a place with the same entries is within
+pub within_at : (old new : List Stretch) (p q : Place) → q.number ≡ p.number → entries_at new q ≡ entries_at old p → IsWithin old p → IsWithin new q
+within_at old new p q same entries h =
+    omega (arith, length-take q.number (stretch_list new q.stretch), ap length entries, length-take p.number (stretch_list old p.stretch), same, h)
 
--- A stretch has more records, or fewer
+-- A stretch has more entries, or fewer
 
 module _ (old new : List Stretch) (j : ℕ) (change : IsReplaced old new j) where
   pub nested_replaced : AreNested old → shared_at old j < length (stretch_list new j) → shared_at old (suc j) ≤ length (stretch_list new j) → length (stretch_list new j) ≤ MOST_STEPS
@@ -217,7 +217,7 @@ module _ (old new : List Stretch) (j : ℕ) (change : IsReplaced old new j) wher
       let then = (change.changed.above (suc j) (suc j) (omega arith) (omega arith)).1 in
       nested_changed old new j 0 change.changed rule (omega (arith, change.shared, some)) few (omega (arith, then, next))
 
-  -- if it begins as before up to the first record of its own, and opens as no later one
+  -- if it begins as before up to the first entry of its own, and opens as no later one
   fresh_replaced : AreFresh old → AreNested new → take (suc (shared_at old j)) (stretch_list old j) ≡ take (suc (shared_at old j)) (stretch_list new j)
       → ((k : ℕ) → j < k → k < length old → IsAlong old k (suc (shared_at old k)) (events (stretch_list new j)) → ⊥) → AreFresh new
   fresh_replaced fresh after opening later =
@@ -258,13 +258,13 @@ module _ (old new : List Stretch) (j : ℕ) (change : IsReplaced old new j) wher
       (omega (arith, (change.changed.above (suc j) (suc j) (omega arith) (omega arith)).1, all))
       (λ k m. (let at : k ≡ i = omega (arith, m.place) in grind (arith, at)))
 
-  records_replaced : (p : Place) → (p.stretch ≡ j → take p.number (stretch_list new j) ≡ take p.number (stretch_list old j)) → records_at new p ≡ records_at old p
-  records_replaced p own = grind (arith, own, cases_order p.stretch j, change.changed.below p.stretch, change.changed.above p.stretch p.stretch (omega arith))
+  entries_replaced : (p : Place) → (p.stretch ≡ j → take p.number (stretch_list new j) ≡ take p.number (stretch_list old j)) → entries_at new p ≡ entries_at old p
+  entries_replaced p own = grind (arith, own, cases_order p.stretch j, change.changed.below p.stretch, change.changed.above p.stretch p.stretch (omega arith))
 
-  pub records_appended : (rest : List Entry) → stretch_list new j ≡ stretch_list old j ++ rest → (p : Place) → IsWithin old p → records_at new p ≡ records_at old p
-  records_appended rest its p h =
-      records_replaced p
+  pub entries_appended : (rest : List Entry) → stretch_list new j ≡ stretch_list old j ++ rest → (p : Place) → IsWithin old p → entries_at new p ≡ entries_at old p
+  entries_appended rest its p h =
+      entries_replaced p
       (λ same. ap (take p.number) its ∙ take-append-le p.number (stretch_list old j) rest (omega (arith, ap (λ (k : ℕ). length (stretch_list old k)) same, h)))
 
-  pub records_cut : (n : ℕ) → stretch_list new j ≡ take n (stretch_list old j) → (p : Place) → (p.stretch ≡ j → p.number ≤ n) → records_at new p ≡ records_at old p
-  records_cut n its p own = records_replaced p (λ same. ap (take p.number) its ∙ take-take p.number n (stretch_list old j) (own same))
+  pub entries_cut : (n : ℕ) → stretch_list new j ≡ take n (stretch_list old j) → (p : Place) → (p.stretch ≡ j → p.number ≤ n) → entries_at new p ≡ entries_at old p
+  entries_cut n its p own = entries_replaced p (λ same. ap (take p.number) its ∙ take-take p.number n (stretch_list old j) (own same))

@@ -4,10 +4,10 @@ use Rattle.std.proofs.Common.{◌≡◌, ℕ, zero, suc, ◌+◌, ◌-◌, ◌<�
 use Rattle.rd_marks.proofs.Prelude.{take-append-add, drop-append-add, cases_lt, cases_eq, append_assoc, take-append-le, take-take, length-take-le, Entry, Stretch, continued, list_after, stretch_list, list_before, shared_at, AreNested}
 use Rattle.std.proofs.lemmas.List.Edits.{length-insert}
 
--- the records of the stretch of this number; none after the last
+-- the entries of the stretch of this number; none after the last
 abbrev pub own_at : List Stretch → ℕ → List Entry
 own_at [] i = []
-own_at (s ∷ ss) zero = s.records.items
+own_at (s ∷ ss) zero = s.entries.items
 own_at (s ∷ ss) (suc i) = own_at ss i
 
 -- the list before the stretch of this number, where the first comes after this list
@@ -29,7 +29,7 @@ splits_after x (s ∷ ss) (suc i) = splits_after (continued x s) ss i ∙ ap (λ
 pub splits : (ss : List Stretch) (i : ℕ) → stretch_list ss i ≡ take (shared_at ss i) (list_before ss i) ++ own_at ss i
 splits ss i = splits_after [] ss i ∙ ap (λ (y : List Entry). take (shared_at ss i) y ++ own_at ss i) (before_is ss i)
 
-pub stretch_there : (ss : List Stretch) (i : ℕ) (d : Stretch) → i < length ss → (shared_at ss i ≡ (get_or ss i d).shared) × (own_at ss i ≡ (get_or ss i d).records.items)
+pub stretch_there : (ss : List Stretch) (i : ℕ) (d : Stretch) → i < length ss → (shared_at ss i ≡ (get_or ss i d).shared) × (own_at ss i ≡ (get_or ss i d).entries.items)
 stretch_there [] i d h = absurd (omega (arith, h))
 stretch_there (s ∷ ss) zero d h = (refl, refl)
 stretch_there (s ∷ ss) (suc i) d h = stretch_there ss i d (omega (arith, h))
@@ -72,18 +72,18 @@ module _ (ss : List Stretch) (rule : AreNested ss) where
       ap (drop n) (splits ss i) ∙ ap (λ (m : ℕ). drop m (front ++ own_at ss i)) parts ∙ drop-append-add front (own_at ss i) (n - shared_at ss i)
 
   -- lists begin alike where all stretches from the one to the other share as much
-  pub shared_records : (i m n : ℕ) → i ≤ m → ((k : ℕ) → i < k → k ≤ m → n ≤ shared_at ss k) → take n (stretch_list ss m) ≡ take n (stretch_list ss i)
-  shared_records i zero n h all = let same : 0 ≡ i = omega (arith, h) in ap (λ (k : ℕ). take n (stretch_list ss k)) same
-  shared_records i (suc m) n h all =
-      let earlier = λ (low : i ≤ m). shared_records i m n low (λ k low high. all k low (omega (arith, high))) in
+  pub shared_entries : (i m n : ℕ) → i ≤ m → ((k : ℕ) → i < k → k ≤ m → n ≤ shared_at ss k) → take n (stretch_list ss m) ≡ take n (stretch_list ss i)
+  shared_entries i zero n h all = let same : 0 ≡ i = omega (arith, h) in ap (λ (k : ℕ). take n (stretch_list ss k)) same
+  shared_entries i (suc m) n h all =
+      let earlier = λ (low : i ≤ m). shared_entries i m n low (λ k low high. all k low (omega (arith, high))) in
       grind (arith, cases_eq (suc m) i, all (suc m), begins_shared (suc m) n, earlier)
 
 -- Lists that differ after what the first stretch shares are followed by the same lists
 
 pub lists_common : (ss : List Stretch) (x y : List Entry) (i : ℕ) → take (shared_at ss 0) x ≡ take (shared_at ss 0) y → list_after x ss i ≡ list_after y ss i
 lists_common [] x y i h = refl
-lists_common (s ∷ ss) x y zero h = ap (λ (z : List Entry). z ++ s.records.items) h
-lists_common (s ∷ ss) x y (suc i) h = ap (λ (z : List Entry). list_after (z ++ s.records.items) ss i) h
+lists_common (s ∷ ss) x y zero h = ap (λ (z : List Entry). z ++ s.entries.items) h
+lists_common (s ∷ ss) x y (suc i) h = ap (λ (z : List Entry). list_after (z ++ s.entries.items) ss i) h
 
 pub goes_back : (x : List Entry) (s : Stretch) (n : ℕ) → n ≤ s.shared → s.shared ≤ length x → take n (continued x s) ≡ take n x
 goes_back x s n h there = grind (arith, take-append-le, length-take-le, take-take)
@@ -206,8 +206,8 @@ module _ (ss : List Stretch) (rule : AreNested ss) (j : ℕ) (h : j < length ss)
       → IsReplaced ss (set ss j t) j × (stretch_list (set ss j t) j ≡ ys)
   replaced_at ys its same = grind (arith, shared_replaced, length-set, here_replaced, before_is, set, others_replaced)
 
-  -- with more records after its own
-  pub appended_at : (rest : List Entry) → t.records.items ≡ own_at ss j ++ rest → IsReplaced ss (set ss j t) j × (stretch_list (set ss j t) j ≡ stretch_list ss j ++ rest)
+  -- with more entries after its own
+  pub appended_at : (rest : List Entry) → t.entries.items ≡ own_at ss j ++ rest → IsReplaced ss (set ss j t) j × (stretch_list (set ss j t) j ≡ stretch_list ss j ++ rest)
   appended_at rest its =
       replaced_at (stretch_list ss j ++ rest)
       ((λ i. take (shared i) (list_before ss j) ++ its i) ∙ sym (append_assoc (take (shared_at ss j) (list_before ss j)) (own_at ss j) rest)
@@ -215,7 +215,7 @@ module _ (ss : List Stretch) (rule : AreNested ss) (j : ℕ) (h : j < length ss)
       (take-append-le (shared_at ss (suc j)) (stretch_list ss j) rest (shared_within ss rule (suc j)))
 
   -- with no more than the first of its own
-  pub cut_at : (n : ℕ) → shared_at ss j ≤ n → shared_at ss (suc j) ≤ n → t.records.items ≡ take (n - shared_at ss j) (own_at ss j)
+  pub cut_at : (n : ℕ) → shared_at ss j ≤ n → shared_at ss (suc j) ≤ n → t.entries.items ≡ take (n - shared_at ss j) (own_at ss j)
       → IsReplaced ss (set ss j t) j × (stretch_list (set ss j t) j ≡ take n (stretch_list ss j))
   cut_at n less next its =
       let front = take (shared_at ss j) (list_before ss j) in

@@ -1,11 +1,11 @@
 -- What growing a list and shrinking a stretch leave, in the words of their contracts.
 use Rattle.std.proofs.Common.{◌≡◌, ℕ, zero, suc, ◌-◌, ◌<◌, ◌≤◌, ◌^◌, inl, inr, refl, sym, ap, ◌∙◌, subst, List, [], ◌∷◌, ◌++◌, length, take, drop, set, insert, remove, length-take, Result, OnOk, OnErr, arith}
-use Rattle.rd_marks.proofs.Prelude.{drop-length, cases_eq, cases_lt, nat_tests, append-nil, length-map, map-append, map-id, take-append-drop, take-map, take_all, MOST_STEPS, Event, Entry, Place, Stretch, Shift, greatest_in, stretch_list, list_before, shared_at, records_at, IsWithin, IsEnd, IsAlong, IsDeepest, AreNested, AreFresh, raised, IsLow, IsGrown, IsShrunk, IsUnchanged}
+use Rattle.rd_marks.proofs.Prelude.{drop-length, cases_eq, cases_lt, nat_tests, append-nil, length-map, map-append, map-id, take-append-drop, take-map, take_all, MOST_STEPS, Event, Entry, Place, Stretch, Shift, greatest_in, stretch_list, list_before, shared_at, entries_at, IsWithin, IsEnd, IsAlong, IsDeepest, AreNested, AreFresh, raised, IsLow, IsGrown, IsShrunk, IsUnchanged}
 use Rattle.rd_step.specs.Run.{events}
 use Rattle.rd_marks.specs.declared.stretches.changes.Shift.TheVariants.{Same, Up, Down}
 use Rattle.rd_marks.proofs.StretchLists.{own_at, shared_within, inserted_at, removed_at, appended_at, cut_at}
 use Rattle.rd_marks.proofs.Fresh.{along_taken}
-use Rattle.rd_marks.proofs.StretchChanges.{greatest_left, within_at, nested_inserted, nested_removed, fresh_inserted, fresh_removed, needed_inserted, needed_removed, records_raised, records_lowered, nested_replaced, fresh_appended, fresh_cut, needed_appended, needed_cut, records_appended, records_cut}
+use Rattle.rd_marks.proofs.StretchChanges.{greatest_left, within_at, nested_inserted, nested_removed, fresh_inserted, fresh_removed, needed_inserted, needed_removed, entries_raised, entries_lowered, nested_replaced, fresh_appended, fresh_cut, needed_appended, needed_cut, entries_appended, entries_cut}
 use Rattle.rd_marks.proofs.Starting.{stretch_within}
 
 -- a place in few stretches has a next number
@@ -23,7 +23,7 @@ pub all_there : (ss : List Stretch) (few : length ss < 2 ^ 64) (at : Place) (liv
     → IsGrown ss ss at live (record { place = at; shift = Same })
 all_there ss few at live within all = record {
   within = within;
-  put = sym (append-nil (records_at ss at)) ∙ (λ i. records_at ss at ++ (sym (drop-length live) ∙ ap (λ (n : ℕ). drop n live) (sym all)) i);
+  put = sym (append-nil (entries_at ss at)) ∙ (λ i. entries_at ss at ++ (sym (drop-length live) ∙ ap (λ (n : ℕ). drop n live) (sym all)) i);
   low = is_low ss few;
   stays = λ p is. record { within = is; same = refl };
   needed = λ places needed i inside.
@@ -31,15 +31,15 @@ all_there ss few at live within all = record {
 }
 
 -- what a change leaves
-pub record Grows (old new : List Stretch) (at : Place) (records : List Entry) (shift : Shift) (place : Place) : Type 0 where
+pub record Grows (old new : List Stretch) (at : Place) (entries : List Entry) (shift : Shift) (place : Place) : Type 0 where
   pub nested : AreNested new
   pub fresh : AreFresh new
-  pub grown : IsGrown old new at records (record { place = place; shift = shift })
+  pub grown : IsGrown old new at entries (record { place = place; shift = shift })
 
 module _ (ss : List Stretch) (few : length ss < 2 ^ 64) (rule : AreNested ss) (fresh : AreFresh ss) (live : List Entry) (most : length live ≤ MOST_STEPS) (at : Place)
     (more : at.number < length live) (along : IsAlong ss at.stretch at.number (events live)) (deepest : IsDeepest ss at.number (events live)) where
   -- at the end of a stretch
-  pub extended : IsEnd ss at → (t : Stretch) → t.shared ≡ shared_at ss at.stretch → t.records.items ≡ own_at ss at.stretch ++ drop at.number live
+  pub extended : IsEnd ss at → (t : Stretch) → t.shared ≡ shared_at ss at.stretch → t.entries.items ≡ own_at ss at.stretch ++ drop at.number live
       → Grows ss (set ss at.stretch t) at live Same (record { stretch = at.stretch; number = length live })
   extended end t shared its =
       let j = at.stretch in
@@ -65,7 +65,7 @@ module _ (ss : List Stretch) (few : length ss < 2 ^ 64) (rule : AreNested ss) (f
           put = take_all (length live) (stretch_list new j) (omega (arith, long)) ∙ list ∙ ap (λ (xs : List Entry). xs ++ rest) (sym whole);
           low = is_low ss few;
           stays = λ p within.
-              (let kept = records_appended ss new j change rest list p within in
+              (let kept = entries_appended ss new j change rest list p within in
               record { within = within_at ss new p p refl kept within; same = kept });
           needed = λ places needed.
               rw (map-id places) (needed_appended ss new j change places (length live) (omega (arith, long)) needed);
@@ -74,17 +74,17 @@ module _ (ss : List Stretch) (few : length ss < 2 ^ 64) (rule : AreNested ss) (f
 
   -- in a new one
   pub branched : IsWithin ss at → (j : ℕ) → j ≤ length ss → (0 < length ss → 0 < j) → shared_at ss j ≤ at.number → at.number ≤ length (list_before ss j)
-      → take at.number (list_before ss j) ≡ records_at ss at → (s : Stretch) → s.shared ≡ at.number → s.records.items ≡ drop at.number live
+      → take at.number (list_before ss j) ≡ entries_at ss at → (s : Stretch) → s.shared ≡ at.number → s.entries.items ≡ drop at.number live
       → Grows ss (insert ss j s) at live (Up j) (record { stretch = j; number = length live })
   branched within j inside first less there begins s shared its =
       let n = at.number in
       let new = insert ss j s in
       let rest = drop n live in
       let change = inserted_at ss j s inside (omega (arith, shared, less)) (omega (arith, shared, there)) in
-      let list : stretch_list new j ≡ records_at ss at ++ rest =
+      let list : stretch_list new j ≡ entries_at ss at ++ rest =
       change.here.0 ∙ (λ i. take (shared i) (list_before ss j) ++ its i) ∙ ap (λ (xs : List Entry). xs ++ rest) begins in
-      let start : events (records_at ss at) ≡ take n (events live) = sym (take-map (λ (x : Entry). x.event) n (stretch_list ss at.stretch)) ∙ along.alike in
-      let same : events (stretch_list new j) ≡ events live = joined_events (records_at ss at) live (stretch_list new j) n list start in
+      let start : events (entries_at ss at) ≡ take n (events live) = sym (take-map (λ (x : Entry). x.event) n (stretch_list ss at.stretch)) ∙ along.alike in
+      let same : events (stretch_list new j) ≡ events live = joined_events (entries_at ss at) live (stretch_list new j) n list start in
       let long : length (stretch_list new j) ≡ length live = sym (length-map (stretch_list new j) (λ (x : Entry). x.event)) ∙ ap length same ∙ length-map live (λ (x : Entry). x.event) in
       let nested = nested_inserted ss new j s change rule (omega (arith, shared, more, long)) (omega (arith, most, long)) in
       record {
@@ -97,18 +97,18 @@ module _ (ss : List Stretch) (few : length ss < 2 ^ 64) (rule : AreNested ss) (f
           put = take_all (length live) (stretch_list new j) (omega (arith, long)) ∙ list;
           low = is_low ss few;
           stays = λ p is.
-              (let kept = records_raised ss new j s change p in
+              (let kept = entries_raised ss new j s change p in
               record { within = within_at ss new p (raised j p) (grind (arith, nat_tests)) kept is; same = kept });
           needed = λ places needed. needed_inserted ss new j s change places (length live) (omega (arith, long)) needed;
         };
       }
     where
       -- the list before it begins with them
-      before : (j : ℕ) → (0 < length ss → 0 < j) → take at.number (list_before ss j) ≡ records_at ss at
+      before : (j : ℕ) → (0 < length ss → 0 < j) → take at.number (list_before ss j) ≡ entries_at ss at
           → {X : Type 0} → ((k : ℕ) → (0 < length ss → k < j) → IsAlong ss k at.number (events live) → X) → X
       before zero first begins go = go 0 (λ some. omega (arith, first some)) (none begins)
         where
-          none : take at.number [] ≡ records_at ss at → IsAlong ss 0 at.number (events live)
+          none : take at.number [] ≡ entries_at ss at → IsAlong ss 0 at.number (events live)
           none h = along_taken ss ss 0 at.stretch at.number (events live) (grind arith) along
       before (suc k) first begins go = go k (λ some. omega arith) (along_taken ss ss k at.stretch at.number (events live) begins along)
 
@@ -132,13 +132,13 @@ module _ (ss : List Stretch) (few : length ss < 2 ^ 64) (rule : AreNested ss) (f
         shrunk = record {
           below = omega (arith, change.changed.count, inside);
           low = is_low ss few;
-          stays = grind (arith, records_lowered, within_at, nat_tests);
+          stays = grind (arith, entries_lowered, within_at, nat_tests);
           needed = λ places needed its. needed_removed new ss j s change places needed;
         };
       }
 
-  -- one whose records stay
-  pub same_left : (t : Stretch) → t.shared ≡ shared_at ss j → t.records.items ≡ own_at ss j → AreNested (set ss j t) × AreFresh (set ss j t) × IsUnchanged ss (set ss j t)
+  -- one whose entries stay
+  pub same_left : (t : Stretch) → t.shared ≡ shared_at ss j → t.entries.items ≡ own_at ss j → AreNested (set ss j t) × AreFresh (set ss j t) × IsUnchanged ss (set ss j t)
   same_left t shared its =
       let new = set ss j t in
       let both = appended_at ss rule j inside t shared [] (its ∙ sym (append-nil (own_at ss j))) in
@@ -162,7 +162,7 @@ module _ (ss : List Stretch) (few : length ss < 2 ^ 64) (rule : AreNested ss) (f
       )
 
   -- one of which some are left
-  pub left : (n : ℕ) → shared_at ss (suc j) ≤ n → shared_at ss j < n → (t : Stretch) → t.shared ≡ shared_at ss j → t.records.items ≡ take (n - shared_at ss j) (own_at ss j) → Shrinks ss (set ss j t) j n Same
+  pub left : (n : ℕ) → shared_at ss (suc j) ≤ n → shared_at ss j < n → (t : Stretch) → t.shared ≡ shared_at ss j → t.entries.items ≡ take (n - shared_at ss j) (own_at ss j) → Shrinks ss (set ss j t) j n Same
   left n next some t shared its =
       let new = set ss j t in
       let both = cut_at ss rule j inside t shared n (omega (arith, some)) next its in
@@ -177,12 +177,12 @@ module _ (ss : List Stretch) (few : length ss < 2 ^ 64) (rule : AreNested ss) (f
         shrunk = record {
           below = omega (arith, change.changed.count, inside);
           low = is_low ss few;
-          stays = grind (arith, records_cut, within_at);
+          stays = grind (arith, entries_cut, within_at);
           needed = λ places needed its. rw (map-id places) (needed_cut ss new j change places (omega (arith, long, its)) needed);
         };
       }
 
--- records were put at the end of a stretch, or not
-pub extended_or_not : {X Y : Type 0} (r : Result X Y) (P : Type 0) (own more records : List Entry) → OnOk r (records ≡ own ++ more) → OnErr r (records ≡ own)
-    → (records ≡ own ++ more → P) → (records ≡ own → P) → P
-extended_or_not r h own more records ok err f g = grind arith
+-- entries were put at the end of a stretch, or not
+pub extended_or_not : {X Y : Type 0} (r : Result X Y) (P : Type 0) (own more entries : List Entry) → OnOk r (entries ≡ own ++ more) → OnErr r (entries ≡ own)
+    → (entries ≡ own ++ more → P) → (entries ≡ own → P) → P
+extended_or_not r h own more entries ok err f g = grind arith

@@ -1,4 +1,4 @@
--- How many different lists begin the events of some mark, and which need no record that is not
+-- How many different lists begin the events of some mark, and which need no entry that is not
 -- there.
 use Rattle.std.specs.Prelude.{◌≡◌, ◌↔◌, ℕ, ◌<◌, List, [], ◌∷◌, length}
 use Rattle.std.specs.List.{Contains}
@@ -25,7 +25,7 @@ pub record CountsBeginnings (marks : List Mark) (count : ℕ) : Type 0 where
   pub all : (es : List Event) → Contains lists es ↔ IsBeginning marks es
   pub counted : count ≡ length lists
 
--- setting a mark at these events needs no new record: if there are any, they begin those of some
+-- setting a mark at these events needs no new entry: if there are any, they begin those of some
 -- mark
-abbrev pub NeedsNoRecord : List Mark → List Event → Type 0
-NeedsNoRecord marks es = 0 < length es → IsBeginning marks es
+abbrev pub NeedsNoEntry : List Mark → List Event → Type 0
+NeedsNoEntry marks es = 0 < length es → IsBeginning marks es

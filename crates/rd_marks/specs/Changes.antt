@@ -6,37 +6,37 @@ use Rattle.rd_marks.specs.declared.stretches.Stretch.{Stretch}
 use Rattle.rd_marks.specs.declared.stretches.changes.Grown.{Grown}
 use Rattle.rd_marks.specs.declared.stretches.changes.Shift.{Shift}
 use Rattle.rd_marks.specs.declared.stretches.changes.Shift.TheVariants.{Same, Up, Down}
-use Rattle.rd_marks.specs.Stretches.{records_at, needed_at, IsWithin, AreNeeded, AreNeededFrom, raised, lowered}
+use Rattle.rd_marks.specs.Stretches.{entries_at, needed_at, IsWithin, AreNeeded, AreNeededFrom, raised, lowered}
 
--- the place of the same records after the stretches got other numbers
+-- the place of the same entries after the stretches got other numbers
 abbrev pub shifted : Shift → Place → Place
 shifted Same p = p
 shifted (Up i) p = raised i p
 shifted (Down i) p = lowered i p
 
--- the number of a place's stretch, if the place has records, has a successor below 2^64
+-- the number of a place's stretch, if the place has entries, has a successor below 2^64
 abbrev pub IsLow : Place → Type 0
 IsLow p = 0 < p.number → suc p.stretch < 2 ^ 64
 
--- a place, shifted as its stretch was, has the records that it had
+-- a place, shifted as its stretch was, has the entries that it had
 pub record Stays (old new : List Stretch) (shift : Shift) (p : Place) : Type 0 where
   pub within : IsWithin new (shifted shift p)
-  pub same : records_at new (shifted shift p) ≡ records_at old p
+  pub same : entries_at new (shifted shift p) ≡ entries_at old p
 
--- all places have the records that they had, and stretches that were needed are still needed
+-- all places have the entries that they had, and stretches that were needed are still needed
 pub record IsUnchanged (old new : List Stretch) : Type 0 where
   pub stays : (p : Place) → IsWithin old p → Stays old new Same p
   pub needed : (places : List Place) → AreNeeded old places → AreNeeded new places
 
--- the stretches grew: the records of a place are there, with the new records after them
-pub record IsGrown (old new : List Stretch) (at : Place) (records : List Entry) (grown : Grown) : Type 0 where
+-- the stretches grew: the entries of a place are there, with the new entries after them
+pub record IsGrown (old new : List Stretch) (at : Place) (entries : List Entry) (grown : Grown) : Type 0 where
   pub within : IsWithin new grown.place
-  pub put : records_at new grown.place ≡ records_at old at ++ drop at.number records
+  pub put : entries_at new grown.place ≡ entries_at old at ++ drop at.number entries
   pub low : (p : Place) → IsWithin old p → IsLow p
   pub stays : (p : Place) → IsWithin old p → Stays old new grown.shift p
   pub needed : (places : List Place) → AreNeeded old places → AreNeeded new (map (shifted grown.shift) places ++ grown.place ∷ [])
 
--- stretch i was cut to the first n records of its list, or taken away
+-- stretch i was cut to the first n entries of its list, or taken away
 pub record IsShrunk (old new : List Stretch) (i n : ℕ) (shift : Shift) : Type 0 where
   pub below : i ≤ length new
   pub low : (p : Place) → IsWithin old p → IsLow p

@@ -13,7 +13,7 @@ use Rattle.rd_marks.specs.declared.commands.Command.{Command}
 use Rattle.rd_marks.specs.declared.commands.Command.TheVariants.{Enq, Deq, ArrayEnq, ArrayDeq, Go, Starve, Undo, UndoAt, Roll, Back, Redo, Forward, Mark, DropMark, GotoMark, Marks, MarkAt, Same, Origin, Writer, Show, Actor, Step, Len}
 use Rattle.rd_marks.specs.declared.replies.Reply.{Reply}
 use Rattle.rd_marks.specs.declared.replies.Reply.TheVariants.{Applied, At, Marked, Dropped, Marks as MarksAre, Mark as MarkIs, Same as SameIs, Origin as OriginIs, Writer as WriterIs, Content as ContentIs, Actor as ActorIs, Step as StepIs}
-use Rattle.rd_marks.specs.Beginnings.{NeedsNoRecord}
+use Rattle.rd_marks.specs.Beginnings.{NeedsNoEntry}
 use Rattle.rd_marks.specs.Books.{BookState, with_session, marked_events, mark, drop_mark, goto_mark, mark_at, MakesSteps, AnswersSame}
 
 -- what a command answers, and the state after it
@@ -70,15 +70,15 @@ abbrev pub words_in : ℕ → Result Ran Refusal → Result Words Refusal
 words_in n (Err refusal) = Err refusal
 words_in n (Ok ran) = ok_or (ran.world.actor n) NoActor
 
--- the record of this number, from 1
-abbrev pub record_at : List Entry → ℕ → Result Entry Refusal
-record_at entries zero = Err (NoSuchStep (length entries))
-record_at entries (suc k) = ok_or (slice_get entries k) (NoSuchStep (length entries))
+-- the entry of this number, from 1
+abbrev pub entry_at : List Entry → ℕ → Result Entry Refusal
+entry_at entries zero = Err (NoSuchStep (length entries))
+entry_at entries (suc k) = ok_or (slice_get entries k) (NoSuchStep (length entries))
 
--- the record of this number in a run
-abbrev pub record_in : ℕ → Result Ran Refusal → Result Entry Refusal
-record_in k (Err refusal) = Err refusal
-record_in k (Ok ran) = record_at ran.entries k
+-- the entry of this number in a run
+abbrev pub entry_in : ℕ → Result Ran Refusal → Result Entry Refusal
+entry_in k (Err refusal) = Err refusal
+entry_in k (Ok ran) = entry_at ran.entries k
 
 -- the answer to an event that happens in the last world of the live events, and the state after it
 abbrev pub happens : ℕ → BookState → Event → Answered
@@ -95,9 +95,9 @@ abbrev pub IsMade : BookState → (BookState → Reply) → Result BookState Ref
 IsMade b reply made AsksForRoom answered = (answered ≡ mark_answer b reply made) ⊎ (AsksForRoom × (answered ≡ refused b NoMemory))
 
 -- a command to set a mark needs no memory: nothing else refuses it, there is room for this many
--- more names, of which it takes one, and it needs no new record
+-- more names, of which it takes one, and it needs no new entry
 abbrev pub NeedsNoMemory : BookState → ℕ → Command → Type 0
-NeedsNoMemory b room (Mark name) = IsOk (mark b name) × (0 < room) × NeedsNoRecord b.marks b.session.live
+NeedsNoMemory b room (Mark name) = IsOk (mark b name) × (0 < room) × NeedsNoEntry b.marks b.session.live
 NeedsNoMemory b room _ = ⊥
 
 -- the comparison of two marks may be answered so, and leaves the state as it is
@@ -130,7 +130,7 @@ IsObeyed R b (Origin k) answered = answered ≡ query_answer b (reply_with (λ f
 IsObeyed R b (Writer place) answered = answered ≡ query_answer b (reply_with (λ writer. WriterIs writer) (last_writer_in place (run_of R b.session)))
 IsObeyed R b (Show place) answered = answered ≡ query_answer b (reply_with (λ content. ContentIs content) (content_in place (run_of R b.session)))
 IsObeyed R b (Actor n) answered = answered ≡ query_answer b (reply_with (λ words. ActorIs words) (words_in n (run_of R b.session)))
-IsObeyed R b (Step k) answered = answered ≡ query_answer b (reply_with (λ entry. StepIs k entry) (record_in k (run_of R b.session)))
+IsObeyed R b (Step k) answered = answered ≡ query_answer b (reply_with (λ entry. StepIs k entry) (entry_in k (run_of R b.session)))
 IsObeyed R b Len answered = answered ≡ query_answer b (Ok (step_counts b.session))
 
 -- commands, one after another, may be answered so, and leave this last state

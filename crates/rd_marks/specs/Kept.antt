@@ -1,4 +1,4 @@
--- A view of a book's bookmarks: each name with its records, and the records with which the
+-- A view of a book's bookmarks: each name with its entries, and the entries with which the
 -- session's track begins.
 use Rattle.std.specs.Prelude.{List}
 use Rattle.rd_step.specs.declared.entries.Entry.{Entry}
@@ -6,20 +6,20 @@ use Rattle.rd_marks.specs.declared.names.MarkName.{MarkName}
 use Rattle.rd_marks.specs.declared.stretches.Place.{Place}
 use Rattle.rd_marks.specs.declared.bookmarks.Bookmarks.{Bookmarks}
 use Rattle.rd_marks.specs.Layout.{named_lists}
-use Rattle.rd_marks.specs.Stretches.{records_at, IsWithin}
+use Rattle.rd_marks.specs.Stretches.{entries_at, IsWithin}
 
--- each name of a bookmark with its records
+-- each name of a bookmark with its entries
 abbrev pub lists_in : Bookmarks → List (MarkName × List Entry)
 lists_in b = named_lists b.stretches.list.items b.names.entries
 
--- the records of a place
-abbrev pub records_in : Bookmarks → Place → List Entry
-records_in b p = records_at b.stretches.list.items p
+-- the entries of a place
+abbrev pub entries_in : Bookmarks → Place → List Entry
+entries_in b p = entries_at b.stretches.list.items p
 
 -- a place is one that these bookmarks have
 abbrev pub IsPlaceIn : Bookmarks → Place → Type 0
 IsPlaceIn b p = IsWithin b.stretches.list.items p
 
--- the records with which the session's track begins
+-- the entries with which the session's track begins
 abbrev pub here_in : Bookmarks → List Entry
-here_in b = records_in b b.here
+here_in b = entries_in b b.here

@@ -1,5 +1,5 @@
--- How a book keeps its bookmarks: the place of the records of each, which are those of a run from
--- the session's start; and no record is kept that no bookmark needs.
+-- How a book keeps its bookmarks: the place of the entries of each, which are those of a run from
+-- the session's start; and no entry is kept that no bookmark needs.
 use Rattle.std.specs.Prelude.{◌≡◌, ℕ, ◌≤◌, List, map, length}
 use Rattle.std.specs.List.{All}
 use Rattle.rd_step.specs.Prelude.{World, MOST_STEPS}
@@ -10,38 +10,38 @@ use Rattle.rd_marks.specs.declared.names.MarkName.{MarkName}
 use Rattle.rd_marks.specs.declared.stretches.Place.{Place}
 use Rattle.rd_marks.specs.declared.stretches.Stretch.{Stretch}
 use Rattle.rd_marks.specs.NameBytes.{MOST_MARKS}
-use Rattle.rd_marks.specs.Stretches.{records_at, IsWithin, AreNeeded, AreNeededFrom}
+use Rattle.rd_marks.specs.Stretches.{entries_at, IsWithin, AreNeeded, AreNeededFrom}
 
--- the records are those of the run of their events from the start, no more than may be live
-pub record IsRecordOfRun (R : ℕ) (start : World) (records : List Entry) : Type 0 where
-  pub few : length records ≤ MOST_STEPS
-  pub ran : IsRunFrom R start records
+-- the entries are those of the run of their events from the start, no more than may be live
+pub record AreEntriesOfRun (R : ℕ) (start : World) (entries : List Entry) : Type 0 where
+  pub few : length entries ≤ MOST_STEPS
+  pub ran : IsRunFrom R start entries
 
--- each name with its records
+-- each name with its entries
 abbrev pub named_lists : List Stretch → List (MarkName × Place) → List (MarkName × List Entry)
-named_lists ss names = map (λ m. (m.0, records_at ss m.1)) names
+named_lists ss names = map (λ m. (m.0, entries_at ss m.1)) names
 
--- the records of each name are those of a run from the start
+-- the entries of each name are those of a run from the start
 abbrev pub AreRuns : ℕ → World → List (MarkName × List Entry) → Type 0
-AreRuns R start lists = All (λ l. IsRecordOfRun R start l.1) lists
+AreRuns R start lists = All (λ l. AreEntriesOfRun R start l.1) lists
 
 -- the places of the names
 abbrev pub places_of : List (MarkName × Place) → List Place
 places_of names = map (λ m. m.1) names
 
--- how bookmarks are kept: they are no more than there may be, the records of each are there, as are
--- those with which the session's track begins, and no record is kept that no bookmark needs
+-- how bookmarks are kept: they are no more than there may be, the entries of each are there, as are
+-- those with which the session's track begins, and no entry is kept that no bookmark needs
 pub record IsKept (ss : List Stretch) (names : List (MarkName × Place)) (here : Place) : Type 0 where
   pub few : length names ≤ MOST_MARKS
   pub within : All (λ m. IsWithin ss m.1) names
   pub needed : AreNeeded ss (places_of names)
   pub lies : IsWithin ss here
 
--- stretches from this one on were shrunk to what is needed: the bookmarks have their records, and
--- any other place has a beginning of the records that it had
+-- stretches from this one on were shrunk to what is needed: the bookmarks have their entries, and
+-- any other place has a beginning of the entries that it had
 pub record IsPruned (from : ℕ) (old new : List Stretch) (names left : List (MarkName × Place)) (here there : Place) : Type 0 where
   pub lists : named_lists new left ≡ named_lists old names
   pub within : All (λ m. IsWithin new m.1) left
   pub needed : AreNeededFrom from new (places_of left)
   pub lies : IsWithin new there
-  pub begins : Begins (records_at new there) (records_at old here)
+  pub begins : Begins (entries_at new there) (entries_at old here)

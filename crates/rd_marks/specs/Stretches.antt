@@ -1,5 +1,5 @@
--- How the records of the bookmarks are kept: by front coding. Each stretch has the number of
--- records that its list shares with the list of the stretch before it, and has the rest.
+-- How the entries of the bookmarks are kept: by front coding. Each stretch has the number of
+-- entries that its list shares with the list of the stretch before it, and has the rest.
 use Rattle.std.specs.Prelude.{◌≡◌, ◌==◌, if◌then◌else◌, ℕ, zero, suc, ◌+◌, ◌-◌, ◌<◌, ◌≤◌, nat_le, max, List, [], ◌∷◌, ◌++◌, length, take}
 use Rattle.rd_step.specs.Prelude.{MOST_STEPS}
 use Rattle.rd_step.specs.Run.{events}
@@ -9,18 +9,18 @@ use Rattle.rd_depend.specs.Beginnings.{Begins}
 use Rattle.rd_marks.specs.declared.stretches.Stretch.{Stretch}
 use Rattle.rd_marks.specs.declared.stretches.Place.{Place}
 
--- the list of records of a stretch, where this is the list of the stretch before it
+-- the list of entries of a stretch, where this is the list of the stretch before it
 abbrev pub continued : List Entry → Stretch → List Entry
-continued before s = take s.shared before ++ s.records.items
+continued before s = take s.shared before ++ s.entries.items
 
--- the list of records of the stretch of this number, where this list comes before the first
+-- the list of entries of the stretch of this number, where this list comes before the first
 -- stretch; empty after the last one
 abbrev pub list_after : List Entry → List Stretch → ℕ → List Entry
 list_after before [] i = []
 list_after before (s ∷ ss) zero = continued before s
 list_after before (s ∷ ss) (suc i) = list_after (continued before s) ss i
 
--- the list of records of the stretch of this number, from 0
+-- the list of entries of the stretch of this number, from 0
 abbrev pub stretch_list : List Stretch → ℕ → List Entry
 stretch_list ss i = list_after [] ss i
 
@@ -29,31 +29,31 @@ abbrev pub list_before : List Stretch → ℕ → List Entry
 list_before ss zero = []
 list_before ss (suc i) = stretch_list ss i
 
--- how many records the list of this stretch shares with the one before it; none after the last
+-- how many entries the list of this stretch shares with the one before it; none after the last
 -- stretch
 abbrev pub shared_at : List Stretch → ℕ → ℕ
 shared_at [] i = 0
 shared_at (s ∷ ss) zero = s.shared
 shared_at (s ∷ ss) (suc i) = shared_at ss i
 
--- the records up to a place
-abbrev pub records_at : List Stretch → Place → List Entry
-records_at ss p = take p.number (stretch_list ss p.stretch)
+-- the entries up to a place
+abbrev pub entries_at : List Stretch → Place → List Entry
+entries_at ss p = take p.number (stretch_list ss p.stretch)
 
--- the list of the place's stretch has at least as many records as the place
+-- the list of the place's stretch has at least as many entries as the place
 abbrev pub IsWithin : List Stretch → Place → Type 0
 IsWithin ss p = p.number ≤ length (stretch_list ss p.stretch)
 
--- the place is the end of its stretch's list: all records of that
+-- the place is the end of its stretch's list: all entries of that
 pub record IsEnd (ss : List Stretch) (p : Place) : Type 0 where
   pub there : p.stretch < length ss
   pub all : p.number ≡ length (stretch_list ss p.stretch)
 
--- the last record of a place is its stretch's own, and not shared
+-- the last entry of a place is its stretch's own, and not shared
 abbrev pub IsOwn : List Stretch → Place → Type 0
 IsOwn ss p = 0 < p.stretch → shared_at ss p.stretch < p.number
 
--- each stretch shares no more records than there are, has at least one of its own, and its list is
+-- each stretch shares no more entries than there are, has at least one of its own, and its list is
 -- no longer than may be
 pub record AreNested (ss : List Stretch) : Type 0 where
   pub within : (i : ℕ) → i < length ss → shared_at ss i ≤ length (list_before ss i)
@@ -69,25 +69,25 @@ opening ss i = take (suc (shared_at ss i)) (events (stretch_list ss i))
 abbrev pub AreFresh : List Stretch → Type 0
 AreFresh ss = (i j : ℕ) → j < i → i < length ss → Begins (opening ss i) (events (stretch_list ss j)) → ⊥
 
--- the number of records of a place if it is in this stretch, else 0
+-- the number of entries of a place if it is in this stretch, else 0
 abbrev pub number_if_in : ℕ → Place → ℕ
 number_if_in i p = if p.stretch == i then p.number else 0
 
--- the greatest number of records of the places in this stretch; 0 if none is
+-- the greatest number of entries of the places in this stretch; 0 if none is
 abbrev pub greatest_in : ℕ → List Place → ℕ
 greatest_in i [] = 0
 greatest_in i (p ∷ ps) = max (number_if_in i p) (greatest_in i ps)
 
--- how many records of a stretch's list are needed: by the next stretch, which shares them, or up to
+-- how many entries of a stretch's list are needed: by the next stretch, which shares them, or up to
 -- a place
 abbrev pub needed_at : List Stretch → List Place → ℕ → ℕ
 needed_at ss places i = max (shared_at ss (suc i)) (greatest_in i places)
 
--- all records of each stretch's list are needed
+-- all entries of each stretch's list are needed
 abbrev pub AreNeeded : List Stretch → List Place → Type 0
 AreNeeded ss places = (i : ℕ) → i < length ss → length (stretch_list ss i) ≤ needed_at ss places i
 
--- all records of the lists of the stretches from this one on are needed
+-- all entries of the lists of the stretches from this one on are needed
 abbrev pub AreNeededFrom : ℕ → List Stretch → List Place → Type 0
 AreNeededFrom k ss places = (i : ℕ) → k ≤ i → i < length ss → length (stretch_list ss i) ≤ needed_at ss places i
 
@@ -100,16 +100,16 @@ pub record IsAlong (ss : List Stretch) (i n : ℕ) (es : List Event) : Type 0 wh
 abbrev pub IsDeepest : List Stretch → ℕ → List Event → Type 0
 IsDeepest ss n es = (i : ℕ) → i < length ss → IsAlong ss i (suc n) es → ⊥
 
--- the place of the same records after a stretch was put before that of this number
+-- the place of the same entries after a stretch was put before that of this number
 abbrev pub raised : ℕ → Place → Place
 raised j p = if p.number == 0 then p else if nat_le j p.stretch then record { stretch = suc p.stretch; number = p.number } else p
 
--- the place of the same records after the stretch of this number was taken away, none of whose own
--- records it had
+-- the place of the same entries after the stretch of this number was taken away, none of whose own
+-- entries it had
 abbrev pub lowered : ℕ → Place → Place
 lowered j p = if nat_le j p.stretch then record { stretch = p.stretch - 1; number = p.number } else p
 
--- how many records the stretches have in all
+-- how many entries the stretches have in all
 abbrev pub count_of : List Stretch → ℕ
 count_of [] = 0
-count_of (s ∷ ss) = length s.records.items + count_of ss
+count_of (s ∷ ss) = length s.entries.items + count_of ss

@@ -1,4 +1,4 @@
-//! The bookmarks: their names in the order in which they were set, each with where its records are,
+//! The bookmarks: their names in the order in which they were set, each with where its entries are,
 //! and where the session's track lies among those.
 
 ghost use Rattle.std.specs.Prelude.{◌≡◌, ◌<◌, ◌≤◌, ◌++◌, [], ◌∷◌, None, map, length, slice_get, is_some, option_map, IsOk, IfOk, IfSome, OnOk, OnErr};
@@ -29,18 +29,18 @@ use std::alloc::{AllocError, Global};
 /// The bookmarks.
 #[derive(Drop)]
 pub(crate) struct Bookmarks {
-    /// The place of each bookmark's records.
+    /// The place of each bookmark's entries.
     names: IndexMap<MarkName, Place>,
     stretches: Stretches,
-    /// The place of records whose steps begin the session's track, which is the live steps with
+    /// The place of entries whose steps begin the session's track, which is the live steps with
     /// those ahead of them. Setting a bookmark and going to one begin there, and not at the start.
     here: Place,
     ghost kept: { IsKept stretches.list.items names.entries here },
 }
 
 impl Bookmarks {
-    ghost use Rattle.rd_marks.specs.Beginnings.{CountsBeginnings, NeedsNoRecord};
-    ghost use Rattle.rd_marks.specs.Kept.{lists_in, records_in, here_in, IsPlaceIn};
+    ghost use Rattle.rd_marks.specs.Beginnings.{CountsBeginnings, NeedsNoEntry};
+    ghost use Rattle.rd_marks.specs.Kept.{lists_in, entries_in, here_in, IsPlaceIn};
     ghost use Rattle.rd_marks.specs.Layout.{AreRuns};
     ghost use Rattle.rd_marks.specs.Marks.{marks_of};
     ghost use Rattle.rd_marks.specs.Names.{same_name};
@@ -66,16 +66,16 @@ impl Bookmarks {
         self.names.len()
     }
 
-    /// Returns how many records are kept for all bookmarks.
+    /// Returns how many entries are kept for all bookmarks.
     pub(crate) fn nodes(&self) -> usize
         ensures { CountsBeginnings (marks_of (lists_in self.now)) result }
     {
-        self.stretches.records()
+        self.stretches.entries()
     }
 
-    /// Returns the place of the records of the bookmark of this name, if there is one.
+    /// Returns the place of the entries of the bookmark of this name, if there is one.
     pub(crate) fn find(&self, name: &MarkName) -> Option<Place>
-        ensures found { option_map (λ place. records_in self.now place) result ≡ lookup (same_name name.now) (lists_in self.now) }
+        ensures found { option_map (λ place. entries_in self.now place) result ≡ lookup (same_name name.now) (lists_in self.now) }
         ensures within { IfSome result (λ place. IsPlaceIn self.now place) }
     {
         match self.names.get(name) {
@@ -84,10 +84,10 @@ impl Bookmarks {
         }
     }
 
-    /// Returns the name of the bookmark at this index, from 0, and the place of its records, if
+    /// Returns the name of the bookmark at this index, from 0, and the place of its entries, if
     /// there is one.
     pub(crate) fn at(&self, index: usize) -> Option<(MarkName, Place)>
-        ensures found { option_map (λ m. (m.0, records_in self.now m.1)) result ≡ slice_get (lists_in self.now) index }
+        ensures found { option_map (λ m. (m.0, entries_in self.now m.1)) result ≡ slice_get (lists_in self.now) index }
         ensures within { IfSome result (λ m. IsPlaceIn self.now m.1) }
     {
         match self.names.get_index(index) {
@@ -96,29 +96,29 @@ impl Bookmarks {
         }
     }
 
-    /// The event of this number, from 1, of the records of a place, if there is one.
+    /// The event of this number, from 1, of the entries of a place, if there is one.
     pub(crate) fn event_at(&self, of: Place, n: u64) -> Option<Event>
         requires { IsPlaceIn self.now of }
-        ensures { result ≡ numbered (events (records_in self.now of)) n }
+        ensures { result ≡ numbered (events (entries_in self.now of)) n }
     {
         self.stretches.event_at(of, n)
     }
 
-    /// The events of the records of a place.
+    /// The events of the entries of a place.
     ///
     /// # Errors
     ///
     /// `AllocError` if memory was refused for them, which never happens if there are none.
     pub(crate) fn events(&self, alloc: Global, of: Place) -> Result<Vec<Event>, AllocError>
         requires { IsPlaceIn self.now of }
-        ensures ok { IfOk result (λ list. list.items ≡ events (records_in self.now of)) }
+        ensures ok { IfOk result (λ list. list.items ≡ events (entries_in self.now of)) }
         ensures succeeds { of.number ≡ 0 → IsOk result }
     {
         self.stretches.events(alloc, of)
     }
 
     /// Sets a bookmark of this name, which none has, at the live steps. It is the last one. Those
-    /// of its records that are kept already stay. All memory for the others is asked for before the
+    /// of its entries that are kept already stay. All memory for the others is asked for before the
     /// first is put.
     ///
     /// # Errors
@@ -138,7 +138,7 @@ impl Bookmarks {
         ensures ok { OnOk result (lists_in self.new ≡ lists_in self.old ++ (name, (journal session.now).live) ∷ []) }
         ensures runs { AreRuns R (state session.now).start (lists_in self.new) }
         ensures stands { Begins (events (here_in self.new)) (track session.now) }
-        ensures succeeds { 0 < spare self.old.names → NeedsNoRecord (marks_of (lists_in self.old)) (state session.now).live → IsOk result }
+        ensures succeeds { 0 < spare self.old.names → NeedsNoEntry (marks_of (lists_in self.old)) (state session.now).live → IsOk result }
         ensures unchanged { OnErr result (lists_in self.new ≡ lists_in self.old) }
     {
         let live = session.live();
@@ -150,7 +150,7 @@ impl Bookmarks {
         Ok(())
     }
 
-    /// Drops the bookmark of this name, and gives back the records that no other one has. The
+    /// Drops the bookmark of this name, and gives back the entries that no other one has. The
     /// others keep their order. Returns whether there was one. It takes no memory.
     pub(crate) fn drop(&mut self, name: &MarkName) -> bool
         ensures found { result ≡ is_some (lookup (same_name name.now) (lists_in self.old)) }
@@ -166,7 +166,7 @@ impl Bookmarks {
         }
     }
 
-    /// Whether the records of two places are of equivalent events. What they have in common is not
+    /// Whether the entries of two places are of equivalent events. What they have in common is not
     /// looked at.
     ///
     /// # Errors
@@ -181,15 +181,15 @@ impl Bookmarks {
     ) -> Result<bool, AllocError>
         requires one { IsPlaceIn self.now one }
         requires other { IsPlaceIn self.now other }
-        ensures answer { IfOk result (DecidesEquivalence (records_in self.now one) (records_in self.now other)) }
-        ensures memory { OnErr result (NeitherIsPrefix (events (records_in self.now one)) (events (records_in self.now other))) }
+        ensures answer { IfOk result (DecidesEquivalence (entries_in self.now one) (entries_in self.now other)) }
+        ensures memory { OnErr result (NeitherIsPrefix (events (entries_in self.now one)) (events (entries_in self.now other))) }
     {
         let shared = self.stretches.common(one, other);
         if shared == one.number || shared == other.number {
             return Ok(one.number == other.number);
         }
-        let ones = self.stretches.records_behind(alloc, one, shared)?;
-        let others = self.stretches.records_behind(alloc, other, shared)?;
+        let ones = self.stretches.entries_behind(alloc, one, shared)?;
+        let others = self.stretches.entries_behind(alloc, other, shared)?;
         are_equivalent(alloc, &ones, &others)
     }
 

@@ -1,6 +1,6 @@
 //! A book: a session with bookmarks, in the order in which they were set.
 //!
-//! A mark keeps the records of the steps that were live when it was set, which are those of a run
+//! A mark keeps the entries of the steps that were live when it was set, which are those of a run
 //! from the session's start. Nothing outside this crate depends on that.
 //!
 //! The calls of a book are here; what each command answers is in `books/`: `obeying` has the
@@ -51,7 +51,7 @@ impl<const R: usize> Drop for Book<R> {
 }
 
 impl<const R: usize> Book<R> {
-    ghost use Rattle.rd_marks.specs.Beginnings.{CountsBeginnings, NeedsNoRecord};
+    ghost use Rattle.rd_marks.specs.Beginnings.{CountsBeginnings, NeedsNoEntry};
     ghost use Rattle.rd_marks.specs.BookViews.{book_state, name_room};
     ghost use Rattle.rd_marks.specs.Rules.{KeepsRules};
     ghost use Rattle.rd_marks.specs.Books.{marked_events, mark, drop_mark, goto_mark, mark_at, MakesSteps, AnswersSame};
@@ -80,7 +80,7 @@ impl<const R: usize> Book<R> {
     /// # Errors
     ///
     /// In this order: `MarkTaken` if there is one of that name; `TooManyMarks` if there are
-    /// `MOST_MARKS`; `NoMemory` if the room for its records or for its name was refused, so not if
+    /// `MOST_MARKS`; `NoMemory` if the room for its entries or for its name was refused, so not if
     /// there is room for a name, and the live steps are none or begin those of a bookmark. Nothing
     /// has changed then.
     pub fn mark(&mut self, name: MarkName) -> Result<(), Refusal>
@@ -88,7 +88,7 @@ impl<const R: usize> Book<R> {
         ensures err { IfErr result (λ refusal. (mark (book_state self.old) name ≡ Err refusal)
             ⊎ ((refusal ≡ Refusal.NoMemory) × IsOk (mark (book_state self.old) name))) }
         ensures succeeds { IsOk (mark (book_state self.old) name) → 0 < name_room self.old
-            → NeedsNoRecord (book_state self.old).marks (book_state self.old).session.live → IsOk result }
+            → NeedsNoEntry (book_state self.old).marks (book_state self.old).session.live → IsOk result }
         ensures unchanged { OnErr result (book_state self.new ≡ book_state self.old) }
     {
         if self.bookmarks.find(&name).is_some() {
@@ -174,7 +174,7 @@ impl<const R: usize> Book<R> {
     }
 
     /// Returns the number of different lists, except the empty one, that begin the steps of some
-    /// bookmark. This many records are kept for the bookmarks. It takes no memory.
+    /// bookmark. This many entries are kept for the bookmarks. It takes no memory.
     pub fn nodes(&self) -> u64
         ensures { CountsBeginnings (book_state self.now).marks result }
     {

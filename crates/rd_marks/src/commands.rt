@@ -56,7 +56,7 @@ pub enum Command {
     Show(Place),
     /// `actor A`: the words of the actor.
     Actor(u8),
-    /// `step K`: the record of the live step of this number.
+    /// `step K`: the entry of the live step of this number.
     Step(u64),
     /// `len`: how many steps are live and how many are undone.
     Len,

@@ -50,7 +50,7 @@ pub enum Reply {
     Step {
         /// Its number, from 1.
         number: u64,
-        /// Its record.
+        /// Its entry.
         entry: Entry,
     },
 }

@@ -1,8 +1,8 @@
-//! The records of the bookmarks, by front coding: each stretch has the number of records that its
+//! The entries of the bookmarks, by front coding: each stretch has the number of entries that its
 //! list shares with the list of the stretch before it, and the rest. So lists that begin alike
 //! share what they have in common.
 //!
-//! A place is a number of records from the start, of the list of one stretch. No list goes on as
+//! A place is a number of entries from the start, of the list of one stretch. No list goes on as
 //! one before it does where it no longer shares, so what two places have in common is known by the
 //! numbers that the stretches between them share.
 
@@ -22,30 +22,30 @@ use std::alloc::Global;
 /// The part of a list that is not shared with the one before it.
 #[derive(Drop)]
 struct Stretch {
-    /// How many records its list shares with the list of the stretch before it; the first one
+    /// How many entries its list shares with the list of the stretch before it; the first one
     /// shares none.
     shared: usize,
-    /// The records after those.
-    records: Vec<Entry>,
+    /// The entries after those.
+    entries: Vec<Entry>,
 }
 
-/// This many records from the start, of the list of a stretch. Where no stretch is, they are none.
+/// This many entries from the start, of the list of a stretch. Where no stretch is, they are none.
 #[derive(Clone, Copy, PartialEq, Eq)]
 pub(crate) struct Place {
     /// The number of the stretch, from 0.
     pub(crate) stretch: usize,
-    /// How many records.
+    /// How many entries.
     pub(crate) number: usize,
 }
 
 impl Place {
-    /// The place of no records.
+    /// The place of no entries.
     pub(crate) const START: Place = Place {
         stretch: 0,
         number: 0,
     };
 
-    /// Returns the place of the first `n` records of this one, or this one if it has no more.
+    /// Returns the place of the first `n` entries of this one, or this one if it has no more.
     pub(crate) fn cut(self, n: usize) -> Place
         ensures stretch { result.stretch ≡ self.stretch }
         ensures number { result.number ≡ min n self.number }
@@ -66,7 +66,7 @@ pub(crate) struct Stretches {
 }
 
 impl Stretches {
-    ghost use Rattle.rd_marks.specs.Stretches.{stretch_list, shared_at, records_at, count_of, greatest_in, IsWithin, IsOwn};
+    ghost use Rattle.rd_marks.specs.Stretches.{stretch_list, shared_at, entries_at, count_of, greatest_in, IsWithin, IsOwn};
 
     /// Returns stretches with none in them. It takes no memory.
     pub(crate) fn new(alloc: Global) -> Stretches
@@ -84,19 +84,19 @@ impl Stretches {
         self.list.len()
     }
 
-    /// Returns how many records the stretches have in all.
-    pub(crate) fn records(&self) -> usize
+    /// Returns how many entries the stretches have in all.
+    pub(crate) fn entries(&self) -> usize
         requires { count_of self.now.list.items < 2 ^ 64 }
         ensures { result ≡ count_of self.now.list.items }
     {
         let mut count = 0;
         for i in 0..self.list.len() {
-            count += self.list[i].records.len();
+            count += self.list[i].entries.len();
         }
         count
     }
 
-    /// Returns how many records the list of this stretch shares with that of the one before it; 0
+    /// Returns how many entries the list of this stretch shares with that of the one before it; 0
     /// after the last stretch.
     pub(crate) fn shared(&self, i: usize) -> usize
         ensures { result ≡ shared_at self.now.list.items i }
@@ -107,14 +107,14 @@ impl Stretches {
         }
     }
 
-    /// Returns the place of the same records in the first stretch that has them, where the last one
+    /// Returns the place of the same entries in the first stretch that has them, where the last one
     /// is that stretch's own.
     pub(crate) fn own_place(&self, of: Place) -> Place
         requires within { IsWithin self.now.list.items of }
         ensures number { result.number ≡ of.number }
         ensures within { IsWithin self.now.list.items result }
         ensures own { IsOwn self.now.list.items result }
-        ensures same { records_at self.now.list.items result ≡ records_at self.now.list.items of }
+        ensures same { entries_at self.now.list.items result ≡ entries_at self.now.list.items of }
     {
         let mut at = of;
         while at.stretch > 0 && at.number <= self.shared(at.stretch) {
@@ -123,15 +123,15 @@ impl Stretches {
         at
     }
 
-    /// How many records two places have in common from the start.
+    /// How many entries two places have in common from the start.
     pub(crate) fn common(&self, one: Place, other: Place) -> usize
         requires one { IsWithin self.now.list.items one }
         requires other { IsWithin self.now.list.items other }
         ensures first { result ≤ one.number }
         ensures second { result ≤ other.number }
-        ensures alike { take result (records_at self.now.list.items one) ≡ take result (records_at self.now.list.items other) }
+        ensures alike { take result (entries_at self.now.list.items one) ≡ take result (entries_at self.now.list.items other) }
         ensures most { (n : ℕ) → n ≤ one.number → n ≤ other.number
-            → take n (events (records_at self.now.list.items one)) ≡ take n (events (records_at self.now.list.items other)) → n ≤ result }
+            → take n (events (entries_at self.now.list.items one)) ≡ take n (events (entries_at self.now.list.items other)) → n ≤ result }
     {
         if one.stretch <= other.stretch {
             self.common_up(one, other)
@@ -140,7 +140,7 @@ impl Stretches {
         }
     }
 
-    /// How many records two places have in common from the start, where the second is in the first
+    /// How many entries two places have in common from the start, where the second is in the first
     /// one's stretch or a later one.
     fn common_up(&self, one: Place, other: Place) -> usize
         requires one { IsWithin self.now.list.items one }
@@ -148,9 +148,9 @@ impl Stretches {
         requires later { one.stretch ≤ other.stretch }
         ensures first { result ≤ one.number }
         ensures second { result ≤ other.number }
-        ensures alike { take result (records_at self.now.list.items one) ≡ take result (records_at self.now.list.items other) }
+        ensures alike { take result (entries_at self.now.list.items one) ≡ take result (entries_at self.now.list.items other) }
         ensures most { (n : ℕ) → n ≤ one.number → n ≤ other.number
-            → take n (events (records_at self.now.list.items one)) ≡ take n (events (records_at self.now.list.items other)) → n ≤ result }
+            → take n (events (entries_at self.now.list.items one)) ≡ take n (events (entries_at self.now.list.items other)) → n ≤ result }
     {
         let mut common = one.number.min(other.number);
         for i in one.stretch..other.stretch {

@@ -24,7 +24,7 @@ use Rattle.rd_origin.proofs.Puts.{put}
 use Rattle.rd_origin.proofs.Takes.{taken_held}
 use Rattle.rd_origin.proofs.Calls.{IsIn, begun, call_stays_along, value_stays_along}
 
--- What an origin says of the records
+-- What an origin says of the entries
 
 -- call and put of the taken value are both named
 record Named (xs : List Entry) (c p k : ℕ) : Type 0 where
@@ -69,7 +69,7 @@ value_out : (r : Option OpReply) → takes_value r ≡ true → (u : ℕ) × (r 
 value_out (Some (Dequeued u)) h = (u, refl)
 value_out _ h = cc
 
--- The records taken apart at call, put and take
+-- The entries taken apart at call, put and take
 
 record Apart (xs : List Entry) (c p k : ℕ) : Type 0 where
   pub before : List Entry

@@ -2,7 +2,7 @@
 
 ghost use Rattle.std.specs.Prelude.{◌≡◌, ℕ, Bool, List, None, Some, Ok};
 ghost use Rattle.rd_step.specs.declared.entries.Event.{Event};
-ghost use Rattle.rd_step.specs.declared.entries.Entry.{Entry as Record};
+ghost use Rattle.rd_step.specs.declared.entries.Entry.{Entry as SomeEntry};
 ghost use Rattle.rd_step.specs.Prelude.{World, Ran, run, IsWellFormed};
 ghost use Rattle.rd_origin.specs.Positions.{last_position, IsGreatest, HasNone};
 ghost use Rattle.rd_origin.specs.Origins.{origin_among};
@@ -18,6 +18,6 @@ pub fn what_is_taken_is_the_calls_argument()
 /// The last position at which a test passes, by which put, call and writer are defined, is the
 /// greatest one; if there is none, the test passes nowhere.
 pub fn the_last_position_is_the_greatest()
-    ensures some { (test : Record → Bool) (entries : List Record) (j : ℕ) → last_position test entries ≡ Some j → IsGreatest test entries j }
-    ensures none { (test : Record → Bool) (entries : List Record) → last_position test entries ≡ None → HasNone test entries }
+    ensures some { (test : SomeEntry → Bool) (entries : List SomeEntry) (j : ℕ) → last_position test entries ≡ Some j → IsGreatest test entries j }
+    ensures none { (test : SomeEntry → Bool) (entries : List SomeEntry) → last_position test entries ≡ None → HasNone test entries }
 {}

@@ -9,7 +9,7 @@ ghost use Rattle.rd_origin.specs.Searches.{is_of_kind, is_of_kind_at};
 
 use rd_actor::{Act, Pc};
 use rd_cell::Place;
-use rd_journal::LiveRecords;
+use rd_journal::LiveEntries;
 use rd_step::Entry;
 
 /// A kind of step for which a query searches.
@@ -35,7 +35,7 @@ impl StepKind {
 
 /// Returns the greatest number, below this one, of a step of the kind; none if there is no such
 /// step.
-pub(crate) fn last_below(steps: &LiveRecords, below: u64, kind: StepKind) -> Option<u64>
+pub(crate) fn last_below(steps: &LiveEntries, below: u64, kind: StepKind) -> Option<u64>
     ensures { result ≡ last_position (is_of_kind kind) (take (below - 1) steps.now) }
 {
     for number in (1..below).rev() {
@@ -47,7 +47,7 @@ pub(crate) fn last_below(steps: &LiveRecords, below: u64, kind: StepKind) -> Opt
 }
 
 /// Whether there is a step of this number, from 1, and it is of the kind.
-fn is_of_kind_at(steps: &LiveRecords, number: u64, kind: StepKind) -> bool
+fn is_of_kind_at(steps: &LiveEntries, number: u64, kind: StepKind) -> bool
     ensures { result ≡ is_of_kind_at kind steps.now number }
 {
     match step_of(steps, number) {
@@ -57,7 +57,7 @@ fn is_of_kind_at(steps: &LiveRecords, number: u64, kind: StepKind) -> bool
 }
 
 /// Returns the step of this number, from 1, if there is one.
-pub(crate) fn step_of<'a>(steps: &LiveRecords<'a>, number: u64) -> Option<&'a Entry>
+pub(crate) fn step_of<'a>(steps: &LiveEntries<'a>, number: u64) -> Option<&'a Entry>
     ensures { MatchOption result (numbered steps.now number ≡ None) (λ step. numbered steps.now number ≡ Some step.now) }
 {
     if number == 0 {

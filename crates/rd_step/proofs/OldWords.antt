@@ -1,4 +1,4 @@
--- The old words of a step's record are the words from before the step.
+-- The old words of a step's entry are the words from before the step.
 use Rattle.std.proofs.Common.{◌≡◌, ℕ, nat_lt, refl, sym, ◌∙◌, ap, subst, Option, Some, None, Result, Ok, Err, IfOk}
 use Rattle.std.proofs.lemmas.Bool.{cond_both}
 use Rattle.std.proofs.lemmas.Result.{IfOk-at_ok}
@@ -35,7 +35,7 @@ notes-perform R actor w NoPlace formed = λ p k. cc
 notes-perform R actor w (At p op) formed = notes-operate p op (operand w.at p) w.at refl
 notes-perform R actor w (Make x) formed = notes-make R x (record { maker = actor; n = number_made w.at actor }) w
 
--- a record keeps the actor's words and the place's content from before its step
+-- an entry keeps the actor's words and the place's content from before its step
 pub keeps_old_words : (R : ℕ) (w : World) (e : Event) (s : Stepped) → IsWellFormed R w → step R w e ≡ Ok s → KeepsOldWords w s.entry
 keeps_old_words R w e s formed h =
     let t = took R w e s h in

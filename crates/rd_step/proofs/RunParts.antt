@@ -1,4 +1,4 @@
--- Runs whose records are known, taken apart at their first step and at one in their middle.
+-- Runs whose entries are known, taken apart at their first step and at one in their middle.
 use Rattle.std.proofs.Common.{◌≡◌, ℕ, refl, ◌∙◌, ap, List, [], ◌∷◌, ◌++◌, Result, Ok, Err}
 use Rattle.rd_ring.specs.Prelude.{Refusal}
 use Rattle.rd_step.specs.World.{World}
@@ -7,7 +7,7 @@ use Rattle.rd_step.specs.Step.{step}
 use Rattle.rd_step.specs.Run.{Ran, run, events, run_entries, IsRunFrom}
 use Rattle.rd_step.proofs.Inverse.{ran_on, run-cons}
 
--- the last world of a run that leaves these records
+-- the last world of a run that leaves these entries
 pub record RunsTo (R : ℕ) (w : World) (xs : List Entry) : Type 0 where
   pub last : World
   pub runs : run R w (events xs) ≡ Ok (record { world = last; entries = xs })
@@ -21,7 +21,7 @@ runs_to_of R w xs (Ok r) h k =
 pub runs_to : (R : ℕ) (w : World) (xs : List Entry) → IsRunFrom R w xs → RunsTo R w xs
 runs_to R w xs h = runs_to_of R w xs (run R w (events xs)) refl h
 
--- a run that left at least one record, taken apart at its first step
+-- a run that left at least one entry, taken apart at its first step
 pub record Beginning (R : ℕ) (s : World) (x : Entry) (xs : List Entry) (w : World) : Type 0 where
   pub after : World
   pub goes : step R s x.event ≡ Ok (record { world = after; entry = x })
@@ -41,7 +41,7 @@ beginning R s x xs w h =
       rest = ran.goes_on ∙ (λ i. Ok (record { world = there i; entries = others i }));
     }
 
--- the same where only its records are known
+-- the same where only its entries are known
 pub record FirstStep (R : ℕ) (s : World) (x : Entry) (xs : List Entry) : Type 0 where
   pub after : World
   pub goes : step R s x.event ≡ Ok (record { world = after; entry = x })

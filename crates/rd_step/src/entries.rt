@@ -1,4 +1,4 @@
-//! The event, one step of one actor, and the entry, its record, from which the journal undoes it.
+//! The event, one step of one actor, and the entry, from which the journal undoes it.
 
 ghost use Rattle.std.specs.Prelude.{◌≡◌};
 ghost use Rattle.rd_cell.specs.Places.{written};
@@ -16,7 +16,7 @@ pub struct Event {
     pub act: Act,
 }
 
-/// The record of one step, with the words from before it.
+/// What the journal keeps of one step, with the words from before it.
 #[derive(Clone, Copy, Debug, PartialEq, Eq)]
 pub struct Entry {
     /// The event.

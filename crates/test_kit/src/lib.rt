@@ -1,5 +1,5 @@
 //! What several crates of tests share: events that are drawn, read from a text or written by hand,
-//! records and parts of worlds, long scripts, and devices that fail.
+//! entries and parts of worlds, long scripts, and devices that fail.
 //!
 //! There is no test here. What a caller's proof needs of a call is in its contract.
 #![tactic(auto)]

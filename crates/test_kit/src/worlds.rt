@@ -1,4 +1,4 @@
-//! Events, records and parts of worlds by what matters of them.
+//! Events, entries and parts of worlds by what matters of them.
 
 ghost use Rattle.std.specs.Prelude.{◌≡◌, ◌≤◌};
 ghost use Rattle.rd_step.specs.Prelude.{MOST_CELLS};
@@ -18,7 +18,7 @@ pub fn go(actor: u8) -> Event
     }
 }
 
-/// A record of what dependence looks at: the actor, the place, and what the access wrote of it.
+/// An entry of what dependence looks at: the actor, the place, and what the access wrote of it.
 pub fn record((actor, place, wrote): (u8, Option<Place>, Wrote)) -> Entry {
     Entry {
         event: go(actor),

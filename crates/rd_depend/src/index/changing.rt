@@ -1,7 +1,7 @@
 //! What the calls of the index do to its lists.
 
 ghost use Rattle.std.specs.Prelude.{◌≡◌, ◌+◌, ◌<◌, ◌≤◌, ◌++◌, length, take, not, true, List, IsOk, IfOk, OnOk, OnErr};
-ghost use Rattle.rd_step.specs.declared.entries.Entry.{Entry as Record};
+ghost use Rattle.rd_step.specs.declared.entries.Entry.{Entry as SomeEntry};
 ghost use Rattle.rd_cell.specs.Places.{is_nothing};
 ghost use Rattle.rd_depend.specs.Keys.{place_key, value_key, segment_key};
 ghost use Rattle.rd_depend.specs.Index.{Touch, IsIndexOf, IsIndex, IsLast, HasRoomFor, number_of, touches, spare, is_value_written};
@@ -138,8 +138,8 @@ impl DependIndex {
     pub(super) fn add_all(&mut self, entries: &[Entry]) -> Result<(), AllocError>
         requires index { IsIndex self.old }
         requires few { self.old.len + length entries.now ≤ MOST_STEPS }
-        ensures ok { OnOk result ((es : List Record) → IsIndexOf self.old es → IsIndexOf self.new (es ++ entries.now)) }
-        ensures err { OnErr result ((es : List Record) → IsIndexOf self.old es → IsIndexOf self.new es) }
+        ensures ok { OnOk result ((es : List SomeEntry) → IsIndexOf self.old es → IsIndexOf self.new (es ++ entries.now)) }
+        ensures err { OnErr result ((es : List SomeEntry) → IsIndexOf self.old es → IsIndexOf self.new es) }
         ensures succeeds { HasRoomFor self.old entries.now → IsOk result }
         ensures room { OnOk result ((t : Touch) → spare self.old t ≤ spare self.new t + number_of (touches t) entries.now) }
         ensures room_stays { OnErr result ((t : Touch) → spare self.old t ≤ spare self.new t) }
@@ -157,7 +157,7 @@ impl DependIndex {
         requires { self.old.len + length entries.now ≤ MOST_STEPS }
         ensures within { result ≤ length entries.now }
         ensures succeeds { HasRoomFor self.old entries.now → result ≡ length entries.now }
-        ensures index { (es : List Record) → IsIndexOf self.old es → IsIndexOf self.new (es ++ take result entries.now) }
+        ensures index { (es : List SomeEntry) → IsIndexOf self.old es → IsIndexOf self.new (es ++ take result entries.now) }
         ensures room { (t : Touch) → spare self.old t ≤ spare self.new t + number_of (touches t) (take result entries.now) }
     {
         for count in 0..entries.len() {
@@ -171,7 +171,7 @@ impl DependIndex {
     /// Takes the positions of these entries away, which are the last ones.
     pub(super) fn drop_all(&mut self, entries: &[Entry])
         requires { EndsWith self.old entries.now }
-        ensures index { (es : List Record) → IsIndexOf self.old (es ++ entries.now) → IsIndexOf self.new es }
+        ensures index { (es : List SomeEntry) → IsIndexOf self.old (es ++ entries.now) → IsIndexOf self.new es }
         ensures room { (t : Touch) → spare self.new t ≡ spare self.old t + number_of (touches t) entries.now }
     {
         let mut left = entries.len();

@@ -4,7 +4,7 @@
 ghost use Rattle.std.specs.Prelude.{◌≡◌, ◌+◌, ◌<◌, ◌≤◌, ◌^◌, List, Some, length};
 ghost use Rattle.std.specs.Option.{is_some};
 ghost use Rattle.rd_cell.specs.Places.{interfere};
-ghost use Rattle.rd_step.specs.declared.entries.Entry.{Entry as Record};
+ghost use Rattle.rd_step.specs.declared.entries.Entry.{Entry as SomeEntry};
 ghost use Rattle.rd_step.specs.Prelude.{depends};
 ghost use Rattle.rd_depend.specs.Lists.{list_at, first_above, earlier, IsAscending};
 ghost use Rattle.rd_depend.specs.Index.{IsIndexOf, positions, reached};
@@ -24,7 +24,7 @@ impl DependIndex {
     pub(super) fn first_above(&self, k: u32, entry: &Entry, probes: &mut Probes) -> Option<u64>
         requires few { self.now.len ≤ MOST_STEPS }
         requires counted { probes.old.count < 2 ^ 32 }
-        ensures answer { (es : List Record) → IsIndexOf self.now es → result ≡ first_above k (positions (depends entry.now) es) }
+        ensures answer { (es : List SomeEntry) → IsIndexOf self.now es → result ≡ first_above k (positions (depends entry.now) es) }
         ensures cost { probes.new.count ≤ probes.old.count + 96 }
         ensures counts { probes.old.count < probes.new.count }
     {
@@ -40,7 +40,7 @@ impl DependIndex {
     pub(super) fn is_one_above(&self, k: u32, entry: &Entry, probes: &mut Probes) -> bool
         requires few { self.now.len ≤ MOST_STEPS }
         requires counted { probes.old.count < 2 ^ 31 }
-        ensures { (es : List Record) → IsIndexOf self.now es → result ≡ is_some (first_above k (positions (depends entry.now) es)) }
+        ensures { (es : List SomeEntry) → IsIndexOf self.now es → result ≡ is_some (first_above k (positions (depends entry.now) es)) }
     {
         if self.first_by(k, entry.event.actor, probes).is_some() {
             return true;
@@ -53,7 +53,7 @@ impl DependIndex {
     fn first_at(&self, k: u32, place: Place, wrote: Wrote, probes: &mut Probes) -> Option<u64>
         requires few { self.now.len ≤ MOST_STEPS }
         requires counted { probes.old.count < 2 ^ 33 }
-        ensures answer { (es : List Record) → IsIndexOf self.now es
+        ensures answer { (es : List SomeEntry) → IsIndexOf self.now es
             → result ≡ first_above k (positions (λ y. interfere (Some place) wrote y.place y.wrote) es) }
         ensures cost { probes.new.count ≤ probes.old.count + 57 }
         ensures counts { probes.old.count ≤ probes.new.count }
@@ -77,7 +77,7 @@ impl DependIndex {
     ) -> Option<u64>
         requires few { self.now.len ≤ MOST_STEPS }
         requires counted { probes.old.count < 2 ^ 34 }
-        ensures answer { (es : List Record) → IsIndexOf self.now es
+        ensures answer { (es : List SomeEntry) → IsIndexOf self.now es
             → result ≡ first_above k (positions (λ y. is_under_some key (reached writes y)) es) }
         ensures cost { probes.new.count ≤ probes.old.count + 19 }
         ensures counts { probes.old.count ≤ probes.new.count }

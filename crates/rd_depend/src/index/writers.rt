@@ -2,7 +2,7 @@
 //! half, or at the whole of its segment, the last one.
 
 ghost use Rattle.std.specs.Prelude.{◌≡◌, ◌+◌, ◌<◌, ◌≤◌, ◌^◌, true, IsSome, List, take};
-ghost use Rattle.rd_step.specs.declared.entries.Entry.{Entry as Record};
+ghost use Rattle.rd_step.specs.declared.entries.Entry.{Entry as SomeEntry};
 ghost use Rattle.rd_depend.specs.Lists.{later};
 ghost use Rattle.rd_depend.specs.Index.{IsIndexOf, reached};
 ghost use Rattle.rd_depend.specs.Keys.{is_under_some};
@@ -21,7 +21,7 @@ impl DependIndex {
     pub(super) fn last_write(&self, n: u32, place: Place, probes: &mut Probes) -> Option<u64>
         requires few { self.now.len ≤ MOST_STEPS }
         requires counted { probes.old.count < 2 ^ 33 }
-        ensures answer { (es : List Record) → IsIndexOf self.now es → result ≡ last_position (writes_to place) (take n es) }
+        ensures answer { (es : List SomeEntry) → IsIndexOf self.now es → result ≡ last_position (writes_to place) (take n es) }
         ensures cost { probes.new.count ≤ probes.old.count + 57 }
         ensures counts { probes.old.count < probes.new.count }
     {
@@ -36,7 +36,7 @@ impl DependIndex {
     fn last_under(&self, n: u32, key: Option<Key>, probes: &mut Probes) -> Option<u64>
         requires few { self.now.len ≤ MOST_STEPS }
         requires counted { probes.old.count < 2 ^ 34 }
-        ensures answer { (es : List Record) → IsIndexOf self.now es
+        ensures answer { (es : List SomeEntry) → IsIndexOf self.now es
             → result ≡ last_position (λ y. is_under_some key (reached true y)) (take n es) }
         ensures cost { probes.new.count ≤ probes.old.count + 19 }
         ensures counts { probes.old.count ≤ probes.new.count }

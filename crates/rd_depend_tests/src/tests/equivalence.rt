@@ -86,8 +86,8 @@ const PAIRS: [(&str, &str, bool); 16] = [
     (THREE_CALLS, SECOND_ACTOR_FIRST, false),
 ];
 
-/// The records of a schedule from the fresh world.
-fn records(alloc: Global, schedule: &str) -> Result<Vec<Entry>, Fail> {
+/// The entries of a schedule from the fresh world.
+fn entries(alloc: Global, schedule: &str) -> Result<Vec<Entry>, Fail> {
     let mut world = World::<4>::fresh(alloc, 4)?;
     let mut entries = Vec::new(alloc);
     for event in events_in(alloc, schedule)? {
@@ -99,8 +99,8 @@ fn records(alloc: Global, schedule: &str) -> Result<Vec<Entry>, Fail> {
 #[test]
 fn two_schedules_are_equivalent_or_not(rt: HostRuntime) -> Result<(), Fail> {
     for (first, second, wanted) in PAIRS {
-        let a = records(rt.alloc(), first)?;
-        let b = records(rt.alloc(), second)?;
+        let a = entries(rt.alloc(), first)?;
+        let b = entries(rt.alloc(), second)?;
         assert_eq!(rt;
             are_equivalent(rt.alloc(), &a, &b)?,
             wanted,
@@ -115,7 +115,7 @@ fn two_schedules_are_equivalent_or_not(rt: HostRuntime) -> Result<(), Fail> {
     Ok(())
 }
 
-/// The records of this many steps of array enqueues, by four actors in turn, the first four in this
+/// The entries of this many steps of array enqueues, by four actors in turn, the first four in this
 /// order.
 fn turns(alloc: Global, steps: usize, first: [u8; 4]) -> Result<Vec<Entry>, Fail> {
     let mut world = World::<4>::fresh(alloc, 4)?;
@@ -173,8 +173,8 @@ fn drawn_events(alloc: Global, draws: &mut Draws, steps: u32) -> Result<Vec<Even
     Ok(events)
 }
 
-/// The records of the events, up to the first that is refused.
-fn records_of(alloc: Global, events: &[Event]) -> Result<Vec<Entry>, Fail> {
+/// The entries of the events, up to the first that is refused.
+fn entries_of(alloc: Global, events: &[Event]) -> Result<Vec<Entry>, Fail> {
     let mut world = World::<2>::fresh(alloc, 4)?;
     let mut entries = Vec::new(alloc);
     for event in events {
@@ -196,7 +196,7 @@ fn shuffle(events: &mut [Event], draws: &mut Draws, times: u32) {
     }
 }
 
-/// Where a record of the entry's event depends on no earlier one.
+/// Where an entry of the entry's event depends on no earlier one.
 fn free_place(left: &[Entry], entry: &Entry) -> Option<usize> {
     let at = left
         .iter()
@@ -230,9 +230,9 @@ fn drawn_runs_are_equivalent_where_the_definition_says_so(rt: HostRuntime) -> Re
     let mut both_ways = (false, false);
     for times in 0..DRAWN.0 {
         let mut events = drawn_events(rt.alloc(), &mut draws, DRAWN.1)?;
-        let a = records_of(rt.alloc(), &events)?;
+        let a = entries_of(rt.alloc(), &events)?;
         shuffle(&mut events, &mut draws, times / 2);
-        let b = records_of(rt.alloc(), &events)?;
+        let b = entries_of(rt.alloc(), &events)?;
         let wanted = is_equivalent(rt.alloc(), &a, &b)?;
         assert_eq!(rt; are_equivalent(rt.alloc(), &a, &b)?, wanted, "pair {times}");
         both_ways = (both_ways.0 || wanted, both_ways.1 || !wanted);

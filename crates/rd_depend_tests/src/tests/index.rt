@@ -2,7 +2,7 @@
 //! dependants and the last writers that it finds are those of a scan.
 
 ghost use Rattle.std.specs.Prelude.{◌≡◌, ◌≤◌, length, List};
-ghost use Rattle.rd_step.specs.declared.entries.Entry.{Entry as Record};
+ghost use Rattle.rd_step.specs.declared.entries.Entry.{Entry as SomeEntry};
 ghost use Rattle.rd_depend.specs.Index.{IsIndexOf, HasRoomFor};
 ghost use Rattle.rd_depend.specs.Moved.{moved_behind};
 
@@ -47,7 +47,7 @@ impl Both {
 
     /// Takes the last entry away, if there is one.
     fn pop(&mut self)
-        ensures { (rest : List Record) → HasRoomFor self.old.index rest → HasRoomFor self.new.index rest }
+        ensures { (rest : List SomeEntry) → HasRoomFor self.old.index rest → HasRoomFor self.new.index rest }
     {
         if let Some(entry) = self.entries.pop() {
             self.index.pop(&entry);

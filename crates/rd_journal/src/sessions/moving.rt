@@ -13,31 +13,31 @@ impl<const R: usize> Session<R> {
     /// Undoes the last `n` live steps, the last one first: their old words are put back.
     pub(super) fn undo_many(&mut self, n: u64)
         requires enough { n ≤ length (journal self.old).live }
-        ensures records { IsMovedBack n (journal self.old) (journal self.new) }
+        ensures entries { IsMovedBack n (journal self.old) (journal self.new) }
         ensures state { state self.new ≡ times n back_one (state self.old) }
         ensures track { track self.new ≡ track self.old }
         ensures capacity { capacity self.new ≡ capacity self.old }
         ensures index { index self.new ≡ index self.old }
     {
-        let left = self.records.live_len() - n as usize;
-        undo_behind(&mut self.world, &self.records.live(), left);
-        self.records.step_back(n as usize);
+        let left = self.entries.live_len() - n as usize;
+        undo_behind(&mut self.world, &self.entries.live(), left);
+        self.entries.step_back(n as usize);
         self.undone += n as usize;
     }
 
-    /// Steps the `n` events again that were undone last, one after another. The undone records are
-    /// those of the run of their events from here, so it is never refused, and leaves the records
+    /// Steps the `n` events again that were undone last, one after another. The undone entries are
+    /// those of the run of their events from here, so it is never refused, and leaves the entries
     /// that are there.
     pub(super) fn redo_many(&mut self, n: u64)
         requires enough { n ≤ length (journal self.old).undone }
-        ensures records { IsMovedForward n (journal self.old) (journal self.new) }
+        ensures entries { IsMovedForward n (journal self.old) (journal self.new) }
         ensures state { state self.new ≡ times n forward_one (state self.old) }
         ensures track { track self.new ≡ track self.old }
         ensures capacity { capacity self.new ≡ capacity self.old }
         ensures index { index self.new ≡ index self.old }
     {
-        step_all(&mut self.world, &self.records.ahead(n as usize));
-        self.records.step_forward(n as usize);
+        step_all(&mut self.world, &self.entries.ahead(n as usize));
+        self.entries.step_forward(n as usize);
         self.undone -= n as usize;
     }
 }

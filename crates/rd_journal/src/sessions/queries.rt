@@ -1,4 +1,4 @@
-//! What can be read of a session: its steps and their records, its start and its world.
+//! What can be read of a session: its steps and their entries, its start and its world.
 
 ghost use Rattle.std.specs.Prelude.{◌≡◌, ◌+◌, ◌≤◌, ◌-◌, length, Ok, IfOk, IfErr};
 ghost use Rattle.rd_step.specs.Prelude.{model, first_dependant, MOST_STEPS};
@@ -8,7 +8,7 @@ ghost use Rattle.rd_journal.specs.State.{run_of};
 ghost use Rattle.rd_step.specs.Lists.{numbered};
 ghost use Rattle.rd_journal.specs.Laws.{IsStepAfter};
 
-use super::super::live_records::LiveRecords;
+use super::super::live_entries::LiveEntries;
 use super::Session;
 use super::starting::undo_behind;
 use rd_cell::{Place, Refusal};
@@ -22,30 +22,30 @@ impl<const R: usize> Session<R> {
     /// The number of live steps.
     pub fn len(&self) -> u64
         ensures count { result ≡ length (state self.now).live }
-        ensures records { result ≡ length (journal self.now).live }
+        ensures entries { result ≡ length (journal self.now).live }
     {
-        self.records.live_len() as u64
+        self.entries.live_len() as u64
     }
 
     /// The number of undone steps.
     pub fn undone_len(&self) -> u64
         ensures count { result ≡ length (state self.now).undone }
-        ensures records { result ≡ length (journal self.now).undone }
+        ensures entries { result ≡ length (journal self.now).undone }
     {
         self.undone as u64
     }
 
-    /// The records of the live steps, in their order. They are those of a run from the start.
-    pub fn live(&self) -> LiveRecords<'_>
-        ensures records { result ≡ (journal self.now).live }
+    /// The entries of the live steps, in their order. They are those of a run from the start.
+    pub fn live(&self) -> LiveEntries<'_>
+        ensures entries { result ≡ (journal self.now).live }
         ensures run { IsRunFrom R (state self.now).start result }
         ensures events { events result ≡ (state self.now).live }
         ensures few { length result ≤ MOST_STEPS }
     {
-        self.records.live()
+        self.entries.live()
     }
 
-    /// The record of the live step of this number, from 1.
+    /// The entry of the live step of this number, from 1.
     ///
     /// # Errors
     ///
@@ -59,7 +59,7 @@ impl<const R: usize> Session<R> {
         if k == 0 || k > len {
             return Err(Refusal::NoSuchStep(len));
         }
-        Ok(*self.records.live_at(k as usize - 1))
+        Ok(*self.entries.live_at(k as usize - 1))
     }
 
     /// The number of the last live step that wrote this place, or one of the places that it names;
@@ -78,7 +78,7 @@ impl<const R: usize> Session<R> {
         ensures { result ≡ first_dependant (journal self.now).live k }
     {
         let mut probes = Probes::new();
-        let entry = self.records.live_at(k as usize - 1);
+        let entry = self.entries.live_at(k as usize - 1);
         match self.index.first(k, entry, &mut probes) {
             None => None,
             Some(number) => {
@@ -99,7 +99,7 @@ impl<const R: usize> Session<R> {
         if i == 0 || i > self.undone_len() {
             return None;
         }
-        Some(self.records.ahead_at(i as usize - 1).event)
+        Some(self.entries.ahead_at(i as usize - 1).event)
     }
 
     /// Returns the world in which the session was opened: a copy of its world in which all live

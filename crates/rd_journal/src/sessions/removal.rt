@@ -20,13 +20,13 @@ impl<const R: usize> Session<R> {
         requires some { 1 ≤ k }
         requires position { k ≤ length (journal self.old).live }
         requires free { first_dependant (journal self.old).live k ≡ None }
-        ensures records { IsUndoneAlone k (journal self.old) (journal self.new) }
+        ensures entries { IsUndoneAlone k (journal self.old) (journal self.new) }
         ensures state { state self.new ≡ undone_alone (state self.old) k }
         ensures capacity { capacity self.new ≡ capacity self.old }
     {
-        unstep(&mut self.world, self.records.live_at(k as usize - 1));
-        self.index.move_behind(k, self.records.live_len() as u64);
-        self.records.undo_alone(k as usize);
+        unstep(&mut self.world, self.entries.live_at(k as usize - 1));
+        self.index.move_behind(k, self.entries.live_len() as u64);
+        self.entries.undo_alone(k as usize);
         self.undone += 1;
     }
 
@@ -35,7 +35,7 @@ impl<const R: usize> Session<R> {
     pub(super) fn roll_back(&mut self, k: u64)
         requires some { 1 ≤ k }
         requires position { k ≤ length (journal self.old).live }
-        ensures records { IsRolledBack k (journal self.old) (journal self.new) }
+        ensures entries { IsRolledBack k (journal self.old) (journal self.new) }
         ensures start { start_of (journal self.new) ≡ start_of (journal self.old) }
         ensures capacity { capacity self.new ≡ capacity self.old }
     {
@@ -46,22 +46,22 @@ impl<const R: usize> Session<R> {
     }
 
     /// Undoes the `k`-th live step and all later ones that depend on it, directly or through
-    /// others: the records of these steps are first put after the other live ones, none of which
-    /// depends on them. Meanwhile the index is that of the records before the `k`-th and of those
+    /// others: the entries of these steps are first put after the other live ones, none of which
+    /// depends on them. Meanwhile the index is that of the entries before the `k`-th and of those
     /// that go, so it shows which later one depends on one of these; then the positions of all that
     /// is after the `k`-th are put in again, in their new order.
     fn undo_block(&mut self, k: u64)
         requires some { 1 ≤ k }
         requires position { k ≤ length (journal self.old).live }
-        ensures records { IsRolledBack k (journal self.old) (journal self.new) }
+        ensures entries { IsRolledBack k (journal self.old) (journal self.new) }
         ensures start { start_of (journal self.new) ≡ start_of (journal self.old) }
         ensures capacity { capacity self.new ≡ capacity self.old }
     {
         let before = k as usize - 1;
-        cut_index(&mut self.index, &self.records, before);
-        let count = self.records.gather_closure(k as usize, &mut self.index);
+        cut_index(&mut self.index, &self.entries, before);
+        let count = self.entries.gather_closure(k as usize, &mut self.index);
         self.index.truncate(before as u64);
-        fill_index(&mut self.index, &self.records);
+        fill_index(&mut self.index, &self.entries);
         self.undo_many(count as u64);
     }
 }

@@ -2,18 +2,18 @@
 //! the world that it starts from.
 
 ghost use Rattle.std.specs.Prelude.{◌≡◌, ◌++◌, ◌+◌, ◌≤◌, ℕ, List, Ok, length, take, drop};
-ghost use Rattle.rd_step.specs.declared.entries.Entry.{Entry as Record};
+ghost use Rattle.rd_step.specs.declared.entries.Entry.{Entry as SomeEntry};
 ghost use Rattle.rd_step.specs.Prelude.{model, room, run, World as Model};
 ghost use Rattle.rd_journal.specs.Journal.{events, IsRunFrom, LeadsTo};
 ghost use Rattle.rd_journal.specs.Room.{HasRoom, room_returned_by};
 
-use super::super::live_records::LiveRecords;
+use super::super::live_entries::LiveEntries;
 use rd_inverse::unstep;
 use rd_step::World;
 
 /// Undoes all steps that led to the world except the first `n`, the last one first. It gives the
 /// room of their makings back, and takes no memory.
-pub(super) fn undo_behind<const R: usize>(world: &mut World<R>, steps: &LiveRecords, n: usize)
+pub(super) fn undo_behind<const R: usize>(world: &mut World<R>, steps: &LiveEntries, n: usize)
     requires within { n ≤ length steps.now }
     requires leads { (start : Model) × LeadsTo R start (model world.old) steps.now }
     ensures leads { (start : Model) → LeadsTo R start (model world.old) steps.now → LeadsTo R start (model world.new) (take n steps.now) }
@@ -26,11 +26,11 @@ pub(super) fn undo_behind<const R: usize>(world: &mut World<R>, steps: &LiveReco
 
 /// Makes the steps of a run from the world again, one after another. There is room for their
 /// makings, and that for others stays.
-pub(super) fn step_all<const R: usize>(world: &mut World<R>, steps: &LiveRecords)
+pub(super) fn step_all<const R: usize>(world: &mut World<R>, steps: &LiveEntries)
     requires runs { IsRunFrom R (model world.old) steps.now }
     requires room { HasRoom steps.now (room world.old) }
     ensures ran { run R (model world.old) (events steps.now) ≡ Ok (record { world = model world.new; entries = steps.now }) }
-    ensures room { (rest : List Record) → HasRoom (steps.now ++ rest) (room world.old) → HasRoom rest (room world.new) }
+    ensures room { (rest : List SomeEntry) → HasRoom (steps.now ++ rest) (room world.old) → HasRoom rest (room world.new) }
 {
     for next in 0..steps.len() {
         world.step_again(steps.at(next));

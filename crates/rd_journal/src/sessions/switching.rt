@@ -1,16 +1,16 @@
-//! Exchanging the records after the first live ones: room for records, makings and positions in the
+//! Exchanging the entries after the first live ones: room for entries, makings and positions in the
 //! index first, then the undoing, then the steps of the given ones.
 
 ghost use Rattle.std.specs.Prelude.{◌≡◌, ◌++◌, ◌+◌, ◌-◌, ◌<◌, ◌≤◌, [], ℕ, length, take, drop, get_or, IsOk, OnOk, OnErr, IfErr};
 ghost use Rattle.rd_step.specs.Prelude.{model, room as world_room};
 ghost use Rattle.rd_journal.specs.Journal.{events, start_of, IsRunFrom};
 ghost use Rattle.rd_journal.specs.Moves.{IsSwitched};
-ghost use Rattle.rd_journal.specs.Records.{ahead_records};
+ghost use Rattle.rd_journal.specs.Entries.{ahead_entries};
 ghost use Rattle.rd_journal.specs.Room.{room_returned_by, room_without, HasRoomForAll, LacksRoom, LacksRoomForMakings, LacksIndexRoom};
 ghost use Rattle.rd_journal.specs.State.{switch};
 
 use super::super::indexing::index_instead;
-use super::super::live_records::LiveRecords;
+use super::super::live_entries::LiveEntries;
 use super::Session;
 use super::starting::{step_all, undo_behind};
 use rd_cell::Refusal;
@@ -23,7 +23,7 @@ const ACTOR_NUMBERS: usize = 256;
 impl<const R: usize> Session<R> {
     ghost use Rattle.rd_journal.specs.Sessions.{journal, state, track, room, capacity, index};
 
-    /// Makes room for the given records after the first `kept` ones, and for the makings among
+    /// Makes room for the given entries after the first `kept` ones, and for the makings among
     /// them. Memory is asked for only if room is missing.
     ///
     /// # Errors
@@ -43,15 +43,15 @@ impl<const R: usize> Session<R> {
         ensures track { track self.new ≡ track self.old }
         ensures index { index self.new ≡ index self.old }
     {
-        self.records.make_room_for(kept as usize + given.len())?;
+        self.entries.make_room_for(kept as usize + given.len())?;
         make_room_for_makings(
             &mut self.world,
-            &self.records.live().behind(kept as usize),
+            &self.entries.live().behind(kept as usize),
             given,
         )
     }
 
-    /// Makes the index that of the first `n` live records and, after them, of the given ones,
+    /// Makes the index that of the first `n` live entries and, after them, of the given ones,
     /// undoes the live steps after the first `n`, and makes the given ones again, which then
     /// replace all others.
     ///
@@ -64,25 +64,25 @@ impl<const R: usize> Session<R> {
         requires run { IsRunFrom R (start_of (journal self.old)) (take n (journal self.old).live ++ given.now) }
         requires capacity { n + length given.now ≤ capacity self.old }
         requires makings { HasRoomForAll (journal self.old).world given.now (room_without (drop n (journal self.old).live) (room self.old)) }
-        ensures records { OnOk result (IsSwitched n given.now (journal self.old) (journal self.new)) }
+        ensures entries { OnOk result (IsSwitched n given.now (journal self.old) (journal self.new)) }
         ensures state { OnOk result (state self.new ≡ switch (state self.old) n (events given.now)) }
         ensures err { IfErr result (λ refusal. (refusal ≡ Refusal.NoMemory) × LacksIndexRoom (index self.old) given.now) }
         ensures unchanged { OnErr result (journal self.new ≡ journal self.old) }
         ensures track { OnErr result (track self.new ≡ track self.old) }
         ensures capacity { capacity self.new ≡ capacity self.old }
     {
-        index_instead(&mut self.index, &self.records, n, given)?;
-        undo_behind(&mut self.world, &self.records.live(), n);
-        self.records.exchange(n, given);
-        step_all(&mut self.world, &self.records.live().behind(n));
+        index_instead(&mut self.index, &self.entries, n, given)?;
+        undo_behind(&mut self.world, &self.entries.live(), n);
+        self.entries.exchange(n, given);
+        step_all(&mut self.world, &self.entries.live().behind(n));
         self.undone = 0;
         Ok(())
     }
 
     /// Makes the next `n` steps ahead again, after which no step is undone.
     pub(super) fn redo_ahead(&mut self, n: usize)
-        requires within { n ≤ length (ahead_records self.old.records) }
-        ensures records { IsSwitched (length (journal self.old).live) (take n (ahead_records self.old.records)) (journal self.old) (journal self.new) }
+        requires within { n ≤ length (ahead_entries self.old.entries) }
+        ensures entries { IsSwitched (length (journal self.old).live) (take n (ahead_entries self.old.entries)) (journal self.old) (journal self.new) }
         ensures start { start_of (journal self.new) ≡ start_of (journal self.old) }
         ensures track { track self.new ≡ track self.old }
         ensures capacity { capacity self.new ≡ capacity self.old }
@@ -93,15 +93,15 @@ impl<const R: usize> Session<R> {
     }
 }
 
-/// Makes room for each actor's makings among the given records, except for as many as undoing the
-/// dropped records gives back.
+/// Makes room for each actor's makings among the given entries, except for as many as undoing the
+/// dropped entries gives back.
 ///
 /// # Errors
 ///
 /// `NoMemory` if room was refused.
 fn make_room_for_makings<const R: usize>(
     world: &mut World<R>,
-    dropped: &LiveRecords,
+    dropped: &LiveEntries,
     given: &[Entry],
 ) -> Result<(), Refusal>
     ensures ok { OnOk result (HasRoomForAll (model world.new) given.now (room_without dropped.now (world_room world.new))) }
@@ -118,7 +118,7 @@ fn make_room_for_makings<const R: usize>(
     Ok(())
 }
 
-/// Returns, for each actor's number, how many of these records are makings by that actor.
+/// Returns, for each actor's number, how many of these entries are makings by that actor.
 fn makings_of(entries: &[Entry]) -> [usize; ACTOR_NUMBERS]
     ensures { (m : ℕ) → m < ACTOR_NUMBERS → get_or result m 0 ≡ room_returned_by entries.now m }
 {
@@ -132,8 +132,8 @@ fn makings_of(entries: &[Entry]) -> [usize; ACTOR_NUMBERS]
 }
 
 /// Returns, for each actor's number, by how many its makings exceed those among the dropped
-/// records.
-fn makings_missing(dropped: &LiveRecords, given: [usize; ACTOR_NUMBERS]) -> [usize; ACTOR_NUMBERS]
+/// entries.
+fn makings_missing(dropped: &LiveEntries, given: [usize; ACTOR_NUMBERS]) -> [usize; ACTOR_NUMBERS]
     ensures { (m : ℕ) → m < ACTOR_NUMBERS → get_or result m 0 ≡ get_or given m 0 - room_returned_by dropped.now m }
 {
     let mut counts = given;

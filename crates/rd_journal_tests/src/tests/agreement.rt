@@ -1,9 +1,9 @@
-//! A lone undo answers what the plain scan over the records finds, all along runs of calls that are
+//! A lone undo answers what the plain scan over the entries finds, all along runs of calls that are
 //! chosen at random.
 
 use super::lone_undo::{STEPS, mixed_run};
 use super::long_runs::call;
-use super::switching::{live_records, step_all_again};
+use super::switching::{live_entries, step_all_again};
 use rd_cell::Refusal;
 use rd_depend::first_dependant;
 use rd_journal::Session;
@@ -12,13 +12,13 @@ use std::alloc::Global;
 use std::test::Fail;
 use test_kit::next;
 
-/// What undoing this step alone is to answer, by the plain scan over the records of the live steps.
-fn scanned(records: &[Entry], k: u64) -> Result<(), Refusal> {
-    let len = records.len() as u64;
+/// What undoing this step alone is to answer, by the plain scan over the entries of the live steps.
+fn scanned(entries: &[Entry], k: u64) -> Result<(), Refusal> {
+    let len = entries.len() as u64;
     if k == 0 || k > len {
         return Err(Refusal::NoSuchStep(len));
     }
-    match first_dependant(records, k) {
+    match first_dependant(entries, k) {
         None => Ok(()),
         Some(dependant) => Err(Refusal::Depended(dependant)),
     }
@@ -26,9 +26,9 @@ fn scanned(records: &[Entry], k: u64) -> Result<(), Refusal> {
 
 /// Whether undoing the step alone that the number chooses answers what the scan finds.
 fn agrees(alloc: Global, session: &mut Session<2>, number: u64) -> Result<bool, Refusal> {
-    let records = live_records(alloc, session)?;
+    let entries = live_entries(alloc, session)?;
     let k = (number >> 30) % (session.len() % 1_000 + 2);
-    let wanted = scanned(&records, k);
+    let wanted = scanned(&entries, k);
     Ok(session.undo_at(k) == wanted)
 }
 

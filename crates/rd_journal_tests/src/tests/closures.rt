@@ -5,7 +5,7 @@ ghost use Rattle.std.specs.Prelude.{◌≤◌};
 ghost use Rattle.rd_step.specs.Prelude.{MOST_CELLS};
 
 use super::long_runs::call;
-use super::switching::live_records;
+use super::switching::live_entries;
 use rd_cell::Refusal;
 use rd_depend::depends;
 use rd_journal::Session;
@@ -17,28 +17,28 @@ use test_kit::next;
 /// How many calls a run has.
 const CALLS: u64 = 200;
 
-/// Whether the entry depends on one of these records that is marked.
-fn depends_on_marked(records: &[Entry], marks: &[bool], entry: &Entry) -> bool {
-    for index in 0..marks.len().min(records.len()) {
-        if marks[index] && depends(&records[index], entry) {
+/// Whether the entry depends on one of these entries that is marked.
+fn depends_on_marked(entries: &[Entry], marks: &[bool], entry: &Entry) -> bool {
+    for index in 0..marks.len().min(entries.len()) {
+        if marks[index] && depends(&entries[index], entry) {
             return true;
         }
     }
     false
 }
 
-/// Of each of these records, whether it is the `k`-th or depends on an earlier one of which this
+/// Of each of these entries, whether it is the `k`-th or depends on an earlier one of which this
 /// holds.
-fn closure(alloc: Global, records: &[Entry], k: u64) -> Result<Vec<bool>, AllocError> {
+fn closure(alloc: Global, entries: &[Entry], k: u64) -> Result<Vec<bool>, AllocError> {
     let mut marks = Vec::new(alloc);
-    for entry in records {
-        let goes = marks.len() as u64 + 1 == k || depends_on_marked(records, &marks, entry);
+    for entry in entries {
+        let goes = marks.len() as u64 + 1 == k || depends_on_marked(entries, &marks, entry);
         marks.push(goes)?;
     }
     Ok(marks)
 }
 
-/// Whether the record is there and of this event.
+/// Whether the entry is there and of this event.
 fn is_of(entry: Option<&Entry>, event: Event) -> bool {
     match entry {
         None => false,
@@ -46,14 +46,14 @@ fn is_of(entry: Option<&Entry>, event: Event) -> bool {
     }
 }
 
-/// Whether the marked ones of these records are the first undone steps, and the others the live
+/// Whether the marked ones of these entries are the first undone steps, and the others the live
 /// ones, all in their order.
-fn is_parted<const R: usize>(session: &Session<R>, records: &[Entry], marks: &[bool]) -> bool {
+fn is_parted<const R: usize>(session: &Session<R>, entries: &[Entry], marks: &[bool]) -> bool {
     let live = session.live();
     let mut stay = 0usize;
     let mut gone = 0u64;
-    for index in 0..marks.len().min(records.len()) {
-        let event = records[index].event;
+    for index in 0..marks.len().min(entries.len()) {
+        let event = entries[index].event;
         if marks[index] {
             gone = gone.wrapping_add(1);
             if session.undone_event(gone) != Some(event) {
@@ -74,15 +74,15 @@ fn agrees<const R: usize>(
     session: &mut Session<R>,
     number: u64,
 ) -> Result<bool, Refusal> {
-    let records = live_records(alloc, session)?;
+    let entries = live_entries(alloc, session)?;
     let len = session.len();
     if len == 0 {
         return Ok(session.roll(1) == Err(Refusal::NoSuchStep(0)));
     }
     let k = (number >> 30) % len + 1;
-    let marks = closure(alloc, &records, k)?;
+    let marks = closure(alloc, &entries, k)?;
     session.roll(k)?;
-    Ok(is_parted(session, &records, &marks))
+    Ok(is_parted(session, &entries, &marks))
 }
 
 /// Whether a run of calls over a fresh world of this many actors agrees with the definition all

@@ -65,7 +65,7 @@ pub(super) fn walk<const R: usize>(
     Ok(())
 }
 
-/// A record without its old words: its event, its place, what it wrote of it, and what it answered
+/// An entry without its old words: its event, its place, what it wrote of it, and what it answered
 /// and replied.
 pub(super) fn shown(entry: Entry) -> (Event, Option<Place>, Wrote, Answer, Option<OpReply>) {
     (
@@ -331,7 +331,7 @@ pub(super) fn same_world(a: &World<2>, b: &World<2>) -> bool {
 }
 
 /// Whether the session is what its live events give if they are stepped afresh: number by number
-/// and record by record, and the world at the end.
+/// and entry by entry, and the world at the end.
 pub(super) fn is_stepped_afresh(alloc: Global, session: &Session<2>) -> Result<bool, Refusal> {
     let mut again = Session::open(alloc, World::<2>::fresh(alloc, 4)?);
     for k in 0..session.len() {
@@ -365,7 +365,7 @@ fn undo_and_compare(
     }
 }
 
-/// Undoes the step of this number alone, if no later one depends on it, and redoes it: its record
+/// Undoes the step of this number alone, if no later one depends on it, and redoes it: its entry
 /// is then the last.
 fn undo_and_redo(
     rt: &impl Abort,

@@ -1,4 +1,4 @@
-//! Going over to the records that a session has, all of them stepped again, and to none; and going
+//! Going over to the entries that a session has, all of them stepped again, and to none; and going
 //! back and forth along them.
 
 ghost use Rattle.std.specs.Prelude.{◌≡◌, IfOk};
@@ -11,30 +11,30 @@ use rd_step::Entry;
 use std::alloc::{AllocError, Global};
 use std::test::Fail;
 
-/// A copy of the records of the live steps.
-pub(super) fn live_records<const R: usize>(
+/// A copy of the entries of the live steps.
+pub(super) fn live_entries<const R: usize>(
     alloc: Global,
     session: &Session<R>,
 ) -> Result<Vec<Entry>, AllocError>
-    ensures { IfOk result (λ records. records.items ≡ (journal session.now).live) }
+    ensures { IfOk result (λ entries. entries.items ≡ (journal session.now).live) }
 {
     let live = session.live();
-    let mut records = Vec::new(alloc);
+    let mut entries = Vec::new(alloc);
     for position in 0..live.len() {
-        records.push(*live.at(position))?;
+        entries.push(*live.at(position))?;
     }
-    Ok(records)
+    Ok(entries)
 }
 
-/// Undoes all steps and makes them again, from their records.
+/// Undoes all steps and makes them again, from their entries.
 pub(super) fn step_all_again(alloc: Global, session: &mut Session<2>) -> Result<(), Refusal> {
-    let records = live_records(alloc, session)?;
+    let entries = live_entries(alloc, session)?;
     let _world = session.world();
-    session.switch(0, &records)
+    session.switch(0, &entries)
 }
 
 #[test]
-fn a_session_goes_over_to_its_own_records_and_to_none(rt: HostRuntime) -> Result<(), Fail> {
+fn a_session_goes_over_to_its_own_entries_and_to_none(rt: HostRuntime) -> Result<(), Fail> {
     let mut session = mixed_run(rt.alloc(), STEPS, 4)?;
     session.roll(7)?;
     let live = session.len();

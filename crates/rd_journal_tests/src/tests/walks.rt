@@ -51,7 +51,7 @@ const BACK_AND_FORWARD: &[Line] = &[
 ];
 
 #[test]
-fn a_step_undone_and_redone_has_its_record(rt: HostRuntime) -> Result<(), Fail> {
+fn a_step_undone_and_redone_has_its_entry(rt: HostRuntime) -> Result<(), Fail> {
     let mut session = Session::open(rt.alloc(), World::<4>::poised(rt.alloc(), 4)?);
     play(&rt, &mut session, "nothing to undo", NOTHING_TO_UNDO);
     assert_eq!(rt; applied(&mut session, 2, Act::Go), Ok((1, None)));

@@ -4,8 +4,8 @@ ghost use Rattle.std.specs.Prelude.{◌≡◌, [], IsOk, OnOk, IfErr, OnErr};
 ghost use Rattle.rd_depend.specs.Beginnings.{Begins};
 ghost use Rattle.rd_journal.specs.Journal.{events};
 ghost use Rattle.rd_journal.specs.Sessions.{state, track, journal};
-ghost use Rattle.rd_marks.specs.Layout.{IsRecordOfRun};
-ghost use Rattle.rd_marks.specs.Stretches.{records_at, IsWithin};
+ghost use Rattle.rd_marks.specs.Layout.{AreEntriesOfRun};
+ghost use Rattle.rd_marks.specs.Stretches.{entries_at, IsWithin};
 
 use super::super::stretches::{Place, Stretches};
 use super::Bookmarks;
@@ -14,7 +14,7 @@ use rd_journal::Session;
 use std::alloc::Global;
 
 impl Bookmarks {
-    ghost use Rattle.rd_marks.specs.Kept.{lists_in, records_in, here_in, IsPlaceIn};
+    ghost use Rattle.rd_marks.specs.Kept.{lists_in, entries_in, here_in, IsPlaceIn};
 
     /// Makes the steps of a place the live ones, with none undone. If they are on the session's
     /// track, the session goes along it. Else the live steps with which they begin stay, and the
@@ -31,14 +31,14 @@ impl Bookmarks {
         place: Place,
     ) -> Result<(), Refusal>
         requires within { IsPlaceIn self.old place }
-        requires run { IsRecordOfRun R (state session.old).start (records_in self.old place) }
+        requires run { AreEntriesOfRun R (state session.old).start (entries_in self.old place) }
         requires stands { Begins (events (here_in self.old)) (track session.old) }
         ensures ok { OnOk result (state session.new
-            ≡ record { start = (state session.old).start; live = events (records_in self.old place); undone = [] }) }
+            ≡ record { start = (state session.old).start; live = events (entries_in self.old place); undone = [] }) }
         ensures lists { lists_in self.new ≡ lists_in self.old }
         ensures stands { Begins (events (here_in self.new)) (track session.new) }
         ensures err { IfErr result (λ refusal. refusal ≡ Refusal.NoMemory) }
-        ensures succeeds { Begins (events (records_in self.old place)) (state session.old).live → IsOk result }
+        ensures succeeds { Begins (events (entries_in self.old place)) (state session.old).live → IsOk result }
         ensures unchanged { OnErr result (journal session.new ≡ journal session.old) }
     {
         if self.stretches.common(self.here, place) == place.number {
@@ -68,20 +68,20 @@ fn exchange<const R: usize>(
 ) -> Result<(), Refusal>
     requires here { IsWithin stretches.now.list.items here }
     requires within { IsWithin stretches.now.list.items place }
-    requires run { IsRecordOfRun R (state session.old).start (records_at stretches.now.list.items place) }
-    requires stands { Begins (events (records_at stretches.now.list.items here)) (track session.old) }
+    requires run { AreEntriesOfRun R (state session.old).start (entries_at stretches.now.list.items place) }
+    requires stands { Begins (events (entries_at stretches.now.list.items here)) (track session.old) }
     ensures ok { OnOk result (state session.new
-        ≡ record { start = (state session.old).start; live = events (records_at stretches.now.list.items place); undone = [] }) }
+        ≡ record { start = (state session.old).start; live = events (entries_at stretches.now.list.items place); undone = [] }) }
     ensures err { IfErr result (λ refusal. refusal ≡ Refusal.NoMemory) }
-    ensures succeeds { Begins (events (records_at stretches.now.list.items place)) (state session.old).live → IsOk result }
+    ensures succeeds { Begins (events (entries_at stretches.now.list.items place)) (state session.old).live → IsOk result }
     ensures unchanged { OnErr result (journal session.new ≡ journal session.old) }
     ensures track { OnErr result (track session.new ≡ track session.old) }
 {
     let live = session.live();
     let beginning = stretches.follow(here.cut(live.len()), &live);
     let common = stretches.common(beginning, place);
-    match stretches.records_behind(alloc, place, common) {
+    match stretches.entries_behind(alloc, place, common) {
         Err(_) => Err(Refusal::NoMemory),
-        Ok(records) => session.switch(common as u64, &records),
+        Ok(entries) => session.switch(common as u64, &entries),
     }
 }

@@ -1,4 +1,4 @@
-//! Putting a bookmark last, giving back the records that no bookmark has, and keeping places where
+//! Putting a bookmark last, giving back the entries that no bookmark has, and keeping places where
 //! their stretches are.
 
 ghost use Rattle.std.specs.Prelude.{◌≡◌, ◌<◌, ◌≤◌, ◌++◌, [], ◌∷◌, None, suc, map, length};
@@ -42,8 +42,8 @@ pub(super) fn here_after(here: Place, len: usize, grown: Grown) -> Place
     }
 }
 
-/// Takes away the records that no bookmark needs, and the stretches that have none left, from the
-/// last stretch down. What lay on a record that goes lies at the last one before it that is left.
+/// Takes away the entries that no bookmark needs, and the stretches that have none left, from the
+/// last stretch down. What lay on an entry that goes lies at the last one before it that is left.
 pub(super) fn prune(
     stretches: &mut Stretches,
     names: &mut IndexMap<MarkName, Place>,
@@ -60,7 +60,7 @@ pub(super) fn prune(
     }
 }
 
-/// Takes away the records of one stretch that no bookmark needs, where all records of the stretches
+/// Takes away the entries of one stretch that no bookmark needs, where all entries of the stretches
 /// after it are needed.
 fn trim(
     stretches: &mut Stretches,
@@ -81,7 +81,7 @@ fn trim(
     *here = shift.shifted(kept_of(*here, i, needed));
 }
 
-/// Returns what is left of a place if the first `n` records of this stretch's list are left.
+/// Returns what is left of a place if the first `n` entries of this stretch's list are left.
 fn kept_of(place: Place, i: usize, n: usize) -> Place
     ensures stretch { result.stretch ≡ place.stretch }
     ensures number { result.number ≤ place.number }
@@ -94,7 +94,7 @@ fn kept_of(place: Place, i: usize, n: usize) -> Place
     }
 }
 
-/// Returns the greatest number of records of a bookmark's place in this stretch; 0 if no place is
+/// Returns the greatest number of entries of a bookmark's place in this stretch; 0 if no place is
 /// in it.
 fn greatest_in(names: &IndexMap<MarkName, Place>, i: usize) -> usize
     ensures { result ≡ greatest_in i (places_of names.now.entries) }
@@ -109,14 +109,14 @@ fn greatest_in(names: &IndexMap<MarkName, Place>, i: usize) -> usize
     greatest
 }
 
-/// Returns the number of records of a place if it is in this stretch, else 0.
+/// Returns the number of entries of a place if it is in this stretch, else 0.
 fn number_if_in(i: usize, place: Place) -> usize
     ensures { result ≡ number_if_in i place }
 {
     if place.stretch == i { place.number } else { 0 }
 }
 
-/// Changes the place of each bookmark to where its records are after the stretches got other
+/// Changes the place of each bookmark to where its entries are after the stretches got other
 /// numbers.
 fn move_all(names: &mut IndexMap<MarkName, Place>, shift: Shift)
     requires { All (λ m. IsLow m.1) names.old.entries }

@@ -12,7 +12,7 @@ use rd_origin::{last_writer, origin};
 
 impl<const R: usize> Book<R> {
     ghost use Rattle.rd_marks.specs.BookViews.{book_state};
-    ghost use Rattle.rd_marks.specs.Commands.{step_counts, reply_with, content_in, words_in, record_in};
+    ghost use Rattle.rd_marks.specs.Commands.{step_counts, reply_with, content_in, words_in, entry_in};
     ghost use Rattle.rd_marks.specs.declared.replies.Reply.TheVariants.{Origin as OriginIs, Writer as WriterIs, Content as ContentIs, Actor as ActorIs, Step as StepIs};
 
     /// How many steps are live and how many are undone.
@@ -59,9 +59,9 @@ impl<const R: usize> Book<R> {
         }
     }
 
-    /// The record of the live step of this number.
+    /// The entry of the live step of this number.
     pub(super) fn answer_step(&self, number: u64) -> Result<Reply, Refusal>
-        ensures { result ≡ reply_with (λ entry. StepIs number entry) (record_in number (run_of R (book_state self.now).session)) }
+        ensures { result ≡ reply_with (λ entry. StepIs number entry) (entry_in number (run_of R (book_state self.now).session)) }
     {
         let entry = self.session.entry(number)?;
         Ok(Reply::Step { number, entry })

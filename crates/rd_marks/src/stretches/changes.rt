@@ -7,7 +7,7 @@ ghost use Rattle.rd_step.specs.Prelude.{MOST_STEPS};
 ghost use Rattle.rd_step.specs.Run.{events};
 
 use super::{Place, Stretch, Stretches};
-use rd_journal::LiveRecords;
+use rd_journal::LiveEntries;
 use rd_step::Entry;
 use std::alloc::{AllocError, Global};
 
@@ -25,7 +25,7 @@ pub(crate) enum Shift {
 impl Shift {
     ghost use Rattle.rd_marks.specs.Changes.{shifted, IsLow};
 
-    /// Returns the place of the same records after the shift.
+    /// Returns the place of the same entries after the shift.
     pub(crate) fn shifted(self, place: Place) -> Place
         requires { IsLow place }
         ensures { result ≡ shifted self place }
@@ -38,7 +38,7 @@ impl Shift {
     }
 }
 
-/// The place of the same records after a stretch was put before that of this number.
+/// The place of the same entries after a stretch was put before that of this number.
 fn raised(i: usize, place: Place) -> Place
     requires { IsLow place }
     ensures { result ≡ raised i place }
@@ -52,8 +52,8 @@ fn raised(i: usize, place: Place) -> Place
     }
 }
 
-/// Returns the place of the same records after the stretch of this number was taken away, none of
-/// whose own records it had.
+/// Returns the place of the same entries after the stretch of this number was taken away, none of
+/// whose own entries it had.
 fn lowered(i: usize, place: Place) -> Place
     ensures { result ≡ lowered i place }
 {
@@ -66,7 +66,7 @@ fn lowered(i: usize, place: Place) -> Place
     }
 }
 
-/// Where records were put, and what became of the numbers of the stretches.
+/// Where entries were put, and what became of the numbers of the stretches.
 #[derive(Clone, Copy)]
 pub(crate) struct Grown {
     pub(crate) place: Place,
@@ -74,10 +74,10 @@ pub(crate) struct Grown {
 }
 
 impl Stretches {
-    ghost use Rattle.rd_marks.specs.Stretches.{list_before, shared_at, records_at, IsWithin, IsEnd, IsAlong, IsDeepest};
+    ghost use Rattle.rd_marks.specs.Stretches.{list_before, shared_at, entries_at, IsWithin, IsEnd, IsAlong, IsDeepest};
     ghost use Rattle.rd_marks.specs.Changes.{IsGrown, IsShrunk, IsUnchanged};
 
-    /// Adds to the records of a place, with which the live steps begin, those of the other live
+    /// Adds to the entries of a place, with which the live steps begin, those of the other live
     /// steps, where no list has the next of these: at the end of the place's stretch, or in a new
     /// one.
     ///
@@ -89,7 +89,7 @@ impl Stretches {
         &mut self,
         alloc: Global,
         at: Place,
-        live: &LiveRecords,
+        live: &LiveEntries,
     ) -> Result<Grown, AllocError>
         requires within { IsWithin self.old.list.items at }
         requires few { length live.now ≤ MOST_STEPS }
@@ -118,17 +118,17 @@ impl Stretches {
     {
         match self.list.get(at.stretch) {
             None => false,
-            Some(stretch) => stretch.shared + stretch.records.len() == at.number,
+            Some(stretch) => stretch.shared + stretch.entries.len() == at.number,
         }
     }
 
-    /// Puts the other records of the live steps at the end of the stretch whose list ends at a
+    /// Puts the other entries of the live steps at the end of the stretch whose list ends at a
     /// place.
     ///
     /// # Errors
     ///
     /// `AllocError` if the room was refused. The lists stay.
-    fn extend(&mut self, at: Place, live: &LiveRecords) -> Result<Grown, AllocError>
+    fn extend(&mut self, at: Place, live: &LiveEntries) -> Result<Grown, AllocError>
         requires end { IsEnd self.old.list.items at }
         requires more { at.number < length live.now }
         requires few { length live.now ≤ MOST_STEPS }
@@ -138,7 +138,7 @@ impl Stretches {
         ensures err { OnErr result (IsUnchanged self.old.list.items self.new.list.items) }
     {
         let rest = live.behind(at.number);
-        append(&mut self.list[at.stretch].records, &rest)?;
+        append(&mut self.list[at.stretch].entries, &rest)?;
         Ok(Grown {
             place: Place {
                 stretch: at.stretch,
@@ -148,7 +148,7 @@ impl Stretches {
         })
     }
 
-    /// Puts the other records of the live steps into a new stretch, which shares those of a place.
+    /// Puts the other entries of the live steps into a new stretch, which shares those of a place.
     ///
     /// # Errors
     ///
@@ -157,7 +157,7 @@ impl Stretches {
         &mut self,
         alloc: Global,
         at: Place,
-        live: &LiveRecords,
+        live: &LiveEntries,
     ) -> Result<Grown, AllocError>
         requires within { IsWithin self.old.list.items at }
         requires more { at.number < length live.now }
@@ -169,11 +169,11 @@ impl Stretches {
     {
         let i = self.next_off(at);
         self.list.reserve(1)?;
-        let mut records = Vec::new(alloc);
-        append(&mut records, &live.behind(at.number))?;
+        let mut entries = Vec::new(alloc);
+        append(&mut entries, &live.behind(at.number))?;
         let stretch = Stretch {
             shared: at.number,
-            records,
+            entries,
         };
         match self.list.insert(i, stretch) {
             Err(_) => unreachable!(),
@@ -188,14 +188,14 @@ impl Stretches {
     }
 
     /// Returns the first stretch after that of a place whose list shares, with the list before it,
-    /// at most as many records as the place has; the number of stretches if there is none.
+    /// at most as many entries as the place has; the number of stretches if there is none.
     fn next_off(&self, at: Place) -> usize
         requires { IsWithin self.now.list.items at }
         ensures there { result ≤ length self.now.list.items }
         ensures first { 0 < length self.now.list.items → 0 < result }
         ensures shares { shared_at self.now.list.items result ≤ at.number }
         ensures within { at.number ≤ length (list_before self.now.list.items result) }
-        ensures same { take at.number (list_before self.now.list.items result) ≡ records_at self.now.list.items at }
+        ensures same { take at.number (list_before self.now.list.items result) ≡ entries_at self.now.list.items at }
     {
         for i in at.stretch..self.list.len() {
             if self.shared(i) <= at.number && i > at.stretch {
@@ -205,8 +205,8 @@ impl Stretches {
         self.list.len()
     }
 
-    /// Takes away the records of a stretch's list after the first `n`, none of which is shared by
-    /// the next one, and gives their room back; the whole stretch goes if none of its records are
+    /// Takes away the entries of a stretch's list after the first `n`, none of which is shared by
+    /// the next one, and gives their room back; the whole stretch goes if none of its entries are
     /// left. Returns what became of the numbers of the stretches.
     pub(crate) fn shrink(&mut self, i: usize, n: usize) -> Shift
         requires there { i < length self.old.list.items }
@@ -218,33 +218,33 @@ impl Stretches {
             let _gone = self.list.remove(i);
             return Shift::Down(i);
         }
-        cut(&mut self.list[i].records, n - shared);
+        cut(&mut self.list[i].entries, n - shared);
         Shift::Same
     }
 }
 
-/// Appends these records to others.
+/// Appends these entries to others.
 ///
 /// # Errors
 ///
-/// `AllocError` if the room was refused. The records stay.
-fn append(records: &mut Vec<Entry>, more: &LiveRecords) -> Result<(), AllocError>
-    ensures ok { OnOk result (records.new.items ≡ records.old.items ++ more.now) }
-    ensures err { OnErr result (records.new.items ≡ records.old.items) }
+/// `AllocError` if the room was refused. The entries stay.
+fn append(entries: &mut Vec<Entry>, more: &LiveEntries) -> Result<(), AllocError>
+    ensures ok { OnOk result (entries.new.items ≡ entries.old.items ++ more.now) }
+    ensures err { OnErr result (entries.new.items ≡ entries.old.items) }
 {
-    records.reserve(more.len())?;
+    entries.reserve(more.len())?;
     for index in 0..more.len() {
-        records.push_reserved(*more.at(index));
+        entries.push_reserved(*more.at(index));
     }
     Ok(())
 }
 
-/// Keeps the first `n` records, and gives the room of the others back.
-fn cut(records: &mut Vec<Entry>, n: usize)
-    ensures { records.new.items ≡ take n records.old.items }
+/// Keeps the first `n` entries, and gives the room of the others back.
+fn cut(entries: &mut Vec<Entry>, n: usize)
+    ensures { entries.new.items ≡ take n entries.old.items }
 {
-    if n < records.len() {
-        records.truncate(n);
-        records.shrink_to_fit();
+    if n < entries.len() {
+        entries.truncate(n);
+        entries.shrink_to_fit();
     }
 }

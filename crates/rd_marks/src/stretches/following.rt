@@ -5,15 +5,15 @@ ghost use Rattle.rd_step.specs.Run.{events};
 ghost use Rattle.rd_step.specs.declared.entries.Event.{Event as Happening};
 
 use super::{Place, Stretches};
-use rd_journal::LiveRecords;
+use rd_journal::LiveEntries;
 use rd_step::{Entry, Event};
 
 impl Stretches {
     ghost use Rattle.rd_marks.specs.Stretches.{shared_at, IsWithin, IsAlong, IsDeepest};
 
-    /// Returns the place with the most records with which the live steps begin, found from a place
-    /// with whose records they begin.
-    pub(crate) fn follow(&self, from: Place, live: &LiveRecords) -> Place
+    /// Returns the place with the most entries with which the live steps begin, found from a place
+    /// with whose entries they begin.
+    pub(crate) fn follow(&self, from: Place, live: &LiveEntries) -> Place
         requires within { IsWithin self.now.list.items from }
         requires along { IsAlong self.now.list.items from.stretch from.number (events live.now) }
         ensures within { IsWithin self.now.list.items result }
@@ -34,8 +34,8 @@ impl Stretches {
     }
 
     /// Returns how many of the live steps the list of a stretch begins with; the first `n` are
-    /// known, and the records after them are the stretch's own.
-    fn along(&self, i: usize, n: usize, live: &LiveRecords) -> usize
+    /// known, and the entries after them are the stretch's own.
+    fn along(&self, i: usize, n: usize, live: &LiveEntries) -> usize
         requires there { i < length self.now.list.items }
         requires own { shared_at self.now.list.items i ≤ n }
         requires along { IsAlong self.now.list.items i n (events live.now) }
@@ -45,13 +45,13 @@ impl Stretches {
     {
         let stretch = &self.list[i];
         n + alike(
-            own_behind(&stretch.records, n - stretch.shared),
+            own_behind(&stretch.entries, n - stretch.shared),
             &live.behind(n),
         )
     }
 }
 
-/// Returns the place of `number` records in this stretch if that is more than `at` has, else `at`.
+/// Returns the place of `number` entries in this stretch if that is more than `at` has, else `at`.
 fn farther(at: Place, i: usize, number: usize) -> Place
     requires { at.number ≤ number }
     ensures more { at.number < number → result ≡ record { stretch = i; number = number } }
@@ -64,36 +64,36 @@ fn farther(at: Place, i: usize, number: usize) -> Place
     }
 }
 
-/// How many of the live steps these records begin with.
-fn alike(records: &[Entry], live: &LiveRecords) -> usize
-    ensures enough { result ≤ length records.now }
+/// How many of the live steps these entries begin with.
+fn alike(entries: &[Entry], live: &LiveEntries) -> usize
+    ensures enough { result ≤ length entries.now }
     ensures within { result ≤ length live.now }
-    ensures alike { take result (events records.now) ≡ take result (events live.now) }
-    ensures most { (e : Happening) → slice_get (events records.now) result ≡ Some e → slice_get (events live.now) result ≡ Some e → ⊥ }
+    ensures alike { take result (events entries.now) ≡ take result (events live.now) }
+    ensures most { (e : Happening) → slice_get (events entries.now) result ≡ Some e → slice_get (events live.now) result ≡ Some e → ⊥ }
 {
-    let most = records.len().min(live.len());
+    let most = entries.len().min(live.len());
     for n in 0..most {
-        if !is_same(&get_record(records, n).event, &live.at(n).event) {
+        if !is_same(&get_entry(entries, n).event, &live.at(n).event) {
             return n;
         }
     }
     most
 }
 
-/// Returns the records after the first `n`.
-fn own_behind(records: &[Entry], n: usize) -> &[Entry]
-    requires { n ≤ length records.now }
-    ensures { result.now ≡ drop n records.now }
+/// Returns the entries after the first `n`.
+fn own_behind(entries: &[Entry], n: usize) -> &[Entry]
+    requires { n ≤ length entries.now }
+    ensures { result.now ≡ drop n entries.now }
 {
-    &records[n..]
+    &entries[n..]
 }
 
-/// Returns the record at this index.
-fn get_record(records: &[Entry], index: usize) -> &Entry
-    requires { index < length records.now }
-    ensures { result.now ≡ slice_index_or records.now index result.now }
+/// Returns the entry at this index.
+fn get_entry(entries: &[Entry], index: usize) -> &Entry
+    requires { index < length entries.now }
+    ensures { result.now ≡ slice_index_or entries.now index result.now }
 {
-    &records[index]
+    &entries[index]
 }
 
 /// Whether two events are equal.

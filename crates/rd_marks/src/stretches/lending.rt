@@ -1,4 +1,4 @@
-//! The records of a place, lent and copied.
+//! The entries of a place, lent and copied.
 
 ghost use Rattle.std.specs.Prelude.{◌≡◌, ◌<◌, ◌≤◌, ◌-◌, Some, drop, slice_get, IsOk, IfOk, IfSome};
 ghost use Rattle.std.specs.Cow.{cow_slice_items};
@@ -11,12 +11,12 @@ use std::alloc::{AllocError, Global};
 use std::borrow::CowSlice;
 
 impl Stretches {
-    ghost use Rattle.rd_marks.specs.Stretches.{records_at, IsWithin, IsOwn};
+    ghost use Rattle.rd_marks.specs.Stretches.{entries_at, IsWithin, IsOwn};
 
-    /// The event of this number, from 1, of the records of a place, if there is one.
+    /// The event of this number, from 1, of the entries of a place, if there is one.
     pub(crate) fn event_at(&self, of: Place, n: u64) -> Option<Event>
         requires { IsWithin self.now.list.items of }
-        ensures { result ≡ numbered (events (records_at self.now.list.items of)) n }
+        ensures { result ≡ numbered (events (entries_at self.now.list.items of)) n }
     {
         if n == 0 || n > of.number as u64 {
             return None;
@@ -24,25 +24,25 @@ impl Stretches {
         Some(self.last(self.own_place(of.cut(n as usize))).event)
     }
 
-    /// Returns the last record of a place, which must be its stretch's own.
+    /// Returns the last entry of a place, which must be its stretch's own.
     fn last(&self, of: Place) -> &Entry
         requires within { IsWithin self.now.list.items of }
         requires own { IsOwn self.now.list.items of }
         requires some { 0 < of.number }
-        ensures { slice_get (records_at self.now.list.items of) (of.number - 1) ≡ Some result.now }
+        ensures { slice_get (entries_at self.now.list.items of) (of.number - 1) ≡ Some result.now }
     {
         let stretch = &self.list[of.stretch];
-        &stretch.records[of.number - stretch.shared - 1]
+        &stretch.entries[of.number - stretch.shared - 1]
     }
 
-    /// Returns the records of a place after the first `n`: lent if they are of one stretch, as for
+    /// Returns the entries of a place after the first `n`: lent if they are of one stretch, as for
     /// most places, else copied.
     ///
     /// # Errors
     ///
     /// `AllocError` if memory was refused for a copy, which never happens if there are no such
-    /// records.
-    pub(crate) fn records_behind(
+    /// entries.
+    pub(crate) fn entries_behind(
         &self,
         alloc: Global,
         of: Place,
@@ -50,31 +50,31 @@ impl Stretches {
     ) -> Result<CowSlice<'_, Entry>, AllocError>
         requires present { IsWithin self.now.list.items of }
         requires within { n ≤ of.number }
-        ensures ok { IfOk result (λ records. cow_slice_items records ≡ drop n (records_at self.now.list.items of)) }
+        ensures ok { IfOk result (λ entries. cow_slice_items entries ≡ drop n (entries_at self.now.list.items of)) }
         ensures succeeds { of.number ≡ n → IsOk result }
     {
         let own = self.own_place(of);
-        if let Some(records) = self.slice(own, n) {
-            return Ok(CowSlice::Borrowed(records));
+        if let Some(entries) = self.slice(own, n) {
+            return Ok(CowSlice::Borrowed(entries));
         }
         Ok(CowSlice::Owned(self.copy(alloc, own, n)?))
     }
 
-    /// Returns the records of a place after the first `n`, if they are all of the place's stretch.
+    /// Returns the entries of a place after the first `n`, if they are all of the place's stretch.
     fn slice(&self, of: Place, n: usize) -> Option<&[Entry]>
         requires present { IsWithin self.now.list.items of }
         requires own { IsOwn self.now.list.items of }
         requires within { n ≤ of.number }
-        ensures { IfSome result (λ records. records.now ≡ drop n (records_at self.now.list.items of)) }
+        ensures { IfSome result (λ entries. entries.now ≡ drop n (entries_at self.now.list.items of)) }
     {
         let stretch = self.list.get(of.stretch)?;
         if n < stretch.shared {
             return None;
         }
-        Some(&stretch.records[n - stretch.shared..of.number - stretch.shared])
+        Some(&stretch.entries[n - stretch.shared..of.number - stretch.shared])
     }
 
-    /// A copy of the records of a place after the first `n`.
+    /// A copy of the entries of a place after the first `n`.
     ///
     /// # Errors
     ///
@@ -82,34 +82,34 @@ impl Stretches {
     fn copy(&self, alloc: Global, of: Place, n: usize) -> Result<Vec<Entry>, AllocError>
         requires present { IsWithin self.now.list.items of }
         requires within { n ≤ of.number }
-        ensures ok { IfOk result (λ records. records.items ≡ drop n (records_at self.now.list.items of)) }
+        ensures ok { IfOk result (λ entries. entries.items ≡ drop n (entries_at self.now.list.items of)) }
         ensures succeeds { of.number ≡ n → IsOk result }
     {
-        let mut records = Vec::with_capacity(alloc, of.number - n)?;
+        let mut entries = Vec::with_capacity(alloc, of.number - n)?;
         let mut at = of;
         while at.number > n {
             at = self.own_place(at);
-            records.push_reserved(*self.last(at));
+            entries.push_reserved(*self.last(at));
             at.number -= 1;
         }
-        records.reverse();
-        Ok(records)
+        entries.reverse();
+        Ok(entries)
     }
 
-    /// Returns the events of the records of a place.
+    /// Returns the events of the entries of a place.
     ///
     /// # Errors
     ///
     /// `AllocError` if memory was refused for them, which never happens if there are none.
     pub(crate) fn events(&self, alloc: Global, of: Place) -> Result<Vec<Event>, AllocError>
         requires { IsWithin self.now.list.items of }
-        ensures ok { IfOk result (λ list. list.items ≡ events (records_at self.now.list.items of)) }
+        ensures ok { IfOk result (λ list. list.items ≡ events (entries_at self.now.list.items of)) }
         ensures succeeds { of.number ≡ 0 → IsOk result }
     {
-        let records = self.records_behind(alloc, of, 0)?;
-        let mut list = Vec::with_capacity(alloc, records.len())?;
-        for i in 0..records.len() {
-            list.push_reserved(records[i].event);
+        let entries = self.entries_behind(alloc, of, 0)?;
+        let mut list = Vec::with_capacity(alloc, entries.len())?;
+        for i in 0..entries.len() {
+            list.push_reserved(entries[i].event);
         }
         Ok(list)
     }

@@ -2,7 +2,7 @@
 //!
 //! A run makes the lines of all its answers in one buffer, so that no answer needs a new one. It
 //! makes the line of a reply or of a refusal from just that, since a whole `LineAnswer`, which has
-//! room for a step's record, takes time to copy.
+//! room for a step's entry, takes time to copy.
 
 ghost use Rattle.std.specs.Prelude.{◌≡◌, [], ◌∷◌, Ok, Err};
 ghost use Rattle.rd_script.specs.Puts.{Puts, PutsUpTo};

@@ -1,4 +1,4 @@
-//! The tests of steps that are made again by their records.
+//! The tests of steps that are made again by their entries.
 
 use super::Word::{Crq, New, Pass, T};
 use super::*;
@@ -94,7 +94,7 @@ fn a_step_made_again_leaves_what_it_left_at_first(rt: HostRuntime) -> Result<(),
     Ok(())
 }
 
-/// Makes the step of a row, puts the words of its record back and makes it again, beside a copy
+/// Makes the step of a row, puts the words of its entry back and makes it again, beside a copy
 /// that is stepped once.
 fn make_again(rt: &impl Abort, alloc: Global, row: Row) -> Result<(), Fail> {
     let actor = actor_at(row.at, row.op, &[]);

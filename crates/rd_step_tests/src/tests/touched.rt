@@ -1,10 +1,10 @@
-//! What the record of a step says that the step touched, by examples.
+//! What the entry of a step says that the step touched, by examples.
 
 use rd_cell::{Cell, Content, Place, SegName, Wrote};
 use rd_step::Entry;
 use test_kit::record;
 
-/// A record, by what matters of it, and what it says.
+/// An entry, by what matters of it, and what it says.
 #[derive(Clone, Copy)]
 struct Row {
     place: Option<Place>,
@@ -67,7 +67,7 @@ const ROWS: [Row; 5] = [
 ];
 
 #[test]
-fn a_record_says_what_its_step_wrote_and_made(rt: HostRuntime) {
+fn an_entry_says_what_its_step_wrote_and_made(rt: HostRuntime) {
     for row in ROWS {
         let entry = Entry {
             old_content: row.old_content,

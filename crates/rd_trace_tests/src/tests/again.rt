@@ -7,8 +7,8 @@ use std::alloc::Global;
 use std::process::Abort;
 use std::test::Fail;
 
-/// Whether two books have the same live records.
-fn same_records<const R: usize>(one: &Book<R>, other: &Book<R>) -> bool {
+/// Whether two books have the same live entries.
+fn same_entries<const R: usize>(one: &Book<R>, other: &Book<R>) -> bool {
     for k in 0..one.session().len() {
         if other.session().entry(k + 1) != one.session().entry(k + 1) {
             return false;
@@ -17,7 +17,7 @@ fn same_records<const R: usize>(one: &Book<R>, other: &Book<R>) -> bool {
     other.session().len() == one.session().len()
 }
 
-/// A loaded book has the live records of another one, as many undone steps and bookmarks, and its
+/// A loaded book has the live entries of another one, as many undone steps and bookmarks, and its
 /// trace.
 fn are_alike<const R: usize>(
     rt: &impl Abort,
@@ -28,7 +28,7 @@ fn are_alike<const R: usize>(
     let counted = loaded.session().undone_len() == one.session().undone_len()
         && loaded.marks() == one.marks();
     let traced = written(alloc, loaded)?.as_slice() == written(alloc, one)?.as_slice();
-    assert!(rt; same_records(one, loaded) && counted && traced);
+    assert!(rt; same_entries(one, loaded) && counted && traced);
     Ok(())
 }
 

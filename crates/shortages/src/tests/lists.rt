@@ -7,7 +7,7 @@ use rd_script::{LineFault, command_in, lines};
 use std::alloc::Global;
 use std::process::Abort;
 
-/// Nine steps, for whose records the room is made anew more than once, with an undo and a query.
+/// Nine steps, for whose entries the room is made anew more than once, with an undo and a query.
 const COMMANDS: [Command; 11] = [
     Command::Enq(1, 7),
     Command::Go(1),

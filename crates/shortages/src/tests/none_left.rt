@@ -1,4 +1,4 @@
-//! Undos, redos, dropped bookmarks, one that needs no new record, and queries while all memory is
+//! Undos, redos, dropped bookmarks, one that needs no new entry, and queries while all memory is
 //! refused.
 
 use super::trials::{Trial, look, plays};

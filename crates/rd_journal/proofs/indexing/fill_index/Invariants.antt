@@ -1,10 +1,10 @@
 use Rattle.std.proofs.Common.{◌≤◌, length, take, drop}
-use Rattle.rd_journal.proofs.Prelude.{IsIndexOf, HasRoomFor, kept_records}
+use Rattle.rd_journal.proofs.Prelude.{IsIndexOf, HasRoomFor, kept_entries}
 use Rattle.rd_journal.proofs.indexing.fill_index.Given as goal
 
 abbrev pub invariant-loop-next : goal.invariant-loop-next
 invariant-loop-next l = record {
-  within : l.next ≤ length (kept_records l.records);
-  put : IsIndexOf l.index (take l.next (kept_records l.records));
-  room : HasRoomFor l.index (drop l.next (kept_records l.records));
+  within : l.next ≤ length (kept_entries l.entries);
+  put : IsIndexOf l.index (take l.next (kept_entries l.entries));
+  room : HasRoomFor l.index (drop l.next (kept_entries l.entries));
 }

@@ -1,12 +1,12 @@
 use Rattle.std.proofs.Common.{◌≡◌, ◌∙◌, ℕ, List, [], ◌++◌, take, drop, sym, subst, arith}
-use Rattle.rd_journal.proofs.Prelude.{append-nil, length-take-le, Entry, HasRoomFor, not_refused, kept_records}
+use Rattle.rd_journal.proofs.Prelude.{append-nil, length-take-le, Entry, HasRoomFor, not_refused, kept_entries}
 use Rattle.rd_journal.proofs.IndexRoom.{fits_none, fits_last}
 use Rattle.rd_journal.proofs.Outcomes.{err_then, in_error}
 use Rattle.rd_journal.proofs.indexing.index_instead.Goals as goal
 
 pub fill_index-requires-clause-room : goal.fill_index-requires-clause-room
 fill_index-requires-clause-room c =
-    let kept = kept_records c.args.records.now in
+    let kept = kept_entries c.args.entries.now in
     let n = c.args.n in
     let index = c.push_all-put.new.self in
     let err = sym c.is_err.ensures.value ∙ c.if-is_err.true in

@@ -1,9 +1,9 @@
 use Rattle.std.proofs.Common.{◌≡◌, ◌∙◌, ◌<◌, List, ◌++◌, length, take, inl, inr, refl, sym, ap, subst, arith}
-use Rattle.rd_journal.proofs.Prelude.{append-nil, take_all, take-append-le, Entry, NoMemory, model, room, MOST_STEPS, error_passed_up, fact_passed_up, IsIndexOf, ok_then, IsLengthened, whole_journal, journal_of, live_records, ahead_records, journal}
+use Rattle.rd_journal.proofs.Prelude.{append-nil, take_all, take-append-le, Entry, NoMemory, model, room, MOST_STEPS, error_passed_up, fact_passed_up, IsIndexOf, ok_then, IsLengthened, whole_journal, journal_of, live_entries, ahead_entries, journal}
 use Rattle.rd_journal.proofs.Ahead.{is_session, none_taken}
 use Rattle.rd_journal.proofs.Calls.{live_len, apply_refused, apply_goes, longer_session, same_session}
 use Rattle.rd_journal.proofs.Outcomes.{err_then}
-use Rattle.rd_journal.proofs.RecordLemmas.{full_records}
+use Rattle.rd_journal.proofs.EntryLemmas.{full_entries}
 use Rattle.rd_journal.proofs.RoomLemmas.{stepped_back}
 use Rattle.rd_journal.proofs.Runs.{now_formed, just_stepped}
 use Rattle.rd_journal.proofs.sessions.Session.apply.Goals as goal
@@ -13,7 +13,7 @@ invariant_of-self g c =
     let self = c.args.self.now in
     record {
       kept =
-          same_session g.row.R (whole_journal (model self.world) self.records) (whole_journal (model self.world) c.make_room_for.new.self) (room self.world) (room self.world) self.kept
+          same_session g.row.R (whole_journal (model self.world) self.entries) (whole_journal (model self.world) c.make_room_for.new.self) (room self.world) (room self.world) self.kept
           (λ i. record { world = model self.world; live = c.make_room_for.ensures.live i; undone = c.make_room_for.ensures.ahead i })
           (λ m. omega arith);
       within = omega (arith, self.within, ap length c.make_room_for.ensures.ahead);
@@ -27,7 +27,7 @@ returns-in_err-make_room_for-clause-err g c =
     (inr (refl, omega (arith, live_len old, c.live_len.ensures, (is_session c.args.self.now).few)))
 
 pub returns-in_err-make_room_for-clause-memory : goal.returns-in_err-make_room_for-clause-memory
-returns-in_err-make_room_for-clause-memory g c = grind (arith, full_records, error_passed_up, is_session, none_taken)
+returns-in_err-make_room_for-clause-memory g c = grind (arith, full_entries, error_passed_up, is_session, none_taken)
 
 pub returns-in_err-make_room_for-clause-unchanged : goal.returns-in_err-make_room_for-clause-unchanged
 returns-in_err-make_room_for-clause-unchanged g c =
@@ -42,7 +42,7 @@ invariant_of-self-in-Break-branch-2 g c =
     let self = c.args.self.now in
     record {
       kept =
-          same_session g.row.R (whole_journal (model self.world) self.records) (whole_journal (model c.step.new.self) c.make_room_for.new.self) (room self.world)
+          same_session g.row.R (whole_journal (model self.world) self.entries) (whole_journal (model c.step.new.self) c.make_room_for.new.self) (room self.world)
           (room c.step.new.self) self.kept
           (λ i. record { world = c.in_err-entry.ensures.unchanged i; live = c.make_room_for.ensures.live i; undone = c.make_room_for.ensures.ahead i })
           c.in_err-entry.ensures.kept;
@@ -96,7 +96,7 @@ invariant_of-self-then-is_err g c =
     c.in_ok-entry.ensures.ok).back in
     record {
       kept =
-          same_session g.row.R (whole_journal (model self.world) self.records) (whole_journal (model c.unstep.new.world) c.make_room_for.new.self) (room self.world)
+          same_session g.row.R (whole_journal (model self.world) self.entries) (whole_journal (model c.unstep.new.world) c.make_room_for.new.self) (room self.world)
           (room c.unstep.new.world) self.kept
           (λ i. record { world = (c.unstep.ensures.back ∙ back) i; live = c.make_room_for.ensures.live i; undone = c.make_room_for.ensures.ahead i })
           (stepped_back g.row.R (model self.world) (model c.step.new.self) c.args.event c.in_ok-entry.entry (room self.world) (room c.step.new.self) (room c.unstep.new.world)
@@ -119,13 +119,13 @@ returns-then-is_err-clause-unchanged g c =
 pub invariant_of-self-2 : goal.invariant_of-self-2
 invariant_of-self-2 g c =
     let self = c.args.self.now in
-    let old = whole_journal (model self.world) self.records in
+    let old = whole_journal (model self.world) self.entries in
     let new = whole_journal (model c.step.new.self) c.exchange.new.self in
     let less : length old.live < MOST_STEPS = omega (arith, c.live_len.ensures, self.kept.few) in
-    let whole : take c.live_len-live.result (live_records c.make_room_for.new.self) ≡ old.live =
+    let whole : take c.live_len-live.result (live_entries c.make_room_for.new.self) ≡ old.live =
     ap (take c.live_len-live.result) c.make_room_for.ensures.live ∙ take_all c.live_len-live.result old.live (omega (arith, c.live_len-live.ensures)) in
     let longer : IsLengthened c.in_ok-entry.entry old new = grind arith in
-    let first : take c.live_len-live.result (live_records c.make_room_for.new.self ++ ahead_records c.make_room_for.new.self) ≡ take c.live_len-live.result (live_records c.make_room_for.new.self) =
+    let first : take c.live_len-live.result (live_entries c.make_room_for.new.self ++ ahead_entries c.make_room_for.new.self) ≡ take c.live_len-live.result (live_entries c.make_room_for.new.self) =
     grind (arith, take-append-le) in
     record {
       kept =
@@ -142,7 +142,7 @@ returns-clause-ok g c =
     let old = journal self in
     let new = journal_of (model c.step.new.self) c.exchange.new.self 0 in
     let less : length old.live < MOST_STEPS = omega (arith, c.live_len.ensures, self.kept.few) in
-    let whole : take c.live_len-live.result (live_records c.make_room_for.new.self) ≡ old.live =
+    let whole : take c.live_len-live.result (live_entries c.make_room_for.new.self) ≡ old.live =
     ap (take c.live_len-live.result) c.make_room_for.ensures.live ∙ take_all c.live_len-live.result old.live (omega (arith, c.live_len-live.ensures)) in
     let longer : IsLengthened c.in_ok-entry.entry old new = grind arith in
     apply_goes g.row.R old new c.args.event c.in_ok-entry.entry (is_session self).runs less c.in_ok-entry.ensures.ok longer

@@ -12,7 +12,7 @@ returns-then-k-eq0-clause-found g c = grind (arith, entry_missing, then-k-eq0-vi
 pub returns-clause-found : goal.returns-clause-found
 returns-clause-found g c =
     let x = c.live_at.result.now in
-    entry_found (journal c.args.self.now) c.args.k x (omega arith) (omega (arith, c.len-len.ensures.records)) c.live_at.ensures
+    entry_found (journal c.args.self.now) c.args.k x (omega arith) (omega (arith, c.len-len.ensures.entries)) c.live_at.ensures
 
 pub returns-clause-step : goal.returns-clause-step
 returns-clause-step g c = grind (arith, step_after, is_session)

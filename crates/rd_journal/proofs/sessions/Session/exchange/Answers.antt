@@ -1,5 +1,5 @@
 use Rattle.std.proofs.Common.{◌≡◌, ◌∙◌, ◌≤◌, Ok, List, ◌++◌, length, take, drop, refl, sym, ap, subst, arith}
-use Rattle.rd_journal.proofs.Prelude.{append-nil, length-take-le, take-append-le, drop_at, model, room, run, Entry, IsIndexOf, events, start_of, IsRunFrom, LeadsTo, whole_journal, journal_of, IsSwitched, live_records, ahead_records, HasRoom, room_without, journal}
+use Rattle.rd_journal.proofs.Prelude.{append-nil, length-take-le, take-append-le, drop_at, model, room, run, Entry, IsIndexOf, events, start_of, IsRunFrom, LeadsTo, whole_journal, journal_of, IsSwitched, live_entries, ahead_entries, HasRoom, room_without, journal}
 use Rattle.rd_journal.proofs.Ahead.{is_session}
 use Rattle.rd_journal.proofs.Starting.{live_lead}
 use Rattle.rd_journal.proofs.Switching.{room_for_all, room_given, runs_on, exchanged, switched_state}
@@ -60,7 +60,7 @@ invariant_of-self-2 g c =
     c.behind.ensures ∙ ap (drop n) (c.live-2.ensures ∙ c.exchange.ensures.live) ∙ drop_at kept given n (length-take-le n j.live c.requires.within) in
     let goes : run g.row.R w (events given) ≡ Ok (record { world = new.world; entries = given }) =
     subst (λ (xs : List Entry). run g.row.R w (events xs) ≡ Ok (record { world = new.world; entries = xs })) given_is c.step_all.ensures.ran in
-    let all : take n (live_records self.records ++ ahead_records self.records) ++ given ≡ live_records c.exchange.new.self ++ ahead_records c.exchange.new.self =
+    let all : take n (live_entries self.entries ++ ahead_entries self.entries) ++ given ≡ live_entries c.exchange.new.self ++ ahead_entries c.exchange.new.self =
     grind (arith, take-append-le, append-nil) in
     record {
       kept =

@@ -8,7 +8,7 @@ invariant_of-self g c =
     let self = c.args.self.now in
     record {
       kept =
-          same_session g.row.R (whole_journal (model self.world) self.records) (whole_journal (model self.world) c.make_room_for.new.self) (room self.world) (room self.world) self.kept
+          same_session g.row.R (whole_journal (model self.world) self.entries) (whole_journal (model self.world) c.make_room_for.new.self) (room self.world) (room self.world) self.kept
           (λ i. record { world = model self.world; live = c.make_room_for.ensures.live i; undone = c.make_room_for.ensures.ahead i })
           (λ m. omega arith);
       within = omega (arith, self.within, ap length c.make_room_for.ensures.ahead);
@@ -20,7 +20,7 @@ invariant_of-self-2 g c =
     let self = c.args.self.now in
     record {
       kept =
-          same_session g.row.R (whole_journal (model self.world) self.records) (whole_journal (model c.make_room_for_makings.new.world) c.make_room_for.new.self) (room self.world)
+          same_session g.row.R (whole_journal (model self.world) self.entries) (whole_journal (model c.make_room_for_makings.new.world) c.make_room_for.new.self) (room self.world)
           (room c.make_room_for_makings.new.world) self.kept
           (λ i. record {
             world = c.make_room_for_makings.ensures.unchanged i;

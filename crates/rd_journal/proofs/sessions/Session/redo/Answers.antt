@@ -6,4 +6,4 @@ use Rattle.rd_journal.proofs.sessions.Session.redo.Goals as goal
 pub returns-clause-ok : goal.returns-clause-ok
 returns-clause-ok g c =
     redo_goes (state c.args.self.now) (state c.redo_many.new.self)
-    (omega (arith, undone_len (journal c.args.self.now), c.undone_len.ensures.records, c.if-undone_len-eq0.false)) c.redo_many.ensures.state
+    (omega (arith, undone_len (journal c.args.self.now), c.undone_len.ensures.entries, c.if-undone_len-eq0.false)) c.redo_many.ensures.state

@@ -9,8 +9,8 @@ invariant_of-self g c = record { kept = c.args.self.now.kept; within = c.require
 pub redo_many-requires : goal.redo_many-requires
 redo_many-requires g c = grind (arith, length-take-le)
 
-pub returns-clause-records : goal.returns-clause-records
-returns-clause-records g c = grind (arith, common_steps)
+pub returns-clause-entries : goal.returns-clause-entries
+returns-clause-entries g c = grind (arith, common_steps)
 
 pub returns-clause-start : goal.returns-clause-start
 returns-clause-start g c = grind (arith, forward_start)

@@ -16,7 +16,7 @@ step_forward-requires g c = grind (arith, length-take)
 pub invariant_of-self : goal.invariant_of-self
 invariant_of-self g c =
     let self = c.args.self.now in
-    let old = whole_journal (model self.world) self.records in
+    let old = whole_journal (model self.world) self.entries in
     let new = whole_journal (model c.step_all.new.world) c.step_forward.new.self in
     let n = c.args.n in
     let moved : IsMovedForward n old new = record { live = c.step_forward.ensures.live; undone = c.step_forward.ensures.ahead } in
@@ -32,17 +32,17 @@ invariant_of-self g c =
       indexed = subst (λ (es : List Entry). IsIndexOf self.index es) (sym c.step_forward.ensures.kept) self.indexed;
     }
 
-pub returns-clause-records : goal.returns-clause-records
-returns-clause-records g c =
+pub returns-clause-entries : goal.returns-clause-entries
+returns-clause-entries g c =
     let self = c.args.self.now in
-    let old = whole_journal (model self.world) self.records in
+    let old = whole_journal (model self.world) self.entries in
     forward_undone self.undone c.args.n old (whole_journal (model c.step_all.new.world) c.step_forward.new.self)
     (omega (arith, c.requires.enough, length-take self.undone old.undone)) (record { live = c.step_forward.ensures.live; undone = c.step_forward.ensures.ahead })
 
 pub returns-clause-state : goal.returns-clause-state
 returns-clause-state g c =
     let self = c.args.self.now in
-    let old = whole_journal (model self.world) self.records in
+    let old = whole_journal (model self.world) self.entries in
     let new = whole_journal (model c.step_all.new.world) c.step_forward.new.self in
     let n = c.args.n in
     let moved : IsMovedForward n old new = record { live = c.step_forward.ensures.live; undone = c.step_forward.ensures.ahead } in

@@ -10,20 +10,20 @@ returns-then-len-k-clause-answer g c = grind (arith, roll_answer_missing, then-l
 
 pub returns-then-len-k-clause-err : goal.returns-then-len-k-clause-err
 returns-then-len-k-clause-err g c =
-    roll_missing g.row.R (journal c.args.self.now) c.args.k c.len-len.result c.len-len.ensures.records
+    roll_missing g.row.R (journal c.args.self.now) c.args.k c.len-len.result c.len-len.ensures.entries
     (elim c.then-len-k.branch [ then-len-k-via-then-len-k w ↦ inr (omega arith) | then-len-k-via-else-len-k+then-k-eq0 w ↦ inl (omega arith) ])
 
 pub returns-clause-ok : goal.returns-clause-ok
 returns-clause-ok g c =
     let old = journal c.args.self.now in
-    let within : c.args.k ≤ length old.live = omega (arith, c.len-len.ensures.records) in
+    let within : c.args.k ≤ length old.live = omega (arith, c.len-len.ensures.entries) in
     roll_there g.row.R old c.args.k (is_session c.args.self.now).runs (omega arith) within
-    ∙ ap (λ (s : State). Ok s) (sym (rolled_state c.args.k old (journal c.roll_back.new.self) c.roll_back.ensures.records c.roll_back.ensures.start))
+    ∙ ap (λ (s : State). Ok s) (sym (rolled_state c.args.k old (journal c.roll_back.new.self) c.roll_back.ensures.entries c.roll_back.ensures.start))
 
 pub returns-clause-answer : goal.returns-clause-answer
 returns-clause-answer g c = grind (arith, roll_answer_there)
 
 pub returns-clause-run : goal.returns-clause-run
 returns-clause-run g c =
-    rolled_run g.row.R c.args.k (journal c.args.self.now) (journal c.roll_back.new.self) c.roll_back.ensures.records
+    rolled_run g.row.R c.args.k (journal c.args.self.now) (journal c.roll_back.new.self) c.roll_back.ensures.entries
     c.roll_back.ensures.start (is_session c.roll_back.new.self).runs

@@ -3,11 +3,11 @@ use Rattle.rd_journal.proofs.Prelude.{first_dependant, journal, State}
 use Rattle.rd_journal.proofs.Closures.{alone, alone_rolled}
 use Rattle.rd_journal.proofs.sessions.Session.roll_back.Goals as goal
 
-pub returns-in-None-clause-records : goal.returns-in-None-clause-records
-returns-in-None-clause-records g c =
+pub returns-in-None-clause-entries : goal.returns-in-None-clause-entries
+returns-in-None-clause-entries g c =
     let old = journal c.args.self.now in
     let free : first_dependant old.live c.args.k ≡ None = sym c.first_dependant.ensures ∙ c.in-None.is in
-    alone_rolled c.args.k old (journal c.undo_alone.new.self) (alone old.live c.args.k c.requires.some c.requires.position free) c.undo_alone.ensures.records
+    alone_rolled c.args.k old (journal c.undo_alone.new.self) (alone old.live c.args.k c.requires.some c.requires.position free) c.undo_alone.ensures.entries
 
 pub returns-in-None-clause-start : goal.returns-in-None-clause-start
 returns-in-None-clause-start g c = ap (λ (s : State). s.start) c.undo_alone.ensures.state

@@ -1,5 +1,5 @@
 use Rattle.std.proofs.Common.{ℕ, ◌+◌, ◌∙◌, List, ap, sym, subst, arith, length, rules}
-use Rattle.rd_journal.proofs.Prelude.{model, room, Entry, IsIndexOf, moved_behind, kept_records, IsUndoneAlone, whole_journal, with_undone, journal}
+use Rattle.rd_journal.proofs.Prelude.{model, room, Entry, IsIndexOf, moved_behind, kept_entries, IsUndoneAlone, whole_journal, with_undone, journal}
 use Rattle.rd_journal.proofs.Ahead.{out_undone}
 use Rattle.rd_journal.proofs.LoneUndo.{IsNumber, may_undo_at, undone_alone_state, taken_out_front, taken_out_few}
 use Rattle.rd_journal.proofs.RoomLemmas.{given_back}
@@ -8,7 +8,7 @@ use Rattle.rd_journal.proofs.sessions.Session.undo_alone.Goals as goal
 pub unstep-requires : goal.unstep-requires
 unstep-requires g c =
     let self = c.args.self.now in
-    let old = whole_journal (model self.world) self.records in
+    let old = whole_journal (model self.world) self.entries in
     let x = c.live_at.result.now in
     let at : IsNumber old.live c.args.k x = record { some = c.requires.some; within = c.requires.position; here = c.live_at.ensures } in
     (omega (arith, self.world.small), (may_undo_at g.row.R old c.args.k x at c.requires.free self.kept.runs).was)
@@ -16,7 +16,7 @@ unstep-requires g c =
 pub invariant_of-self : goal.invariant_of-self
 invariant_of-self g c =
     let self = c.args.self.now in
-    let old = whole_journal (model self.world) self.records in
+    let old = whole_journal (model self.world) self.entries in
     let new = whole_journal (model c.unstep.new.world) c.undo_alone.new.self in
     let x = c.live_at.result.now in
     let at : IsNumber old.live c.args.k x = record { some = c.requires.some; within = c.requires.position; here = c.live_at.ensures } in
@@ -32,17 +32,17 @@ invariant_of-self g c =
       within = omega (arith, self.within, ap length front);
       indexed =
           subst (λ (es : List Entry). IsIndexOf c.move_behind.new.self es)
-          (ap (λ (n : ℕ). moved_behind (kept_records self.records) c.args.k n) c.live_len.ensures ∙ sym c.undo_alone.ensures.kept)
-          (c.move_behind.ensures.moved (kept_records self.records) self.indexed);
+          (ap (λ (n : ℕ). moved_behind (kept_entries self.entries) c.args.k n) c.live_len.ensures ∙ sym c.undo_alone.ensures.kept)
+          (c.move_behind.ensures.moved (kept_entries self.entries) self.indexed);
     }
 
-pub returns-clause-records : goal.returns-clause-records
-returns-clause-records g c = search (rules, out_undone, arith)
+pub returns-clause-entries : goal.returns-clause-entries
+returns-clause-entries g c = search (rules, out_undone, arith)
 
 pub returns-clause-state : goal.returns-clause-state
 returns-clause-state g c =
     let self = c.args.self.now in
-    let old = whole_journal (model self.world) self.records in
+    let old = whole_journal (model self.world) self.entries in
     let new = whole_journal (model c.unstep.new.world) c.undo_alone.new.self in
     let x = c.live_at.result.now in
     let at : IsNumber old.live c.args.k x = record { some = c.requires.some; within = c.requires.position; here = c.live_at.ensures } in

@@ -10,7 +10,7 @@ returns-then-len-k-clause-answer g c = grind (arith, answer_missing, then-len-k-
 
 pub returns-then-len-k-clause-err : goal.returns-then-len-k-clause-err
 returns-then-len-k-clause-err g c =
-    undo_at_missing g.row.R (journal c.args.self.now) c.args.k c.len-len.result c.len-len.ensures.records
+    undo_at_missing g.row.R (journal c.args.self.now) c.args.k c.len-len.result c.len-len.ensures.entries
     (elim c.then-len-k.branch [ then-len-k-via-then-len-k w ↦ inr (omega arith) | then-len-k-via-else-len-k+then-k-eq0 w ↦ inl (omega arith) ])
 
 pub returns-in-Some-clause-answer : goal.returns-in-Some-clause-answer
@@ -19,7 +19,7 @@ returns-in-Some-clause-answer g c = grind (arith, answer_there)
 pub returns-in-Some-clause-err : goal.returns-in-Some-clause-err
 returns-in-Some-clause-err g c =
     let old = journal c.args.self.now in
-    let within : c.args.k ≤ length old.live = omega (arith, c.len-len.ensures.records) in
+    let within : c.args.k ≤ length old.live = omega (arith, c.len-len.ensures.entries) in
     let first : first_dependant old.live c.args.k ≡ Some c.in-Some.dependant =
     sym c.in-Some.ensures in
     undo_at_there g.row.R old c.args.k (is_session c.args.self.now).runs (omega arith) within ∙ ap (undone_alone_unless (state c.args.self.now) c.args.k) first
@@ -30,7 +30,7 @@ undo_alone-requires g c = grind arith
 pub returns-clause-ok : goal.returns-clause-ok
 returns-clause-ok g c =
     let old = journal c.args.self.now in
-    let within : c.args.k ≤ length old.live = omega (arith, c.len-len.ensures.records) in
+    let within : c.args.k ≤ length old.live = omega (arith, c.len-len.ensures.entries) in
     let first : first_dependant old.live c.args.k ≡ None =
     sym c.first_dependant.ensures ∙ c.in_default.is in
     undo_at_there g.row.R old c.args.k (is_session c.args.self.now).runs (omega arith) within

@@ -1,4 +1,4 @@
-use Rattle.rd_journal.proofs.Prelude.{common_steps, append-nil, length-take-le, take_at, drop_at, take-append-le, drop-append-le, model, room, closure_of, without_closure, Entry, IsIndexOf, HasRoomFor, live_records, ahead_records, kept_records, whole_journal, journal_of, journal}
+use Rattle.rd_journal.proofs.Prelude.{common_steps, append-nil, length-take-le, take_at, drop_at, take-append-le, drop-append-le, model, room, closure_of, without_closure, Entry, IsIndexOf, HasRoomFor, live_entries, ahead_entries, kept_entries, whole_journal, journal_of, journal}
 use Rattle.std.proofs.Common.{◌≡◌, ◌∙◌, ◌-◌, List, [], ◌++◌, refl, ap, subst, arith, take, drop, length, length-append}
 use Rattle.rd_journal.proofs.Ahead.{is_session}
 use Rattle.rd_journal.proofs.Finding.{cut_before}
@@ -14,16 +14,16 @@ gather_closure-count-requires-clause-room g c =
     let self = c.args.self.now in
     let n = c.args.k - 1 in
     subst (λ (es : List Entry). HasRoomFor c.cut_index.new.index es)
-    (append-nil (drop n (kept_records self.records)) ∙ drop-append-le n (live_records self.records) (ahead_records self.records) (omega (arith, c.requires.position)))
+    (append-nil (drop n (kept_entries self.entries)) ∙ drop-append-le n (live_entries self.entries) (ahead_entries self.entries) (omega (arith, c.requires.position)))
     (c.cut_index.ensures.room [] (fits_none self.index))
 
 pub truncate-requires : goal.truncate-requires
 truncate-requires g c =
     let self = c.args.self.now in
-    let live = live_records self.records in
+    let live = live_entries self.entries in
     let k = c.args.k in
     let said = c.gather_closure-count.ensures in
-    let cut = cut_before live (ahead_records self.records) k c.requires.some c.requires.position in
+    let cut = cut_before live (ahead_entries self.entries) k c.requires.some c.requires.position in
     omega (
       arith,
       said.index.len,
@@ -39,14 +39,14 @@ truncate-requires g c =
 pub fill_index-requires : goal.fill_index-requires
 fill_index-requires g c =
     let self = c.args.self.now in
-    let live = live_records self.records in
-    let ahead = ahead_records self.records in
+    let live = live_entries self.entries in
+    let ahead = ahead_entries self.entries in
     let k = c.args.k in
     let n = k - 1 in
     let index = c.truncate.new.self in
     let said = c.gather_closure-count.ensures in
     let len : length (take n live) ≡ n = length-take-le n live (omega (arith, c.requires.position)) in
-    let kept : kept_records c.gather_closure-count.new.self ≡ (without_closure live k ++ closure_of live k) ++ ahead = λ i. said.live i ++ said.ahead i in
+    let kept : kept_entries c.gather_closure-count.new.self ≡ (without_closure live k ++ closure_of live k) ++ ahead = λ i. said.live i ++ said.ahead i in
     let cut = cut_before live ahead k c.requires.some c.requires.position in
     let left : IsIndexOf index (take n live) =
     subst (λ (es : List Entry). IsIndexOf index es) (take_at (take n live) (closure_of live k) n len) (c.truncate.ensures.left (take n live ++ closure_of live k) said.index) in
@@ -64,7 +64,7 @@ fill_index-requires g c =
 pub invariant_of-self : goal.invariant_of-self
 invariant_of-self g c =
     let self = c.args.self.now in
-    let old = whole_journal (model self.world) self.records in
+    let old = whole_journal (model self.world) self.entries in
     let mid = whole_journal (model self.world) c.gather_closure-count.new.self in
     let said = c.gather_closure-count.ensures in
     let gathered : IsGatheredLast c.args.k old mid = record { world = refl; live = said.live; undone = said.ahead; len = said.len } in
@@ -74,8 +74,8 @@ invariant_of-self g c =
       indexed = c.fill_index.ensures;
     }
 
-pub returns-clause-records : goal.returns-clause-records
-returns-clause-records g c = grind (arith, common_steps)
+pub returns-clause-entries : goal.returns-clause-entries
+returns-clause-entries g c = grind (arith, common_steps)
 
 pub returns-clause-start : goal.returns-clause-start
 returns-clause-start g c =

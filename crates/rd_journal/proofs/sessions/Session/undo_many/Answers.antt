@@ -8,7 +8,7 @@ use Rattle.rd_journal.proofs.sessions.Session.undo_many.Goals as goal
 pub undo_behind-requires : goal.undo_behind-requires
 undo_behind-requires g c =
     let self = c.args.self.now in
-    let old = whole_journal (model self.world) self.records in (
+    let old = whole_journal (model self.world) self.entries in (
       omega (arith, self.world.small),
       (
         omega (arith, ap length c.live.ensures, c.live_len.ensures),
@@ -22,7 +22,7 @@ undo_behind-requires g c =
 pub invariant_of-self : goal.invariant_of-self
 invariant_of-self g c =
     let self = c.args.self.now in
-    let old = whole_journal (model self.world) self.records in
+    let old = whole_journal (model self.world) self.entries in
     let new = whole_journal (model c.undo_behind.new.world) c.step_back.new.self in
     let n = c.args.n in
     let k = length old.live - n in
@@ -40,13 +40,13 @@ invariant_of-self g c =
       indexed = subst (λ (es : List Entry). IsIndexOf self.index es) (sym c.step_back.ensures.kept) self.indexed;
     }
 
-pub returns-clause-records : goal.returns-clause-records
-returns-clause-records g c = search (rules, back_undone, arith)
+pub returns-clause-entries : goal.returns-clause-entries
+returns-clause-entries g c = search (rules, back_undone, arith)
 
 pub returns-clause-state : goal.returns-clause-state
 returns-clause-state g c =
     let self = c.args.self.now in
-    let old = whole_journal (model self.world) self.records in
+    let old = whole_journal (model self.world) self.entries in
     let new = whole_journal (model c.undo_behind.new.world) c.step_back.new.self in
     let n = c.args.n in
     let moved : IsMovedBack n old new = record { live = c.step_back.ensures.live; undone = c.step_back.ensures.ahead } in
@@ -59,5 +59,5 @@ returns-clause-state g c =
 
 pub returns-clause-track : goal.returns-clause-track
 returns-clause-track g c =
-    track_back c.args.n (whole_journal (model c.args.self.now.world) c.args.self.now.records) (whole_journal (model c.undo_behind.new.world) c.step_back.new.self)
+    track_back c.args.n (whole_journal (model c.args.self.now.world) c.args.self.now.entries) (whole_journal (model c.undo_behind.new.world) c.step_back.new.self)
     (record { live = c.step_back.ensures.live; undone = c.step_back.ensures.ahead })

@@ -1,5 +1,5 @@
 use Rattle.std.proofs.Common.{◌-◌, ◌<◌, ◌∙◌, sym, arith}
-use Rattle.rd_journal.proofs.Prelude.{length-take, get_or-take, ahead_records, journal}
+use Rattle.rd_journal.proofs.Prelude.{length-take, get_or-take, ahead_entries, journal}
 use Rattle.rd_journal.proofs.Starting.{event_missing, event_found}
 use Rattle.rd_journal.proofs.sessions.Session.undone_event.Goals as goal
 use Rattle.rd_journal.proofs.sessions.Session.undone_event.Goals.{then-i-eq0-via-then-i-eq0, then-i-eq0-via-else-i-eq0+then-i-undone_len}
@@ -13,8 +13,8 @@ ahead_at-requires g c = grind (arith, length-take)
 pub returns : goal.returns
 returns g c =
     let self = c.args.self.now in
-    let all = ahead_records self.records in
+    let all = ahead_entries self.entries in
     let x = c.ahead_at.result.now in
-    let below : c.args.i - 1 < self.undone = omega (arith, c.undone_len.ensures.records, length-take self.undone all) in
-    event_found (journal self).undone c.args.i x (omega arith) (omega (arith, c.undone_len.ensures.records))
+    let below : c.args.i - 1 < self.undone = omega (arith, c.undone_len.ensures.entries, length-take self.undone all) in
+    event_found (journal self).undone c.args.i x (omega arith) (omega (arith, c.undone_len.ensures.entries))
     (c.ahead_at.ensures ∙ sym (get_or-take self.undone all (c.args.i - 1) x below))

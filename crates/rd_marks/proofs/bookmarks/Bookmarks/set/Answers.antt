@@ -1,5 +1,5 @@
 use Rattle.std.proofs.Common.{◌≡◌, ◌++◌, ◌∙◌, [], ◌∷◌, List, All, sym, ap, subst, arith}
-use Rattle.rd_marks.proofs.Prelude.{lookup, false≢true, length-map, lookup-map_values, fact_passed_up, Entry, Begins, state, track, MarkName, Place, IsLow, lists_in, here_in, AreRuns, IsKept, named_lists, same_name, records_at, IsWithin}
+use Rattle.rd_marks.proofs.Prelude.{lookup, false≢true, length-map, lookup-map_values, fact_passed_up, Entry, Begins, state, track, MarkName, Place, IsLow, lists_in, here_in, AreRuns, IsKept, named_lists, same_name, entries_at, IsWithin}
 use Rattle.rd_journal.specs.Journal.{events}
 use Rattle.rd_marks.proofs.Counting.{all_along}
 use Rattle.rd_marks.proofs.Here.{live_along, live_begin}
@@ -20,8 +20,8 @@ pub put-requires-clause-new : goal.put-requires-clause-new
 put-requires-clause-new g c =
     let b = c.args.self.now in
     ap (λ (es : List (MarkName × Place)). lookup (same_name c.args.name) es) c.reserve.ensures.entries
-    ∙ none_named (records_at b.stretches.list.items) (lookup (same_name c.args.name) b.names.entries)
-    (sym (lookup-map_values (records_at b.stretches.list.items) (same_name c.args.name) b.names.entries) ∙ c.requires.new)
+    ∙ none_named (entries_at b.stretches.list.items) (lookup (same_name c.args.name) b.names.entries)
+    (sym (lookup-map_values (entries_at b.stretches.list.items) (same_name c.args.name) b.names.entries) ∙ c.requires.new)
 
 pub put-requires-clause-low : goal.put-requires-clause-low
 put-requires-clause-low g c =
@@ -35,9 +35,9 @@ here_after-self-requires g c = c.in_ok-grown.ensures.ok.low c.args.self.now.here
 pub returns-in_err-reserve-clause-runs : goal.returns-in_err-reserve-clause-runs
 returns-in_err-reserve-clause-runs g c = grind (arith, c.reserve.ensures.entries, c.requires.runs)
 
--- where no room was made for the records, all stays
+-- where no room was made for the entries, all stays
 stay : (g : Over) (c : In_err-grown g) → let b = c.args.self.now in let new = c.grow.new.self.list.items in
-    IsKept new c.reserve.new.self.entries b.here × (named_lists new c.reserve.new.self.entries ≡ lists_in b) × (records_at new b.here ≡ here_in b)
+    IsKept new c.reserve.new.self.entries b.here × (named_lists new c.reserve.new.self.entries ≡ lists_in b) × (entries_at new b.here ≡ here_in b)
 stay g c = grind (arith, kept_same)
 
 pub invariant_of-self-in-Break-branch-2 : goal.invariant_of-self-in-Break-branch-2
@@ -86,7 +86,7 @@ invariant_of-self-2 g c = record { kept = (put_last g (goal.at.invariant_of-self
 
 pub returns-clause-ok : goal.returns-clause-ok
 returns-clause-ok g c =
-    (put_last g (goal.at.returns-clause-ok g c).After-here_after-self).lists ∙ ap (λ (xs : List Entry). lists_in c.args.self.now ++ (c.args.name, xs) ∷ []) c.live-live.ensures.records
+    (put_last g (goal.at.returns-clause-ok g c).After-here_after-self).lists ∙ ap (λ (xs : List Entry). lists_in c.args.self.now ++ (c.args.name, xs) ∷ []) c.live-live.ensures.entries
 
 pub returns-clause-runs : goal.returns-clause-runs
 returns-clause-runs g c = (put_last g (goal.at.returns-clause-runs g c).After-here_after-self).runs

@@ -1,9 +1,9 @@
 use Rattle.std.proofs.Common.{List, lit<, ap, subst, sym, length, ◌∙◌, arith}
-use Rattle.rd_marks.proofs.Prelude.{length-map, Event, Entry, Begins, journal, state, records_at}
+use Rattle.rd_marks.proofs.Prelude.{length-map, Event, Entry, Begins, journal, state, entries_at}
 use Rattle.rd_journal.specs.Journal.{events, IsRunFrom}
 use Rattle.rd_marks.proofs.Here.{live_along}
-use Rattle.rd_marks.proofs.Starting.{records_length}
-use Rattle.rd_marks.proofs.RecordLemmas.{switched, may_switch, few_enough}
+use Rattle.rd_marks.proofs.Starting.{entries_length}
+use Rattle.rd_marks.proofs.EntryLemmas.{switched, may_switch, few_enough}
 use Rattle.rd_marks.proofs.Switches.{common_live, none_behind, whole_common}
 use Rattle.rd_marks.proofs.bookmarks.going.exchange.Goals as goal
 
@@ -21,15 +21,15 @@ switch-requires g c =
     let place = c.args.place in
     let n = c.common-common.result in
     let said = c.common-common.ensures in
-    let ys = records_at ss place in
+    let ys = entries_at ss place in
     let given = c.deref.ensures.value ∙ c.in-Ok.ensures.ok in
-    let long = records_length ss place c.requires.within in
-    let live_run = subst (λ (xs : List Entry). IsRunFrom g.row.R (state c.args.session.now).start xs) c.live-live.ensures.records c.live-live.ensures.run in
+    let long = entries_length ss place c.requires.within in
+    let live_run = subst (λ (xs : List Entry). IsRunFrom g.row.R (state c.args.session.now).start xs) c.live-live.ensures.entries c.live-live.ensures.run in
     let same =
     common_live ss c.follow-beginning.result place n (events c.live-live.result) (state c.args.session.now).live c.live-live.ensures.events said.first c.follow-beginning.ensures.along said.alike in (
       lit< tt,
       (
-        omega (arith, said.first, c.follow-beginning.ensures.along.enough, ap length c.live-live.ensures.records, length-map c.live-live.result (λ (x : Entry). x.event)),
+        omega (arith, said.first, c.follow-beginning.ensures.along.enough, ap length c.live-live.ensures.entries, length-map c.live-live.result (λ (x : Entry). x.event)),
         (
           few_enough n c.deref.result.now ys given (omega (arith, said.second, long)) c.requires.run.few,
           may_switch g.row.R (journal c.args.session.now) n c.deref.result.now ys given live_run c.requires.run same,
@@ -40,8 +40,8 @@ switch-requires g c =
 pub returns-in-Err-clause-succeeds : goal.returns-in-Err-clause-succeeds
 returns-in-Err-clause-succeeds g c = λ h.
     let ss = c.args.stretches.now.list.items in
-    let here : Begins (events (records_at ss c.args.place)) (events c.live-live.result) =
-    subst (λ (es : List Event). Begins (events (records_at ss c.args.place)) es) (sym c.live-live.ensures.events) h in
+    let here : Begins (events (entries_at ss c.args.place)) (events c.live-live.result) =
+    subst (λ (es : List Event). Begins (events (entries_at ss c.args.place)) es) (sym c.live-live.ensures.events) h in
     c.in-Err.ensures.succeeds (whole_common ss c.follow-beginning.result c.args.place c.common-common.result (events c.live-live.result) c.requires.within
     c.follow-beginning.ensures.along c.follow-beginning.ensures.deepest here c.common-common.ensures.second c.common-common.ensures.most)
 
@@ -52,13 +52,13 @@ returns-in-Ok-clause-ok g c =
     let same =
     common_live ss c.follow-beginning.result c.args.place n (events c.live-live.result) (state c.args.session.now).live c.live-live.ensures.events c.common-common.ensures.first
     c.follow-beginning.ensures.along c.common-common.ensures.alike in
-    switched c.switch.result (state c.args.session.now) (state c.switch.new.self) n c.deref.result.now (records_at ss c.args.place) (c.deref.ensures.value ∙ c.in-Ok.ensures.ok) same c.switch.ensures.ok
+    switched c.switch.result (state c.args.session.now) (state c.switch.new.self) n c.deref.result.now (entries_at ss c.args.place) (c.deref.ensures.value ∙ c.in-Ok.ensures.ok) same c.switch.ensures.ok
 
 pub returns-in-Ok-clause-succeeds : goal.returns-in-Ok-clause-succeeds
 returns-in-Ok-clause-succeeds g c = λ h.
     let ss = c.args.stretches.now.list.items in
-    let here : Begins (events (records_at ss c.args.place)) (events c.live-live.result) =
-    subst (λ (es : List Event). Begins (events (records_at ss c.args.place)) es) (sym c.live-live.ensures.events) h in
+    let here : Begins (events (entries_at ss c.args.place)) (events c.live-live.result) =
+    subst (λ (es : List Event). Begins (events (entries_at ss c.args.place)) es) (sym c.live-live.ensures.events) h in
     let all =
     whole_common ss c.follow-beginning.result c.args.place c.common-common.result (events c.live-live.result) c.requires.within c.follow-beginning.ensures.along
     c.follow-beginning.ensures.deepest here c.common-common.ensures.second c.common-common.ensures.most in

@@ -1,5 +1,5 @@
 use Rattle.std.proofs.Common.{◌≡◌, ◌+◌, ◌∙◌, [], ◌∷◌, List, length, length-append, refl, sym, ap, subst, arith}
-use Rattle.rd_marks.proofs.Prelude.{length-map, Event, Begins, ahead_records, journal, state, apply, lists_in, here_in}
+use Rattle.rd_marks.proofs.Prelude.{length-map, Event, Begins, ahead_entries, journal, state, apply, lists_in, here_in}
 use Rattle.rd_step.specs.Run.{events}
 use Rattle.rd_marks.proofs.Here.{track_cut, added_leaves}
 use Rattle.rd_marks.proofs.Starts.{apply_start, start_stays, runs_stay}
@@ -26,14 +26,14 @@ invariant_of-self-2 g c =
     (apply_start g.row.R old c.args.event) c.apply.ensures.ok c.apply.ensures.unchanged in
     let n = length (journal book.session).live in
     let longer : length (journal c.apply.new.self).live ≡ n + 1 =
-    ap length c.in_ok-step.ensures.records.live ∙ length-append (journal book.session).live (c.in_ok-step.entry ∷ []) in
+    ap length c.in_ok-step.ensures.entries.live ∙ length-append (journal book.session).live (c.in_ok-step.entry ∷ []) in
     record {
       runs = runs_stay g.row.R old.start (state c.apply.new.self).start (lists_in book.bookmarks) (lists_in c.cut_here.new.self) start c.cut_here.ensures.lists book.runs;
       stands =
           track_cut (here_in book.bookmarks) (here_in c.cut_here.new.self) c.cut_here.ensures.begins n (journal book.session) (journal c.apply.new.self)
-          (events (ahead_records book.session.records)) (events (ahead_records c.apply.new.self.records)) book.stands
+          (events (ahead_entries book.session.entries)) (events (ahead_entries c.apply.new.self.entries)) book.stands
           (omega (arith, c.cut_here.ensures.short, c.in_ok-step.ensures.number, longer))
-          (omega arith) (added_leaves n c.in_ok-step.entry (journal book.session) (journal c.apply.new.self) refl c.in_ok-step.ensures.records);
+          (omega arith) (added_leaves n c.in_ok-step.entry (journal book.session) (journal c.apply.new.self) refl c.in_ok-step.ensures.entries);
     }
 
 pub returns : goal.returns

@@ -1,5 +1,5 @@
 use Rattle.std.proofs.Common.{arith}
-use Rattle.rd_marks.proofs.Prelude.{length-map, Entry, ahead_records, journal, state, roll, lists_in, here_in}
+use Rattle.rd_marks.proofs.Prelude.{length-map, Entry, ahead_entries, journal, state, roll, lists_in, here_in}
 use Rattle.rd_step.specs.Run.{events}
 use Rattle.rd_marks.proofs.Here.{after_out, roll_leaves, rolled_within}
 use Rattle.rd_marks.proofs.Starts.{roll_start, start_stays, runs_stay}
@@ -18,9 +18,9 @@ invariant_of-self g c =
       runs = runs_stay g.row.R old.start (state c.roll-done.new.self).start (lists_in book.bookmarks) (lists_in c.cut_back.new.self) start c.cut_back.ensures.lists book.runs;
       stands =
           after_out (here_in book.bookmarks) (here_in c.cut_back.new.self) c.cut_back.ensures.begins c.roll-done.result n (journal book.session) (journal c.roll-done.new.self)
-          (events (ahead_records book.session.records)) (events (ahead_records c.roll-done.new.self.records)) book.stands
+          (events (ahead_entries book.session.entries)) (events (ahead_entries c.roll-done.new.self.entries)) book.stands
           c.cut_back.ensures.short c.roll-done.ensures.track c.roll-done.ensures.ok
-          (λ done. let there = rolled_within g.row.R old c.args.k _ done in omega (arith, there, len)) c.roll-done.ensures.records
+          (λ done. let there = rolled_within g.row.R old c.args.k _ done in omega (arith, there, len)) c.roll-done.ensures.entries
           (roll_leaves c.args.k n (journal book.session) (journal c.roll-done.new.self) (omega arith));
     }
 

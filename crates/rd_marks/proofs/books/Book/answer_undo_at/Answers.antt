@@ -1,5 +1,5 @@
 use Rattle.std.proofs.Common.{arith}
-use Rattle.rd_marks.proofs.Prelude.{length-map, Entry, ahead_records, journal, state, undo_at, lists_in, here_in}
+use Rattle.rd_marks.proofs.Prelude.{length-map, Entry, ahead_entries, journal, state, undo_at, lists_in, here_in}
 use Rattle.rd_step.specs.Run.{events}
 use Rattle.rd_marks.proofs.Here.{after_out, undone_alone_leaves, undone_within}
 use Rattle.rd_marks.proofs.Starts.{undo_at_start, start_stays, runs_stay}
@@ -18,9 +18,9 @@ invariant_of-self g c =
       runs = runs_stay g.row.R old.start (state c.undo_at-done.new.self).start (lists_in book.bookmarks) (lists_in c.cut_back.new.self) start c.cut_back.ensures.lists book.runs;
       stands =
           after_out (here_in book.bookmarks) (here_in c.cut_back.new.self) c.cut_back.ensures.begins c.undo_at-done.result n (journal book.session) (journal c.undo_at-done.new.self)
-          (events (ahead_records book.session.records)) (events (ahead_records c.undo_at-done.new.self.records)) book.stands
+          (events (ahead_entries book.session.entries)) (events (ahead_entries c.undo_at-done.new.self.entries)) book.stands
           c.cut_back.ensures.short c.undo_at-done.ensures.track c.undo_at-done.ensures.ok
-          (λ done. let there = undone_within g.row.R old c.args.k _ done in omega (arith, there, len)) c.undo_at-done.ensures.records
+          (λ done. let there = undone_within g.row.R old c.args.k _ done in omega (arith, there, len)) c.undo_at-done.ensures.entries
           (undone_alone_leaves c.args.k n (journal book.session) (journal c.undo_at-done.new.self) c.saturating_sub.ensures);
     }
 

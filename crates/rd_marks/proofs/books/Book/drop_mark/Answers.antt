@@ -1,5 +1,5 @@
 use Rattle.std.proofs.Common.{◌∙◌, List, refl, sym, subst, arith}
-use Rattle.rd_marks.proofs.Prelude.{Entry, state, track, MarkName, book_state, lists_in, here_in, AreRuns, IsRecordOfRun, same_name}
+use Rattle.rd_marks.proofs.Prelude.{Entry, state, track, MarkName, book_state, lists_in, here_in, AreRuns, AreEntriesOfRun, same_name}
 use Rattle.rd_marks.proofs.Here.{still_begins}
 use Rattle.rd_marks.proofs.MarkLemmas.{all_without, drop_goes, drop_missing, none_removed}
 use Rattle.rd_marks.proofs.books.Book.drop_mark.Goals as goal
@@ -11,7 +11,7 @@ invariant_of-self g c =
     record {
       runs =
           subst (λ (ls : List (MarkName × List Entry)). AreRuns g.row.R start ls) (sym c.drop.ensures.lists)
-          (all_without (same_name c.args.name) (λ (l : MarkName × List Entry). IsRecordOfRun g.row.R start l.1) (lists_in book.bookmarks) book.runs);
+          (all_without (same_name c.args.name) (λ (l : MarkName × List Entry). AreEntriesOfRun g.row.R start l.1) (lists_in book.bookmarks) book.runs);
       stands = still_begins (here_in book.bookmarks) (here_in c.drop.new.self) c.drop.ensures.here (track book.session) book.stands;
     }
 

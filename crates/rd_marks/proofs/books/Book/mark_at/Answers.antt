@@ -1,6 +1,6 @@
 use Rattle.std.proofs.Common.{◌-◌, None, Some, refl, sym, ◌∙◌, arith}
-use Rattle.rd_marks.proofs.Prelude.{book_state, lists_in, records_in}
-use Rattle.rd_marks.proofs.Starting.{records_length}
+use Rattle.rd_marks.proofs.Prelude.{book_state, lists_in, entries_in}
+use Rattle.rd_marks.proofs.Starting.{entries_length}
 use Rattle.rd_marks.proofs.MarkLemmas.{mark_said, length_said}
 use Rattle.rd_marks.proofs.books.Book.mark_at.Goals as goal
 
@@ -11,6 +11,6 @@ returns-in-None g c =
 pub returns-in-Some : goal.returns-in-Some
 returns-in-Some g c =
     let bookmarks = c.args.self.now.bookmarks in
-    let xs = records_in bookmarks c.in-Some.place in
-    length_said c.in-Some.name c.in-Some.place.number xs (records_length bookmarks.stretches.list.items c.in-Some.place c.in-Some.ensures.within)
+    let xs = entries_in bookmarks c.in-Some.place in
+    length_said c.in-Some.name c.in-Some.place.number xs (entries_length bookmarks.stretches.list.items c.in-Some.place c.in-Some.ensures.within)
     ∙ sym (mark_said (book_state c.args.self.now) (lists_in bookmarks) c.args.i (c.args.i - 1) (Some (c.in-Some.name, xs)) refl (omega arith) (sym c.in-Some.ensures.found))

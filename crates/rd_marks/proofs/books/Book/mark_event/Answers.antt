@@ -1,5 +1,5 @@
 use Rattle.std.proofs.Common.{◌∙◌, ◌-◌, List, Option, Some, None, refl, sym, ap, arith}
-use Rattle.rd_marks.proofs.Prelude.{Event, event_in, book_state, lists_in, records_in}
+use Rattle.rd_marks.proofs.Prelude.{Event, event_in, book_state, lists_in, entries_in}
 use Rattle.rd_marks.proofs.MarkLemmas.{events_said, no_mark}
 use Rattle.rd_marks.proofs.books.Book.mark_event.Goals as goal
 
@@ -16,5 +16,5 @@ returns-in-Some g c =
     let bookmarks = c.args.self.now.bookmarks in
     c.event_at.ensures
     ∙ sym (ap (λ (es : Option (List Event)). event_in es c.args.n)
-    (events_said (book_state c.args.self.now) (lists_in bookmarks) c.args.i (c.args.i - 1) (Some (c.in-Some.field-0-0, records_in bookmarks c.in-Some.place)) refl (omega arith)
+    (events_said (book_state c.args.self.now) (lists_in bookmarks) c.args.i (c.args.i - 1) (Some (c.in-Some.field-0-0, entries_in bookmarks c.in-Some.place)) refl (omega arith)
     (sym c.in-Some.ensures.found)))

@@ -1,5 +1,5 @@
 use Rattle.std.proofs.Common.{Ok, List, sym, ap, ◌∙◌, option_map, arith}
-use Rattle.rd_marks.proofs.Prelude.{Entry, state, marked_events, book_state, lists_in, records_in, IsRecordOfRun, same_name}
+use Rattle.rd_marks.proofs.Prelude.{Entry, state, marked_events, book_state, lists_in, entries_in, AreEntriesOfRun, same_name}
 use Rattle.rd_journal.specs.Journal.{events}
 use Rattle.rd_marks.proofs.MarkLemmas.{all_found, found_events, both_there, decided}
 use Rattle.rd_marks.proofs.books.Book.same.Goals as goal
@@ -19,10 +19,10 @@ returns-in-Ok g c =
     let b = book_state book in
     let w = (state book.session).start in
     let ls = lists_in book.bookmarks in
-    let ones = records_in book.bookmarks c.in-Some.one in
-    let others = records_in book.bookmarks c.in-Some-find.other in
+    let ones = entries_in book.bookmarks c.in-Some.one in
+    let others = entries_in book.bookmarks c.in-Some-find.other in
     both_there g.row.R b.session.start (marked_events b.marks c.args.one) (marked_events b.marks c.args.other) (events ones) (events others) (Ok c.in-Ok.same)
     (found_events c.args.one ls ∙ ap (option_map events) (sym c.in-Some.ensures.found)) (found_events c.args.other ls ∙ ap (option_map events) (sym c.in-Some-find.ensures.found))
     (decided g.row.R w ones others c.in-Ok.same
-    (all_found (same_name c.args.one) (λ (xs : List Entry). IsRecordOfRun g.row.R w xs) ls ones book.runs (sym c.in-Some.ensures.found))
-    (all_found (same_name c.args.other) (λ (xs : List Entry). IsRecordOfRun g.row.R w xs) ls others book.runs (sym c.in-Some-find.ensures.found)) c.in-Ok.ensures.answer)
+    (all_found (same_name c.args.one) (λ (xs : List Entry). AreEntriesOfRun g.row.R w xs) ls ones book.runs (sym c.in-Some.ensures.found))
+    (all_found (same_name c.args.other) (λ (xs : List Entry). AreEntriesOfRun g.row.R w xs) ls others book.runs (sym c.in-Some-find.ensures.found)) c.in-Ok.ensures.answer)

@@ -5,7 +5,7 @@ use Rattle.rd_marks.proofs.stretches.Stretches.events.Given as goal
 
 abbrev pub invariant-loop-i : goal.invariant-loop-i
 invariant-loop-i l = record {
-  items : l.list.items ≡ events (take l.i (cow_slice_items l.records));
+  items : l.list.items ≡ events (take l.i (cow_slice_items l.entries));
   len : vec_len l.list ≡ l.i;
-  capacity : length (cow_slice_items l.records) ≤ vec_capacity l.list;
+  capacity : length (cow_slice_items l.entries) ≤ vec_capacity l.list;
 }

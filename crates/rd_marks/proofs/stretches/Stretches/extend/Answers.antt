@@ -9,11 +9,11 @@ invariant_of-self c =
     let ss = c.args.self.now.list.items in
     let j = c.args.at.stretch in
     let s = c.index_mut.result.now in
-    let t : Stretch = record { shared = s.shared; records = c.append.new.records } in
+    let t : Stretch = record { shared = s.shared; entries = c.append.new.entries } in
     let few : length ss < 2 ^ 64 = omega (arith, c.args.self.now.list.ok, c.args.self.now.list.small) in
     let at = stretch_at ss ss j s refl c.requires.end.there c.index_mut.ensures.value in
     let p =
-    extended_or_not c.append.result (AreNested (set ss j t) × AreFresh (set ss j t)) s.records.items c.behind-rest.result c.append.new.records.items c.append.ensures.ok c.append.ensures.err
+    extended_or_not c.append.result (AreNested (set ss j t) × AreFresh (set ss j t)) s.entries.items c.behind-rest.result c.append.new.entries.items c.append.ensures.ok c.append.ensures.err
     (λ put.
     let all =
     extended ss few c.args.self.now.nested c.args.self.now.fresh c.args.live.now c.requires.few c.args.at c.requires.more c.requires.along c.requires.deepest c.requires.end t (sym at.1)
@@ -29,7 +29,7 @@ pub returns-clause-ok : goal.returns-clause-ok
 returns-clause-ok c =
     let ss = c.args.self.now.list.items in
     let s = c.index_mut.result.now in
-    let t : Stretch = record { shared = s.shared; records = c.append.new.records } in
+    let t : Stretch = record { shared = s.shared; entries = c.append.new.entries } in
     let at = stretch_at ss ss c.args.at.stretch s refl c.requires.end.there c.index_mut.ensures.value in
     let all =
     extended ss (omega (arith, c.args.self.now.list.ok, c.args.self.now.list.small)) c.args.self.now.nested c.args.self.now.fresh c.args.live.now c.requires.few c.args.at c.requires.more c.requires.along

@@ -22,7 +22,7 @@ pub invariant_of-self-2 : goal.invariant_of-self-2
 invariant_of-self-2 c =
     let ss = c.args.self.now.list.items in
     let s = c.index_mut.result.now in
-    let t : Stretch = record { shared = s.shared; records = c.cut.new.records } in
+    let t : Stretch = record { shared = s.shared; entries = c.cut.new.entries } in
     let at = stretch_at ss ss c.args.i s refl c.requires.there c.index_mut.ensures.value in
     let all =
     left ss (omega (arith, c.args.self.now.list.ok, c.args.self.now.list.small)) c.args.self.now.nested c.args.self.now.fresh c.args.i c.requires.there c.args.n c.requires.next

@@ -6,4 +6,4 @@ pub loop-n-preserved : goal.loop-n-preserved
 loop-n-preserved c = grind (arith, alike_on)
 
 pub returns-clause-most : goal.returns-clause-most
-returns-clause-most c = alike_past c.args.records.now c.args.live.now c.min-most.result (omega (arith, c.len.ensures, c.min-most.ensures))
+returns-clause-most c = alike_past c.args.entries.now c.args.live.now c.min-most.result (omega (arith, c.len.ensures, c.min-most.ensures))

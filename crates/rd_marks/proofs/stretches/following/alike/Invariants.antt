@@ -3,4 +3,4 @@ use Rattle.rd_step.specs.Run.{events}
 use Rattle.rd_marks.proofs.stretches.following.alike.Given as goal
 
 abbrev pub invariant-loop-n : goal.invariant-loop-n
-invariant-loop-n l = record { alike : take l.n (events l.records) ≡ take l.n (events l.live) }
+invariant-loop-n l = record { alike : take l.n (events l.entries) ≡ take l.n (events l.live) }

@@ -1,0 +1,89 @@
+-- The entries of a session as one list that is cut twice: how long its parts are, and how they
+-- change.
+use Rattle.std.proofs.Common.{◌≡◌, ℕ, ◌+◌, ◌-◌, ◌<◌, ◌≤◌, List, [], ◌∷◌, ◌++◌, length, take, drop, sym, ◌∙◌, ap, arith, length-append, length-drop}
+use Rattle.rd_journal.proofs.Prelude.{take-add, length-take-le, take-take, drop-take, drop-drop, take_at, drop_at, drop-append-le, moved_behind, all_entries, live_entries, ahead_entries, kept_entries, entries_capacity}
+use Rattle.rd_journal.specs.declared.entries.Entries.{Entries}
+use Rattle.rd_journal.proofs.ListLemmas.{behind_from, drop_before}
+use Rattle.rd_journal.proofs.Numbers.{at-length, order_below}
+
+-- how many there are
+
+pub all-length : (r : Entries) → length (all_entries r) ≡ length r.order.items
+unfolding all_entries
+all-length r = at-length r.slots.items r.order.items (order_below (length r.slots.items) r.order.items r.order_of_all)
+
+pub live-length : (r : Entries) → length (live_entries r) ≡ r.live
+live-length r = length-take-le r.live (all_entries r) (omega (arith, all-length r, r.within))
+
+pub ahead-length : (r : Entries) → length (ahead_entries r) ≡ r.ahead
+ahead-length r = grind (arith, length-take-le, all-length, length-drop)
+
+pub kept-length : (r : Entries) → length (kept_entries r) ≡ r.live + r.ahead
+kept-length r = omega (arith, length-append (live_entries r) (ahead_entries r), live-length r, ahead-length r)
+
+-- those ahead of none
+pub none_ahead : (r : Entries) → ahead_entries r ≡ [] → r.ahead ≡ 0
+none_ahead r none = omega (arith, ahead-length r, ap length none)
+
+-- where there is no room for one more live entry the live ones fill it, and none is ahead
+pub record IsFull (r : Entries) : Type 0 where
+  pub none : ahead_entries r ≡ []
+  pub filled : entries_capacity r ≡ length (live_entries r)
+
+pub full_entries : (r : Entries) → entries_capacity r < length (live_entries r) + 1 → IsFull r
+full_entries r h = grind (arith, ahead-length, live-length)
+
+-- a list cut after its first m elements, and again u elements after them
+
+-- some elements before others
+pub take_over : {X : Type 0} (xs ys : List X) (n u : ℕ) → length xs ≡ n → take (u + n) (xs ++ ys) ≡ xs ++ take u ys
+take_over {X} xs ys n u h =
+    let turn : u + n ≡ n + u = omega arith in
+    ap (λ (m : ℕ). take m (xs ++ ys)) turn ∙ take-add n u (xs ++ ys)
+    ∙ (λ i. take_at xs ys n h i ++ take u (drop_at xs ys n h i))
+
+pub cut_back : {X : Type 0} (l : List X) (m u n : ℕ) → n ≤ m → m ≤ length l
+    → take (u + n) (drop (m - n) l) ≡ drop (length (take m l) - n) (take m l) ++ take u (drop m l)
+cut_back {X} l m u n enough within =
+    let many : length (drop (length (take m l) - n) (take m l)) ≡ n =
+    omega (arith, length-take-le m l within, length-drop (length (take m l) - n) (take m l)) in
+    ap (λ (ys : List X). take (u + n) ys) (drop_before l (m - n) m n within (omega arith))
+    ∙ take_over (drop (length (take m l) - n) (take m l)) (drop m l) n u many
+
+pub cut_on : {X : Type 0} (l : List X) (m u n : ℕ) → n ≤ u → take (m + n) l ≡ take m l ++ take n (take u (drop m l))
+cut_on {X} l m u n enough = take-add m n l ∙ ap (λ (ys : List X). take m l ++ ys) (sym (take-take n u (drop m l) enough))
+
+pub cut_on_rest : {X : Type 0} (l : List X) (m u n : ℕ) → n ≤ u → take (u - n) (drop (m + n) l) ≡ drop n (take u (drop m l))
+cut_on_rest {X} l m u n enough =
+    let more : u ≡ n + (u - n) = omega arith in
+    sym (ap (λ (k : ℕ). drop n (take k (drop m l))) more ∙ drop-take n (u - n) (drop m l) ∙ ap (λ (ys : List X). take (u - n) ys) (drop-drop n m l))
+
+-- the k-th of the first part goes to the front of the second
+pub taken_out : {X : Type 0} (l : List X) (k m u : ℕ) → 1 ≤ k → k ≤ m → m ≤ length l
+    → take (u + 1) (drop (m - 1) (moved_behind l k m)) ≡ take 1 (drop (k - 1) (take m l)) ++ take u (drop m l)
+taken_out {X} l k m u some position within = grind (arith, length-take-le, length-drop, behind_from, take_over)
+
+-- one more is put after both parts
+pub put_last : {X : Type 0} (l new : List X) (m u : ℕ) (x : X) → m + u ≤ length l → new ≡ take (m + u) l ++ x ∷ drop (m + u + 1) l
+    → take (u + 1) (drop m new) ≡ take u (drop m l) ++ x ∷ []
+put_last {X} l new m u x within is =
+    let rest = drop (m + u + 1) l in
+    let len : length (take (m + u) l) ≡ m + u = length-take-le (m + u) l within in
+    let behind : drop m new ≡ take u (drop m l) ++ x ∷ rest =
+    ap (drop m) is ∙ drop-append-le m (take (m + u) l) (x ∷ rest) (omega arith) ∙ ap (λ (ys : List X). ys ++ x ∷ rest) (drop-take m u l) in
+    let turn : u + 1 ≡ 1 + u = omega arith in
+    let short : length (take u (drop m l)) ≡ u = length-take-le u (drop m l) (omega (arith, length-drop m l)) in
+    ap (λ (ys : List X). take (u + 1) ys) behind ∙ ap (λ (n : ℕ). take n (take u (drop m l) ++ x ∷ rest)) turn
+    ∙ take_over (take u (drop m l)) (x ∷ rest) u 1 short
+
+pub cut_short : {X : Type 0} (l : List X) (m n : ℕ) → m ≤ length l → take (m - n) l ≡ take (length (take m l) - n) (take m l)
+cut_short {X} l m n within = grind (arith, length-take-le, take-take)
+
+-- the border moved, where the end stays
+pub border_moved : {X : Type 0} (l : List X) (m u n v : ℕ) → n + v ≡ m + u → take n l ++ take v (drop n l) ≡ take m l ++ take u (drop m l)
+border_moved {X} l m u n v same = sym (take-add n v l) ∙ ap (λ (k : ℕ). take k l) same ∙ take-add m u l
+
+-- the k-th of the first elements moved after them, whatever else is there
+pub moved_among : {X : Type 0} (xs ys : List X) (k : ℕ)
+    → (take (k - 1) xs ++ drop k xs) ++ (take 1 (drop (k - 1) xs) ++ ys) ≡ moved_behind (xs ++ ys) k (length xs)
+moved_among {X} xs ys k = grind (arith, take_at, drop_at)

@@ -1,0 +1,23 @@
+use Rattle.std.proofs.Common.{◌∙◌, ◌-◌, List, length, take, drop, sym, subst, arith, length-take-le}
+use Rattle.rd_journal.proofs.Prelude.{Entry, HasRoomFor, all_entries, live_entries, ahead_entries, at_numbers, IsOrder}
+use Rattle.rd_journal.proofs.IndexRoom.{fits_first}
+use Rattle.rd_journal.proofs.Numbers.{at-length, order_below}
+use Rattle.rd_journal.proofs.EntryLemmas.{live-length}
+use Rattle.rd_journal.proofs.entries.Entries.gather_closure.Goals as goal
+
+pub gather-requires-clause-room : goal.gather-requires-clause-room
+unfolding all_entries
+gather-requires-clause-room c =
+    let self = c.args.self.now in
+    subst (λ (es : List Entry). HasRoomFor c.args.index.now (drop (c.args.k - 1) (take self.live (at_numbers es self.order.items)))) (sym c.deref.ensures.value)
+    (fits_first c.args.index.now (drop (c.args.k - 1) (live_entries self)) (ahead_entries self) c.requires.room)
+
+pub returns-clause-len : goal.returns-clause-len
+unfolding all_entries
+returns-clause-len c =
+    let self = c.args.self.now in
+    let es = self.slots.items in
+    let new = c.gather.new.order.items in
+    let ordered : IsOrder (length es) new = subst (λ (ys : List Entry). IsOrder (length ys) new) c.deref.ensures.value c.gather.ensures.ordered in
+    let long = at-length es new (order_below (length es) new ordered) in
+    length-take-le self.live (at_numbers es new) (omega (arith, long, ordered.all, self.within, self.order_of_all.all)) ∙ sym (live-length self)

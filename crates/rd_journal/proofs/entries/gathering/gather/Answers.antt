@@ -1,0 +1,155 @@
+use Rattle.rd_journal.proofs.Prelude.{common_steps, put_mid, vec_capacity, append-nil, drop-drop, drop_at, length-take-le, depends_on_one, Entry, HasRoomFor, at_numbers}
+use Rattle.std.proofs.Common.{◌≡◌, ◌∙◌, ◌+◌, ◌-◌, ◌<◌, ◌≤◌, ℕ, List, [], ◌∷◌, ◌++◌, length, take, drop, set, Bool, refl, sym, ap, subst, arith, rules, length-append, length-drop}
+use Rattle.rd_journal.proofs.GatheringLoop.{live_of, live-length, UnderWay, next_one, first_gathered, before_next, joined, stayed, ended, carried}
+use Rattle.rd_journal.proofs.IndexRoom.{fits_one, fits_between}
+use Rattle.rd_journal.proofs.ListLemmas.{overwritten}
+use Rattle.rd_journal.proofs.entries.gathering.gather.Goals as goal
+use Rattle.rd_journal.proofs.entries.gathering.gather.Goals.{then-depends_behind, else-depends_behind}
+
+-- what is told of the index is told of what is gathered
+told : (before block : List Entry) (x : Entry) (b : Bool) (n : ℕ) → length before ≡ n → b ≡ depends_on_one (drop n (before ++ block)) x → depends_on_one block x ≡ b
+told before block x b n len h = ap (λ (xs : List Entry). depends_on_one xs x) (sym (drop_at before block n len)) ∙ sym h
+
+-- what the order is when the gathered numbers were put after those that stay
+written : (n f live : ℕ) (now dm copied gathered : List ℕ) → n ≡ length now → dm ≡ now → copied ≡ gathered → f + length gathered ≡ live → live ≤ length now
+    → let ys = put_mid f (live - f) dm copied in take n (ys ++ drop (length ys) now) ≡ take f now ++ (gathered ++ drop live now)
+written n f live now dm copied gathered len same its number within = grind (arith, drop-drop, length-append, length-take-le, length-drop, overwritten)
+
+pub entry_in-step-requires : goal.entry_in-step-requires
+entry_in-step-requires c =
+    let ns = c.args.order.now.items in
+    (next_one c.args.slots.now ns ns c.args.live (c.args.k - 1) c.index-first.result.now c.requires.ordered c.requires.within (omega (arith, c.requires.some, c.requires.position)) refl refl
+    c.index-first.ensures).below
+
+pub put_back-requires-clause-room : goal.put_back-requires-clause-room
+put_back-requires-clause-room c =
+    let es = c.args.slots.now in
+    let ns = c.args.order.now.items in
+    let n = next_one es ns ns c.args.live (c.args.k - 1) c.index-first.result.now c.requires.ordered c.requires.within (omega (arith, c.requires.some, c.requires.position)) refl refl
+    c.index-first.ensures in
+    fits_one c.args.index.now c.entry_in-step.result.now (drop ((c.args.k - 1) + 1) (live_of es ns c.args.live))
+    (subst (λ (xs : List Entry). HasRoomFor c.args.index.now xs) (n.entry c.entry_in-step.result.now c.entry_in-step.ensures) c.requires.room)
+
+pub loop-next-init : goal.loop-next-init
+loop-next-init c =
+    let es = c.args.slots.now in
+    let ns = c.args.order.now.items in
+    let v = c.index-first.result.now in
+    let n = next_one es ns ns c.args.live (c.args.k - 1) v c.requires.ordered c.requires.within (omega (arith, c.requires.some, c.requires.position)) refl refl
+    c.index-first.ensures in
+    let pushed : v ∷ [] ≡ c.push_reserved.new.self.items = sym (c.push_reserved.ensures.items ∙ ap (λ (ms : List ℕ). ms ++ v ∷ []) c.requires.none) in
+    record {
+      under_way =
+          subst (λ (ms : List ℕ). UnderWay es ns ns ms c.args.index.now c.put_back.new.index c.args.k c.args.live (c.args.k - 1) c.args.k) pushed
+          (first_gathered es ns c.args.index.now c.put_back.new.index c.args.k c.args.live v c.entry_in-step.result.now c.requires.ordered c.requires.some c.requires.position c.requires.within n
+          c.entry_in-step.ensures c.requires.before c.put_back.ensures.put c.put_back.ensures.room);
+      order = refl;
+      place = c.push_reserved.ensures.capacity;
+    }
+
+pub entry_in-entry-requires : goal.entry_in-entry-requires
+entry_in-entry-requires c =
+    let u = c.loop-next.invariant.under_way in
+    (next_one c.args.slots.now c.args.order.now.items c.loop-next.order.items c.args.live c.loop-next.next c.index-number.result.now c.requires.ordered c.requires.within
+    (omega (arith, c.loop-next-test.true)) u.long u.later c.index-number.ensures).below
+
+pub depends_behind-requires-clause-within : goal.depends_behind-requires-clause-within
+depends_behind-requires-clause-within c = grind (arith, live_of, live-length, length-append, length-take-le)
+
+pub put_back-requires-then-depends_behind-clause-room : goal.put_back-requires-then-depends_behind-clause-room
+put_back-requires-then-depends_behind-clause-room c =
+    let es = c.args.slots.now in
+    let ns = c.args.order.now.items in
+    let now = c.loop-next.order.items in
+    let k = c.args.k in
+    let L = live_of es ns c.args.live in
+    let next = c.loop-next.next in
+    let v = c.index-number.result.now in
+    let x = c.entry_in-entry.result.now in
+    let u = c.loop-next.invariant.under_way in
+    let n = next_one es ns now c.args.live next v c.requires.ordered c.requires.within (omega (arith, c.loop-next-test.true)) u.long u.later c.index-number.ensures in
+    let has = subst (λ (xs : List Entry). HasRoomFor c.args.index.now xs) (sym (append-nil (drop (k - 1) L))) c.requires.room in
+    fits_one c.loop-next.index x (drop (k - 1) (at_numbers es (take c.loop-next.front now)) ++ (drop (next + 1) L ++ []))
+    (fits_between c.loop-next.index (drop (k - 1) (at_numbers es (take c.loop-next.front now))) (drop (next + 1) L ++ []) x
+    (before_next es ns now c.loop-next.gathered.items c.args.index.now c.loop-next.index k c.args.live c.loop-next.front next v x u n c.entry_in-entry.ensures [] has))
+
+pub loop-next-preserved : goal.loop-next-preserved
+loop-next-preserved c =
+    let es = c.args.slots.now in
+    let ns = c.args.order.now.items in
+    let now = c.loop-next.order.items in
+    let gathered = c.loop-next.gathered.items in
+    let k = c.args.k in
+    let live = c.args.live in
+    let L = live_of es ns live in
+    let front = c.loop-next.front in
+    let next = c.loop-next.next in
+    let v = c.index-number.result.now in
+    let x = c.entry_in-entry.result.now in
+    let u = c.loop-next.invariant.under_way in
+    let low : next < live = omega (arith, c.loop-next-test.true) in
+    let n = next_one es ns now live next v c.requires.ordered c.requires.within low u.long u.later c.index-number.ensures in
+    let len : length (take (k - 1) L) ≡ k - 1 =
+    length-take-le (k - 1) L (omega (arith, live-length es ns live c.requires.ordered c.requires.within, c.requires.position)) in
+    let said =
+    told (take (k - 1) L) (at_numbers es gathered) x c.depends_behind.result (k - 1) len (c.depends_behind.ensures (take (k - 1) L ++ at_numbers es gathered) u.indexed) in
+    let later : drop (next + 1) now ≡ drop (next + 1) ns =
+    sym (drop-drop 1 next now ∙ ap (λ (m : ℕ). drop m now) (omega arith)) ∙ ap (λ (ms : List ℕ). drop 1 ms) u.later ∙ (drop-drop 1 next ns ∙ ap (λ (m : ℕ). drop m ns) (omega arith)) in
+    elim c.if-depends_behind.branch [
+      | then-depends_behind w ↦
+          record {
+            under_way =
+                carried es ns now (gathered ++ v ∷ []) c.args.index.now w.put_back-then-depends_behind.new.index k live front (next + 1) _ _ _ _
+                ((λ i. (w.order-is i).items)) ((λ i. (w.gathered-is i).items) ∙ w.push_reserved-then-depends_behind.ensures.items) w.index-is w.front-is
+                (joined es ns now gathered c.args.index.now c.loop-next.index w.put_back-then-depends_behind.new.index k live front next v x u low n c.entry_in-entry.ensures
+                (said ∙ w.if-depends_behind.true) w.put_back-then-depends_behind.ensures.put w.put_back-then-depends_behind.ensures.room later);
+            order = ap vec_capacity w.order-is ∙ c.loop-next.invariant.order;
+            place = ap vec_capacity w.gathered-is ∙ w.push_reserved-then-depends_behind.ensures.capacity ∙ c.loop-next.invariant.place;
+          }
+      | else-depends_behind w ↦
+          record {
+            under_way =
+                carried es ns (set now front v) gathered c.args.index.now c.loop-next.index k live (front + 1) (next + 1) _ _ _ _
+                ((λ i. (w.order-is i).items)) ((λ i. (w.gathered-is i).items)) w.index-is w.front-is
+                (stayed es ns now gathered c.args.index.now c.loop-next.index k live front next v x u low c.requires.within n c.entry_in-entry.ensures
+                (said ∙ w.if-depends_behind.false) later);
+            order = ap vec_capacity w.order-is ∙ c.loop-next.invariant.order;
+            place = ap vec_capacity w.gathered-is ∙ c.loop-next.invariant.place;
+          }
+    ]
+
+pub returns-clause-ordered : goal.returns-clause-ordered
+returns-clause-ordered c =
+    let u = c.loop-next.invariant.under_way in
+    (ended c.args.slots.now c.args.order.now.items c.loop-next.order.items c.loop-next.gathered.items _ c.args.index.now c.loop-next.index c.args.k c.args.live c.loop-next.front
+    c.loop-next.next u (omega (arith, c.loop-next-test.false)) c.requires.ordered c.requires.within
+    (written c.loop-next.order.len c.loop-next.front c.args.live c.loop-next.order.items c.deref_mut.result.now c.copy_from_slice.new.self c.loop-next.gathered.items (search rules)
+    c.deref_mut.ensures.value (c.copy_from_slice.ensures.after ∙ c.deref.ensures.value) (omega (arith, u.number, u.within, c.loop-next-test.false))
+    (omega (arith, u.long, c.requires.within)))).ordered
+
+pub returns-clause-moved : goal.returns-clause-moved
+returns-clause-moved c =
+    let u = c.loop-next.invariant.under_way in
+    (ended c.args.slots.now c.args.order.now.items c.loop-next.order.items c.loop-next.gathered.items _ c.args.index.now c.loop-next.index c.args.k c.args.live c.loop-next.front
+    c.loop-next.next u (omega (arith, c.loop-next-test.false)) c.requires.ordered c.requires.within
+    (written c.loop-next.order.len c.loop-next.front c.args.live c.loop-next.order.items c.deref_mut.result.now c.copy_from_slice.new.self c.loop-next.gathered.items (search rules)
+    c.deref_mut.ensures.value (c.copy_from_slice.ensures.after ∙ c.deref.ensures.value) (omega (arith, u.number, u.within, c.loop-next-test.false))
+    (omega (arith, u.long, c.requires.within)))).moved
+
+pub returns-clause-behind : goal.returns-clause-behind
+returns-clause-behind c =
+    let u = c.loop-next.invariant.under_way in
+    (ended c.args.slots.now c.args.order.now.items c.loop-next.order.items c.loop-next.gathered.items _ c.args.index.now c.loop-next.index c.args.k c.args.live c.loop-next.front
+    c.loop-next.next u (omega (arith, c.loop-next-test.false)) c.requires.ordered c.requires.within
+    (written c.loop-next.order.len c.loop-next.front c.args.live c.loop-next.order.items c.deref_mut.result.now c.copy_from_slice.new.self c.loop-next.gathered.items (search rules)
+    c.deref_mut.ensures.value (c.copy_from_slice.ensures.after ∙ c.deref.ensures.value) (omega (arith, u.number, u.within, c.loop-next-test.false))
+    (omega (arith, u.long, c.requires.within)))).behind
+
+pub returns-clause-room : goal.returns-clause-room
+returns-clause-room c = grind (arith, common_steps)
+
+pub returns-clause-index : goal.returns-clause-index
+returns-clause-index c = grind (arith, common_steps)
+
+pub returns-clause-count : goal.returns-clause-count
+returns-clause-count c = grind (arith, common_steps)

@@ -1,0 +1,15 @@
+use Rattle.std.proofs.Common.{arith, length-append}
+use Rattle.rd_journal.proofs.Numbers.{order_below, order_push, put_over, put_new}
+use Rattle.rd_journal.proofs.entries.slots.put_at.Goals as goal
+
+pub index_mut-requires : goal.index_mut-requires
+index_mut-requires c = grind (arith, order_below)
+
+pub returns-then-place-len-clause-put : goal.returns-then-place-len-clause-put
+returns-then-place-len-clause-put c = grind (arith, put_over)
+
+pub returns-else-place-len-clause-ordered : goal.returns-else-place-len-clause-ordered
+returns-else-place-len-clause-ordered c = grind (arith, length-append, order_push)
+
+pub returns-else-place-len-clause-put : goal.returns-else-place-len-clause-put
+returns-else-place-len-clause-put c = grind (arith, put_new)

@@ -1,6 +1,0 @@
-use Rattle.std.proofs.Common.{sym, ap, ◌∙◌, length}
-use Rattle.rd_journal.proofs.Numbers.{at-length}
-use Rattle.rd_journal.proofs.live_records.LiveRecords.len.Goals as goal
-
-pub returns : goal.returns
-returns c = sym (at-length c.self.inside.slots.now c.self.inside.numbers.now c.self.invariant) ∙ ap length c.self.view_is

@@ -1,6 +1,0 @@
-use Rattle.std.proofs.Common.{sym}
-use Rattle.rd_journal.proofs.RecordLemmas.{live-length}
-use Rattle.rd_journal.proofs.records.Records.live_len.Goals as goal
-
-pub returns : goal.returns
-returns c = sym (live-length c.args.self.now)

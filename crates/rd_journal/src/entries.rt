@@ -1,0 +1,250 @@
+//! The entries of a session. An entry stays in the slot that it was put in; their order is a list
+//! of the slots' numbers: those of the live steps, then of those ahead of them, the next one in
+//! front, then of those whose entries were discarded. The steps ahead run on from the live ones and
+//! can be made again as they are: the undone ones, and after these the ones that the live ones went
+//! back over.
+//!
+//! Only the border between the first two moves when a step is undone or redone last. An entry that
+//! leaves the middle first has its number moved after those of the other live ones. So the room
+//! that an undo needs was made by the step that it undoes.
+
+#![tactic(auto, unfolding(crate::specs::Entries::all_entries))]
+
+ghost use Rattle.std.specs.Prelude.{◌≡◌, ◌++◌, ◌+◌, ◌-◌, ◌<◌, ◌≤◌, ◌∷◌, [], length, get_or, take, drop, vec_capacity, OnOk, OnErr};
+ghost use Rattle.rd_step.specs.Prelude.{closure_of, without_closure, MOST_STEPS};
+ghost use Rattle.rd_depend.specs.Index.{IsIndexOf, HasRoomFor};
+ghost use Rattle.rd_depend.specs.Moved.{moved_behind};
+ghost use Rattle.rd_journal.specs.Numbers.{IsOrder};
+
+mod gathering;
+mod slots;
+
+use super::live_entries::{LiveEntries, entry_at};
+use gathering::gather;
+use rd_depend::DependIndex;
+use rd_step::Entry;
+use slots::{make_room_in, move_behind, put_at};
+use std::alloc::{AllocError, Global};
+
+/// The entries of the live steps, in their order, and those of the steps ahead of them, the next
+/// one in front.
+#[derive(Drop)]
+pub(crate) struct Entries {
+    /// The entries, each where it was put, and those that were discarded and not yet written over.
+    slots: Vec<Entry>,
+    /// The numbers of the slots: of the live entries, of those ahead, and of the discarded ones.
+    order: Vec<u32>,
+    /// The numbers that a rollback gathers; none at any other time. There is room for one of each
+    /// slot.
+    gathered: Vec<u32>,
+    /// How many are live.
+    live: usize,
+    /// How many are ahead of the live ones.
+    ahead: usize,
+    ghost order_of_all: { IsOrder (length slots.items) order.items },
+    ghost within: { live + ahead ≤ length order.items },
+    ghost none_gathered: { gathered.items ≡ [] },
+    ghost room_to_gather: { length order.items ≤ vec_capacity gathered },
+    ghost few: { live + ahead ≤ MOST_STEPS },
+}
+
+impl Entries {
+    ghost use Rattle.rd_journal.specs.Entries.{all_entries, live_entries, ahead_entries, kept_entries, entries_capacity};
+
+    /// Returns entries with none in them. It takes no memory.
+    pub(crate) fn new(alloc: Global) -> Entries
+        ensures live { live_entries result ≡ [] }
+        ensures ahead { ahead_entries result ≡ [] }
+        ensures capacity { entries_capacity result ≡ 0 }
+    {
+        Entries {
+            slots: Vec::new(alloc),
+            order: Vec::new(alloc),
+            gathered: Vec::new(alloc),
+            live: 0,
+            ahead: 0,
+        }
+    }
+
+    /// Returns the entries of the live steps.
+    pub(crate) fn live(&self) -> LiveEntries<'_>
+        ensures { result ≡ live_entries self.now }
+    {
+        self.first(self.live)
+    }
+
+    /// Returns the first `n` entries of the steps ahead.
+    pub(crate) fn ahead(&self, n: usize) -> LiveEntries<'_>
+        requires within { n ≤ length (ahead_entries self.now) }
+        ensures { result ≡ take n (ahead_entries self.now) }
+    {
+        self.first(self.live + n).behind(self.live)
+    }
+
+    /// Returns the first `n` entries, live or ahead.
+    fn first(&self, n: usize) -> LiveEntries<'_>
+        requires within { n ≤ self.now.live + self.now.ahead }
+        ensures { result ≡ take n (all_entries self.now) }
+    {
+        LiveEntries::new(&self.slots, &self.order[..n])
+    }
+
+    /// How many steps are live.
+    pub(crate) fn live_len(&self) -> usize
+        ensures { result ≡ length (live_entries self.now) }
+    {
+        self.live
+    }
+
+    /// How many steps are live or ahead.
+    pub(crate) fn kept_len(&self) -> usize
+        ensures { result ≡ length (kept_entries self.now) }
+    {
+        self.live + self.ahead
+    }
+
+    /// The entry of the live step at this position, from 0.
+    pub(crate) fn live_at(&self, position: usize) -> &Entry
+        requires within { position < length (live_entries self.now) }
+        ensures { result.now ≡ get_or (live_entries self.now) position result.now }
+    {
+        self.at(position)
+    }
+
+    /// Returns the entry at this position, from 0, in the list of the live entries and those
+    /// ahead.
+    pub(crate) fn kept_at(&self, position: usize) -> &Entry
+        requires within { position < length (kept_entries self.now) }
+        ensures { result.now ≡ get_or (kept_entries self.now) position result.now }
+    {
+        self.at(position)
+    }
+
+    /// The entry of the step ahead at this position, from 0.
+    pub(crate) fn ahead_at(&self, position: usize) -> &Entry
+        requires within { position < length (ahead_entries self.now) }
+        ensures { result.now ≡ get_or (ahead_entries self.now) position result.now }
+    {
+        self.at(self.live + position)
+    }
+
+    /// Returns the entry in the slot whose number is at this place of the order.
+    fn at(&self, place: usize) -> &Entry
+        requires { place < length (all_entries self.now) }
+        ensures { result.now ≡ get_or (all_entries self.now) place result.now }
+    {
+        entry_at(&self.slots, &self.order, place)
+    }
+
+    /// Makes the last `n` live entries the next ones ahead.
+    pub(crate) fn step_back(&mut self, n: usize)
+        requires enough { n ≤ length (live_entries self.old) }
+        ensures live { live_entries self.new ≡ take (length (live_entries self.old) - n) (live_entries self.old) }
+        ensures ahead { ahead_entries self.new
+            ≡ drop (length (live_entries self.old) - n) (live_entries self.old) ++ ahead_entries self.old }
+        ensures kept { kept_entries self.new ≡ kept_entries self.old }
+        ensures capacity { entries_capacity self.new ≡ entries_capacity self.old }
+    {
+        self.live -= n;
+        self.ahead += n;
+    }
+
+    /// Makes the next `n` entries ahead the last live ones.
+    pub(crate) fn step_forward(&mut self, n: usize)
+        requires enough { n ≤ length (ahead_entries self.old) }
+        ensures live { live_entries self.new ≡ live_entries self.old ++ take n (ahead_entries self.old) }
+        ensures ahead { ahead_entries self.new ≡ drop n (ahead_entries self.old) }
+        ensures kept { kept_entries self.new ≡ kept_entries self.old }
+        ensures capacity { entries_capacity self.new ≡ entries_capacity self.old }
+    {
+        self.live += n;
+        self.ahead -= n;
+    }
+
+    /// Makes the `k`-th live entry the next one ahead. All others stay in their order.
+    pub(crate) fn undo_alone(&mut self, k: usize)
+        requires some { 1 ≤ k }
+        requires position { k ≤ length (live_entries self.old) }
+        ensures live { live_entries self.new ≡ take (k - 1) (live_entries self.old) ++ drop k (live_entries self.old) }
+        ensures ahead { ahead_entries self.new ≡ take 1 (drop (k - 1) (live_entries self.old)) ++ ahead_entries self.old }
+        ensures kept { kept_entries self.new ≡ moved_behind (kept_entries self.old) k (length (live_entries self.old)) }
+        ensures capacity { entries_capacity self.new ≡ entries_capacity self.old }
+    {
+        move_behind(&mut self.order, k, self.live);
+        self.live -= 1;
+        self.ahead += 1;
+    }
+
+    /// Puts the `k`-th live entry and those that depend on it, directly or through others, after
+    /// the other live ones, all in their order. Returns how many these are.
+    ///
+    /// The index is that of the entries before the `k`-th, with room for those after them; then it
+    /// is that of these entries and the ones that were moved, with room for the others.
+    pub(crate) fn gather_closure(&mut self, k: usize, index: &mut DependIndex) -> usize
+        requires some { 1 ≤ k }
+        requires position { k ≤ length (live_entries self.old) }
+        requires before { IsIndexOf index.old (take (k - 1) (live_entries self.old)) }
+        requires room { HasRoomFor index.old (drop (k - 1) (live_entries self.old) ++ ahead_entries self.old) }
+        ensures count { result ≡ length (closure_of (live_entries self.old) k) }
+        ensures live { live_entries self.new ≡ without_closure (live_entries self.old) k ++ closure_of (live_entries self.old) k }
+        ensures ahead { ahead_entries self.new ≡ ahead_entries self.old }
+        ensures len { length (live_entries self.new) ≡ length (live_entries self.old) }
+        ensures capacity { entries_capacity self.new ≡ entries_capacity self.old }
+        ensures index { IsIndexOf index.new (take (k - 1) (live_entries self.old) ++ closure_of (live_entries self.old) k) }
+        ensures room { HasRoomFor index.new (drop (k - 1) (without_closure (live_entries self.old) k) ++ ahead_entries self.old) }
+    {
+        gather(
+            &self.slots,
+            &mut self.order,
+            &mut self.gathered,
+            index,
+            k,
+            self.live,
+        )
+    }
+
+    /// Makes room for this many entries. Memory is asked for only if the room is missing.
+    #[inline(always)]
+    pub(crate) fn make_room_for(&mut self, needed: usize) -> Result<(), AllocError>
+        ensures live { live_entries self.new ≡ live_entries self.old }
+        ensures ahead { ahead_entries self.new ≡ ahead_entries self.old }
+        ensures ok { OnOk result (needed ≤ entries_capacity self.new) }
+        ensures err { OnErr result (entries_capacity self.old < needed) }
+        ensures same { needed ≤ entries_capacity self.old → entries_capacity self.new ≡ entries_capacity self.old }
+    {
+        make_room_in(&mut self.slots, needed)?;
+        make_room_in(&mut self.order, needed)?;
+        make_room_in(&mut self.gathered, needed)
+    }
+
+    /// Keeps the first `n` live entries, and puts the given ones after them, in room that must be
+    /// there. All of these are then live, and none is ahead.
+    pub(crate) fn exchange(&mut self, n: usize, given: &[Entry])
+        requires within { n ≤ length (live_entries self.old) }
+        requires room { n + length given.now ≤ entries_capacity self.old }
+        requires few { n + length given.now ≤ MOST_STEPS }
+        ensures live { live_entries self.new ≡ take n (live_entries self.old) ++ given.now }
+        ensures ahead { ahead_entries self.new ≡ [] }
+        ensures capacity { entries_capacity self.new ≡ entries_capacity self.old }
+    {
+        self.live = n;
+        self.ahead = 0;
+        for entry in given {
+            self.push(entry);
+        }
+    }
+
+    /// Puts an entry last among the live ones, where none is ahead: over the first discarded one,
+    /// or where none is, into a new slot.
+    fn push(&mut self, entry: &Entry)
+        requires none_ahead { ahead_entries self.old ≡ [] }
+        requires room { length (live_entries self.old) < entries_capacity self.old }
+        requires few { length (live_entries self.old) < MOST_STEPS }
+        ensures live { live_entries self.new ≡ live_entries self.old ++ entry.now ∷ [] }
+        ensures ahead { ahead_entries self.new ≡ [] }
+        ensures capacity { entries_capacity self.new ≡ entries_capacity self.old }
+    {
+        put_at(&mut self.slots, &mut self.order, self.live, entry);
+        self.live += 1;
+    }
+}

@@ -1,0 +1,77 @@
+//! The causal closure of a step, gathered after the other live entries in one pass.
+//!
+//! An entry that is gathered is put into the index of dependants after those before the step. So
+//! the next one depends on one that was gathered exactly where the index shows that it depends on
+//! one after them.
+
+ghost use Rattle.std.specs.Prelude.{◌≡◌, ◌++◌, ◌-◌, ◌<◌, ◌≤◌, [], List, length, take, drop, slice_index_or, vec_capacity};
+ghost use Rattle.rd_step.specs.declared.entries.Entry.{Entry as SomeEntry};
+ghost use Rattle.rd_step.specs.Prelude.{closure_of, without_closure, MOST_STEPS};
+ghost use Rattle.rd_depend.specs.Index.{IsIndexOf, HasRoomFor};
+ghost use Rattle.rd_journal.specs.Numbers.{at_numbers, IsOrder};
+
+use crate::indexing::put_back;
+use rd_depend::DependIndex;
+use rd_step::Entry;
+
+/// Moves the number of the `k`-th of the first `live` entries and those of the entries among them
+/// that depend on it, directly or through others, after those of the others, all in their order.
+/// Returns how many these are.
+pub(crate) fn gather(
+    slots: &[Entry],
+    order: &mut Vec<u32>,
+    gathered: &mut Vec<u32>,
+    index: &mut DependIndex,
+    k: usize,
+    live: usize,
+) -> usize
+    requires ordered { IsOrder (length slots.now) order.old.items }
+    requires some { 1 ≤ k }
+    requires position { k ≤ live }
+    requires within { live ≤ length order.old.items }
+    requires few { live ≤ MOST_STEPS }
+    requires none { gathered.old.items ≡ [] }
+    requires place { length order.old.items ≤ vec_capacity gathered.old }
+    requires before { IsIndexOf index.old (take (k - 1) (take live (at_numbers slots.now order.old.items))) }
+    requires room { HasRoomFor index.old (drop (k - 1) (take live (at_numbers slots.now order.old.items))) }
+    ensures ordered { IsOrder (length slots.now) order.new.items }
+    ensures count { result ≡ length (closure_of (take live (at_numbers slots.now order.old.items)) k) }
+    ensures moved { take live (at_numbers slots.now order.new.items)
+        ≡ without_closure (take live (at_numbers slots.now order.old.items)) k ++ closure_of (take live (at_numbers slots.now order.old.items)) k }
+    ensures behind { drop live (at_numbers slots.now order.new.items) ≡ drop live (at_numbers slots.now order.old.items) }
+    ensures order { vec_capacity order.new ≡ vec_capacity order.old }
+    ensures none { gathered.new.items ≡ [] }
+    ensures place { vec_capacity gathered.new ≡ vec_capacity gathered.old }
+    ensures index { IsIndexOf index.new (take (k - 1) (take live (at_numbers slots.now order.old.items))
+        ++ closure_of (take live (at_numbers slots.now order.old.items)) k) }
+    ensures room { (rest : List SomeEntry) → HasRoomFor index.old (drop (k - 1) (take live (at_numbers slots.now order.old.items)) ++ rest)
+        → HasRoomFor index.new (drop (k - 1) (without_closure (take live (at_numbers slots.now order.old.items)) k) ++ rest) }
+{
+    let mut front = k - 1;
+    let first = order[front];
+    let step = entry_in(slots, first);
+    put_back(index, step);
+    gathered.push_reserved(first);
+    for next in k..live {
+        let number = order[next];
+        let entry = entry_in(slots, number);
+        if index.depends_behind(k as u64 - 1, entry) {
+            put_back(index, entry);
+            gathered.push_reserved(number);
+        } else {
+            order[front] = number;
+            front += 1;
+        }
+    }
+    order[front..live].copy_from_slice(gathered);
+    gathered.clear();
+    live - front
+}
+
+/// The entry in the slot of this number.
+fn entry_in(slots: &[Entry], number: u32) -> &Entry
+    requires { number < length slots.now }
+    ensures { result.now ≡ slice_index_or slots.now number result.now }
+{
+    &slots[number as usize]
+}

@@ -1,0 +1,90 @@
+//! The entries of the live steps, lent to be read.
+
+ghost use Rattle.std.specs.Prelude.{◌≡◌, ◌<◌, ◌≤◌, List, None, Some, length, drop, slice_get, slice_index_or, MatchOption};
+ghost use Rattle.std.specs.List.{All};
+ghost use Rattle.rd_journal.specs.Numbers.{at_numbers};
+
+use rd_step::Entry;
+use std::marker::Model;
+
+/// Entries of live steps, in their order: a list that is read where the entries are kept, by the
+/// numbers of their slots.
+#[derive(Drop)]
+pub struct LiveEntries<'a> {
+    slots: &'a [Entry],
+    numbers: &'a [u32],
+}
+
+impl<'a> Model for LiveEntries<'a> {
+    ghost use Rattle.std.specs.Prelude.{List, ◌<◌, length};
+    ghost use Rattle.std.specs.List.{All};
+    ghost use Rattle.rd_step.specs.declared.entries.Entry.{Entry as SomeEntry};
+    ghost use Rattle.rd_journal.specs.Numbers.{at_numbers};
+
+    ghost Value = { List SomeEntry };
+
+    ghost view = { λ r. at_numbers r.slots.now r.numbers.now };
+
+    ghost invariant = { λ r. All (λ n. n < length r.slots.now) r.numbers.now };
+}
+
+impl<'a> LiveEntries<'a> {
+    /// Returns the entries in the slots of these numbers.
+    pub(crate) fn new(slots: &'a [Entry], numbers: &'a [u32]) -> LiveEntries<'a>
+        requires { All (λ n. n < length slots.now) numbers.now }
+        ensures { result ≡ at_numbers slots.now numbers.now }
+    {
+        LiveEntries { slots, numbers }
+    }
+
+    /// Returns the number of entries.
+    pub fn len(&self) -> usize
+        ensures { result ≡ length self.now }
+    {
+        self.numbers.len()
+    }
+
+    /// The entry at this position, from 0.
+    pub fn at(&self, position: usize) -> &'a Entry
+        requires { position < length self.now }
+        ensures { result.now ≡ slice_index_or self.now position result.now }
+    {
+        entry_at(self.slots, self.numbers, position)
+    }
+
+    /// The entry at this position, from 0, if there is one.
+    pub fn get(&self, position: usize) -> Option<&'a Entry>
+        ensures { MatchOption result (slice_get self.now position ≡ None) (λ entry. slice_get self.now position ≡ Some entry.now) }
+    {
+        if position < self.len() {
+            Some(self.at(position))
+        } else {
+            None
+        }
+    }
+
+    /// Returns the entries after the first `n`.
+    pub fn behind(&self, n: usize) -> LiveEntries<'a>
+        requires { n ≤ length self.now }
+        ensures { result ≡ drop n self.now }
+    {
+        LiveEntries::new(self.slots, numbers_behind(self.numbers, n))
+    }
+}
+
+/// Returns the entry in the slot whose number is at this position, from 0, of the numbers.
+pub(crate) fn entry_at<'a>(slots: &'a [Entry], numbers: &[u32], position: usize) -> &'a Entry
+    requires within { position < length numbers.now }
+    requires below { All (λ n. n < length slots.now) numbers.now }
+    ensures { result.now ≡ slice_index_or (at_numbers slots.now numbers.now) position result.now }
+{
+    &slots[numbers[position] as usize]
+}
+
+/// Returns the numbers of slots after the first `n`.
+fn numbers_behind(numbers: &[u32], n: usize) -> &[u32]
+    requires { n ≤ length numbers.now }
+    ensures { result.now ≡ drop n numbers.now }
+{
+    &numbers[n..]
+}

@@ -1,7 +1,0 @@
-use Rattle.std.proofs.Common.{◌≡◌, take}
-use Rattle.rd_journal.specs.Sessions.{journal}
-use Rattle.rd_journal_tests.proofs.tests.switching.live_records.Given as goal
-
--- the records so far are the first of the session's
-abbrev pub invariant-loop-position : goal.invariant-loop-position
-invariant-loop-position g l = l.records.items ≡ take l.position (journal l.session).live
