@@ -2,7 +2,7 @@
 
 ghost use Rattle.std.specs.Prelude.{◌≡◌, ◌↔◌, ◌≤◌, length, take, IsTrue};
 ghost use Rattle.rd_step.specs.Run.{events};
-ghost use Rattle.rd_depend.specs.Beginnings.{Begins};
+ghost use Rattle.rd_depend.specs.Beginnings.{IsPrefix};
 
 use rd_step::{Entry, Event};
 
@@ -13,8 +13,8 @@ pub(crate) fn common_beginning(a: &[Entry], b: &[Entry]) -> usize
     ensures in_first { result ≤ length a.now }
     ensures in_second { result ≤ length b.now }
     ensures same { events (take result a.now) ≡ events (take result b.now) }
-    ensures first_begins { Begins (events a.now) (events b.now) → result ≡ length a.now }
-    ensures second_begins { Begins (events b.now) (events a.now) → result ≡ length b.now }
+    ensures first_begins { IsPrefix (events a.now) (events b.now) → result ≡ length a.now }
+    ensures second_begins { IsPrefix (events b.now) (events a.now) → result ≡ length b.now }
 {
     let shorter = a.len().min(b.len());
     for index in 0..shorter {

@@ -1,6 +1,6 @@
 -- Which lists begin alike, and how far the stretches can be followed along a list of events.
 use Rattle.std.proofs.Common.{◌≡◌, ◌⊎◌, ℕ, zero, suc, ◌<◌, ◌≤◌, inl, inr, refl, sym, ap, ◌∙◌, subst, List, length, take, length-take, arith}
-use Rattle.rd_marks.proofs.Prelude.{cases_lt, cases_eq, length-map, take-take, take-map, length-take-le, Event, Entry, Begins, Stretch, stretch_list, shared_at, AreNested, AreFresh, IsAlong, IsDeepest}
+use Rattle.rd_marks.proofs.Prelude.{cases_lt, cases_eq, length-map, take-take, take-map, length-take-le, Event, Entry, IsPrefix, Stretch, stretch_list, shared_at, AreNested, AreFresh, IsAlong, IsDeepest}
 use Rattle.rd_step.specs.Run.{events}
 use Rattle.rd_marks.proofs.StretchLists.{list_past, begins_shared, shared_entries}
 
@@ -28,10 +28,10 @@ along_both : (ss rs : List Stretch) (i m n : ℕ) (es : List Event) → IsAlong 
 along_both ss rs i m n es a b = grind (arith, length-map, along_within)
 
 -- beginning with the first events of a list is going along it
-pub opened : (ss : List Stretch) (i n : ℕ) (es : List Event) → n ≤ length (stretch_list ss i) → Begins (take n (events (stretch_list ss i))) es → IsAlong ss i n es
+pub opened : (ss : List Stretch) (i n : ℕ) (es : List Event) → n ≤ length (stretch_list ss i) → IsPrefix (take n (events (stretch_list ss i))) es → IsAlong ss i n es
 opened ss i n es h b = grind (arith, length-take-le, length-map, length-take)
 
-opens : (ss : List Stretch) (i n : ℕ) (es : List Event) → IsAlong ss i n es → Begins (take n (events (stretch_list ss i))) es
+opens : (ss : List Stretch) (i n : ℕ) (es : List Event) → IsAlong ss i n es → IsPrefix (take n (events (stretch_list ss i))) es
 opens ss i n es a = grind (arith, length-map, along_within, length-take-le)
 
 -- what freshness says of lists along the same events

@@ -1,6 +1,6 @@
 -- Where the session's track lies among the bookmarks' entries, and what each call leaves of that.
 use Rattle.std.proofs.Common.{◌≡◌, ℕ, zero, suc, ◌-◌, ◌≤◌, Bool, nat_lt, if◌then◌else◌, refl, sym, ap, ◌∙◌, List, [], ◌∷◌, ◌++◌, length, take, drop, Result, Ok, Err, OnOk, OnErr, arith}
-use Rattle.rd_marks.proofs.Prelude.{take-append_seam, take-length, take-map, take-take, take-append-le, length-map, length-take, Refusal, closure, unmarked, Event, Entry, Begins, Session, Journal, ahead_entries, state, track, State, undo_at, roll, Place, Stretch, stretch_list, entries_at, IsWithin, IsAlong}
+use Rattle.rd_marks.proofs.Prelude.{take-append_seam, take-length, take-map, take-take, take-append-le, length-map, length-take, Refusal, closure, unmarked, Event, Entry, IsPrefix, Session, Journal, ahead_entries, state, track, State, undo_at, roll, Place, Stretch, stretch_list, entries_at, IsWithin, IsAlong}
 use Rattle.rd_journal.specs.Journal.{events}
 use Rattle.rd_journal.specs.Moves.{IsLengthened, IsUndoneAlone, IsRolledBack}
 use Rattle.rd_marks.proofs.Starting.{begins_events, begins_shorter, begins_trans, events_length, events_of_first, fewer_begin, entries_length}
@@ -39,14 +39,14 @@ undone_within R s (suc i) t h = within_by (nat_lt i (length s.live)) i (length s
 pub rolled_within : (R : ℕ) (s : State) (k : ℕ) (t : State) → roll R s k ≡ Ok t → k ≤ length s.live
 rolled_within h s k t l = grind arith
 
-module _ (here there : List Entry) (begins : Begins there here) where
+module _ (here there : List Entry) (begins : IsPrefix there here) where
   -- what begins it begins the same track
-  pub still_begins : (steps : List Event) → Begins (events here) steps → Begins (events there) steps
+  pub still_begins : (steps : List Event) → IsPrefix (events here) steps → IsPrefix (events there) steps
   still_begins steps stands = begins_trans (events there) (events here) steps (begins_events there here begins) stands
 
   -- where the first n live steps stayed, whatever is ahead
-  pub track_cut : (n : ℕ) (old new : Journal) (old_ahead new_ahead : List Event) → Begins (events here) (events old.live ++ old_ahead)
-      → length there ≤ n → n ≤ length old.live → take n new.live ≡ take n old.live → Begins (events there) (events new.live ++ new_ahead)
+  pub track_cut : (n : ℕ) (old new : Journal) (old_ahead new_ahead : List Event) → IsPrefix (events here) (events old.live ++ old_ahead)
+      → length there ≤ n → n ≤ length old.live → take n new.live ≡ take n old.live → IsPrefix (events there) (events new.live ++ new_ahead)
   track_cut n old new old_ahead new_ahead stands short within same =
       let event = λ (x : Entry). x.event in
       let few : n ≤ length new.live = omega (arith, ap length same, within, length-take n old.live, length-take n new.live) in
@@ -60,15 +60,15 @@ module _ (here there : List Entry) (begins : Begins there here) where
 
   -- where steps were taken out after them, if the call was not refused
   pub after_out : {X P Q : Type 0} (r : Result X Refusal) (n : ℕ) (old new : Journal) (old_ahead new_ahead : List Event)
-      → Begins (events here) (events old.live ++ old_ahead) → OnOk r (length there ≤ n)
+      → IsPrefix (events here) (events old.live ++ old_ahead) → OnOk r (length there ≤ n)
       → OnErr r (events new.live ++ new_ahead ≡ events old.live ++ old_ahead) → OnOk r P → (P → n ≤ length old.live) → OnOk r Q
-      → (Q → take n new.live ≡ take n old.live) → Begins (events there) (events new.live ++ new_ahead)
+      → (Q → take n new.live ≡ take n old.live) → IsPrefix (events there) (events new.live ++ new_ahead)
   after_out (Ok x) n old new old_ahead new_ahead stands short unchanged done within left leaves =
       track_cut n old new old_ahead new_ahead stands short (within done) (leaves left)
   after_out (Err e) n old new old_ahead new_ahead stands short unchanged done within left leaves = rw unchanged (still_begins (events old.live ++ old_ahead) stands)
 
 -- entries with the events of the live steps begin the track
-pub live_begin : {R : ℕ} (session : Session R) (xs : List Entry) → events xs ≡ (state session).live → Begins (events xs) (track session)
+pub live_begin : {R : ℕ} (session : Session R) (xs : List Entry) → events xs ≡ (state session).live → IsPrefix (events xs) (track session)
 live_begin session xs its = grind (arith, take-append_seam)
 
 -- The place of the entries of a list with which the live steps begin
@@ -76,7 +76,7 @@ live_begin session xs its = grind (arith, take-append_seam)
 module _ (ss : List Stretch) where
   -- where they are: no further than they are, at the place where their track lies
   pub live_along : {R : ℕ} (session : Session R) (here at : Place) (xs : List Entry) → events xs ≡ (state session).live → IsWithin ss here
-      → Begins (events (entries_at ss here)) (track session) → at.stretch ≡ here.stretch → at.number ≤ here.number → at.number ≤ length xs
+      → IsPrefix (events (entries_at ss here)) (track session) → at.stretch ≡ here.stretch → at.number ≤ here.number → at.number ≤ length xs
       → IsWithin ss at × IsAlong ss at.stretch at.number (events xs)
   live_along session here at xs its within stands same fewer few =
       let first = fewer_begin ss here at within same fewer in
@@ -90,7 +90,7 @@ module _ (ss : List Stretch) where
       (first.0, record { enough = omega (arith, few, all); alike = alike })
 
   -- so its steps are the first ones of the track
-  pub along_to : (at here : Place) (steps : List Event) → IsWithin ss at → IsWithin ss here → Begins (events (entries_at ss here)) steps → (n : ℕ) → n ≡ at.number → n ≤ here.number
+  pub along_to : (at here : Place) (steps : List Event) → IsWithin ss at → IsWithin ss here → IsPrefix (events (entries_at ss here)) steps → (n : ℕ) → n ≡ at.number → n ≤ here.number
       → take n (entries_at ss here) ≡ take n (entries_at ss at) → (n ≤ length steps) × (take n steps ≡ events (entries_at ss at))
   along_to at here steps is within stands n all fewer alike =
       let long = events_length ss here within in (

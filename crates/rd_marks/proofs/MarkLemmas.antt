@@ -1,7 +1,7 @@
 -- The marks that a list of names with entries is: looking one up, putting one last, taking one
 -- away.
 use Rattle.std.proofs.Common.{◌↔◌, IsTrue, true≢false, is_ok, ◌⊎◌, ◌≢◌, suc, Result, Ok, Err, IsOk, IfErr, ne_eqb, ◌≡◌, ℕ, Bool, true, false, if◌then◌else◌, cond, map, refl, sym, ap, ◌∙◌, subst, List, [], ◌∷◌, ◌++◌, length, is_some, option_map, Option, Some, None, All, slice_get, arith}
-use Rattle.rd_marks.proofs.Prelude.{lookup, remove_entry, insert_entry, All-cons, All-head, All-tail, Entry, Event, MarkName, same_name, eq-eqb, false≢true, length-map, get_or_from_slice_get, slice_get-map, slice_get_within, Refusal, World, NoMark, NoMemory, MarkTaken, TooManyMarks, MOST_MARKS, AreEntriesOfRun, Begins, Mark, BookState, with_marks, marked_events, without_mark, mark, drop_mark, goto_mark, mark_at, mark_events, name_and_length, MakesSteps, AnswersSame, IsEquivalent, DecidesEquivalence, mark_of, marks_of}
+use Rattle.rd_marks.proofs.Prelude.{lookup, remove_entry, insert_entry, All-cons, All-head, All-tail, Entry, Event, MarkName, same_name, eq-eqb, false≢true, length-map, get_or_from_slice_get, slice_get-map, slice_get_within, Refusal, World, NoMark, NoMemory, MarkTaken, TooManyMarks, MOST_MARKS, AreEntriesOfRun, IsPrefix, Mark, BookState, with_marks, marked_events, without_mark, mark, drop_mark, goto_mark, mark_at, mark_events, name_and_length, MakesSteps, AnswersSame, IsEquivalent, DecidesEquivalence, mark_of, marks_of}
 use Rattle.rd_journal.specs.Journal.{events}
 
 -- taking an entry away, whatever is made of the values
@@ -92,7 +92,7 @@ none_removed {K} {V} test (m ∷ ms) h =
 
 -- which only memory for its steps can refuse
 pub goto_not_done : {X : Type 0} (r : Result X Refusal) (b : BookState) (name : MarkName) (es : List Event) → marked_events b.marks name ≡ Some es
-    → IfErr r (λ refusal. refusal ≡ NoMemory) → (Begins es b.session.live → IsOk r)
+    → IfErr r (λ refusal. refusal ≡ NoMemory) → (IsPrefix es b.session.live → IsOk r)
     → IfErr r (λ refusal. (goto_mark b name ≡ Err refusal) ⊎ ((refusal ≡ NoMemory) × MakesSteps b name))
 goto_not_done r b name es there h goes = grind arith
 

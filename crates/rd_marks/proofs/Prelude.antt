@@ -11,7 +11,7 @@ pub use Rattle.std.proofs.lemmas.Option.{get_or_from_slice_get, slice_get-map, s
 pub use Rattle.std.specs.List.{IsDistinct, list_all, range_with_len}
 pub use Rattle.std.specs.Map.{lookup, remove_entry, values_of}
 pub use Rattle.indexmap.specs.IndexMap.{insert_entry, set_value_at, spare}
-pub use Rattle.rd_depend.specs.Beginnings.{Begins, NeitherIsPrefix}
+pub use Rattle.rd_depend.specs.Beginnings.{IsPrefix, NeitherIsPrefix}
 pub use Rattle.rd_depend.specs.Equivalence.{DecidesEquivalence}
 pub use Rattle.rd_journal.specs.Journal.{Journal, start_of}
 pub use Rattle.rd_journal.specs.Entries.{ahead_entries}

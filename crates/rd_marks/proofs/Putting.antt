@@ -1,6 +1,6 @@
 -- What the bookmarks are after one was put, and after stretches were shrunk.
 use Rattle.std.proofs.Common.{◌≡◌, ℕ, zero, suc, ◌^◌, ◌<◌, ◌≤◌, inl, inr, refl, sym, ap, ◌∙◌, subst, List, [], ◌∷◌, ◌++◌, map, length, take, drop, length-append, option_map, Option, None, All, arith}
-use Rattle.rd_marks.proofs.Prelude.{cases_lt, sum_by-le, length-map, map-append, take-append-drop, All-push, All-contains, All-head, All-map, All-nil, All-tail, World, MOST_STEPS, Event, Entry, Begins, MarkName, Place, Stretch, Shift, shifted, Stays, IsGrown, IsShrunk, IsUnchanged, MOST_MARKS, AreEntriesOfRun, AreRuns, IsKept, IsPruned, named_lists, places_of, count_of, stretch_list, entries_at, greatest_in, needed_at, IsWithin, IsAlong, AreNested, AreNeeded, AreNeededFrom, nat_tests}
+use Rattle.rd_marks.proofs.Prelude.{cases_lt, sum_by-le, length-map, map-append, take-append-drop, All-push, All-contains, All-head, All-map, All-nil, All-tail, World, MOST_STEPS, Event, Entry, IsPrefix, MarkName, Place, Stretch, Shift, shifted, Stays, IsGrown, IsShrunk, IsUnchanged, MOST_MARKS, AreEntriesOfRun, AreRuns, IsKept, IsPruned, named_lists, places_of, count_of, stretch_list, entries_at, greatest_in, needed_at, IsWithin, IsAlong, AreNested, AreNeeded, AreNeededFrom, nat_tests}
 use Rattle.rd_step.specs.Run.{events}
 use Rattle.rd_journal.specs.Journal.{IsRunFrom}
 use Rattle.rd_marks.specs.declared.stretches.changes.Grown.{Grown}
@@ -69,8 +69,8 @@ module _ (old new : List Stretch) (at : Place) (live : List Entry) (grown : Grow
       })
 
   -- and the track begins with the entries of where it lies
-  here_put : (here there : Place) (n : ℕ) (steps : List Event) → IsWithin old here → Begins (events (entries_at old here)) steps → Begins (events (entries_at new grown.place)) steps
-      → (here.number ≤ n → there ≡ grown.place) → (n < here.number → there ≡ shifted grown.shift here) → IsWithin new there × Begins (events (entries_at new there)) steps
+  here_put : (here there : Place) (n : ℕ) (steps : List Event) → IsWithin old here → IsPrefix (events (entries_at old here)) steps → IsPrefix (events (entries_at new grown.place)) steps
+      → (here.number ≤ n → there ≡ grown.place) → (n < here.number → there ≡ shifted grown.shift here) → IsWithin new there × IsPrefix (events (entries_at new there)) steps
   here_put here there n steps lies stands begins near far =
       elim (cases_lt n here.number) [
         | inl over ↦ let stays = grows.stays here lies in rw (far over) (stays.within, rw stays.same stands)
@@ -132,7 +132,7 @@ module _ (old new : List Stretch) (i n : ℕ) (shift : Shift) (shrunk : IsShrunk
         within = within_shifted old new shift ms stay_left;
         needed = subst (λ (ps : List Place). AreNeededFrom i new ps) (sym (places_shifted shift ms)) (shrunk.needed (places_of ms) needed its);
         lies = stays.within;
-        begins = subst (λ (xs : List Entry). Begins xs (entries_at old here)) (sym stays.same) first.1;
+        begins = subst (λ (xs : List Entry). IsPrefix xs (entries_at old here)) (sym stays.same) first.1;
       }
 
 -- nothing pruned yet, and once more
@@ -172,11 +172,11 @@ pub record IsSet (R : ℕ) (w : World) (old new : List Stretch) (ms es : List (M
   pub kept : IsKept new es there
   pub lists : named_lists new es ≡ named_lists old ms ++ (name, live) ∷ []
   pub runs : AreRuns R w (named_lists new es)
-  pub stands : Begins (events (entries_at new there)) steps
+  pub stands : IsPrefix (events (entries_at new there)) steps
 
 module _ (R : ℕ) (w : World) (old : List Stretch) (rule : AreNested old) (ms : List (MarkName × Place)) (here : Place) (kept : IsKept old ms here) (fewer : length (named_lists old ms) < MOST_MARKS)
-    (runs : AreRuns R w (named_lists old ms)) (live : List Entry) (run : AreEntriesOfRun R w live) (steps : List Event) (stands : Begins (events (entries_at old here)) steps)
-    (began : Begins (events live) steps) (at : Place) (within : IsWithin old at) (along : IsAlong old at.stretch at.number (events live)) where
+    (runs : AreRuns R w (named_lists old ms)) (live : List Entry) (run : AreEntriesOfRun R w live) (steps : List Event) (stands : IsPrefix (events (entries_at old here)) steps)
+    (began : IsPrefix (events live) steps) (at : Place) (within : IsWithin old at) (along : IsAlong old at.stretch at.number (events live)) where
   pub is_set : (new : List Stretch) (grown : Grown) → IsGrown old new at live grown → (name : MarkName) (mid es : List (MarkName × Place)) → mid ≡ ms
       → es ≡ names_shifted grown.shift mid ++ (name, grown.place) ∷ [] → (there : Place) (n : ℕ) → (here.number ≤ n → there ≡ grown.place) → (n < here.number → there ≡ shifted grown.shift here)
       → IsSet R w old new ms es name live steps there
@@ -187,7 +187,7 @@ module _ (R : ℕ) (w : World) (old : List Stretch) (rule : AreNested old) (ms :
       let lists : named_lists new es ≡ named_lists old ms ++ (name, live) ∷ [] =
       ap (named_lists new) put_now ∙ lists_put old new at live grown grows name ms kept.within ∙ ap (λ (xs : List Entry). named_lists old ms ++ (name, xs) ∷ []) all in
       let lies =
-      here_put old new at live grown grows name ms kept.within here there n steps kept.lies stands (subst (λ (xs : List Entry). Begins (events xs) steps) (sym all) began) near far in
+      here_put old new at live grown grows name ms kept.within here there n steps kept.lies stands (subst (λ (xs : List Entry). IsPrefix (events xs) steps) (sym all) began) near far in
       record {
         kept = kept_put old new at live grown grows name ms kept.within here there kept (omega (arith, fewer, length-map {B = MarkName × List Entry} ms (λ m. (m.0, entries_at old m.1)))) es put_now lies.0;
         lists = lists;

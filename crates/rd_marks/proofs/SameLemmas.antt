@@ -1,6 +1,6 @@
 -- Lists of which one begins the other are equivalent only if they are one.
 use Rattle.std.proofs.Common.{◌≡◌, ℕ, ◌⊎◌, Bool, ◌==◌, refl, sym, ap, ◌∙◌, subst, List, [], ◌∷◌, ◌++◌, length, take, drop, ◌-◌, ◌≤◌, length-append, arith, eqb-true}
-use Rattle.rd_marks.proofs.Prelude.{eq-eqb, length-map, take_all, World, IsEquivalent, Event, Entry, Begins, DecidesEquivalence}
+use Rattle.rd_marks.proofs.Prelude.{eq-eqb, length-map, take_all, World, IsEquivalent, Event, Entry, IsPrefix, DecidesEquivalence}
 use Rattle.rd_step.specs.Run.{events, IsRunFrom}
 use Rattle.rd_depend.proofs.Exactness.{right_behind}
 use Rattle.rd_marks.proofs.EntryLemmas.{began, to_the_end}
@@ -44,5 +44,5 @@ module _ (ones others : List Entry) (m n c : ℕ) (long : length ones ≡ m) (lo
 -- a list that begins the other has all of its events in common with it
 pub not_begun : (xs ys : List Entry) (c : ℕ)
     → ((n : ℕ) → n ≤ length xs → n ≤ length ys → take n (events xs) ≡ take n (events ys) → n ≤ c) → c ≤ length xs → (c ≡ length xs → ⊥)
-    → Begins (events xs) (events ys) → ⊥
+    → IsPrefix (events xs) (events ys) → ⊥
 not_begun xs ys c most within apart h = grind (arith, event_length, begins_shorter, take_all)

@@ -1,6 +1,6 @@
 -- Going to a place: what its entries have in common with the live steps.
 use Rattle.std.proofs.Common.{◌≡◌, ℕ, suc, ◌≤◌, inl, inr, sym, ap, ◌∙◌, List, [], length, take, drop, arith}
-use Rattle.rd_marks.proofs.Prelude.{take-length, drop-length, cases_lt, take-take, Event, Entry, Begins, Place, Stretch, stretch_list, entries_at, IsWithin, IsAlong, IsDeepest}
+use Rattle.rd_marks.proofs.Prelude.{take-length, drop-length, cases_lt, take-take, Event, Entry, IsPrefix, Place, Stretch, stretch_list, entries_at, IsWithin, IsAlong, IsDeepest}
 use Rattle.rd_step.specs.Run.{events}
 use Rattle.rd_marks.proofs.Starting.{begins_shorter, stretch_within, entries_length, events_length, events_of_first, first_events}
 
@@ -19,7 +19,7 @@ module _ (ss : List Stretch) where
       given ∙ ap (λ (m : ℕ). drop m (entries_at ss place)) (sym all ∙ sym (entries_length ss place is)) ∙ drop-length (entries_at ss place)
 
   -- a place whose entries the live steps begin with has no more than any list has of them
-  no_deeper : (place : Place) (n : ℕ) (es : List Event) → IsWithin ss place → IsDeepest ss n es → Begins (events (entries_at ss place)) es → place.number ≤ n
+  no_deeper : (place : Place) (n : ℕ) (es : List Event) → IsWithin ss place → IsDeepest ss n es → IsPrefix (events (entries_at ss place)) es → place.number ≤ n
   no_deeper place n es is deepest h =
       elim (cases_lt n place.number) [
         | inr shallow ↦ shallow
@@ -33,7 +33,7 @@ module _ (ss : List Stretch) where
 
   -- so entries with which the live steps begin have all in common with them
   pub whole_common : (b place : Place) (n : ℕ) (es : List Event) → IsWithin ss place → IsAlong ss b.stretch b.number es → IsDeepest ss b.number es
-      → Begins (events (entries_at ss place)) es → n ≤ place.number
+      → IsPrefix (events (entries_at ss place)) es → n ≤ place.number
       → ((m : ℕ) → m ≤ b.number → m ≤ place.number → take m (events (entries_at ss b)) ≡ take m (events (entries_at ss place)) → m ≤ n) → place.number ≡ n
   whole_common b place n es is along deepest h within most =
       let shallow = no_deeper place b.number es is deepest h in

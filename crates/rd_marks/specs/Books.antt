@@ -4,7 +4,7 @@ use Rattle.std.specs.Global.{Global}
 use Rattle.rd_step.specs.Prelude.{World, Refusal, NoMark, MarkTaken, TooManyMarks, NoMemory}
 use Rattle.rd_step.specs.Equivalence.{IsEquivalent}
 use Rattle.rd_step.specs.declared.entries.Event.{Event}
-use Rattle.rd_depend.specs.Beginnings.{Begins, NeitherIsPrefix}
+use Rattle.rd_depend.specs.Beginnings.{IsPrefix, NeitherIsPrefix}
 use Rattle.rd_journal.specs.State.{State}
 use Rattle.rd_step.specs.Lists.{numbered}
 use Rattle.rd_marks.specs.declared.names.MarkName.{MarkName}
@@ -63,7 +63,7 @@ goto_mark b name = at_events b (marked_events b.marks name)
 
 -- going to the mark of this name makes steps, as its events do not begin the live ones
 abbrev pub MakesSteps : BookState → MarkName → Type 0
-MakesSteps b name = (es : List Event) × (marked_events b.marks name ≡ Some es) × (Begins es b.session.live → ⊥)
+MakesSteps b name = (es : List Event) × (marked_events b.marks name ≡ Some es) × (IsPrefix es b.session.live → ⊥)
 
 -- this may be answered to comparing the events of two marks: whether they are causally equivalent
 -- from the start; that a mark is missing; or, if neither list begins the other, that memory was

@@ -5,7 +5,7 @@ use Rattle.rd_step.specs.Prelude.{MOST_STEPS}
 use Rattle.rd_step.specs.Run.{events}
 use Rattle.rd_step.specs.declared.entries.Event.{Event}
 use Rattle.rd_step.specs.declared.entries.Entry.{Entry}
-use Rattle.rd_depend.specs.Beginnings.{Begins}
+use Rattle.rd_depend.specs.Beginnings.{IsPrefix}
 use Rattle.rd_marks.specs.declared.stretches.Stretch.{Stretch}
 use Rattle.rd_marks.specs.declared.stretches.Place.{Place}
 
@@ -67,7 +67,7 @@ opening ss i = take (suc (shared_at ss i)) (events (stretch_list ss i))
 -- no earlier stretch's list begins with the opening of a later one, its events up to the first that
 -- is its own
 abbrev pub AreFresh : List Stretch → Type 0
-AreFresh ss = (i j : ℕ) → j < i → i < length ss → Begins (opening ss i) (events (stretch_list ss j)) → ⊥
+AreFresh ss = (i j : ℕ) → j < i → i < length ss → IsPrefix (opening ss i) (events (stretch_list ss j)) → ⊥
 
 -- the number of entries of a place if it is in this stretch, else 0
 abbrev pub number_if_in : ℕ → Place → ℕ

@@ -20,7 +20,7 @@ pub takes_front : (failed : Bool) (old new : Option (List ℕ)) (front back : Li
 takes_front failed old new front back fails took = takes_beginning failed old new (front ++ back) fails (record {
   part = took.part;
   took = took.took;
-  begins = (took.begins.0 ++ back, ap (λ l. l ++ back) took.begins.1 ∙ append_assoc took.part took.begins.0 back);
+  begins = (took.begins.0 ++ back, sym (append_assoc took.part took.begins.0 back) ∙ ap (λ l. l ++ back) took.begins.1);
 })
 
 -- a stream that took the first part of a text, and to which the second was handed over
@@ -31,5 +31,5 @@ takes_both failed old mid new front back (Ok _) first ok err works fails =
 takes_both failed old mid new front back (Err _) first ok err works fails = takes_beginning failed old new (front ++ back) fails (record {
   part = front ++ err.part;
   took = Appends-trans old mid new front err.part first err.took;
-  begins = (err.begins.0, ap (λ l. front ++ l) err.begins.1 ∙ sym (append_assoc front err.part err.begins.0));
+  begins = (err.begins.0, append_assoc front err.part err.begins.0 ∙ ap (λ l. front ++ l) err.begins.1);
 })

@@ -1,11 +1,12 @@
 -- What a run of a script did: which lines it read, obeyed and reported, for each way to end.
+use mathlib.Core.List.{IsPrefix}
 use Rattle.std.specs.Prelude.{◌≡◌, ℕ, ◌+◌, ◌^◌, ◌≤◌, ◌⊎◌, Bool, true, false, List, [], ◌∷◌, ◌++◌, length, Option, Result, Ok, Err}
 use Rattle.std.specs.Io.KnownBytes.{Consumes, Appends, IsAtEnd}
 use Rattle.rd_marks.specs.Books.{BookState}
 use Rattle.rd_script.specs.declared.devices.sinks.WriteFault.{WriteFault}
 use Rattle.rd_script.specs.declared.faults.ScriptFault.{ScriptFault}
 use Rattle.rd_script.specs.declared.faults.ScriptFault.TheVariants.{Read, Write}
-use Rattle.rd_script.specs.Device.{IsBeginning, TakesBeginning}
+use Rattle.rd_script.specs.Device.{TakesBeginning}
 use Rattle.rd_script.specs.Lines.{lines_of, ended_lines_of}
 use Rattle.rd_script.specs.Answers.{Answered, AnswersLine}
 use Rattle.rd_script.specs.Replies.{LineAnswer, text_of}
@@ -80,7 +81,7 @@ pub record StoppedAtWrite (R : ℕ) (before after : BookState) (d : Devices) : T
   pub leaves : answered.state ≡ after
   -- the beginning of its text
   pub part : List ℕ
-  pub begins : IsBeginning part (text_of answered.answer)
+  pub begins : IsPrefix part (text_of answered.answer)
   pub wrote : Appends d.out_before d.out_after (report ++ part)
 
 -- what a run of a script did, by its result

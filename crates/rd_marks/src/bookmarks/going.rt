@@ -1,7 +1,7 @@
 //! Going to a bookmark.
 
 ghost use Rattle.std.specs.Prelude.{◌≡◌, [], IsOk, OnOk, IfErr, OnErr};
-ghost use Rattle.rd_depend.specs.Beginnings.{Begins};
+ghost use Rattle.rd_depend.specs.Beginnings.{IsPrefix};
 ghost use Rattle.rd_journal.specs.Journal.{events};
 ghost use Rattle.rd_journal.specs.Sessions.{state, track, journal};
 ghost use Rattle.rd_marks.specs.Layout.{AreEntriesOfRun};
@@ -32,13 +32,13 @@ impl Bookmarks {
     ) -> Result<(), Refusal>
         requires within { IsPlaceIn self.old place }
         requires run { AreEntriesOfRun R (state session.old).start (entries_in self.old place) }
-        requires stands { Begins (events (here_in self.old)) (track session.old) }
+        requires stands { IsPrefix (events (here_in self.old)) (track session.old) }
         ensures ok { OnOk result (state session.new
             ≡ record { start = (state session.old).start; live = events (entries_in self.old place); undone = [] }) }
         ensures lists { lists_in self.new ≡ lists_in self.old }
-        ensures stands { Begins (events (here_in self.new)) (track session.new) }
+        ensures stands { IsPrefix (events (here_in self.new)) (track session.new) }
         ensures err { IfErr result (λ refusal. refusal ≡ Refusal.NoMemory) }
-        ensures succeeds { Begins (events (entries_in self.old place)) (state session.old).live → IsOk result }
+        ensures succeeds { IsPrefix (events (entries_in self.old place)) (state session.old).live → IsOk result }
         ensures unchanged { OnErr result (journal session.new ≡ journal session.old) }
     {
         if self.stretches.common(self.here, place) == place.number {
@@ -69,11 +69,11 @@ fn exchange<const R: usize>(
     requires here { IsWithin stretches.now.list.items here }
     requires within { IsWithin stretches.now.list.items place }
     requires run { AreEntriesOfRun R (state session.old).start (entries_at stretches.now.list.items place) }
-    requires stands { Begins (events (entries_at stretches.now.list.items here)) (track session.old) }
+    requires stands { IsPrefix (events (entries_at stretches.now.list.items here)) (track session.old) }
     ensures ok { OnOk result (state session.new
         ≡ record { start = (state session.old).start; live = events (entries_at stretches.now.list.items place); undone = [] }) }
     ensures err { IfErr result (λ refusal. refusal ≡ Refusal.NoMemory) }
-    ensures succeeds { Begins (events (entries_at stretches.now.list.items place)) (state session.old).live → IsOk result }
+    ensures succeeds { IsPrefix (events (entries_at stretches.now.list.items place)) (state session.old).live → IsOk result }
     ensures unchanged { OnErr result (journal session.new ≡ journal session.old) }
     ensures track { OnErr result (track session.new ≡ track session.old) }
 {

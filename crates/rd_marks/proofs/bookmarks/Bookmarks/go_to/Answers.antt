@@ -1,11 +1,11 @@
 use Rattle.std.proofs.Common.{◌≡◌, ◌≤◌, [], ℕ, List, length, take, lit<, refl, subst, ap, ◌∙◌, arith}
-use Rattle.rd_marks.proofs.Prelude.{fact_passed_up, Event, Begins, state, track, Bookmarks, Place, here_in, entries_in, IsPlaceIn}
+use Rattle.rd_marks.proofs.Prelude.{fact_passed_up, Event, IsPrefix, state, track, Bookmarks, Place, here_in, entries_in, IsPlaceIn}
 use Rattle.rd_journal.specs.Journal.{events}
 use Rattle.rd_marks.proofs.Here.{along_to}
 use Rattle.rd_marks.proofs.bookmarks.Bookmarks.go_to.Goals as goal
 
 -- the entries of the place begin the track
-on_track : (b : Bookmarks) (place : Place) (steps : List Event) (c : ℕ) → IsPlaceIn b place → Begins (events (here_in b)) steps → c ≤ b.here.number
+on_track : (b : Bookmarks) (place : Place) (steps : List Event) (c : ℕ) → IsPlaceIn b place → IsPrefix (events (here_in b)) steps → c ≤ b.here.number
     → take c (here_in b) ≡ take c (entries_in b place) → c ≡ place.number → (place.number ≤ length steps) × (take place.number steps ≡ events (entries_in b place))
 on_track b place steps c is stands first alike all =
     along_to b.stretches.list.items place b.here steps is b.kept.lies stands place.number refl (omega (arith, first, all))

@@ -1,5 +1,5 @@
 use Rattle.std.proofs.Common.{List, lit<, ap, subst, sym, length, ◌∙◌, arith}
-use Rattle.rd_marks.proofs.Prelude.{length-map, Event, Entry, Begins, journal, state, entries_at}
+use Rattle.rd_marks.proofs.Prelude.{length-map, Event, Entry, IsPrefix, journal, state, entries_at}
 use Rattle.rd_journal.specs.Journal.{events, IsRunFrom}
 use Rattle.rd_marks.proofs.Here.{live_along}
 use Rattle.rd_marks.proofs.Starting.{entries_length}
@@ -40,8 +40,8 @@ switch-requires g c =
 pub returns-in-Err-clause-succeeds : goal.returns-in-Err-clause-succeeds
 returns-in-Err-clause-succeeds g c = λ h.
     let ss = c.args.stretches.now.list.items in
-    let here : Begins (events (entries_at ss c.args.place)) (events c.live-live.result) =
-    subst (λ (es : List Event). Begins (events (entries_at ss c.args.place)) es) (sym c.live-live.ensures.events) h in
+    let here : IsPrefix (events (entries_at ss c.args.place)) (events c.live-live.result) =
+    subst (λ (es : List Event). IsPrefix (events (entries_at ss c.args.place)) es) (sym c.live-live.ensures.events) h in
     c.in-Err.ensures.succeeds (whole_common ss c.follow-beginning.result c.args.place c.common-common.result (events c.live-live.result) c.requires.within
     c.follow-beginning.ensures.along c.follow-beginning.ensures.deepest here c.common-common.ensures.second c.common-common.ensures.most)
 
@@ -57,8 +57,8 @@ returns-in-Ok-clause-ok g c =
 pub returns-in-Ok-clause-succeeds : goal.returns-in-Ok-clause-succeeds
 returns-in-Ok-clause-succeeds g c = λ h.
     let ss = c.args.stretches.now.list.items in
-    let here : Begins (events (entries_at ss c.args.place)) (events c.live-live.result) =
-    subst (λ (es : List Event). Begins (events (entries_at ss c.args.place)) es) (sym c.live-live.ensures.events) h in
+    let here : IsPrefix (events (entries_at ss c.args.place)) (events c.live-live.result) =
+    subst (λ (es : List Event). IsPrefix (events (entries_at ss c.args.place)) es) (sym c.live-live.ensures.events) h in
     let all =
     whole_common ss c.follow-beginning.result c.args.place c.common-common.result (events c.live-live.result) c.requires.within c.follow-beginning.ensures.along
     c.follow-beginning.ensures.deepest here c.common-common.ensures.second c.common-common.ensures.most in

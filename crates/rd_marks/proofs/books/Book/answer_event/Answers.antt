@@ -1,5 +1,5 @@
 use Rattle.std.proofs.Common.{◌≡◌, ◌+◌, ◌∙◌, [], ◌∷◌, List, length, length-append, refl, sym, ap, subst, arith}
-use Rattle.rd_marks.proofs.Prelude.{length-map, Event, Begins, ahead_entries, journal, state, apply, lists_in, here_in}
+use Rattle.rd_marks.proofs.Prelude.{length-map, Event, IsPrefix, ahead_entries, journal, state, apply, lists_in, here_in}
 use Rattle.rd_step.specs.Run.{events}
 use Rattle.rd_marks.proofs.Here.{track_cut, added_leaves}
 use Rattle.rd_marks.proofs.Starts.{apply_start, start_stays, runs_stay}
@@ -14,7 +14,7 @@ invariant_of-self g c =
     (apply_start g.row.R old c.args.event) c.apply.ensures.ok c.apply.ensures.unchanged in
     record {
       runs = runs_stay g.row.R old.start (state c.apply.new.self).start (lists_in book.bookmarks) (lists_in book.bookmarks) start refl book.runs;
-      stands = subst (λ (es : List Event). Begins (events (here_in book.bookmarks)) es) (sym c.in_err-step.ensures.track) book.stands;
+      stands = subst (λ (es : List Event). IsPrefix (events (here_in book.bookmarks)) es) (sym c.in_err-step.ensures.track) book.stands;
     }
 
 pub invariant_of-self-2 : goal.invariant_of-self-2

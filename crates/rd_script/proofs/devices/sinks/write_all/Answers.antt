@@ -34,5 +34,5 @@ returns-in_err-done-clause-err g c =
     fact_passed_up {F = TakesBeginning before after c.args.text.now} c.from_residual.result (record {
       part = part;
       took = subst (λ taken. Appends before after taken) (append-nil part) (Appends-join before between after part [] c.loop-done.invariant.took kept);
-      begins = (drop c.loop-done.done c.args.text.now, sym (take-append-drop c.loop-done.done c.args.text.now));
+      begins = (drop c.loop-done.done c.args.text.now, take-append-drop c.loop-done.done c.args.text.now);
     })
