@@ -4,11 +4,13 @@
 // It counts the calls of malloc, calloc, realloc, posix_memalign, aligned_alloc and memalign from the
 // start of the program on, in all threads, and returns null from the call of number REFUSE_FIRST to
 // that of number REFUSE_LAST. A call of realloc that asks for less counts too. The file that
-// REFUSE_COUNTS names holds two numbers of 8 bytes, which whoever started the program reads when it
-// has ended, however it ended: how many calls there were, and how many of them were refused.
+// REFUSE_COUNTS names holds three numbers of 8 bytes, which whoever started the program may read at
+// any time, also when it has ended, however it ended: how many calls there were, how many of them
+// were refused, and how many bytes were given out since and not given back.
 
 #include <errno.h>
 #include <fcntl.h>
+#include <malloc.h>
 #include <stdatomic.h>
 #include <stddef.h>
 #include <stdlib.h>
@@ -20,10 +22,12 @@ extern void *__libc_malloc(size_t size);
 extern void *__libc_calloc(size_t count, size_t size);
 extern void *__libc_realloc(void *old, size_t size);
 extern void *__libc_memalign(size_t alignment, size_t size);
+extern void __libc_free(void *block);
 
 struct counts {
     atomic_ulong calls;
     atomic_ulong refused;
+    atomic_long held;
 };
 
 static struct counts *counts; // none before the program starts: what the loader asks for is not counted
@@ -59,13 +63,38 @@ static int is_refused(void) {
     return 1;
 }
 
-void *malloc(size_t size) { return is_refused() ? NULL : __libc_malloc(size); }
+// A block that was given out, or none, is noted.
+static void *noted(void *block) {
+    if (counts && block)
+        atomic_fetch_add(&counts->held, (long)malloc_usable_size(block));
+    return block;
+}
 
-void *calloc(size_t count, size_t size) { return is_refused() ? NULL : __libc_calloc(count, size); }
+// A block that is there, or none, is about to go.
+static void note_end(void *block) {
+    if (counts && block)
+        atomic_fetch_sub(&counts->held, (long)malloc_usable_size(block));
+}
 
-void *realloc(void *old, size_t size) { return is_refused() ? NULL : __libc_realloc(old, size); }
+void *malloc(size_t size) { return is_refused() ? NULL : noted(__libc_malloc(size)); }
 
-void *memalign(size_t alignment, size_t size) { return is_refused() ? NULL : __libc_memalign(alignment, size); }
+void *calloc(size_t count, size_t size) { return is_refused() ? NULL : noted(__libc_calloc(count, size)); }
+
+void *realloc(void *old, size_t size) {
+    if (is_refused())
+        return NULL;
+    note_end(old);
+    void *block = __libc_realloc(old, size);
+    noted(block || !size ? block : old);
+    return block;
+}
+
+void free(void *block) {
+    note_end(block);
+    __libc_free(block);
+}
+
+void *memalign(size_t alignment, size_t size) { return is_refused() ? NULL : noted(__libc_memalign(alignment, size)); }
 
 void *aligned_alloc(size_t alignment, size_t size) { return memalign(alignment, size); }
 

@@ -14,6 +14,8 @@ Parts, all of them if none is named:
     rest      the program, with all allocations refused from each one on
     undos     the program, all refused from a line on: undos, redos and queries answer as ever
     limits    the program under a limit of its address space that is lowered step by step
+    back      the program, with nothing refused: what 62 of 64 bookmarks had is given back when they
+              are dropped
 
 P is the built program, T the built tests of crates/shortages; `rt ci` leaves both in the crates'
 folders out/. Each part prints a line with how many points were refused, and the status is 1 if
@@ -24,6 +26,7 @@ used.
 import argparse
 import collections
 import concurrent.futures
+import contextlib
 import functools
 import mmap
 import os
@@ -63,13 +66,24 @@ class Refuser:
     def run(self, words, first, last, given=b""):
         """A run in which the allocations of these numbers are refused."""
         with tempfile.NamedTemporaryFile(dir=self.folder) as file:
-            file.write(bytes(16))
+            file.write(bytes(24))
             file.flush()
             more = {"LD_PRELOAD": self.library, "REFUSE_COUNTS": file.name, "REFUSE_FIRST": str(first), "REFUSE_LAST": str(last)}
             ended = run(words, given, env={**os.environ, **more})
-            with mmap.mmap(file.fileno(), 16, access=mmap.ACCESS_READ) as counts:
-                calls, refused = struct.unpack("QQ", counts[:])
+            with mmap.mmap(file.fileno(), 24, access=mmap.ACCESS_READ) as counts:
+                calls, refused, _ = struct.unpack("QQq", counts[:])
         return Counted(*ended, calls, refused)
+
+    @contextlib.contextmanager
+    def driven(self, words):
+        """A run that is asked a line at a time, and what says how many bytes it holds."""
+        with tempfile.NamedTemporaryFile(dir=self.folder) as file:
+            file.write(bytes(24))
+            file.flush()
+            more = [f"LD_PRELOAD={self.library}", f"REFUSE_COUNTS={file.name}"]
+            with mmap.mmap(file.fileno(), 24, access=mmap.ACCESS_READ) as counts:
+                with program.Driven(["env", *more, *words]) as asked:
+                    yield asked, lambda: struct.unpack("QQq", counts[:])[2]
 
     def one(self, words, number, given=b""):
         """A run in which just this allocation is refused."""
@@ -419,8 +433,31 @@ def limits_part(given, refuser):
         yield f"{name}, {len(limits)} limits from {limits[-1] >> 10} to {floor >> 10} KiB", short, fault
 
 
+BRANCHES = 63  # and a bookmark at no step
+CALLS = 40  # in each of them
+
+
+def back_part(given, refuser):
+    """Bookmarks on branches that have no step in common, all but one of which are dropped: at most
+    a tenth of what they took is held then."""
+    with refuser.driven([given.program, "run", "-"]) as (asked, held):
+        asked.ask("mark start")
+        before = held()
+        for branch in range(BRANCHES):
+            for line in [f"enq 1 {branch}", *["deq 2", *["go 2"] * 11] * CALLS, f"mark m{branch}", "goto start"]:
+                asked.ask(line)
+        full = held()
+        for branch in range(1, BRANCHES):
+            asked.ask(f"drop m{branch}")
+        left = held() - before
+        nodes = asked.ask("marks")[0]
+    taken = full - before
+    fault = "" if 0 <= left * 10 <= taken else f"{left} bytes are left of {taken}, at `{nodes}`"
+    yield f"{left >> 10} KiB are left of {taken >> 10}", None, fault
+
+
 PARTS = {"devices": devices_part, "tests": tests_part, "none": none_part}
-PARTS |= {"one": one_part, "rest": rest_part, "undos": undos_part, "limits": limits_part}
+PARTS |= {"one": one_part, "rest": rest_part, "undos": undos_part, "limits": limits_part, "back": back_part}
 
 
 def print_part(part, outcomes):
