@@ -1,16 +1,7 @@
 -- The array as a value: which slots are read, whose positions rise, and its value, which spells it.
-use Rattle.std.proofs.Common.{◌≡◌, ℕ, zero, suc, ◌+◌, ◌<◌, ◌≤◌, List, [], ◌∷◌, ◌++◌, length, set, replicate, take, get_or, Bool, true, false, if◌then◌else◌, bytes_eq, codes, Option, Some, None, option_map, option_and_then, refl, sym, ap, ap₂, ◌∙◌, subst, arith, append-nil, length-take}
-use Rattle.std.proofs.lemmas.List.{length-set, take_more, take_all}
-use Rattle.serde_json.specs.Data.{Data, unsigned, negative, float, null, boolean, number, string, array, object, Items, no_items, item}
-use Rattle.serde_json.specs.View.{view, items_view}
+use Rattle.std.proofs.Common.{◌≡◌, ℕ, zero, suc, ◌+◌, ◌<◌, ◌≤◌, List, [], ◌∷◌, ◌++◌, length, set, replicate, take, get_or, Some, None, refl, sym, ap, ap₂, ◌∙◌, subst, arith, append-nil, length-take}
+use Rattle.rd_trace.proofs.Prelude.{length-set, take_more, take_all, Data, view, items_view, SLOTS, ArrSlot, Empty, Top, Held, ArrayParts, Gives, SpellEach, items_by, slot_of_items, slot_of, filled_slots, slot_data, IsArray, array_data}
 use Rattle.serde_json.specs.declared.value.Value.{Value}
-use Rattle.rd_step.specs.Prelude.{SLOTS}
-use Rattle.rd_cell.specs.declared.contents.ArrSlot.{ArrSlot}
-use Rattle.rd_cell.specs.declared.contents.ArrSlot.TheVariants.{Empty, Top, Value as Held}
-use Rattle.rd_segments.specs.declared.array.ArrayParts.{ArrayParts}
-use Rattle.rd_trace.specs.Numbers.{whole_number}
-use Rattle.rd_trace.specs.Spelled.{Gives, SpellEach, items_by}
-use Rattle.rd_trace.specs.Arrays.{slot_content, slot_of_items, slot_of, filled_slots, slot_data, IsArray, array_data}
 use Rattle.rd_trace.proofs.SpellLemmas.{one_given, same_each, spelled_at, spell_each-more, spell_each-none, items_written}
 
 -- ---- reading
@@ -33,10 +24,6 @@ AreEmptyFrom i [] = Unit {0}
 AreEmptyFrom zero (s ∷ ss) = (s ≡ Empty) × AreEmptyFrom zero ss
 AreEmptyFrom (suc i) (s ∷ ss) = AreEmptyFrom i ss
 
-empty_slots : (n : ℕ) → AreEmptyFrom zero (replicate n Empty)
-empty_slots zero = tt
-empty_slots (suc n) = (refl, empty_slots n)
-
 empty_later : (i k : ℕ) (ss : List ArrSlot) → i ≤ k → AreEmptyFrom i ss → AreEmptyFrom k ss
 empty_later i k [] le h = tt
 empty_later zero zero (s ∷ ss) le h = h
@@ -54,9 +41,7 @@ filled_none i [] h = refl
 filled_none i (s ∷ ss) h = ap (λ x. filled_slots i (x ∷ ss)) h.0 ∙ filled_none (suc i) ss h.1
 
 filled_first : (i : ℕ) (s : ArrSlot) (ss : List ArrSlot) → IsFilled s → filled_slots i (s ∷ ss) ≡ (i, s) ∷ filled_slots (suc i) ss
-filled_first i Empty ss h = absurd h
-filled_first i Top ss h = refl
-filled_first i (Held x) ss h = refl
+filled_first i s ss h = grind arith
 
 -- one more slot is filled, after all that were
 filled_set : (i k j : ℕ) (ss : List ArrSlot) (s : ArrSlot) → j ≡ i + k → k < length ss → AreEmptyFrom k ss → IsFilled s → filled_slots i (set ss k s) ≡ filled_slots i ss ++ (j, s) ∷ []
@@ -96,43 +81,8 @@ rises_at : (i end : ℕ) (ps : List (ℕ × ArrSlot)) (p : ℕ × ArrSlot) (more
 rises_at i end [] p more h = (h.0, h.1)
 rises_at i end (q ∷ ps) p more h = rises_at (suc q.0) end ps p more h.2
 
--- no empty slot is spelled
-some_filled : (s t : ArrSlot) → IsFilled t → Some s ≡ Some t → IsFilled s
-some_filled s t h is = let same : t ≡ s = cc in subst IsFilled same h
-
-top_filled : (b : Bool) (s : ArrSlot) → Some s ≡ (if b then Some Top else None) → IsFilled s
-top_filled true s is = some_filled s Top tt is
-top_filled false s is = absurd (cc)
-
-content_filled : (d : Data) (s : ArrSlot) → Some s ≡ slot_content d → IsFilled s
-content_filled null s is = absurd (cc)
-content_filled (boolean b) s is = absurd (cc)
-content_filled (number (unsigned n)) s is = some_filled s (Held n) tt is
-content_filled (number (negative z)) s is = absurd (cc)
-content_filled (number (float x)) s is = absurd (cc)
-content_filled (string t) s is = top_filled (bytes_eq t (codes "top")) s is
-content_filled (array ds) s is = absurd (cc)
-content_filled (object ms) s is = absurd (cc)
-
-pair_filled : (n : Option ℕ) (o : Option ArrSlot) (p : ℕ × ArrSlot) → ((s : ArrSlot) → Some s ≡ o → IsFilled s)
-    → Some p ≡ option_and_then (λ position. option_map (λ slot. (position, slot)) o) n → IsFilled p.1
-pair_filled None o p h is = absurd (cc)
-pair_filled (Some i) None p h is = absurd (cc)
-pair_filled (Some i) (Some s) p h is = let same : p ≡ (i, s) = cc in subst (λ x. IsFilled x.1) (sym same) (h s refl)
-
-items_filled : (ds : Items) (p : ℕ × ArrSlot) → Some p ≡ slot_of_items ds → IsFilled p.1
-items_filled no_items p is = absurd (cc)
-items_filled (item i no_items) p is = absurd (cc)
-items_filled (item i (item s no_items)) p is = pair_filled (whole_number i) (slot_content s) p (content_filled s) is
-items_filled (item i (item s (item more rest))) p is = absurd (cc)
-
 slot_filled : (d : Data) (p : ℕ × ArrSlot) → Some p ≡ slot_of d → IsFilled p.1
-slot_filled null p is = absurd (cc)
-slot_filled (boolean b) p is = absurd (cc)
-slot_filled (number n) p is = absurd (cc)
-slot_filled (string s) p is = absurd (cc)
-slot_filled (array ds) p is = items_filled ds p is
-slot_filled (object ms) p is = absurd (cc)
+slot_filled d p is = grind arith
 
 one_slot : (d : Data) (p q : ℕ × ArrSlot) → Gives slot_of d p → Gives slot_of d q → p ≡ q
 one_slot = one_given slot_of
@@ -145,27 +95,11 @@ pub record AreReadTo (vs : List Value) (i : ℕ) (slots : List ArrSlot) (free : 
   pub empty : AreEmptyFrom free slots
 
 pub none_read : (vs : List Value) → AreReadTo vs 0 (replicate SLOTS Empty) 0
-none_read vs =
-    let none : filled_slots 0 (replicate SLOTS Empty) ≡ [] = filled_none 0 (replicate SLOTS Empty) (empty_slots SLOTS) in
-    record {
-      spelled = subst (SpellEach (Gives slot_of) no_items) (sym none) tt;
-      sized = refl;
-      next = sym (ap (next_position 0) none);
-      empty = empty_slots SLOTS;
-    }
+none_read vs = grind arith
 
 module _ (vs : List Value) (i : ℕ) (slots : List ArrSlot) (free : ℕ) (h : AreReadTo vs i slots free) (v : Value) (within : i < length vs) (is : v ≡ get_or vs i v) where
   pub one_more_slot : (p : ℕ × ArrSlot) (next : ℕ) → Some p ≡ slot_of (view v) → free ≤ p.0 → p.0 < SLOTS → next ≡ suc p.0 → AreReadTo vs (i + 1) (set slots p.0 p.1) next
-  one_more_slot p next read behind_all below is_next =
-      let sized = h.sized in
-      let more : filled_slots 0 (set slots p.0 p.1) ≡ filled_slots 0 slots ++ p ∷ [] =
-      filled_set 0 p.0 p.0 slots p.1 (omega arith) (omega arith) (empty_later free p.0 slots behind_all h.empty) (slot_filled (view v) p read) in
-      record {
-        spelled = subst (SpellEach (Gives slot_of) (items_view (take (i + 1) vs))) (sym more) (spell_each-more (Gives slot_of) vs i v within is (filled_slots 0 slots) p h.spelled (sym read));
-        sized = length-set slots p.0 p.1 ∙ h.sized;
-        next = is_next ∙ sym (next_behind 0 (filled_slots 0 slots) p) ∙ sym (ap (next_position 0) more);
-        empty = subst (λ n. AreEmptyFrom n (set slots p.0 p.1)) (sym is_next) (empty_behind p.0 slots p.1 (empty_later free p.0 slots behind_all h.empty));
-      }
+  one_more_slot p next read behind_all below is_next = grind (arith, set, filled_set, empty_later, slot_filled, spell_each-more, length-set, next_behind, empty_behind)
 
   -- positions of slots rise, and are those of slots
   pub rises_here : (p : ℕ × ArrSlot) → Some p ≡ slot_of (view v) → (ss : List ArrSlot) → length ss ≡ SLOTS → SpellEach (Gives slot_of) (items_view vs) (filled_slots 0 ss) → (free ≤ p.0) × (p.0 < SLOTS)
@@ -192,9 +126,7 @@ filled_behind i j (Top ∷ xs) s at = ap (λ ps. (i, Top) ∷ ps) (filled_behind
 filled_behind i j (Held x ∷ xs) s at = ap (λ ps. (i, Held x) ∷ ps) (filled_behind (suc i) j xs s (omega arith))
 
 not_empty : (s : ArrSlot) → (s ≡ Empty → ⊥) → IsFilled s
-not_empty Empty other = other refl
-not_empty Top other = tt
-not_empty (Held x) other = tt
+not_empty s other = grind arith
 
 slots_spelled : (i : ℕ) (ss : List ArrSlot) → SpellEach (Gives slot_of) (items_by slot_data (filled_slots i ss)) (filled_slots i ss)
 slots_spelled i [] = tt

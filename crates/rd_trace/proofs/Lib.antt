@@ -1,3 +1,4 @@
+pub mod Prelude
 pub mod SpellLemmas
 pub mod NumberLemmas
 pub mod EventLemmas

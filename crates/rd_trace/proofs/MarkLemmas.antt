@@ -1,35 +1,11 @@
 -- Bookmarks as values.
 use Rattle.std.proofs.Common.{◌≡◌, ℕ, nat_eq, nat_lt, zero, suc, ◌+◌, ◌<◌, ◌≤◌, true, false, ◌||◌, List, [], ◌∷◌, ◌++◌, map, length, get_or, take, drop, slice_get, codes, Decides, Option, Some, None, option_map, IfSome, Ok, inl, inr, refl, sym, ap, ap₂, ◌∙◌, subst, arith}
-use Rattle.std.specs.Int.{is_in_range}
-use Rattle.std.specs.List.{AllByRecursion, list_any, list_all, IsDistinct}
-use Rattle.std.specs.Cmp.Lexicographic.{pointwise}
+use Rattle.rd_trace.proofs.Prelude.{AllByRecursion, list_any, list_all, IsDistinct, and_parts, or_cases, eqb-true, true≢false, false≢true, same_Some, map_push, take_all, length-take-le, IsDistinct-head, IsDistinct-tail, IsDistinct-push, escape, escape_byte, escape_byte_plain, Data, view, items_view, compact_text, comma_if, MarkName, Event, MOST_MARKS, is_name_byte, is_mark_name, bytes_of, same_name, HaveDifferentNames, Mark, BookState, mark_at, mark_events, name_and_length, Gives, SpellEach, items_by, event_of, event_data, IsMark, AreMarks, saved_mark, mark_data, AreAppended, IsMarkAppended, SavedMark}
 use Rattle.std.specs.Cmp.{IsEquivalence}
-use Rattle.std.specs.Bool.{one_answer}
-use Rattle.std.proofs.lemmas.Bool.{and_parts, or_cases, leb-true, eqb-true, true≢false, false≢true}
-use Rattle.std.proofs.lemmas.Option.{same_Some}
-use Rattle.std.proofs.lemmas.List.{map_push, take_all, length-take-le}
-use Rattle.std.proofs.lemmas.Map.Keys.{IsDistinct-head, IsDistinct-tail, IsDistinct-push}
 use Rattle.std.proofs.lemmas.Slice.Eq.{bytes_eq-Decides}
-use Rattle.json.specs.Print.{escape, escape_byte}
-use Rattle.json.proofs.Printed.Strings.{escape_byte_plain}
-use Rattle.serde_json.specs.Data.{Data}
-use Rattle.serde_json.specs.View.{view, items_view}
-use Rattle.serde_json.specs.Written.{compact_text, comma_if}
 use Rattle.serde_json.specs.declared.value.Value.{Value}
-use Rattle.rd_marks.specs.declared.names.MarkName.{MarkName}
-use Rattle.rd_step.specs.declared.entries.Event.{Event}
-use Rattle.rd_marks.specs.NameBytes.{MOST_MARKS, is_name_byte, is_mark_name}
-use Rattle.rd_marks.specs.Names.{bytes_of, same_name}
-use Rattle.rd_marks.specs.Rules.{HaveDifferentNames}
-use Rattle.rd_marks.specs.Books.{Mark, BookState, mark_at, mark_events, name_and_length}
-use Rattle.rd_trace.specs.Numbers.{text_at}
-use Rattle.rd_trace.specs.Spelled.{Gives, SpellEach, items_by}
-use Rattle.rd_trace.specs.Events.{event_of, event_data}
-use Rattle.rd_trace.specs.Bookmarks.{HasMarkName, IsMark, AreMarks, saved_mark, mark_data}
-use Rattle.rd_trace.specs.Texts.{AreAppended, IsMarkAppended}
-use Rattle.rd_trace.specs.declared.bookmarks.SavedMark.{SavedMark}
 use Rattle.rd_trace.proofs.SpellLemmas.{split_at, spelled_at, spelled_length, spell_each-more}
-use Rattle.rd_trace.proofs.TextLemmas.{each_spelled, list_back, one_more_appended, two_parts, mark_text, mark_back}
+use Rattle.rd_trace.proofs.TextLemmas.{each_spelled, list_back, one_more_appended, two_parts, mark_text}
 
 -- ---- names
 
@@ -38,26 +14,11 @@ name_decides : (a b : MarkName) → Decides (same_name a b) (bytes_of a ≡ byte
 name_decides a b = bytes_eq-Decides (bytes_of a) (bytes_of b)
 
 name_laws : IsEquivalence same_name
-name_laws = record {
-  refl = λ a. (name_decides a a).1 refl;
-  symm = λ a b.
-      let there = name_decides a b in
-      let back = name_decides b a in
-      one_answer (same_name a b) (same_name b a) there ((λ h. sym (back.0 h)), (λ h. back.1 (sym h)));
-  congr = λ a b c h. ap (λ (bytes : List ℕ). pointwise nat_eq bytes (bytes_of c)) ((name_decides a b).0 h);
-}
+name_laws = grind (arith, name_decides, nat_eq)
 
 -- a value spells one name at most
 one_name : (d : Data) (m n : Mark) → IsMark d m → IsMark d n → bytes_of m.name ≡ bytes_of n.name
 one_name d m n h k = same_Some _ _ (sym h.name.text ∙ k.name.text)
-
--- a value whose text is no name has none
-pub no_mark_name : (d : Data) (text : List ℕ) → text_at (codes "name") d ≡ Some text → is_mark_name text ≡ false → (name : MarkName) → HasMarkName d name → ⊥
-no_mark_name d text there bad name h = true≢false (sym name.valid ∙ ap is_mark_name (same_Some _ _ (sym h.text ∙ there)) ∙ bad)
-
--- the value of a bookmark spells it, if that of its events does
-pub mark_spelled : (m : Mark) → SpellEach (Gives event_of) (items_by event_data m.events) m.events → IsMark (mark_data m) m
-mark_spelled m events = record { name = record { members = refl; text = refl }; events = (items_by event_data m.events, refl, events) }
 
 -- ---- lists that are read
 
@@ -123,8 +84,7 @@ module _ (vs : List Value) (i : ℕ) (v : Value) (within : i < length vs) (is : 
         let names = map_push (λ (n : Mark). n.name) (map saved_mark marks) (saved_mark m) in
         record {
           each =
-              subst (λ (ms : List Mark). SpellEach IsMark (items_view (take (i + 1) vs)) ms) (sym saved)
-              (spell_each-more IsMark vs i v within is (map saved_mark marks) (saved_mark m) so_far.each spells);
+              grind (arith, spell_each-more);
           names =
               subst (λ (ms : List Mark). HaveDifferentNames ms) (sym saved)
               (subst (λ (ns : List MarkName). IsDistinct same_name ns) (sym names)
@@ -134,9 +94,7 @@ module _ (vs : List Value) (i : ℕ) (v : Value) (within : i < length vs) (is : 
 
 -- all values were read
 pub all_read : (vs : List Value) (i : ℕ) (marks : List SavedMark) → length vs ≤ i → length vs ≤ MOST_MARKS → AreRead vs i marks → AreMarks (items_view vs) (map saved_mark marks)
-all_read vs i marks past few h =
-    let each = subst (λ (xs : List Value). SpellEach IsMark (items_view xs) (map saved_mark marks)) (take_all i vs past) h.each in
-    record { each = each; names = h.names; few = omega (arith, few, spelled_length IsMark vs (map saved_mark marks) each) }
+all_read vs i marks past few h = grind (arith, take_all, spelled_length)
 
 -- more values than there may be bookmarks
 pub too_many : (vs : List Value) → MOST_MARKS < length vs → (ms : List Mark) → AreMarks (items_view vs) ms → ⊥
@@ -188,20 +146,8 @@ module _ (b : BookState) (i n : ℕ) (next : n ≡ suc i) where
   some_mark within none =
       next_there b.marks i within (λ m h. none m.name (length m.events) (ap (mark_at b) next ∙ ap name_and_length h))
 
--- the text of a name is its bytes
-in_range : (lo hi x : ℕ) → is_in_range lo hi x ≡ true → (lo ≤ x) × (x ≤ hi)
-in_range lo hi x h = let p = and_parts _ _ h in (leb-true lo x p.0, leb-true x hi p.1)
-
 plain_byte : (x : ℕ) → is_name_byte x ≡ true → escape_byte x ≡ x ∷ []
-plain_byte x h =
-    let bounds : (32 ≤ x) × ((x ≡ 34 → ⊥) × (x ≡ 92 → ⊥)) = elim (or_cases _ _ h) [
-      | inl alphanumeric ↦ elim (or_cases _ _ alphanumeric) [
-        | inl letter ↦ let r = in_range 97 122 x letter in (omega (arith, r.0), ((λ e. omega (arith, r.0)), (λ e. omega (arith, r.0))))
-        | inr digit ↦ let r = in_range 48 57 x digit in (omega (arith, r.0), ((λ e. omega (arith, r.0)), (λ e. omega (arith, r.1))))
-      ]
-      | inr hyphen ↦ let r = eqb-true x 45 hyphen in (omega (arith, r), ((λ e. omega (arith, r)), (λ e. omega (arith, r))))
-    ] in
-    escape_byte_plain x bounds.1.0 bounds.1.1 bounds.0
+plain_byte x h = grind (arith, or_cases, eqb-true, escape_byte_plain)
 
 name_bytes : (bytes : List ℕ) → is_mark_name bytes ≡ true → list_all is_name_byte bytes ≡ true
 name_bytes bytes h = (and_parts _ _ h).1
@@ -221,8 +167,5 @@ mark_appended name es old t u v w new opened events between named closed =
     two_parts old t new _ _ opened (two_parts t u new _ _ events.text (two_parts u v new _ _ between (two_parts v w new (bytes_of name) _ named closed))) in
     record {
       text = all ∙ ap (λ s. old ++ s) (sym (mark_text ds (bytes_of name) (plain_name (bytes_of name) (name_bytes (bytes_of name) name.valid))));
-      kept = record {
-        spelled = mark_spelled (record { name = name; events = es }) (each_spelled (Gives event_of) ds es events.kept);
-        back = mark_back ds (bytes_of name) (list_back (Gives event_of) ds es events.kept);
-      };
+      kept = grind (arith, each_spelled, list_back);
     }

@@ -1,12 +1,8 @@
 -- Whole numbers and members of values, and names of segments.
 use Rattle.std.proofs.Common.{◌≡◌, List, [], ◌∷◌, length, Some, None, option_map, refl, sym, ap, ◌∙◌, String, BTreeMap, Global}
-use Rattle.serde_json.specs.Data.{Data}
+use Rattle.rd_trace.proofs.Prelude.{Data, as_object, items_view, members_view, members_len-members_view, name_of_items}
 use Rattle.serde_json.specs.Events.{members_len}
-use Rattle.serde_json.specs.Find.{as_object}
-use Rattle.serde_json.specs.View.{items_view, members_view}
-use Rattle.serde_json.proofs.Views.{members_len-members_view}
 use Rattle.serde_json.specs.declared.value.Value.{Value}
-use Rattle.rd_trace.specs.Names.{name_of_items}
 
 -- the members of an object are as many as those of its map
 pub member_count : (m : BTreeMap (String Global) Value) (d : Data) → Some (members_view m.entries) ≡ as_object d → option_map members_len (as_object d) ≡ Some (length m.entries)

@@ -1,19 +1,7 @@
 -- Loading a text has one answer, memory aside.
-use Rattle.std.proofs.Common.{◌≡◌, ◌⊎◌, inl, inr, ℕ, ◌+◌, List, [], ◌∷◌, ◌++◌, map, length, Option, Some, None, Result, Ok, Err, refl, sym, ap, ap₂, ◌∙◌, subst, subst₂}
-use Rattle.std.proofs.lemmas.List.{length-map, map-append}
-use Rattle.rd_step.specs.Prelude.{World, Refusal}
-use Rattle.rd_step.specs.declared.entries.Event.{Event}
-use Rattle.rd_step.specs.declared.flaws.Flaw.{Flaw}
-use Rattle.rd_journal.specs.State.{apply}
-use Rattle.rd_marks.specs.Books.{Mark}
-use Rattle.rd_marks.specs.Rules.{GoThrough}
-use Rattle.rd_trace.specs.Starts.{start_world, start_flaw}
-use Rattle.rd_trace.specs.Saved.{Trace, IsTraceText, loaded_state, seen_mark, IsSameBook}
-use Rattle.rd_trace.specs.Traces.{session_at, IsRefusedAt, IsMarkRefusedAt}
-use Rattle.rd_trace.specs.Loading.{IsBookIn, IsPlayable, Replays, LoadsTrace, IsSameAnswer}
-use Rattle.rd_trace.specs.declared.any_book.AnyBook.{AnyBook}
-use Rattle.rd_trace.specs.declared.faults.LoadTraceFault.{LoadTraceFault}
-use Rattle.rd_trace.specs.declared.faults.LoadTraceFault.TheVariants.{NoMemory, BadTrace, Flawed, TraceMark, TraceStep}
+use Rattle.std.proofs.Common.{◌≡◌, ◌⊎◌, inl, inr, ℕ, ◌+◌, List, [], ◌∷◌, ◌++◌, map, length, Option, Some, None, Result, Ok, Err, refl, sym, ap, ap₂, ◌∙◌, subst, subst₂, arith}
+use Rattle.rd_trace.proofs.Prelude.{length-map, map-append, World, Refusal, Event, Flaw, apply, Mark, GoThrough, start_world, start_flaw, Trace, IsTraceText, loaded_state, seen_mark, IsSameBook, session_at, IsRefusedAt, IsMarkRefusedAt, IsBookIn, IsPlayable, Replays, LoadsTrace, IsSameAnswer, AnyBook, LoadTraceFault, BadTrace, Flawed, TraceMark, TraceStep}
+use Rattle.rd_trace.specs.declared.faults.LoadTraceFault.TheVariants.{NoMemory}
 use Rattle.rd_trace.proofs.OneTrace.{IsSameTrace, SeenGoThrough, seen_go, same_trace, same_book}
 use Rattle.rd_trace.proofs.ReplayLemmas.{none_refused}
 
@@ -34,9 +22,7 @@ module _ {X : Type 0} where
       ((before ≡ front) × (x ≡ y)) ⊎ (((rest : List X) × (front ≡ before ++ x ∷ rest)) ⊎ ((rest : List X) × (before ≡ front ++ y ∷ rest)))
 
   behind_one : (z w : X) (before : List X) (x : X) (front : List X) (y : X) → z ≡ w → Places before x front y → Places (z ∷ before) x (w ∷ front) y
-  behind_one z w before x front y e (inl (same, one)) = inl (ap₂ (λ v vs. v ∷ vs) e same, one)
-  behind_one z w before x front y e (inr (inl (rest, is))) = inr (inl (rest, ap₂ (λ v vs. v ∷ vs) (sym e) is))
-  behind_one z w before x front y e (inr (inr (rest, is))) = inr (inr (rest, ap₂ (λ v vs. v ∷ vs) e is))
+  behind_one z w before x front y e h = grind arith
 
   places : (before : List X) (x : X) (later : List X) (front : List X) (y : X) (back : List X) → before ++ x ∷ later ≡ front ++ y ∷ back → Places before x front y
   places [] x later [] y back h = inl (refl, ap (front_or x) h)
@@ -52,15 +38,7 @@ cause_or other (Err cause) = cause
 
 earlier : (R : ℕ) (w : World) (es : List Event) (n : ℕ) (cause : Refusal) (front : List Event) → (at : IsRefusedAt R w es n cause) → (rest : List Event) → front ≡ at.before ++ at.event ∷ rest
     → IsRefusedAt R w front n cause
-earlier R w es n cause front at rest is = record {
-  before = at.before;
-  event = at.event;
-  later = rest;
-  all = is;
-  number = at.number;
-  through = at.through;
-  refused = at.refused;
-}
+earlier h w es n cause front at rest is = grind arith
 
 module _ (R : ℕ) (w : World) (es : List Event) (n m : ℕ) (cause why : Refusal) (h : IsRefusedAt R w es n cause) (k : IsRefusedAt R w es m why) where
   refused_there : Places h.before h.event k.before k.event → (n ≡ m) × (cause ≡ why)
@@ -86,15 +64,7 @@ record SeenRefusedAt (R : ℕ) (w : World) (ms : List (List ℕ × List Event)) 
   pub refused : IsRefusedAt R w mark.1 n cause
 
 seen_refused : (R : ℕ) (w : World) (ms : List Mark) (m n : ℕ) (cause : Refusal) → IsMarkRefusedAt R w ms m n cause → SeenRefusedAt R w (map seen_mark ms) m n cause
-seen_refused R w ms m n cause at = record {
-  before = map seen_mark at.before;
-  mark = seen_mark at.mark;
-  later = map seen_mark at.later;
-  all = ap (map seen_mark) at.all ∙ map-append seen_mark at.before (at.mark ∷ at.later);
-  number = at.number ∙ ap (λ k. k + 1) (sym (length-map at.before seen_mark));
-  through = seen_go R w at.before at.through;
-  refused = at.refused;
-}
+seen_refused h w ms m n cause at = grind (arith, map-append, length-map, seen_go)
 
 seen_goes : (R : ℕ) (w : World) (before : List (List ℕ × List Event)) (m : List ℕ × List Event) (later : List (List ℕ × List Event)) → SeenGoThrough R w (before ++ m ∷ later)
     → GoThrough R w m.1
@@ -179,11 +149,7 @@ plays_as_seen : (R : ℕ) (t : Trace R) → IsPlayable t → Plays R (seen R t)
 plays_as_seen R t h = record { flawless = h.marks.flawless; marks = seen_go R (start_world t.start) t.marks h.marks.marks; through = h.through }
 
 fails_as_seen : (R : ℕ) (t : Trace R) (IsBook : AnyBook → Type 0) (fault : LoadTraceFault) → (fault ≡ NoMemory → ⊥) → Replays IsBook t (Err fault) → Fails R (seen R t) fault
-fails_as_seen R t IsBook NoMemory some h = some refl
-fails_as_seen R t IsBook BadTrace some h = h
-fails_as_seen R t IsBook (Flawed flaw) some h = h
-fails_as_seen R t IsBook (TraceMark m n cause) some h = (h.0, seen_refused R (start_world t.start) t.marks m n cause h.1)
-fails_as_seen R t IsBook (TraceStep n cause) some h = (h.0.flawless, seen_go R (start_world t.start) t.marks h.0.marks, h.1)
+fails_as_seen h t k fault some l = grind (arith, seen_refused, seen_go)
 
 module _ (R : ℕ) (t u : Trace R) (same : IsSameTrace t u) where
   as_seen : seen R u ≡ seen R t
@@ -210,12 +176,7 @@ Answers text r =
     ⊎ ((R : ℕ) × (t : Trace R) × IsTraceText text t × Replays (IsBookIn R (loaded_state t)) t r)
 
 answers : (text : List ℕ) (r : Result AnyBook LoadTraceFault) → (r ≡ Err NoMemory → ⊥) → LoadsTrace text r → Answers text r
-answers text (Ok book) some h = inr h
-answers text (Err NoMemory) some h = absurd (some refl)
-answers text (Err BadTrace) some h = inl (refl, h)
-answers text (Err (Flawed flaw)) some h = inr h
-answers text (Err (TraceMark m n cause)) some h = inr h
-answers text (Err (TraceStep n cause)) some h = inr h
+answers text r some h = grind arith
 
 module _ (text : List ℕ) (r q : Result AnyBook LoadTraceFault) (some : r ≡ Err NoMemory → ⊥) (also : q ≡ Err NoMemory → ⊥) where
   over_one_ring : (R Q : ℕ) (t : Trace R) (u : Trace Q) → IsTraceText text t → IsTraceText text u → Replays (IsBookIn R (loaded_state t)) t r

@@ -1,57 +1,20 @@
 -- A text is one trace at most.
 use Rattle.std.proofs.Common.{◌≡◌, ◌≢◌, ℕ, suc, ◌+◌, ◌≤◌, Bool, not, ◌&&◌, ◌==◌, nat_le, if◌then◌else◌, List, [], ◌∷◌, ◌++◌, map, length, slice_get, codes, Option, Some, None, is_some, option_map, Result, Ok, Err, Vec, Global, inl, inr, refl, sym, ap, ap₂, ◌∙◌, subst, subst₂, arith}
+use Rattle.rd_trace.proofs.Prelude.{length-map, slice_get-map, list_all, Data, get, as_array, read, SegName, ArrSlot, Empty, Top, Actor, SLOTS, SegmentParts, ArrayParts, World, Refusal, MOST_ACTORS, Event, fresh_world, numbered, world_of_parts, first_flaw, indexes_fit, array_fits, Parts, Flaw, bytes_of, Mark, BookState, GoThrough, MarksGoThrough, member_count, number_at, items_at, Gives, SpellEachAt, event_of, IsActor, slot_of, filled_slots, IsArray, cell_of, IsSegment, IsSegmentList, IsMark, IsParts, IsStart, start_world, start_flaw, Start, Fresh, OfParts, Trace, IsFirstTrace, IsSecondTrace, IsEither, IsTraceText, loaded_state, seen_mark, IsSameBook, IsTraceRing, IsRefusedAt, IsMarkRefusedAt, IsBookIn, Replays, LoadsTrace, IsReachable, LoadsAgain, IsTextOf, AnyBook, LoadTraceFault, BadTrace, Flawed, TraceMark, TraceStep}
 use Rattle.std.proofs.Props.{props}
-use Rattle.std.proofs.lemmas.List.{length-map}
 use Rattle.std.proofs.lemmas.List.Folds.{list_all-map}
-use Rattle.std.proofs.lemmas.Option.{slice_get-map}
-use Rattle.std.specs.List.{list_all}
 use mathlib.Core.HLevel.{is_prop→PathP}
-use Rattle.serde_json.specs.Data.{Data}
-use Rattle.serde_json.specs.Find.{get, as_array}
-use Rattle.serde_json.specs.Read.{read}
-use Rattle.rd_cell.specs.declared.places.SegName.{SegName}
-use Rattle.rd_cell.specs.declared.contents.ArrSlot.{ArrSlot}
-use Rattle.rd_cell.specs.declared.contents.ArrSlot.TheVariants.{Empty, Top, Value}
-use Rattle.rd_actor.specs.declared.actors.Actor.{Actor}
-use Rattle.rd_ring.specs.Prelude.{COUNTER_END, MOST_SEGMENTS, MOST_CELLS, SLOTS}
-use Rattle.rd_ring.specs.declared.parts.SegmentParts.{SegmentParts}
+use Rattle.rd_cell.specs.declared.contents.ArrSlot.TheVariants.{Value}
+use Rattle.rd_ring.specs.Prelude.{COUNTER_END, MOST_SEGMENTS, MOST_CELLS}
 use Rattle.rd_ring.specs.Segments.{counters_fit}
-use Rattle.rd_segments.specs.declared.array.ArrayParts.{ArrayParts}
 use Rattle.rd_segments.specs.Lists.{by_number, by_name, count_in, count, segments_by}
 use Rattle.rd_segments.specs.Parts.{part_of_parts}
 use Rattle.rd_segments.specs.SpaceFields.{contents_by}
 use Rattle.rd_actor.specs.Words.{words_fit}
-use Rattle.rd_actor.proofs.PointLemmas.{same_point}
-use Rattle.rd_step.specs.Prelude.{World, Refusal, MOST_ACTORS}
-use Rattle.rd_step.specs.declared.entries.Event.{Event}
-use Rattle.rd_step.specs.Starts.{fresh_world}
-use Rattle.rd_step.specs.Lists.{numbered}
-use Rattle.rd_step.specs.Parts.{world_of_parts, first_flaw, indexes_fit, array_fits}
 use Rattle.rd_step.specs.WellFormed.{next_fits, names_fit, numbers_fit}
-use Rattle.rd_step.specs.declared.parts.Parts.{Parts}
-use Rattle.rd_step.specs.declared.flaws.Flaw.{Flaw}
 use Rattle.rd_step.specs.declared.flaws.Flaw.TheVariants.{Makers, PlaceNames, ActorNames, Counters, Indexes, ArrayCounters, ActorNumbers, ActorWords}
-use Rattle.rd_marks.specs.Names.{bytes_of}
-use Rattle.rd_marks.specs.Books.{Mark, BookState}
-use Rattle.rd_marks.specs.Rules.{GoThrough, MarksGoThrough}
-use Rattle.rd_trace.specs.Numbers.{member_count, number_at, items_at}
-use Rattle.rd_trace.specs.Spelled.{Gives, SpellEachAt}
-use Rattle.rd_trace.specs.Events.{event_of}
-use Rattle.rd_trace.specs.Actors.{IsActor}
-use Rattle.rd_trace.specs.Arrays.{slot_of, filled_slots, IsArray}
-use Rattle.rd_trace.specs.Segments.{cell_of, IsSegment, IsSegmentList}
-use Rattle.rd_trace.specs.Bookmarks.{IsMark}
-use Rattle.rd_trace.specs.Starts.{IsParts, IsStart, start_world, start_flaw}
-use Rattle.rd_trace.specs.declared.starts.Start.{Start}
-use Rattle.rd_trace.specs.declared.starts.Start.TheVariants.{Fresh, Parts as OfParts}
-use Rattle.rd_trace.specs.Saved.{Trace, IsFirstTrace, IsSecondTrace, IsEither, IsTraceText, loaded_state, seen_mark, IsSameBook}
-use Rattle.rd_trace.specs.Traces.{IsTraceRing, IsRefusedAt, IsMarkRefusedAt}
-use Rattle.rd_trace.specs.Loading.{IsBookIn, Replays, LoadsTrace, IsReachable, LoadsAgain}
-use Rattle.rd_trace.specs.Writing.{IsTextOf}
 use Rattle.rd_trace.proofs.SpellLemmas.{one_given, same_each_at, same_seen_at}
-use Rattle.rd_trace.specs.declared.any_book.AnyBook.{AnyBook}
-use Rattle.rd_trace.specs.declared.faults.LoadTraceFault.{LoadTraceFault}
-use Rattle.rd_trace.specs.declared.faults.LoadTraceFault.TheVariants.{NoMemory, BadTrace, Flawed, TraceMark, TraceStep}
+use Rattle.rd_trace.specs.declared.faults.LoadTraceFault.TheVariants.{NoMemory}
 
 pub some_same : {A : Type 0} (o : Option A) (a b : A) → o ≡ Some a → o ≡ Some b → a ≡ b
 some_same o a b h k = let both : Some a ≡ Some b = sym h ∙ k in cc
@@ -59,20 +22,7 @@ some_same o a b h k = let both : Some a ≡ Some b = sym h ∙ k in cc
 -- ---- actors
 
 same_actor : (d : Data) (a b : Actor) → IsActor d a → IsActor d b → a ≡ b
-same_actor d a b h k =
-    let pc = same_point a.pc b.pc (some_same _ _ _ h.pc k.pc) in
-    let pass = some_same _ a.pass b.pass h.pass k.pass in
-    let closed = some_same _ a.closed b.closed h.closed k.closed in
-    let safe = some_same _ a.safe b.safe h.safe k.safe in
-    let crq = some_same _ a.crq b.crq h.crq k.crq in
-    let new = some_same _ a.new b.new h.new k.new in
-    let next = some_same _ a.next b.next h.next k.next in
-    let op = some_same _ a.op b.op h.op k.op in
-    let t = some_same _ a.t b.t h.t k.t in
-    let head = some_same _ a.h b.h h.h k.h in
-    let val = some_same _ a.val b.val h.val k.val in
-    let idx = some_same _ a.idx b.idx h.idx k.idx in
-    λ i. record { pc = pc i; pass = pass i; closed = closed i; safe = safe i; crq = crq i; new = new i; next = next i; op = op i; t = t i; h = head i; val = val i; idx = idx i }
+same_actor d a b h k = grind arith
 
 -- ---- the array
 
@@ -169,12 +119,10 @@ one_of None n = None
 one_of (Some xs) n = slice_get xs n
 
 counted : {X : Type 0} (o : Option (Vec X Global)) → count_in o ≡ count_of (option_map items o)
-counted None = refl
-counted (Some v) = refl
+counted o = grind arith
 
 one_by_number : {X : Type 0} (o : Option (Vec X Global)) (n : ℕ) → by_number o n ≡ one_of (option_map items o) n
-one_by_number None n = refl
-one_by_number (Some v) n = refl
+one_by_number o n = grind arith
 
 module _ {X : Type 0} (vs ws : List (Vec X Global)) (same : map items vs ≡ map items ws) where
   same_length : length vs ≡ length ws
@@ -304,8 +252,7 @@ module _ (R : ℕ) (d : Data) (t u : Trace R) where
   same_either (inr h) (inr k) = same_second h k
 
 ring_of : (R : ℕ) (d : Data) (t : Trace R) → IsEither d t → number_at (codes "ring") d ≡ Some R
-ring_of R d t (inl h) = h.ring
-ring_of R d t (inr h) = h.ring
+ring_of h d t k = grind arith
 
 -- the traces that a text is are over one ring, and the same
 pub same_trace : (text : List ℕ) (R Q : ℕ) (t : Trace R) (u : Trace Q) → IsTraceText text t → IsTraceText text u → (R ≡ Q) × IsSameTrace t u
@@ -348,11 +295,7 @@ NoneRefused = (R : ℕ) (start : World) (events : List Event) (n : ℕ) (cause :
 module _ (none_refused : NoneRefused) (R : ℕ) (t u : Trace R) (same : IsSameTrace t u) where
   -- a trace that is another one goes through with it
   still_reachable : IsReachable R (loaded_state u) → IsReachable R (loaded_state t)
-  still_reachable h = record {
-    marks = marks_go R (start_world t.start) t.marks
-        (subst₂ (SeenGoThrough R) (sym same.world) (sym same.marks) (seen_go R (start_world u.start) u.marks h.marks));
-    through = subst₂ (GoThrough R) (sym same.world) (ap₂ (λ es fs. es ++ fs) (sym same.live) (sym same.undone)) h.through;
-  }
+  still_reachable h = grind (arith, marks_go, subst₂, seen_go)
 
   no_mark_refused : IsReachable R (loaded_state u) → (m n : ℕ) (cause : Refusal) → IsMarkRefusedAt R (start_world t.start) t.marks m n cause → ⊥
   no_mark_refused h m n cause at =

@@ -1,40 +1,15 @@
 -- Steps that are made again: what goes through, and what is refused.
+use Rattle.rd_trace.proofs.Prelude.{common_steps, AllByRecursion, cond-false, IsDistinct-head, IsDistinct-tail, take-append_seam, drop-append_seam, append-nil, length-map, map-append, map_more, get_or-map, take_more, take_all, drop_all, take-take, take-append-drop, drop-append-le, length-take-le, length-drop, OutOfMemory, World, Refusal, TooLong, MarkTaken, TooManyMarks, OpReply, Stepped, step, Ran, run, MOST_STEPS, run_entries, run_from_step, Entry, Event, State, step_after, with_event, apply, reply_to, back_one, times, back, MarkName, MOST_MARKS, bytes_of, same_name, Mark, BookState, with_session, with_marks, marked_events, mark, GoThrough, MarksGoThrough, HaveDifferentNames, SavedMark, LoadTraceFault, saved_mark, start_world, start_flaw, Trace, loaded_state, session_at, IsRefusedAt, IsMarkRefusedAt, HasMarks, IsPlayable, Replays, IsAt, RefusesOne, StepsAll, GoesTo, MakesLive, SetsMarks, IsFaultOfStep, IsFaultOfMark}
 use Rattle.std.proofs.Common.{◌≡◌, ◌≢◌, ◌⊎◌, inl, inr, ℕ, zero, suc, ◌+◌, ◌-◌, ◌<◌, ◌≤◌, ◌==◌, if◌then◌else◌, Bool, true, false, List, [], ◌∷◌, ◌++◌, length, take, drop, get_or, map, Some, None, Option, is_some, Result, Ok, Err, IsOk, refl, sym, ap, ap₂, ◌∙◌, subst, arith, append_assoc, length-append, ne_eqb, eq-eqb}
-use Rattle.std.specs.List.{AllByRecursion}
-use Rattle.std.proofs.lemmas.Bool.{cond-false}
 use Rattle.std.proofs.lemmas.Cmp.{nat_list_eq_equiv}
-use Rattle.std.proofs.lemmas.Map.Keys.{IsDistinct-head, IsDistinct-tail}
-use Rattle.std.proofs.Math.Seq.{take-append_seam, drop-append_seam}
-use Rattle.std.proofs.lemmas.List.{append-nil, length-map, map-append, map_more, get_or-map, take_more, take_all, drop_all, take-take, take-append-drop, drop-append-le, length-take-le, length-drop}
-use Rattle.rd_cell.specs.declared.refusal.Refusal.TheVariants.{NoMemory as OutOfMemory}
-use Rattle.rd_actor.specs.declared.actors.Act.TheVariants.{Enq as CallsEnq, Deq as CallsDeq, AEnq as CallsArrayEnq, ADeq as CallsArrayDeq, Go as GoesOn, Starve as Starves}
-use Rattle.rd_step.specs.Prelude.{World, Refusal, TooLong, MarkTaken, TooManyMarks, OpReply, Stepped, step, Ran, run, MOST_STEPS}
-use Rattle.rd_step.specs.Run.{events, run_entries, run_preceded_by, run_from_step}
-use Rattle.rd_step.specs.declared.entries.Entry.{Entry}
-use Rattle.rd_step.specs.declared.entries.Event.{Event}
-use Rattle.rd_journal.specs.State.{State, run_of, step_after, with_event, apply, reply_to, back_one, times, back}
+use Rattle.rd_step.specs.Run.{events}
 use Rattle.rd_journal.proofs.Calls.{back_goes}
 use Rattle.rd_marks.specs.declared.commands.Command.{Command}
-use Rattle.rd_marks.specs.declared.commands.Command.TheVariants.{Enq, Deq, ArrayEnq, ArrayDeq, Go, Starve, Undo, UndoAt, Roll, Back, Redo, Forward, Mark as MarkAs, DropMark, GotoMark, Marks, MarkAt, Same, Origin, Writer, Show, Actor, Step, Len}
-use Rattle.rd_marks.specs.declared.names.MarkName.{MarkName}
 use Rattle.rd_marks.specs.declared.replies.Reply.{Reply}
-use Rattle.rd_marks.specs.NameBytes.{MOST_MARKS}
-use Rattle.rd_marks.specs.Names.{bytes_of, same_name}
-use Rattle.rd_marks.specs.Books.{Mark, BookState, with_session, with_marks, marked_events, mark}
-use Rattle.rd_marks.specs.Commands.{event, Answered, event_answer, move_answer, Happened, IsObeyed}
+use Rattle.rd_marks.specs.Commands.{Answered, event_answer, move_answer, Happened, IsObeyed}
 use Rattle.rd_marks.specs.Events.{as_event}
-use Rattle.rd_marks.specs.Rules.{GoThrough, MarksGoThrough, HaveDifferentNames}
-use Rattle.rd_trace.specs.declared.bookmarks.SavedMark.{SavedMark}
-use Rattle.rd_trace.specs.declared.faults.LoadTraceFault.{LoadTraceFault}
-use Rattle.rd_trace.specs.declared.faults.LoadTraceFault.TheVariants.{NoMemory, BadTrace, Flawed, TraceMark, TraceStep}
 use Rattle.rd_trace.specs.declared.replay.RefusedEvent.{RefusedEvent}
-use Rattle.rd_trace.specs.Bookmarks.{saved_mark}
-use Rattle.rd_trace.specs.Starts.{start_world, start_flaw}
-use Rattle.rd_trace.specs.Saved.{Trace, loaded_state}
-use Rattle.rd_trace.specs.Traces.{session_at, IsRefusedAt, IsMarkRefusedAt}
-use Rattle.rd_trace.specs.Loading.{HasMarks, IsPlayable, Replays}
 use Rattle.rd_trace.proofs.SpellLemmas.{split_at, take_item}
-use Rattle.rd_trace.specs.Steps.{IsAt, RefusesOne, StepsAll, GoesTo, MakesLive, SetsMarks, IsFaultOfStep, IsFaultOfMark}
 
 -- Books and lists
 
@@ -47,34 +22,18 @@ same_state s t start live undone = λ i. record { start = start i; live = live i
 -- a book that was opened over a session that was opened in a world
 pub opened : (b : BookState) (s : State) (v w : World) → b.session ≡ s → b.marks ≡ [] → s ≡ record { start = v; live = []; undone = [] } → v ≡ w
     → b ≡ record { session = record { start = w; live = []; undone = [] }; marks = [] }
-opened b s v w session marks state world =
-    let at : b.session ≡ session_at w [] = session ∙ state ∙ ap (λ (u : World). session_at u []) world in
-    λ i. record { session = at i; marks = marks i }
+opened b s v w session marks state world = grind arith
 
 -- Runs that go through
 
-after_preceded : (R : ℕ) (x : Entry) (o : Result Ran Refusal) (e : Event) → IsOk (step_after R (run_preceded_by x o) e) → IsOk (step_after R o e)
-after_preceded R x (Err refusal) e h = h
-after_preceded R x (Ok r) e h = h
-
-preceded : (x : Entry) (o : Result Ran Refusal) → IsOk o → IsOk (run_preceded_by x o)
-preceded x (Err refusal) h = h
-preceded x (Ok r) h = refl
-
-of_preceded : (x : Entry) (o : Result Ran Refusal) → IsOk (run_preceded_by x o) → IsOk o
-of_preceded x (Err refusal) h = h
-of_preceded x (Ok r) h = refl
-
 one_step : (R : ℕ) (o : Result Stepped Refusal) → IsOk o → IsOk (run_from_step (λ v. run R v []) o)
-one_step R (Err refusal) h = h
-one_step R (Ok s) h = refl
+one_step h o k = grind arith
 
 -- a run goes on with a step from its last world, if that is so from each world that its first step
 -- leads to
 run_on : (R : ℕ) (es : List Event) (e : Event) → ((w : World) → IsOk (step_after R (run R w es) e) → IsOk (run R w (es ++ e ∷ []))) → (o : Result Stepped Refusal)
     → IsOk (step_after R (run_from_step (λ v. run R v es) o) e) → IsOk (run_from_step (λ v. run R v (es ++ e ∷ [])) o)
-run_on R es e from (Err refusal) h = h
-run_on R es e from (Ok s) h = preceded s.entry (run R s.world (es ++ e ∷ [])) (from s.world (after_preceded R s.entry (run R s.world es) e h))
+run_on h es e from o k = grind arith
 
 -- a run goes on with a step from its last world
 run_last : (R : ℕ) (w : World) (es : List Event) (e : Event) → IsOk (step_after R (run R w es) e) → IsOk (run R w (es ++ e ∷ []))
@@ -83,8 +42,7 @@ run_last R w (x ∷ es) e h = run_on R es e (λ v k. run_last R v es e k) (step 
 
 runs_first : (R : ℕ) (xs ys : List Event) → ((v : World) → IsOk (run R v (xs ++ ys)) → IsOk (run R v xs)) → (o : Result Stepped Refusal)
     → IsOk (run_from_step (λ v. run R v (xs ++ ys)) o) → IsOk (run_from_step (λ v. run R v xs) o)
-runs_first R xs ys from (Err refusal) h = h
-runs_first R xs ys from (Ok s) h = preceded s.entry (run R s.world xs) (from s.world (of_preceded s.entry (run R s.world (xs ++ ys)) h))
+runs_first h xs ys from o k = grind arith
 
 -- the first events of a run run
 first_run : (R : ℕ) (w : World) (xs ys : List Event) → IsOk (run R w (xs ++ ys)) → IsOk (run R w xs)
@@ -93,11 +51,7 @@ first_run R w (x ∷ xs) ys h = runs_first R xs ys (λ v k. first_run R v xs ys 
 
 -- a run that leaves entries goes through
 went : (ran : Result Ran Refusal) (xs : List Entry) → run_entries ran ≡ Ok xs → IsOk ran
-went (Ok r) xs h = refl
-went (Err refusal) xs h = absurd (cc)
-
-none_go : (R : ℕ) (w : World) → GoThrough R w []
-none_go R w = record { few = omega arith; runs = refl }
+went ran xs h = grind arith
 
 first_go : (R : ℕ) (w : World) (k : ℕ) (es : List Event) → GoThrough R w es → GoThrough R w (take k es)
 first_go R w k es h =
@@ -109,29 +63,20 @@ first_go R w k es h =
 
 -- One event
 
--- what an event does does not depend on what is undone
-with_event_at : (s : State) (e : Event) (o : Result Stepped Refusal) → with_event s e o ≡ with_event (session_at s.start s.live) e o
-with_event_at s e (Err refusal) = refl
-with_event_at s e (Ok stepped) = refl
-
 apply_at : (R : ℕ) (s : State) (e : Event) → apply R s e ≡ apply R (session_at s.start s.live) e
-apply_at R s e =
-    ap (λ (o : Result State Refusal). if length s.live == MOST_STEPS then Err TooLong else o) (with_event_at s e (step_after R (run_of R s) e))
+apply_at h s e = grind arith
 
 -- what an event that happened leaves, and what it shows of its step
 applied_parts : (s after : State) (e : Event) (full : Bool) (o : Result Stepped Refusal) → (if full then Err TooLong else with_event s e o) ≡ Ok after
     → (full ≡ false) × IsOk o × (after ≡ record { start = s.start; live = s.live ++ e ∷ []; undone = [] })
-applied_parts s after e true o h = absurd (cc)
-applied_parts s after e false (Err refusal) h = absurd (cc)
-applied_parts s after e false (Ok stepped) h = (refl, refl, cc)
+applied_parts s after e full o h = grind arith
 
 not_full : (n : ℕ) → n ≤ MOST_STEPS → (n == MOST_STEPS) ≡ false → n + 1 ≤ MOST_STEPS
 not_full n few other = let apart : n ≢ MOST_STEPS = λ e. cc (eq-eqb n MOST_STEPS e, other) in omega (arith, few, apart)
 
 -- whether it was memory that was refused
 is_memory : (refusal : Refusal) → (refusal ≡ OutOfMemory) ⊎ (refusal ≢ OutOfMemory)
-is_memory OutOfMemory = inl refl
-is_memory refusal = inr (λ e. cc)
+is_memory refusal = grind arith
 
 -- what is undone after steps: nothing, if there was one
 abbrev pub undone_behind : List Event → List Event → List Event
@@ -139,8 +84,7 @@ undone_behind undone [] = undone
 undone_behind undone (e ∷ es) = []
 
 none_behind : (undone xs : List Event) (e : Event) → undone_behind undone (xs ++ e ∷ []) ≡ []
-none_behind undone [] e = refl
-none_behind undone (x ∷ xs) e = refl
+none_behind undone xs e = grind (arith, common_steps)
 
 -- these events were put after the live ones so far
 pub record HasStepped (R : ℕ) (old now : BookState) (done : List Event) : Type 0 where
@@ -151,13 +95,7 @@ pub record HasStepped (R : ℕ) (old now : BookState) (done : List Event) : Type
   pub through : GoThrough R old.session.start (old.session.live ++ done)
 
 pub none_stepped : (R : ℕ) (b : BookState) → GoThrough R b.session.start b.session.live → HasStepped R b b []
-none_stepped R b h = record {
-  start = refl;
-  live = sym (append-nil b.session.live);
-  undone = refl;
-  marks = refl;
-  through = subst (λ (es : List Event). GoThrough R b.session.start es) (sym (append-nil b.session.live)) h;
-}
+none_stepped h b k = grind (arith, append-nil)
 
 module _ (R : ℕ) (old now : BookState) (es : List Event) (i : ℕ) (e : Event) (within : i < length es) (is : e ≡ get_or es i e) (so_far : HasStepped R old now (take i es)) where
   at_now : apply R now.session e ≡ apply R (session_at old.session.start (old.session.live ++ take i es)) e
@@ -176,8 +114,7 @@ module _ (R : ℕ) (old now : BookState) (es : List Event) (i : ℕ) (e : Event)
         undone = ap (λ (s : State). s.undone) p.2 ∙ sym (none_behind old.session.undone (take i es) e);
         marks = marks ∙ so_far.marks;
         through =
-            subst (λ (fs : List Event). GoThrough R w fs) all
-            (record { few = omega (arith, length-append live (e ∷ []), not_full (length live) so_far.through.few p.0); runs = run_last R w live e p.1 });
+            grind (arith, length-append, not_full, run_last);
       })
 
   refused_at : (n : ℕ) (cause : Refusal) → n ≡ length now.session.live + 1 → apply R now.session e ≡ Err cause
@@ -187,8 +124,7 @@ module _ (R : ℕ) (old now : BookState) (es : List Event) (i : ℕ) (e : Event)
     event = e;
     later = drop (i + 1) es;
     all =
-        ap (λ (fs : List Event). old.session.live ++ fs) (split_at es i e within is)
-        ∙ sym (append_assoc old.session.live (take i es) (e ∷ drop (i + 1) es));
+        grind (arith, split_at, append_assoc);
     number = number ∙ ap (λ (fs : List Event). length fs + 1) so_far.live;
     through = so_far.through;
     refused = sym at_now ∙ h;
@@ -205,14 +141,11 @@ module _ (R : ℕ) (old now : BookState) (es : List Event) (i : ℕ) (e : Event)
 -- one of some events was refused
 pub some_refused : (R : ℕ) (old new : BookState) (es : List Event) (refused : RefusedEvent) → 1 ≤ length es
     → RefusesOne R old.session.start (old.session.live ++ es) refused → StepsAll R old es new (Err refused)
-some_refused R old new [] refused some h = absurd (omega arith)
-some_refused R old new (e ∷ es) refused some h = h
+some_refused h old new es refused some k = grind arith
 
 -- all of them happened
 pub all_stepped : (R : ℕ) (old new : BookState) (es : List Event) → HasStepped R old new es → StepsAll R old es new (Ok tt)
-all_stepped R old new [] h = (refl, same_book new old h.start (h.live ∙ append-nil old.session.live) h.undone h.marks)
-all_stepped R old new (e ∷ es) h =
-    (same_book new (with_session old (session_at old.session.start (old.session.live ++ e ∷ es))) h.start h.live h.undone h.marks, h.through)
+all_stepped h old new es k = grind (arith, same_book, append-nil)
 
 pub all_of : (R : ℕ) (old new : BookState) (es : List Event) (i : ℕ) → length es ≤ i → HasStepped R old new (take i es) → StepsAll R old es new (Ok tt)
 all_of R old new es i all h = all_stepped R old new es (subst (λ (done : List Event). HasStepped R old new done) (take_all i es all) h)
@@ -221,48 +154,16 @@ all_of R old new es i all h = all_stepped R old new es (subst (λ (done : List E
 
 -- what a command that is an event is answered
 pub event_happened : (R : ℕ) (b : BookState) (command : Command) (e : Event) (a : Answered) → as_event command ≡ Some e → IsObeyed R b command a → Happened R b e a
-event_happened R b (Enq actor value) e a h obeyed = let same : event actor (CallsEnq value) ≡ e = cc in subst (λ (f : Event). Happened R b f a) same obeyed
-event_happened R b (Deq actor) e a h obeyed = let same : event actor CallsDeq ≡ e = cc in subst (λ (f : Event). Happened R b f a) same obeyed
-event_happened R b (ArrayEnq actor value) e a h obeyed = let same : event actor (CallsArrayEnq value) ≡ e = cc in subst (λ (f : Event). Happened R b f a) same obeyed
-event_happened R b (ArrayDeq actor) e a h obeyed = let same : event actor CallsArrayDeq ≡ e = cc in subst (λ (f : Event). Happened R b f a) same obeyed
-event_happened R b (Go actor) e a h obeyed = let same : event actor GoesOn ≡ e = cc in subst (λ (f : Event). Happened R b f a) same obeyed
-event_happened R b (Starve actor choice) e a h obeyed = let same : event actor (Starves choice) ≡ e = cc in subst (λ (f : Event). Happened R b f a) same obeyed
-event_happened R b Undo e a h obeyed = absurd (cc)
-event_happened R b (UndoAt k) e a h obeyed = absurd (cc)
-event_happened R b (Roll k) e a h obeyed = absurd (cc)
-event_happened R b (Back n) e a h obeyed = absurd (cc)
-event_happened R b Redo e a h obeyed = absurd (cc)
-event_happened R b (Forward n) e a h obeyed = absurd (cc)
-event_happened R b (MarkAs name) e a h obeyed = absurd (cc)
-event_happened R b (DropMark name) e a h obeyed = absurd (cc)
-event_happened R b (GotoMark name) e a h obeyed = absurd (cc)
-event_happened R b Marks e a h obeyed = absurd (cc)
-event_happened R b (MarkAt i) e a h obeyed = absurd (cc)
-event_happened R b (Same one other) e a h obeyed = absurd (cc)
-event_happened R b (Origin k) e a h obeyed = absurd (cc)
-event_happened R b (Writer place) e a h obeyed = absurd (cc)
-event_happened R b (Show place) e a h obeyed = absurd (cc)
-event_happened R b (Actor actor) e a h obeyed = absurd (cc)
-event_happened R b (Step number) e a h obeyed = absurd (cc)
-event_happened R b Len e a h obeyed = absurd (cc)
-
-event_made : (b after : BookState) (reply : Reply) (told : Option OpReply) (o : Result State Refusal) → record { answer = Ok reply; state = after } ≡ event_answer b told o
-    → (o ≡ Ok after.session) × (after.marks ≡ b.marks)
-event_made b after reply told (Ok s) h =
-    let same : after ≡ with_session b s = ap (λ (a : Answered). a.state) h in
-    (ap (λ (c : BookState). Ok c.session) (sym same), ap (λ (c : BookState). c.marks) same)
-event_made b after reply told (Err refusal) h = absurd (cc (ap (λ (a : Answered). a.answer) h))
+event_happened h b command e a k obeyed = grind arith
 
 event_not_made : (b after : BookState) (cause : Refusal) (told : Option OpReply) (o : Result State Refusal) → record { answer = Err cause; state = after } ≡ event_answer b told o
     → o ≡ Err cause
-event_not_made b after cause told (Ok s) h = absurd (cc (ap (λ (a : Answered). a.answer) h))
-event_not_made b after cause told (Err refusal) h = cc (ap (λ (a : Answered). a.answer) h)
+event_not_made b after cause told o h = grind arith
 
 -- what an event leaves that happened, and why one was refused
 pub happened : (R : ℕ) (b after : BookState) (e : Event) (reply : Reply) → Happened R b e (record { answer = Ok reply; state = after })
     → (apply R b.session e ≡ Ok after.session) × (after.marks ≡ b.marks)
-happened R b after e reply (inl h) = event_made b after reply (reply_to R b.session e) (apply R b.session e) h
-happened R b after e reply (inr h) = absurd (cc (ap (λ (a : Answered). a.answer) h.1))
+happened h b after e reply k = grind (arith, common_steps)
 
 pub not_happened : (R : ℕ) (b after : BookState) (e : Event) (cause : Refusal) → Happened R b e (record { answer = Err cause; state = after })
     → (apply R b.session e ≡ Err cause) ⊎ (cause ≡ OutOfMemory)
@@ -273,10 +174,7 @@ not_happened R b after e cause (inr h) = inr (cc (ap (λ (a : Answered). a.answe
 
 move_made : (b after : BookState) (reply : Reply) (o : Result State Refusal) → record { answer = Ok reply; state = after } ≡ move_answer b o
     → (o ≡ Ok after.session) × (after.marks ≡ b.marks)
-move_made b after reply (Ok s) h =
-    let same : after ≡ with_session b s = ap (λ (a : Answered). a.state) h in
-    (ap (λ (c : BookState). Ok c.session) (sym same), ap (λ (c : BookState). c.marks) same)
-move_made b after reply (Err refusal) h = absurd (cc (ap (λ (a : Answered). a.answer) h))
+move_made b after reply o h = grind arith
 
 pub went_back : (b after : BookState) (n : ℕ) (reply : Reply) → record { answer = Ok reply; state = after } ≡ move_answer b (back b.session n)
     → (back b.session n ≡ Ok after.session) × (after.marks ≡ b.marks)
@@ -287,14 +185,11 @@ goes_back s n within = back_goes s (times n back_one s) n within refl
 
 -- not more steps than are live can be undone
 pub can_go_back : (b after : BookState) (n : ℕ) (cause : Refusal) → n ≤ length b.session.live → record { answer = Err cause; state = after } ≡ move_answer b (back b.session n) → ⊥
-can_go_back b after n cause within h =
-    cc (ap (λ (a : Answered). a.answer) h, ap (λ (o : Result State Refusal). (move_answer b o).answer) (goes_back b.session n within))
+can_go_back b after n cause within h = grind arith
 
 -- this many times back, k events are still live
 back_parts : (n k : ℕ) (s : State) → n + k ≡ length s.live → times n back_one s ≡ record { start = s.start; live = take k s.live; undone = drop k s.live ++ s.undone }
-back_parts zero k s h =
-    same_state s (record { start = s.start; live = take k s.live; undone = drop k s.live ++ s.undone }) refl (sym (take_all k s.live (omega arith)))
-    (ap (λ (es : List Event). es ++ s.undone) (sym (drop_all k s.live (omega arith))))
+back_parts zero k s h = grind (arith, same_state, take_all, drop_all)
 back_parts (suc n) k s h =
     let xs = s.live in
     let front = take (suc k) xs in
@@ -310,25 +205,14 @@ back_parts (suc n) k s h =
     ∙ ap (λ (es : List Event). es ++ s.undone) whole)
 
 back_left : (n k : ℕ) (s t : State) → n + k ≡ length s.live → back s n ≡ Ok t → t ≡ record { start = s.start; live = take k s.live; undone = drop k s.live ++ s.undone }
-back_left n k s t h goes =
-    let same : t ≡ times n back_one s = cc (goes, goes_back s n (omega arith)) in
-    same ∙ back_parts n k s h
-
--- what is left goes through
-pub still_go : (R n k : ℕ) (s t : State) → n + k ≡ length s.live → back s n ≡ Ok t → GoThrough R s.start s.live → GoThrough R t.start t.live
-still_go R n k s t h goes through =
-    subst (λ (u : State). GoThrough R u.start u.live) (sym (back_left n k s t h goes)) (first_go R s.start k s.live through)
+back_left n k s t h goes = grind (arith, goes_back, back_parts)
 
 -- Which live events a list begins with
 
 -- one more event that is the same in both
 pub one_shared : (xs : List Entry) (es fs : List Event) (k : ℕ) (x : Entry) (f : Event) → events xs ≡ es → k < length xs → k < length fs → x ≡ get_or xs k x
     → x.event ≡ get_or fs k f → take k es ≡ take k fs → take (k + 1) es ≡ take (k + 1) fs
-one_shared xs es fs k x f all within below is same shared =
-    let long : k < length es = omega (arith, ap length all, length-map xs (λ (y : Entry). y.event)) in
-    let its : x.event ≡ get_or es k x.event =
-    ap (λ (y : Entry). y.event) is ∙ sym (get_or-map (λ (y : Entry). y.event) xs k x x.event within) ∙ ap (λ (gs : List Event). get_or gs k x.event) all in
-    take_item es k x.event long its ∙ ap₂ (λ (gs : List Event) (g : Event). gs ++ g ∷ []) shared same ∙ sym (take_more fs k f below)
+one_shared xs es fs k x f all within below is same shared = grind (arith, common_steps, length-map, get_or-map, take_item, take_more)
 
 pub shared_less : (j k : ℕ) (es fs : List Event) → k ≤ j → take j es ≡ take j fs → take k es ≡ take k fs
 shared_less j k es fs h same = sym (take-take k j es h) ∙ ap (λ (gs : List Event). take k gs) same ∙ take-take k j fs h
@@ -338,13 +222,7 @@ shared_less j k es fs h same = sym (take-take k j es h) ∙ ap (λ (gs : List Ev
 -- after some live events all others of a list are made
 goes_on : (R : ℕ) (old mid new : BookState) (es rest : List Event) (r : Result (Unit {0}) RefusedEvent) → mid.session.start ≡ old.session.start → mid.marks ≡ old.marks
     → mid.session.live ++ rest ≡ es → 1 ≤ length rest → StepsAll R mid rest new r → GoesTo R old es new r
-goes_on R old mid new es [] r start marks all some h = absurd (omega arith)
-goes_on R old mid new es (f ∷ fs) (Ok u) start marks all some h = (
-  h.0 ∙ same_book (with_session mid (session_at mid.session.start (mid.session.live ++ f ∷ fs))) (with_session old (session_at old.session.start es)) start all refl marks,
-  subst (λ (w : World). GoThrough R w es) start (subst (λ (gs : List Event). GoThrough R mid.session.start gs) all h.1),
-)
-goes_on R old mid new es (f ∷ fs) (Err refused) start marks all some h =
-    subst (λ (w : World). RefusesOne R w es refused) start (subst (λ (gs : List Event). RefusesOne R mid.session.start gs refused) all h)
+goes_on h old mid new es rest r start marks all some k = grind arith
 
 pub goes_to : (R : ℕ) (old mid new : BookState) (es rest : List Event) (n k j : ℕ) (r : Result (Unit {0}) RefusedEvent) → n + k ≡ length old.session.live → k < length es → k ≤ j
     → take j old.session.live ≡ take j es → back old.session n ≡ Ok mid.session → mid.marks ≡ old.marks → rest ≡ drop k es → StepsAll R mid rest new r → GoesTo R old es new r
@@ -356,12 +234,10 @@ goes_to R old mid new es rest n k j r enough within below shared back marks behi
 
 -- whether a list is empty, by its length
 pub none_in : (es : List Event) → true ≡ (length es == 0) → es ≡ []
-none_in [] h = refl
-none_in (e ∷ es) h = absurd (cc (h, ne_eqb (suc (length es)) 0 (omega arith)))
+none_in es h = grind (arith, common_steps, ne_eqb)
 
 pub some_in : (es : List Event) → false ≡ (length es == 0) → 1 ≤ length es
-some_in [] h = absurd (cc h)
-some_in (e ∷ es) h = omega arith
+some_in es h = grind arith
 
 -- all that is after the first events
 pub rest_of : (k : ℕ) (es : List Event) → take (length es - k) (drop k es) ≡ drop k es
@@ -369,42 +245,23 @@ rest_of k es = take_all (length es - k) (drop k es) (omega (arith, length-drop k
 
 -- no event is made live
 pub to_none : (R : ℕ) (old new : BookState) (es : List Event) → es ≡ [] → new ≡ with_session old (session_at old.session.start []) → GoesTo R old es new (Ok tt)
-to_none R old new es none h =
-    subst (λ (fs : List Event). GoesTo R old fs new (Ok tt)) (sym none) (h, none_go R old.session.start)
+to_none h old new es none k = grind arith
 
 -- And undone ones after them
 
 refused_before : (R : ℕ) (w : World) (es fs : List Event) (n : ℕ) (cause : Refusal) → IsRefusedAt R w es n cause → IsRefusedAt R w (es ++ fs) n cause
-refused_before R w es fs n cause h = record {
-  before = h.before;
-  event = h.event;
-  later = h.later ++ fs;
-  all = ap (λ (gs : List Event). gs ++ fs) h.all ∙ append_assoc h.before (h.event ∷ h.later) fs;
-  number = h.number;
-  through = h.through;
-  refused = h.refused;
-}
+refused_before h w es fs n cause k = grind (arith, append_assoc)
 
 pub live_refused : (R : ℕ) (w : World) (es fs : List Event) (refused : RefusedEvent) → RefusesOne R w es refused → RefusesOne R w (es ++ fs) refused
-live_refused R w es fs refused (inl memory) = inl memory
-live_refused R w es fs refused (inr h) = inr (h.0, refused_before R w es fs refused.step refused.cause h.1)
+live_refused h w es fs refused k = grind (arith, refused_before)
 
 pub undone_refused : (R : ℕ) (old mid new : BookState) (es fs : List Event) (refused : RefusedEvent) → IsAt old es mid → StepsAll R mid fs new (Err refused)
     → RefusesOne R old.session.start (es ++ fs) refused
-undone_refused R old mid new es [] refused at h = absurd (cc (h.0))
-undone_refused R old mid new es (f ∷ fs) refused at h =
-    subst (λ (b : BookState). RefusesOne R b.session.start (b.session.live ++ f ∷ fs) refused) at h
+undone_refused h old mid new es fs refused at k = grind arith
 
 all_behind : (R : ℕ) (old mid now : BookState) (es fs : List Event) → IsAt old es mid → GoThrough R old.session.start es → StepsAll R mid fs now (Ok tt)
     → IsAt old (es ++ fs) now × GoThrough R old.session.start (es ++ fs)
-all_behind R old mid now es [] at through h = (
-  h.1 ∙ at ∙ ap (λ (gs : List Event). with_session old (session_at old.session.start gs)) (sym (append-nil es)),
-  subst (λ (gs : List Event). GoThrough R old.session.start gs) (sym (append-nil es)) through,
-)
-all_behind R old mid now es (f ∷ fs) at through h = (
-  h.0 ∙ ap (λ (b : BookState). with_session b (session_at b.session.start (b.session.live ++ f ∷ fs))) at,
-  subst (λ (b : BookState). GoThrough R b.session.start (b.session.live ++ f ∷ fs)) at h.1,
-)
+all_behind h old mid now es fs at through k = grind (arith, append-nil)
 
 back_to : (w : World) (es fs : List Event) (t : State) → back (session_at w (es ++ fs)) (length fs) ≡ Ok t → t ≡ record { start = w; live = es; undone = fs }
 back_to w es fs t goes =
@@ -415,18 +272,11 @@ back_to w es fs t goes =
 -- this many events are live that those after can be undone
 pub enough_live : (R : ℕ) (old mid now : BookState) (es fs : List Event) → IsAt old es mid → GoThrough R old.session.start es → StepsAll R mid fs now (Ok tt)
     → length fs ≤ length now.session.live
-enough_live R old mid now es fs at through h =
-    let there = all_behind R old mid now es fs at through h in
-    omega (arith, ap (λ (b : BookState). length b.session.live) there.0, length-append es fs)
+enough_live h old mid now es fs at through k = grind (arith, all_behind, length-append)
 
 pub made_live : (R : ℕ) (old mid now new : BookState) (es fs : List Event) → IsAt old es mid → GoThrough R old.session.start es → StepsAll R mid fs now (Ok tt)
     → back now.session (length fs) ≡ Ok new.session → new.marks ≡ now.marks → MakesLive R old es fs new (Ok tt)
-made_live R old mid now new es fs at through h goes marks =
-    let there = all_behind R old mid now es fs at through h in
-    let left : new.session ≡ record { start = old.session.start; live = es; undone = fs } =
-    back_to old.session.start es fs new.session (ap (λ (b : BookState). back b.session (length fs)) (sym there.0) ∙ goes) in
-    let kept : new.marks ≡ old.marks = marks ∙ ap (λ (b : BookState). b.marks) there.0 in
-    ((λ i. record { session = left i; marks = kept i }), there.1)
+made_live h old mid now new es fs at through k goes marks = grind (arith, common_steps, all_behind, back_to)
 
 -- Bookmarks
 
@@ -444,15 +294,11 @@ one_more_goes R w [] m h k = (k, tt)
 one_more_goes R w (x ∷ ms) m h k = (h.0, one_more_goes R w ms m h.1 k)
 
 mark_set : (after x : BookState) (taken full : Bool) → (if taken then Err MarkTaken else if full then Err TooManyMarks else Ok x) ≡ Ok after → after ≡ x
-mark_set after x true full h = absurd (cc)
-mark_set after x false true h = absurd (cc)
-mark_set after x false false h = cc
+mark_set after x taken full h = grind arith
 
 mark_not_refused : (taken full : Bool) (x : BookState) (refusal : Refusal) → taken ≡ false → full ≡ false
     → (if taken then Err MarkTaken else if full then Err TooManyMarks else Ok x) ≡ Err refusal → ⊥
-mark_not_refused true full x refusal free few h = cc
-mark_not_refused false true x refusal free few h = cc
-mark_not_refused false false x refusal free few h = cc
+mark_not_refused taken full x refusal free few h = grind arith
 
 differs : (x : Mark) (before : List Mark) (m : Mark) (later : List Mark) → AllByRecursion (λ y. same_name x.name y ≡ false) (map (λ y. y.name) (before ++ m ∷ later))
     → same_name x.name m.name ≡ false
@@ -482,8 +328,7 @@ module _ (R : ℕ) (old now : BookState) (ms : List SavedMark) (i : ℕ) (m : Sa
         marks = ap (λ (b : BookState). b.marks) there ∙ ap (λ (done : List Mark). done ++ saved_mark m ∷ []) so_far.marks;
         start = ap (λ (b : BookState). b.session.start) there ∙ so_far.start;
         through =
-            one_more_goes R old.session.start (map saved_mark (take i ms)) (saved_mark m) so_far.through
-            (subst (λ (w : World). GoThrough R w m.events.items) so_far.start goes.1);
+            grind (arith, one_more_goes);
       })
 
   placed : map saved_mark ms ≡ map saved_mark (take i ms) ++ saved_mark m ∷ map saved_mark (drop (i + 1) ms)
@@ -521,9 +366,7 @@ module _ (R : ℕ) (old now : BookState) (ms : List SavedMark) (i : ℕ) (m : Sa
       subst (λ (f : LoadTraceFault). SetsMarks R old (map saved_mark ms) new (Err f)) (sym said.1) (mark_refused_at refused.step refused.cause why.1)
 
 pub all_set : (R : ℕ) (old new : BookState) (ms : List SavedMark) (i : ℕ) → length ms ≤ i → HasSet R old new (map saved_mark (take i ms)) → SetsMarks R old (map saved_mark ms) new (Ok tt)
-all_set R old new ms i all h =
-    let set = subst (λ (done : List SavedMark). HasSet R old new (map saved_mark done)) (take_all i ms all) h in
-    (set.marks, set.start, set.through)
+all_set h old new ms i all k = grind (arith, take_all)
 
 -- Whole traces
 
@@ -531,11 +374,7 @@ module _ {R : ℕ} {B : Type 0} (IsBook : B → Type 0) (t : Trace R) where
   module _ (flawless : start_flaw t.start ≡ None) (old : BookState) (start : old.session.start ≡ start_world t.start) where
     -- an event of a bookmark is refused
     pub no_marks : (new : BookState) (fault : LoadTraceFault) → SetsMarks R old t.marks new (Err fault) → Replays IsBook t (Err fault)
-    no_marks new NoMemory h = tt
-    no_marks new BadTrace h = absurd h
-    no_marks new (Flawed flaw) h = absurd h
-    no_marks new (TraceMark m n cause) h = (flawless, subst (λ (w : World). IsMarkRefusedAt R w t.marks m n cause) start h)
-    no_marks new (TraceStep n cause) h = absurd h
+    no_marks new fault h = grind arith
 
     module _ (now : BookState) (set : SetsMarks R old t.marks now (Ok tt)) where
       begins : now.session.start ≡ start_world t.start
@@ -547,33 +386,20 @@ module _ {R : ℕ} {B : Type 0} (IsBook : B → Type 0) (t : Trace R) where
       -- a live or an undone event is refused
       pub no_steps : (refused : RefusedEvent) (fault : LoadTraceFault) → RefusesOne R now.session.start (t.live ++ t.undone) refused → IsFaultOfStep refused fault
           → Replays IsBook t (Err fault)
-      no_steps refused fault why (inl said) = subst (λ (f : LoadTraceFault). Replays IsBook t (Err f)) (sym said.1) tt
-      no_steps refused fault (inl memory) (inr said) = absurd (said.0 memory)
-      no_steps refused fault (inr why) (inr said) =
-          subst (λ (f : LoadTraceFault). Replays IsBook t (Err f)) (sym said.1)
-          (has_marks, subst (λ (w : World). IsRefusedAt R w (t.live ++ t.undone) refused.step refused.cause) begins why.1)
+      no_steps refused fault why h = grind arith
 
       -- all went through
       pub plays : (new : BookState) → MakesLive R now t.live t.undone new (Ok tt) → IsPlayable t × (new ≡ loaded_state t)
-      plays new h = (
-        record { marks = has_marks; through = subst (λ (w : World). GoThrough R w (t.live ++ t.undone)) begins h.1 },
-        h.0 ∙ (λ i. record { session = record { start = begins i; live = t.live; undone = t.undone }; marks = set.0 i }),
-      )
+      plays new h = grind arith
 
 -- What goes through is not refused
 
-before_preceded : (R : ℕ) (x : Entry) (o : Result Ran Refusal) (e : Event) → IsOk (step_after R o e) → IsOk (step_after R (run_preceded_by x o) e)
-before_preceded R x (Err refusal) e h = h
-before_preceded R x (Ok r) e h = h
-
 of_first : (R : ℕ) (later : List Event) (o : Result Stepped Refusal) → IsOk (run_from_step (λ v. run R v later) o) → IsOk o
-of_first R later (Err refusal) h = h
-of_first R later (Ok s) h = refl
+of_first h later o k = grind arith
 
 in_rest : (R : ℕ) (before : List Event) (e : Event) (later : List Event) → ((w : World) → IsOk (run R w (before ++ e ∷ later)) → IsOk (step_after R (run R w before) e)) → (o : Result Stepped Refusal)
     → IsOk (run_from_step (λ v. run R v (before ++ e ∷ later)) o) → IsOk (step_after R (run_from_step (λ v. run R v before) o) e)
-in_rest R before e later from (Err refusal) h = h
-in_rest R before e later from (Ok s) h = before_preceded R s.entry (run R s.world before) e (from s.world (of_preceded s.entry (run R s.world (before ++ e ∷ later)) h))
+in_rest h before e later from o k = grind arith
 
 -- each event of a run that goes through happens in the last world of those before it
 happens_in : (R : ℕ) (w : World) (before : List Event) (e : Event) (later : List Event) → IsOk (run R w (before ++ e ∷ later)) → IsOk (step_after R (run R w before) e)
@@ -581,20 +407,13 @@ happens_in R w [] e later h = of_first R later (step R w e) h
 happens_in R w (x ∷ before) e later h = in_rest R before e later (λ v k. happens_in R v before e later k) (step R w x) h
 
 not_refused : (s : State) (e : Event) (cause : Refusal) (full : Bool) (o : Result Stepped Refusal) → full ≡ false → IsOk o → (if full then Err TooLong else with_event s e o) ≡ Err cause → ⊥
-not_refused s e cause true o room ok h = cc
-not_refused s e cause false (Err refusal) room ok h = cc
-not_refused s e cause false (Ok stepped) room ok h = cc
+not_refused s e cause full o room ok h = grind arith
 
 room_left : (n m : ℕ) → n + suc m ≤ MOST_STEPS → (n == MOST_STEPS) ≡ false
 room_left n m h = ne_eqb n MOST_STEPS (omega arith)
 
 pub none_refused : (R : ℕ) (w : World) (es : List Event) (n : ℕ) (cause : Refusal) → GoThrough R w es → IsRefusedAt R w es n cause → ⊥
-none_refused R w es n cause goes at =
-    let s = session_at w at.before in
-    let few = subst (λ (fs : List Event). length fs ≤ MOST_STEPS) at.all goes.few in
-    let runs = subst (λ (fs : List Event). IsOk (run R w fs)) at.all goes.runs in
-    not_refused s at.event cause _ _ (room_left (length at.before) (length at.later) (omega (arith, few, length-append at.before (at.event ∷ at.later))))
-    (happens_in R w at.before at.event at.later runs) at.refused
+none_refused h w es n cause goes at = grind (arith, not_refused, room_left, length-append, happens_in)
 
 goes_among : (R : ℕ) (w : World) (before : List Mark) (m : Mark) (later : List Mark) → MarksGoThrough R w (before ++ m ∷ later) → GoThrough R w m.events
 goes_among R w [] m later h = h.0

@@ -1,28 +1,10 @@
 -- Whole sessions as values.
-use Rattle.std.proofs.Common.{◌≡◌, ℕ, zero, suc, ◌+◌, ◌<◌, ◌≤◌, List, [], ◌∷◌, ◌++◌, length, take, get_or, slice_get, Some, Result, Ok, Err, IsOk, inl, inr, refl, sym, ap, ◌∙◌, subst, arith, length-append}
-use Rattle.std.proofs.lemmas.List.{length-map, map-append, take_more, get_or-map}
-use Rattle.std.proofs.lemmas.Option.{same_Some}
-use Rattle.serde_json.specs.Data.{Data}
-use Rattle.rd_step.specs.Prelude.{Refusal, run, MOST_STEPS}
-use Rattle.rd_step.specs.Run.{Ran, run_entries}
-use Rattle.rd_step.specs.declared.entries.Entry.{Entry}
-use Rattle.rd_step.specs.declared.entries.Event.{Event}
+use Rattle.std.proofs.Common.{◌≡◌, ℕ, zero, suc, ◌+◌, ◌<◌, ◌≤◌, List, [], ◌∷◌, ◌++◌, length, take, get_or, slice_get, Some, Result, Ok, Err, IsOk, inl, inr, refl, sym, ap, ◌∙◌, subst, arith, length-append, rules}
+use Rattle.rd_trace.proofs.Prelude.{length-map, map-append, take_more, get_or-map, same_Some, Data, Refusal, run, MOST_STEPS, Ran, run_entries, Entry, Event, State, state_of, numbered, BookState, GoThrough, KeepsRules, Reads, Gives, SpellEach, items_by, event_of, event_data, SpellsWorld, AreMarks, mark_data, member_count, Trace, IsFirstTrace, IsSecondTrace, IsEither, SpellsBook, saved_trace, book_data, FormFault, BadForm, IsReachable}
 use Rattle.rd_journal.specs.Journal.{Journal, IsRun, start_of, events}
-use Rattle.rd_journal.specs.State.{State, state_of}
-use Rattle.rd_step.specs.Lists.{numbered}
 use Rattle.rd_journal.proofs.RedoneLast.{one_run}
-use Rattle.rd_marks.specs.Books.{BookState}
-use Rattle.rd_marks.specs.Rules.{GoThrough, KeepsRules}
-use Rattle.rd_trace.specs.Spelled.{Reads, Gives, SpellEach, items_by}
-use Rattle.rd_trace.specs.Events.{event_of, event_data}
-use Rattle.rd_trace.specs.Starts.{SpellsWorld}
-use Rattle.rd_trace.specs.Bookmarks.{AreMarks, mark_data}
-use Rattle.rd_trace.specs.Numbers.{member_count}
-use Rattle.rd_trace.specs.Saved.{Trace, IsFirstTrace, IsSecondTrace, IsEither, SpellsBook, saved_trace, book_data}
 use Rattle.rd_trace.specs.declared.saved.SavedSession.{SavedSession}
-use Rattle.rd_trace.specs.declared.faults.FormFault.{FormFault}
-use Rattle.rd_trace.specs.declared.faults.FormFault.TheVariants.{NoMemory, BadForm}
-use Rattle.rd_trace.specs.Loading.{IsReachable}
+use Rattle.rd_trace.specs.declared.faults.FormFault.TheVariants.{NoMemory}
 
 -- ---- what is read
 
@@ -49,8 +31,7 @@ second_read d six (Err BadForm) h = no_second d six h
 
 -- a run that leaves entries goes through
 went : (o : Result Ran Refusal) (xs : List Entry) → run_entries o ≡ Ok xs → IsOk o
-went (Ok r) xs h = refl
-went (Err refusal) xs h = absurd (cc)
+went o xs h = grind arith
 
 -- the live events of a journal and then its undone ones go through
 pub goes_through : (R : ℕ) (j : Journal) → IsRun R j → length j.live + length j.undone ≤ MOST_STEPS
@@ -66,10 +47,7 @@ goes_through R j runs few =
 
 -- so the state of a book whose bookmarks keep their rules is reached
 pub reached : (R : ℕ) (b : BookState) (s : State) → s ≡ b.session → KeepsRules R b → GoThrough R s.start (s.live ++ s.undone) → IsReachable R b
-reached R b s same rules through = record {
-  marks = rules.through;
-  through = subst (λ (x : State). GoThrough R x.start (x.live ++ x.undone)) same through;
-}
+reached h b s same rules through = grind arith
 
 -- the value that a book is written as spells it, if the values of its members do
 pub book_spelled : (R : ℕ) (b : BookState) (start : Data) → SpellsWorld R b.session.start start → SpellEach (Gives event_of) (items_by event_data b.session.live) b.session.live

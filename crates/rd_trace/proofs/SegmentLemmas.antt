@@ -1,15 +1,7 @@
 -- Segments as values: which cells are read, and what is written is read again.
-use Rattle.std.proofs.Common.{◌≡◌, ℕ, ◌+◌, ◌<◌, ◌≤◌, List, [], ◌∷◌, ◌++◌, length, take, set, get_or, Some, None, option_map, refl, sym, ap, ◌∙◌, subst, arith, add-one}
-use Rattle.std.proofs.Math.Seq.{take-suc-set}
-use Rattle.std.proofs.lemmas.List.{length-set, take_all}
-use Rattle.std.proofs.lemmas.Option.{none-some}
-use Rattle.serde_json.specs.View.{view, items_view}
+use Rattle.std.proofs.Common.{◌≡◌, ℕ, ◌+◌, ◌<◌, ◌≤◌, List, [], ◌∷◌, length, take, set, get_or, Some, None, option_map, refl, ap, ◌∙◌, arith, add-one}
+use Rattle.rd_trace.proofs.Prelude.{take-suc-set, length-set, take_all, none-some, view, items_view, Cell, SegmentParts, Gives, SpellEach, items_by, next_of, next_data, cell_of_items, cell_of, cell_data, IsSegment, segment_data}
 use Rattle.serde_json.specs.declared.value.Value.{Value}
-use Rattle.rd_cell.specs.declared.cells.Cell.{Cell}
-use Rattle.rd_ring.specs.declared.parts.SegmentParts.{SegmentParts}
-use Rattle.rd_trace.specs.Spelled.{Gives, SpellEach, items_by}
-use Rattle.rd_trace.specs.Names.{next_of, next_data}
-use Rattle.rd_trace.specs.Segments.{cell_of_items, cell_of, cell_data, IsSegment, segment_data}
 use Rattle.rd_trace.proofs.SpellLemmas.{spell_each-more, spell_each-none}
 use Rattle.rd_trace.proofs.ActorLemmas.{value_spelled}
 
@@ -30,21 +22,13 @@ pub record AreRead (n : ℕ) (vs : List Value) (cells : List Cell) (i : ℕ) : T
 module _ (n : ℕ) (vs : List Value) (cells : List Cell) (i : ℕ) (h : AreRead n vs cells i) where
   module _ (v : Value) (within : i < length vs) (is : v ≡ get_or vs i v) where
     pub one_more_cell : (c : Cell) → i < n → Some c ≡ cell_of (view v) → AreRead n vs (set cells i c) (i + 1)
-    one_more_cell c room read =
-        let sized = h.count in
-        let last : take (i + 1) (set cells i c) ≡ take i cells ++ c ∷ [] = rw add-one (take-suc-set cells i c (omega (arith, sized))) in
-        record {
-          count = length-set cells i c ∙ h.count;
-          so_far = subst (SpellEach (Gives cell_of) (items_view (take (i + 1) vs))) (sym last) (spell_each-more (Gives cell_of) vs i v within is (take i cells) c h.so_far (sym read));
-        }
+    one_more_cell c room read = grind (arith, set, add-one, take-suc-set, length-set, spell_each-more)
 
     pub no_cell_here : None ≡ cell_of (view v) → (cs : List Cell) → SpellEach (Gives cell_of) (items_view vs) cs → ⊥
     no_cell_here read = spell_each-none (Gives cell_of) vs i v within is (λ c k. none-some c (read ∙ k))
 
   pub all_cells : length vs ≤ i → length vs ≡ n → SpellEach (Gives cell_of) (items_view vs) cells
-  all_cells past count =
-      subst (SpellEach (Gives cell_of) (items_view vs)) (take_all i cells (omega (arith, h.count)))
-      (subst (λ ws. SpellEach (Gives cell_of) (items_view ws) (take i cells)) (take_all i vs past) h.so_far)
+  all_cells past count = grind (arith, take_all)
 
 -- ---- what is written is read again
 

@@ -1,29 +1,19 @@
 -- What is read of a value by what is read of a part of it; and lists of values: what they spell,
 -- and how many they are.
-use Rattle.std.proofs.Common.{◌≡◌, ℕ, suc, ◌+◌, ◌<◌, List, [], ◌∷◌, ◌++◌, length, take, drop, get_or, Option, Some, None, IfSome, IfNone, ok_or, Result, Ok, Err, Vec, Global, refl, sym, ap, ap₂, ◌∙◌, subst, map, map-id}
-use Rattle.std.specs.Result.{IsErrAnd}
-use Rattle.std.proofs.lemmas.Option.{same_Some, none-some}
-use Rattle.std.proofs.lemmas.List.{take_more, drop_more, take-append-drop}
-use Rattle.serde_json.specs.Data.{Data, Items, no_items, item}
-use Rattle.serde_json.specs.View.{view, items_view}
+use Rattle.std.proofs.Common.{◌≡◌, ℕ, suc, ◌+◌, ◌<◌, List, [], ◌∷◌, ◌++◌, length, take, drop, get_or, Option, Some, IfSome, IfNone, ok_or, Result, Err, Vec, Global, refl, sym, ap, ap₂, ◌∙◌, subst, map, map-id, arith}
+use Rattle.rd_trace.proofs.Prelude.{IsErrAnd, same_Some, take_more, drop_more, take-append-drop, Data, Items, no_items, item, view, items_view, items_at, Reads, itself, elements, Gives, SpellEach, SpellEachAt, items_by, AreSpelled, FormFault, BadForm}
 use Rattle.serde_json.specs.declared.value.Value.{Value}
-use Rattle.rd_trace.specs.Numbers.{items_at}
-use Rattle.rd_trace.specs.Spelled.{Reads, itself, elements, Gives, SpellEach, SpellEachAt, items_by, AreSpelled}
-use Rattle.rd_trace.specs.declared.faults.FormFault.{FormFault}
-use Rattle.rd_trace.specs.declared.faults.FormFault.TheVariants.{NoMemory, BadForm}
 
 -- ---- faults
 
 -- what holds of the error that is passed up holds of the answer
 pub passed_up : {T E : Type 0} (P : Result T E → Type 0) (r : Result T E) (x : E) → IsErrAnd r (λ e. e ≡ x) → P (Err x) → P r
-passed_up P (Ok y) x is h = absurd is
-passed_up P (Err e) x is h = subst (λ f. P (Err f)) (sym is) h
+passed_up h r x is k = grind arith
 
 -- a part that isn't read
 module _ {V W X Y : Type 0} (part : V → X) (whole : W → Y) (IsPart : X → Type 0) (IsWhole : Y → Type 0) (has : (y : Y) → IsWhole y → (x : X) × IsPart x) where
   pub no_part : (fault : FormFault) → Reads part IsPart (Err fault) → Reads whole IsWhole (Err fault)
-  no_part NoMemory h = tt
-  no_part BadForm h = λ y is. let its = has y is in h its.0 its.1
+  no_part fault h = grind arith
 
   -- and whose fault is passed up
   pub part_passed_up : (fault : FormFault) (r : Result W FormFault) → IsErrAnd r (λ e. e ≡ fault) → Reads part IsPart (Err fault) → Reads whole IsWhole r
@@ -32,18 +22,10 @@ module _ {V W X Y : Type 0} (part : V → X) (whole : W → Y) (IsPart : X → T
 -- an option that is read
 module _ {X : Type 0} (o : Option X) (r : Result X FormFault) (is : r ≡ ok_or o BadForm) where
   pub read_or_bad : (P : X → Type 0) → IfSome o P → IfNone o ((x : X) → P x → ⊥) → Reads itself P r
-  read_or_bad P some none = subst (λ x. Reads itself P x) (sym is) (by o some none)
-    where
-      by : (p : Option X) → IfSome p P → IfNone p ((x : X) → P x → ⊥) → Reads itself P (ok_or p BadForm)
-      by None some none = none
-      by (Some x) some none = some
+  read_or_bad h some none = grind arith
 
   pub given_or_bad : (f : Data → Option X) (d : Data) → o ≡ f d → Reads itself (Gives f d) r
-  given_or_bad f d same = subst (λ x. Reads itself (Gives f d) x) (sym (is ∙ ap (λ p. ok_or p BadForm) same)) (given (f d) refl)
-    where
-      given : (p : Option X) → f d ≡ p → Reads itself (Gives f d) (ok_or p BadForm)
-      given None none = λ x k. none-some x (sym none ∙ k)
-      given (Some x) some = some
+  given_or_bad f d same = grind arith
 
 -- ---- lists of values
 
@@ -148,9 +130,7 @@ module _ {X : Type 0} (Spells : Data → X → Type 0) (one : (d : Data) (x y : 
 -- what is read of the list at a key
 pub list_read : {X : Type 0} (Spells : Data → X → Type 0) (key : List ℕ) (d : Data) (ds : Items) → items_at key d ≡ Some ds → (r : Result (Vec X Global) FormFault)
     → Reads elements (SpellEach Spells ds) r → Reads elements (SpellEachAt Spells key d) r
-list_read Spells key d ds there (Ok v) h = (ds, there, h)
-list_read Spells key d ds there (Err NoMemory) h = tt
-list_read Spells key d ds there (Err BadForm) h = λ xs k. h xs (subst (λ es. SpellEach Spells es xs) (same_Some k.0 ds (sym k.1 ∙ there)) k.2)
+list_read h key d ds there r k = grind arith
 
 -- what a function gives is one thing
 pub one_given : {X : Type 0} (f : Data → Option X) (d : Data) (x y : X) → Gives f d x → Gives f d y → x ≡ y

@@ -1,30 +1,15 @@
 -- The start of a session as a value, and when it is the fresh world.
-use Rattle.std.proofs.Common.{◌≡◌, ℕ, ◌≤◌, Some, None, Result, Ok, Err, inl, inr, refl, sym, ap, ◌∙◌, subst}
-use Rattle.std.specs.Result.{IfOk, OnOk}
-use Rattle.serde_json.specs.Data.{Data}
-use Rattle.rd_step.specs.Prelude.{MOST_ACTORS}
-use Rattle.rd_step.specs.World.{World}
-use Rattle.rd_step.specs.Starts.{fresh_world}
-use Rattle.rd_step.specs.Parts.{world_of_parts, first_flaw}
-use Rattle.rd_step.specs.declared.parts.Parts.{Parts}
+use Rattle.std.proofs.Common.{◌≡◌, ℕ, ◌≤◌, Some, None, Result, inl, inr, refl, sym, ap, ◌∙◌, subst, arith}
+use Rattle.rd_trace.proofs.Prelude.{IfOk, OnOk, Data, MOST_ACTORS, World, fresh_world, world_of_parts, first_flaw, Parts, SpellEach, items_by, name_of, name_data, IsActor, actor_data, array_data, IsSegmentList, list_data, IsFreshStart, IsParts, IsStartData, SpellsWorld, fresh_data, parts_data, Fresh, OfParts}
 use Rattle.rd_trace.proofs.ArrayLemmas.{array_spelled}
-use Rattle.rd_trace.specs.Spelled.{SpellEach, items_by}
-use Rattle.rd_trace.specs.Names.{name_of, name_data}
-use Rattle.rd_trace.specs.Actors.{IsActor, actor_data}
-use Rattle.rd_trace.specs.Arrays.{array_data}
-use Rattle.rd_trace.specs.Segments.{IsSegmentList, list_data}
-use Rattle.rd_trace.specs.Starts.{IsFreshStart, IsParts, IsStartData, SpellsWorld, fresh_data, parts_data}
-use Rattle.rd_trace.specs.declared.starts.Start.TheVariants.{Fresh, Parts as OfParts}
 
 -- what holds holds if a call succeeds
 pub on_ok : {T E P : Type 0} (r : Result T E) → P → OnOk r P
-on_ok (Ok y) h = h
-on_ok (Err e) h = tt
+on_ok r h = grind arith
 
 -- what follows of two facts on what a call gives
 pub both_ok : {T E Q : Type 0} (P W : T → Type 0) (r : Result T E) → IfOk r P → OnOk r Q → ((x : T) → P x → Q → W x) → IfOk r W
-both_ok P W (Ok x) p q f = f x p q
-both_ok P W (Err e) p q f = tt
+both_ok h k r p q f = grind arith
 
 -- ---- what is written
 

@@ -1,27 +1,16 @@
 -- Texts that are put together: of lists, of events, of bookmarks and of a book; and that the text of
 -- a value is read as that value.
-use Rattle.std.proofs.Common.{◌≡◌, ℕ, ◌^◌, ◌<◌, ◌≤◌, nat_lt, Bool, true, false, List, [], ◌∷◌, ◌++◌, length, codes, decimal, Option, Some, option_map, option_and_then, refl, sym, ap, ◌∙◌, subst, arith, append_assoc, append-nil, suc, max, ap₂, lt-ltb, if◌then◌else◌, is_ok, Result, Ok, Err, OnOk}
+use Rattle.std.proofs.Common.{◌≡◌, ℕ, ◌^◌, ◌<◌, ◌≤◌, nat_lt, Bool, true, false, List, [], ◌∷◌, ◌++◌, length, codes, decimal, Option, Some, option_map, option_and_then, refl, sym, ap, ◌∙◌, subst, arith, append_assoc, append-nil, suc, max, ap₂, lt-ltb, if◌then◌else◌, is_ok, Result, OnOk}
+use Rattle.rd_trace.proofs.Prelude.{Token, tokens, escape, escape_byte, ArePrintableOrBad, Data, array, object, unsigned, Items, no_items, item, Members, no_members, member, depth, items_depth, members_depth, of_json, of_items, read, max_depth, outline, items_outline, members_outline, compact_text, items_text, members_text, comma_if, has_float, IsInOrder, SpellEach, items_by, Act, Event, short_data, long_data, act_data, event_data, mark_object, book_object, joined_text, IsReadBack, IsKept, AreAppended}
 use Rattle.std.specs.Fmt.{digits}
-use Rattle.json.specs.Token.{Token}
-use Rattle.json.specs.Lex.{tokens}
-use Rattle.json.specs.Print.{escape, escape_byte, ArePrintableOrBad}
 use Rattle.json.specs.Json as json
 use Rattle.json.specs.Tree as tree
 use Rattle.json.proofs.Numbered.{ArePrintableOrBad-tokens}
 use Rattle.json.proofs.Printed.Decimals.{IsNumber-decimal}
 use Rattle.json.proofs.Printed.Trees.{value-json_tokens, ArePrintable-json_tokens}
-use Rattle.serde_json.specs.Data.{Data, null, boolean, number, string, array, object, unsigned, Items, no_items, item, Members, no_members, member, depth, items_depth, members_depth}
-use Rattle.serde_json.specs.Read.{of_json, of_items, read, max_depth}
-use Rattle.serde_json.specs.Written.{outline, items_outline, members_outline, compact_text, items_text, members_text, comma_if, has_float, IsInOrder}
+use Rattle.serde_json.specs.Data.{null, boolean, number, string}
 use Rattle.serde_json.proofs.Numbers.{number_of-decimal}
 use Rattle.serde_json.proofs.Texts.{print-outline, tokens_from_order}
-use Rattle.rd_trace.specs.Spelled.{SpellEach, items_by}
-use Rattle.rd_step.specs.Prelude.{Act}
-use Rattle.rd_step.specs.declared.entries.Event.{Event}
-use Rattle.rd_trace.specs.Events.{short_data, long_data, act_data, event_data}
-use Rattle.rd_trace.specs.Bookmarks.{mark_object}
-use Rattle.rd_trace.specs.Saved.{book_object}
-use Rattle.rd_trace.specs.Texts.{joined_text, IsReadBack, IsKept, AreAppended}
 use Rattle.rd_trace.proofs.LexLemmas.{tokens-line, numbers_of}
 
 -- ---- lists
@@ -29,8 +18,7 @@ use Rattle.rd_trace.proofs.LexLemmas.{tokens-line, numbers_of}
 joined_after : {X : Type 0} (datum : X → Data) (xs : List X) (x : X)
     → joined_text true (items_by datum (xs ++ x ∷ [])) ≡ joined_text true (items_by datum xs) ++ (44 ∷ compact_text (datum x))
 joined_after datum [] x = ap (λ s. 44 ∷ s) (append-nil (compact_text (datum x)))
-joined_after datum (y ∷ ys) x =
-    ap (λ s. 44 ∷ (compact_text (datum y) ++ s)) (joined_after datum ys x) ∙ ap (λ s. 44 ∷ s) (sym (append_assoc (compact_text (datum y)) (joined_text true (items_by datum ys)) _))
+joined_after datum (y ∷ ys) x = grind (arith, append_assoc, joined_after datum ys x)
 
 -- one more value after so many
 joined_more : {X : Type 0} (datum : X → Data) (xs : List X) (x : X)
@@ -44,10 +32,7 @@ joined_more datum (y ∷ ys) x =
 
 items_text-joined : (later : Bool) (ds : Items) → items_text later ds ≡ joined_text later ds ++ 93 ∷ []
 items_text-joined later no_items = refl
-items_text-joined later (item d ds) =
-    ap (λ s. comma_if later ++ (compact_text d ++ s)) (items_text-joined true ds)
-    ∙ ap (λ s. comma_if later ++ s) (sym (append_assoc (compact_text d) (joined_text true ds) (93 ∷ [])))
-    ∙ sym (append_assoc (comma_if later) (compact_text d ++ joined_text true ds) (93 ∷ []))
+items_text-joined later (item d ds) = grind (arith, append_assoc, items_text-joined true ds)
 
 -- the text of a list with its closing bracket, and what is after it
 closed_text : (ds : Items) (z : List ℕ) → items_text false ds ++ z ≡ joined_text false ds ++ 93 ∷ z
@@ -70,8 +55,7 @@ module _ {X : Type 0} (Spells : Data → X → Type 0) where
   items_back no_items [] h = refl
   items_back no_items (x ∷ xs) h = absurd h
   items_back (item d ds) [] h = absurd h
-  items_back (item d ds) (x ∷ xs) h =
-      ap (λ o. option_and_then (λ e. option_map (item e) (of_items (items_outline ds))) o) h.0.back.back ∙ ap (λ o. option_map (item d) o) (items_back ds xs h.1)
+  items_back (item d ds) (x ∷ xs) h = grind (arith, option_and_then, option_map, items_back ds xs h.1)
 
   pub list_back : (ds : Items) (xs : List X) → SpellEach (IsKept Spells) ds xs → IsReadBack (array ds)
   list_back ds xs h = record { numbers = items_numbers ds xs h; back = ap (option_map array) (items_back ds xs h) }
@@ -91,8 +75,7 @@ module _ {X : Type 0} (Spells : Data → X → Type 0) where
         let more = comma_if (nat_lt 0 (length xs)) ++ compact_text (datum x) in
         record {
           text =
-              is ∙ ap (λ n. mid ++ (comma_if (nat_lt 0 n) ++ compact_text (datum x))) (sym counted) ∙ ap (λ s. s ++ more) h.text
-              ∙ append_assoc old (joined_text false (items_by datum xs)) more ∙ ap (λ s. old ++ s) (sym (joined_more datum xs x));
+              grind (arith, append_assoc, joined_more);
           kept = kept_more xs x h.kept kept;
         }
 
@@ -122,9 +105,6 @@ mark_text es name plain =
     ap (λ s. codes "{\"events\":[" ++ s)
     (closed_text es _
     ∙ ap (λ s. joined_text false es ++ (codes "],\"name\":\"" ++ s)) (append_assoc (escape name) (34 ∷ []) (125 ∷ []) ∙ ap (λ s. s ++ codes "\"}") plain))
-
-pub mark_back : (es : Items) (name : List ℕ) → IsReadBack (array es) → IsReadBack (mark_object es name)
-mark_back es name h = record { numbers = (h.numbers, (tt, tt)); back = rw h.back refl }
 
 -- ---- books
 
@@ -157,8 +137,7 @@ book_text events marks undone cells start =
 
 -- what holds where the last part is appended holds if that goes through
 pub last_appended : {T E : Type 0} (r : Result T E) (old new part : List ℕ) (P : Type 0) → new ≡ (if is_ok r then old ++ part else old) → (new ≡ old ++ part → P) → OnOk r P
-last_appended (Ok x) old new part P is h = h is
-last_appended (Err e) old new part P is h = tt
+last_appended r old new part h is k = grind arith
 
 -- a part after another one
 pub two_parts : (a b c p q : List ℕ) → b ≡ a ++ p → c ≡ b ++ q → c ≡ a ++ (p ++ q)
@@ -166,8 +145,7 @@ two_parts a b c p q first second = second ∙ ap (λ s. s ++ q) first ∙ append
 
 -- two parts, the second by a call that may fail
 pub both_appended : {T E : Type 0} (r : Result T E) (a b c p q : List ℕ) → b ≡ a ++ p → OnOk r (c ≡ b ++ q) → OnOk r (c ≡ a ++ (p ++ q))
-both_appended (Ok x) a b c p q first second = two_parts a b c p q first second
-both_appended (Err e) a b c p q first second = tt
+both_appended r a b c p q first second = grind (arith, two_parts)
 
 pub book_back : (events marks undone : Items) (cells : ℕ) (start : Data) → cells < 2 ^ 64 → IsReadBack (array events) → IsReadBack (array marks) → IsReadBack start → IsReadBack (array undone)
     → IsReadBack (book_object events marks cells start undone)

@@ -1,33 +1,8 @@
 -- The value of a book has no float, and is not deep.
-use Rattle.std.proofs.Common.{◌≡◌, ℕ, suc, ◌≤◌, Bool, false, ◌||◌, List, [], ◌∷◌, codes, Option, Some, None, Vec, Global, inl, inr, refl, sym, ap₂, subst, arith}
-use Rattle.serde_json.specs.Data.{Data, null, boolean, number, string, array, object, unsigned, Items, no_items, item, Members, no_members, member, depth, items_depth, members_depth}
-use Rattle.serde_json.specs.Read.{max_depth}
-use Rattle.serde_json.specs.Written.{has_float, items_have_float, members_have_float}
-use Rattle.rd_cell.specs.declared.places.SegName.{SegName}
-use Rattle.rd_cell.specs.declared.cells.Cell.{Cell}
-use Rattle.rd_cell.specs.declared.contents.ArrSlot.{ArrSlot}
-use Rattle.rd_cell.specs.declared.contents.ArrSlot.TheVariants.{Empty, Top, Value}
-use Rattle.rd_ring.specs.declared.parts.SegmentParts.{SegmentParts}
-use Rattle.rd_segments.specs.declared.array.ArrayParts.{ArrayParts}
-use Rattle.rd_actor.specs.declared.actors.Actor.{Actor}
+use Rattle.std.proofs.Common.{◌≡◌, ℕ, suc, ◌≤◌, Bool, false, ◌||◌, List, [], ◌∷◌, Option, Vec, Global, inl, inr, refl, sym, ap₂, subst, arith}
+use Rattle.rd_trace.proofs.Prelude.{Data, array, object, unsigned, Items, no_items, item, Members, no_members, member, depth, items_depth, members_depth, max_depth, has_float, items_have_float, members_have_float, SegName, Cell, ArrSlot, SegmentParts, ArrayParts, Actor, World, Act, Event, Parts, bytes_of, Mark, BookState, items_by, name_data, next_data, short_data, long_data, act_data, event_data, value_data, op_data, actor_data, cell_data, segment_data, list_data, filled_slots, content_data, slot_data, array_data, IsStartData, fresh_data, parts_data, mark_data, book_data}
+use Rattle.serde_json.specs.Data.{null, boolean, number, string}
 use Rattle.rd_actor.specs.declared.actors.Op.{Op}
-use Rattle.rd_actor.specs.declared.actors.Op.TheVariants.{Enq as OpEnq, Deq as OpDeq, AEnq as OpAEnq, ADeq as OpADeq}
-use Rattle.rd_actor.specs.declared.actors.Act.TheVariants.{Enq, Deq, AEnq, ADeq, Go, Starve}
-use Rattle.rd_step.specs.Prelude.{World, Act}
-use Rattle.rd_step.specs.declared.entries.Event.{Event}
-use Rattle.rd_step.specs.declared.parts.Parts.{Parts}
-use Rattle.rd_marks.specs.Names.{bytes_of}
-use Rattle.rd_marks.specs.Books.{Mark, BookState}
-use Rattle.rd_trace.specs.Spelled.{items_by}
-use Rattle.rd_trace.specs.Names.{name_data, next_data}
-use Rattle.rd_actor.specs.Labels.{label}
-use Rattle.rd_trace.specs.Events.{short_data, long_data, act_data, event_data}
-use Rattle.rd_trace.specs.Actors.{value_data, op_data, actor_data}
-use Rattle.rd_trace.specs.Segments.{cell_data, segment_data, list_data}
-use Rattle.rd_trace.specs.Arrays.{filled_slots, content_data, slot_data, array_data}
-use Rattle.rd_trace.specs.Starts.{IsStartData, fresh_data, parts_data}
-use Rattle.rd_trace.specs.Bookmarks.{mark_data}
-use Rattle.rd_trace.specs.Saved.{book_data}
 
 -- a value has no float, and is at most so deep; so are items, and members
 record IsPlain (n : ℕ) (d : Data) : Type 0 where
@@ -84,12 +59,10 @@ module _ (n : ℕ) where
   name_plain s = array_plain n (more n (number_plain n s.maker) (more n (number_plain n s.n) (none n)))
 
   next_plain : (next : Option SegName) → IsPlain (suc n) (next_data next)
-  next_plain None = null_plain (suc n)
-  next_plain (Some s) = name_plain s
+  next_plain next = grind arith
 
   value_plain : (o : Option ℕ) → IsPlain n (value_data o)
-  value_plain None = null_plain n
-  value_plain (Some x) = number_plain n x
+  value_plain o = grind arith
 
   short_plain : (word : List ℕ) (actor : ℕ) → IsPlain (suc n) (short_data word actor)
   short_plain word actor = array_plain n (more n (string_plain n word) (more n (number_plain n actor) (none n)))
@@ -98,12 +71,7 @@ module _ (n : ℕ) where
   long_plain word actor h = array_plain n (more n (string_plain n word) (more n (number_plain n actor) (more n h (none n))))
 
   act_plain : (actor : ℕ) (act : Act) → IsPlain (suc n) (act_data actor act)
-  act_plain actor (Enq x) = long_plain (codes "enq") actor (number_plain n x)
-  act_plain actor Deq = short_plain (codes "deq") actor
-  act_plain actor (AEnq x) = long_plain (codes "aenq") actor (number_plain n x)
-  act_plain actor ADeq = short_plain (codes "adeq") actor
-  act_plain actor Go = short_plain (codes "go") actor
-  act_plain actor (Starve choice) = long_plain (codes "starve") actor (boolean_plain n choice)
+  act_plain actor act = grind arith
 
   events_plain : (es : List Event) → ArePlain (suc n) (items_by event_data es)
   events_plain = each_plain (suc n) event_data (λ e. act_plain e.actor e.act)
@@ -112,20 +80,10 @@ module _ (n : ℕ) where
 
 module _ (n : ℕ) where
   op_plain : (o : Option Op) → IsPlain (suc n) (op_data o)
-  op_plain None = null_plain (suc n)
-  op_plain (Some (OpEnq x)) = array_plain n (more n (string_plain n (codes "enq")) (more n (number_plain n x) (none n)))
-  op_plain (Some OpDeq) = array_plain n (more n (string_plain n (codes "deq")) (none n))
-  op_plain (Some (OpAEnq x)) = array_plain n (more n (string_plain n (codes "aenq")) (more n (number_plain n x) (none n)))
-  op_plain (Some OpADeq) = array_plain n (more n (string_plain n (codes "adeq")) (none n))
+  op_plain o = grind arith
 
   actor_plain : (a : Actor) → IsPlain (suc (suc n)) (actor_data a)
-  actor_plain a =
-      let m = suc n in
-      let later = with_member m (number_plain m a.t) (with_member m (value_plain m a.val) (no_member m)) in
-      let stand = with_member m (number_plain m a.pass) (with_member m (string_plain m (label a.pc)) (with_member m (boolean_plain m a.safe) later)) in
-      let names = with_member m (name_plain n a.new) (with_member m (name_plain n a.next) (with_member m (op_plain a.op) stand)) in
-      object_plain m
-      (with_member m (boolean_plain m a.closed) (with_member m (name_plain n a.crq) (with_member m (number_plain m a.h) (with_member m (number_plain m a.idx) names))))
+  actor_plain a = grind arith
 
 -- ---- segments
 
@@ -146,9 +104,7 @@ module _ (n : ℕ) where
 
 module _ (n : ℕ) where
   content_plain : (slot : ArrSlot) → IsPlain n (content_data slot)
-  content_plain Empty = null_plain n
-  content_plain Top = string_plain n (codes "top")
-  content_plain (Value x) = number_plain n x
+  content_plain slot = grind arith
 
   slot_plain : (s : ℕ × ArrSlot) → IsPlain (suc n) (slot_data s)
   slot_plain s = array_plain n (more n (number_plain n s.0) (more n (content_plain s.1) (none n)))

@@ -1,19 +1,6 @@
 -- The text of a book is a trace of it.
 use Rattle.std.proofs.Common.{◌≡◌, ℕ, ◌^◌, ◌<◌, ◌≤◌, false, List, ◌++◌, Some, IsUtf8, inr, sym, ap, ◌∙◌}
-use Rattle.serde_json.specs.Data.{Data, depth}
-use Rattle.serde_json.specs.Read.{read, max_depth}
-use Rattle.serde_json.specs.Written.{has_float, compact_text, IsInOrder}
-use Rattle.rd_step.specs.Prelude.{World}
-use Rattle.rd_marks.specs.Books.{BookState}
-use Rattle.rd_marks.specs.Rules.{KeepsRules}
-use Rattle.rd_trace.specs.Spelled.{Gives, SpellEach, items_by}
-use Rattle.rd_trace.specs.Events.{event_of, event_data}
-use Rattle.rd_trace.specs.Starts.{IsStartData, SpellsWorld}
-use Rattle.rd_trace.specs.Bookmarks.{IsMark, mark_data}
-use Rattle.rd_trace.specs.Saved.{book_data}
-use Rattle.rd_trace.specs.Texts.{IsReadBack, IsKept, IsStartAppended}
-use Rattle.rd_trace.specs.Loading.{IsReachable}
-use Rattle.rd_trace.specs.Writing.{IsTextOf}
+use Rattle.rd_trace.proofs.Prelude.{Data, depth, read, max_depth, has_float, compact_text, IsInOrder, World, BookState, KeepsRules, Gives, SpellEach, items_by, event_of, event_data, IsStartData, SpellsWorld, IsMark, mark_data, book_data, IsReadBack, IsKept, IsStartAppended, IsReachable, IsTextOf}
 use Rattle.rd_trace.proofs.SavedLemmas.{book_spelled}
 use Rattle.rd_trace.proofs.WholeLemmas.{whole_start, shallow_start, shallow_book}
 use Rattle.rd_trace.proofs.TextLemmas.{each_spelled, list_back, whole_text, book_text, book_back, read_line, back_of_text}

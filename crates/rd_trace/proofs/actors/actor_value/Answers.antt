@@ -1,8 +1,5 @@
-use Rattle.std.proofs.Common.{rules, ◌≡◌, codes, ap, ap₂, ◌∙◌}
-use Rattle.serde_json.specs.Data.{object, put}
-use Rattle.serde_json.specs.View.{view, members_view}
-use Rattle.serde_json.proofs.Views.{view-Object}
-use Rattle.rd_trace.specs.Actors.{value_data}
+use Rattle.std.proofs.Common.{rules, ◌≡◌, codes, ap, ap₂, ◌∙◌, arith}
+use Rattle.rd_trace.proofs.Prelude.{object, put, view, members_view, view-Object, value_data}
 use Rattle.rd_trace.proofs.ActorLemmas.{actor_spelled}
 use Rattle.rd_trace.proofs.actors.actor_value.Goals as goal
 
@@ -24,5 +21,4 @@ returns-clause-value c =
     (c.in_ok-put.ensures.ok ∙ ap₂ (put (codes "closed")) c.from.ensures (ap members_view c.new-members.ensures.empty)))))))))))))
 
 pub returns-clause-spelled : goal.returns-clause-spelled
-returns-clause-spelled c =
-    actor_spelled c.args.actor.now c.pass_value.ensures.spelled c.name_value.ensures.spelled c.name_value-2.ensures.spelled c.name_value-3.ensures.spelled
+returns-clause-spelled c = grind (arith, actor_spelled)

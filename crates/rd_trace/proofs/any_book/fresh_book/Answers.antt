@@ -1,4 +1,4 @@
-use Rattle.rd_marks.specs.BookViews.{book_state}
+use Rattle.rd_trace.proofs.Prelude.{book_state}
 use Rattle.rd_trace.proofs.ReplayLemmas.{opened}
 use Rattle.rd_trace.proofs.any_book.fresh_book.Goals as goal
 

@@ -1,7 +1,5 @@
 use Rattle.std.proofs.Common.{◌≡◌, take}
-use Rattle.serde_json.specs.View.{items_view}
-use Rattle.rd_trace.specs.Spelled.{items_by}
-use Rattle.rd_trace.specs.Arrays.{slot_data, filled_slots}
+use Rattle.rd_trace.proofs.Prelude.{items_view, items_by, slot_data, filled_slots}
 use Rattle.rd_trace.proofs.arrays.slots_value.Given as goal
 
 -- the values of the slots before this one

@@ -1,8 +1,5 @@
 use Rattle.std.proofs.Common.{codes}
-use Rattle.serde_json.specs.View.{view}
-use Rattle.rd_trace.specs.Spelled.{Gives, SpellEachAt, elements}
-use Rattle.rd_trace.specs.Events.{event_of}
-use Rattle.rd_trace.specs.Bookmarks.{IsMark, saved_mark}
+use Rattle.rd_trace.proofs.Prelude.{view, Gives, SpellEachAt, elements, event_of, IsMark, saved_mark}
 use Rattle.rd_trace.proofs.SpellLemmas.{part_passed_up}
 use Rattle.rd_trace.proofs.bookmarks.mark_in.Goals as goal
 

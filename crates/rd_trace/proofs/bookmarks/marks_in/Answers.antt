@@ -1,10 +1,6 @@
-use Rattle.std.proofs.Common.{◌≡◌, ◌+◌, true, false, List, length, map, sym, ap, ◌∙◌, subst, arith}
-use Rattle.std.specs.List.{list_any}
-use Rattle.serde_json.specs.View.{view, items_view}
+use Rattle.rd_trace.proofs.Prelude.{common_steps, list_any, view, items_view, same_name, IsMark, AreMarks, saved_mark, saved_marks, SavedMark}
+use Rattle.std.proofs.Common.{◌≡◌, ◌+◌, true, false, List, length, sym, ap, ◌∙◌, subst, arith}
 use Rattle.serde_json.specs.declared.value.Value.{Value}
-use Rattle.rd_marks.specs.Names.{same_name}
-use Rattle.rd_trace.specs.Bookmarks.{IsMark, AreMarks, saved_mark, saved_marks}
-use Rattle.rd_trace.specs.declared.bookmarks.SavedMark.{SavedMark}
 use Rattle.rd_trace.proofs.SpellLemmas.{part_passed_up}
 use Rattle.rd_trace.proofs.MarkLemmas.{AreRead, none_read, mark_here, name_taken, one_more_mark, all_read, too_many}
 use Rattle.rd_trace.proofs.bookmarks.marks_in.Goals as goal
@@ -44,7 +40,4 @@ loop-value-preserved c =
     )
 
 pub returns : goal.returns
-returns c =
-    let vs = c.deref-value-items.result.now in
-    subst (λ ws. AreMarks (items_view ws) (map saved_mark c.loop-value.marks.items)) c.deref-value-items.ensures.value
-    (all_read vs c.loop-value.value-index c.loop-value.marks.items (omega arith) (omega (arith, ap length c.deref-value-items.ensures.value)) c.loop-value.invariant.0)
+returns c = grind (arith, common_steps, all_read)

@@ -1,19 +1,13 @@
-use Rattle.std.proofs.Common.{List, codes, Option, Some, None, Ok, IfSome, Vec, string_bytes, ap, ◌∙◌, ◌++◌, subst}
+use Rattle.std.proofs.Common.{List, codes, Option, Ok, IfSome, Vec, string_bytes, ap, ◌∙◌, ◌++◌, subst, arith}
+use Rattle.rd_trace.proofs.Prelude.{Event, book_state, mark_events, AnswersEvents, Gives, event_of, event_data, AreAppended, IsMarkAppended}
 use Rattle.std.specs.Global.{Global}
-use Rattle.rd_step.specs.declared.entries.Event.{Event}
-use Rattle.rd_marks.specs.BookViews.{book_state}
-use Rattle.rd_marks.specs.Books.{mark_events, AnswersEvents}
-use Rattle.rd_trace.specs.Spelled.{Gives}
-use Rattle.rd_trace.specs.Events.{event_of, event_data}
-use Rattle.rd_trace.specs.Texts.{AreAppended, IsMarkAppended}
 use Rattle.rd_trace.proofs.MarkLemmas.{mark_appended}
 use Rattle.rd_trace.proofs.TextLemmas.{last_appended}
 use Rattle.rd_trace.proofs.bookmarks.put_mark.Goals as goal
 
 -- what holds of the events that were answered holds of the bookmark's
 of_answered : (o : Option (List Event)) (list : Vec Event Global) (P : List Event → Type 0) → AnswersEvents o (Ok list) → P list.items → IfSome o P
-of_answered None list P said h = cc
-of_answered (Some es) list P said h = subst P said h
+of_answered o list h said k = grind arith
 
 pub returns : goal.returns
 returns g c =

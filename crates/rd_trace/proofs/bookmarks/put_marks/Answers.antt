@@ -1,9 +1,5 @@
-use Rattle.std.proofs.Common.{◌+◌, ◌++◌, List, string_bytes, refl, sym, ap, ◌∙◌, subst, arith}
-use Rattle.std.proofs.lemmas.List.{take_all}
-use Rattle.rd_marks.specs.BookViews.{book_state}
-use Rattle.rd_marks.specs.Books.{Mark}
-use Rattle.rd_trace.specs.Bookmarks.{IsMark, mark_data}
-use Rattle.rd_trace.specs.Texts.{AreAppended}
+use Rattle.std.proofs.Common.{◌+◌, ◌++◌, string_bytes, refl, sym, ap, ◌∙◌, arith}
+use Rattle.rd_trace.proofs.Prelude.{take_all, book_state, IsMark, mark_data}
 use Rattle.rd_trace.proofs.TextLemmas.{none_appended}
 use Rattle.rd_trace.proofs.MarkLemmas.{next_appended, some_mark}
 use Rattle.rd_trace.proofs.bookmarks.put_marks.Goals as goal
@@ -25,6 +21,4 @@ loop-i-preserved g c =
     (c.in_ok-push_str.ensures.bytes ∙ ap (λ s. string_bytes c.loop-i.text ++ s) c.comma_after.ensures) c.in_ok-put_mark.ensures
 
 pub returns-clause-marks : goal.returns-clause-marks
-returns-clause-marks g c =
-    subst (λ (ms : List Mark). AreAppended IsMark mark_data ms (string_bytes c.args.text.now) (string_bytes c.loop-i.text))
-    (take_all c.loop-i.i (book_state c.args.book.now).marks (omega (arith, c.marks-count.ensures.count))) c.loop-i.invariant
+returns-clause-marks g c = grind (arith, string_bytes, take_all)

@@ -1,7 +1,5 @@
 use Rattle.std.proofs.Common.{take, string_bytes}
-use Rattle.rd_marks.specs.BookViews.{book_state}
-use Rattle.rd_trace.specs.Bookmarks.{IsMark, mark_data}
-use Rattle.rd_trace.specs.Texts.{AreAppended}
+use Rattle.rd_trace.proofs.Prelude.{book_state, IsMark, mark_data, AreAppended}
 use Rattle.rd_trace.proofs.bookmarks.put_marks.Given as goal
 
 -- the texts of the bookmarks before this one

@@ -1,11 +1,6 @@
 use Rattle.std.proofs.Common.{List, take, string_bytes, refl, sym, subst, arith}
-use Rattle.std.proofs.lemmas.List.{take_all, length-take-le}
-use Rattle.rd_step.specs.declared.entries.Event.{Event}
-use Rattle.rd_trace.specs.Spelled.{Gives}
-use Rattle.rd_trace.specs.Events.{event_of, event_data}
-use Rattle.rd_trace.specs.Texts.{AreAppended}
+use Rattle.rd_trace.proofs.Prelude.{take_all, length-take-le, Event, Gives, event_of, event_data, AreAppended, get_or_default}
 use Rattle.rd_trace.proofs.SpellLemmas.{take_item}
-use Rattle.std.proofs.lemmas.List.{get_or_default}
 use Rattle.rd_trace.proofs.TextLemmas.{none_appended, one_more_appended}
 use Rattle.rd_trace.proofs.events.put_events.Goals as goal
 
@@ -22,5 +17,4 @@ loop-i-preserved c =
     (length-take-le i es (omega arith)) c.loop-i.invariant c.in_ok-put_next.ensures.ok c.in_ok-put_next.ensures.kept)
 
 pub returns : goal.returns
-returns c =
-    subst (λ (fs : List Event). AreAppended (Gives event_of) event_data fs (string_bytes c.args.text.now) (string_bytes c.loop-i.text)) (take_all c.loop-i.i c.args.events.now (omega arith)) c.loop-i.invariant
+returns c = grind (arith, string_bytes, take_all)

@@ -1,7 +1,5 @@
 use Rattle.std.proofs.Common.{take, string_bytes}
-use Rattle.rd_trace.specs.Spelled.{Gives}
-use Rattle.rd_trace.specs.Events.{event_of, event_data}
-use Rattle.rd_trace.specs.Texts.{AreAppended}
+use Rattle.rd_trace.proofs.Prelude.{Gives, event_of, event_data, AreAppended}
 use Rattle.rd_trace.proofs.events.put_events.Given as goal
 
 -- the texts of the events before this one

@@ -1,9 +1,5 @@
 use Rattle.std.proofs.Common.{◌≤◌, subst, arith}
-use Rattle.std.proofs.lemmas.List.{length-map}
-use Rattle.serde_json.specs.View.{view}
-use Rattle.rd_marks.specs.NameBytes.{MOST_MARKS}
-use Rattle.rd_trace.specs.Bookmarks.{saved_mark}
-use Rattle.rd_trace.specs.Saved.{saved_trace}
+use Rattle.rd_trace.proofs.Prelude.{length-map, view, MOST_MARKS, saved_mark, saved_trace}
 use Rattle.rd_trace.proofs.LoadLemmas.{counted, names_differ, few_marks}
 use Rattle.rd_trace.proofs.load.book_of.Goals as goal
 

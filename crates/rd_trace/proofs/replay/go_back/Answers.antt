@@ -1,4 +1,4 @@
-use Rattle.rd_marks.specs.BookViews.{book_state}
+use Rattle.rd_trace.proofs.Prelude.{book_state}
 use Rattle.rd_trace.proofs.ReplayLemmas.{can_go_back, went_back}
 use Rattle.rd_trace.proofs.replay.go_back.Goals as goal
 

@@ -1,23 +1,13 @@
+use Rattle.rd_trace.proofs.Prelude.{common_steps, State, book_state}
 use Rattle.std.proofs.Common.{◌≡◌, ◌-◌, ◌≤◌, min, length, take, ap, subst, ◌∙◌, arith}
-use Rattle.rd_journal.specs.State.{State}
-use Rattle.rd_marks.specs.BookViews.{book_state}
-use Rattle.rd_marks.specs.Rules.{GoThrough}
-use Rattle.rd_trace.proofs.ReplayLemmas.{none_in, some_in, rest_of, to_none, goes_to, still_go}
+use Rattle.rd_trace.proofs.ReplayLemmas.{none_in, some_in, rest_of, to_none, goes_to}
 use Rattle.rd_trace.proofs.replay.go_to.Goals as goal
 
 pub returns-then-is_empty : goal.returns-then-is_empty
-returns-then-is_empty g c =
-    to_none g.row.R (book_state c.args.book.now) (book_state c.to_start.new.self) c.args.events.now (none_in c.args.events.now c.if-is_empty.ensures) c.to_start.ensures
+returns-then-is_empty g c = grind (arith, to_none, none_in)
 
 pub step_all-requires : goal.step_all-requires
-step_all-requires g c =
-    let old = book_state c.args.book.now in
-    let mid = book_state c.go_back.new.book in
-    let all : c.len.result ≡ length old.session.live = c.len.ensures.count ∙ ap (λ (s : State). length s.live) c.session-2.ensures.state in
-    let within : c.shared_beginning.result ≤ length old.session.live = subst (λ (s : State). c.shared_beginning.result ≤ length s.live) c.session.ensures.state c.shared_beginning.ensures.live in
-    let least : c.min-kept.result ≡ min c.shared_beginning.result (length c.args.events.now - 1) = c.min-kept.ensures in
-    let through : GoThrough g.row.R old.session.start old.session.live = subst (λ (s : State). GoThrough g.row.R s.start s.live) c.session.ensures.state c.shared_beginning.ensures.through in
-    (omega arith, still_go g.row.R (c.len.result - c.min-kept.result) c.min-kept.result old.session mid.session (omega (arith, all, within, least)) c.go_back.ensures.session through)
+step_all-requires g c = grind (arith, common_steps)
 
 pub returns : goal.returns
 returns g c =

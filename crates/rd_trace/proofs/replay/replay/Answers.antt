@@ -1,11 +1,6 @@
-use Rattle.std.proofs.Common.{◌≡◌, ◌++◌, map, Ok, Err, ap, ap₂, subst, ◌∙◌}
-use Rattle.rd_journal.specs.State.{State}
+use Rattle.std.proofs.Common.{◌≡◌, ◌++◌, map, Ok, Err, ap, ap₂, subst, ◌∙◌, arith}
+use Rattle.rd_trace.proofs.Prelude.{State, book_state, saved_mark, saved_trace, loaded_state, Replays, RefusesOne, SetsMarks}
 use Rattle.rd_marks.specs.declared.books.Book.{Book}
-use Rattle.rd_marks.specs.BookViews.{book_state}
-use Rattle.rd_trace.specs.Bookmarks.{saved_mark}
-use Rattle.rd_trace.specs.Saved.{saved_trace, loaded_state}
-use Rattle.rd_trace.specs.Loading.{Replays}
-use Rattle.rd_trace.specs.Steps.{MakesLive, RefusesOne, SetsMarks}
 use Rattle.rd_trace.proofs.ReplayLemmas.{no_marks, no_steps, plays}
 use Rattle.rd_trace.proofs.SpellLemmas.{passed_up}
 use Rattle.rd_trace.proofs.replay.replay.Goals as goal
@@ -35,14 +30,4 @@ returns-in-Err g c =
     no_steps IsBook t c.in_ok-world.ensures.0 old start now set c.in-Err.refused c.of_step.result why c.of_step.ensures
 
 pub returns : goal.returns
-returns g c =
-    let t = saved_trace c.args.session in
-    let IsBook = λ (book : Book g.row.R). book_state book ≡ loaded_state t in
-    let old = book_state c.open-book.result in
-    let now = book_state c.set_marks.new.book in
-    let new = book_state c.make_live.new.book in
-    let start = ap (λ (s : State). s.start) (c.open-book.ensures.session ∙ c.open.ensures.state) ∙ c.in_ok-world.ensures.1 in
-    let set = subst (λ ms. SetsMarks g.row.R old (map saved_mark ms) now (Ok tt)) c.deref.ensures.value c.in_ok-set_marks.ensures in
-    let live = subst (λ fs. MakesLive g.row.R now t.live fs new (Ok tt)) c.deref-3.ensures.value
-    (subst (λ es. MakesLive g.row.R now es c.deref-3.result.now new (Ok tt)) c.deref-2.ensures.value c.in_default.ensures) in
-    plays IsBook t c.in_ok-world.ensures.0 old start now set new live
+returns g c = grind (arith, plays, c.open-book.ensures.session, c.open.ensures.state, c.in_ok-world.ensures.1, c.deref.ensures.value, c.in_ok-set_marks.ensures, c.deref-3.ensures.value, c.deref-2.ensures.value, c.in_default.ensures, c.in_ok-world.ensures.0)

@@ -1,10 +1,5 @@
 use Rattle.std.proofs.Common.{◌≡◌, ◌⊎◌, Ok, Err, IsOk, ap, sym, subst, ◌∙◌, arith}
-use Rattle.rd_marks.specs.BookViews.{book_state}
-use Rattle.std.proofs.lemmas.List.{get_or_default}
-use Rattle.rd_cell.specs.declared.refusal.Refusal.TheVariants.{NoMemory as OutOfMemory}
-use Rattle.rd_marks.specs.Books.{mark}
-use Rattle.rd_trace.specs.declared.bookmarks.SavedMark.{SavedMark}
-use Rattle.rd_trace.specs.Steps.{RefusesOne, GoesTo}
+use Rattle.rd_trace.proofs.Prelude.{book_state, get_or_default, OutOfMemory, mark, SavedMark, RefusesOne, GoesTo}
 use Rattle.rd_trace.proofs.ReplayLemmas.{none_set, one_set, can_mark, mark_refused, all_set}
 use Rattle.rd_trace.proofs.replay.set_marks.Goals as goal
 

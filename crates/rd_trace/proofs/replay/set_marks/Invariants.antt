@@ -1,6 +1,5 @@
 use Rattle.std.proofs.Common.{map, take}
-use Rattle.rd_marks.specs.BookViews.{book_state}
-use Rattle.rd_trace.specs.Bookmarks.{saved_mark}
+use Rattle.rd_trace.proofs.Prelude.{book_state, saved_mark}
 use Rattle.rd_trace.proofs.ReplayLemmas.{HasSet}
 use Rattle.rd_trace.proofs.replay.set_marks.Given as goal
 

@@ -1,5 +1,5 @@
 use Rattle.std.proofs.Common.{◌≡◌, refl, arith}
-use Rattle.rd_journal.specs.Sessions.{state}
+use Rattle.rd_trace.proofs.Prelude.{state}
 use Rattle.rd_trace.proofs.ReplayLemmas.{one_shared, shared_less}
 use Rattle.rd_trace.proofs.replay.shared_beginning.Goals as goal
 

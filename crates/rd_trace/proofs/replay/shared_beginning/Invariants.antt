@@ -1,5 +1,5 @@
 use Rattle.std.proofs.Common.{◌≡◌, take}
-use Rattle.rd_journal.specs.Sessions.{state}
+use Rattle.rd_trace.proofs.Prelude.{state}
 use Rattle.rd_trace.proofs.replay.shared_beginning.Given as goal
 
 -- the events before this one are the same in both

@@ -1,8 +1,5 @@
 use Rattle.std.proofs.Common.{◌≡◌, ◌+◌, length, ap, ◌∙◌, arith}
-use Rattle.std.proofs.lemmas.List.{get_or_default}
-use Rattle.rd_journal.specs.State.{State}
-use Rattle.rd_marks.specs.Books.{BookState}
-use Rattle.rd_marks.specs.BookViews.{book_state}
+use Rattle.rd_trace.proofs.Prelude.{get_or_default, State, BookState, book_state}
 use Rattle.rd_trace.proofs.ReplayLemmas.{none_stepped, one_stepped, one_refused, some_refused, all_of, event_happened, happened, not_happened}
 use Rattle.rd_trace.proofs.replay.step_all.Goals as goal
 

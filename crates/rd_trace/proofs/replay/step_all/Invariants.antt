@@ -1,5 +1,5 @@
 use Rattle.std.proofs.Common.{take}
-use Rattle.rd_marks.specs.BookViews.{book_state}
+use Rattle.rd_trace.proofs.Prelude.{book_state}
 use Rattle.rd_trace.proofs.ReplayLemmas.{HasStepped}
 use Rattle.rd_trace.proofs.replay.step_all.Given as goal
 

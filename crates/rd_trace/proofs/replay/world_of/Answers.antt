@@ -1,6 +1,5 @@
 use Rattle.std.proofs.Common.{sym, ap, ◌∙◌}
-use Rattle.rd_trace.specs.declared.starts.Start.{Start}
-use Rattle.rd_trace.specs.Starts.{start_world, start_flaw}
+use Rattle.rd_trace.proofs.Prelude.{Start, start_world, start_flaw}
 use Rattle.rd_trace.proofs.replay.world_of.Goals as goal
 
 pub returns-in-Ok : goal.returns-in-Ok

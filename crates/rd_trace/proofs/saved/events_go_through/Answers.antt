@@ -1,4 +1,4 @@
-use Rattle.rd_journal.specs.Sessions.{journal}
+use Rattle.rd_trace.proofs.Prelude.{journal}
 use Rattle.rd_trace.proofs.SavedLemmas.{goes_through}
 use Rattle.rd_trace.proofs.saved.events_go_through.Goals as goal
 

@@ -1,10 +1,5 @@
 use Rattle.std.proofs.Common.{◌≡◌, ◌≤◌, ◌+◌, ◌++◌, ◌∷◌, [], List, length, take, string_bytes, refl, sym, ap, subst, arith}
-use Rattle.std.proofs.lemmas.List.{take_all, length-map, length-take-le}
-use Rattle.rd_step.specs.declared.entries.Event.{Event}
-use Rattle.rd_journal.specs.Sessions.{state}
-use Rattle.rd_trace.specs.Spelled.{Gives}
-use Rattle.rd_trace.specs.Events.{event_of, event_data}
-use Rattle.rd_trace.specs.Texts.{AreAppended}
+use Rattle.rd_trace.proofs.Prelude.{take_all, length-map, length-take-le, Event, state, Gives, event_of, event_data, AreAppended}
 use Rattle.rd_trace.proofs.SavedLemmas.{live_next}
 use Rattle.rd_trace.proofs.TextLemmas.{none_appended, one_more_appended}
 use Rattle.rd_trace.proofs.saved.put_live.Goals as goal
@@ -26,6 +21,4 @@ loop-k-preserved g c =
     c.in_ok-put_next.ensures.ok c.in_ok-put_next.ensures.kept)
 
 pub returns : goal.returns
-returns g c =
-    subst (λ (es : List Event). AreAppended (Gives event_of) event_data es (string_bytes c.args.text.now) (string_bytes c.loop-k.text))
-    (take_all c.loop-k.k (state c.args.session.now).live (omega (arith, ap length c.live-live.ensures.events, length-map c.live-live.result (λ x. x.event)))) c.loop-k.invariant
+returns g c = grind (arith, string_bytes, take_all, length-map)

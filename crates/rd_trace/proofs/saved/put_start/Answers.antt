@@ -1,6 +1,5 @@
 use Rattle.std.proofs.Common.{string_bytes, ap, ◌∙◌, ◌++◌}
-use Rattle.serde_json.specs.View.{view}
-use Rattle.rd_journal.specs.Sessions.{state}
+use Rattle.rd_trace.proofs.Prelude.{view, state}
 use Rattle.rd_trace.proofs.TextLemmas.{last_appended}
 use Rattle.rd_trace.proofs.WriteLemmas.{start_appended}
 use Rattle.rd_trace.proofs.saved.put_start.Goals as goal

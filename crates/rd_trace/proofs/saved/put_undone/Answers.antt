@@ -1,10 +1,5 @@
 use Rattle.std.proofs.Common.{◌+◌, List, take, string_bytes, refl, sym, ◌∙◌, subst, arith}
-use Rattle.std.proofs.lemmas.List.{take_all, length-take-le}
-use Rattle.rd_step.specs.declared.entries.Event.{Event}
-use Rattle.rd_journal.specs.Sessions.{state}
-use Rattle.rd_trace.specs.Spelled.{Gives}
-use Rattle.rd_trace.specs.Events.{event_of, event_data}
-use Rattle.rd_trace.specs.Texts.{AreAppended}
+use Rattle.rd_trace.proofs.Prelude.{take_all, length-take-le, Event, state, Gives, event_of, event_data, AreAppended}
 use Rattle.rd_trace.proofs.SavedLemmas.{undone_next, some_undone}
 use Rattle.rd_trace.proofs.TextLemmas.{none_appended, one_more_appended}
 use Rattle.rd_trace.proofs.saved.put_undone.Goals as goal
@@ -28,6 +23,4 @@ loop-k-preserved g c =
     c.loop-k.invariant c.in_ok-put_next.ensures.ok c.in_ok-put_next.ensures.kept)
 
 pub returns : goal.returns
-returns g c =
-    subst (λ (es : List Event). AreAppended (Gives event_of) event_data es (string_bytes c.args.text.now) (string_bytes c.loop-k.text))
-    (take_all c.loop-k.k (state c.args.session.now).undone (omega (arith, c.undone_len-k-end.ensures.count))) c.loop-k.invariant
+returns g c = grind (arith, string_bytes, take_all)

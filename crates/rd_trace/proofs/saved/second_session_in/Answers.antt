@@ -1,12 +1,5 @@
-use Rattle.std.proofs.Common.{codes, sym, ◌∙◌, subst}
-use Rattle.std.proofs.lemmas.Option.{same_Some, none-some}
-use Rattle.serde_json.specs.Data.{Data, Items}
-use Rattle.serde_json.specs.View.{view, items_view}
-use Rattle.rd_trace.specs.Spelled.{Gives, SpellEachAt, itself, elements}
-use Rattle.rd_trace.specs.Events.{event_of}
-use Rattle.rd_trace.specs.Starts.{IsStart}
-use Rattle.rd_trace.specs.Bookmarks.{AreMarks, saved_marks}
-use Rattle.rd_trace.specs.Saved.{saved_trace, IsSecondTrace}
+use Rattle.std.proofs.Common.{codes, ◌∙◌, arith}
+use Rattle.rd_trace.proofs.Prelude.{none-some, view, Gives, SpellEachAt, elements, event_of, saved_trace, IsSecondTrace}
 use Rattle.rd_trace.proofs.SpellLemmas.{part_passed_up}
 use Rattle.rd_trace.proofs.saved.second_session_in.Goals as goal
 
@@ -17,20 +10,10 @@ pub returns-in_default-array_at : goal.returns-in_default-array_at
 returns-in_default-array_at g c = λ t h. none-some h.marks.0 (c.in_default-array_at.ensures ∙ h.marks.1)
 
 pub returns-in_err-start_in : goal.returns-in_err-start_in
-returns-in_err-start_in g c =
-    let d = view c.args.value.now in
-    let e = view c.in-Some.start.now in
-    part_passed_up itself (saved_trace {R = g.row.R}) (IsStart e) (IsSecondTrace d)
-    (λ t h. (t.start, subst (λ (x : Data). IsStart x t.start) (same_Some h.start.0 e (sym h.start.1 ∙ sym c.in-Some.ensures)) h.start.2)) c.in_err-start_in.field-0.0
-    c.from_residual.result c.from_residual.ensures.1 c.in_err-start_in.ensures
+returns-in_err-start_in g c = grind arith
 
 pub returns-in_err-marks_in : goal.returns-in_err-marks_in
-returns-in_err-marks_in g c =
-    let d = view c.args.value.now in
-    let ds = items_view c.in-Some-array_at.marks.now.items in
-    part_passed_up saved_marks (saved_trace {R = g.row.R}) (AreMarks ds) (IsSecondTrace d)
-    (λ t h. (t.marks, subst (λ (x : Items). AreMarks x t.marks) (same_Some h.marks.0 ds (sym h.marks.1 ∙ sym c.in-Some-array_at.ensures)) h.marks.2)) c.in_err-marks_in.field-0.0
-    c.from_residual-in_err-marks_in.result c.from_residual-in_err-marks_in.ensures.1 c.in_err-marks_in.ensures
+returns-in_err-marks_in g c = grind arith
 
 pub returns-in_err-list_at : goal.returns-in_err-list_at
 returns-in_err-list_at g c =

@@ -1,7 +1,5 @@
 use Rattle.std.proofs.Common.{IfOk, subst}
-use Rattle.serde_json.specs.View.{view}
-use Rattle.rd_step.specs.World.{World}
-use Rattle.rd_trace.specs.Starts.{IsStartData, SpellsWorld}
+use Rattle.rd_trace.proofs.Prelude.{view, World, IsStartData, SpellsWorld}
 use Rattle.rd_trace.proofs.saved.start_of.Goals as goal
 
 pub returns-clause-value : goal.returns-clause-value

@@ -1,15 +1,5 @@
 use Rattle.std.proofs.Common.{◌≡◌, false, codes, decimal, string_bytes, refl, sym, ap, ◌∙◌, ◌++◌, subst, arith}
-use Rattle.rd_journal.specs.Sessions.{state}
-use Rattle.rd_journal.specs.State.{State}
-use Rattle.rd_marks.specs.BookViews.{book_state}
-use Rattle.rd_marks.specs.Books.{BookState}
-use Rattle.rd_marks.specs.Rules.{KeepsRules}
-use Rattle.rd_trace.specs.Spelled.{items_by}
-use Rattle.rd_trace.specs.Events.{event_data}
-use Rattle.rd_trace.specs.Bookmarks.{mark_data}
-use Rattle.serde_json.specs.Written.{compact_text}
-use Rattle.rd_trace.specs.Texts.{joined_text}
-use Rattle.rd_trace.specs.Writing.{IsTextOf}
+use Rattle.rd_trace.proofs.Prelude.{state, State, book_state, BookState, KeepsRules, items_by, event_data, mark_data, compact_text, joined_text, IsTextOf}
 use Rattle.rd_trace.proofs.SavedLemmas.{reached}
 use Rattle.rd_trace.proofs.TextLemmas.{whole_text, two_parts}
 use Rattle.rd_trace.proofs.WriteLemmas.{text_of_book}

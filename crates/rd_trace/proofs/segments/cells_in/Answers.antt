@@ -1,19 +1,13 @@
 use Rattle.std.proofs.Common.{sym, ◌∙◌, arith}
-use Rattle.rd_trace.specs.Spelled.{Gives}
-use Rattle.rd_trace.specs.Segments.{cell_of}
 use Rattle.rd_trace.proofs.SpellLemmas.{spelled_length}
 use Rattle.rd_trace.proofs.SegmentLemmas.{one_more_cell, no_cell_here, all_cells}
 use Rattle.rd_trace.proofs.segments.cells_in.Goals as goal
 
 pub returns-then-len-clause-none : goal.returns-then-len-clause-none
-returns-then-len-clause-none g c = λ cells count is.
-    absurd (omega (arith, spelled_length (Gives cell_of) c.args.list.now.items cells is, c.args.list.now.ok.0))
+returns-then-len-clause-none g c = grind (arith, spelled_length)
 
 pub returns-in_err-cells-clause-none : goal.returns-in_err-cells-clause-none
-returns-in_err-cells-clause-none g c =
-    rw c.from_residual.ensures
-    (λ cs count all. no_cell_here g.row.R c.args.list.now.items c.loop-i.cells c.loop-i.i c.loop-i.invariant c.index.result.now (omega arith) c.index.ensures
-    (sym c.in_err-cells.was ∙ c.cell_in.ensures) cs all)
+returns-in_err-cells-clause-none g c = grind (arith, no_cell_here)
 
 pub loop-i-preserved : goal.loop-i-preserved
 loop-i-preserved g c =

@@ -1,6 +1,5 @@
 use Rattle.std.proofs.Common.{sym, ◌∙◌}
-use Rattle.std.proofs.lemmas.Option.{none-some}
-use Rattle.serde_json.specs.View.{view, items_view}
+use Rattle.rd_trace.proofs.Prelude.{none-some, view, items_view}
 use Rattle.rd_trace.proofs.SpellLemmas.{list_read}
 use Rattle.rd_trace.proofs.spelled.list_at.Goals as goal
 

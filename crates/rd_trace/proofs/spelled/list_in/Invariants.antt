@@ -1,6 +1,5 @@
 use Rattle.std.proofs.Common.{◌≡◌, ◌≤◌, take, length, vec_len, vec_capacity}
-use Rattle.serde_json.specs.View.{items_view}
-use Rattle.rd_trace.specs.Spelled.{SpellEach}
+use Rattle.rd_trace.proofs.Prelude.{items_view, SpellEach}
 use Rattle.rd_trace.proofs.spelled.list_in.Given as goal
 
 -- the values before this one spell the things so far

@@ -1,6 +1,5 @@
-use Rattle.std.proofs.Common.{take, subst, arith}
-use Rattle.std.proofs.lemmas.List.{take_all}
-use Rattle.rd_trace.specs.Spelled.{AreSpelled}
+use Rattle.std.proofs.Common.{take, arith}
+use Rattle.rd_trace.proofs.Prelude.{take_all}
 use Rattle.rd_trace.proofs.SpellLemmas.{take_item, none_written, one_more_written}
 use Rattle.rd_trace.proofs.spelled.list_value.Goals as goal
 
@@ -19,5 +18,4 @@ loop-thing-preserved g c =
     )
 
 pub returns : goal.returns
-returns g c =
-    subst (λ xs. AreSpelled g.T.Spelled.spells g.T.Written.datum c.loop-thing.values.items xs) (take_all c.loop-thing.thing-index c.args.things.now (omega arith)) c.loop-thing.invariant.0
+returns g c = grind (arith, take_all)

@@ -1,9 +1,5 @@
 use Rattle.std.proofs.Common.{codes}
-use Rattle.serde_json.specs.View.{view}
-use Rattle.rd_trace.specs.Spelled.{SpellEachAt, itself, elements}
-use Rattle.rd_trace.specs.Actors.{IsActor}
-use Rattle.rd_trace.specs.Segments.{IsSegmentList}
-use Rattle.rd_trace.specs.Starts.{IsParts}
+use Rattle.rd_trace.proofs.Prelude.{view, SpellEachAt, itself, elements, IsActor, IsSegmentList, IsParts}
 use Rattle.rd_trace.proofs.SpellLemmas.{part_passed_up}
 use Rattle.rd_trace.proofs.starts.parts_in.Goals as goal
 

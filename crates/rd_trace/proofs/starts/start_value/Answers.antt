@@ -1,11 +1,9 @@
 use Rattle.std.proofs.Common.{◌≡◌, ap, ◌∙◌, arith}
-use Rattle.std.proofs.lemmas.Bool.{both_ways}
+use Rattle.rd_trace.proofs.Prelude.{both_ways, view, IsStartData, SpellsWorld, fresh_data, parts_data}
 use Rattle.std.proofs.lemmas.Result.{IfOk-weaker}
-use Rattle.serde_json.specs.View.{view}
 use Rattle.serde_json.specs.declared.value.Value.{Value}
 use Rattle.rd_step.specs.Worlds.{model}
 use Rattle.rd_step.proofs.Starts.{one_count}
-use Rattle.rd_trace.specs.Starts.{IsStartData, SpellsWorld, fresh_data, parts_data}
 use Rattle.rd_trace.proofs.StartLemmas.{both_ok, starts_fresh, spells_fresh, starts_parts, spells_parts}
 use Rattle.rd_trace.proofs.starts.start_value.Goals as goal
 

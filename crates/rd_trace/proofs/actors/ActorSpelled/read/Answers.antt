@@ -1,5 +1,4 @@
-use Rattle.serde_json.specs.View.{view}
-use Rattle.rd_trace.specs.Actors.{IsActor}
+use Rattle.rd_trace.proofs.Prelude.{view, IsActor}
 use Rattle.rd_trace.proofs.SpellLemmas.{read_or_bad}
 use Rattle.rd_trace.proofs.actors.ActorSpelled.read.Goals as goal
 

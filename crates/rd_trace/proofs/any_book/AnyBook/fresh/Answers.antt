@@ -1,8 +1,7 @@
 use Rattle.std.proofs.Common.{refl, sym, subst}
+use Rattle.rd_trace.proofs.Prelude.{ring_length, IsBookIn, fresh_state}
 use Rattle.rd_trace.specs.declared.rings.Ring.{Ring}
 use Rattle.rd_trace.specs.declared.any_book.AnyBook.TheVariants.{Two, Four, Eight}
-use Rattle.rd_trace.specs.Traces.{ring_length}
-use Rattle.rd_trace.specs.Loading.{IsBookIn, fresh_state}
 use Rattle.rd_trace.proofs.any_book.AnyBook.fresh.Goals as goal
 
 pub returns-in_ok-fresh_book-in-Two : goal.returns-in_ok-fresh_book-in-Two

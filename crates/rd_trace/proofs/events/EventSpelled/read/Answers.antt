@@ -1,5 +1,4 @@
-use Rattle.serde_json.specs.View.{view}
-use Rattle.rd_trace.specs.Events.{event_of}
+use Rattle.rd_trace.proofs.Prelude.{view, event_of}
 use Rattle.rd_trace.proofs.SpellLemmas.{given_or_bad}
 use Rattle.rd_trace.proofs.events.EventSpelled.read.Goals as goal
 

@@ -1,5 +1,4 @@
-use Rattle.serde_json.specs.View.{view}
-use Rattle.rd_trace.specs.Segments.{cell_of}
+use Rattle.rd_trace.proofs.Prelude.{view, cell_of}
 use Rattle.rd_trace.proofs.SpellLemmas.{given_or_bad}
 use Rattle.rd_trace.proofs.segments.CellSpelled.read.Goals as goal
 

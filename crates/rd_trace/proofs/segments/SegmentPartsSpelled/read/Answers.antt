@@ -1,5 +1,4 @@
-use Rattle.serde_json.specs.View.{view}
-use Rattle.rd_trace.specs.Segments.{IsSegment}
+use Rattle.rd_trace.proofs.Prelude.{view, IsSegment}
 use Rattle.rd_trace.proofs.SpellLemmas.{read_or_bad}
 use Rattle.rd_trace.proofs.segments.SegmentPartsSpelled.read.Goals as goal
 
