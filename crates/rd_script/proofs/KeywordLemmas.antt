@@ -1,13 +1,9 @@
 -- The keywords and the kinds of places: each has a text of its own, by which it is found among all
 -- of them.
 use Rattle.std.proofs.Common.{◌≡◌, ◌≢◌, ◌∙◌, ℕ, suc, ◌<◌, Bool, true, false, true≢false, List, [], ◌∷◌, length, Option, Some, None, if◌then◌else◌, nat_eq, slice_index_or, refl, sym, ap, arith}
+use Rattle.rd_script.proofs.Prelude.{Keyword, Go, Len, Enq, Deq, Undo, Redo, Back, Forward, Roll, Step, Show, Actor, Starve, Mark, Goto, Drop, Same, Origin, Writer, Marks, MarkAt, ArrayEnq, ArrayDeq, PlaceKind, QHeadWord, QTailWord, HeadOf, TailOf, NextOf, CellWord, ValueWord, IndexWord, WholeWord, ArrHeadWord, ArrTailWord, ArrCellWord, keyword_text, kind_text}
 use Rattle.std.specs.Cmp.Lexicographic.{pointwise, same_text}
 use Rattle.std.specs.Option.{unwrap_or, is_some}
-use Rattle.rd_script.specs.declared.reading.keywords.Keyword.{Keyword}
-use Rattle.rd_script.specs.declared.reading.keywords.Keyword.TheVariants.{Go, Len, Enq, Deq, Undo, Redo, Back, Forward, Roll, Step, Show, Actor, Starve, Mark, Goto, Drop, Same, Origin, Writer, Marks, MarkAt, ArrayEnq, ArrayDeq}
-use Rattle.rd_script.specs.declared.reading.places.PlaceKind.{PlaceKind}
-use Rattle.rd_script.specs.declared.reading.places.PlaceKind.TheVariants.{QHead as QHeadWord, QTail as QTailWord, Head as HeadOf, Tail as TailOf, Next as NextOf, Cell as CellWord, Value as ValueWord, Index as IndexWord, Whole as WholeWord, ArrHead as ArrHeadWord, ArrTail as ArrTailWord, ArrCell as ArrCellWord}
-use Rattle.rd_script.specs.Grammar.{keyword_text, kind_text}
 
 -- all keywords, in the order in which they are tried
 abbrev pub keywords : List Keyword
@@ -41,12 +37,10 @@ module _ {K : Type 0} (text : K → List ℕ) (all : List K) (found : (k : K) �
   none_of_text word d none k e = true≢false (sym (ap is_some (ap (λ w. first_with text w all) e ∙ found k)) ∙ ap is_some (none_first text word d all none))
 
 keyword_is_found : (k : Keyword) → first_with keyword_text (keyword_text k) keywords ≡ Some k
-keyword_is_found Go = refl
-keyword_is_found _ = refl
+keyword_is_found k = grind arith
 
 kind_is_found : (k : PlaceKind) → first_with kind_text (kind_text k) kinds ≡ Some k
-kind_is_found QHeadWord = refl
-kind_is_found _ = refl
+kind_is_found k = grind arith
 
 -- so two keywords of one text are one, and a word that is none of them is none
 pub one_keyword : (k m : Keyword) → keyword_text k ≡ keyword_text m → k ≡ m

@@ -1,3 +1,4 @@
+pub mod Prelude
 pub mod ResultLemmas
 pub mod KnownLemmas
 pub mod LineLemmas

@@ -1,10 +1,7 @@
 -- A line that is being read.
-use Rattle.std.proofs.Common.{◌≡◌, ◌≢◌, ℕ, ◌+◌, Bool, false, List, [], ◌∷◌, ◌++◌, length, Option, Some, None, refl, sym, ◌∙◌, ap, length-append}
-use Rattle.std.specs.Io.KnownBytes.{Consumes}
-use Rattle.rd_script.specs.declared.reading.lines.Line.{Line}
-use Rattle.rd_script.specs.Device.{GivesByte}
-use Rattle.rd_script.specs.Lines.{IsOneLine, Holds, ReadsLine, ReadsLast}
-use Rattle.rd_script.proofs.KnownLemmas.{Consumes-nil, Consumes-join}
+use Rattle.std.proofs.Common.{◌≡◌, ◌≢◌, ℕ, ◌+◌, Bool, false, List, [], ◌∷◌, ◌++◌, length, Option, Some, None, sym, ◌∙◌, ap, length-append, arith}
+use Rattle.rd_script.proofs.Prelude.{Consumes, Line, GivesByte, IsOneLine, Holds, ReadsLast}
+use Rattle.rd_script.proofs.KnownLemmas.{Consumes-join}
 
 -- these many bytes were given, all of them before the line feed, and are held by the line
 pub record HasBegun (old now : Option (List ℕ)) (failed : Bool) (line : Line) (count : ℕ) : Type 0 where
@@ -22,14 +19,7 @@ IsOneLine-more (x ∷ xs) byte h n = (h.0, IsOneLine-more xs byte h.1 n)
 
 -- a line that holds nothing is begun
 pub begins : (old : Option (List ℕ)) (failed : Bool) (line : Line) → Holds line [] → failed ≡ false → HasBegun old old failed line 0
-begins old failed line h works = record {
-  text = [];
-  is_one = tt;
-  held = h;
-  took = Consumes-nil old;
-  works = works;
-  counted = refl;
-}
+begins old failed line h works = grind arith
 
 -- one more byte
 pub goes_on : {old now : Option (List ℕ)} (new : Option (List ℕ)) {failed failed' : Bool} {line line' : Line} {count : ℕ} (byte : ℕ) → HasBegun old now failed line count → GivesByte now new (Some byte) → byte ≢ 10 → ((text : List ℕ) → Holds line text → Holds line' (text ++ byte ∷ [])) → failed' ≡ false → HasBegun old new failed' line' (count + 1)
@@ -40,15 +30,6 @@ goes_on {old} {now} new {count = count} byte b gives n pushes works = record {
   took = Consumes-join old now new b.text (byte ∷ []) b.took gives;
   works = works;
   counted = length-append b.text (byte ∷ []) ∙ ap (λ k. k + 1) b.counted;
-}
-
--- a line feed ends the line
-pub is_ended : {old now : Option (List ℕ)} (new : Option (List ℕ)) {failed : Bool} {line : Line} {count : ℕ} → HasBegun old now failed line count → GivesByte now new (Some 10) → ReadsLine old new line (10 ∷ [])
-is_ended {old} {now} new b gives = record {
-  text = b.text;
-  is_one = b.is_one;
-  held = b.held;
-  took = Consumes-join old now new b.text (10 ∷ []) b.took gives;
 }
 
 -- a text of some length is not empty

@@ -1,13 +1,7 @@
 -- Words that spell numbers, and the parts of a segment's name.
 use Rattle.std.proofs.Common.{◌≡◌, ◌≢◌, ℕ, ◌^◌, ◌<◌, ◌==◌, List, [], ◌∷◌, length, Option, Some, None, IfSome, IfNone, arith, sym, ◌∙◌, ap, append_assoc}
-use Rattle.std.specs.Fmt.{decimal}
-use Rattle.std.specs.List.{slice_split, join_with_byte}
-use Rattle.std.specs.Str.{IsUtf8}
+use Rattle.rd_script.proofs.Prelude.{decimal, slice_split, join_with_byte, IsUtf8, IsAscii-decimal, SegName, name_words, IsSegmentInRange}
 use Rattle.std.proofs.lemmas.Str.{IsUtf8-from_ascii}
-use Rattle.std.proofs.lemmas.Fmt.{IsAscii-decimal}
-use Rattle.rd_step.specs.Prelude.{SegName}
-use Rattle.rd_script.specs.Contents.{name_words}
-use Rattle.rd_script.specs.Grammar.{IsSegmentInRange}
 use Rattle.rd_script.proofs.SplitLemmas.{parts_of_join, join_of_parts, is_free_decimal}
 
 -- the digits of a number are UTF-8
@@ -32,8 +26,7 @@ name_from_parts word parts (Some s) cut is = join_of_parts 46 word (decimal s.ma
 
 -- where the parts spell no segment's name, the word spells none
 pub no_name_from_parts : (word : List ℕ) (parts : List (List ℕ)) (r : Option SegName) → parts ≡ slice_split (λ byte. byte == 46) word → IfNone r ((s : SegName) → IsSegmentInRange s → parts ≢ decimal s.maker ∷ decimal s.n ∷ []) → IfNone r ((s : SegName) → IsSegmentInRange s → word ≢ name_words s)
-no_name_from_parts word parts (Some s) cut is = tt
-no_name_from_parts word parts None cut is = λ s small e. is s small (cut ∙ ap (slice_split (λ byte. byte == 46)) e ∙ name_parts s small)
+no_name_from_parts word parts r cut is = grind (arith, name_parts)
 
 -- a word of more than four parts spells none
 pub no_name_of_many : (word : List ℕ) → 4 < length (slice_split (λ byte. byte == 46) word) → (s : SegName) → IsSegmentInRange s → word ≢ name_words s

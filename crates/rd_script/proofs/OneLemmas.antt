@@ -1,20 +1,9 @@
 -- Two commands of the same words are one: after a keyword the arguments are of known shapes, and an
 -- argument is known by its shape and its word.
 use Rattle.std.proofs.Common.{◌≡◌, ℕ, Bool, true, false, true≢false, ◌==◌, ◌&&◌, List, [], ◌∷◌, length, refl, sym, ◌∙◌, ap, subst, arith, drop, slice_index_or}
-use Rattle.std.specs.List.{slice_split}
-use Rattle.std.proofs.lemmas.Bool.{and_parts, eqb-true}
-use Rattle.std.proofs.lemmas.Fmt.{decimal_injective}
-use Rattle.rd_step.specs.Prelude.{SegName, Place, QHead}
-use Rattle.rd_marks.specs.declared.commands.Command.{Command}
-use Rattle.rd_marks.specs.declared.commands.Command.TheVariants.{Writer, Show}
-use Rattle.rd_script.specs.declared.reading.keywords.Keyword.{Keyword}
+use Rattle.rd_script.proofs.Prelude.{slice_split, and_parts, eqb-true, decimal_injective, SegName, Command, Keyword, PlaceKind, yes_or_no, name_words, Argument, Byte, Long, Segment, Choice, Name, Kind, keyword_of, word_of, words_of, arguments_of, IsSegmentInRange, IsArgumentInRange, AreArgumentsInRange, IsInRange, AreOne}
 use Rattle.rd_script.specs.declared.reading.keywords.Keyword.TheVariants as keyword
-use Rattle.rd_script.specs.declared.reading.places.PlaceKind.{PlaceKind}
 use Rattle.rd_script.specs.declared.reading.places.PlaceKind.TheVariants as kind
-use Rattle.rd_script.specs.Texts.{yes_or_no}
-use Rattle.rd_script.specs.Contents.{name_words}
-use Rattle.rd_script.specs.Grammar.{Argument, Byte, Long, Segment, Choice, Name, Kind, keyword_of, kind_of, word_of, words_of, place_arguments, arguments_of, IsSegmentInRange, IsArgumentInRange, AreArgumentsInRange}
-use Rattle.rd_script.specs.Spelling.{IsInRange, AreOne}
 use Rattle.rd_script.proofs.KeywordLemmas.{one_kind}
 use Rattle.rd_script.proofs.NumeralLemmas.{name_parts}
 
@@ -63,24 +52,15 @@ have_shapes ss [] = true
 have_shapes [] (x ∷ xs) = false
 have_shapes (s ∷ ss) (x ∷ xs) = (s == shape x) && have_shapes (shapes_behind x ss) xs
 
-place_has_shapes : (p : Place) → have_shapes (place_shapes (kind_of p)) (place_arguments p) ≡ true
-place_has_shapes QHead = refl
-place_has_shapes _ = refl
-
 has_shapes : (c : Command) → have_shapes (shapes (keyword_of c)) (arguments_of c) ≡ true
-has_shapes (Writer p) = place_has_shapes p
-has_shapes (Show p) = place_has_shapes p
-has_shapes _ = refl
+has_shapes c = grind arith
 
 -- the words of a list, if it has them
 abbrev word_at : ℕ → List (List ℕ) → List ℕ
 word_at i words = slice_index_or words i []
 
 same_choice : (a b : Bool) → yes_or_no a ≡ yes_or_no b → a ≡ b
-same_choice true true e = refl
-same_choice false false e = refl
-same_choice true false e = absurd (omega (arith, ap length e))
-same_choice false true e = absurd (omega (arith, ap length e))
+same_choice a b e = grind arith
 
 -- two segments of one name are one
 same_segment : (s t : SegName) → IsSegmentInRange s → IsSegmentInRange t → name_words s ≡ name_words t → s ≡ t

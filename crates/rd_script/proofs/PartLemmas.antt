@@ -1,6 +1,6 @@
 -- A loop over the parts of a text: the chain proof comes last, since its closure is known from the
 -- loop alone.
-use Rattle.std.proofs.Common.{◌≡◌, ◌<◌, ◌≤◌, ℕ, List, [], ◌∷◌, map, length, drop, get_or, Bor, Option, Some, None, ◌∙◌, ap, arith}
+use Rattle.std.proofs.Common.{◌≡◌, ◌<◌, ◌≤◌, ℕ, List, ◌∷◌, map, length, drop, get_or, Bor, Option, Some, None, arith}
 use Rattle.std.specs.Iterator.{Yields}
 use Rattle.std.proofs.lemmas.Iterator.{YieldsList}
 use Rattle.std.proofs.lemmas.Iterator.Consumers.{YieldsList-turn, YieldsList-end}
@@ -15,5 +15,4 @@ all_parts xs t y r u is p e = (YieldsList-end e xs t y r u is p).0
 
 -- the first of some parts, and the others
 pub first_and_others : {text : List (List ℕ)} (items kept : List (Bor (List ℕ))) (d : Bor (List ℕ)) → 1 ≤ length kept → kept ≡ items → map (λ part. part.now) items ≡ text → (get_or kept 0 d).now ∷ map (λ part. part.now) (drop 1 kept) ≡ text
-first_and_others items [] d some same is = absurd (omega (arith, some))
-first_and_others items (x ∷ xs) d some same is = ap (map (λ part. part.now)) same ∙ is
+first_and_others items kept d some same is = grind arith

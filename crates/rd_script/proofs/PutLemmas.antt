@@ -1,15 +1,10 @@
 -- Words after words.
-use Rattle.std.proofs.Common.{ℕ, ◌+◌, List, ◌∙◌, ◌++◌, length, arith, ap, length-append, append_assoc}
+use Rattle.std.proofs.Common.{ℕ, ◌+◌, List, ◌++◌, arith, length-append, append_assoc}
 use Rattle.rd_script.specs.Puts.{Puts, PutsUpTo}
 
 -- what is put after what was put is after both
 puts_both : (old mid new one other : List ℕ) → Puts old mid one → Puts mid new other → Puts old new (one ++ other)
-puts_both old mid new one other p q room =
-    let whole = length-append one other in
-    let first = p (omega (arith, whole)) in
-    let parts = length-append old one in
-    let size = ap length first in
-    q (omega (arith, whole, parts, size)) ∙ ap (λ front. front ++ other) first ∙ append_assoc old one other
+puts_both old mid new one other p q room = grind (arith, length-append, append_assoc)
 
 -- and has at most as many bytes as both
 pub few_of_both : (m n : ℕ) (old mid new one other : List ℕ) → PutsUpTo m old mid one → PutsUpTo n mid new other → PutsUpTo (m + n) old new (one ++ other)

@@ -1,15 +1,7 @@
 -- What the words of a line say, the line says; and what is said of a line that spells a command.
 use Rattle.std.proofs.Common.{◌≡◌, ◌≢◌, ℕ, ◌<◌, ◌≤◌, ◌==◌, List, [], ◌∷◌, length, drop, Result, Ok, Err, sym, ◌∙◌, ap, subst, arith, slice_index_or}
-use Rattle.std.specs.List.{slice_split}
-use Rattle.std.specs.Result.{IsOkAnd}
-use Rattle.rd_marks.specs.declared.commands.Command.{Command}
-use Rattle.rd_script.specs.declared.faults.LineFault.{LineFault}
+use Rattle.rd_script.proofs.Prelude.{slice_split, IsOkAnd, Command, LineFault, Keyword, keyword_text, keyword_of, arguments_of, words_of, names_after, most_line_bytes, spelling, IsInRange, AreOne, NamesBadly, IsMisnamed, Says, ReadsCommand}
 use Rattle.rd_script.specs.declared.faults.LineFault.TheVariants.{BadLine, LineTooLong, BadName}
-use Rattle.rd_script.specs.declared.reading.keywords.Keyword.{Keyword}
-use Rattle.rd_script.specs.declared.reading.keywords.Keyword.TheVariants.{Go}
-use Rattle.rd_script.specs.Grammar.{keyword_text, keyword_of, arguments_of, words_of, names_after}
-use Rattle.rd_script.specs.Spelling.{most_line_bytes, spelling, IsInRange, AreOne, NamesBadly, IsMisnamed, Says}
-use Rattle.rd_script.specs.Reading.{ReadsCommand}
 use Rattle.rd_script.proofs.KeywordLemmas.{one_keyword}
 use Rattle.rd_script.proofs.NameReadLemmas.{not_badly_named}
 use Rattle.rd_script.proofs.OneLemmas.{one_command}
@@ -34,8 +26,7 @@ pub record MisnamedWords (words : List (List ℕ)) : Type 0 where
 
 -- the words of a misnamed line
 few_names : (k : Keyword) → names_after k ≤ 2
-few_names Go = omega arith
-few_names _ = omega arith
+few_names k = grind arith
 
 misnamed_words : (line : List ℕ) → IsMisnamed line → MisnamedWords (cut line)
 misnamed_words line h = record {
@@ -53,11 +44,6 @@ bad_line line few none good = (few, (λ c small e. none c small (words_of_line l
 -- a line of more than four words is bad
 pub too_many_words : (line : List ℕ) → length line ≤ most_line_bytes → 4 < length (slice_split (λ byte. byte == 32) line) → Says line (Err BadLine)
 too_many_words line few many = bad_line line few (λ c small e. absurd (omega (arith, many, ap length e, few_arguments c))) (λ bad. absurd (omega (arith, many, ap length bad.whole, bad.few)))
-
--- a line whose first word is no keyword is bad
-pub no_keyword : (line word : List ℕ) (words : List (List ℕ)) → length line ≤ most_line_bytes → word ∷ words ≡ slice_split (λ byte. byte == 32) line → ((k : Keyword) → word ≢ keyword_text k) → Says line (Err BadLine)
-no_keyword line word words few is none =
-    bad_line line few (λ c small e. none (keyword_of c) (ap first_word (is ∙ e))) (λ bad. none bad.keyword (ap first_word (is ∙ bad.whole)))
 
 -- what the words after the keyword say, the line says
 pub says_words : (line : List ℕ) (k : Keyword) (words : List (List ℕ)) (r : Result Command LineFault) → length line ≤ most_line_bytes → keyword_text k ∷ words ≡ slice_split (λ byte. byte == 32) line → ReadsCommand k words r → Says line r

@@ -1,25 +1,13 @@
 -- A script that runs: the bytes that were given so far, their lines, and their report.
-use Rattle.std.proofs.Common.{◌≡◌, ◌≢◌, ℕ, ◌+◌, ◌-◌, ◌^◌, ◌≤◌, Bool, true, false, List, [], ◌∷◌, ◌++◌, length, Option, Ok, refl, sym, ◌∙◌, ap, subst, arith, inl, inr, append_assoc, length-append, Result, Err}
-use Rattle.std.proofs.lemmas.Bool.{ne_eqb}
-use Rattle.std.proofs.lemmas.List.{append-nil}
-use Rattle.std.specs.Io.KnownBytes.{Consumes, Appends, IsAtEnd}
+use Rattle.std.proofs.Common.{◌≡◌, ◌≢◌, ℕ, ◌+◌, ◌-◌, ◌^◌, ◌≤◌, Bool, true, false, List, [], ◌∷◌, ◌++◌, length, Option, refl, sym, ◌∙◌, ap, subst, arith, inl, inr, append_assoc, length-append, Result, Err}
+use Rattle.rd_script.proofs.Prelude.{ne_eqb, append-nil, Consumes, Appends, IsAtEnd, Line, IsErrAnd, TakesBeginning, with_first_byte, lines_of, ended_lines_of, IsOneLine, ReadsLine, ReadsLast, ReadsPart}
 use Rattle.rd_marks.specs.Books.{BookState}
-use Rattle.rd_script.specs.declared.reading.lines.Line.{Line}
 use Rattle.rd_script.specs.declared.faults.ScriptFault.{ScriptFault}
-use Rattle.std.specs.Result.{OnOk, OnErr, IsErrAnd}
-use Rattle.rd_script.specs.declared.devices.sinks.WriteFault.{WriteFault}
-use Rattle.rd_script.specs.Replies.{LineAnswer, text_of}
-use Rattle.rd_script.specs.Device.{TakesBeginning}
-use Rattle.rd_script.specs.Lines.{with_first_byte, lines_of, ended_lines_of, IsOneLine, ReadsLine, ReadsLast, ReadsPart}
+use Rattle.rd_script.specs.Replies.{text_of}
 use Rattle.rd_script.specs.Answers.{Answered, AnswersLine}
-use Rattle.rd_script.specs.Script.{WritesAnswer, HasReport, Devices, RanToEnd, StoppedAtRead, StoppedAtWrite, RunsScript}
+use Rattle.rd_script.specs.Script.{HasReport, Devices, RanToEnd, StoppedAtRead, StoppedAtWrite, RunsScript}
 use Rattle.rd_script.proofs.ResultLemmas.{Err-from_error}
 use Rattle.rd_script.proofs.KnownLemmas.{Consumes-nil, Consumes-join, Appends-nil, Appends-join}
-
--- the text of an answer was written, or a beginning of it, by the result
-pub WritesAnswer-from_text : (old new : Option (List ℕ)) (answer : LineAnswer) (text : List ℕ) (r : Result (Unit {0}) WriteFault) → text ≡ text_of answer → OnOk r (Appends old new text) → OnErr r (TakesBeginning old new text) → WritesAnswer old new answer r
-WritesAnswer-from_text old new answer text (Ok x) is h k = subst (λ t. Appends old new t) is h
-WritesAnswer-from_text old new answer text (Err x) is h k = subst (λ t. TakesBeginning old new t) is k
 
 -- a line feed ends the first line
 lines-first : (text rest : List ℕ) → IsOneLine text → lines_of (text ++ 10 ∷ rest) ≡ text ∷ lines_of rest
@@ -52,14 +40,7 @@ Splits-nil : Splits [] []
 Splits-nil = record { all = λ rest. refl; ended = λ rest. refl }
 
 Splits-line : (given : List ℕ) (lines : List (List ℕ)) (text : List ℕ) → Splits given lines → IsOneLine text → Splits (given ++ (text ++ 10 ∷ [])) (lines ++ text ∷ [])
-Splits-line given lines text s h = record {
-  all = λ rest.
-      ap lines_of (append_assoc given (text ++ 10 ∷ []) rest ∙ ap (λ t. given ++ t) (append_assoc text (10 ∷ []) rest))
-      ∙ (s.all (text ++ 10 ∷ rest) ∙ (ap (λ t. lines ++ t) (lines-first text rest h) ∙ sym (append_assoc lines (text ∷ []) (lines_of rest))));
-  ended = λ rest.
-      ap ended_lines_of (append_assoc given (text ++ 10 ∷ []) rest ∙ ap (λ t. given ++ t) (append_assoc text (10 ∷ []) rest))
-      ∙ (s.ended (text ++ 10 ∷ rest) ∙ (ap (λ t. lines ++ t) (ended-first text rest h) ∙ sym (append_assoc lines (text ∷ []) (ended_lines_of rest))));
-}
+Splits-line given lines text s h = grind (arith, append_assoc, lines-first, ended-first)
 
 -- the lines of whole lines alone
 lines-whole : (given : List ℕ) (lines : List (List ℕ)) → Splits given lines → lines_of given ≡ lines
@@ -70,20 +51,8 @@ ended-whole given lines s = ap ended_lines_of (sym (append-nil given)) ∙ (s.en
 
 -- one line more, with its answer
 HasReport-more : (R : ℕ) (s : BookState) (lines : List (List ℕ)) (report : List ℕ) (mid : BookState) (line : List ℕ) (a : Answered) → HasReport R s lines report mid → AnswersLine R mid line a → HasReport R s (lines ++ line ∷ []) (report ++ text_of a.answer) a.state
-HasReport-more R s [] report mid line a h k = (
-  a,
-  [],
-  subst (λ x. AnswersLine R x line a) h.1 k,
-  ap (λ t. t ++ text_of a.answer) h.0 ∙ sym (append-nil (text_of a.answer)),
-  (refl, refl),
-)
-HasReport-more R s (x ∷ xs) report mid line a h k = (
-  h.0,
-  h.1 ++ text_of a.answer,
-  h.2,
-  ap (λ t. t ++ text_of a.answer) h.3 ∙ append_assoc (text_of h.0.answer) h.1 (text_of a.answer),
-  HasReport-more R h.0.state xs h.1 mid line a h.4 k,
-)
+HasReport-more R s [] report mid line a h k = grind (arith, append-nil)
+HasReport-more R s (x ∷ xs) report mid line a h k = grind (arith, append_assoc, HasReport-more R h.0.state xs h.1 mid line a h.4 k)
 
 -- this many lines were read, obeyed and reported, and both devices work
 pub record IsGoingOn (R : ℕ) (before now : BookState) (in_before in_now : Option (List ℕ)) (in_failed : Bool) (out_before out_now : Option (List ℕ)) (out_failed : Bool) (n : ℕ) : Type 0 where
@@ -131,17 +100,7 @@ module _ (R : ℕ) (before now : BookState) (in_before in_now : Option (List ℕ
 
   -- the end
   pub ran_to_end : (in_new : Option (List ℕ)) (in_failed' : Bool) → Consumes in_now in_new [] → IsAtEnd in_new → in_failed' ≡ false → RanToEnd R before now (now_at in_new in_failed' out_now out_failed) n
-  ran_to_end in_new in_failed' keeps ended in_works = record {
-    in_works = in_works;
-    out_works = g.out_works;
-    given = g.given;
-    took = subst (λ t. Consumes in_before in_new t) (append-nil g.given) (Consumes-join in_before in_now in_new g.given [] g.took keeps);
-    ended = ended;
-    counted = ap length (lines-whole g.given g.lines g.splits) ∙ g.counted;
-    report = g.report;
-    wrote = g.wrote;
-    reports = subst (λ ls. HasReport R before ls g.report now) (sym (lines-whole g.given g.lines g.splits)) g.reports;
-  }
+  ran_to_end in_new in_failed' keeps ended in_works = grind (arith, append-nil, lines-whole)
 
   -- the reader failed
   pub stopped_at_read : (in_new : Option (List ℕ)) (in_failed' : Bool) → ReadsPart in_now in_new in_failed' → StoppedAtRead R before now (now_at in_new in_failed' out_now out_failed)
@@ -159,15 +118,7 @@ module _ (R : ℕ) (before now : BookState) (in_before in_now : Option (List ℕ
 
   -- 2^64 - 1 lines without an end
   pub stopped_endless : n ≡ 2 ^ 64 - 1 → StoppedAtRead R before now (now_at in_now in_failed out_now out_failed)
-  stopped_endless most = record {
-    out_works = g.out_works;
-    given = g.given;
-    took = g.took;
-    cause = inr (omega (arith, g.enough, most));
-    report = g.report;
-    wrote = g.wrote;
-    reports = subst (λ ls. HasReport R before ls g.report now) (sym (ended-whole g.given g.lines g.splits)) g.reports;
-  }
+  stopped_endless most = grind (arith, ended-whole)
 
   -- one more line, ended by a line feed, was obeyed and reported
   pub goes_on : (in_new out_new : Option (List ℕ)) (in_failed' out_failed' : Bool) (line : Line) (read : ReadsLine in_now in_new line (10 ∷ [])) (a : Answered) → AnswersLine R now read.text a → (after : BookState) → a.state ≡ after → Appends out_now out_new (text_of a.answer) → in_failed' ≡ false → out_failed' ≡ false → after.session.start ≡ now.session.start → IsGoingOn R before after in_before in_new in_failed' out_before out_new out_failed' (n + 1)

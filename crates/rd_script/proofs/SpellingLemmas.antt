@@ -1,22 +1,8 @@
 -- No word of a command has a space, and there are four at most: so the line that spells a command
 -- is cut into just its words.
-use Rattle.std.proofs.Common.{◌≡◌, ℕ, ◌≤◌, ◌==◌, ◌&&◌, nat_lt, Bool, true, false, not, List, [], ◌∷◌, ◌++◌, length, codes, refl, ◌∙◌, ap, arith, tests}
-use Rattle.std.proofs.lemmas.Bool.{and_parts}
+use Rattle.std.proofs.Common.{◌≡◌, ℕ, ◌≤◌, ◌==◌, Bool, true, not, List, [], ◌∷◌, ◌++◌, length, codes, refl, ◌∙◌, ap, arith, tests}
+use Rattle.rd_script.proofs.Prelude.{and_parts, decimal, list_all, slice_split, SegName, is_mark_name, is_name_byte, Command, Keyword, PlaceKind, name_words, yes_or_no, Argument, keyword_text, keyword_of, kind_text, word_of, words_of, arguments_of, IsSegmentInRange, IsArgumentInRange, AreArgumentsInRange, spelling, IsInRange, is_word}
 use Rattle.std.specs.Char.{is_ascii_graphic}
-use Rattle.std.specs.Fmt.{decimal}
-use Rattle.std.specs.List.{list_all, slice_split}
-use Rattle.rd_step.specs.Prelude.{SegName, Place, QHead}
-use Rattle.rd_marks.specs.NameBytes.{is_mark_name, is_name_byte, MOST_NAME_BYTES}
-use Rattle.rd_marks.specs.declared.commands.Command.{Command}
-use Rattle.rd_marks.specs.declared.commands.Command.TheVariants.{Writer, Show}
-use Rattle.rd_script.specs.declared.reading.keywords.Keyword.{Keyword}
-use Rattle.rd_script.specs.declared.reading.keywords.Keyword.TheVariants as keyword
-use Rattle.rd_script.specs.declared.reading.places.PlaceKind.{PlaceKind}
-use Rattle.rd_script.specs.declared.reading.places.PlaceKind.TheVariants as kind
-use Rattle.rd_script.specs.Contents.{name_words}
-use Rattle.rd_script.specs.Texts.{yes_or_no}
-use Rattle.rd_script.specs.Grammar.{Argument, Byte, Long, Segment, Choice, Name, Kind, keyword_text, keyword_of, kind_text, word_of, words_of, place_arguments, arguments_of, IsSegmentInRange, IsArgumentInRange, AreArgumentsInRange}
-use Rattle.rd_script.specs.Spelling.{spelling, IsInRange, is_word}
 use Rattle.rd_script.proofs.SplitLemmas.{is_free, AreFree, parts_of_join, is_free_decimal, is_free_both}
 
 -- a word has no space
@@ -48,34 +34,23 @@ are_graphic (x ∷ xs) e =
     rw (name_byte_is_graphic x here.0, are_graphic xs here.1) refl
 
 pub is_word_of_name : (name : List ℕ) → is_mark_name name ≡ true → is_word name ≡ true
-is_word_of_name name e =
-    let all = and_parts (not (length name == 0) && not (nat_lt MOST_NAME_BYTES (length name))) (list_all is_name_byte name) e in
-    let some = and_parts (not (length name == 0)) (not (nat_lt MOST_NAME_BYTES (length name))) all.0 in
-    rw (some.0, are_graphic name all.1) refl
+is_word_of_name name e = grind (arith, and_parts, are_graphic)
 
 -- no word of a command has a space
 pub free_keyword : (k : Keyword) → is_free 32 (keyword_text k) ≡ true
-free_keyword keyword.Go = refl
-free_keyword _ = refl
+free_keyword k = grind arith
 
 free_kind : (k : PlaceKind) → is_free 32 (kind_text k) ≡ true
-free_kind kind.QHead = refl
-free_kind _ = refl
+free_kind k = grind arith
 
 free_choice : (choice : Bool) → is_free 32 (yes_or_no choice) ≡ true
-free_choice true = refl
-free_choice false = refl
+free_choice choice = grind arith
 
 free_segment : (s : SegName) → IsSegmentInRange s → is_free 32 (name_words s) ≡ true
 free_segment s small = is_free_both 32 (decimal s.maker ++ codes ".") (decimal s.n) (is_free_both 32 (decimal s.maker) (codes ".") (is_free_decimal 32 s.maker (omega arith) (omega (arith, small.0))) refl) (is_free_decimal 32 s.n (omega arith) (omega (arith, small.1)))
 
 free_argument : (x : Argument) → IsArgumentInRange x → is_free 32 (word_of x) ≡ true
-free_argument (Byte n) small = is_free_decimal 32 n (omega arith) (omega (arith, small))
-free_argument (Long n) small = is_free_decimal 32 n (omega arith) small
-free_argument (Segment s) small = free_segment s small
-free_argument (Choice choice) small = free_choice choice
-free_argument (Name name) small = is_free_word name (is_word_of_name name small)
-free_argument (Kind k) small = free_kind k
+free_argument x small = grind (arith, is_free_decimal, free_segment, free_choice, is_free_word, is_word_of_name, free_kind)
 
 free_arguments : (xs : List Argument) → AreArgumentsInRange xs → AreFree 32 (words_of xs)
 free_arguments [] small = tt
@@ -86,12 +61,5 @@ pub words_of_line : (line : List ℕ) (c : Command) → IsInRange c → line ≡
 words_of_line line c small e =
     ap (slice_split (λ byte. byte == 32)) e ∙ parts_of_join 32 (keyword_text (keyword_of c)) (words_of (arguments_of c)) (free_keyword (keyword_of c), free_arguments (arguments_of c) small)
 
--- a command has at most three arguments
-few_place_arguments : (p : Place) → length (words_of (place_arguments p)) ≤ 2
-few_place_arguments QHead = omega arith
-few_place_arguments _ = omega arith
-
 pub few_arguments : (c : Command) → length (words_of (arguments_of c)) ≤ 3
-few_arguments (Writer place) = omega (arith, few_place_arguments place)
-few_arguments (Show place) = omega (arith, few_place_arguments place)
-few_arguments _ = omega arith
+few_arguments c = grind arith

@@ -1,9 +1,6 @@
 -- Parts that are joined by a byte that is in none of them, and cut there again.
-use Rattle.std.proofs.Common.{◌≡◌, ℕ, ◌+◌, ◌%◌, ◌<◌, ◌^◌, ◌==◌, Bool, true, false, true≢false, ◌&&◌, not, ne_eqb, eq-eqb, List, [], ◌∷◌, ◌++◌, refl, sym, ◌∙◌, ap, arith}
-use Rattle.std.specs.List.{list_all, slice_split, onto_first, join_with_byte}
-use Rattle.std.specs.Fmt.{decimal}
-use Rattle.std.proofs.lemmas.Bool.{and_parts}
-use Rattle.std.proofs.lemmas.Fmt.{decimal_by_steps}
+use Rattle.std.proofs.Common.{◌≡◌, ℕ, ◌+◌, ◌%◌, ◌<◌, ◌^◌, ◌==◌, Bool, true, false, ◌&&◌, not, ne_eqb, eq-eqb, List, [], ◌∷◌, ◌++◌, refl, sym, ◌∙◌, ap, arith}
+use Rattle.rd_script.proofs.Prelude.{list_all, slice_split, onto_first, join_with_byte, decimal, and_parts, decimal_by_steps}
 use Rattle.std.proofs.lemmas.List.Folds.{list_all-append}
 use Rattle.std.proofs.lemmas.List.Splits.{slice_split-cons_yes, slice_split-cons_no, join_with_byte-slice_split}
 
@@ -17,8 +14,7 @@ AreFree c [] = Unit {0}
 AreFree c (part ∷ parts) = (is_free c part ≡ true) × AreFree c parts
 
 not_true : (a : Bool) → not a ≡ true → a ≡ false
-not_true true e = absurd (true≢false (sym e))
-not_true false e = refl
+not_true a e = grind arith
 
 -- a part that the byte ends
 first_part : (c : ℕ) (part rest : List ℕ) → is_free c part ≡ true → slice_split (λ byte. byte == c) (part ++ c ∷ rest) ≡ part ∷ slice_split (λ byte. byte == c) rest
@@ -38,8 +34,7 @@ last_part c (x ∷ xs) free =
 -- parts that are joined are cut where they were joined
 pub parts_of_join : (c : ℕ) (part : List ℕ) (parts : List (List ℕ)) → AreFree c (part ∷ parts) → slice_split (λ byte. byte == c) (join_with_byte c (part ∷ parts)) ≡ part ∷ parts
 parts_of_join c part [] free = last_part c part free.0
-parts_of_join c part (next ∷ parts) free =
-    first_part c part (join_with_byte c (next ∷ parts)) free.0 ∙ ap (λ rest. part ∷ rest) (parts_of_join c next parts free.1)
+parts_of_join c part (next ∷ parts) free = grind (arith, first_part, parts_of_join c next parts free.1)
 
 -- a text whose parts these are is their join
 pub join_of_parts : (c : ℕ) (text : List ℕ) (parts : List (List ℕ)) → parts ≡ slice_split (λ byte. byte == c) text → text ≡ join_with_byte c parts

@@ -1,21 +1,11 @@
 -- The lines of a whole text, as the parts between its line feeds, and what they say.
-use Rattle.std.proofs.Common.{◌≡◌, ◌≢◌, ℕ, Bool, true, false, ◌==◌, if◌then◌else◌, List, [], ◌∷◌, ◌++◌, refl, ◌∙◌, ap, Result}
-use Rattle.std.proofs.lemmas.Bool.{ne_eqb}
-use Rattle.std.specs.List.{slice_split, onto_first}
-use Rattle.rd_marks.specs.declared.commands.Command.{Command}
-use Rattle.rd_script.specs.declared.faults.LineFault.{LineFault}
-use Rattle.rd_script.specs.Spelling.{Says}
-use Rattle.rd_script.specs.Lines.{with_first_byte, lines_of, AreSaid}
-
-first-same : (x : ℕ) (parts : List (List ℕ)) → onto_first x parts ≡ with_first_byte x parts
-first-same x [] = refl
-first-same x (part ∷ parts) = refl
+use Rattle.std.proofs.Common.{◌≡◌, ◌≢◌, ℕ, Bool, ◌==◌, if◌then◌else◌, List, [], ◌∷◌, ◌++◌, refl, ap, Result, arith}
+use Rattle.rd_script.proofs.Prelude.{ne_eqb, slice_split, onto_first, Command, LineFault, Says, with_first_byte, lines_of, AreSaid}
 
 -- one byte more before the text
 one-more : (ends : Bool) (x : ℕ) (parts lines : List (List ℕ)) → parts ≡ lines
     → (if ends then [] ∷ parts else onto_first x parts) ≡ (if ends then [] ∷ lines else with_first_byte x lines)
-one-more true x parts lines same = ap (λ ls. [] ∷ ls) same
-one-more false x parts lines same = ap (onto_first x) same ∙ first-same x lines
+one-more ends x parts lines same = grind arith
 
 -- the parts of a text are the lines of it with a line feed after it
 pub parts-of_ended : (text : List ℕ) → slice_split (λ byte. byte == 10) text ≡ lines_of (text ++ 10 ∷ [])

@@ -1,5 +1,5 @@
 use Rattle.std.proofs.Common.{Ok, Err, refl}
-use Rattle.rd_marks.specs.BookViews.{book_state}
+use Rattle.rd_script.proofs.Prelude.{book_state}
 use Rattle.rd_script.specs.declared.answers.AnyRefusal.TheVariants.{Refused, Unread}
 use Rattle.rd_script.proofs.script.answer_line.Goals as goal
 

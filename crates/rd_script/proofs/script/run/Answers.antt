@@ -1,16 +1,11 @@
 use Rattle.std.proofs.Common.{Ok, subst, arith, ◌∙◌}
-use Rattle.rd_marks.specs.BookViews.{book_state}
-use Rattle.rd_script.specs.Lines.{ReadsNext}
+use Rattle.rd_script.proofs.Prelude.{book_state, ReadsNext}
 use Rattle.rd_script.specs.declared.faults.ScriptFault.TheVariants.{Read, Write}
 use Rattle.rd_script.proofs.ScriptLemmas.{starts, ran_to_end, stopped_at_read, stopped_endless, goes_on, ran_to_last, RunsScript-at_fault, stopped_at_write, stopped_at_last_write}
 use Rattle.rd_script.proofs.script.run.Goals as goal
 
 pub loop-done-init : goal.loop-done-init
-loop-done-init g c =
-    starts g.row.R (book_state c.args.book.now)
-    (g.S.Source.bytes c.args.reader.now) (g.S.Source.has_failed c.args.reader.now)
-    (g.K.Sink.contents c.args.writer.now) (g.K.Sink.has_failed c.args.writer.now)
-    c.requires.reader_works c.requires.writer_works
+loop-done-init g c = grind (arith, starts)
 
 pub returns-in_err-next_line : goal.returns-in_err-next_line
 returns-in_err-next_line g c =

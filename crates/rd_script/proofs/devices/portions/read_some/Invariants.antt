@@ -1,5 +1,5 @@
 use Rattle.std.proofs.Common.{◌≡◌, length}
-use Rattle.std.specs.Io.KnownBytes.{Keeps}
+use Rattle.rd_script.proofs.Prelude.{Keeps}
 use Rattle.rd_script.proofs.devices.portions.read_some.Given as goal
 
 -- nothing was read yet

@@ -1,4 +1,4 @@
-use Rattle.std.specs.Io.KnownBytes.{Keeps}
+use Rattle.rd_script.proofs.Prelude.{Keeps}
 use Rattle.rd_script.proofs.devices.sinks.write_some.Given as goal
 
 -- nothing was taken yet

@@ -1,13 +1,6 @@
-use Rattle.std.proofs.Common.{◌≡◌, ◌≢◌, ℕ, ◌<◌, Bool, true, false, true≢false, List, [], ◌∷◌, map, None, sym, ap, subst}
-use Rattle.std.specs.Fmt.{decimal}
-use Rattle.rd_marks.specs.declared.commands.Command.{Command}
-use Rattle.rd_marks.specs.declared.commands.Command.TheVariants.{Starve}
-use Rattle.rd_script.specs.declared.reading.keywords.Keyword.{Keyword}
+use Rattle.std.proofs.Common.{◌≡◌, ◌≢◌, ℕ, ◌<◌, Bool, true, false, List, [], ◌∷◌, map, None, sym, subst, arith}
+use Rattle.rd_script.proofs.Prelude.{decimal, Command, Keyword, yes_or_no, keyword_of, arguments_of, words_of, IsInRange, ReadsNameless}
 use Rattle.rd_script.specs.declared.reading.keywords.Keyword.TheVariants as keyword
-use Rattle.rd_script.specs.Texts.{yes_or_no}
-use Rattle.rd_script.specs.Grammar.{keyword_of, arguments_of, words_of}
-use Rattle.rd_script.specs.Spelling.{IsInRange}
-use Rattle.rd_script.specs.Reading.{ReadsNameless}
 use Rattle.rd_script.proofs.reading.commands.command_without_name.Goals as goal
 
 abbrev is_starve : Keyword → Bool
@@ -17,8 +10,7 @@ is_starve _ = false
 -- words that are no actor and its choice are those of no command of this keyword
 no_starve : (words : List (List ℕ)) → ((actor : ℕ) (choice : Bool) → actor < 256 → words ≢ decimal actor ∷ yes_or_no choice ∷ [])
     → (c : Command) → IsInRange c → keyword_of c ≡ keyword.Starve → words ≢ words_of (arguments_of c)
-no_starve words none (Starve actor choice) small is = none actor choice small.0
-no_starve words none _ small is = absurd (true≢false (sym (ap is_starve is)))
+no_starve words none c small is = grind arith
 
 pub returns-in_err-actor-in-Starve : goal.returns-in_err-actor-in-Starve
 returns-in_err-actor-in-Starve c =

@@ -1,6 +1,5 @@
 use Rattle.std.proofs.Common.{sym, ◌∙◌, subst}
-use Rattle.std.specs.Str.{IsUtf8}
-use Rattle.std.proofs.lemmas.Fmt.{parse-decimal}
+use Rattle.rd_script.proofs.Prelude.{IsUtf8, parse-decimal}
 use Rattle.rd_script.proofs.NumeralLemmas.{IsUtf8-decimal}
 use Rattle.rd_script.proofs.reading.numbers.std_number_in.Goals as goal
 

@@ -1,7 +1,5 @@
 use Rattle.std.proofs.Common.{rules, tests, ◌≡◌, ◌==◌, List, [], ◌∷◌, ◌++◌, map, refl, ◌∙◌, subst, Bor, ℕ}
-use Rattle.std.proofs.lemmas.List.{map-append}
-use Rattle.std.proofs.lemmas.Iterator.Splits.{YieldsList-from_slice_split}
-use Rattle.rd_script.specs.Lines.{AreSaid}
+use Rattle.rd_script.proofs.Prelude.{map-append, YieldsList-from_slice_split, AreSaid}
 use Rattle.rd_script.proofs.PartLemmas.{all_parts}
 use Rattle.rd_script.proofs.TextLemmas.{AreSaid-more}
 use Rattle.rd_script.proofs.reading.whole_texts.lines.Goals as goal

@@ -1,5 +1,5 @@
 use Rattle.std.proofs.Common.{map}
-use Rattle.rd_script.specs.Lines.{AreSaid}
+use Rattle.rd_script.proofs.Prelude.{AreSaid}
 use Rattle.rd_script.proofs.reading.whole_texts.lines.Given as goal
 
 -- what the lines say that were given so far

@@ -1,7 +1,6 @@
 use Rattle.std.proofs.Common.{Some, None, [], ◌∷◌, ap, ◌∙◌, sym}
-use Rattle.std.proofs.lemmas.Bool.Decides.{Decides-eqb}
+use Rattle.rd_script.proofs.Prelude.{Decides-eqb, lines_of}
 use Rattle.std.proofs.lemmas.Slice.Eq.{strip_suffix_is}
-use Rattle.rd_script.specs.Lines.{lines_of}
 use Rattle.rd_script.proofs.TextLemmas.{parts-of_ended, parts-of_unended}
 use Rattle.rd_script.proofs.reading.whole_texts.without_last_feed.Goals as goal
 

@@ -1,6 +1,5 @@
 use Rattle.std.proofs.Common.{◌≢◌, ℕ, ◌<◌, slice_index_or}
-use Rattle.rd_script.specs.declared.reading.keywords.Keyword.TheVariants.{Go}
-use Rattle.rd_script.specs.Grammar.{keyword_text}
+use Rattle.rd_script.proofs.Prelude.{Go, keyword_text}
 use Rattle.rd_script.proofs.reading.keywords.Keyword.of.Given as goal
 
 -- the word is none of the keywords before this one

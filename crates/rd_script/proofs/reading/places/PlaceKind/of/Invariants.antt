@@ -1,6 +1,5 @@
 use Rattle.std.proofs.Common.{◌≢◌, ℕ, ◌<◌, slice_index_or}
-use Rattle.rd_script.specs.declared.reading.places.PlaceKind.TheVariants.{QHead}
-use Rattle.rd_script.specs.Grammar.{kind_text}
+use Rattle.rd_script.proofs.Prelude.{QHead, kind_text}
 use Rattle.rd_script.proofs.reading.places.PlaceKind.of.Given as goal
 
 -- the word is none of the kinds before this one
