@@ -1,7 +1,6 @@
 -- What moves, events and marks are answered, from what the calls say of their results.
 use Rattle.std.proofs.Common.{◌≡◌, ℕ, sym, subst, List, Result, Ok, OnOk, OnErr}
-use Rattle.rd_marks.proofs.Prelude.{Refusal, World, Event, IsPrefix, Session, state, track, journal, State, lists_in, here_in, AreRuns}
-use Rattle.rd_journal.specs.Journal.{events}
+use Rattle.rd_marks.proofs.Prelude.{Refusal, World, Event, IsPrefix, Session, state, track, journal, State, lists_in, here_in, AreRuns, events}
 use Rattle.rd_marks.specs.declared.books.Book.{Book}
 use Rattle.rd_marks.proofs.Starts.{start_stays}
 

@@ -1,9 +1,8 @@
 -- The entries of the stretches are as many as the lists that begin the events of a bookmark, the
 -- empty one apart.
 use Rattle.std.proofs.Common.{◌≡◌, ℕ, zero, suc, ◌+◌, ◌-◌, ◌<◌, ◌≤◌, inl, inr, refl, sym, ap, ◌∙◌, subst, List, [], ◌∷◌, ◌++◌, length, take, map, sum_by, Contains, length-append, length-take, arith}
-use Rattle.rd_marks.proofs.Prelude.{range_with_len, take-length, cases_lt, cases_eq, nat_tests, get_or-map, length-map, length-take-le, take-map, take-take, sum_by-cons, Contains-append_left, Contains-append_right, Contains-append_cases, Event, Entry, IsPrefix, MarkName, Stretch, Place, mark_of, marks_of, named_lists, stretch_list, shared_at, entries_at, AreNested, AreFresh, number_if_in, greatest_in, AreNeeded, IsAlong, IsDeepest, count_of}
+use Rattle.rd_marks.proofs.Prelude.{range_with_len, take-length, cases_lt, cases_eq, nat_tests, get_or-map, length-map, length-take-le, take-map, take-take, sum_by-cons, Contains-append_left, Contains-append_right, Contains-append_cases, Event, Entry, IsPrefix, MarkName, Stretch, Place, mark_of, marks_of, named_lists, stretch_list, shared_at, entries_at, AreNested, AreFresh, number_if_in, greatest_in, AreNeeded, IsAlong, IsDeepest, count_of, events}
 use Rattle.std.proofs.lemmas.List.FromFn.{length-map-range_with_len, get_or-map-range_with_len}
-use Rattle.rd_step.specs.Run.{events}
 use Rattle.rd_marks.specs.Beginnings.{IsBeginning, AreDistinct, CountsBeginnings, NeedsNoEntry}
 use Rattle.rd_marks.proofs.StretchLists.{own_at, list_past, shared_past, shared_within, total, begins_shared}
 use Rattle.rd_marks.proofs.Fresh.{along_less, along_within, not_both}
@@ -39,11 +38,8 @@ level_of : (fs : List Event) (a n : ℕ) (es : List Event) → a + n ≤ suc (le
 level_of fs a n es h c = grind (arith, length-map-range_with_len, get_or-map-range_with_len, length-take-le)
 
 of_level : (fs : List Event) (a n : ℕ) (es : List Event) → a ≤ length es → length es < a + n → IsPrefix es fs → Contains (levels fs a n) es
-of_level fs a n es more within b = (
-  length es - a,
-  omega (arith, more, within, length-map-range_with_len (λ (m : ℕ). take m fs) a n),
-  get_or-map-range_with_len (λ (m : ℕ). take m fs) a n (length es - a) (length es) es (omega (arith, more, within)) (omega (arith, more)) ∙ b,
-)
+of_level fs a n es more within b =
+    (length es - a, grind (arith, more, within, length-map-range_with_len), grind (arith, more, within, b, get_or-map-range_with_len (λ (m : ℕ). take m fs) a n (length es - a) (length es) es))
 
 levels_distinct : (fs : List Event) (a n : ℕ) → a + n ≤ suc (length fs) → AreDistinct (levels fs a n)
 levels_distinct fs a zero h = tt
@@ -106,10 +102,7 @@ all_along ss ms at n es along deepest none =
       | inl less ↦
           let l = begins_list ss ms es (none (omega (arith, less))) in
           let on = along_less ss l.0 (suc n) (length es) es (omega (arith, less)) (along_begun ss l.0 es l.1) in
-          elim (cases_lt l.0 (length ss)) [
-            | inl inside ↦ absurd (deepest l.0 inside on)
-            | inr past ↦ absurd (omega (arith, ap length (list_past ss l.0 past), along_within ss l.0 (suc n) es on))
-          ]
+          grind (arith, on, deepest l.0, cases_lt l.0 (length ss), list_past ss l.0, along_within ss l.0 (suc n) es)
       | inr all ↦ omega (arith, all, along.enough)
     ]
 
@@ -149,13 +142,9 @@ module _ (ss : List Stretch) (rule : AreNested ss) where
   distinct_to : AreFresh ss → (n : ℕ) → n ≤ length ss → AreDistinct (lists_to ss n)
   distinct_to fresh zero h = tt
   distinct_to fresh (suc n) h =
-      distinct_joined (lists_to ss n) (own_lists ss n) (distinct_to fresh n (omega (arith, h)))
-      (levels_distinct (events (stretch_list ss n)) (suc (shared_at ss n)) (length (own_at ss n)) (omega (arith, fits n)))
-      (λ es first second. (
-      let l = listed n es first in
-      let m = level_of (events (stretch_list ss n)) (suc (shared_at ss n)) (length (own_at ss n)) es (omega (arith, fits n)) second in
-      not_both ss rule fresh n l.0 (length es) es l.1 (omega (arith, h)) m.0 (along_begun ss n es m.1) (along_begun ss l.0 es l.3)
-      ))
+      distinct_joined (lists_to ss n) (own_lists ss n) (distinct_to fresh n (omega (arith, h))) (levels_distinct (events (stretch_list ss n)) (suc (shared_at ss n)) (length (own_at ss n))
+      (omega (arith, fits n)))
+      (λ es first second. grind (arith, h, fits n, listed n es first, level_of (events (stretch_list ss n)) (suc (shared_at ss n)) (length (own_at ss n)) es, second, not_both ss rule fresh n, along_begun))
 
   -- a list that begins that of a stretch is one stretch's own
   owner : (i : ℕ) (es : List Event) → 0 < length es → IsPrefix es (events (stretch_list ss i)) → IsListed ss (suc i) es
@@ -221,10 +210,7 @@ module _ (ss : List Stretch) (rule : AreNested ss) where
         is_one es h =
             let b = begins_list ss ms es h in
             let l = owner b.0 es h.some b.1 in
-            elim (cases_lt l.0 (length ss)) [
-              | inl inside ↦ is_listed (length ss) l.0 es inside l.2 l.3
-              | inr past ↦ absurd (omega (arith, ap length (list_past ss l.0 past), l.2, begun_within ss l.0 es l.3))
-            ]
+            grind (arith, l.2, l.3, is_listed (length ss) l.0 es, list_past ss l.0, begun_within ss l.0 es)
 
 -- The entries are no more than those of the places together
 

@@ -1,7 +1,6 @@
 -- The entries of a session's live steps, and that they are those of a run.
-use Rattle.std.proofs.Common.{◌≡◌, ℕ, zero, suc, drop, ◌+◌, ◌≤◌, refl, sym, ap, subst, ◌∙◌, List, [], ◌∷◌, ◌++◌, length, take, ◌-◌, Result, Ok, OnOk, length-drop, arith}
-use Rattle.rd_marks.proofs.Prelude.{take-length, Refusal, MOST_STEPS, World, Stepped, step, run, run_from_step, Event, take-append-drop, drop-map, Entry, State, state_of, switch, Journal, start_of, AreEntriesOfRun}
-use Rattle.rd_journal.specs.Journal.{events, run_entries, IsRunFrom}
+use Rattle.std.proofs.Common.{◌≡◌, ℕ, zero, suc, drop, ◌+◌, ◌≤◌, refl, sym, ap, ◌∙◌, List, [], ◌∷◌, ◌++◌, length, take, ◌-◌, Result, Ok, OnOk, length-drop, arith}
+use Rattle.rd_marks.proofs.Prelude.{take-length, Refusal, MOST_STEPS, World, Stepped, step, run, run_from_step, Event, take-append-drop, drop-map, Entry, State, state_of, switch, Journal, start_of, AreEntriesOfRun, events, run_entries, IsRunFrom}
 
 -- A start and its events determine the entries of a run
 
@@ -14,7 +13,7 @@ pub record Began (R : ℕ) (w : World) (x : Entry) (xs : List Entry) : Type 0 wh
 
 began_by : (R : ℕ) (w : World) (x : Entry) (xs : List Entry) (r : Result Stepped Refusal) → step R w x.event ≡ r
     → run_entries (run_from_step (λ v. run R v (events xs)) r) ≡ Ok (x ∷ xs) → Began R w x xs
-began_by h w x xs r goes k = grind arith
+began_by R w x xs r goes k = grind arith
 
 pub began : (R : ℕ) (w : World) (x : Entry) (xs : List Entry) → run_entries (run R w (events (x ∷ xs))) ≡ Ok (x ∷ xs) → Began R w x xs
 began R w x xs h = began_by R w x xs (step R w x.event) refl h
@@ -26,16 +25,7 @@ begin_alike R zero w xs ys p q h = refl
 begin_alike R (suc n) w [] [] p q h = refl
 begin_alike R (suc n) w [] (y ∷ ys) p q h = cc
 begin_alike R (suc n) w (x ∷ xs) [] p q h = cc
-begin_alike R (suc n) w (x ∷ xs) (y ∷ ys) p q h =
-    let event : x.event ≡ y.event = cc in
-    let events_on : take n (events xs) ≡ take n (events ys) = cc in
-    let a = began R w x xs p in
-    let b = began R w y ys q in
-    let both : Ok a.stepped ≡ Ok b.stepped = sym a.goes ∙ ap (step R w) event ∙ b.goes in
-    let stepped : a.stepped ≡ b.stepped = cc in
-    let entry : x ≡ y = sym a.entry ∙ ap (λ (s : Stepped). s.entry) stepped ∙ b.entry in
-    let on = ap (λ (s : Stepped). run_entries (run R s.world (events xs))) (sym stepped) ∙ a.rest in
-    (λ i. entry i ∷ begin_alike R n b.stepped.world xs ys on b.rest events_on i)
+begin_alike R (suc n) w (x ∷ xs) (y ∷ ys) p q h = grind (arith, began R w x xs p, began R w y ys q, begin_alike R n (began R w y ys q).stepped.world xs ys)
 
 -- a list from a position to its end
 pub to_the_end : {X : Type 0} (n : ℕ) (xs : List X) → take (length xs - n) (drop n xs) ≡ drop n xs
@@ -55,9 +45,7 @@ switched r s t n zs ys given h k = grind (arith, joined_events)
 -- what a switch to entries of a run asks for
 pub may_switch : (R : ℕ) (j : Journal) (n : ℕ) (zs ys : List Entry) → zs ≡ drop n ys → IsRunFrom R (start_of j) j.live → AreEntriesOfRun R (start_of j) ys
     → take n (state_of j).live ≡ take n (events ys) → IsRunFrom R (start_of j) (take n j.live ++ zs)
-may_switch R j n zs ys given ran kept h =
-    let alike : take n j.live ≡ take n ys = begin_alike R n (start_of j) j.live ys ran kept.ran h in
-    subst (λ (xs : List Entry). IsRunFrom R (start_of j) xs) (sym ((λ i. alike i ++ given i) ∙ take-append-drop n ys)) kept.ran
+may_switch R j n zs ys given ran kept h = grind (arith, kept.ran, take-append-drop, begin_alike R n (start_of j) j.live ys ran kept.ran)
 
 pub few_enough : (n : ℕ) (zs ys : List Entry) → zs ≡ drop n ys → n ≤ length ys → length ys ≤ MOST_STEPS → n + length zs ≤ MOST_STEPS
 few_enough n zs ys given h k = omega (arith, ap length given, length-drop n ys)

@@ -1,7 +1,6 @@
 -- Which lists begin alike, and how far the stretches can be followed along a list of events.
-use Rattle.std.proofs.Common.{◌≡◌, ◌⊎◌, ℕ, zero, suc, ◌<◌, ◌≤◌, inl, inr, refl, sym, ap, ◌∙◌, subst, List, length, take, length-take, arith}
-use Rattle.rd_marks.proofs.Prelude.{cases_lt, cases_eq, length-map, take-take, take-map, length-take-le, Event, Entry, IsPrefix, Stretch, stretch_list, shared_at, AreNested, AreFresh, IsAlong, IsDeepest}
-use Rattle.rd_step.specs.Run.{events}
+use Rattle.std.proofs.Common.{◌≡◌, ◌⊎◌, ℕ, zero, suc, ◌<◌, ◌≤◌, refl, sym, ap, ◌∙◌, List, length, take, length-take, arith}
+use Rattle.rd_marks.proofs.Prelude.{cases_eq, length-map, take-take, take-map, length-take-le, Event, Entry, IsPrefix, Stretch, stretch_list, shared_at, AreNested, AreFresh, IsAlong, IsDeepest, events}
 use Rattle.rd_marks.proofs.StretchLists.{list_past, begins_shared, shared_entries}
 
 abbrev as_event : Entry → Event
@@ -72,19 +71,12 @@ module _ (ss : List Stretch) (rule : AreNested ss) (fresh : AreFresh ss) (es : L
   follows_start at n owned a = record {
     along = a;
     shared = λ j low high. absurd (omega (arith, low, high));
-    none = λ j h b. elim (cases_lt at (length ss)) [
-      | inl inside ↦ grind (arith, owned, not_both ss rule fresh at j n es h inside, along_less ss j n (suc n) es)
-      | inr past ↦ omega (arith, owned, h, ap length (list_past ss at past), along_within ss at n es a)
-    ];
+    none = λ j h b. grind (arith, owned, h, b, a, not_both ss rule fresh at j n es, along_less ss j n (suc n) es, list_past ss at, along_within ss at n es);
   }
 
   -- the stretch is along as many
   pub follows_here : (k at n : ℕ) → Follows ss es k at n → at ≤ k → (at ≡ k) ⊎ (n ≤ shared_at ss k) → IsAlong ss k n es
-  follows_here k at n f h here =
-      elim here [
-        | inl same ↦ subst (λ (i : ℕ). IsAlong ss i n es) same f.along
-        | inr less ↦ along_taken ss ss k at n es (shared_entries ss rule at k n h (λ j low high. grind (arith, less, f.shared j low))) f.along
-      ]
+  follows_here k at n f h here = grind (arith, here, f.along, along_taken ss ss k at n es, shared_entries ss rule at k n h, f.shared)
 
   -- the stretch branches off further on than that
   pub follows_skipped : (k at n : ℕ) → Follows ss es k at n → at < k → n < shared_at ss k → Follows ss es (suc k) at n
@@ -92,10 +84,7 @@ module _ (ss : List Stretch) (rule : AreNested ss) (fresh : AreFresh ss) (es : L
   follows_skipped (suc k) at n f h less = record {
     along = f.along;
     shared = λ j low high. grind (arith, less, f.shared j low);
-    none = λ j high a. (
-        let same = sym (begins_shared ss rule (suc k) (suc n) (omega (arith, less))) in
-        grind (arith, cases_eq j (suc k), f.none j, f.none k (omega arith), along_taken ss ss k (suc k) (suc n) es same)
-        );
+    none = λ j high a. grind (arith, less, high, a, begins_shared ss rule (suc k) (suc n), cases_eq j (suc k), f.none j, f.none k, along_taken ss ss k (suc k) (suc n) es);
   }
 
   -- the stretch is along m, and no more

@@ -1,7 +1,6 @@
 -- Where the session's track lies among the bookmarks' entries, and what each call leaves of that.
-use Rattle.std.proofs.Common.{◌≡◌, ℕ, zero, suc, ◌-◌, ◌≤◌, Bool, nat_lt, if◌then◌else◌, refl, sym, ap, ◌∙◌, List, [], ◌∷◌, ◌++◌, length, take, drop, Result, Ok, Err, OnOk, OnErr, arith}
-use Rattle.rd_marks.proofs.Prelude.{take-append_seam, take-length, take-map, take-take, take-append-le, length-map, length-take, Refusal, closure, unmarked, Event, Entry, IsPrefix, Session, Journal, ahead_entries, state, track, State, undo_at, roll, Place, Stretch, stretch_list, entries_at, IsWithin, IsAlong}
-use Rattle.rd_journal.specs.Journal.{events}
+use Rattle.std.proofs.Common.{◌≡◌, ℕ, zero, suc, ◌-◌, ◌≤◌, Bool, nat_lt, if◌then◌else◌, refl, ap, List, [], ◌∷◌, ◌++◌, length, take, drop, Result, Ok, Err, OnOk, OnErr, arith}
+use Rattle.rd_marks.proofs.Prelude.{take-append_seam, take-length, take-map, take-take, take-append-le, length-map, length-take, Refusal, closure, unmarked, Event, Entry, IsPrefix, Session, Journal, ahead_entries, state, track, State, undo_at, roll, Place, Stretch, stretch_list, entries_at, IsWithin, IsAlong, events}
 use Rattle.rd_journal.specs.Moves.{IsLengthened, IsUndoneAlone, IsRolledBack}
 use Rattle.rd_marks.proofs.Starting.{begins_events, begins_shorter, begins_trans, events_length, events_of_first, fewer_begin, entries_length}
 
@@ -37,7 +36,7 @@ undone_within R s zero t h = omega arith
 undone_within R s (suc i) t h = within_by (nat_lt i (length s.live)) i (length s.live) _ _ t refl h
 
 pub rolled_within : (R : ℕ) (s : State) (k : ℕ) (t : State) → roll R s k ≡ Ok t → k ≤ length s.live
-rolled_within h s k t l = grind arith
+rolled_within R s k t l = grind arith
 
 module _ (here there : List Entry) (begins : IsPrefix there here) where
   -- what begins it begins the same track
@@ -48,15 +47,13 @@ module _ (here there : List Entry) (begins : IsPrefix there here) where
   pub track_cut : (n : ℕ) (old new : Journal) (old_ahead new_ahead : List Event) → IsPrefix (events here) (events old.live ++ old_ahead)
       → length there ≤ n → n ≤ length old.live → take n new.live ≡ take n old.live → IsPrefix (events there) (events new.live ++ new_ahead)
   track_cut n old new old_ahead new_ahead stands short within same =
-      let event = λ (x : Entry). x.event in
-      let few : n ≤ length new.live = omega (arith, ap length same, within, length-take n old.live, length-take n new.live) in
-      let old_first = take-append-le n (events old.live) old_ahead (omega (arith, within, length-map old.live event)) in
-      let new_first = take-append-le n (events new.live) new_ahead (omega (arith, few, length-map new.live event)) in
-      let k = length (events there) in
-      let fewer : k ≤ n = omega (arith, short, length-map there event) in
-      sym (take-take k n (events new.live ++ new_ahead) fewer)
-      ∙ ap (take k) (new_first ∙ take-map event n new.live ∙ ap events same ∙ sym (take-map event n old.live) ∙ sym old_first)
-      ∙ take-take k n (events old.live ++ old_ahead) fewer ∙ still_begins (events old.live ++ old_ahead) stands
+      let fact = take-take (length (events there)) n (events new.live ++ new_ahead) in
+      let fact_2 = take-take (length (events there)) n (events old.live ++ old_ahead) in
+      let fact_3 = take-map (λ (x : Entry). x.event) n new.live in
+      let fact_4 = take-map (λ (x : Entry). x.event) n old.live in
+      let fact_5 = take-append-le n (events old.live) old_ahead in
+      let fact_6 = take-append-le n (events new.live) new_ahead in
+      grind (arith, stands, short, within, same, length-map, length-take, fact_3, fact_4, fact_5, fact_6, fact, fact_2, still_begins (events old.live ++ old_ahead))
 
   -- where steps were taken out after them, if the call was not refused
   pub after_out : {X P Q : Type 0} (r : Result X Refusal) (n : ℕ) (old new : Journal) (old_ahead new_ahead : List Event)
@@ -80,21 +77,16 @@ module _ (ss : List Stretch) where
       → IsWithin ss at × IsAlong ss at.stretch at.number (events xs)
   live_along session here at xs its within stands same fewer few =
       let first = fewer_begin ss here at within same fewer in
-      let n = at.number in
-      let ahead = events (ahead_entries session.entries) in
       let all = length-map xs (λ (x : Entry). x.event) in
-      let alike =
-      events_of_first n (stretch_list ss at.stretch) ∙ sym (still_begins (entries_at ss here) (entries_at ss at) first.1 (track session) stands)
-      ∙ ap (λ (m : ℕ). take m (track session)) (events_length ss at first.0) ∙ ap (λ (es : List Event). take n (es ++ ahead)) (sym its)
-      ∙ take-append-le n (events xs) ahead (omega (arith, few, all)) in
-      (first.0, record { enough = omega (arith, few, all); alike = alike })
+      let seam = take-append-le at.number (events xs) (events (ahead_entries session.entries)) (omega (arith, few, all)) in
+      let still = still_begins (entries_at ss here) (entries_at ss at) first.1 (track session) stands in
+      (first.0, grind (arith, its, few, all, seam, still, events_length ss at first.0, events_of_first at.number (stretch_list ss at.stretch)))
 
   -- so its steps are the first ones of the track
   pub along_to : (at here : Place) (steps : List Event) → IsWithin ss at → IsWithin ss here → IsPrefix (events (entries_at ss here)) steps → (n : ℕ) → n ≡ at.number → n ≤ here.number
       → take n (entries_at ss here) ≡ take n (entries_at ss at) → (n ≤ length steps) × (take n steps ≡ events (entries_at ss at))
   along_to at here steps is within stands n all fewer alike =
-      let long = events_length ss here within in (
-        omega (arith, begins_shorter (events (entries_at ss here)) steps stands, long, fewer),
-        sym (take-take n (length (events (entries_at ss here))) steps (omega (arith, long, fewer))) ∙ ap (take n) stands ∙ events_of_first n (entries_at ss here) ∙ ap events alike
-            ∙ ap (λ (m : ℕ). events (take m (entries_at ss at))) (all ∙ sym (entries_length ss at is)) ∙ ap events (take-length (entries_at ss at)),
-      )
+      let long = events_length ss here within in
+      let taken = take-take n (length (events (entries_at ss here))) steps (omega (arith, long, fewer)) in
+      let enough : n ≤ length steps = omega (arith, begins_shorter (events (entries_at ss here)) steps stands, long, fewer) in
+      (enough, grind (arith, stands, all, alike, taken, events_of_first n (entries_at ss here), take-length (entries_at ss at), entries_length ss at is))

@@ -1,34 +1,21 @@
 -- The marks that a list of names with entries is: looking one up, putting one last, taking one
 -- away.
-use Rattle.std.proofs.Common.{◌↔◌, IsTrue, true≢false, is_ok, ◌⊎◌, ◌≢◌, suc, Result, Ok, Err, IsOk, IfErr, ne_eqb, ◌≡◌, ℕ, Bool, true, false, if◌then◌else◌, cond, map, refl, sym, ap, ◌∙◌, subst, List, [], ◌∷◌, ◌++◌, length, is_some, option_map, Option, Some, None, All, slice_get, arith}
-use Rattle.rd_marks.proofs.Prelude.{lookup, remove_entry, insert_entry, All-cons, All-head, All-tail, Entry, Event, MarkName, same_name, eq-eqb, false≢true, length-map, get_or_from_slice_get, slice_get-map, slice_get_within, Refusal, World, NoMark, NoMemory, MarkTaken, TooManyMarks, MOST_MARKS, AreEntriesOfRun, IsPrefix, Mark, BookState, with_marks, marked_events, without_mark, mark, drop_mark, goto_mark, mark_at, mark_events, name_and_length, MakesSteps, AnswersSame, IsEquivalent, DecidesEquivalence, mark_of, marks_of}
-use Rattle.rd_journal.specs.Journal.{events}
+use Rattle.std.proofs.Common.{◌↔◌, IsTrue, is_ok, ◌⊎◌, ◌≢◌, suc, Result, Ok, Err, IsOk, IfErr, ne_eqb, ◌≡◌, ℕ, Bool, true, false, cond, map, refl, sym, ap, ◌∙◌, subst, List, [], ◌∷◌, ◌++◌, length, is_some, option_map, Option, Some, None, All, slice_get, arith}
+use Rattle.rd_marks.proofs.Prelude.{lookup, remove_entry, insert_entry, All-cons, All-head, All-tail, Entry, Event, MarkName, same_name, eq-eqb, false≢true, length-map, get_or_from_slice_get, slice_get-map, slice_get_within, Refusal, World, NoMark, NoMemory, MarkTaken, TooManyMarks, MOST_MARKS, AreEntriesOfRun, IsPrefix, Mark, BookState, with_marks, marked_events, without_mark, mark, drop_mark, goto_mark, mark_at, mark_events, name_and_length, MakesSteps, AnswersSame, IsEquivalent, DecidesEquivalence, mark_of, marks_of, events}
 
 -- taking an entry away, whatever is made of the values
 pub removed_mapped : {K V W : Type 0} (f : V → W) (test : K → Bool) (ms : List (K × V)) → map (λ m. (m.0, f m.1)) (remove_entry test ms) ≡ remove_entry test (map (λ m. (m.0, f m.1)) ms)
 removed_mapped f test [] = refl
-removed_mapped {K} {V} {W} f test (m ∷ ms) =
-    elim (test m.0) as (λ b. map (λ m. (m.0, f m.1)) (cond b ms (m ∷ remove_entry test ms)) ≡ cond b (map (λ m. (m.0, f m.1)) ms) ((m.0, f m.1) ∷ remove_entry test (map (λ m. (m.0, f m.1)) ms))) [
-      | true ↦ refl
-      | false ↦ ap (λ (rest : List (K × W)). (m.0, f m.1) ∷ rest) (removed_mapped f test ms)
-    ]
+removed_mapped f test (m ∷ ms) = grind (arith, cond, removed_mapped f test ms)
 
 -- what holds of each entry holds of each other one, and of the one that is found
 pub all_without : {K V : Type 0} (test : K → Bool) (P : K × V → Type 0) (ms : List (K × V)) → All P ms → All P (remove_entry test ms)
 all_without test P [] h = h
-all_without test P (m ∷ ms) h =
-    elim (test m.0) as (λ b. All P (cond b ms (m ∷ remove_entry test ms))) [
-      | true ↦ All-tail P m ms h
-      | false ↦ All-cons P m (remove_entry test ms) (All-head P m ms h) (all_without test P ms (All-tail P m ms h))
-    ]
+all_without test P (m ∷ ms) h = grind (arith, cond, All-tail P m ms h, All-cons P m (remove_entry test ms) (All-head P m ms h) (all_without test P ms (All-tail P m ms h)))
 
 pub all_found : {K V : Type 0} (test : K → Bool) (P : V → Type 0) (ms : List (K × V)) (v : V) → All (λ m. P m.1) ms → lookup test ms ≡ Some v → P v
 all_found test P [] v h found = cc
-all_found {V = V} test P (m ∷ ms) v h found =
-    (elim (test m.0) as (λ b. cond b (Some m.1) (lookup test ms) ≡ Some v → P v) [
-      | true ↦ λ k. (let same : m.1 ≡ v = cc in subst P same (All-head (λ m. P m.1) m ms h))
-      | false ↦ λ k. all_found test P ms v (All-tail (λ m. P m.1) m ms h) k
-    ]) found
+all_found test P (m ∷ ms) v h found = grind (arith, cond, found, All-head (λ m. P m.1) m ms h, all_found test P ms v (All-tail (λ m. P m.1) m ms h))
 
 pub all_at : {X : Type 0} (P : X → Type 0) (xs : List X) (k : ℕ) (x : X) → All P xs → slice_get xs k ≡ Some x → P x
 all_at P xs k x h at = subst P (get_or_from_slice_get xs k x x at) (h k x (slice_get_within xs k x at))
@@ -59,12 +46,7 @@ module _ {X : Type 0} (f : X → List Entry) (name : MarkName) (ls : List (MarkN
 -- a new name goes last
 pub insert_last : {V : Type 0} (name : MarkName) (v : V) (ms : List (MarkName × V)) → lookup (same_name name) ms ≡ None → insert_entry same_name ms name v ≡ ms ++ (name, v) ∷ []
 insert_last name v [] h = refl
-insert_last {V} name v (m ∷ ms) h =
-    (elim (same_name name m.0) as (λ b. cond b (Some m.1) (lookup (same_name name) ms) ≡ None
-    → (if b then (m.0, v) ∷ ms else m ∷ insert_entry same_name ms name v) ≡ m ∷ (ms ++ (name, v) ∷ [])) [
-      | true ↦ λ k. cc
-      | false ↦ λ k. ap (λ (rest : List (MarkName × V)). m ∷ rest) (insert_last name v ms k)
-    ]) h
+insert_last name v (m ∷ ms) h = grind (arith, cond, insert_last name v ms)
 
 -- a mark is set if its name is new and there is room
 pub mark_goes : (b : BookState) (name : MarkName) → is_some (marked_events b.marks name) ≡ false → length b.marks ≢ MOST_MARKS
@@ -84,11 +66,7 @@ drop_missing b name ls same none =
 -- which leaves all as it is
 pub none_removed : {K V : Type 0} (test : K → Bool) (ms : List (K × V)) → is_some (lookup test ms) ≡ false → remove_entry test ms ≡ ms
 none_removed test [] h = refl
-none_removed {K} {V} test (m ∷ ms) h =
-    (elim (test m.0) as (λ b. is_some (cond b (Some m.1) (lookup test ms)) ≡ false → cond b ms (m ∷ remove_entry test ms) ≡ m ∷ ms) [
-      | true ↦ λ k. absurd (true≢false k)
-      | false ↦ λ k. ap (λ (rest : List (K × V)). m ∷ rest) (none_removed test ms k)
-    ]) h
+none_removed test (m ∷ ms) h = grind (arith, cond, none_removed test ms)
 
 -- which only memory for its steps can refuse
 pub goto_not_done : {X : Type 0} (r : Result X Refusal) (b : BookState) (name : MarkName) (es : List Event) → marked_events b.marks name ≡ Some es

@@ -32,11 +32,11 @@ as_this : (b : BookState) (a c : Answered) → LeavesStart b c → a ≡ c → L
 as_this b a c leaves h = subst (λ (x : Answered). LeavesStart b x) (sym h) leaves
 
 pub happened_leaves : (R : ℕ) (b : BookState) (e : Event) (a : Answered) → Happened R b e a → LeavesStart b a
-happened_leaves h b e a k = grind (arith, as_this, happens_leaves)
+happened_leaves R b e a k = grind (arith, as_this, happens_leaves)
 
 made_leaves : (b : BookState) (reply : BookState → Reply) (r : Result BookState Refusal) (P : Type 0) (a : Answered)
     → ((t : BookState) → r ≡ Ok t → t.session.start ≡ b.session.start) → IsMade b reply r P a → LeavesStart b a
-made_leaves b reply r h a starts k = grind arith
+made_leaves b reply r P a starts k = grind arith
 
 pub obeyed_leaves : (R : ℕ) (b : BookState) (c : Command) (a : Answered) → IsObeyed R b c a → LeavesStart b a
 obeyed_leaves R b (Enq actor value) a h = happened_leaves R b _ a h

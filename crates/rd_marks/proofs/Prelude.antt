@@ -21,7 +21,7 @@ pub use Rattle.rd_journal.specs.declared.sessions.Session.{Session}
 pub use Rattle.rd_step.proofs.PassedUp.{fact_passed_up}
 pub use Rattle.rd_step.specs.Equivalence.{IsEquivalent}
 pub use Rattle.rd_step.specs.Prelude.{MOST_STEPS, MarkTaken, NoMark, NoMemory, OpReply, Refusal, Stepped, TooManyMarks, World, closure, run, step, unmarked}
-pub use Rattle.rd_step.specs.Run.{Ran, run_from_step}
+pub use Rattle.rd_step.specs.Run.{events, IsRunFrom, Ran, run_entries, run_from_step}
 pub use Rattle.rd_step.specs.declared.entries.Entry.{Entry}
 pub use Rattle.rd_step.specs.declared.entries.Event.{Event}
 pub use Rattle.rd_marks.specs.BookViews.{book_state}

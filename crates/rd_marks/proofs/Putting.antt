@@ -1,8 +1,6 @@
 -- What the bookmarks are after one was put, and after stretches were shrunk.
 use Rattle.std.proofs.Common.{◌≡◌, ℕ, zero, suc, ◌^◌, ◌<◌, ◌≤◌, inl, inr, refl, sym, ap, ◌∙◌, subst, List, [], ◌∷◌, ◌++◌, map, length, take, drop, length-append, option_map, Option, None, All, arith}
-use Rattle.rd_marks.proofs.Prelude.{cases_lt, sum_by-le, length-map, map-append, take-append-drop, All-push, All-contains, All-head, All-map, All-nil, All-tail, World, MOST_STEPS, Event, Entry, IsPrefix, MarkName, Place, Stretch, Shift, shifted, Stays, IsGrown, IsShrunk, IsUnchanged, MOST_MARKS, AreEntriesOfRun, AreRuns, IsKept, IsPruned, named_lists, places_of, count_of, stretch_list, entries_at, greatest_in, needed_at, IsWithin, IsAlong, AreNested, AreNeeded, AreNeededFrom, nat_tests}
-use Rattle.rd_step.specs.Run.{events}
-use Rattle.rd_journal.specs.Journal.{IsRunFrom}
+use Rattle.rd_marks.proofs.Prelude.{cases_lt, sum_by-le, length-map, map-append, take-append-drop, All-push, All-contains, All-head, All-map, All-nil, All-tail, World, MOST_STEPS, Event, Entry, IsPrefix, MarkName, Place, Stretch, Shift, shifted, Stays, IsGrown, IsShrunk, IsUnchanged, MOST_MARKS, AreEntriesOfRun, AreRuns, IsKept, IsPruned, named_lists, places_of, count_of, stretch_list, entries_at, greatest_in, needed_at, IsWithin, IsAlong, AreNested, AreNeeded, AreNeededFrom, nat_tests, events, IsRunFrom, run}
 use Rattle.rd_marks.specs.declared.stretches.changes.Grown.{Grown}
 use Rattle.rd_marks.proofs.Counting.{begins_one, contains_mapped, count_bounded}
 use Rattle.rd_marks.proofs.EntryLemmas.{begin_alike}
@@ -87,12 +85,7 @@ module _ (old new : List Stretch) (unchanged : IsUnchanged old new) where
 
   pub kept_same : (ms es : List (MarkName × Place)) (here : Place) → es ≡ ms → IsKept old ms here
       → IsKept new es here × (named_lists new es ≡ named_lists old ms) × (entries_at new here ≡ entries_at old here)
-  kept_same ms es here its kept =
-      subst (λ (fs : List (MarkName × Place)). IsKept new fs here × (named_lists new fs ≡ named_lists old ms) × (entries_at new here ≡ entries_at old here)) (sym its) (
-        grind (arith, each),
-        lists_same ms kept.within,
-        (unchanged.stays here kept.lies).same,
-      )
+  kept_same ms es here its kept = grind (arith, its, kept, each, lists_same ms kept.within, unchanged.stays here kept.lies, unchanged.needed)
 
 -- The entries of a place with which the live steps begin are theirs
 
@@ -101,14 +94,12 @@ pub same_entries : (R : ℕ) (w : World) (ss : List Stretch) → AreNested ss �
 same_entries R w ss rule ms needed runs at within live run along = by at.number refl
   where
     by : (n : ℕ) → at.number ≡ n → entries_at ss at ≡ take at.number live
-    by zero none = ap (λ (k : ℕ). take k (stretch_list ss at.stretch)) none ∙ sym (ap (λ (k : ℕ). take k live) none)
+    by zero none = rw none refl
     by (suc n) some =
         let r = begins_one ss rule ms needed at.stretch at.number (stretch_within ss at within (omega (arith, some))) within in
-        let xs = entries_at ss r.0.1 in
-        let all = All-contains (λ (l : MarkName × List Entry). AreEntriesOfRun R w l.1) (named_lists ss ms) (r.0.0, xs) runs (contains_mapped (λ (m : MarkName × Place). (m.0, entries_at ss m.1)) ms r.0 r.1) in
-        let alike : take at.number (events xs) ≡ take at.number (events live) =
-        events_of_first at.number xs ∙ ap events r.2 ∙ sym (events_of_first at.number (stretch_list ss at.stretch)) ∙ along.alike in
-        sym r.2 ∙ begin_alike R at.number w xs live all.ran run alike
+        let all = All-contains (λ (l : MarkName × List Entry). AreEntriesOfRun R w l.1) (named_lists ss ms) (r.0.0, entries_at ss r.0.1) runs
+        (contains_mapped (λ (m : MarkName × Place). (m.0, entries_at ss m.1)) ms r.0 r.1) in
+        grind (arith, r.2, along, events_of_first at.number (entries_at ss r.0.1), events_of_first at.number (stretch_list ss at.stretch), begin_alike R at.number w (entries_at ss r.0.1) live all.ran run)
 
 -- Shrinking
 

@@ -1,10 +1,9 @@
 -- Reading the entries of a place, and what the stretches have in common with other entries.
-use Rattle.std.proofs.Common.{◌≡◌, ◌⊎◌, ℕ, zero, suc, ◌+◌, ◌-◌, ◌<◌, ◌≤◌, min, inl, inr, refl, sym, ap, ◌∙◌, subst, List, [], ◌∷◌, ◌++◌, length, take, drop, get_or, reverse, slice_get, option_map, Some, arith}
-use Rattle.rd_marks.proofs.Prelude.{drop-cons, take-add, cases_eq, cases_lt, append_assoc, drop-map, drop-take, length-map, reverse-append, take-take, slice_get-map, slice_get_read, slice_get_within, Event, Entry, Place, Stretch, count_of, stretch_list, list_before, shared_at, entries_at, IsWithin, IsOwn, IsAlong, AreNested, AreFresh}
-use Rattle.rd_step.specs.Run.{events}
+use Rattle.std.proofs.Common.{◌≡◌, ◌⊎◌, ℕ, zero, suc, ◌+◌, ◌-◌, ◌<◌, ◌≤◌, min, refl, sym, ap, ◌∙◌, List, [], ◌∷◌, ◌++◌, length, take, drop, get_or, reverse, slice_get, option_map, Some, arith}
+use Rattle.rd_marks.proofs.Prelude.{drop-cons, take-add, cases_lt, append_assoc, drop-map, drop-take, length-map, reverse-append, take-take, slice_get-map, slice_get_read, slice_get_within, Event, Entry, Place, Stretch, count_of, stretch_list, list_before, shared_at, entries_at, IsWithin, IsOwn, IsAlong, AreNested, AreFresh, events}
 use Rattle.rd_step.specs.Lists.{numbered}
 use Rattle.rd_marks.proofs.StretchLists.{own_at, stretch_there, total, shared_within, begins_shared, behind_shared, list_past}
-use Rattle.rd_marks.proofs.Fresh.{Follows, follows_compared, follows_skipped, along_itself, between}
+use Rattle.rd_marks.proofs.Fresh.{Follows, follows_compared, follows_skipped, along_itself, between, apart}
 use Rattle.rd_marks.proofs.Starting.{first_events, stretch_within}
 
 -- Positions in lists
@@ -36,19 +35,12 @@ alike_no_further : {X : Type 0} (n m : ℕ) (xs ys : List X) → suc (n + m) ≤
     → ((x : X) → slice_get (drop n xs) m ≡ Some x → slice_get (drop n ys) m ≡ Some x → ⊥) → ⊥
 alike_no_further n m xs ys long same apart =
     let found = there_is ys (n + m) long in
-    let here =
-    slice_get_drop xs n m ∙ sym (slice_get_take xs (suc (n + m)) (n + m) (omega arith)) ∙ ap (λ (zs : List _). slice_get zs (n + m)) same
-    ∙ slice_get_take ys (suc (n + m)) (n + m) (omega arith) ∙ found.1 in
-    apart found.0 here (slice_get_drop ys n m ∙ found.1)
+    grind (arith, same, slice_get_drop, slice_get_take xs (suc (n + m)) (n + m), slice_get_take ys (suc (n + m)) (n + m), found, apart found.0)
 
 -- one event more, and no more than there are
 pub alike_on : (xs ys : List Entry) (n : ℕ) (x y : Entry) → n < length xs → n < length ys → x ≡ get_or xs n x → y ≡ get_or ys n y → x.event ≡ y.event
     → take n (events xs) ≡ take n (events ys) → take (n + 1) (events xs) ≡ take (n + 1) (events ys)
-alike_on xs ys n x y inside inside_too its its_too same alike =
-    let here = slice_get-map (λ (z : Entry). z.event) xs n ∙ ap (option_map (λ (z : Entry). z.event)) (slice_get_read xs (length xs) n x refl inside its) in
-    let there = slice_get-map (λ (z : Entry). z.event) ys n ∙ ap (option_map (λ (z : Entry). z.event)) (slice_get_read ys (length ys) n y refl inside_too its_too) in
-    let e : n + 1 ≡ suc n = omega arith in
-    rw e (one_more (events xs) n x.event here ∙ (λ i. alike i ++ same i ∷ []) ∙ sym (one_more (events ys) n y.event there))
+alike_on xs ys n x y inside inside_too its its_too same alike = grind (arith, one_more (events xs) n x.event, one_more (events ys) n y.event, slice_get-map, option_map, slice_get_read)
 
 pub alike_past : (xs ys : List Entry) (n : ℕ) → min (length xs) (length ys) ≤ n → (e : Event) → slice_get (events xs) n ≡ Some e → slice_get (events ys) n ≡ Some e → ⊥
 alike_past xs ys n past e here there = grind (arith, slice_get_within, length-map)
@@ -82,11 +74,7 @@ module _ (ss : List Stretch) (rule : AreNested ss) where
 
   pub down : (p : Place) → 0 < p.stretch → p.number ≤ shared_at ss p.stretch
       → IsWithin ss (record { stretch = p.stretch - 1; number = p.number }) × (entries_at ss (record { stretch = p.stretch - 1; number = p.number }) ≡ entries_at ss p)
-  down p some h =
-      let k = p.stretch - 1 in
-      let e : p.stretch ≡ suc k = omega (arith, some) in
-      let d = one_down k p.number (subst (λ (i : ℕ). p.number ≤ shared_at ss i) e h) in
-      (d.0, d.1 ∙ ap (λ (i : ℕ). take p.number (stretch_list ss i)) (sym e))
+  down p some h = grind (arith, one_down (p.stretch - 1) p.number)
 
   -- what the lists from one stretch to the next but one have in common
   pub common_on : (one i c d : ℕ) → d ≤ c → d ≤ shared_at ss (suc i) → take c (stretch_list ss i) ≡ take c (stretch_list ss one) → take d (stretch_list ss (suc i)) ≡ take d (stretch_list ss one)
@@ -114,24 +102,14 @@ module _ (ss : List Stretch) (rule : AreNested ss) where
   -- the entries after the first n, where they are the stretch's own
   pub lent : (p : Place) (n : ℕ) → IsWithin ss p → shared_at ss p.stretch ≤ n → n ≤ p.number
       → take (p.number - shared_at ss p.stretch - (n - shared_at ss p.stretch)) (drop (n - shared_at ss p.stretch) (own_at ss p.stretch)) ≡ drop n (entries_at ss p)
-  lent p n within shared fewer =
-      let d = p.number - n in
-      let parts : n + d ≡ p.number = omega (arith, fewer) in
-      let rest : p.number - shared_at ss p.stretch - (n - shared_at ss p.stretch) ≡ d = omega (arith, fewer, shared) in
-      ap (λ (m : ℕ). take m (drop (n - shared_at ss p.stretch) (own_at ss p.stretch))) rest ∙ ap (take d) (sym (behind_shared ss rule p.stretch n shared))
-      ∙ sym (drop-take n d (stretch_list ss p.stretch)) ∙ ap (λ (m : ℕ). drop n (take m (stretch_list ss p.stretch))) parts
+  lent p n within shared fewer = grind (arith, behind_shared ss rule p.stretch n shared, drop-take n (p.number - n) (stretch_list ss p.stretch))
 
   -- the last one
   pub last_own : (p : Place) (x : Entry) → shared_at ss p.stretch < p.number → slice_get (own_at ss p.stretch) (p.number - shared_at ss p.stretch - 1) ≡ Some x
       → slice_get (entries_at ss p) (p.number - 1) ≡ Some x
   last_own p x less its =
-      let n = shared_at ss p.stretch in
-      let k = p.number - n - 1 in
-      let at : p.number - 1 ≡ n + k = omega (arith, less) in
-      let none : n - n ≡ 0 = omega arith in
-      let own = behind_shared ss rule p.stretch n (omega arith) ∙ ap (λ (m : ℕ). drop m (own_at ss p.stretch)) none in
-      slice_get_take (stretch_list ss p.stretch) p.number (p.number - 1) (omega (arith, less)) ∙ ap (slice_get (stretch_list ss p.stretch)) at
-      ∙ sym (slice_get_drop (stretch_list ss p.stretch) n k) ∙ ap (λ (xs : List Entry). slice_get xs k) own ∙ its
+      let fact = slice_get_drop (stretch_list ss p.stretch) (shared_at ss p.stretch) (p.number - shared_at ss p.stretch - 1) in
+      grind (arith, its, behind_shared ss rule p.stretch (shared_at ss p.stretch), slice_get_take (stretch_list ss p.stretch) p.number (p.number - 1), fact)
 
   -- how many of other events a list begins with
   module _ (i n m : ℕ) (es : List Event) (shared : shared_at ss i ≤ n) (along : IsAlong ss i n es) where
@@ -139,10 +117,7 @@ module _ (ss : List Stretch) (rule : AreNested ss) where
     own_events = sym (events_behind n (stretch_list ss i)) ∙ ap events (behind_shared ss rule i n shared)
 
     pub along_further : m ≤ length es - n → take m (events (drop (n - shared_at ss i) (own_at ss i))) ≡ take m (drop n es) → IsAlong ss i (n + m) es
-    along_further few same = record {
-      enough = omega (arith, few, along.enough);
-      alike = take-add n m (events (stretch_list ss i)) ∙ (λ k. along.alike k ++ (ap (take m) own_events ∙ same) k) ∙ sym (take-add n m es);
-    }
+    along_further few same = grind (arith, few, same, along, own_events, take-add n m (events (stretch_list ss i)), take-add n m es)
 
     pub along_no_further : ((e : Event) → slice_get (events (drop (n - shared_at ss i) (own_at ss i))) m ≡ Some e → slice_get (drop n es) m ≡ Some e → ⊥) → IsAlong ss i (suc (n + m)) es → ⊥
     along_no_further apart further =
@@ -154,20 +129,10 @@ module _ (ss : List Stretch) (rule : AreNested ss) where
 module _ (ss : List Stretch) (rule : AreNested ss) (fresh : AreFresh ss) (es : List Event) (k : ℕ) (at : Place) (f : Follows ss es k at.stretch at.number) (high : at.stretch ≤ k) where
   pub step_compared : (at.stretch ≡ k) ⊎ (at.number ≤ shared_at ss k) → shared_at ss k ≤ at.number → (m : ℕ) → at.number ≤ m → IsAlong ss k m es → (IsAlong ss k (suc m) es → ⊥)
       → (next : Place) → (at.number < m → next ≡ record { stretch = k; number = m }) → (m ≡ at.number → next ≡ at) → Follows ss es (suc k) next.stretch next.number × (next.stretch ≤ k)
-  step_compared low shared m h along most next more others =
-      elim (cases_lt at.number m) [
-        | inl further ↦
-            rw (more further) (follows_compared ss rule fresh es k at.stretch at.number m f h along most, omega arith)
-        | inr no_further ↦
-            grind (arith)
-      ]
+  step_compared low shared m h along most next more others = grind (arith, cases_lt at.number m, more, others, follows_compared ss rule fresh es k at.stretch at.number m f h along most)
 
   pub step_skipped : (at.stretch ≡ k → shared_at ss k ≤ at.number) → at.number < shared_at ss k → Follows ss es (suc k) at.stretch at.number × (at.stretch ≤ k)
-  step_skipped own more =
-      elim (cases_eq at.stretch k) [
-        | inl here ↦ absurd (omega (arith, own here, more))
-        | inr apart ↦ (follows_skipped ss rule fresh es k at.stretch at.number f (omega (arith, high, apart)) more, high)
-      ]
+  step_skipped own more = grind (arith, own, more, high, follows_skipped ss rule fresh es k at.stretch at.number f)
 
 -- What two places have in common
 
@@ -194,9 +159,4 @@ module _ (ss : List Stretch) (rule : AreNested ss) (at : Place) (within : IsWith
 
   -- after the last one
   pub reaches_end : (i n : ℕ) → n ≡ length ss → (at.stretch < length ss → i ≡ n) → (at.stretch < i → Reaches ss at i) → Reaches ss at n
-  reaches_end i n all end before =
-      elim (cases_lt at.stretch (length ss)) [
-        | inl inside ↦ subst (λ (k : ℕ). Reaches ss at k) (end inside) (before (omega (arith, inside, all, end inside)))
-        | inr past ↦
-            grind (arith, list_past)
-      ]
+  reaches_end i n all end before = grind (arith, list_past, cases_lt at.stretch (length ss), end, before)

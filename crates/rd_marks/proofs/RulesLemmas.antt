@@ -1,8 +1,6 @@
 -- The rules that the bookmarks of a book keep, from how it keeps them.
 use Rattle.std.proofs.Common.{◌≡◌, ◌≤◌, ℕ, refl, sym, ap, subst, List, [], ◌∷◌, map, length, Result, Ok, IsOk, arith}
-use Rattle.rd_marks.proofs.Prelude.{IsDistinct, length-map, All-head, All-tail, World, Refusal, run, Ran, Entry, MarkName, MOST_MARKS, same_name, Mark, BookState, AreRuns, AreEntriesOfRun, mark_of, marks_of}
-use Rattle.rd_step.specs.Run.{run_entries}
-use Rattle.rd_journal.specs.Journal.{events}
+use Rattle.rd_marks.proofs.Prelude.{IsDistinct, length-map, All-head, All-tail, World, Refusal, run, Ran, Entry, MarkName, MOST_MARKS, same_name, Mark, BookState, AreRuns, AreEntriesOfRun, mark_of, marks_of, run_entries, events}
 use Rattle.rd_marks.specs.Rules.{GoThrough, MarksGoThrough, KeepsRules}
 
 -- a run that leaves entries goes through

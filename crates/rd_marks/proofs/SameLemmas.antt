@@ -1,10 +1,10 @@
 -- Lists of which one begins the other are equivalent only if they are one.
-use Rattle.std.proofs.Common.{◌≡◌, ℕ, ◌⊎◌, Bool, ◌==◌, refl, sym, ap, ◌∙◌, subst, List, [], ◌∷◌, ◌++◌, length, take, drop, ◌-◌, ◌≤◌, length-append, arith, eqb-true}
-use Rattle.rd_marks.proofs.Prelude.{eq-eqb, length-map, take_all, World, IsEquivalent, Event, Entry, IsPrefix, DecidesEquivalence}
-use Rattle.rd_step.specs.Run.{events, IsRunFrom}
+use Rattle.rd_marks.proofs.MarkLemmas.{decided}
+use Rattle.std.proofs.Common.{◌≡◌, ℕ, ◌⊎◌, Bool, ◌==◌, refl, sym, ap, List, [], ◌∷◌, ◌++◌, length, take, drop, ◌≤◌, length-append, arith, eqb-true}
+use Rattle.rd_marks.proofs.Prelude.{eq-eqb, take_all, World, IsEquivalent, Event, Entry, IsPrefix, DecidesEquivalence, events, IsRunFrom}
 use Rattle.rd_depend.proofs.Exactness.{right_behind}
 use Rattle.rd_marks.proofs.EntryLemmas.{began, to_the_end}
-use Rattle.rd_marks.proofs.Starting.{begins_shorter}
+use Rattle.rd_marks.proofs.Starting.{begins_shorter, event_length}
 
 -- equivalent lists are equally long
 pub equivalent_length : (R : ℕ) (w : World) (es fs : List Event) → IsEquivalent R w es fs → length es ≡ length fs
@@ -26,9 +26,6 @@ equivalent_itself R w (x ∷ xs) h =
       rest = equivalent_itself R b.stepped.world xs b.rest;
     }
 
-event_length : (xs : List Entry) → length (events xs) ≡ length xs
-event_length xs = length-map xs (λ (x : Entry). x.event)
-
 module _ (ones others : List Entry) (m n c : ℕ) (long : length ones ≡ m) (long_too : length others ≡ n) (alike : take c ones ≡ take c others) where
   -- lists that are alike up to the end of one are equivalent exactly if they are equally long
   pub decided_by_length : (c ≡ m) ⊎ (c ≡ n) → (same : Bool) → same ≡ (m == n) → DecidesEquivalence ones others same
@@ -37,9 +34,7 @@ module _ (ones others : List Entry) (m n c : ℕ) (long : length ones ≡ m) (lo
   -- an answer for what is after what they have in common is one for the lists
   pub decided_behind : c ≤ m → c ≤ n → (same : Bool) (xs ys : List Entry) → xs ≡ drop c ones → ys ≡ drop c others → DecidesEquivalence xs ys same → DecidesEquivalence ones others same
   decided_behind first second same xs ys one other decided =
-      right_behind ones others c same (omega (arith, long, first)) (omega (arith, long_too, second)) (ap events alike)
-      (subst (λ (zs : List Entry). DecidesEquivalence zs (take (length others - c) (drop c others)) same) (one ∙ sym (to_the_end c ones))
-      (subst (λ (zs : List Entry). DecidesEquivalence xs zs same) (other ∙ sym (to_the_end c others)) decided))
+      right_behind ones others c same (omega (arith, long, first)) (omega (arith, long_too, second)) (ap events alike) (rw (to_the_end c ones, to_the_end c others) (rw (one, other) at decided))
 
 -- a list that begins the other has all of its events in common with it
 pub not_begun : (xs ys : List Entry) (c : ℕ)

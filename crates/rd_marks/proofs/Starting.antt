@@ -1,7 +1,6 @@
 -- Lists that begin others, and the entries up to a place.
 use Rattle.std.proofs.Common.{◌≡◌, ℕ, ◌<◌, ◌≤◌, sym, ap, ◌∙◌, List, length, take, length-take, arith}
-use Rattle.rd_marks.proofs.Prelude.{take-length, length-map, length-take-le, take-map, take-take, Entry, IsPrefix, Place, Stretch, stretch_list, entries_at, IsWithin}
-use Rattle.rd_step.specs.Run.{events}
+use Rattle.rd_marks.proofs.Prelude.{take-length, length-map, length-take-le, take-map, take-take, Entry, IsPrefix, Place, Stretch, stretch_list, entries_at, IsWithin, events}
 use Rattle.rd_marks.proofs.StretchLists.{list_past}
 
 pub begins_itself : {X : Type 0} (xs : List X) → IsPrefix xs xs
@@ -13,7 +12,7 @@ begins_shorter xs ys h = omega (arith, ap length h, length-take (length xs) ys)
 pub begins_trans : {X : Type 0} (xs ys zs : List X) → IsPrefix xs ys → IsPrefix ys zs → IsPrefix xs zs
 begins_trans xs ys zs h k = sym (take-take (length xs) (length ys) zs (begins_shorter xs ys h)) ∙ ap (take (length xs)) k ∙ h
 
-event_length : (xs : List Entry) → length (events xs) ≡ length xs
+pub event_length : (xs : List Entry) → length (events xs) ≡ length xs
 event_length xs = length-map xs (λ (x : Entry). x.event)
 
 -- the events of entries that begin others begin theirs

@@ -36,10 +36,10 @@ pub redo_start : (s t : State) → redo s ≡ Ok t → t.start ≡ s.start
 redo_start s t h = unless_start s t (length s.undone == 0) _ _ (of_ok (forward_one s) t _ refl) h
 
 pub undo_at_start : (R : ℕ) (s : State) (k : ℕ) (t : State) → undo_at R s k ≡ Ok t → t.start ≡ s.start
-undo_at_start h s k t l = grind arith
+undo_at_start R s k t l = grind arith
 
 pub roll_start : (R : ℕ) (s : State) (k : ℕ) (t : State) → roll R s k ≡ Ok t → t.start ≡ s.start
-roll_start h s k t l = grind arith
+roll_start R s k t l = grind arith
 
 -- the start stays, whatever a call answered
 pub start_stays : {X : Type 0} (r : Result X Refusal) (i j : Journal) (moved : Result State Refusal)

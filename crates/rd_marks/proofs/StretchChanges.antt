@@ -1,8 +1,7 @@
 -- The rule of the stretches is kept, and each place keeps its entries, where a stretch comes, goes
 -- or changes.
 use Rattle.std.proofs.Common.{◌≡◌, ◌⊎◌, ℕ, zero, suc, ◌+◌, ◌-◌, ◌<◌, ◌≤◌, inl, inr, refl, sym, ap, ◌∙◌, subst, List, [], ◌∷◌, ◌++◌, map, length, take, length-take, arith}
-use Rattle.rd_marks.proofs.Prelude.{cases_lt, cases_eq, cases_order, nat_tests, length-map, take-append-le, take-take, take-map, MOST_STEPS, Event, Entry, Stretch, Place, stretch_list, list_before, shared_at, entries_at, IsWithin, AreNested, AreFresh, greatest_in, needed_at, AreNeeded, AreNeededFrom, IsAlong, IsDeepest, raised, lowered}
-use Rattle.rd_step.specs.Run.{events}
+use Rattle.rd_marks.proofs.Prelude.{cases_lt, cases_eq, cases_order, nat_tests, length-map, take-append-le, take-take, take-map, MOST_STEPS, Event, Entry, Stretch, Place, stretch_list, list_before, shared_at, entries_at, IsWithin, AreNested, AreFresh, greatest_in, needed_at, AreNeeded, AreNeededFrom, IsAlong, IsDeepest, raised, lowered, events}
 use Rattle.rd_marks.proofs.StretchLists.{shared_within, goes_back, IsChanged, IsInserted, IsReplaced}
 use Rattle.rd_marks.proofs.Fresh.{along_within, along_taken, AreApart, apart, fresh_apart, later_apart}
 
@@ -44,36 +43,15 @@ module _ (old new : List Stretch) (j more : ℕ) (change : IsChanged old new j m
   moved : (i : ℕ) → (i ≡ j → ⊥) → i < length new → (k : ℕ) × IsMoved old new j more i k
   moved i other h =
       elim (cases_lt i j) [
-        | inl low ↦
-            let its = change.below i low in (
-              i,
-              grind (arith, cases_order),
-            )
-        | inr high ↦
-            let after : j < i = omega (arith, other, high) in
-            let parts : i ≡ more + (i - more) = omega (arith, change.small, after) in
-            let its = change.above i (i - more) parts after in
-            let then = (change.above (suc i) (suc (i - more)) (omega (arith, parts)) (omega (arith, after))).1 in (
-              i - more,
-              grind arith,
-            )
+        | inl low ↦ (i, grind (arith, cases_order, change.below i low))
+        | inr high ↦ (i - more, grind (arith, change.small, change.above i (i - more), change.above (suc i) (suc (i - more))))
       ]
 
   nested_changed : AreNested old → shared_at new j < length (stretch_list new j) → length (stretch_list new j) ≤ MOST_STEPS → shared_at new (suc j) ≤ length (stretch_list new j) → AreNested new
   nested_changed rule some few next = record { within = within; some = λ i h. (every i h).0; few = λ i h. (every i h).1 }
     where
       every : (i : ℕ) → i < length new → (shared_at new i < length (stretch_list new i)) × (length (stretch_list new i) ≤ MOST_STEPS) × (shared_at new (suc i) ≤ length (stretch_list new i))
-      every i h =
-          elim (cases_eq i j) [
-            | inl same ↦ (grind (arith, same, some), grind (arith, same, few), grind (arith, same, next))
-            | inr other ↦
-                let m = moved i other h in
-                let list = ap length m.1.list in (
-                  omega (arith, rule.some m.0 m.1.inside, list, m.1.shared),
-                  omega (arith, rule.few m.0 m.1.inside, list),
-                  omega (arith, m.1.fits (shared_within old rule (suc m.0)), list),
-                )
-          ]
+      every i h = grind (arith, cases_eq i j, some, few, next, moved i, rule.some, rule.few, shared_within old rule)
 
       within : (i : ℕ) → i < length new → shared_at new i ≤ length (list_before new i)
       within zero h = grind (arith, cases_order 0 j, change.below 0, change.there, shared_within old rule 0)
@@ -87,55 +65,35 @@ module _ (old new : List Stretch) (j more : ℕ) (change : IsChanged old new j m
       go : AreApart new
       go i m h l a =
           elim (cases_eq i j) [
-            | inl same ↦
-                grind arith
+            | inl same ↦ grind arith
             | inr other ↦
                 let from = moved i other l in
                 let k = from.0 in
-                let d = suc (shared_at old k) in
-                let b = along_taken old new k i d (events (stretch_list new m)) (ap (take d) (sym from.1.list))
-                (subst (λ (n : ℕ). IsAlong new i (suc n) (events (stretch_list new m))) from.1.shared a) in
+                let b : IsAlong old k (suc (shared_at old k)) (events (stretch_list new m)) = grind (arith, a, from.1, along_taken old new k i) in
                 elim (cases_eq m j) [
-                  | inl same ↦
-                      later k (omega (arith, from.1.place, h, same)) from.1.inside (subst (λ (n : ℕ). IsAlong old k d (events (stretch_list new n))) same b)
-                  | inr other_too ↦
-                      let to = moved m other_too (omega (arith, h, l)) in
-                      apart old fresh k to.0 (omega (arith, change.small, from.1.place, to.1.place, h)) from.1.inside
-                      (subst (λ (xs : List Entry). IsAlong old k d (events xs)) to.1.list b)
+                  | inl same ↦ grind (arith, same, b, h, later k, from.1)
+                  | inr other_too ↦ grind (arith, b, h, l, change.small, moved m other_too, from.1, apart old fresh k)
                 ]
           ]
 
   -- if the changed list is needed, and the places count for no less
   needed_changed : (ps qs : List Place) (i : ℕ) → i < length new → ((k : ℕ) → IsMoved old new j more i k → length (stretch_list old k) ≤ needed_at old ps k)
       → length (stretch_list new j) ≤ needed_at new qs j → ((k : ℕ) → IsMoved old new j more i k → greatest_in k ps ≤ greatest_in i qs) → length (stretch_list new i) ≤ needed_at new qs i
-  needed_changed ps qs i h needed own places =
-      elim (cases_eq i j) [
-        | inl same ↦ grind (arith, same, own)
-        | inr other ↦ let m = moved i other h in omega (arith, needed m.0 m.1, places m.0 m.1, m.1.next, ap length m.1.list)
-      ]
+  needed_changed ps qs i h needed own places = grind (arith, own, cases_eq i j, moved i, needed, places)
 
 -- A stretch comes or goes
 
 module _ (old new : List Stretch) (j : ℕ) (s : Stretch) (change : IsInserted old new j s) where
   pub nested_inserted : AreNested old → s.shared < length (stretch_list new j) → length (stretch_list new j) ≤ MOST_STEPS → AreNested new
-  nested_inserted rule some few =
-      let then = (change.changed.above (suc j) j (omega arith) (omega arith)).1 in
-      nested_changed old new j 1 change.changed rule (omega (arith, change.here.1, some)) few (omega (arith, then, change.changed.less, change.here.1, some))
+  nested_inserted rule some few = grind (arith, nested_changed old new j 1 change.changed rule, change.changed.above (suc j) j, change.changed.less, change.here)
 
   -- the new list goes on as none did after what it shares
   pub fresh_inserted : AreNested old → AreFresh old → AreNested new → (at : ℕ) (es : List Event) → events (stretch_list new j) ≡ es → (0 < length old → at < j)
       → IsAlong old at s.shared es → IsDeepest old s.shared es → AreFresh new
   fresh_inserted rule fresh after at es its low along deepest =
-      fresh_changed old new j 1 change.changed fresh after own
-      (λ k high there a. later_apart old rule fresh es at s.shared k (omega (arith, low (omega (arith, there)), high)) there along deepest
-      (subst (λ (fs : List Event). IsAlong old k (suc (shared_at old k)) fs) its a))
-    where
-      own : (m : ℕ) → m < j → IsAlong new j (suc (shared_at new j)) (events (stretch_list old m)) → ⊥
-      own m h a =
-          let d = suc s.shared in
-          let b : IsAlong new j d (events (stretch_list old m)) = subst (λ (n : ℕ). IsAlong new j (suc n) (events (stretch_list old m))) change.here.1 a in
-          let long : d ≤ length es = omega (arith, along_within new j d (events (stretch_list old m)) b, length-map (stretch_list new j) (λ (x : Entry). x.event), ap length its) in
-          deepest m (omega (arith, h, change.changed.within)) (record { enough = omega (arith, long); alike = sym b.alike ∙ ap (take d) its })
+      fresh_changed old new j 1 change.changed fresh after
+      (λ m h a. grind (arith, h, a, change.here, change.changed.within, its, deepest m, along_within, length-map))
+      (λ k high there a. later_apart old rule fresh es at s.shared k (omega (arith, low (omega (arith, there)), high)) there along deepest (rw its at a))
 
   -- the end of the new one is needed by a place there
   pub needed_inserted : (ps : List Place) (n : ℕ) → length (stretch_list new j) ≤ n → AreNeeded old ps → AreNeeded new (with_place (map (raised j) ps) j n)
@@ -150,17 +108,11 @@ module _ (old new : List Stretch) (j : ℕ) (s : Stretch) (change : IsInserted o
   up k h =
       elim (cases_lt k j) [
         | inl low ↦ let its = change.changed.below k low in (k, omega (arith, change.changed.count, h), its.0, its.1, inl (low, refl))
-        | inr high ↦
-            let its = change.changed.above (suc k) k (omega arith) (omega (arith, high)) in
-            (suc k, omega (arith, change.changed.count, h), its.0, its.1, inr (high, refl))
+        | inr high ↦ let its = change.changed.above (suc k) k (omega arith) (omega (arith, high)) in (suc k, omega (arith, change.changed.count, h), its.0, its.1, inr (high, refl))
       ]
 
   pub nested_removed : AreNested new → AreNested old
-  nested_removed rule = record {
-    within = within;
-    some = λ k h. (let to = up k h in omega (arith, rule.some to.0 to.1, ap length to.2, to.3));
-    few = λ k h. (let to = up k h in omega (arith, rule.few to.0 to.1, ap length to.2));
-  }
+  nested_removed rule = record { within = within; some = λ k h. grind (arith, rule.some, up k h); few = λ k h. grind (arith, rule.few, up k h) }
     where
       within : (i : ℕ) → i < length old → shared_at old i ≤ length (list_before old i)
       within zero h = grind (arith, cases_order 0 j, change.changed.below 0, change.changed.less, change.changed.there, shared_within new rule 0)
@@ -171,14 +123,7 @@ module _ (old new : List Stretch) (j : ℕ) (s : Stretch) (change : IsInserted o
           grind (arith, cases_order (suc k) j, its.below k, its.below (suc k), its.less, its.there, above k, above (suc k), were (suc k), were (suc (suc k)))
 
   pub fresh_removed : AreNested old → AreFresh new → AreFresh old
-  fresh_removed rule fresh = fresh_apart old rule (λ i m h l a. (
-      let to = up i l in
-      let its = up m (omega (arith, h, l)) in
-      let d = suc (shared_at new to.0) in
-      apart new fresh to.0 its.0 (omega (arith, to.4, its.4, h)) to.1
-      (along_taken new old to.0 i d (events (stretch_list new its.0)) (ap (take d) to.2)
-      (subst (λ (xs : List Entry). IsAlong old i d (events xs)) (sym its.2) (subst (λ (n : ℕ). IsAlong old i (suc n) (events (stretch_list old m))) (sym to.3) a)))
-      ))
+  fresh_removed rule fresh = fresh_apart old rule (λ i m h l a. grind (arith, a, h, along_taken, up i l, up m, apart new fresh))
 
   pub needed_removed : (ps : List Place) → AreNeededFrom (suc j) new ps → AreNeededFrom j old (map (lowered j) ps)
   needed_removed ps needed k high h =
@@ -194,14 +139,10 @@ module _ (old new : List Stretch) (j : ℕ) (s : Stretch) (change : IsInserted o
       grind (arith, nat_tests, change.changed.below p.stretch, λ (high : j ≤ p.stretch). above p.stretch p.number high own)
     where
       above : (q n : ℕ) → j ≤ q → (q ≡ j → n ≤ s.shared) → take n (stretch_list new q) ≡ take n (stretch_list old (q - 1))
-      above zero n high own =
-          let first : 0 ≡ j = omega (arith, high) in
-          let none : n ≡ 0 = grind (arith, change.changed.there, change.here.1, first, own) in
-          ap (λ (k : ℕ). take k (stretch_list new 0)) none ∙ sym (ap (λ (k : ℕ). take k (stretch_list old (0 - 1))) none)
+      above zero n high own = (let none : n ≡ 0 = grind (arith, change.changed.there, change.here.1, high, own) in rw none refl)
       above (suc q) n high own =
-          let down : q ≡ suc q - 1 = omega arith in
-          let back = goes_back (list_before old j) s n in
-          grind (arith, down, cases_order (suc q) j, own, change.here.0, back, change.changed.there, change.here.1, change.changed.above (suc q) q (omega arith))
+          (let down : q ≡ suc q - 1 = omega arith in
+          grind (arith, down, cases_order (suc q) j, own, change.here.0, goes_back (list_before old j) s n, change.changed.there, change.here.1, change.changed.above (suc q) q (omega arith)))
 
 -- a place with the same entries is within
 pub within_at : (old new : List Stretch) (p q : Place) → q.number ≡ p.number → entries_at new q ≡ entries_at old p → IsWithin old p → IsWithin new q
@@ -213,20 +154,14 @@ within_at old new p q same entries h =
 module _ (old new : List Stretch) (j : ℕ) (change : IsReplaced old new j) where
   pub nested_replaced : AreNested old → shared_at old j < length (stretch_list new j) → shared_at old (suc j) ≤ length (stretch_list new j) → length (stretch_list new j) ≤ MOST_STEPS
       → AreNested new
-  nested_replaced rule some next few =
-      let then = (change.changed.above (suc j) (suc j) (omega arith) (omega arith)).1 in
-      nested_changed old new j 0 change.changed rule (omega (arith, change.shared, some)) few (omega (arith, then, next))
+  nested_replaced rule some next few = grind (arith, nested_changed old new j 0 change.changed rule, change.shared, change.changed.above (suc j) (suc j))
 
   -- if it begins as before up to the first entry of its own, and opens as no later one
   fresh_replaced : AreFresh old → AreNested new → take (suc (shared_at old j)) (stretch_list old j) ≡ take (suc (shared_at old j)) (stretch_list new j)
       → ((k : ℕ) → j < k → k < length old → IsAlong old k (suc (shared_at old k)) (events (stretch_list new j)) → ⊥) → AreFresh new
   fresh_replaced fresh after opening later =
       fresh_changed old new j 0 change.changed fresh after
-      (λ m h a. (
-      let d = suc (shared_at old j) in
-      apart old fresh j m h change.inside
-      (along_taken old new j j d (events (stretch_list old m)) opening (subst (λ (n : ℕ). IsAlong new j (suc n) (events (stretch_list old m))) change.shared a))
-      ))
+      (λ m h a. apart old fresh j m h change.inside (grind (arith, a, opening, change.shared, along_taken old new j j (suc (shared_at old j)))))
       (λ k h there a. later k (omega (arith, h)) there a)
 
   pub fresh_appended : AreNested old → AreFresh old → AreNested new → (rest : List Entry) (es : List Event) → stretch_list new j ≡ stretch_list old j ++ rest
@@ -240,11 +175,9 @@ module _ (old new : List Stretch) (j : ℕ) (change : IsReplaced old new j) wher
   fresh_cut fresh after n less its =
       fresh_replaced fresh after (sym (ap (take (suc (shared_at old j))) its ∙ take-take (suc (shared_at old j)) n (stretch_list old j) (omega (arith, less))))
       (λ k h l a. (
-      let d = suc (shared_at old k) in
+      let cut : events (stretch_list new j) ≡ take n (events (stretch_list old j)) = grind (arith, its, take-map (λ (x : Entry). x.event) n (stretch_list old j)) in
       let long = length-map (stretch_list new j) (λ (x : Entry). x.event) ∙ ap length its ∙ length-take n (stretch_list old j) in
-      let cut : events (stretch_list new j) ≡ take n (events (stretch_list old j)) = ap events its ∙ sym (take-map (λ (x : Entry). x.event) n (stretch_list old j)) in
-      apart old fresh k j h l
-      (record { enough = omega (arith, a.enough, long, length-map (stretch_list old j) (λ (x : Entry). x.event)); alike = a.alike ∙ ap (take d) cut ∙ take-take d n (events (stretch_list old j)) (omega (arith, a.enough, long)) })
+      apart old fresh k j h l (grind (arith, a, cut, long, length-map (stretch_list old j) (λ (x : Entry). x.event), take-take (suc (shared_at old k)) n (events (stretch_list old j))))
       ))
 
   pub needed_appended : (ps : List Place) (n : ℕ) → length (stretch_list new j) ≤ n → AreNeeded old ps → AreNeeded new (with_place ps j n)
@@ -253,18 +186,13 @@ module _ (old new : List Stretch) (j : ℕ) (change : IsReplaced old new j) wher
       (λ k m. grind (arith, m.place, greatest_left i ps (record { stretch = j; number = n } ∷ [])))
 
   pub needed_cut : (ps : List Place) → length (stretch_list new j) ≤ needed_at old ps j → AreNeededFrom (suc j) old ps → AreNeededFrom j new ps
-  needed_cut ps all needed i low h =
-      needed_changed old new j 0 change.changed ps ps i h (λ k m. needed k (omega (arith, m.place, low)) m.inside)
-      (omega (arith, (change.changed.above (suc j) (suc j) (omega arith) (omega arith)).1, all))
-      (λ k m. (let at : k ≡ i = omega (arith, m.place) in grind (arith, at)))
+  needed_cut ps all needed i low h = grind (arith, needed_changed old new j 0 change.changed ps ps i h, needed, all, low, change.changed.above (suc j) (suc j))
 
   entries_replaced : (p : Place) → (p.stretch ≡ j → take p.number (stretch_list new j) ≡ take p.number (stretch_list old j)) → entries_at new p ≡ entries_at old p
   entries_replaced p own = grind (arith, own, cases_order p.stretch j, change.changed.below p.stretch, change.changed.above p.stretch p.stretch (omega arith))
 
   pub entries_appended : (rest : List Entry) → stretch_list new j ≡ stretch_list old j ++ rest → (p : Place) → IsWithin old p → entries_at new p ≡ entries_at old p
-  entries_appended rest its p h =
-      entries_replaced p
-      (λ same. ap (take p.number) its ∙ take-append-le p.number (stretch_list old j) rest (omega (arith, ap (λ (k : ℕ). length (stretch_list old k)) same, h)))
+  entries_appended rest its p h = entries_replaced p (λ same. grind (arith, same, its, h, take-append-le))
 
   pub entries_cut : (n : ℕ) → stretch_list new j ≡ take n (stretch_list old j) → (p : Place) → (p.stretch ≡ j → p.number ≤ n) → entries_at new p ≡ entries_at old p
   entries_cut n its p own = entries_replaced p (λ same. ap (take p.number) its ∙ take-take p.number n (stretch_list old j) (own same))

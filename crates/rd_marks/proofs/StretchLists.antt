@@ -134,21 +134,7 @@ above_inserted x (r ∷ ss) (suc j) s (suc i) h k less there =
     above_inserted (continued x r) ss j s i (omega (arith, h)) (omega (arith, k)) less (subst (λ (y : List Entry). s.shared ≤ length y) (sym (one_on x r ss j)) there)
 
 pub inserted_at : (ss : List Stretch) (j : ℕ) (s : Stretch) → j ≤ length ss → shared_at ss j ≤ s.shared → s.shared ≤ length (list_before ss j) → IsInserted ss (insert ss j s) j s
-inserted_at ss j s within less there =
-    let its = here_inserted [] ss j s within in
-    record {
-      changed = record {
-        small = omega arith;
-        count = omega (arith, length-insert ss j s within);
-        within = within;
-        less = omega (arith, its.1, less);
-        there = omega (arith, its.1, there);
-        below = λ i h. below_inserted [] ss j s i h within;
-        above = λ i k parts high.
-            grind (arith, parts, above_inserted [] ss j s k (omega (arith, parts, high)) within less (omega (arith, there, ap length (before_is ss j))));
-      };
-      here = (its.0 ∙ ap (λ (y : List Entry). continued y s) (before_is ss j), its.1);
-    }
+inserted_at ss j s within less there = grind (arith, length-insert, before_is, here_inserted [] ss j s, above_inserted [] ss j s, below_inserted [] ss j s)
 
 -- One stretch less
 
@@ -172,13 +158,9 @@ pub removed_at : (ss : List Stretch) (j : ℕ) → AreNested ss → j < length s
 removed_at ss j rule h less =
     let back = put_back ss j h in
     let left = left_after [] ss j h in
-    let before = sym (before_is (remove ss j) j) ∙ left.0 ∙ before_is ss j in (
-      back.0,
-      back.2,
-      subst (λ (rs : List Stretch). IsInserted (remove ss j) rs j back.0) back.1
-          (inserted_at (remove ss j) j back.0 (omega (arith, left.2, h)) (omega (arith, left.1, back.2, less))
-          (omega (arith, ap length before, back.2, shared_within ss rule j))),
-    )
+    let its : IsInserted (remove ss j) (insert (remove ss j) j back.0) j back.0 =
+    grind (arith, back.2, left, h, less, before_is (remove ss j) j, before_is ss j, shared_within ss rule j, inserted_at (remove ss j) j back.0) in
+    (back.0, back.2, rw back.1 at its)
 
 shared_replaced : (ss : List Stretch) (j : ℕ) (t : Stretch) (i : ℕ) → t.shared ≡ shared_at ss j → shared_at (set ss j t) i ≡ shared_at ss i
 shared_replaced [] j t i h = refl

@@ -1,7 +1,6 @@
 -- What growing a list and shrinking a stretch leave, in the words of their contracts.
-use Rattle.std.proofs.Common.{◌≡◌, ℕ, zero, suc, ◌-◌, ◌<◌, ◌≤◌, ◌^◌, inl, inr, refl, sym, ap, ◌∙◌, subst, List, [], ◌∷◌, ◌++◌, length, take, drop, set, insert, remove, length-take, Result, OnOk, OnErr, arith}
-use Rattle.rd_marks.proofs.Prelude.{drop-length, cases_eq, cases_lt, nat_tests, append-nil, length-map, map-append, map-id, take-append-drop, take-map, take_all, MOST_STEPS, Event, Entry, Place, Stretch, Shift, greatest_in, stretch_list, list_before, shared_at, entries_at, IsWithin, IsEnd, IsAlong, IsDeepest, AreNested, AreFresh, raised, IsLow, IsGrown, IsShrunk, IsUnchanged}
-use Rattle.rd_step.specs.Run.{events}
+use Rattle.std.proofs.Common.{◌≡◌, ℕ, zero, suc, ◌-◌, ◌<◌, ◌≤◌, ◌^◌, refl, sym, ap, ◌∙◌, subst, List, [], ◌∷◌, ◌++◌, length, take, drop, set, insert, remove, length-take, Result, OnOk, OnErr, arith}
+use Rattle.rd_marks.proofs.Prelude.{drop-length, nat_tests, append-nil, length-map, map-append, map-id, take-append-drop, take-map, take_all, MOST_STEPS, Entry, Place, Stretch, Shift, greatest_in, stretch_list, list_before, shared_at, entries_at, IsWithin, IsEnd, IsAlong, IsDeepest, AreNested, AreFresh, IsLow, IsGrown, IsShrunk, IsUnchanged, events, cases_order}
 use Rattle.rd_marks.specs.declared.stretches.changes.Shift.TheVariants.{Same, Up, Down}
 use Rattle.rd_marks.proofs.StretchLists.{own_at, shared_within, inserted_at, removed_at, appended_at, cut_at}
 use Rattle.rd_marks.proofs.Fresh.{along_taken}
@@ -15,8 +14,8 @@ is_low ss few p within some = omega (arith, few, stretch_within ss p within some
 -- the events of a list with those of others after it
 joined_events : (xs ys zs : List Entry) (n : ℕ) → zs ≡ xs ++ drop n ys → events xs ≡ take n (events ys) → events zs ≡ events ys
 joined_events xs ys zs n its same =
-    ap events its ∙ map-append (λ (x : Entry). x.event) xs (drop n ys) ∙ ap (λ (es : List Event). es ++ events (drop n ys)) (same ∙ take-map (λ (x : Entry). x.event) n ys)
-    ∙ sym (map-append (λ (x : Entry). x.event) (take n ys) (drop n ys)) ∙ ap events (take-append-drop n ys)
+    let fact = map-append (λ (x : Entry). x.event) (take n ys) (drop n ys) in
+    grind (arith, its, same, take-map (λ (x : Entry). x.event) n ys, map-append (λ (x : Entry). x.event) xs (drop n ys), fact, take-append-drop n ys)
 
 -- all that is put is there
 pub all_there : (ss : List Stretch) (few : length ss < 2 ^ 64) (at : Place) (live : List Entry) → IsWithin ss at → at.number ≡ length live
@@ -53,8 +52,7 @@ module _ (ss : List Stretch) (few : length ss < 2 ^ 64) (rule : AreNested ss) (f
       let start : events (stretch_list ss j) ≡ take n (events live) = ap events (sym whole) ∙ sym (take-map (λ (x : Entry). x.event) n (stretch_list ss j)) ∙ along.alike in
       let same : events (stretch_list new j) ≡ events live = joined_events (stretch_list ss j) live (stretch_list new j) n list start in
       let long : length (stretch_list new j) ≡ length live = sym (length-map (stretch_list new j) (λ (x : Entry). x.event)) ∙ ap length same ∙ length-map live (λ (x : Entry). x.event) in
-      let nested =
-      nested_replaced ss new j change rule (omega (arith, rule.some j end.there, end.all, more, long)) (omega (arith, shared_within ss rule (suc j), end.all, more, long)) (omega (arith, most, long)) in
+      let nested : AreNested new = grind (arith, most, more, long, end.all, rule.some j end.there, shared_within ss rule (suc j), nested_replaced ss new j change rule) in
       record {
         nested = nested;
         fresh =
@@ -64,9 +62,7 @@ module _ (ss : List Stretch) (few : length ss < 2 ^ 64) (rule : AreNested ss) (f
           within = omega (arith, long);
           put = take_all (length live) (stretch_list new j) (omega (arith, long)) ∙ list ∙ ap (λ (xs : List Entry). xs ++ rest) (sym whole);
           low = is_low ss few;
-          stays = λ p within.
-              (let kept = entries_appended ss new j change rest list p within in
-              record { within = within_at ss new p p refl kept within; same = kept });
+          stays = grind (arith, both, entries_appended ss new j change rest list, within_at);
           needed = λ places needed.
               rw (map-id places) (needed_appended ss new j change places (length live) (omega (arith, long)) needed);
         };
@@ -96,9 +92,7 @@ module _ (ss : List Stretch) (few : length ss < 2 ^ 64) (rule : AreNested ss) (f
           within = omega (arith, long);
           put = take_all (length live) (stretch_list new j) (omega (arith, long)) ∙ list;
           low = is_low ss few;
-          stays = λ p is.
-              (let kept = entries_raised ss new j s change p in
-              record { within = within_at ss new p (raised j p) (grind (arith, nat_tests)) kept is; same = kept });
+          stays = grind (arith, nat_tests, entries_raised ss new j s change, within_at);
           needed = λ places needed. needed_inserted ss new j s change places (length live) (omega (arith, long)) needed;
         };
       }
@@ -122,18 +116,15 @@ module _ (ss : List Stretch) (few : length ss < 2 ^ 64) (rule : AreNested ss) (f
   pub gone : (n : ℕ) → shared_at ss (suc j) ≤ n → n ≤ shared_at ss j → Shrinks ss (remove ss j) j n (Down j)
   gone n next none =
       let found = removed_at ss j rule inside (omega (arith, next, none)) in
-      let new = remove ss j in
-      let s = found.0 in
-      let change = found.2 in
-      let nested = nested_removed new ss j s change rule in
+      let nested = nested_removed (remove ss j) ss j found.0 found.2 rule in
       record {
         nested = nested;
-        fresh = fresh_removed new ss j s change nested fresh;
+        fresh = fresh_removed (remove ss j) ss j found.0 found.2 nested fresh;
         shrunk = record {
-          below = omega (arith, change.changed.count, inside);
+          below = omega (arith, found.2.changed.count, inside);
           low = is_low ss few;
-          stays = grind (arith, entries_lowered, within_at, nat_tests);
-          needed = λ places needed its. needed_removed new ss j s change places needed;
+          stays = grind (arith, found, entries_lowered, within_at, nat_tests);
+          needed = λ places needed its. needed_removed (remove ss j) ss j found.0 found.2 places needed;
         };
       }
 
@@ -146,20 +137,9 @@ module _ (ss : List Stretch) (few : length ss < 2 ^ 64) (rule : AreNested ss) (f
       let list = both.1 ∙ append-nil (stretch_list ss j) in
       let all = list ∙ sym (take_all (length (stretch_list ss j)) (stretch_list ss j) (omega arith)) in
       let both_same : (i : ℕ) → (stretch_list new i ≡ stretch_list ss i) × (shared_at new i ≡ shared_at ss i) =
-      (λ i. elim (cases_lt i j) [
-        | inl low ↦ change.changed.below i low
-        | inr high ↦ elim (cases_eq i j) [
-          | inl same ↦ rw same (list, change.shared)
-          | inr other ↦ change.changed.above i i (omega arith) (omega (arith, high, other))
-        ]
-      ]) in
-      let some = rule.some j inside in
-      let long = ap length list in
-      let nested = nested_replaced ss new j change rule (omega (arith, some, long)) (omega (arith, shared_within ss rule (suc j), long)) (omega (arith, rule.few j inside, long)) in (
-        nested,
-        fresh_cut ss new j change fresh nested (length (stretch_list ss j)) some all,
-        grind (arith, within_at),
-      )
+      (λ i. grind (arith, cases_order i j, list, change.shared, change.changed.below i, change.changed.above i i)) in
+      let nested : AreNested new = grind (arith, rule.some j inside, rule.few j inside, shared_within ss rule (suc j), list, nested_replaced ss new j change rule) in
+      (nested, fresh_cut ss new j change fresh nested (length (stretch_list ss j)) (rule.some j inside) all, grind (arith, within_at))
 
   -- one of which some are left
   pub left : (n : ℕ) → shared_at ss (suc j) ≤ n → shared_at ss j < n → (t : Stretch) → t.shared ≡ shared_at ss j → t.entries.items ≡ take (n - shared_at ss j) (own_at ss j) → Shrinks ss (set ss j t) j n Same
@@ -167,17 +147,15 @@ module _ (ss : List Stretch) (few : length ss < 2 ^ 64) (rule : AreNested ss) (f
       let new = set ss j t in
       let both = cut_at ss rule j inside t shared n (omega (arith, some)) next its in
       let change = both.0 in
-      let list = both.1 in
-      let long = ap length list ∙ length-take n (stretch_list ss j) in
-      let nested =
-      nested_replaced ss new j change rule (omega (arith, long, some, rule.some j inside)) (omega (arith, long, next, shared_within ss rule (suc j))) (omega (arith, long, rule.few j inside)) in
+      let long = ap length both.1 ∙ length-take n (stretch_list ss j) in
+      let nested : AreNested new = grind (arith, some, next, long, rule.some j inside, rule.few j inside, shared_within ss rule (suc j), nested_replaced ss new j change rule) in
       record {
         nested = nested;
-        fresh = fresh_cut ss new j change fresh nested n some list;
+        fresh = fresh_cut ss new j change fresh nested n some both.1;
         shrunk = record {
           below = omega (arith, change.changed.count, inside);
           low = is_low ss few;
-          stays = grind (arith, entries_cut, within_at);
+          stays = grind (arith, both, entries_cut, within_at);
           needed = λ places needed its. rw (map-id places) (needed_cut ss new j change places (omega (arith, long, its)) needed);
         };
       }
@@ -185,4 +163,4 @@ module _ (ss : List Stretch) (few : length ss < 2 ^ 64) (rule : AreNested ss) (f
 -- entries were put at the end of a stretch, or not
 pub extended_or_not : {X Y : Type 0} (r : Result X Y) (P : Type 0) (own more entries : List Entry) → OnOk r (entries ≡ own ++ more) → OnErr r (entries ≡ own)
     → (entries ≡ own ++ more → P) → (entries ≡ own → P) → P
-extended_or_not r h own more entries ok err f g = grind arith
+extended_or_not r P own more entries ok err f g = grind arith

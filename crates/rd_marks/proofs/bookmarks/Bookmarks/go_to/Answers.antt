@@ -1,6 +1,5 @@
 use Rattle.std.proofs.Common.{◌≡◌, ◌≤◌, [], ℕ, List, length, take, lit<, refl, subst, ap, ◌∙◌, arith}
-use Rattle.rd_marks.proofs.Prelude.{fact_passed_up, Event, IsPrefix, state, track, Bookmarks, Place, here_in, entries_in, IsPlaceIn}
-use Rattle.rd_journal.specs.Journal.{events}
+use Rattle.rd_marks.proofs.Prelude.{fact_passed_up, Event, IsPrefix, state, track, Bookmarks, Place, here_in, entries_in, IsPlaceIn, events}
 use Rattle.rd_marks.proofs.Here.{along_to}
 use Rattle.rd_marks.proofs.bookmarks.Bookmarks.go_to.Goals as goal
 

@@ -1,15 +1,11 @@
-use Rattle.std.proofs.Common.{◌≡◌, ◌++◌, ◌∙◌, [], ◌∷◌, List, All, sym, ap, subst, arith}
-use Rattle.rd_marks.proofs.Prelude.{lookup, false≢true, length-map, lookup-map_values, fact_passed_up, Entry, IsPrefix, state, track, MarkName, Place, IsLow, lists_in, here_in, AreRuns, IsKept, named_lists, same_name, entries_at, IsWithin}
-use Rattle.rd_journal.specs.Journal.{events}
+use Rattle.std.proofs.Common.{◌≡◌, ◌++◌, ◌∙◌, [], ◌∷◌, List, sym, ap, subst, arith}
+use Rattle.rd_marks.proofs.Prelude.{length-map, lookup-map_values, fact_passed_up, Entry, IsPrefix, state, track, MarkName, IsLow, lists_in, here_in, AreRuns, IsKept, named_lists, same_name, entries_at, IsWithin, events}
 use Rattle.rd_marks.proofs.Counting.{all_along}
 use Rattle.rd_marks.proofs.Here.{live_along, live_begin}
 use Rattle.rd_marks.proofs.Putting.{IsSet, each, is_set, kept_same, none_named}
 use Rattle.rd_marks.proofs.bookmarks.Bookmarks.set.Given.{Over}
 use Rattle.rd_marks.proofs.bookmarks.Bookmarks.set.Goals.{After-here_after-self, In_err-grown}
 use Rattle.rd_marks.proofs.bookmarks.Bookmarks.set.Goals as goal
-
-pub follow-at-requires-clause-within : goal.follow-at-requires-clause-within
-follow-at-requires-clause-within g c = grind arith
 
 pub follow-at-requires-clause-along : goal.follow-at-requires-clause-along
 follow-at-requires-clause-along g c =
@@ -18,16 +14,12 @@ follow-at-requires-clause-along g c =
 
 pub put-requires-clause-new : goal.put-requires-clause-new
 put-requires-clause-new g c =
-    let b = c.args.self.now in
-    ap (λ (es : List (MarkName × Place)). lookup (same_name c.args.name) es) c.reserve.ensures.entries
-    ∙ none_named (entries_at b.stretches.list.items) (lookup (same_name c.args.name) b.names.entries)
-    (sym (lookup-map_values (entries_at b.stretches.list.items) (same_name c.args.name) b.names.entries) ∙ c.requires.new)
+    let f = entries_at c.args.self.now.stretches.list.items in
+    rw c.reserve.ensures.entries (none_named f _ (sym (lookup-map_values f (same_name c.args.name) c.args.self.now.names.entries) ∙ c.requires.new))
 
 pub put-requires-clause-low : goal.put-requires-clause-low
 put-requires-clause-low g c =
-    let b = c.args.self.now in
-    subst (λ (es : List (MarkName × Place)). All (λ (m : MarkName × Place). IsLow m.1) es) (sym c.reserve.ensures.entries)
-    (each (IsWithin b.stretches.list.items) IsLow b.names.entries c.in_ok-grown.ensures.ok.low b.kept.within)
+    rw c.reserve.ensures.entries (each (IsWithin c.args.self.now.stretches.list.items) IsLow c.args.self.now.names.entries c.in_ok-grown.ensures.ok.low c.args.self.now.kept.within)
 
 pub here_after-self-requires : goal.here_after-self-requires
 here_after-self-requires g c = c.in_ok-grown.ensures.ok.low c.args.self.now.here c.args.self.now.kept.lies
@@ -41,12 +33,7 @@ stay : (g : Over) (c : In_err-grown g) → let b = c.args.self.now in let new = 
 stay g c = grind (arith, kept_same)
 
 pub invariant_of-self-in-Break-branch-2 : goal.invariant_of-self-in-Break-branch-2
-invariant_of-self-in-Break-branch-2 g c =
-    let b = c.args.self.now in
-    record {
-      kept =
-          (kept_same b.stretches.list.items c.grow.new.self.list.items c.in_err-grown.ensures.err b.names.entries c.reserve.new.self.entries b.here c.reserve.ensures.entries b.kept).0;
-    }
+invariant_of-self-in-Break-branch-2 g c = record { kept = (kept_same _ _ c.in_err-grown.ensures.err _ _ _ c.reserve.ensures.entries c.args.self.now.kept).0 }
 
 pub returns-in_err-grown-clause-runs : goal.returns-in_err-grown-clause-runs
 returns-in_err-grown-clause-runs g c =
@@ -57,12 +44,10 @@ returns-in_err-grown-clause-stands g c =
     subst (λ (xs : List Entry). IsPrefix (events xs) (track c.args.session.now)) (sym (stay g (goal.at.returns-in_err-grown-clause-stands g c).In_err-grown).2) c.requires.stands
 
 pub returns-in_err-grown-clause-succeeds : goal.returns-in_err-grown-clause-succeeds
-returns-in_err-grown-clause-succeeds g c = λ room none.
-    let b = c.args.self.now in
-    let live = c.live-live in
-    let all = all_along b.stretches.list.items b.names.entries c.follow-at.result.stretch c.follow-at.result.number (events live.result) c.follow-at.ensures.along c.follow-at.ensures.deepest
-    (rw live.ensures.events none) in
-    absurd (false≢true (c.in_err-grown.ensures.succeeds (all ∙ length-map live.result (λ (x : Entry). x.event))))
+returns-in_err-grown-clause-succeeds g c =
+    let fact = all_along c.args.self.now.stretches.list.items c.args.self.now.names.entries c.follow-at.result.stretch c.follow-at.result.number (events c.live-live.result) c.follow-at.ensures.along
+    c.follow-at.ensures.deepest in
+    grind (arith, length-map, c.live-live.ensures.events, c.in_err-grown.ensures.succeeds, fact)
 
 pub returns-in_err-grown-clause-unchanged : goal.returns-in_err-grown-clause-unchanged
 returns-in_err-grown-clause-unchanged g c = fact_passed_up _ (stay g (goal.at.returns-in_err-grown-clause-unchanged g c).In_err-grown).1
@@ -75,11 +60,9 @@ put_last g c =
     let b = c.args.self.now in
     let live = c.live-live in
     let at = c.follow-at in
-    let there = c.here_after-self in
-    is_set g.row.R (state c.args.session.now).start b.stretches.list.items b.stretches.nested b.names.entries b.here b.kept c.requires.few c.requires.runs live.result
-    (record { few = live.ensures.few; ran = live.ensures.run }) (track c.args.session.now) c.requires.stands (live_begin c.args.session.now live.result live.ensures.events) at.result at.ensures.within
-    at.ensures.along c.grow.new.self.list.items c.in_ok-grown.grown c.in_ok-grown.ensures.ok c.args.name c.reserve.new.self.entries c.put.new.names.entries c.reserve.ensures.entries c.put.ensures
-    there.result c.len-2.result there.ensures.near there.ensures.far
+    is_set g.row.R _ _ b.stretches.nested _ _ b.kept c.requires.few c.requires.runs live.result (record { few = live.ensures.few; ran = live.ensures.run }) _ c.requires.stands
+    (live_begin c.args.session.now live.result live.ensures.events) at.result at.ensures.within at.ensures.along _ c.in_ok-grown.grown c.in_ok-grown.ensures.ok c.args.name _ _ c.reserve.ensures.entries
+    c.put.ensures _ c.len-2.result c.here_after-self.ensures.near c.here_after-self.ensures.far
 
 pub invariant_of-self-2 : goal.invariant_of-self-2
 invariant_of-self-2 g c = record { kept = (put_last g (goal.at.invariant_of-self-2 g c).After-here_after-self).kept }

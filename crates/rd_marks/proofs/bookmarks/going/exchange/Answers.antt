@@ -1,14 +1,10 @@
-use Rattle.std.proofs.Common.{List, lit<, ap, subst, sym, length, ◌∙◌, arith}
-use Rattle.rd_marks.proofs.Prelude.{length-map, Event, Entry, IsPrefix, journal, state, entries_at}
-use Rattle.rd_journal.specs.Journal.{events, IsRunFrom}
+use Rattle.std.proofs.Common.{List, lit<, ap, subst, length, ◌∙◌, arith}
+use Rattle.rd_marks.proofs.Prelude.{length-map, Entry, journal, state, entries_at, events, IsRunFrom}
 use Rattle.rd_marks.proofs.Here.{live_along}
 use Rattle.rd_marks.proofs.Starting.{entries_length}
 use Rattle.rd_marks.proofs.EntryLemmas.{switched, may_switch, few_enough}
 use Rattle.rd_marks.proofs.Switches.{common_live, none_behind, whole_common}
 use Rattle.rd_marks.proofs.bookmarks.going.exchange.Goals as goal
-
-pub follow-beginning-requires-clause-within : goal.follow-beginning-requires-clause-within
-follow-beginning-requires-clause-within g c = grind arith
 
 pub follow-beginning-requires-clause-along : goal.follow-beginning-requires-clause-along
 follow-beginning-requires-clause-along g c =
@@ -18,48 +14,30 @@ follow-beginning-requires-clause-along g c =
 pub switch-requires : goal.switch-requires
 switch-requires g c =
     let ss = c.args.stretches.now.list.items in
-    let place = c.args.place in
     let n = c.common-common.result in
     let said = c.common-common.ensures in
-    let ys = entries_at ss place in
     let given = c.deref.ensures.value ∙ c.in-Ok.ensures.ok in
-    let long = entries_length ss place c.requires.within in
-    let live_run = subst (λ (xs : List Entry). IsRunFrom g.row.R (state c.args.session.now).start xs) c.live-live.ensures.entries c.live-live.ensures.run in
-    let same =
-    common_live ss c.follow-beginning.result place n (events c.live-live.result) (state c.args.session.now).live c.live-live.ensures.events said.first c.follow-beginning.ensures.along said.alike in (
-      lit< tt,
-      (
-        omega (arith, said.first, c.follow-beginning.ensures.along.enough, ap length c.live-live.ensures.entries, length-map c.live-live.result (λ (x : Entry). x.event)),
-        (
-          few_enough n c.deref.result.now ys given (omega (arith, said.second, long)) c.requires.run.few,
-          may_switch g.row.R (journal c.args.session.now) n c.deref.result.now ys given live_run c.requires.run same,
-        ),
-      ),
-    )
+    let same = common_live ss c.follow-beginning.result c.args.place n (events c.live-live.result) (state c.args.session.now).live c.live-live.ensures.events said.first
+    c.follow-beginning.ensures.along said.alike in
+    let run = subst (λ (xs : List Entry). IsRunFrom g.row.R (state c.args.session.now).start xs) c.live-live.ensures.entries c.live-live.ensures.run in
+    let live = length-map c.live-live.result (λ (x : Entry). x.event) in
+    let few = few_enough n c.deref.result.now (entries_at ss c.args.place) given (omega (arith, said.second, entries_length ss c.args.place c.requires.within)) c.requires.run.few in
+    let may = may_switch g.row.R (journal c.args.session.now) n c.deref.result.now (entries_at ss c.args.place) given run c.requires.run same in
+    (lit< tt, (omega (arith, said.first, c.follow-beginning.ensures.along.enough, ap length c.live-live.ensures.entries, live), (few, may)))
 
 pub returns-in-Err-clause-succeeds : goal.returns-in-Err-clause-succeeds
-returns-in-Err-clause-succeeds g c = λ h.
-    let ss = c.args.stretches.now.list.items in
-    let here : IsPrefix (events (entries_at ss c.args.place)) (events c.live-live.result) =
-    subst (λ (es : List Event). IsPrefix (events (entries_at ss c.args.place)) es) (sym c.live-live.ensures.events) h in
-    c.in-Err.ensures.succeeds (whole_common ss c.follow-beginning.result c.args.place c.common-common.result (events c.live-live.result) c.requires.within
-    c.follow-beginning.ensures.along c.follow-beginning.ensures.deepest here c.common-common.ensures.second c.common-common.ensures.most)
+returns-in-Err-clause-succeeds g c =
+    λ h. c.in-Err.ensures.succeeds (whole_common c.args.stretches.now.list.items c.follow-beginning.result c.args.place c.common-common.result (events c.live-live.result) c.requires.within
+    c.follow-beginning.ensures.along c.follow-beginning.ensures.deepest (grind (arith, c.live-live.ensures.events, h)) c.common-common.ensures.second c.common-common.ensures.most)
 
 pub returns-in-Ok-clause-ok : goal.returns-in-Ok-clause-ok
 returns-in-Ok-clause-ok g c =
-    let ss = c.args.stretches.now.list.items in
-    let n = c.common-common.result in
-    let same =
-    common_live ss c.follow-beginning.result c.args.place n (events c.live-live.result) (state c.args.session.now).live c.live-live.ensures.events c.common-common.ensures.first
-    c.follow-beginning.ensures.along c.common-common.ensures.alike in
-    switched c.switch.result (state c.args.session.now) (state c.switch.new.self) n c.deref.result.now (entries_at ss c.args.place) (c.deref.ensures.value ∙ c.in-Ok.ensures.ok) same c.switch.ensures.ok
+    let fact = switched c.switch.result (state c.args.session.now) (state c.switch.new.self) c.common-common.result c.deref.result.now (entries_at c.args.stretches.now.list.items c.args.place) in
+    let fact_2 = common_live c.args.stretches.now.list.items c.follow-beginning.result c.args.place c.common-common.result (events c.live-live.result) (state c.args.session.now).live in
+    grind (arith, c.deref.ensures.value, c.in-Ok.ensures.ok, c.switch.ensures.ok, fact_2, fact)
 
 pub returns-in-Ok-clause-succeeds : goal.returns-in-Ok-clause-succeeds
 returns-in-Ok-clause-succeeds g c = λ h.
-    let ss = c.args.stretches.now.list.items in
-    let here : IsPrefix (events (entries_at ss c.args.place)) (events c.live-live.result) =
-    subst (λ (es : List Event). IsPrefix (events (entries_at ss c.args.place)) es) (sym c.live-live.ensures.events) h in
-    let all =
-    whole_common ss c.follow-beginning.result c.args.place c.common-common.result (events c.live-live.result) c.requires.within c.follow-beginning.ensures.along
-    c.follow-beginning.ensures.deepest here c.common-common.ensures.second c.common-common.ensures.most in
-    c.switch.ensures.succeeds (none_behind ss c.args.place c.common-common.result c.deref.result.now c.requires.within all (c.deref.ensures.value ∙ c.in-Ok.ensures.ok))
+    let all = whole_common c.args.stretches.now.list.items c.follow-beginning.result c.args.place c.common-common.result (events c.live-live.result) c.requires.within c.follow-beginning.ensures.along
+    c.follow-beginning.ensures.deepest (grind (arith, c.live-live.ensures.events, h)) c.common-common.ensures.second c.common-common.ensures.most in
+    c.switch.ensures.succeeds (none_behind c.args.stretches.now.list.items c.args.place c.common-common.result c.deref.result.now c.requires.within all (c.deref.ensures.value ∙ c.in-Ok.ensures.ok))

@@ -1,6 +1,5 @@
 use Rattle.std.proofs.Common.{arith}
-use Rattle.rd_marks.proofs.Prelude.{length-map, Entry, ahead_entries, journal, state, undo_at, lists_in, here_in}
-use Rattle.rd_step.specs.Run.{events}
+use Rattle.rd_marks.proofs.Prelude.{length-map, Entry, journal}
 use Rattle.rd_marks.proofs.Here.{after_out, undone_alone_leaves, undone_within}
 use Rattle.rd_marks.proofs.Starts.{undo_at_start, start_stays, runs_stay}
 use Rattle.rd_marks.proofs.books.Book.answer_undo_at.Goals as goal
@@ -8,21 +7,11 @@ use Rattle.rd_marks.proofs.books.Book.answer_undo_at.Goals as goal
 pub invariant_of-self : goal.invariant_of-self
 invariant_of-self g c =
     let book = c.args.self.now in
-    let old = state book.session in
-    let start =
-    start_stays c.undo_at-done.result (journal c.args.self.now.session) (journal c.undo_at-done.new.self) (undo_at g.row.R old c.args.k)
-    (undo_at_start g.row.R old c.args.k) c.undo_at-done.ensures.ok c.undo_at-done.ensures.unchanged in
-    let n = c.saturating_sub.result in
-    let len = length-map (journal book.session).live (λ (x : Entry). x.event) in
+    let done = c.undo_at-done in
     record {
-      runs = runs_stay g.row.R old.start (state c.undo_at-done.new.self).start (lists_in book.bookmarks) (lists_in c.cut_back.new.self) start c.cut_back.ensures.lists book.runs;
+      runs = runs_stay g.row.R _ _ _ _ (start_stays done.result _ _ _ (undo_at_start g.row.R _ c.args.k) done.ensures.ok done.ensures.unchanged) c.cut_back.ensures.lists book.runs;
       stands =
-          after_out (here_in book.bookmarks) (here_in c.cut_back.new.self) c.cut_back.ensures.begins c.undo_at-done.result n (journal book.session) (journal c.undo_at-done.new.self)
-          (events (ahead_entries book.session.entries)) (events (ahead_entries c.undo_at-done.new.self.entries)) book.stands
-          c.cut_back.ensures.short c.undo_at-done.ensures.track c.undo_at-done.ensures.ok
-          (λ done. let there = undone_within g.row.R old c.args.k _ done in omega (arith, there, len)) c.undo_at-done.ensures.entries
-          (undone_alone_leaves c.args.k n (journal book.session) (journal c.undo_at-done.new.self) c.saturating_sub.ensures);
+          after_out _ _ c.cut_back.ensures.begins done.result c.saturating_sub.result (journal book.session) (journal done.new.self) _ _ book.stands c.cut_back.ensures.short done.ensures.track
+          done.ensures.ok (λ moved. omega (arith, undone_within g.row.R _ c.args.k _ moved, length-map (journal book.session).live (λ (x : Entry). x.event))) done.ensures.entries
+          (undone_alone_leaves c.args.k _ _ _ c.saturating_sub.ensures);
     }
-
-pub returns : goal.returns
-returns g c = grind arith

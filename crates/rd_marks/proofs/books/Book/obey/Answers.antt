@@ -1,10 +1,7 @@
-use Rattle.std.proofs.Common.{sym, ◌∙◌, arith}
+use Rattle.std.proofs.Common.{sym, ◌∙◌}
 use Rattle.rd_marks.proofs.Prelude.{book_state}
 use Rattle.rd_marks.proofs.ObeyLemmas.{happened_leaves, obeyed_leaves, event_needs}
 use Rattle.rd_marks.proofs.books.Book.obey.Goals as goal
-
-pub returns-in-Some-clause-answer : goal.returns-in-Some-clause-answer
-returns-in-Some-clause-answer g c = grind arith
 
 pub returns-in-Some-clause-succeeds : goal.returns-in-Some-clause-succeeds
 returns-in-Some-clause-succeeds g c = λ needs. absurd (event_needs (book_state c.args.self.now) _ c.args.command c.in-Some.event (sym c.as_event.ensures ∙ c.in-Some.is) needs)

@@ -4,18 +4,14 @@ use Rattle.rd_marks.proofs.stretches.Stretches.common_up.Goals as goal
 
 pub loop-i-preserved : goal.loop-i-preserved
 loop-i-preserved c =
-    let ss = c.args.self.now.list.items in
     let inv = c.loop-i.invariant in
-    let i = c.loop-i.i in
-    let d = c.min-common-in-loop-i.result in
-    let e : i + 1 ≡ suc i = omega arith in
+    let e : c.loop-i.i + 1 ≡ suc c.loop-i.i = omega arith in
+    let min = c.min-common-in-loop-i.ensures in
     record {
-      first = omega (arith, inv.first, c.min-common-in-loop-i.ensures);
-      second = omega (arith, inv.second, c.min-common-in-loop-i.ensures);
-      alike =
-          grind (arith, common_on);
-      most = λ n h k all.
-          omega (arith, inv.most n h k (λ j low high. all j low (omega (arith, high))), all (i + 1) (omega (arith, c.loop-i.auto.i)) (omega arith), c.min-common-in-loop-i.ensures, c.shared.ensures);
+      first = omega (arith, inv.first, min);
+      second = omega (arith, inv.second, min);
+      alike = grind (arith, common_on);
+      most = λ n h k all. omega (arith, inv.most n h k (λ j low high. all j low (omega (arith, high))), all (c.loop-i.i + 1) (omega (arith, c.loop-i.auto.i)) (omega arith), min, c.shared.ensures);
     }
 
 pub returns-clause-most : goal.returns-clause-most

@@ -1,6 +1,6 @@
 use Rattle.std.proofs.Common.{◌≡◌, ◌≤◌, take, length, vec_len, vec_capacity}
+use Rattle.rd_marks.proofs.Prelude.{events}
 use Rattle.std.specs.Cow.{cow_slice_items}
-use Rattle.rd_step.specs.Run.{events}
 use Rattle.rd_marks.proofs.stretches.Stretches.events.Given as goal
 
 abbrev pub invariant-loop-i : goal.invariant-loop-i

@@ -1,6 +1,5 @@
 use Rattle.std.proofs.Common.{◌≡◌, ◌⊎◌, ◌+◌, ◌≤◌, suc, arith}
-use Rattle.rd_marks.proofs.Prelude.{shared_at}
-use Rattle.rd_step.specs.Run.{events}
+use Rattle.rd_marks.proofs.Prelude.{shared_at, events}
 use Rattle.rd_marks.proofs.Fresh.{Follows, along_taken, follows_start, follows_here, follows_stopped}
 use Rattle.rd_marks.proofs.Reading.{own_number, own_cases, step_compared, step_skipped}
 use Rattle.rd_marks.proofs.stretches.Stretches.follow.Goals.{else-i-at-via-then-i-at+else-shared-at, else-i-at-via-else-i-at, then-shared-at-2, else-shared-at-2}
@@ -24,20 +23,14 @@ loop-i-preserved c =
     let i = c.loop-i.i in
     let next = c.if-shared-at-2.at in
     let e : i + 1 ≡ suc i = omega arith in
-    let rule = c.args.self.now.nested in
-    let fresh = c.args.self.now.fresh in
-    let low : (at.stretch ≡ i) ⊎ (at.number ≤ shared_at ss i) =
-    grind (arith, else-i-at-via-then-i-at+else-shared-at, else-i-at-via-else-i-at) in
+    let low : (at.stretch ≡ i) ⊎ (at.number ≤ shared_at ss i) = grind (arith, else-i-at-via-then-i-at+else-shared-at, else-i-at-via-else-i-at) in
+    let compared = step_compared ss c.args.self.now.nested c.args.self.now.fresh es i at inv.follows inv.high low in
+    let skipped = step_skipped ss c.args.self.now.nested c.args.self.now.fresh es i at inv.follows inv.high inv.own in
     let on : Follows ss es (suc i) next.stretch next.number × (next.stretch ≤ i) =
     elim c.if-shared-at-2.branch [
       | then-shared-at-2 w ↦
-          rw w.at-is (step_compared ss rule fresh es i at inv.follows inv.high low (omega (arith, w.if-shared-at-2.true, c.shared-shared.ensures)) w.along.result w.along.ensures.more
-          w.along.ensures.along w.along.ensures.most w.farther-at.result w.farther-at.ensures.more w.farther-at.ensures.others)
-      | else-shared-at-2 w ↦
-          rw w.at-is (step_skipped ss rule fresh es i at inv.follows inv.high inv.own (omega (arith, w.if-shared-at-2.false, c.shared-shared.ensures)))
+          let farther = w.farther-at.ensures in
+          rw w.at-is (compared (omega (arith, w.if-shared-at-2.true, c.shared-shared.ensures)) w.along.result w.along.ensures.more w.along.ensures.along w.along.ensures.most _ farther.more farther.others)
+      | else-shared-at-2 w ↦ rw w.at-is (skipped (omega (arith, w.if-shared-at-2.false, c.shared-shared.ensures)))
     ] in
-    record {
-      follows = rw e on.0;
-      high = omega (arith, on.1);
-      own = λ here. absurd (omega (arith, here, on.1));
-    }
+    record { follows = rw e on.0; high = omega (arith, on.1); own = λ here. absurd (omega (arith, here, on.1)) }

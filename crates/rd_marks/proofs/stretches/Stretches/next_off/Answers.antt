@@ -7,14 +7,11 @@ use Rattle.rd_marks.proofs.stretches.Stretches.next_off.Goals as goal
 
 pub loop-i-preserved : goal.loop-i-preserved
 loop-i-preserved c =
-    let ss = c.args.self.now.list.items in
-    let inv = c.loop-i.invariant in
-    let i = c.loop-i.i in
-    let at = c.args.at in
-    let which : (at.stretch ≡ i) ⊎ (at.number < shared_at ss i) =
+    let which : (c.args.at.stretch ≡ c.loop-i.i) ⊎ (c.args.at.number < shared_at c.args.self.now.list.items c.loop-i.i) =
     grind (arith, else-shared-at-via-then-shared-at+else-i-at, else-shared-at-via-else-shared-at) in
-    let e : i + 1 ≡ suc i = omega arith in
-    record { high = omega (arith, inv.high); reaches = λ h. rw e (reaches_on ss c.args.self.now.nested at c.requires i which inv.reaches inv.high) }
+    let on = reaches_on c.args.self.now.list.items c.args.self.now.nested c.args.at c.requires c.loop-i.i which c.loop-i.invariant.reaches c.loop-i.invariant.high in
+    let e : c.loop-i.i + 1 ≡ suc c.loop-i.i = omega arith in
+    record { high = omega (arith, c.loop-i.invariant.high); reaches = λ h. rw e on }
 
 pub returns-clause-shares : goal.returns-clause-shares
 returns-clause-shares c = omega (arith, shared_past c.args.self.now.list.items c.len.result (omega (arith, c.len.ensures)))

@@ -6,17 +6,15 @@ use Rattle.rd_marks.proofs.stretches.Stretches.shrink.Goals as goal
 
 pub invariant_of-self : goal.invariant_of-self
 invariant_of-self c =
-    let ss = c.args.self.now.list.items in
-    let all =
-    gone ss (omega (arith, c.args.self.now.list.ok, c.args.self.now.list.small)) c.args.self.now.nested c.args.self.now.fresh c.args.i c.requires.there c.args.n c.requires.next
-    (omega (arith, c.if-n-shared.true, c.shared-shared.ensures)) in
-    rw c.remove-gone.ensures.items (record { nested = all.nested; fresh = all.fresh })
+    let fact = gone c.args.self.now.list.items (omega (arith, c.args.self.now.list.ok, c.args.self.now.list.small)) c.args.self.now.nested c.args.self.now.fresh c.args.i c.requires.there c.args.n
+    c.requires.next in
+    grind (arith, c.remove-gone.ensures.items, c.if-n-shared.true, c.shared-shared.ensures, fact)
 
 pub returns-then-n-shared : goal.returns-then-n-shared
 returns-then-n-shared c =
-    let ss = c.args.self.now.list.items in
-    rw c.remove-gone.ensures.items (gone ss (omega (arith, c.args.self.now.list.ok, c.args.self.now.list.small)) c.args.self.now.nested c.args.self.now.fresh c.args.i c.requires.there c.args.n
-    c.requires.next (omega (arith, c.if-n-shared.true, c.shared-shared.ensures))).shrunk
+    let fact = gone c.args.self.now.list.items (omega (arith, c.args.self.now.list.ok, c.args.self.now.list.small)) c.args.self.now.nested c.args.self.now.fresh c.args.i c.requires.there c.args.n
+    c.requires.next in
+    grind (arith, c.remove-gone.ensures.items, c.if-n-shared.true, c.shared-shared.ensures, fact)
 
 pub invariant_of-self-2 : goal.invariant_of-self-2
 invariant_of-self-2 c =

@@ -1,5 +1,5 @@
 use Rattle.std.proofs.Common.{◌≡◌, take}
-use Rattle.rd_step.specs.Run.{events}
+use Rattle.rd_marks.proofs.Prelude.{events}
 use Rattle.rd_marks.proofs.stretches.following.alike.Given as goal
 
 abbrev pub invariant-loop-n : goal.invariant-loop-n
