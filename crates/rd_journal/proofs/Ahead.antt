@@ -21,10 +21,10 @@ first_run R (suc n) w (x ∷ xs) h =
 -- The session
 
 pub run_undone : (R n : ℕ) (j : Journal) → IsRun R j → IsRun R (with_undone n j)
-run_undone h n j runs = grind (arith, first_run)
+run_undone R n j runs = grind (arith, first_run)
 
 pub session_undone : (R n : ℕ) (j : Journal) (room : ℕ → ℕ) → IsSession R j room → IsSession R (with_undone n j) room
-session_undone h n j room session = grind (arith, length-take, run_undone, room_first)
+session_undone R n j room session = grind (arith, length-take, run_undone, room_first)
 
 pub is_session : {R : ℕ} (s : Session R) → IsSession R (journal s) (room s.world)
 is_session {R} s = session_undone R s.undone _ (room s.world) s.kept

@@ -36,7 +36,7 @@ back_start (suc n) s = back_start n s
 -- what is left is the run of all but the last events
 pub before_last : (R n : ℕ) (old new : Journal) → IsMovedBack n old new → IsRun R new → state_of new ≡ times n back_one (state_of old)
     → IsBeforeLast R n old new
-before_last h n old new moved runs goes = grind (arith, back_start, take-map)
+before_last R n old new moved runs goes = grind (arith, back_start, take-map)
 
 -- Entries by number
 
@@ -64,7 +64,7 @@ longer_session R old new e x before after session less h longer =
 
 -- a session that opens in a world
 pub opened_session : (R : ℕ) (j : Journal) (room : ℕ → ℕ) → IsWellFormed R j.world → j.live ≡ [] → j.undone ≡ [] → IsSession R j room
-opened_session h j room formed live undone = grind arith
+opened_session R j room formed live undone = grind arith
 
 -- a session whose journal is as it was is a session still, with as much room
 pub same_session : (R : ℕ) (old new : Journal) (before after : ℕ → ℕ) → IsSession R old before → new ≡ old → ((m : ℕ) → before m ≤ after m)
@@ -79,7 +79,7 @@ same_session R old new before after session same more =
 -- the event is answered as its step is, since the live events run to the world
 applied : (R : ℕ) (j : Journal) (e : Event) (r : Result Stepped Refusal) → IsRun R j → length j.live < MOST_STEPS → step R j.world e ≡ r
     → apply R (state_of j) e ≡ with_event (state_of j) e r
-applied h j e r runs less k = grind (arith, live_len, cond-false, ne_eqb)
+applied R j e r runs less k = grind (arith, live_len, cond-false, ne_eqb)
 
 pub apply_refused : (R : ℕ) (j : Journal) (e : Event) (refusal : Refusal) → IsRun R j → length j.live < MOST_STEPS → step R j.world e ≡ Err refusal
     → apply R (state_of j) e ≡ Err refusal

@@ -93,7 +93,7 @@ pub answer_missing : (j : Journal) (k n : ℕ) → n ≡ length j.live → (k �
 answer_missing j k n len h = grind arith
 
 pub undo_at_missing : (R : ℕ) (j : Journal) (k n : ℕ) → n ≡ length j.live → (k ≡ 0) ⊎ (n < k) → undo_at R (state_of j) k ≡ Err (NoSuchStep n)
-undo_at_missing h j k n len l = grind (arith, length-map, le-ltb, cond-false)
+undo_at_missing R j k n len l = grind (arith, length-map, le-ltb, cond-false)
 
 pub answer_there : (j : Journal) (k : ℕ) → 1 ≤ k → k ≤ length j.live → answer_at j k ≡ answer_unless (first_dependant j.live k)
 answer_there j k some within = grind arith

@@ -33,7 +33,7 @@ pub record WentOut (R : ℕ) (s t : State) (n : ℕ) : Type 0 where
   pub goes : t ≡ undone_alone s n
 
 went_out : (R : ℕ) (s t : State) (n : ℕ) → undo_at R s n ≡ Ok t → WentOut R s t n
-went_out h s t n k = grind (arith, cases_Bool, cond-true, ltb-true, cond-false)
+went_out R s t n k = grind (arith, cases_Bool, cond-true, ltb-true, cond-false)
 
 -- a redo that was not refused
 went_forward : (s t : State) → redo s ≡ Ok t → t ≡ forward_one s

@@ -101,7 +101,7 @@ pub rolled_state : (k : ℕ) (old new : Journal) → IsRolledBack k old new → 
 rolled_state k old new is start = grind (arith, unmarked-map, map-append, marked-map)
 
 pub rolled_run : (R k : ℕ) (old new : Journal) → IsRolledBack k old new → start_of new ≡ start_of old → IsRun R new → IsWithoutClosure R k old new
-rolled_run h k old new is start runs = grind (arith, unmarked-map)
+rolled_run R k old new is start runs = grind (arith, unmarked-map)
 
 -- The answers
 
@@ -112,7 +112,7 @@ pub roll_answer_there : (j : Journal) (k : ℕ) → 1 ≤ k → k ≤ length j.l
 roll_answer_there j k some within = grind arith
 
 pub roll_missing : (R : ℕ) (j : Journal) (k n : ℕ) → n ≡ length j.live → (k ≡ 0) ⊎ (n < k) → roll R (state_of j) k ≡ Err (NoSuchStep n)
-roll_missing h j k n len l = grind (arith, length-map, le-ltb, cond-false)
+roll_missing R j k n len l = grind (arith, length-map, le-ltb, cond-false)
 
 pub roll_there : (R : ℕ) (j : Journal) (k : ℕ) → IsRun R j → 1 ≤ k → k ≤ length j.live → roll R (state_of j) k ≡ Ok (undone_marked (state_of j) (closure j.live k))
 roll_there R j zero runs some within = absurd (omega arith)

@@ -21,7 +21,7 @@ record Rolled (R : ℕ) (s t : State) (n : ℕ) : Type 0 where
   goes : t ≡ undone_marked s (closure_in n (run_of R s))
 
 rolled : (R : ℕ) (s t : State) (n : ℕ) → roll R s n ≡ Ok t → Rolled R s t n
-rolled h s t n k = grind arith
+rolled R s t n k = grind arith
 
 pub closure_redone : (R : ℕ) (i j k : Journal) (n : ℕ) → IsRun R i → IsRun R k → roll R (state_of i) n ≡ Ok (state_of j)
     → forward (state_of j) (length (closure_of i.live n)) ≡ Ok (state_of k) → IsClosureLast n i k

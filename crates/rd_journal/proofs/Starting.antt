@@ -28,7 +28,7 @@ live_lead R j runs = record { well_formed = runs.well_formed; ran = runs.live_ra
 
 -- no step leads from a world to that world alone
 pub led_nowhere : (R : ℕ) (start w : World) → LeadsTo R start w [] → w ≡ start
-led_nowhere h start w leads = grind arith
+led_nowhere R start w leads = grind arith
 
 -- the first n and one more
 pub one_more : {X : Type 0} (xs : List X) (n : ℕ) (x : X) → 1 ≤ n → n ≤ length xs → x ≡ get_or xs (n - 1) x → take n xs ≡ take (n - 1) xs ++ x ∷ []

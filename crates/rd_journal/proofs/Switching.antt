@@ -34,11 +34,11 @@ returned_next xs i m count more next d h counted one is = grind (arith, common_s
 
 -- a step brings no actor, and its own is there
 not_its_actor : (R : ℕ) (w : World) (e : Event) (s : Stepped) (m : ℕ) → step R w e ≡ Ok s → is_some (w.actor m) ≡ false → m ≢ e.actor
-not_its_actor h w e s m k none same = grind arith
+not_its_actor R w e s m k none same = grind arith
 
 brings_no_actor : (R : ℕ) (w : World) (e : Event) (s : Stepped) (m : ℕ) → step R w e ≡ Ok s → is_some (w.actor m) ≡ false
     → is_some (s.world.actor m) ≡ false
-brings_no_actor h w e s m k none = grind (arith, took, with_actor-other, not_its_actor)
+brings_no_actor R w e s m k none = grind (arith, took, with_actor-other, not_its_actor)
 
 used_by_other : (made : Bool) (n m : ℕ) → m ≢ n → room_used made n m ≡ 0
 used_by_other made n m ne = grind arith

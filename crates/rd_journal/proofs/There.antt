@@ -36,18 +36,13 @@ there : (n : ℕ) (s : State) → n ≤ length s.live → times n forward_one (t
 there zero s h = refl
 there (suc n) s h = grind (arith, back_live, times_first, once, there n s (omega arith))
 
--- a going back that was not refused
-pub record WentBack (s t : State) (n : ℕ) : Type 0 where
-  pub enough : n ≤ length s.live
-  pub goes : t ≡ times n back_one s
-
 -- going forward as far gives the state from before
 pub forward_back : (s t : State) (n : ℕ) → back s n ≡ Ok t → forward t n ≡ Ok s
 forward_back s t n h = grind (arith, back_undone, forward_goes, there)
 
 -- a state has one journal
 pub one_journal : (R : ℕ) (i j : Journal) → IsRun R i → IsRun R j → state_of i ≡ state_of j → i ≡ j
-one_journal h i j ri rj same = grind arith
+one_journal R i j ri rj same = grind arith
 
 -- going forward as far gives the journal from before
 pub forward_back_journal : (R : ℕ) (i j k : Journal) (n : ℕ) → IsRun R i → IsRun R k → back (state_of i) n ≡ Ok (state_of j)

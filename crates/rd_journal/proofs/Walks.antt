@@ -18,7 +18,7 @@ whole_run R j runs =
 -- the start stays where the first steps lead from it to the world
 pub led_back : (R n : ℕ) (old new : Journal) → LeadsTo R (start_of old) new.world (take (length old.live - n) old.live) → IsMovedBack n old new
     → start_of new ≡ start_of old
-led_back h n old new leads moved = grind (arith, goes_back)
+led_back R n old new leads moved = grind (arith, goes_back)
 
 -- n steps back, where the others lead from the start to the world
 pub moved_back : (R n : ℕ) (old new : Journal) (before after : ℕ → ℕ) → n ≤ length old.live → IsSession R old before

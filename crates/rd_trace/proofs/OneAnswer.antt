@@ -38,7 +38,7 @@ cause_or other (Err cause) = cause
 
 earlier : (R : ℕ) (w : World) (es : List Event) (n : ℕ) (cause : Refusal) (front : List Event) → (at : IsRefusedAt R w es n cause) → (rest : List Event) → front ≡ at.before ++ at.event ∷ rest
     → IsRefusedAt R w front n cause
-earlier h w es n cause front at rest is = grind arith
+earlier R w es n cause front at rest is = grind arith
 
 module _ (R : ℕ) (w : World) (es : List Event) (n m : ℕ) (cause why : Refusal) (h : IsRefusedAt R w es n cause) (k : IsRefusedAt R w es m why) where
   refused_there : Places h.before h.event k.before k.event → (n ≡ m) × (cause ≡ why)
@@ -64,7 +64,7 @@ record SeenRefusedAt (R : ℕ) (w : World) (ms : List (List ℕ × List Event)) 
   pub refused : IsRefusedAt R w mark.1 n cause
 
 seen_refused : (R : ℕ) (w : World) (ms : List Mark) (m n : ℕ) (cause : Refusal) → IsMarkRefusedAt R w ms m n cause → SeenRefusedAt R w (map seen_mark ms) m n cause
-seen_refused h w ms m n cause at = grind (arith, map-append, length-map, seen_go)
+seen_refused R w ms m n cause at = grind (arith, map-append, length-map, seen_go)
 
 seen_goes : (R : ℕ) (w : World) (before : List (List ℕ × List Event)) (m : List ℕ × List Event) (later : List (List ℕ × List Event)) → SeenGoThrough R w (before ++ m ∷ later)
     → GoThrough R w m.1
@@ -149,7 +149,7 @@ plays_as_seen : (R : ℕ) (t : Trace R) → IsPlayable t → Plays R (seen R t)
 plays_as_seen R t h = record { flawless = h.marks.flawless; marks = seen_go R (start_world t.start) t.marks h.marks.marks; through = h.through }
 
 fails_as_seen : (R : ℕ) (t : Trace R) (IsBook : AnyBook → Type 0) (fault : LoadTraceFault) → (fault ≡ NoMemory → ⊥) → Replays IsBook t (Err fault) → Fails R (seen R t) fault
-fails_as_seen h t k fault some l = grind (arith, seen_refused, seen_go)
+fails_as_seen R t IsBook fault some l = grind (arith, seen_refused, seen_go)
 
 module _ (R : ℕ) (t u : Trace R) (same : IsSameTrace t u) where
   as_seen : seen R u ≡ seen R t

@@ -252,7 +252,7 @@ module _ (R : ℕ) (d : Data) (t u : Trace R) where
   same_either (inr h) (inr k) = same_second h k
 
 ring_of : (R : ℕ) (d : Data) (t : Trace R) → IsEither d t → number_at (codes "ring") d ≡ Some R
-ring_of h d t k = grind arith
+ring_of R d t k = grind arith
 
 -- the traces that a text is are over one ring, and the same
 pub same_trace : (text : List ℕ) (R Q : ℕ) (t : Trace R) (u : Trace Q) → IsTraceText text t → IsTraceText text u → (R ≡ Q) × IsSameTrace t u

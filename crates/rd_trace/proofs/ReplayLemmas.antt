@@ -27,13 +27,13 @@ opened b s v w session marks state world = grind arith
 -- Runs that go through
 
 one_step : (R : ℕ) (o : Result Stepped Refusal) → IsOk o → IsOk (run_from_step (λ v. run R v []) o)
-one_step h o k = grind arith
+one_step R o k = grind arith
 
 -- a run goes on with a step from its last world, if that is so from each world that its first step
 -- leads to
 run_on : (R : ℕ) (es : List Event) (e : Event) → ((w : World) → IsOk (step_after R (run R w es) e) → IsOk (run R w (es ++ e ∷ []))) → (o : Result Stepped Refusal)
     → IsOk (step_after R (run_from_step (λ v. run R v es) o) e) → IsOk (run_from_step (λ v. run R v (es ++ e ∷ [])) o)
-run_on h es e from o k = grind arith
+run_on R es e from o k = grind arith
 
 -- a run goes on with a step from its last world
 run_last : (R : ℕ) (w : World) (es : List Event) (e : Event) → IsOk (step_after R (run R w es) e) → IsOk (run R w (es ++ e ∷ []))
@@ -42,7 +42,7 @@ run_last R w (x ∷ es) e h = run_on R es e (λ v k. run_last R v es e k) (step 
 
 runs_first : (R : ℕ) (xs ys : List Event) → ((v : World) → IsOk (run R v (xs ++ ys)) → IsOk (run R v xs)) → (o : Result Stepped Refusal)
     → IsOk (run_from_step (λ v. run R v (xs ++ ys)) o) → IsOk (run_from_step (λ v. run R v xs) o)
-runs_first h xs ys from o k = grind arith
+runs_first R xs ys from o k = grind arith
 
 -- the first events of a run run
 first_run : (R : ℕ) (w : World) (xs ys : List Event) → IsOk (run R w (xs ++ ys)) → IsOk (run R w xs)
@@ -64,7 +64,7 @@ first_go R w k es h =
 -- One event
 
 apply_at : (R : ℕ) (s : State) (e : Event) → apply R s e ≡ apply R (session_at s.start s.live) e
-apply_at h s e = grind arith
+apply_at R s e = grind arith
 
 -- what an event that happened leaves, and what it shows of its step
 applied_parts : (s after : State) (e : Event) (full : Bool) (o : Result Stepped Refusal) → (if full then Err TooLong else with_event s e o) ≡ Ok after
@@ -95,7 +95,7 @@ pub record HasStepped (R : ℕ) (old now : BookState) (done : List Event) : Type
   pub through : GoThrough R old.session.start (old.session.live ++ done)
 
 pub none_stepped : (R : ℕ) (b : BookState) → GoThrough R b.session.start b.session.live → HasStepped R b b []
-none_stepped h b k = grind (arith, append-nil)
+none_stepped R b k = grind (arith, append-nil)
 
 module _ (R : ℕ) (old now : BookState) (es : List Event) (i : ℕ) (e : Event) (within : i < length es) (is : e ≡ get_or es i e) (so_far : HasStepped R old now (take i es)) where
   at_now : apply R now.session e ≡ apply R (session_at old.session.start (old.session.live ++ take i es)) e
@@ -141,11 +141,11 @@ module _ (R : ℕ) (old now : BookState) (es : List Event) (i : ℕ) (e : Event)
 -- one of some events was refused
 pub some_refused : (R : ℕ) (old new : BookState) (es : List Event) (refused : RefusedEvent) → 1 ≤ length es
     → RefusesOne R old.session.start (old.session.live ++ es) refused → StepsAll R old es new (Err refused)
-some_refused h old new es refused some k = grind arith
+some_refused R old new es refused some k = grind arith
 
 -- all of them happened
 pub all_stepped : (R : ℕ) (old new : BookState) (es : List Event) → HasStepped R old new es → StepsAll R old es new (Ok tt)
-all_stepped h old new es k = grind (arith, same_book, append-nil)
+all_stepped R old new es k = grind (arith, same_book, append-nil)
 
 pub all_of : (R : ℕ) (old new : BookState) (es : List Event) (i : ℕ) → length es ≤ i → HasStepped R old new (take i es) → StepsAll R old es new (Ok tt)
 all_of R old new es i all h = all_stepped R old new es (subst (λ (done : List Event). HasStepped R old new done) (take_all i es all) h)
@@ -154,7 +154,7 @@ all_of R old new es i all h = all_stepped R old new es (subst (λ (done : List E
 
 -- what a command that is an event is answered
 pub event_happened : (R : ℕ) (b : BookState) (command : Command) (e : Event) (a : Answered) → as_event command ≡ Some e → IsObeyed R b command a → Happened R b e a
-event_happened h b command e a k obeyed = grind arith
+event_happened R b command e a k obeyed = grind arith
 
 event_not_made : (b after : BookState) (cause : Refusal) (told : Option OpReply) (o : Result State Refusal) → record { answer = Err cause; state = after } ≡ event_answer b told o
     → o ≡ Err cause
@@ -163,7 +163,7 @@ event_not_made b after cause told o h = grind arith
 -- what an event leaves that happened, and why one was refused
 pub happened : (R : ℕ) (b after : BookState) (e : Event) (reply : Reply) → Happened R b e (record { answer = Ok reply; state = after })
     → (apply R b.session e ≡ Ok after.session) × (after.marks ≡ b.marks)
-happened h b after e reply k = grind (arith, common_steps)
+happened R b after e reply k = grind (arith, common_steps)
 
 pub not_happened : (R : ℕ) (b after : BookState) (e : Event) (cause : Refusal) → Happened R b e (record { answer = Err cause; state = after })
     → (apply R b.session e ≡ Err cause) ⊎ (cause ≡ OutOfMemory)
@@ -222,7 +222,7 @@ shared_less j k es fs h same = sym (take-take k j es h) ∙ ap (λ (gs : List Ev
 -- after some live events all others of a list are made
 goes_on : (R : ℕ) (old mid new : BookState) (es rest : List Event) (r : Result (Unit {0}) RefusedEvent) → mid.session.start ≡ old.session.start → mid.marks ≡ old.marks
     → mid.session.live ++ rest ≡ es → 1 ≤ length rest → StepsAll R mid rest new r → GoesTo R old es new r
-goes_on h old mid new es rest r start marks all some k = grind arith
+goes_on R old mid new es rest r start marks all some k = grind arith
 
 pub goes_to : (R : ℕ) (old mid new : BookState) (es rest : List Event) (n k j : ℕ) (r : Result (Unit {0}) RefusedEvent) → n + k ≡ length old.session.live → k < length es → k ≤ j
     → take j old.session.live ≡ take j es → back old.session n ≡ Ok mid.session → mid.marks ≡ old.marks → rest ≡ drop k es → StepsAll R mid rest new r → GoesTo R old es new r
@@ -245,23 +245,23 @@ rest_of k es = take_all (length es - k) (drop k es) (omega (arith, length-drop k
 
 -- no event is made live
 pub to_none : (R : ℕ) (old new : BookState) (es : List Event) → es ≡ [] → new ≡ with_session old (session_at old.session.start []) → GoesTo R old es new (Ok tt)
-to_none h old new es none k = grind arith
+to_none R old new es none k = grind arith
 
 -- And undone ones after them
 
 refused_before : (R : ℕ) (w : World) (es fs : List Event) (n : ℕ) (cause : Refusal) → IsRefusedAt R w es n cause → IsRefusedAt R w (es ++ fs) n cause
-refused_before h w es fs n cause k = grind (arith, append_assoc)
+refused_before R w es fs n cause k = grind (arith, append_assoc)
 
 pub live_refused : (R : ℕ) (w : World) (es fs : List Event) (refused : RefusedEvent) → RefusesOne R w es refused → RefusesOne R w (es ++ fs) refused
-live_refused h w es fs refused k = grind (arith, refused_before)
+live_refused R w es fs refused k = grind (arith, refused_before)
 
 pub undone_refused : (R : ℕ) (old mid new : BookState) (es fs : List Event) (refused : RefusedEvent) → IsAt old es mid → StepsAll R mid fs new (Err refused)
     → RefusesOne R old.session.start (es ++ fs) refused
-undone_refused h old mid new es fs refused at k = grind arith
+undone_refused R old mid new es fs refused at k = grind arith
 
 all_behind : (R : ℕ) (old mid now : BookState) (es fs : List Event) → IsAt old es mid → GoThrough R old.session.start es → StepsAll R mid fs now (Ok tt)
     → IsAt old (es ++ fs) now × GoThrough R old.session.start (es ++ fs)
-all_behind h old mid now es fs at through k = grind (arith, append-nil)
+all_behind R old mid now es fs at through k = grind (arith, append-nil)
 
 back_to : (w : World) (es fs : List Event) (t : State) → back (session_at w (es ++ fs)) (length fs) ≡ Ok t → t ≡ record { start = w; live = es; undone = fs }
 back_to w es fs t goes =
@@ -272,11 +272,11 @@ back_to w es fs t goes =
 -- this many events are live that those after can be undone
 pub enough_live : (R : ℕ) (old mid now : BookState) (es fs : List Event) → IsAt old es mid → GoThrough R old.session.start es → StepsAll R mid fs now (Ok tt)
     → length fs ≤ length now.session.live
-enough_live h old mid now es fs at through k = grind (arith, all_behind, length-append)
+enough_live R old mid now es fs at through k = grind (arith, all_behind, length-append)
 
 pub made_live : (R : ℕ) (old mid now new : BookState) (es fs : List Event) → IsAt old es mid → GoThrough R old.session.start es → StepsAll R mid fs now (Ok tt)
     → back now.session (length fs) ≡ Ok new.session → new.marks ≡ now.marks → MakesLive R old es fs new (Ok tt)
-made_live h old mid now new es fs at through k goes marks = grind (arith, common_steps, all_behind, back_to)
+made_live R old mid now new es fs at through k goes marks = grind (arith, common_steps, all_behind, back_to)
 
 -- Bookmarks
 
@@ -366,7 +366,7 @@ module _ (R : ℕ) (old now : BookState) (ms : List SavedMark) (i : ℕ) (m : Sa
       subst (λ (f : LoadTraceFault). SetsMarks R old (map saved_mark ms) new (Err f)) (sym said.1) (mark_refused_at refused.step refused.cause why.1)
 
 pub all_set : (R : ℕ) (old new : BookState) (ms : List SavedMark) (i : ℕ) → length ms ≤ i → HasSet R old new (map saved_mark (take i ms)) → SetsMarks R old (map saved_mark ms) new (Ok tt)
-all_set h old new ms i all k = grind (arith, take_all)
+all_set R old new ms i all k = grind (arith, take_all)
 
 -- Whole traces
 
@@ -395,11 +395,11 @@ module _ {R : ℕ} {B : Type 0} (IsBook : B → Type 0) (t : Trace R) where
 -- What goes through is not refused
 
 of_first : (R : ℕ) (later : List Event) (o : Result Stepped Refusal) → IsOk (run_from_step (λ v. run R v later) o) → IsOk o
-of_first h later o k = grind arith
+of_first R later o k = grind arith
 
 in_rest : (R : ℕ) (before : List Event) (e : Event) (later : List Event) → ((w : World) → IsOk (run R w (before ++ e ∷ later)) → IsOk (step_after R (run R w before) e)) → (o : Result Stepped Refusal)
     → IsOk (run_from_step (λ v. run R v (before ++ e ∷ later)) o) → IsOk (step_after R (run_from_step (λ v. run R v before) o) e)
-in_rest h before e later from o k = grind arith
+in_rest R before e later from o k = grind arith
 
 -- each event of a run that goes through happens in the last world of those before it
 happens_in : (R : ℕ) (w : World) (before : List Event) (e : Event) (later : List Event) → IsOk (run R w (before ++ e ∷ later)) → IsOk (step_after R (run R w before) e)
@@ -413,7 +413,7 @@ room_left : (n m : ℕ) → n + suc m ≤ MOST_STEPS → (n == MOST_STEPS) ≡ f
 room_left n m h = ne_eqb n MOST_STEPS (omega arith)
 
 pub none_refused : (R : ℕ) (w : World) (es : List Event) (n : ℕ) (cause : Refusal) → GoThrough R w es → IsRefusedAt R w es n cause → ⊥
-none_refused h w es n cause goes at = grind (arith, not_refused, room_left, length-append, happens_in)
+none_refused R w es n cause goes at = grind (arith, not_refused, room_left, length-append, happens_in)
 
 goes_among : (R : ℕ) (w : World) (before : List Mark) (m : Mark) (later : List Mark) → MarksGoThrough R w (before ++ m ∷ later) → GoThrough R w m.events
 goes_among R w [] m later h = h.0

@@ -47,7 +47,7 @@ goes_through R j runs few =
 
 -- so the state of a book whose bookmarks keep their rules is reached
 pub reached : (R : ℕ) (b : BookState) (s : State) → s ≡ b.session → KeepsRules R b → GoThrough R s.start (s.live ++ s.undone) → IsReachable R b
-reached h b s same rules through = grind arith
+reached R b s same rules through = grind arith
 
 -- the value that a book is written as spells it, if the values of its members do
 pub book_spelled : (R : ℕ) (b : BookState) (start : Data) → SpellsWorld R b.session.start start → SpellEach (Gives event_of) (items_by event_data b.session.live) b.session.live

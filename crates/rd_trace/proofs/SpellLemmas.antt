@@ -8,7 +8,7 @@ use Rattle.serde_json.specs.declared.value.Value.{Value}
 
 -- what holds of the error that is passed up holds of the answer
 pub passed_up : {T E : Type 0} (P : Result T E → Type 0) (r : Result T E) (x : E) → IsErrAnd r (λ e. e ≡ x) → P (Err x) → P r
-passed_up h r x is k = grind arith
+passed_up P r x is k = grind arith
 
 -- a part that isn't read
 module _ {V W X Y : Type 0} (part : V → X) (whole : W → Y) (IsPart : X → Type 0) (IsWhole : Y → Type 0) (has : (y : Y) → IsWhole y → (x : X) × IsPart x) where
@@ -22,7 +22,7 @@ module _ {V W X Y : Type 0} (part : V → X) (whole : W → Y) (IsPart : X → T
 -- an option that is read
 module _ {X : Type 0} (o : Option X) (r : Result X FormFault) (is : r ≡ ok_or o BadForm) where
   pub read_or_bad : (P : X → Type 0) → IfSome o P → IfNone o ((x : X) → P x → ⊥) → Reads itself P r
-  read_or_bad h some none = grind arith
+  read_or_bad P some none = grind arith
 
   pub given_or_bad : (f : Data → Option X) (d : Data) → o ≡ f d → Reads itself (Gives f d) r
   given_or_bad f d same = grind arith
@@ -130,7 +130,7 @@ module _ {X : Type 0} (Spells : Data → X → Type 0) (one : (d : Data) (x y : 
 -- what is read of the list at a key
 pub list_read : {X : Type 0} (Spells : Data → X → Type 0) (key : List ℕ) (d : Data) (ds : Items) → items_at key d ≡ Some ds → (r : Result (Vec X Global) FormFault)
     → Reads elements (SpellEach Spells ds) r → Reads elements (SpellEachAt Spells key d) r
-list_read h key d ds there r k = grind arith
+list_read Spells key d ds there r k = grind arith
 
 -- what a function gives is one thing
 pub one_given : {X : Type 0} (f : Data → Option X) (d : Data) (x y : X) → Gives f d x → Gives f d y → x ≡ y

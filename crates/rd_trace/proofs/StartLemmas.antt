@@ -9,7 +9,7 @@ on_ok r h = grind arith
 
 -- what follows of two facts on what a call gives
 pub both_ok : {T E Q : Type 0} (P W : T → Type 0) (r : Result T E) → IfOk r P → OnOk r Q → ((x : T) → P x → Q → W x) → IfOk r W
-both_ok h k r p q f = grind arith
+both_ok P W r p q f = grind arith
 
 -- ---- what is written
 

@@ -137,7 +137,7 @@ book_text events marks undone cells start =
 
 -- what holds where the last part is appended holds if that goes through
 pub last_appended : {T E : Type 0} (r : Result T E) (old new part : List ℕ) (P : Type 0) → new ≡ (if is_ok r then old ++ part else old) → (new ≡ old ++ part → P) → OnOk r P
-last_appended r old new part h is k = grind arith
+last_appended r old new part P is k = grind arith
 
 -- a part after another one
 pub two_parts : (a b c p q : List ℕ) → b ≡ a ++ p → c ≡ b ++ q → c ≡ a ++ (p ++ q)

@@ -7,7 +7,7 @@ use Rattle.rd_trace.proofs.bookmarks.put_mark.Goals as goal
 
 -- what holds of the events that were answered holds of the bookmark's
 of_answered : (o : Option (List Event)) (list : Vec Event Global) (P : List Event → Type 0) → AnswersEvents o (Ok list) → P list.items → IfSome o P
-of_answered o list h said k = grind arith
+of_answered o list P said k = grind arith
 
 pub returns : goal.returns
 returns g c =
