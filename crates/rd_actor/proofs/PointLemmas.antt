@@ -60,7 +60,3 @@ holds_of_first P (pc ∷ pcs) word idle each =
 -- what holds of each of all holds of any
 pub each_point : (P : Pc → Type 0) → ((k : ℕ) → k < 34 → P (get_or ALL k Idle)) → (pc : Pc) → P pc
 each_point P each pc = subst P (point_of pc) (holds_of_first P ALL (label pc) (each 0 (lit< tt)) each)
-
--- no two have one label
-pub same_point : (p q : Pc) → label p ≡ label q → p ≡ q
-same_point p q e = sym (point_of p) ∙ ap (first_of ALL) e ∙ point_of q

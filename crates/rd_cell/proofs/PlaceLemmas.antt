@@ -125,9 +125,6 @@ covers-refl ArrHead = refl
 covers-refl ArrTail = refl
 covers-refl (ArrCell i) = is_place-refl (ArrCell i)
 
-pub covers_at : (p q : Place) → p ≡ q → covers p q ≡ true
-covers_at p q e = subst (λ (x : Place). covers p x ≡ true) e (covers-refl p)
-
 -- overlap is symmetric
 pub overlaps-sym : (p q : Place) → overlaps p q ≡ true → overlaps q p ≡ true
 overlaps-sym p q h =

@@ -10,11 +10,6 @@ use Rattle.rd_depend.proofs.IndexPositions.{positions-push, positions-pop, numbe
 abbrev Where : Type 0
 Where = Bool → Key → Bool
 
--- the position is at the end of these lists
-pub record PutsWhere (test : Where) (p : ℕ) (old new : Table) : Type 0 where
-  pub lists : (w : Bool) (q : Key) → kept_in new w q ≡ (if test w q then kept_in old w q ++ p ∷ [] else kept_in old w q)
-  pub room : (w : Bool) (q : Key) → spare_in old w q ≤ spare_in new w q + one_if (test w q)
-
 -- these lists have lost their last position
 pub record TakesWhere (test : Where) (old new : Table) : Type 0 where
   pub lists : (w : Bool) (q : Key) → kept_in new w q ≡ (if test w q then take (length (kept_in old w q) - 1) (kept_in old w q) else kept_in old w q)

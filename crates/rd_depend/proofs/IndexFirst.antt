@@ -94,20 +94,10 @@ kept_itself p h = grind arith
 pub kept_half : (t : SegName) (j : ℕ) (p : Place) → is_of_cell t j p ≡ true → is_cell_at p ≡ false → is_kept_at p (Cell t j) ≡ true
 kept_half t j p h n = grind arith
 
--- those that overlap a place of a segment are that place, the cell of which it is a half, and the
--- whole of the segment
-pub overlaps-own : (p : Place) (s : SegName) → segment_of p ≡ Some s → is_cell_at p ≡ false → (o : Option Place)
-    → some_overlap (Some p) o ≡ (is_under (At p) o || is_under (At (Whole s)) o)
-overlaps-own p s h n o = grind arith
-
 -- those that overlap a cell are its halves, the cell, and the whole of the segment
 pub overlaps-cell : (s : SegName) (i : ℕ) (o : Option Place)
     → some_overlap (Some (Cell s i)) o ≡ (is_under (At (Val s i)) o || (is_under (At (Idx s i)) o || is_under (At (Whole s)) o))
 overlaps-cell s i o = grind arith
-
--- a place of no segment, which isn't the whole of one, overlaps itself alone
-pub overlaps-alone : (p : Place) → segment_of p ≡ None → ((t : SegName) → p ≡ Whole t → ⊥) → (o : Option Place) → some_overlap (Some p) o ≡ is_under (At p) o
-overlaps-alone p h other o = grind arith
 
 -- those that overlap a place are kept under three keys at most: that of a cell's value half, its
 -- own, and that of the whole of its segment

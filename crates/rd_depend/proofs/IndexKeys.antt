@@ -3,9 +3,6 @@
 use Rattle.std.proofs.Common.{◌≡◌, Bool, true, false, not, ◌&&◌, ◌||◌, Option, Some, ap, ◌∙◌, arith}
 use Rattle.rd_depend.proofs.Prelude.{and_from, or_right, Place, is_place, index_half, is_nothing, Entry, Wrote, Home, Homes, Key, is_that, is_kept_at, is_under, place_key, value_key, segment_key, counts, reached, is_value_written, homes_of, is_key-refl}
 
-pub or_false : (b : Bool) → b ≡ (b || false)
-or_false b = grind arith
-
 -- the index half of a cell, like any other place, is kept under its own key alone
 pub kept_half : (p r : Place) → is_kept_at p (index_half r) ≡ is_place p (index_half r)
 kept_half p r = grind arith

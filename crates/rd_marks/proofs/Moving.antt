@@ -35,7 +35,3 @@ pub greatest_next : (i k : ℕ) (ms : List (MarkName × Place)) (m : MarkName ×
 greatest_next i k [] m h = cc
 greatest_next i zero (n ∷ ms) m h = (let same : n ≡ m = cc in ap (λ (d : MarkName × Place). max (number_if_in i d.1) (greatest_in i (places_of ms))) same)
 greatest_next i (suc k) (n ∷ ms) m h = greatest_next i k ms m h
-
--- taking them in is as good
-pub max_assoc : (a b c : ℕ) → max (max a b) c ≡ max a (max b c)
-max_assoc a b c = omega arith

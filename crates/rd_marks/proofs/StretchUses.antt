@@ -159,8 +159,3 @@ module _ (ss : List Stretch) (few : length ss < 2 ^ 64) (rule : AreNested ss) (f
           needed = λ places needed its. rw (map-id places) (needed_cut ss new j change places (omega (arith, long, its)) needed);
         };
       }
-
--- entries were put at the end of a stretch, or not
-pub extended_or_not : {X Y : Type 0} (r : Result X Y) (P : Type 0) (own more entries : List Entry) → OnOk r (entries ≡ own ++ more) → OnErr r (entries ≡ own)
-    → (entries ≡ own ++ more → P) → (entries ≡ own → P) → P
-extended_or_not r P own more entries ok err f g = grind arith
