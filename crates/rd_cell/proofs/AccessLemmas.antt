@@ -19,7 +19,8 @@ use Rattle.rd_cell.specs.Places.{is_name, is_of_cell, covers, some_covers, some_
 use Rattle.rd_cell.specs.Contents.{Contents, half, halves, cell_of_halves, share, after_write_at, operand, holding}
 use Rattle.rd_cell.specs.Cells.{is_cell}
 use Rattle.rd_cell.specs.Operations.{Effect, swaps, effect, wrote_content, wrote_by}
-use Rattle.rd_cell.specs.Access.{Performed, contents_after, number_made_from, number_made, effect_at, perform_effect, operate, make, perform}
+use Rattle.rd_cell.specs.Access.{Performed, contents_after, number_made_from, number_made, effect_at, operate, make, perform}
+use Rattle.rd_cell.specs.Results.{result_map}
 use Rattle.rd_cell.proofs.PlaceLemmas.{is_name-true, is_place-true, covers-refl, both_cover, written-covers, interfere-sym}
 
 -- Writes
@@ -98,7 +99,7 @@ operand-same ArrTail at at' same = same ArrTail refl
 operand-same (ArrCell i) at at' same = same (ArrCell i) (covers-refl (ArrCell i))
 
 -- an operation notes the content that it worked on
-old-effect : (p : Place) (c : Content) (r : Result Effect Refusal) → IfOk (perform_effect p c r) (λ did. did.old ≡ Some c)
+old-effect : (p : Place) (c : Content) (r : Result Effect Refusal) → IfOk (result_map (effect_at p c) r) (λ did. did.old ≡ Some c)
 old-effect p c (Err x) = tt
 old-effect p c (Ok e) = refl
 
@@ -213,7 +214,7 @@ effect_kind (CellAt s i) op at c q h =
 effect_kind _ op at c q h = plain_kind (effect op c)
 
 keeps-effect : (p : Place) (c : Content) (r : Result Effect Refusal) (at : Contents) (q : Place) → operand at p ≡ Some c → (is_cell_at q ≡ true → at q ≡ None)
-    → IfOk r (KeepsKind p c q) → IfOk (perform_effect p c r) (λ did. is_some (contents_after did at q) ≡ is_some (at q))
+    → IfOk r (KeepsKind p c q) → IfOk (result_map (effect_at p c) r) (λ did. is_some (contents_after did at q) ≡ is_some (at q))
 keeps-effect p c (Err x) at q h bare kind = tt
 keeps-effect p c (Ok e) at q h bare kind = after-is_some p c e at q h bare kind
 
@@ -266,7 +267,7 @@ perform_same R actor at at' NoPlace same count = refl
 perform_same R actor at at' (At p op) same count = ap (operate p op) (same p refl)
 perform_same R actor at at' (Make x) same count = ap (λ (n : ℕ). make R (record { maker = actor; n = n }) x) count
 
-place-effect : (p : Place) (c : Content) (r : Result Effect Refusal) → IfOk (perform_effect p c r) (λ did. did.place ≡ Some p)
+place-effect : (p : Place) (c : Content) (r : Result Effect Refusal) → IfOk (result_map (effect_at p c) r) (λ did. did.place ≡ Some p)
 place-effect p c (Err x) = tt
 place-effect p c (Ok e) = refl
 

@@ -16,7 +16,8 @@ use Rattle.rd_cell.specs.declared.refusal.Refusal.{Refusal}
 use Rattle.rd_cell.specs.Places.{is_of, is_place, is_of_same_segment, covers, segment_of, some_covers, written}
 use Rattle.rd_cell.specs.Contents.{Contents, share, after_write_at, restore, operand}
 use Rattle.rd_cell.specs.Operations.{effect, wrote_content}
-use Rattle.rd_cell.specs.Access.{Performed, effect_at, perform_effect, operate, HasEffect, everywhere, Operates, OperatesOn, Restores}
+use Rattle.rd_cell.specs.Access.{Performed, effect_at, operate, HasEffect, everywhere, Operates, OperatesOn, Restores}
+use Rattle.rd_cell.specs.Results.{result_map}
 use Rattle.rd_cell.proofs.PlaceLemmas.{is_name-refl, is_place-true, is_of_cell-of, Covering, itself, as_cell, as_whole, covers_cases, covers-refl, written-covers}
 use Rattle.rd_cell.proofs.AccessLemmas.{after_write-outside, after_write-same, operand-same, place-operate}
 
@@ -120,7 +121,7 @@ pub wrote_on : (p : Place) (op : Operation) (old new : Content) (answer : Answer
     → OperatesOn p op done old new
 wrote_on p op old new answer done plain does notes = record {
   performed = effect_at p old (record { answer = answer; writes = Some new });
-  performs = ap (perform_effect p old) does;
+  performs = ap (result_map (effect_at p old)) does;
   keeps = (λ i. record { place = Some p; old = Some old; answer = answer; wrote = wrote_plain old new plain i }) ∙ sym notes;
   leaves = λ q e.
       sym (ap (λ (w : Wrote). after_write_at (written (Some p) w) (share p (Some new)) (λ (r : Place). Some old) q) (wrote_plain old new plain)
@@ -133,7 +134,7 @@ pub read_on : (p : Place) (op : Operation) (old : Content) (answer : Answer) (do
     → OperatesOn p op done old old
 read_on p op old answer done does notes = record {
   performed = effect_at p old (record { answer = answer; writes = None });
-  performs = ap (perform_effect p old) does;
+  performs = ap (result_map (effect_at p old)) does;
   keeps = sym notes;
   leaves = λ q e. refl;
 }

@@ -3,4 +3,5 @@ pub mod AccessLemmas
 pub mod ListLemmas
 pub mod CellLemmas
 pub mod TestLemmas
+pub mod ResultLemmas
 pub mod EffectLemmas

@@ -1,5 +1,5 @@
 -- What each access does to the contents of all places.
-use Rattle.std.specs.Prelude.{◌≡◌, ◌<◌, ◌≤◌, ℕ, zero, suc, ◌+◌, Bool, true, nat_lt, if◌then◌else◌, Option, Some, None, is_some, Result, Ok, Err}
+use Rattle.std.specs.Prelude.{◌≡◌, ◌<◌, ◌≤◌, ℕ, zero, suc, ◌+◌, Bool, true, nat_lt, if◌then◌else◌, Option, Some, None, is_some, ok_or, Result, Ok, Err}
 use Rattle.rd_cell.specs.declared.limits.TheConstants.{MOST_SEGMENTS}
 use Rattle.rd_cell.specs.declared.places.SegName.{SegName}
 use Rattle.rd_cell.specs.declared.places.Place.{Place}
@@ -18,6 +18,7 @@ use Rattle.rd_cell.specs.declared.refusal.Refusal.TheVariants.{SegmentsEnd, NoMe
 use Rattle.rd_cell.specs.Places.{is_place, written}
 use Rattle.rd_cell.specs.Contents.{Contents, share, after_write_at, restore, operand, holding}
 use Rattle.rd_cell.specs.Operations.{Effect, effect, wrote_by}
+use Rattle.rd_cell.specs.Results.{and_then, result_map}
 
 -- what an access did: its place and that place's old content, if there is one, its answer, which
 -- part of the place it wrote, and the new content of each place that it wrote
@@ -55,15 +56,9 @@ no_access = record { place = None; old = None; answer = Nothing; wrote = WroteNo
 abbrev pub effect_at : Place → Content → Effect → Performed
 effect_at p c e = record { place = Some p; old = Some c; answer = e.answer; wrote = wrote_by c e.writes; given = share p e.writes }
 
--- what an operation did at a place that had this content, by its effect there, or its refusal
-abbrev pub perform_effect : Place → Content → Result Effect Refusal → Result Performed Refusal
-perform_effect p c (Err refusal) = Err refusal
-perform_effect p c (Ok e) = Ok (effect_at p c e)
-
 -- what an operation does at a place with this content; it is refused if the place has none
 abbrev pub operate : Place → Operation → Option Content → Result Performed Refusal
-operate p op None = Err NoSuchPlace
-operate p op (Some c) = perform_effect p c (effect op c)
+operate p op o = and_then (ok_or o NoSuchPlace) (λ c. result_map (effect_at p c) (effect op c))
 
 -- what the making of this segment does: it writes all places of the segment, which has R cells and
 -- holds x; refused if a maker may have no segment of this number

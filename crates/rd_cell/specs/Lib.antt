@@ -1,4 +1,5 @@
 pub mod Places
+pub mod Results
 pub mod Cells
 pub mod Contents
 pub mod Operations

@@ -1,5 +1,6 @@
 -- Places: when two are equal, when two overlap, and which of them an access wrote.
-use Rattle.std.specs.Prelude.{ℕ, Bool, true, false, ◌==◌, ◌&&◌, ◌||◌, Option, Some, None}
+use Rattle.std.specs.Option.{option_map_or}
+use Rattle.std.specs.Prelude.{ℕ, Bool, true, false, ◌==◌, ◌&&◌, ◌||◌, Option, Some, None, option_and_then}
 use Rattle.rd_cell.specs.declared.places.SegName.{SegName}
 use Rattle.rd_cell.specs.declared.places.Place.{Place}
 use Rattle.rd_cell.specs.declared.places.Place.TheVariants.{QHead, QTail, Head, Tail, Next, Cell, Val, Idx, Whole, ArrHead, ArrTail, ArrCell}
@@ -89,8 +90,7 @@ overlaps p q = covers p q || covers q p
 
 -- whether a place, if there is one, covers another
 abbrev pub some_covers : Option Place → Place → Bool
-some_covers None q = false
-some_covers (Some p) q = covers p q
+some_covers o q = option_map_or (λ p. covers p q) o false
 
 -- whether two places, if there are two, overlap
 abbrev pub some_overlap : Option Place → Option Place → Bool
@@ -116,8 +116,7 @@ written_at p Index = Some (index_half p)
 -- the place that names what an access wrote, or none if it only read or had no place. The access
 -- touched each place of the map that its own place covers, and wrote each that this one covers
 abbrev pub written : Option Place → Wrote → Option Place
-written None w = None
-written (Some p) w = written_at p w
+written o w = option_and_then (λ p. written_at p w) o
 
 -- whether two accesses interfere: there is a place that both touch, and one of them wrote it
 abbrev pub interfere : Option Place → Wrote → Option Place → Wrote → Bool

@@ -1,7 +1,7 @@
 -- The first dependant, from the first later positions in an actor's list, a place's and a
 -- segment's.
-use Rattle.std.proofs.Common.{◌≡◌, ℕ, zero, suc, ◌+◌, ◌<◌, ◌≤◌, Bool, true, false, not, ◌||◌, ◌==◌, if◌then◌else◌, nat_lt, List, [], ◌∷◌, length, drop, Option, Some, None, refl, sym, ap, subst, ◌∙◌, arith}
-use Rattle.rd_depend.proofs.Prelude.{nat_tests, is_some, SegName, Place, Cell, Val, Idx, Whole, is_of_cell, segment_of, some_overlap, is_nothing, written, interfere, Entry, Wrote, first_from, first_after, first_dependant, depends, depends_on_one, numbered, symmetric, DependIndex, At, In, is_kept_at, is_under, is_under_some, own_key, value_of_place, whole_key, AscendsFrom, IsAscending, first_above, earlier, Touch, By, reached, is_value_written, touches, positions_from, positions, kept, IsIndexOf}
+use Rattle.std.proofs.Common.{◌≡◌, ℕ, zero, suc, ◌+◌, ◌<◌, ◌≤◌, Bool, true, false, not, ◌||◌, ◌==◌, if◌then◌else◌, nat_lt, List, [], ◌∷◌, length, drop, Option, Some, None, option_and_then, refl, sym, ap, subst, ◌∙◌, arith}
+use Rattle.rd_depend.proofs.Prelude.{nat_tests, is_some, SegName, Place, Cell, Val, Idx, Whole, is_of_cell, segment_of, some_overlap, is_nothing, written, interfere, Entry, Wrote, first_from, first_dependant, depends, depends_on_one, numbered, symmetric, DependIndex, At, In, is_kept_at, is_under, is_under_some, own_key, value_of_place, whole_key, AscendsFrom, IsAscending, first_above, earlier, Touch, By, reached, is_value_written, touches, positions_from, positions, kept, IsIndexOf}
 use Rattle.rd_depend.proofs.IndexPositions.{positions-ascend, positions-number, number-within, ascending}
 
 -- the same test
@@ -55,12 +55,11 @@ scanned x k n (y ∷ ys) h = by (depends x y) (scanned x k (n + 1) ys (omega ari
 
 -- what is found is the first dependant
 pub first-is : (es : List Entry) (k : ℕ) (x : Entry) → numbered es k ≡ Some x → first_above k (positions (depends x) es) ≡ first_dependant es k
-first-is es zero x h = absurd cc
-first-is es (suc i) x h =
-    skipped (depends x) (suc i) 1 (suc i) es (omega arith)
-    ∙ (let e : 1 + suc i ≡ suc (suc i) = omega arith in ap (λ (m : ℕ). first_above (suc i) (positions_from (depends x) m (drop (suc i) es))) e)
-    ∙ scanned x (suc i) (suc (suc i)) (drop (suc i) es) (omega arith)
-    ∙ sym (ap (λ (o : Option Entry). first_after o (suc (suc i)) (drop (suc i) es)) h)
+first-is es k x h =
+    skipped (depends x) k 1 k es (omega arith)
+    ∙ (let e : 1 + k ≡ k + 1 = omega arith in ap (λ (m : ℕ). first_above k (positions_from (depends x) m (drop k es))) e)
+    ∙ scanned x k (k + 1) (drop k es) (omega arith)
+    ∙ sym (ap (option_and_then (λ (y : Entry). first_from y (k + 1) (drop k es))) h)
 
 -- what is found after the first k tells whether the step depends on one of those
 pub found-behind : (x : Entry) (k : ℕ) (es : List Entry) → is_some (first_above k (positions (depends x) es)) ≡ depends_on_one (drop k es) x

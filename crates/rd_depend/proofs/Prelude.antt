@@ -17,7 +17,7 @@ pub use Rattle.rd_cell.specs.declared.places.SegName.{SegName}
 pub use Rattle.rd_step.proofs.Equivalence.{as_stepped-same, goes_first, run_events, stands_in}
 pub use Rattle.rd_step.proofs.RunParts.{FirstStep, first_step, middle, runs_to}
 pub use Rattle.rd_step.proofs.Symmetry.{symmetric}
-pub use Rattle.rd_step.specs.Dependence.{depends_on_one, first_after, first_from}
+pub use Rattle.rd_step.specs.Dependence.{depends_on_one, first_from}
 pub use Rattle.rd_step.specs.Equivalence.{IsEquivalent}
 pub use Rattle.rd_step.specs.Lists.{numbered, without}
 pub use Rattle.rd_step.specs.Prelude.{CellAt, Head, IsFree, Place, Ran, Stepped, ValAt, WholeOf, World, Wrote, covers, depends, first_dependant, interfere, overlaps, run, some_covers, some_overlap, step, written}

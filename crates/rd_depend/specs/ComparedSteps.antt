@@ -1,6 +1,6 @@
 -- What the code keeps while it compares two runs: how far the steps of the first run reached in the
 -- second, and which steps of the second are left.
-use Rattle.std.specs.Prelude.{◌≡◌, ℕ, List, Option, Some, None, map, reverse}
+use Rattle.std.specs.Prelude.{◌≡◌, ℕ, List, Option, Some, None, map, reverse, unwrap_or}
 use Rattle.indexmap.specs.IndexMap.{get}
 use Rattle.rd_step.specs.declared.entries.Entry.{Entry}
 use Rattle.rd_depend.specs.declared.index.keys.Key.{Key}
@@ -13,8 +13,7 @@ use Rattle.rd_depend.specs.LastWriters.{Placed, nothing_reached, IsNext, moved, 
 
 -- how far the steps reached under a key, or that none did if nothing is kept for the key
 abbrev pub reached_or_nothing : Key → Option Reached → Reached
-reached_or_nothing k None = nothing_reached k
-reached_or_nothing k (Some r) = r
+reached_or_nothing k o = unwrap_or o (nothing_reached k)
 
 -- how far the steps reached under each key
 abbrev pub reached_of : ReachedByKey → Key → Reached

@@ -1,7 +1,6 @@
 -- Keys: what a list of positions is kept for, apart from the actors. A cell is kept under its two
 -- halves.
-use Rattle.std.specs.Prelude.{ℕ, ◌+◌, ◌*◌, Bool, false, ◌||◌, List, [], ◌∷◌, Option, Some, None, suc, if◌then◌else◌}
-use Rattle.std.specs.Option.{option_map}
+use Rattle.std.specs.Prelude.{ℕ, ◌+◌, ◌*◌, Bool, false, ◌||◌, List, [], ◌∷◌, Option, Some, None, suc, if◌then◌else◌, option_map, option_and_then}
 use Rattle.rd_cell.specs.declared.places.SegName.{SegName}
 use Rattle.rd_cell.specs.declared.places.Place.{Place}
 use Rattle.rd_cell.specs.declared.places.Place.TheVariants.{QHead, QTail, Head, Tail, Next, Cell, Val, Idx, Whole, ArrHead, ArrTail, ArrCell}
@@ -39,8 +38,7 @@ is_under_some (Some k) o = is_under k o
 
 -- the key of a place, if there is one: of a cell that of its index half
 abbrev pub place_key : Option Place → Option Key
-place_key None = None
-place_key (Some p) = Some (At (index_half p))
+place_key o = option_map (λ p. At (index_half p)) o
 
 -- the key of the value half of this place, if that is a cell
 abbrev pub value_of_place : Place → Option Key
@@ -49,8 +47,7 @@ value_of_place _ = None
 
 -- the key of the value half of this place, if there is a place and it is a cell
 abbrev pub value_key : Option Place → Option Key
-value_key None = None
-value_key (Some p) = value_of_place p
+value_key o = option_and_then value_of_place o
 
 -- the key of the segment to which a place belongs, or of which it is the whole
 abbrev pub segment_of_place : Place → Option Key
@@ -65,8 +62,7 @@ segment_of_place _ = None
 
 -- the key of the segment to which a place belongs, or of which it is the whole, if there is one
 abbrev pub segment_key : Option Place → Option Key
-segment_key None = None
-segment_key (Some p) = segment_of_place p
+segment_key o = option_and_then segment_of_place o
 
 -- the key of all places that a place names, except the value half of a cell: for the whole of a
 -- segment the segment's, else the place's

@@ -1,5 +1,6 @@
 -- Lists of positions: what one has, and what is found in it.
-use Rattle.std.specs.Prelude.{◌≡◌, ℕ, suc, ◌-◌, ◌≤◌, Bool, nat_lt, if◌then◌else◌, List, [], ◌∷◌, ◌++◌, length, map, min, max, Option, Some, None, Vec, slice_get, vec_capacity}
+use Rattle.std.specs.Option.{option_map_or}
+use Rattle.std.specs.Prelude.{◌≡◌, ℕ, suc, ◌-◌, ◌≤◌, Bool, nat_lt, if◌then◌else◌, List, [], ◌∷◌, ◌++◌, length, map, min, max, Option, Some, None, Vec, slice_get, vec_capacity, unwrap_or}
 use Rattle.std.specs.declared.alloc.Global.{Global}
 
 -- the type of lists of positions by their numbers
@@ -8,13 +9,11 @@ Lists = List (Vec ℕ Global)
 
 -- the items of a list, if it is there
 abbrev pub items_of : {X : Type 0} → Option (Vec X Global) → List X
-items_of None = []
-items_of (Some list) = list.items
+items_of o = option_map_or (λ list. list.items) o []
 
 -- how many positions a list, if it is there, can have before it has to grow
 abbrev pub room_of : Option (Vec ℕ Global) → ℕ
-room_of None = 0
-room_of (Some list) = vec_capacity list
+room_of o = option_map_or vec_capacity o 0
 
 -- the items of the list of this number
 abbrev pub list_at : {X : Type 0} → List (Vec X Global) → ℕ → List X
@@ -89,8 +88,7 @@ first_above k (p ∷ ps) = if nat_lt k p then Some p else first_above k ps
 -- the last position of a list that begins with p, where the others end with this one, or there are
 -- none
 abbrev pub last_or : ℕ → Option ℕ → Option ℕ
-last_or p None = Some p
-last_or p (Some q) = Some q
+last_or p o = Some (unwrap_or o p)
 
 -- the last of a list of positions, if there is one
 abbrev pub last_of : List ℕ → Option ℕ

@@ -1,6 +1,6 @@
 -- A journal in which some of the steps ahead are undone, beside the one in which all are.
 use Rattle.std.proofs.Common.{◌≡◌, ℕ, zero, suc, ◌+◌, ◌-◌, ◌≤◌, refl, sym, ◌∙◌, ap, arith, List, [], ◌∷◌, ◌++◌, length, take, drop, Result, length-drop}
-use Rattle.rd_journal.proofs.Prelude.{length-take, length-take-le, map-append, append_assoc, take-append-drop, take-take, drop-take, Refusal, World, Stepped, run, room, run_from_step, Event, Entry, first_step, Journal, events, IsRun, IsRunFrom, with_undone, IsSession, IsMovedBack, IsMovedForward, IsUndoneAlone, journal}
+use Rattle.rd_journal.proofs.Prelude.{length-take, length-take-le, map-append, append_assoc, take-append-drop, take-take, drop-take, Refusal, World, Stepped, run, room, preceded_by, and_then, result_map, Event, Entry, first_step, Journal, events, IsRun, IsRunFrom, with_undone, IsSession, IsMovedBack, IsMovedForward, IsUndoneAlone, journal}
 use Rattle.rd_step.specs.Run.{run_entries}
 use Rattle.rd_journal.specs.declared.sessions.Session.{Session}
 use Rattle.rd_journal.proofs.EntryLemmas.{take_over}
@@ -15,7 +15,7 @@ first_run R zero w xs h = refl
 first_run R (suc n) w [] h = h
 first_run R (suc n) w (x ∷ xs) h =
     let first = first_step R w x xs h in
-    ap (λ (r : Result Stepped Refusal). run_entries (run_from_step (λ v. run R v (events (take n xs))) r)) first.goes
+    ap (λ (r : Result Stepped Refusal). run_entries (and_then r (λ s. result_map (preceded_by s.entry) (run R s.world (events (take n xs)))))) first.goes
     ∙ preceded_entries x (run R first.after (events (take n xs))) (take n xs) (first_run R n first.after xs first.rest)
 
 -- The session

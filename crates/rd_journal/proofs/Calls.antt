@@ -1,6 +1,6 @@
 -- What the calls of a session answer, over its journal.
 use Rattle.std.proofs.Common.{◌≡◌, ℕ, zero, suc, ◌+◌, ◌-◌, ◌<◌, ◌≤◌, ◌⊎◌, refl, sym, ◌∙◌, ap, subst, List, [], ◌∷◌, ◌++◌, length, get_or, ok_or, Result, Ok, Err, arith, ne_eqb, length-append}
-use Rattle.rd_journal.proofs.Prelude.{cond-false, map-append, length-map, take-map, slice_get_past, slice_get-get_or, Refusal, NoSuchStep, Stepped, step, IsWellFormed, MOST_STEPS, Event, Entry, Journal, events, IsRun, entry_of, IsSession, HasRoom, State, state_of, with_event, apply, back_one, forward_one, times, undo, redo, back, forward, IsLengthened, IsMovedBack, IsBeforeLast}
+use Rattle.rd_journal.proofs.Prelude.{result_map, cond-false, map-append, length-map, take-map, slice_get_past, slice_get-get_or, Refusal, NoSuchStep, Stepped, step, IsWellFormed, MOST_STEPS, Event, Entry, Journal, events, IsRun, entry_of, IsSession, HasRoom, State, state_of, with_event, apply, back_one, forward_one, times, undo, redo, back, forward, IsLengthened, IsMovedBack, IsBeforeLast}
 use Rattle.rd_journal.proofs.Runs.{step_event, start_stays, now_formed, grown}
 
 -- Lengths
@@ -78,7 +78,7 @@ same_session R old new before after session same more =
 
 -- the event is answered as its step is, since the live events run to the world
 applied : (R : ℕ) (j : Journal) (e : Event) (r : Result Stepped Refusal) → IsRun R j → length j.live < MOST_STEPS → step R j.world e ≡ r
-    → apply R (state_of j) e ≡ with_event (state_of j) e r
+    → apply R (state_of j) e ≡ result_map (λ stepped. with_event (state_of j) e) r
 applied R j e r runs less k = grind (arith, live_len, cond-false, ne_eqb)
 
 pub apply_refused : (R : ℕ) (j : Journal) (e : Event) (refusal : Refusal) → IsRun R j → length j.live < MOST_STEPS → step R j.world e ≡ Err refusal

@@ -1,6 +1,6 @@
 -- The causal closure is the least set that holds its step and what depends on its members, and lone
 -- undos that take the step out take all of it out.
-use Rattle.rd_journal.proofs.Prelude.{common_steps, cases_Bool, cases_eq, cond-true, cond-false, lt-ltb, le-ltb, ltb-true, ltb-false, depends, IsFree, first_dependant, depends_on_one, closure, closure_of, without_closure, marked, unmarked, IsInClosure, closure_from, first_from, first_after, AreLoneUndos, number_after, numbered, Entry, Journal, IsUndoneAlone, IsRolledBack}
+use Rattle.rd_journal.proofs.Prelude.{common_steps, cases_Bool, cases_eq, cond-true, cond-false, lt-ltb, le-ltb, ltb-true, ltb-false, depends, IsFree, first_dependant, depends_on_one, closure, closure_of, without_closure, marked, unmarked, IsInClosure, closure_from, first_from, AreLoneUndos, number_after, numbered, Entry, Journal, IsUndoneAlone, IsRolledBack}
 use Rattle.std.proofs.Common.{◌≡◌, ◌≢◌, ℕ, zero, suc, ◌+◌, ◌-◌, ◌<◌, ◌≤◌, ◌==◌, ◌||◌, inl, inr, Bool, true, false, nat_lt, if◌then◌else◌, refl, sym, ◌∙◌, ap, subst, arith, List, [], ◌∷◌, ◌++◌, length, get_or, take, drop, slice_get, Option, Some, None, eq-eqb, ne_eqb}
 use Rattle.rd_step.specs.Dependence.IsInClosure.{itself, dependant}
 use Rattle.rd_journal.proofs.Gathering.{cut_at}
@@ -216,7 +216,7 @@ free_alone es zero j x y none at_n low at_j = cc
 free_alone es (suc m) zero x y none at_n low at_j = absurd (omega arith)
 free_alone es (suc m) (suc j) x y none at_n low at_j =
     let free : IsFree x (drop (suc m) es) =
-    none_is_free x (suc (suc m)) (drop (suc m) es) (sym (ap (λ (o : Option Entry). first_after o (suc (suc m)) (drop (suc m) es)) at_n) ∙ none) in
+    none_is_free x (suc m + 1) (drop (suc m) es) (sym (scan_is x es (suc m) at_n) ∙ none) in
     let same : suc m + (j - suc m) ≡ j = omega arith in
     free_at x (drop (suc m) es) (j - suc m) y free (from_there es (suc m) (j - suc m) ∙ ap (λ (k : ℕ). slice_get es k) same ∙ at_j)
 

@@ -1,7 +1,8 @@
 -- Undoing one live step alone, on which no later one depends, over whole journals.
-use Rattle.rd_journal.proofs.Prelude.{common_steps, cases_Bool, cond-true, cond-false, lt-ltb, le-ltb, map-append, take-map, drop-map, take-append-drop, length-map, slice_get-get_or, NoSuchStep, depends, IsFree, first_dependant, MOST_STEPS, Entry, first_from, first_after, WasStepped, IsTakenOut, Journal, start_of, IsRun, IsUndoneAlone, answer_unless, answer_at, state_of, undone_alone, undone_alone_unless, undo_at}
-use Rattle.std.proofs.Common.{◌≡◌, ℕ, zero, suc, ◌+◌, ◌-◌, ◌<◌, ◌≤◌, ◌⊎◌, inl, inr, sym, ◌∙◌, ap, subst, arith, List, [], ◌∷◌, ◌++◌, length, take, drop, get_or, slice_get, Option, Some, None, Err, length-append}
+use Rattle.rd_journal.proofs.Prelude.{common_steps, cases_Bool, cond-true, cond-false, lt-ltb, le-ltb, map-append, take-map, drop-map, take-append-drop, length-map, slice_get-get_or, NoSuchStep, depends, IsFree, first_dependant, MOST_STEPS, Entry, first_from, WasStepped, IsTakenOut, Journal, start_of, IsRun, IsUndoneAlone, answer_unless, answer_at, state_of, undone_alone, undone_alone_unless, undo_at}
+use Rattle.std.proofs.Common.{◌≡◌, nat_lt, ℕ, zero, suc, ◌+◌, ◌-◌, ◌<◌, ◌≤◌, ◌⊎◌, inl, inr, sym, ◌∙◌, ap, subst, arith, List, [], ◌∷◌, ◌++◌, length, take, drop, get_or, slice_get, Option, Some, None, Err, length-append}
 use Rattle.rd_journal.proofs.ListLemmas.{drop_one_less}
+use Rattle.rd_journal.proofs.Finding.{numbered_in, scan_is}
 use Rattle.rd_journal.proofs.Runs.{MayTakeOut, may_take_out}
 
 -- Dependence
@@ -23,14 +24,7 @@ pub record IsNumber (l : List Entry) (k : ℕ) (x : Entry) : Type 0 where
 
 -- its first dependant is looked for from the next position on
 first_behind : (l : List Entry) (k : ℕ) (x : Entry) → IsNumber l k x → first_dependant l k ≡ first_from x (k + 1) (drop k l)
-first_behind l zero x at = absurd (omega (arith, at.some))
-first_behind l (suc i) x at =
-    let same : suc i - 1 ≡ i = omega arith in
-    let next : suc (suc i) ≡ suc i + 1 = omega arith in
-    let there : slice_get l i ≡ Some x =
-    slice_get-get_or l i x (omega (arith, at.within)) ∙ ap (λ (m : ℕ). Some (get_or l m x)) (sym same) ∙ ap (λ (y : Entry). Some y) (sym at.here) in
-    ap (λ (o : Option Entry). first_after o (suc (suc i)) (drop (suc i) l)) there
-    ∙ ap (λ (n : ℕ). first_from x n (drop (suc i) l)) next
+first_behind l k x at = scan_is x l k (numbered_in l k x at.some at.within at.here)
 
 -- The list around its k-th entry
 
@@ -90,7 +84,10 @@ undone_alone_state k old new moved start = grind (arith, take-map, drop-map, map
 -- The answers
 
 pub answer_missing : (j : Journal) (k n : ℕ) → n ≡ length j.live → (k ≡ 0) ⊎ (n < k) → Err (NoSuchStep n) ≡ answer_at j k
-answer_missing j k n len h = grind arith
+answer_missing j zero n len h = ap (λ (m : ℕ). Err (NoSuchStep m)) len
+answer_missing j (suc i) n len h =
+    ap (λ (m : ℕ). Err (NoSuchStep m)) len
+    ∙ sym (cond-false (nat_lt i (length j.live)) _ _ (le-ltb i (length j.live) (omega (arith, h, len))))
 
 pub undo_at_missing : (R : ℕ) (j : Journal) (k n : ℕ) → n ≡ length j.live → (k ≡ 0) ⊎ (n < k) → undo_at R (state_of j) k ≡ Err (NoSuchStep n)
 undo_at_missing R j k n len l = grind (arith, length-map, le-ltb, cond-false)

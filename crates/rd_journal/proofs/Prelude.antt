@@ -19,12 +19,12 @@ pub use Rattle.rd_step.proofs.Removal.{run_keeps, run_stays_actor, taken_out}
 pub use Rattle.rd_step.proofs.Room.{room_used_returned}
 pub use Rattle.rd_step.proofs.RunParts.{Middle, beginning, first_step, middle, runs_to}
 pub use Rattle.rd_step.proofs.Steps.{took, with_actor-other}
-pub use Rattle.rd_step.specs.Dependence.{AreLoneUndos, IsInClosure, closure_from, first_after, first_from, number_after}
+pub use Rattle.rd_step.specs.Dependence.{AreLoneUndos, IsInClosure, closure_from, first_from, number_after}
 pub use Rattle.rd_step.specs.Laws.{IsTakenOut, WasStepped}
 pub use Rattle.rd_step.specs.Lists.{numbered}
-pub use Rattle.rd_step.specs.Prelude.{Content, IsFree, IsWellFormed, MOST_STEPS, NoMemory, NoSuchStep, Place, Ran, Refusal, SegName, Stepped, World, after, closure, closure_of, depends, depends_on_one, first_dependant, marked, model, room, run, step, unmarked, unstep, without_closure}
+pub use Rattle.rd_step.specs.Prelude.{and_then, result_map, Content, IsFree, IsWellFormed, MOST_STEPS, NoMemory, NoSuchStep, Place, Ran, Refusal, SegName, Stepped, World, after, closure, closure_of, depends, depends_on_one, first_dependant, marked, model, room, run, step, unmarked, unstep, without_closure}
 pub use Rattle.rd_step.specs.Room.{makes_segment, room_returned, room_used}
-pub use Rattle.rd_step.specs.Run.{run_from_step, run_preceded_by}
+pub use Rattle.rd_step.specs.Run.{preceded_by}
 pub use Rattle.rd_step.specs.declared.entries.Entry.{Entry}
 pub use Rattle.rd_step.specs.declared.entries.Event.{Event}
 pub use Rattle.rd_journal.specs.Journal.{IsRun, IsRunFrom, Journal, LeadsTo, entry_of, events, start_of, world_before}
@@ -36,4 +36,4 @@ pub use Rattle.rd_journal.specs.Entries.{ahead_entries, kept_entries, live_entri
 unfoldable pub use Rattle.rd_journal.specs.Entries.{all_entries}
 pub use Rattle.rd_journal.specs.Room.{HasRoom, HasRoomForAll, room_returned_by, room_without}
 pub use Rattle.rd_journal.specs.Sessions.{journal, state}
-pub use Rattle.rd_journal.specs.State.{State, apply, back, back_one, closure_in, dependant_in, forward, forward_one, redo, roll, run_of, state_of, switch, times, undo, undo_at, undone_alone, undone_alone_unless, undone_marked, with_event}
+pub use Rattle.rd_journal.specs.State.{State, apply, back, back_one, forward, forward_one, redo, roll, run_of, state_of, switch, times, undo, undo_at, undone_alone, undone_alone_unless, undone_marked, with_event}

@@ -1,7 +1,7 @@
 -- Live followed by undone is one run, and what is undone alone and redone is the last step of the
 -- same world.
 use Rattle.std.proofs.Common.{◌≡◌, ℕ, ◌-◌, ◌≤◌, refl, sym, ◌∙◌, ap, arith, List, [], ◌∷◌, ◌++◌, length, take, drop, None, Result, Ok, Err}
-use Rattle.rd_journal.proofs.Prelude.{cases_Bool, cond-true, cond-false, ltb-true, map-append, length-map, Refusal, first_dependant, Ran, run, step, unstep, Event, Entry, IsTakenOut, taken_out, Journal, events, start_of, IsRun, IsMovedLast, IsOneRun, IsUndoneAlone, State, state_of, run_of, dependant_in, forward_one, undone_alone, undo_at, redo}
+use Rattle.rd_journal.proofs.Prelude.{cases_Bool, cond-true, cond-false, ltb-true, map-append, length-map, Refusal, first_dependant, Ran, run, step, unstep, Event, Entry, IsTakenOut, taken_out, Journal, events, start_of, IsRun, IsMovedLast, IsOneRun, IsUndoneAlone, State, state_of, run_of, forward_one, undone_alone, undo_at, redo}
 use Rattle.rd_journal.specs.Journal.{run_entries}
 use Rattle.rd_journal.proofs.ListLemmas.{nth}
 use Rattle.rd_journal.proofs.LoneUndo.{IsNumber, from_it, may_undo_at, undone_alone_state}
@@ -25,15 +25,15 @@ one_run R j runs = one_run_of R j (run R j.world (events j.undone)) runs refl ru
 
 -- Calls that were not refused
 
--- a lone undo that was not refused
-pub record WentOut (R : ℕ) (s t : State) (n : ℕ) : Type 0 where
+-- a lone undo that was not refused, where the live steps ran so
+pub record WentOut (s t : State) (r : Ran) (n : ℕ) : Type 0 where
   pub some : 1 ≤ n
   pub within : n ≤ length s.live
-  pub free : dependant_in n (run_of R s) ≡ None
+  pub free : first_dependant r.entries n ≡ None
   pub goes : t ≡ undone_alone s n
 
-went_out : (R : ℕ) (s t : State) (n : ℕ) → undo_at R s n ≡ Ok t → WentOut R s t n
-went_out R s t n k = grind (arith, cases_Bool, cond-true, ltb-true, cond-false)
+went_out : (R : ℕ) (s t : State) (r : Ran) (n : ℕ) → run_of R s ≡ Ok r → undo_at R s n ≡ Ok t → WentOut s t r n
+went_out R s t r n ran k = grind (arith, cases_Bool, cond-true, ltb-true, cond-false)
 
 -- a redo that was not refused
 went_forward : (s t : State) → redo s ≡ Ok t → t ≡ forward_one s
@@ -70,14 +70,13 @@ again R old n x at none runs =
 pub redone_last : (R : ℕ) (i j k : Journal) (n : ℕ) → IsRun R i → IsRun R k → undo_at R (state_of i) n ≡ Ok (state_of j)
     → redo (state_of j) ≡ Ok (state_of k) → IsMovedLast n i k
 redone_last R i j k n ri rk undone redone =
-    let went = went_out R (state_of i) (state_of j) n undone in
+    let went = went_out R (state_of i) (state_of j) (record { world = i.world; entries = i.live }) n ri.live_ran undone in
     let len = length-map i.live (λ (x : Entry). x.event) in
     let within : n ≤ length i.live = omega (arith, went.within) in
     let some : 1 ≤ n = went.some in
     let found = nth i.live (n - 1) (omega arith) in
     let at : IsNumber i.live n found.0 = record { some = some; within = within; here = found.1 } in
-    let none : first_dependant i.live n ≡ None = sym (ap (dependant_in n) ri.live_ran) ∙ went.free in
-    let is = again R i n found.0 at none ri in
+    let is = again R i n found.0 at went.free ri in
     let same : state_of k ≡ state_of (again_journal i n found.0) =
     went_forward (state_of j) (state_of k) redone ∙ ap forward_one went.goes ∙ sym is.state in
     let one : k ≡ again_journal i n found.0 = one_journal R k (again_journal i n found.0) rk is.runs same in

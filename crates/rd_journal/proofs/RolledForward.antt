@@ -1,6 +1,6 @@
 -- Redoing all that a rollback undid.
 use Rattle.std.proofs.Common.{◌≡◌, ℕ, ◌≤◌, sym, ◌∙◌, ap, arith, List, [], ◌∷◌, ◌++◌, length, Ok}
-use Rattle.rd_journal.proofs.Prelude.{append-nil, append_assoc, map-append, length-map, World, closure, closure_of, without_closure, Event, Entry, Journal, events, start_of, IsRun, IsClosureLast, State, state_of, run_of, forward_one, times, forward, closure_in, undone_marked, roll}
+use Rattle.rd_journal.proofs.Prelude.{append-nil, append_assoc, map-append, length-map, World, closure, closure_of, without_closure, Event, Entry, Journal, events, start_of, IsRun, IsClosureLast, State, state_of, run_of, forward_one, times, forward, undone_marked, roll, Ran}
 use Rattle.rd_journal.proofs.RolledBack.{closure_last, reordered, marked-map, unmarked-map}
 use Rattle.rd_journal.proofs.There.{times_first, one_journal}
 
@@ -14,19 +14,19 @@ forward_all w xs (y ∷ ys) zs = grind (arith, times_first, append_assoc, forwar
 went_on : (s t : State) (n : ℕ) → forward s n ≡ Ok t → t ≡ times n forward_one s
 went_on s t n h = grind arith
 
--- a rollback that was not refused
-record Rolled (R : ℕ) (s t : State) (n : ℕ) : Type 0 where
+-- a rollback that was not refused, where the live steps ran so
+record Rolled (s t : State) (r : Ran) (n : ℕ) : Type 0 where
   some : 1 ≤ n
   within : n ≤ length s.live
-  goes : t ≡ undone_marked s (closure_in n (run_of R s))
+  goes : t ≡ undone_marked s (closure r.entries n)
 
-rolled : (R : ℕ) (s t : State) (n : ℕ) → roll R s n ≡ Ok t → Rolled R s t n
-rolled R s t n k = grind arith
+rolled : (R : ℕ) (s t : State) (r : Ran) (n : ℕ) → run_of R s ≡ Ok r → roll R s n ≡ Ok t → Rolled s t r n
+rolled R s t r n ran k = grind arith
 
 pub closure_redone : (R : ℕ) (i j k : Journal) (n : ℕ) → IsRun R i → IsRun R k → roll R (state_of i) n ≡ Ok (state_of j)
     → forward (state_of j) (length (closure_of i.live n)) ≡ Ok (state_of k) → IsClosureLast n i k
 closure_redone R i j k n ri rk back on =
-    let went = rolled R (state_of i) (state_of j) n back in
+    let went = rolled R (state_of i) (state_of j) (record { world = i.world; entries = i.live }) n ri.live_ran back in
     let its = λ (x : Entry). x.event in
     let within : n ≤ length i.live = omega (arith, went.within, length-map i.live its) in
     let re = reordered R i n went.some within ri in

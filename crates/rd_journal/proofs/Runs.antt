@@ -1,7 +1,7 @@
 -- Runs and their entries: two runs joined, the last step of a run, and a journal that gains or
 -- loses a step.
 use Rattle.std.proofs.Common.{◌≡◌, ℕ, refl, sym, ◌∙◌, ap, subst, List, [], ◌∷◌, ◌++◌, Result, Ok, arith}
-use Rattle.rd_journal.proofs.Prelude.{append-nil, map-append, Refusal, World, Stepped, step, unstep, Ran, run, IsFree, IsWellFormed, Event, Entry, run_preceded_by, WasStepped, IsTakenOut, took, undoes, ran_on, run-cons, run_keeps, taken_out, beginning, Middle, middle, Journal, events, world_before, start_of, IsRun}
+use Rattle.rd_journal.proofs.Prelude.{append-nil, map-append, Refusal, World, Stepped, step, unstep, Ran, run, IsFree, IsWellFormed, Event, Entry, preceded_by, result_map, WasStepped, IsTakenOut, took, undoes, ran_on, run-cons, run_keeps, taken_out, beginning, Middle, middle, Journal, events, world_before, start_of, IsRun}
 use Rattle.rd_step.proofs.Keeps.{keeps}
 use Rattle.rd_journal.specs.Journal.{run_entries}
 
@@ -77,7 +77,7 @@ grown R w v xs zs ys x e runs h rest =
     }
 
 -- entries that run on from a step's world run on, after the step's entry, from the world before it
-pub preceded_entries : (x : Entry) (r : Result Ran Refusal) (ys : List Entry) → run_entries r ≡ Ok ys → run_entries (run_preceded_by x r) ≡ Ok (x ∷ ys)
+pub preceded_entries : (x : Entry) (r : Result Ran Refusal) (ys : List Entry) → run_entries r ≡ Ok ys → run_entries (result_map (preceded_by x) r) ≡ Ok (x ∷ ys)
 preceded_entries x r ys h = grind arith
 
 -- where a live step on which no later one depends is taken out of a run, what is left is a run of

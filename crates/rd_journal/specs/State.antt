@@ -1,7 +1,8 @@
 -- What a session is to its callers: a start world, the live events and the undone events. It has no
 -- entry, no old word and no position in a run, and its definitions use only the run of a list.
-use Rattle.std.specs.Prelude.{ℕ, zero, suc, Bool, ◌-◌, ◌==◌, nat_lt, if◌then◌else◌, List, [], ◌∷◌, ◌++◌, length, take, drop, Option, Some, None, Result, Ok, Err}
-use Rattle.rd_step.specs.Prelude.{Refusal, TooLong, NothingToUndo, NothingToRedo, NoSuchStep, Depended, OpReply, World, Stepped, step, Ran, run, first_dependant, without, closure, marked, unmarked, MOST_STEPS}
+use Rattle.std.specs.Prelude.{ℕ, zero, suc, Bool, ◌-◌, ◌==◌, nat_lt, if◌then◌else◌, List, [], ◌∷◌, ◌++◌, length, take, drop, Option, Some, None, option_and_then, Result, Ok, Err}
+use Rattle.std.specs.Result.{result_ok}
+use Rattle.rd_step.specs.Prelude.{Refusal, TooLong, NothingToUndo, NothingToRedo, NoSuchStep, Depended, OpReply, World, Stepped, step, Ran, run, first_dependant, without, closure, marked, unmarked, MOST_STEPS, and_then, result_map}
 use Rattle.rd_step.specs.declared.entries.Event.{Event}
 use Rattle.rd_journal.specs.Journal.{Journal, start_of, events}
 
@@ -15,33 +16,27 @@ pub record State : Type 0 where
 abbrev pub state_of : Journal → State
 state_of j = record { start = start_of j; live = events j.live; undone = events j.undone }
 
--- the run of the live events from the start
+-- the run of the live events from the start; of a session's state it is never refused
 abbrev pub run_of : ℕ → State → Result Ran Refusal
 run_of R s = run R s.start s.live
 
 -- the step that an event makes in the last world of a run
 abbrev pub step_after : ℕ → Result Ran Refusal → Event → Result Stepped Refusal
-step_after R (Err refusal) e = Err refusal
-step_after R (Ok r) e = step R r.world e
-
--- what a step's call replies, if the step ends one
-abbrev pub reply_in : Result Stepped Refusal → Option OpReply
-reply_in (Err refusal) = None
-reply_in (Ok stepped) = stepped.entry.reply
+step_after R r e = and_then r (λ ran. step R ran.world e)
 
 -- what the event's call replies in the last world of the live events, if the event ends one
 abbrev pub reply_to : ℕ → State → Event → Option OpReply
-reply_to R s e = reply_in (step_after R (run_of R s) e)
+reply_to R s e = option_and_then (λ stepped. stepped.entry.reply) (result_ok (step_after R (run_of R s) e))
 
--- the state with the event put last in live and nothing undone, or the refusal of its step
-abbrev pub with_event : State → Event → Result Stepped Refusal → Result State Refusal
-with_event s e (Err refusal) = Err refusal
-with_event s e (Ok stepped) = Ok (record { start = s.start; live = s.live ++ e ∷ []; undone = [] })
+-- the state with the event put last in live and nothing undone
+abbrev pub with_event : State → Event → State
+with_event s e = record { start = s.start; live = s.live ++ e ∷ []; undone = [] }
 
 -- the state after an event: refused if as many steps are live as may be, else as its step is
 -- refused in the last world of the live events
 abbrev pub apply : ℕ → State → Event → Result State Refusal
-apply R s e = if length s.live == MOST_STEPS then Err TooLong else with_event s e (step_after R (run_of R s) e)
+apply R s e =
+    if length s.live == MOST_STEPS then Err TooLong else result_map (λ stepped. with_event s e) (step_after R (run_of R s) e)
 
 -- the state where the last of live became the front of undone, if there was one
 abbrev pub back_one : State → State
@@ -76,11 +71,6 @@ redo s = if length s.undone == 0 then Err NothingToRedo else Ok (forward_one s)
 abbrev pub forward : State → ℕ → Result State Refusal
 forward s n = if nat_lt (length s.undone) n then Err NothingToRedo else Ok (times n forward_one s)
 
--- the number of the first step of a run that depends on its k-th
-abbrev pub dependant_in : ℕ → Result Ran Refusal → Option ℕ
-dependant_in k (Err refusal) = None
-dependant_in k (Ok r) = first_dependant r.entries k
-
 -- the state where the k-th of live became the front of undone, and all others stay in their order
 abbrev pub undone_alone : State → ℕ → State
 undone_alone s k = record { start = s.start; live = without s.live k; undone = take 1 (drop (k - 1) s.live) ++ s.undone }
@@ -95,12 +85,9 @@ undone_alone_unless s k None = Ok (undone_alone s k)
 abbrev pub undo_at : ℕ → State → ℕ → Result State Refusal
 undo_at R s zero = Err (NoSuchStep (length s.live))
 undo_at R s (suc i) =
-    if nat_lt i (length s.live) then undone_alone_unless s (suc i) (dependant_in (suc i) (run_of R s)) else Err (NoSuchStep (length s.live))
-
--- for each step of a run, whether it is in the causal closure of the k-th
-abbrev pub closure_in : ℕ → Result Ran Refusal → List Bool
-closure_in k (Err refusal) = []
-closure_in k (Ok r) = closure r.entries k
+    if nat_lt i (length s.live)
+    then and_then (run_of R s) (λ ran. undone_alone_unless s (suc i) (first_dependant ran.entries (suc i)))
+    else Err (NoSuchStep (length s.live))
 
 -- the state where the marked live events became the front of undone, in their order, and all others
 -- stay in their order
@@ -112,7 +99,9 @@ undone_marked s marks = record { start = s.start; live = unmarked marks s.live; 
 abbrev pub roll : ℕ → State → ℕ → Result State Refusal
 roll R s zero = Err (NoSuchStep (length s.live))
 roll R s (suc i) =
-    if nat_lt i (length s.live) then Ok (undone_marked s (closure_in (suc i) (run_of R s))) else Err (NoSuchStep (length s.live))
+    if nat_lt i (length s.live)
+    then result_map (λ ran. undone_marked s (closure ran.entries (suc i))) (run_of R s)
+    else Err (NoSuchStep (length s.live))
 
 -- the state whose live events are the first n from before and then these, with nothing undone
 abbrev pub switch : State → ℕ → List Event → State

@@ -1,6 +1,10 @@
 -- What moves, events and marks are answered, from what the calls say of their results.
-use Rattle.std.proofs.Common.{◌≡◌, ℕ, sym, subst, List, Result, Ok, OnOk, OnErr}
-use Rattle.rd_marks.proofs.Prelude.{Refusal, World, Event, IsPrefix, Session, state, track, journal, State, lists_in, here_in, AreRuns, events}
+use Rattle.std.proofs.Common.{◌≡◌, ◌⊎◌, ◌<◌, ℕ, inl, inr, sym, ap, ◌∙◌, subst, arith, List, length, Option, Result, Ok, Err, OnOk, OnErr, IfErr}
+use Rattle.std.specs.Result.{IsErrAnd}
+use Rattle.rd_marks.proofs.Prelude.{Refusal, NoMemory, OpReply, World, Event, Entry, IsPrefix, MOST_STEPS, Session, state, track, Journal, journal, State, state_of, apply, reply_to, lists_in, here_in, AreRuns, events, Mark, BookState, with_session, Answered, answer_with, move_answer, Happened, length-map}
+use Rattle.rd_marks.specs.Commands.{step_counts}
+use Rattle.rd_marks.specs.declared.replies.Reply.{Reply}
+use Rattle.rd_marks.specs.declared.replies.Reply.TheVariants.{Applied}
 use Rattle.rd_marks.specs.declared.books.Book.{Book}
 use Rattle.rd_marks.proofs.Starts.{start_stays}
 
@@ -12,3 +16,40 @@ kept_along {R} book new done moved starts ok unchanged same = (
   subst (λ (w : World). AreRuns R w (lists_in book.bookmarks)) (sym (start_stays done (journal book.session) (journal new) moved starts ok unchanged)) book.runs,
   subst (λ (es : List Event). IsPrefix (events (here_in book.bookmarks)) es) (sym same) book.stands,
 )
+
+-- the answer to a move, and what it leaves
+pub move_answered : (old new : Journal) (marks after : List Mark) (answer : Result Reply Refusal) (done : Result (Unit {0}) Refusal) (moved : Result State Refusal)
+    → OnOk done (moved ≡ Ok (state_of new)) → IfErr done (λ refusal. moved ≡ Err refusal) → OnErr done (new ≡ old) → after ≡ marks
+    → OnOk done (answer ≡ Ok (step_counts (state_of new))) → IfErr done (λ refusal. answer ≡ Err refusal)
+    → record { answer = answer; state = record { session = state_of new; marks = after } } ≡ move_answer (record { session = state_of old; marks = marks }) moved
+move_answered old new marks after answer done moved ok err same kept counts refuses = grind arith
+
+-- what is passed up is the answer
+passed_up : (refusal : Refusal) (answer : Result Reply Refusal) → IsErrAnd answer (λ e. e ≡ refusal) → answer ≡ Err refusal
+passed_up refusal (Ok reply) is = absurd is
+passed_up refusal (Err e) is = ap (λ (x : Refusal). Err x) is
+
+module _ (R : ℕ) (old new : Journal) (marks : List Mark) (e : Event) where
+  abbrev pub before : BookState
+  before = record { session = state_of old; marks = marks }
+
+  abbrev of_step : Result State Refusal → Answered
+  of_step r = answer_with before (λ s. Applied (length s.live) (reply_to R (state_of old) e)) (with_session before) r
+
+  -- the answer to an event that made a step
+  pub event_made : (after : List Mark) (n : ℕ) (reply : Option OpReply) → apply R (state_of old) e ≡ Ok (state_of new) → n ≡ length new.live
+      → reply_to R (state_of old) e ≡ reply → after ≡ marks
+      → Happened R before e (record { answer = Ok (Applied n reply); state = record { session = state_of new; marks = after } })
+  event_made after n reply made number its kept =
+      let count : n ≡ length (state_of new).live = number ∙ sym (length-map new.live (λ (x : Entry). x.event)) in
+      inl ((λ i. record { answer = Ok (Applied (count i) (sym its i)); state = record { session = state_of new; marks = kept i } }) ∙ sym (ap of_step made))
+
+  -- the answer to an event that was refused
+  pub event_refused : (answer : Result Reply Refusal) (refusal : Refusal) → new ≡ old → IsErrAnd answer (λ e. e ≡ refusal)
+      → (apply R (state_of old) e ≡ Err refusal) ⊎ ((refusal ≡ NoMemory) × (length (state_of old).live < MOST_STEPS))
+      → Happened R before e (record { answer = answer; state = record { session = state_of new; marks = marks } })
+  event_refused answer refusal same is (inl h) =
+      inl ((λ i. record { answer = passed_up refusal answer is i; state = record { session = state_of (same i); marks = marks } }) ∙ sym (ap of_step h))
+  event_refused answer refusal same is (inr h) =
+      let said : answer ≡ Err NoMemory = passed_up refusal answer is ∙ ap (λ (x : Refusal). Err x) h.0 in
+      inr (h.1, λ i. record { answer = said i; state = record { session = state_of (same i); marks = marks } })

@@ -1,6 +1,6 @@
 -- The entries of a session's live steps, and that they are those of a run.
 use Rattle.std.proofs.Common.{◌≡◌, ℕ, zero, suc, drop, ◌+◌, ◌≤◌, refl, sym, ap, ◌∙◌, List, [], ◌∷◌, ◌++◌, length, take, ◌-◌, Result, Ok, OnOk, length-drop, arith}
-use Rattle.rd_marks.proofs.Prelude.{take-length, Refusal, MOST_STEPS, World, Stepped, step, run, run_from_step, Event, take-append-drop, drop-map, Entry, State, state_of, switch, Journal, start_of, AreEntriesOfRun, events, run_entries, IsRunFrom}
+use Rattle.rd_marks.proofs.Prelude.{take-length, Refusal, MOST_STEPS, World, Stepped, step, run, and_then, result_map, preceded_by, Event, take-append-drop, drop-map, Entry, State, state_of, switch, Journal, start_of, AreEntriesOfRun, events, run_entries, IsRunFrom}
 
 -- A start and its events determine the entries of a run
 
@@ -12,7 +12,7 @@ pub record Began (R : ℕ) (w : World) (x : Entry) (xs : List Entry) : Type 0 wh
   pub rest : run_entries (run R stepped.world (events xs)) ≡ Ok xs
 
 began_by : (R : ℕ) (w : World) (x : Entry) (xs : List Entry) (r : Result Stepped Refusal) → step R w x.event ≡ r
-    → run_entries (run_from_step (λ v. run R v (events xs)) r) ≡ Ok (x ∷ xs) → Began R w x xs
+    → run_entries (and_then r (λ s. result_map (preceded_by s.entry) (run R s.world (events xs)))) ≡ Ok (x ∷ xs) → Began R w x xs
 began_by R w x xs r goes k = grind arith
 
 pub began : (R : ℕ) (w : World) (x : Entry) (xs : List Entry) → run_entries (run R w (events (x ∷ xs))) ≡ Ok (x ∷ xs) → Began R w x xs

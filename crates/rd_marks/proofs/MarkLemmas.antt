@@ -1,7 +1,7 @@
 -- The marks that a list of names with entries is: looking one up, putting one last, taking one
 -- away.
-use Rattle.std.proofs.Common.{◌↔◌, IsTrue, is_ok, ◌⊎◌, ◌≢◌, suc, Result, Ok, Err, IsOk, IfErr, ne_eqb, ◌≡◌, ℕ, Bool, true, false, cond, map, refl, sym, ap, ◌∙◌, subst, List, [], ◌∷◌, ◌++◌, length, is_some, option_map, Option, Some, None, All, slice_get, arith}
-use Rattle.rd_marks.proofs.Prelude.{lookup, remove_entry, insert_entry, All-cons, All-head, All-tail, Entry, Event, MarkName, same_name, eq-eqb, false≢true, length-map, get_or_from_slice_get, slice_get-map, slice_get_within, Refusal, World, NoMark, NoMemory, MarkTaken, TooManyMarks, MOST_MARKS, AreEntriesOfRun, IsPrefix, Mark, BookState, with_marks, marked_events, without_mark, mark, drop_mark, goto_mark, mark_at, mark_events, name_and_length, MakesSteps, AnswersSame, IsEquivalent, DecidesEquivalence, mark_of, marks_of, events}
+use Rattle.std.proofs.Common.{◌↔◌, IsTrue, is_ok, ◌⊎◌, ◌≢◌, suc, Result, Ok, Err, IsOk, IfErr, ne_eqb, ◌≡◌, ℕ, Bool, true, false, cond, map, refl, sym, ap, ◌∙◌, subst, List, [], ◌∷◌, ◌++◌, length, is_some, option_map, ok_or, Option, Some, None, All, slice_get, arith}
+use Rattle.rd_marks.proofs.Prelude.{lookup, remove_entry, insert_entry, All-cons, All-head, All-tail, Entry, Event, MarkName, same_name, eq-eqb, false≢true, length-map, get_or_from_slice_get, slice_get-map, slice_get_within, Refusal, World, NoMark, NoMemory, MarkTaken, TooManyMarks, MOST_MARKS, AreEntriesOfRun, IsPrefix, Mark, BookState, with_marks, marked_events, without_mark, mark, drop_mark, goto_mark, mark_at, mark_events, name_and_length, result_map, MakesSteps, AnswersSame, IsEquivalent, DecidesEquivalence, mark_of, marks_of, events}
 
 -- taking an entry away, whatever is made of the values
 pub removed_mapped : {K V W : Type 0} (f : V → W) (test : K → Bool) (ms : List (K × V)) → map (λ m. (m.0, f m.1)) (remove_entry test ms) ≡ remove_entry test (map (λ m. (m.0, f m.1)) ms)
@@ -93,8 +93,8 @@ mark_there : (b : BookState) (ls : List (MarkName × List Entry)) (j : ℕ) (o :
 mark_there b ls j o same h = ap (λ (xs : List Mark). slice_get xs j) same ∙ slice_get-map mark_of ls j ∙ ap (option_map mark_of) h
 
 pub mark_said : (b : BookState) (ls : List (MarkName × List Entry)) (i j : ℕ) (o : Option (MarkName × List Entry)) → b.marks ≡ marks_of ls → i ≡ suc j → slice_get ls j ≡ o
-    → mark_at b i ≡ name_and_length (option_map mark_of o)
-mark_said b ls i j o same e h = ap (mark_at b) e ∙ ap name_and_length (mark_there b ls j o same h)
+    → mark_at b i ≡ result_map name_and_length (ok_or (option_map mark_of o) NoMark)
+mark_said b ls i j o same e h = ap (mark_at b) e ∙ ap (λ (p : Option Mark). result_map name_and_length (ok_or p NoMark)) (mark_there b ls j o same h)
 
 pub events_said : (b : BookState) (ls : List (MarkName × List Entry)) (i j : ℕ) (o : Option (MarkName × List Entry)) → b.marks ≡ marks_of ls → i ≡ suc j → slice_get ls j ≡ o
     → mark_events b i ≡ option_map (λ (m : Mark). m.events) (option_map mark_of o)
@@ -103,7 +103,7 @@ events_said b ls i j o same e h = ap (mark_events b) e ∙ ap (option_map (λ (m
 pub no_mark : (b : BookState) (i : ℕ) → i ≡ 0 → mark_events b i ≡ None
 no_mark b i h = ap (mark_events b) h
 
-pub length_said : (name : MarkName) (n : ℕ) (xs : List Entry) → length xs ≡ n → Ok (name, n) ≡ name_and_length (Some (mark_of (name, xs)))
+pub length_said : (name : MarkName) (n : ℕ) (xs : List Entry) → length xs ≡ n → Ok (name, n) ≡ result_map name_and_length (ok_or (Some (mark_of (name, xs))) NoMark)
 length_said name n xs long = ap (λ (k : ℕ). Ok (name, k)) (sym long ∙ sym (length-map xs (λ x. x.event)))
 
 -- a mark whose name is taken, or one too many

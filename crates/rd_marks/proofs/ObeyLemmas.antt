@@ -1,8 +1,12 @@
 -- No command moves the start, and a refused one changes nothing.
-use Rattle.std.proofs.Common.{◌≡◌, ℕ, sym, subst, List, [], ◌∷◌, ◌++◌, Some, Option, Result, Ok, OnErr, arith}
-use Rattle.rd_marks.proofs.Prelude.{Refusal, OpReply, Event, State, apply, reply_to, undo, undo_at, roll, back, redo, forward, Command, BookState, at_events, goto_mark, marked_events, Answered, move_answer, event_answer, query_answer, happens, Happened, IsMade, NeedsNoMemory, IsObeyed, AreObeyed}
+use Rattle.std.proofs.Common.{◌≡◌, ℕ, sym, subst, List, [], ◌∷◌, ◌++◌, length, Some, Result, Ok, OnErr, arith}
+use Rattle.std.proofs.lemmas.Option.{same_Some}
+use Rattle.rd_marks.proofs.Prelude.{Refusal, Event, State, apply, reply_to, undo, undo_at, roll, back, redo, forward, Command, BookState, MarkName, with_session, goto_mark, Answered, answer_with, move_answer, query_answer, happens, Happened, IsMade, NeedsNoMemory, IsObeyed, AreObeyed}
 use Rattle.rd_marks.specs.declared.commands.Command.TheVariants.{Enq, Deq, ArrayEnq, ArrayDeq, Go, Starve, Undo, UndoAt, Roll, Back, Redo, Forward, Mark as MarkAs, DropMark, GotoMark, Marks, MarkAt, Same, Origin, Writer, Show, Actor, Step, Len}
 use Rattle.rd_marks.specs.declared.replies.Reply.{Reply}
+use Rattle.rd_marks.specs.declared.replies.Reply.TheVariants.{Applied}
+use Rattle.rd_actor.specs.declared.actors.Act.TheVariants.{Enq as CallsEnq, Deq as CallsDeq, AEnq as CallsArrayEnq, ADeq as CallsArrayDeq, Go as GoesOn, Starve as Starves}
+use Rattle.rd_marks.specs.Commands.{event}
 use Rattle.rd_marks.specs.Events.{as_event}
 use Rattle.rd_marks.proofs.Starts.{apply_start, undo_start, undo_at_start, roll_start, back_start, redo_start, forward_start}
 
@@ -14,15 +18,15 @@ pub record LeavesStart (b : BookState) (a : Answered) : Type 0 where
 move_leaves : (b : BookState) (r : Result State Refusal) → ((t : State) → r ≡ Ok t → t.start ≡ b.session.start) → LeavesStart b (move_answer b r)
 move_leaves b r starts = grind arith
 
-event_leaves : (b : BookState) (reply : Option OpReply) (r : Result State Refusal) → ((t : State) → r ≡ Ok t → t.start ≡ b.session.start)
-    → LeavesStart b (event_answer b reply r)
-event_leaves b reply r starts = grind arith
-
 happens_leaves : (R : ℕ) (b : BookState) (e : Event) → LeavesStart b (happens R b e)
-happens_leaves R b e = event_leaves b (reply_to R b.session e) (apply R b.session e) (apply_start R b.session e)
+happens_leaves R b e = of_applied (apply R b.session e) (apply_start R b.session e)
+  where
+    of_applied : (r : Result State Refusal) → ((t : State) → r ≡ Ok t → t.start ≡ b.session.start)
+        → LeavesStart b (answer_with b (λ s. Applied (length s.live) (reply_to R b.session e)) (with_session b) r)
+    of_applied r starts = grind arith
 
-goto_start : (b : BookState) (o : Option (List Event)) (t : BookState) → at_events b o ≡ Ok t → t.session.start ≡ b.session.start
-goto_start b o t h = grind arith
+goto_start : (b : BookState) (name : MarkName) (t : BookState) → goto_mark b name ≡ Ok t → t.session.start ≡ b.session.start
+goto_start b name t h = grind arith
 
 query_leaves : (b : BookState) (answer : Result Reply Refusal) → LeavesStart b (query_answer b answer)
 query_leaves b answer = grind arith
@@ -39,12 +43,12 @@ made_leaves : (b : BookState) (reply : BookState → Reply) (r : Result BookStat
 made_leaves b reply r P a starts k = grind arith
 
 pub obeyed_leaves : (R : ℕ) (b : BookState) (c : Command) (a : Answered) → IsObeyed R b c a → LeavesStart b a
-obeyed_leaves R b (Enq actor value) a h = happened_leaves R b _ a h
-obeyed_leaves R b (Deq actor) a h = happened_leaves R b _ a h
-obeyed_leaves R b (ArrayEnq actor value) a h = happened_leaves R b _ a h
-obeyed_leaves R b (ArrayDeq actor) a h = happened_leaves R b _ a h
-obeyed_leaves R b (Go actor) a h = happened_leaves R b _ a h
-obeyed_leaves R b (Starve actor choice) a h = happened_leaves R b _ a h
+obeyed_leaves R b (Enq actor value) a h = happened_leaves R b (event actor (CallsEnq value)) a h
+obeyed_leaves R b (Deq actor) a h = happened_leaves R b (event actor CallsDeq) a h
+obeyed_leaves R b (ArrayEnq actor value) a h = happened_leaves R b (event actor (CallsArrayEnq value)) a h
+obeyed_leaves R b (ArrayDeq actor) a h = happened_leaves R b (event actor CallsArrayDeq) a h
+obeyed_leaves R b (Go actor) a h = happened_leaves R b (event actor GoesOn) a h
+obeyed_leaves R b (Starve actor choice) a h = happened_leaves R b (event actor (Starves choice)) a h
 obeyed_leaves R b Undo a h = as_this b a _ (move_leaves b (undo b.session) (undo_start b.session)) h
 obeyed_leaves R b (UndoAt k) a h = as_this b a _ (move_leaves b (undo_at R b.session k) (undo_at_start R b.session k)) h
 obeyed_leaves R b (Roll k) a h = as_this b a _ (move_leaves b (roll R b.session k) (roll_start R b.session k)) h
@@ -53,7 +57,7 @@ obeyed_leaves R b Redo a h = as_this b a _ (move_leaves b (redo b.session) (redo
 obeyed_leaves R b (Forward n) a h = as_this b a _ (move_leaves b (forward b.session n) (forward_start b.session n)) h
 obeyed_leaves R b (MarkAs name) a h = grind (arith, made_leaves)
 obeyed_leaves R b (DropMark name) a h = grind (arith, as_this)
-obeyed_leaves R b (GotoMark name) a h = made_leaves b _ (goto_mark b name) _ a (goto_start b (marked_events b.marks name)) h
+obeyed_leaves R b (GotoMark name) a h = made_leaves b _ (goto_mark b name) _ a (goto_start b name) h
 obeyed_leaves R b Marks a h = as_this b a _ (query_leaves b _) h
 obeyed_leaves R b (MarkAt i) a h = as_this b a _ (query_leaves b _) h
 obeyed_leaves R b (Same one other) a h = as_this b a _ (query_leaves b _) h.answers
@@ -63,6 +67,16 @@ obeyed_leaves R b (Show place) a h = as_this b a _ (query_leaves b _) h
 obeyed_leaves R b (Actor n) a h = as_this b a _ (query_leaves b _) h
 obeyed_leaves R b (Step k) a h = as_this b a _ (query_leaves b _) h
 obeyed_leaves R b Len a h = as_this b a _ (query_leaves b _) h
+
+-- a command that is an event is answered as the event is
+pub event_obeyed : (R : ℕ) (b : BookState) (command : Command) (e : Event) (a : Answered) → as_event command ≡ Some e → Happened R b e a → IsObeyed R b command a
+event_obeyed R b (Enq actor value) e a is h = subst (λ (x : Event). Happened R b x a) (sym (same_Some _ e is)) h
+event_obeyed R b (Deq actor) e a is h = subst (λ (x : Event). Happened R b x a) (sym (same_Some _ e is)) h
+event_obeyed R b (ArrayEnq actor value) e a is h = subst (λ (x : Event). Happened R b x a) (sym (same_Some _ e is)) h
+event_obeyed R b (ArrayDeq actor) e a is h = subst (λ (x : Event). Happened R b x a) (sym (same_Some _ e is)) h
+event_obeyed R b (Go actor) e a is h = subst (λ (x : Event). Happened R b x a) (sym (same_Some _ e is)) h
+event_obeyed R b (Starve actor choice) e a is h = subst (λ (x : Event). Happened R b x a) (sym (same_Some _ e is)) h
+event_obeyed R b _ e a is h = cc
 
 -- One more command of a list
 

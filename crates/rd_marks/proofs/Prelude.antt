@@ -16,18 +16,18 @@ pub use Rattle.rd_depend.specs.Equivalence.{DecidesEquivalence}
 pub use Rattle.rd_journal.specs.Journal.{Journal, start_of}
 pub use Rattle.rd_journal.specs.Entries.{ahead_entries}
 pub use Rattle.rd_journal.specs.Sessions.{journal, state, track}
-pub use Rattle.rd_journal.specs.State.{State, apply, back, back_one, forward, forward_one, redo, reply_to, roll, run_of, state_of, step_after, switch, times, undo, undo_at, with_event}
+pub use Rattle.rd_journal.specs.State.{State, apply, back, back_one, forward, forward_one, redo, reply_to, roll, run_of, state_of, switch, times, undo, undo_at, with_event}
 pub use Rattle.rd_journal.specs.declared.sessions.Session.{Session}
 pub use Rattle.rd_step.proofs.PassedUp.{fact_passed_up}
 pub use Rattle.rd_step.specs.Equivalence.{IsEquivalent}
-pub use Rattle.rd_step.specs.Prelude.{MOST_STEPS, MarkTaken, NoMark, NoMemory, OpReply, Refusal, Stepped, TooManyMarks, World, closure, run, step, unmarked}
-pub use Rattle.rd_step.specs.Run.{events, IsRunFrom, Ran, run_entries, run_from_step}
+pub use Rattle.rd_step.specs.Prelude.{and_then, result_map, MOST_STEPS, MarkTaken, NoMark, NoMemory, OpReply, Refusal, Stepped, TooManyMarks, World, closure, run, step, unmarked}
+pub use Rattle.rd_step.specs.Run.{events, IsRunFrom, Ran, preceded_by, run_entries}
 pub use Rattle.rd_step.specs.declared.entries.Entry.{Entry}
 pub use Rattle.rd_step.specs.declared.entries.Event.{Event}
 pub use Rattle.rd_marks.specs.BookViews.{book_state}
-pub use Rattle.rd_marks.specs.Books.{AnswersEvents, AnswersSame, BookState, MakesSteps, Mark, at_events, drop_mark, event_in, goto_mark, mark, mark_at, mark_events, marked_events, name_and_length, with_marks, without_mark}
+pub use Rattle.rd_marks.specs.Books.{AnswersEvents, AnswersSame, BookState, MakesSteps, Mark, at_events, drop_mark, goto_mark, mark, mark_at, mark_events, marked_events, name_and_length, with_marks, with_session, without_mark}
 pub use Rattle.rd_marks.specs.Changes.{IsGrown, IsLow, IsShrunk, IsUnchanged, Stays, shifted}
-pub use Rattle.rd_marks.specs.Commands.{Answered, AreObeyed, Happened, IsMade, IsObeyed, NeedsNoMemory, event_answer, happens, move_answer, query_answer}
+pub use Rattle.rd_marks.specs.Commands.{Answered, AreObeyed, Happened, IsMade, IsObeyed, NeedsNoMemory, answer_with, happens, move_answer, query_answer}
 pub use Rattle.rd_marks.specs.Kept.{IsPlaceIn, here_in, lists_in, entries_in}
 pub use Rattle.rd_marks.specs.Layout.{AreRuns, IsKept, IsPruned, AreEntriesOfRun, named_lists, places_of}
 pub use Rattle.rd_marks.specs.Marks.{mark_of, marks_of}

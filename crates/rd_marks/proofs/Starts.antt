@@ -1,6 +1,6 @@
 -- No call of a session moves its start, so the marks of a book stay runs from there.
 use Rattle.std.proofs.Common.{◌≡◌, ℕ, zero, suc, ◌==◌, nat_lt, Bool, if◌then◌else◌, refl, sym, ap, ◌∙◌, List, [], length, Result, Ok, Err, OnOk, OnErr, arith}
-use Rattle.rd_marks.proofs.Prelude.{Refusal, World, Stepped, Event, Entry, Journal, start_of, State, state_of, run_of, step_after, with_event, apply, back_one, forward_one, times, undo, back, redo, forward, undo_at, roll, MarkName, AreRuns}
+use Rattle.rd_marks.proofs.Prelude.{Refusal, World, Event, Entry, Journal, start_of, State, state_of, apply, back_one, forward_one, times, undo, back, redo, forward, undo_at, roll, MarkName, AreRuns}
 
 of_ok : (s t : State) (r : Result State Refusal) → r ≡ Ok s → r ≡ Ok t → t.start ≡ s.start
 of_ok s t r k h = let e : s ≡ t = cc in ap (λ (u : State). u.start) (sym e)
@@ -9,11 +9,8 @@ of_ok s t r k h = let e : s ≡ t = cc in ap (λ (u : State). u.start) (sym e)
 unless_start : (s t : State) (b : Bool) (e : Refusal) (r : Result State Refusal) → (r ≡ Ok t → t.start ≡ s.start) → (if b then Err e else r) ≡ Ok t → t.start ≡ s.start
 unless_start s t b e r f h = grind arith
 
-with_event_start : (s : State) (e : Event) (r : Result Stepped Refusal) (t : State) → with_event s e r ≡ Ok t → t.start ≡ s.start
-with_event_start s e r t h = grind arith
-
 pub apply_start : (R : ℕ) (s : State) (e : Event) (t : State) → apply R s e ≡ Ok t → t.start ≡ s.start
-apply_start R s e t h = unless_start s t (length s.live == 65535) _ _ (with_event_start s e (step_after R (run_of R s) e) t) h
+apply_start R s e t h = grind arith
 
 times_back_start : (n : ℕ) (s : State) → (times n back_one s).start ≡ s.start
 times_back_start zero s = refl

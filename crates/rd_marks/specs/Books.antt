@@ -1,7 +1,7 @@
 -- What a book is to its callers: its session's state, and a list of marks.
-use Rattle.std.specs.Prelude.{◌≡◌, ◌↔◌, IsTrue, Bool, ℕ, zero, suc, ◌==◌, if◌then◌else◌, is_some, List, [], ◌∷◌, ◌++◌, length, slice_get, option_map, Option, Some, None, Result, Ok, Err, Vec}
+use Rattle.std.specs.Prelude.{◌≡◌, ◌↔◌, IsTrue, Bool, ℕ, ◌==◌, if◌then◌else◌, is_some, List, [], ◌∷◌, ◌++◌, length, ok_or, option_map, option_and_then, Option, Some, None, Result, Ok, Err, Vec}
 use Rattle.std.specs.Global.{Global}
-use Rattle.rd_step.specs.Prelude.{World, Refusal, NoMark, MarkTaken, TooManyMarks, NoMemory}
+use Rattle.rd_step.specs.Prelude.{World, Refusal, NoMark, MarkTaken, TooManyMarks, NoMemory, result_map}
 use Rattle.rd_step.specs.Equivalence.{IsEquivalent}
 use Rattle.rd_step.specs.declared.entries.Event.{Event}
 use Rattle.rd_depend.specs.Beginnings.{IsPrefix, NeitherIsPrefix}
@@ -51,15 +51,14 @@ mark b name =
 abbrev pub drop_mark : BookState → MarkName → Result BookState Refusal
 drop_mark b name = if is_some (marked_events b.marks name) then Ok (with_marks b (without_mark b.marks name)) else Err NoMark
 
--- the book where just these events of a mark are live and nothing is undone; refused if there is no
--- such mark
-abbrev pub at_events : BookState → Option (List Event) → Result BookState Refusal
-at_events b None = Err NoMark
-at_events b (Some es) = Ok (with_session b (record { start = b.session.start; live = es; undone = [] }))
+-- the book where just these events are live and nothing is undone
+abbrev pub at_events : BookState → List Event → BookState
+at_events b es = with_session b (record { start = b.session.start; live = es; undone = [] })
 
--- the book after going to the mark of this name; refused if there is none
+-- the book after going to the mark of this name, whose events are live then; refused if there is
+-- none
 abbrev pub goto_mark : BookState → MarkName → Result BookState Refusal
-goto_mark b name = at_events b (marked_events b.marks name)
+goto_mark b name = result_map (at_events b) (ok_or (marked_events b.marks name) NoMark)
 
 -- going to the mark of this name makes steps, as its events do not begin the live ones
 abbrev pub MakesSteps : BookState → MarkName → Type 0
@@ -76,17 +75,11 @@ AnswersSame R start None fs said = said ≡ Err NoMark
 
 -- the events of the mark of this number, from 1, if there is one
 abbrev pub mark_events : BookState → ℕ → Option (List Event)
-mark_events b zero = None
-mark_events b (suc i) = option_map (λ m. m.events) (slice_get b.marks i)
-
--- the event of this number, from 1, in a list, if there is a list and it has one
-abbrev pub event_in : Option (List Event) → ℕ → Option Event
-event_in None n = None
-event_in (Some es) n = numbered es n
+mark_events b i = option_map (λ m. m.events) (numbered b.marks i)
 
 -- the n-th event of the i-th mark, both numbers from 1, if there is one
 abbrev pub mark_event : BookState → ℕ → ℕ → Option Event
-mark_event b i n = event_in (mark_events b i) n
+mark_event b i n = option_and_then (λ es. numbered es n) (mark_events b i)
 
 -- this may be answered to asking for the events of a mark: these events; that there is no such
 -- mark; or, if it has any, that memory was refused
@@ -97,15 +90,13 @@ AnswersEvents (Some es) (Err refusal) = (refusal ≡ NoMemory) × (es ≡ [] →
 
 -- the book at its start: nothing is live and nothing is undone
 abbrev pub to_start : BookState → BookState
-to_start b = with_session b (record { start = b.session.start; live = []; undone = [] })
+to_start b = at_events b []
 
 -- the name of a mark and the number of its events
-abbrev pub name_and_length : Option Mark → Result (MarkName × ℕ) Refusal
-name_and_length None = Err NoMark
-name_and_length (Some m) = Ok (m.name, length m.events)
+abbrev pub name_and_length : Mark → MarkName × ℕ
+name_and_length m = (m.name, length m.events)
 
 -- the name of the mark of this number, from 1, and the number of its events; refused if there is no
 -- such mark
 abbrev pub mark_at : BookState → ℕ → Result (MarkName × ℕ) Refusal
-mark_at b zero = Err NoMark
-mark_at b (suc i) = name_and_length (slice_get b.marks i)
+mark_at b i = result_map name_and_length (ok_or (numbered b.marks i) NoMark)

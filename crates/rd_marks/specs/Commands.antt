@@ -1,10 +1,9 @@
 -- What each command answers and leaves, by the state of the book alone. The queries look at the run
 -- of the live events; there is no inverse and no old content here.
-use Rattle.std.specs.Prelude.{◌≡◌, ℕ, zero, suc, ◌<◌, ◌⊎◌, Bool, List, [], ◌∷◌, length, slice_get, ok_or, Option, Result, Ok, Err, IsOk}
-use Rattle.rd_step.specs.Prelude.{Refusal, NoActor, NoSuchPlace, NoSuchStep, NoMemory, Place, Content, content_at, Actor as Words, OpReply, Act, Ran, MOST_STEPS}
+use Rattle.std.specs.Prelude.{◌≡◌, ℕ, ◌<◌, ◌⊎◌, Bool, List, [], ◌∷◌, length, ok_or, Result, Ok, Err, IsOk}
+use Rattle.rd_step.specs.Prelude.{Refusal, NoActor, NoSuchPlace, NoSuchStep, NoMemory, Place, content_at, Act, Ran, MOST_STEPS, numbered, and_then, result_map}
 use Rattle.rd_actor.specs.declared.actors.Act.TheVariants.{Enq as CallsEnq, Deq as CallsDeq, AEnq as CallsArrayEnq, ADeq as CallsArrayDeq, Go as GoesOn, Starve as Starves}
 use Rattle.rd_step.specs.declared.entries.Event.{Event}
-use Rattle.rd_step.specs.declared.entries.Entry.{Entry}
 use Rattle.rd_journal.specs.State.{State, run_of, apply, reply_to, undo, undo_at, roll, back, redo, forward}
 use Rattle.rd_origin.specs.Origins.{origin_in}
 use Rattle.rd_origin.specs.Writers.{last_writer_in}
@@ -37,52 +36,26 @@ event actor act = record { actor = actor; act = act }
 abbrev pub step_counts : State → Reply
 step_counts s = At (length s.live) (length s.undone)
 
--- the answer to an event: the number of its step, the last live one, and the reply of the call that
--- it ends, if it ends one; or its refusal
-abbrev pub event_answer : BookState → Option OpReply → Result State Refusal → Answered
-event_answer b reply (Err refusal) = refused b refusal
-event_answer b reply (Ok s) = record { answer = Ok (Applied (length s.live) reply); state = with_session b s }
+-- the answer to a command that makes something, from which its reply and the state after it follow,
+-- or that is refused and changes nothing
+abbrev pub answer_with : {X : Type 0} → BookState → (X → Reply) → (X → BookState) → Result X Refusal → Answered
+answer_with b reply after (Err refusal) = refused b refusal
+answer_with b reply after (Ok x) = record { answer = Ok (reply x); state = after x }
 
 -- the answer to a move through the run: the numbers of live and undone steps after it, or its
 -- refusal
 abbrev pub move_answer : BookState → Result State Refusal → Answered
-move_answer b (Err refusal) = refused b refusal
-move_answer b (Ok s) = record { answer = Ok (step_counts s); state = with_session b s }
+move_answer b moved = answer_with b step_counts (with_session b) moved
 
--- the answer to setting, dropping or going to a mark: a reply from the state after it, or its
--- refusal
-abbrev pub mark_answer : BookState → (BookState → Reply) → Result BookState Refusal → Answered
-mark_answer b reply (Err refusal) = refused b refusal
-mark_answer b reply (Ok c) = record { answer = Ok (reply c); state = c }
+-- the reply to a query of the run of the live events: what `look` finds there, as `reply` says it,
+-- or a refusal
+abbrev pub query_reply : {X : Type 0} → ℕ → BookState → (X → Reply) → (Ran → Result X Refusal) → Result Reply Refusal
+query_reply R b reply look = result_map reply (and_then (run_of R b.session) look)
 
--- the reply that `f` makes of what was found, or the refusal
-abbrev pub reply_with : {X : Type 0} → (X → Reply) → Result X Refusal → Result Reply Refusal
-reply_with f (Err refusal) = Err refusal
-reply_with f (Ok x) = Ok (f x)
-
--- the content of a place in the last world of a run
-abbrev pub content_in : Place → Result Ran Refusal → Result Content Refusal
-content_in p (Err refusal) = Err refusal
-content_in p (Ok ran) = ok_or (content_at ran.world.at p) NoSuchPlace
-
--- an actor's words in the last world of a run
-abbrev pub words_in : ℕ → Result Ran Refusal → Result Words Refusal
-words_in n (Err refusal) = Err refusal
-words_in n (Ok ran) = ok_or (ran.world.actor n) NoActor
-
--- the entry of this number, from 1
-abbrev pub entry_at : List Entry → ℕ → Result Entry Refusal
-entry_at entries zero = Err (NoSuchStep (length entries))
-entry_at entries (suc k) = ok_or (slice_get entries k) (NoSuchStep (length entries))
-
--- the entry of this number in a run
-abbrev pub entry_in : ℕ → Result Ran Refusal → Result Entry Refusal
-entry_in k (Err refusal) = Err refusal
-entry_in k (Ok ran) = entry_at ran.entries k
-
--- the answer to an event that happens in the last world of the live events, and the state after it
+-- the answer to an event that happens in the last world of the live events, and the state after it:
+-- the number of its step, the last live one, and the reply of the call that it ends, if it ends one
 abbrev pub happens : ℕ → BookState → Event → Answered
-happens R b e = event_answer b (reply_to R b.session e) (apply R b.session e)
+happens R b e = answer_with b (λ s. Applied (length s.live) (reply_to R b.session e)) (with_session b) (apply R b.session e)
 
 -- an event may be answered so and leave this state: as it happens, or, where fewer steps are live
 -- than may be, by NoMemory with nothing changed
@@ -92,7 +65,7 @@ Happened R b e answered = (answered ≡ happens R b e) ⊎ ((length b.session.li
 -- setting or going to a mark may be answered so and leave this state: as it is defined, or, only if
 -- it asks for room, by NoMemory with nothing changed
 abbrev pub IsMade : BookState → (BookState → Reply) → Result BookState Refusal → Type 0 → Answered → Type 0
-IsMade b reply made AsksForRoom answered = (answered ≡ mark_answer b reply made) ⊎ (AsksForRoom × (answered ≡ refused b NoMemory))
+IsMade b reply made AsksForRoom answered = (answered ≡ answer_with b reply (λ c. c) made) ⊎ (AsksForRoom × (answered ≡ refused b NoMemory))
 
 -- a command to set a mark needs no memory: nothing else refuses it, there is room for this many
 -- more names, of which it takes one, and it needs no new entry
@@ -104,7 +77,7 @@ NeedsNoMemory b room _ = ⊥
 pub record IsCompared (R : ℕ) (b : BookState) (one other : MarkName) (answered : Answered) : Type 0 where
   pub said : Result Bool Refusal
   pub compared : AnswersSame R b.session.start (marked_events b.marks one) (marked_events b.marks other) said
-  pub answers : answered ≡ query_answer b (reply_with (λ same. SameIs same) said)
+  pub answers : answered ≡ query_answer b (result_map SameIs said)
 
 -- a command may be answered so, and leave this state
 abbrev pub IsObeyed : ℕ → BookState → Command → Answered → Type 0
@@ -121,16 +94,16 @@ IsObeyed R b (Back n) answered = answered ≡ move_answer b (back b.session n)
 IsObeyed R b Redo answered = answered ≡ move_answer b (redo b.session)
 IsObeyed R b (Forward n) answered = answered ≡ move_answer b (forward b.session n)
 IsObeyed R b (Mark name) answered = IsMade b (λ c. Marked (length c.session.live)) (mark b name) (IsOk (mark b name)) answered
-IsObeyed R b (DropMark name) answered = answered ≡ mark_answer b (λ c. Dropped) (drop_mark b name)
+IsObeyed R b (DropMark name) answered = answered ≡ answer_with b (λ c. Dropped) (λ c. c) (drop_mark b name)
 IsObeyed R b (GotoMark name) answered = IsMade b (λ c. step_counts c.session) (goto_mark b name) (MakesSteps b name) answered
 IsObeyed R b Marks answered = answered ≡ query_answer b (Ok (MarksAre (length b.marks)))
-IsObeyed R b (MarkAt i) answered = answered ≡ query_answer b (reply_with (λ m. MarkIs m.0 m.1) (mark_at b i))
+IsObeyed R b (MarkAt i) answered = answered ≡ query_answer b (result_map (λ m. MarkIs m.0 m.1) (mark_at b i))
 IsObeyed R b (Same one other) answered = IsCompared R b one other answered
-IsObeyed R b (Origin k) answered = answered ≡ query_answer b (reply_with (λ found. OriginIs found) (origin_in k (run_of R b.session)))
-IsObeyed R b (Writer place) answered = answered ≡ query_answer b (reply_with (λ writer. WriterIs writer) (last_writer_in place (run_of R b.session)))
-IsObeyed R b (Show place) answered = answered ≡ query_answer b (reply_with (λ content. ContentIs content) (content_in place (run_of R b.session)))
-IsObeyed R b (Actor n) answered = answered ≡ query_answer b (reply_with (λ words. ActorIs words) (words_in n (run_of R b.session)))
-IsObeyed R b (Step k) answered = answered ≡ query_answer b (reply_with (λ entry. StepIs k entry) (entry_in k (run_of R b.session)))
+IsObeyed R b (Origin k) answered = answered ≡ query_answer b (query_reply R b OriginIs (λ ran. origin_in ran.entries k))
+IsObeyed R b (Writer place) answered = answered ≡ query_answer b (query_reply R b WriterIs (λ ran. last_writer_in ran place))
+IsObeyed R b (Show place) answered = answered ≡ query_answer b (query_reply R b ContentIs (λ ran. ok_or (content_at ran.world.at place) NoSuchPlace))
+IsObeyed R b (Actor n) answered = answered ≡ query_answer b (query_reply R b ActorIs (λ ran. ok_or (ran.world.actor n) NoActor))
+IsObeyed R b (Step k) answered = answered ≡ query_answer b (query_reply R b (StepIs k) (λ ran. ok_or (numbered ran.entries k) (NoSuchStep (length ran.entries))))
 IsObeyed R b Len answered = answered ≡ query_answer b (Ok (step_counts b.session))
 
 -- commands, one after another, may be answered so, and leave this last state

@@ -1,5 +1,6 @@
 -- What is taken is the argument of the call whose put it was.
-use Rattle.std.proofs.Common.{◌≡◌, ℕ, suc, ◌-◌, Bool, true, false, if◌then◌else◌, inl, inr, refl, sym, ◌∙◌, ap, subst, append_assoc, List, ◌∷◌, ◌++◌, length, take, ok_or, Option, Some, None, Ok, Err}
+use Rattle.std.proofs.Common.{◌≡◌, ℕ, suc, ◌-◌, Bool, true, false, if◌then◌else◌, inl, inr, refl, sym, ◌∙◌, ap, subst, append_assoc, List, ◌∷◌, ◌++◌, length, take, ok_or, option_and_then, Option, Some, None, Ok, Err}
+use Rattle.rd_cell.proofs.ResultLemmas.{and_then_ok, ok_or_ok}
 use Rattle.rd_step.specs.Prelude.{Place, Contents, NoSuchStep, NotATake, OpReply, World, Stepped, Ran, run, IsWellFormed}
 use Rattle.rd_step.specs.Lists.{numbered}
 use Rattle.rd_actor.specs.declared.actors.OpReply.TheVariants.{Value as Dequeued}
@@ -14,7 +15,7 @@ use Rattle.rd_step.proofs.RunParts.{middle}
 use Rattle.rd_journal.proofs.Runs.{as_ok-same}
 use Rattle.rd_origin.specs.declared.origins.Origin.{Origin}
 use Rattle.rd_origin.specs.Positions.{last_position}
-use Rattle.rd_origin.specs.Origins.{takes_value, puts_into, calls_by, put_of, call_before, call_of, origin_by, origin_at, origin_among, argument}
+use Rattle.rd_origin.specs.Origins.{takes_value, puts_into, calls_by, put_of, call_of, origin_by, origin_in, argument}
 use Rattle.rd_origin.specs.Laws.{IsHandedOver}
 use Rattle.rd_origin.proofs.Split.{at_seam, before_seam, apart, NonePasses, apart_at_last}
 use Rattle.rd_origin.proofs.Rows.{IsStill}
@@ -49,10 +50,10 @@ named_by xs c p k x true there is h =
       its_call = ap (call_of xs) (sym its_put) ∙ ap (λ (o : Origin). o.call) same;
     }
 
-named_at : (xs : List Entry) (c p k : ℕ) (o : Option Entry) → numbered xs k ≡ o
-    → origin_at xs k (ok_or o (NoSuchStep (length xs))) ≡ Ok (record { call = Some c; put = Some p; take = k }) → Named xs c p k
-named_at xs c p k None there h = cc
-named_at xs c p k (Some x) there h = named_by xs c p k x (takes_value x.reply) there refl h
+named_at : (xs : List Entry) (c p k : ℕ) → origin_in xs k ≡ Ok (record { call = Some c; put = Some p; take = k }) → Named xs c p k
+named_at xs c p k h =
+    and_then_ok (ok_or (numbered xs k) (NoSuchStep (length xs))) _ _ h (λ x there g.
+    named_by xs c p k x (takes_value x.reply) (ok_or_ok (numbered xs k) _ x there) refl g)
 
 -- the cell of the put
 record PutIn (xs : List Entry) (p k : ℕ) (place : Option Place) : Type 0 where
@@ -111,7 +112,7 @@ taken_apart xs c p k n =
     a.whole ∙ ap (λ (l : List Entry). l ++ n.taken ∷ a.behind) b.whole ∙ append_assoc b.before (b.element ∷ b.behind) (n.taken ∷ a.behind) in
     let put_there : numbered xs p ≡ Some b.element = seam_number xs b.before rest b.element p second b.number in
     let its_call : last_position (calls_by b.element.event.actor) (take (p - 1) xs) ≡ Some c =
-    ap (call_before xs p) (sym put_there) ∙ n.its_call in
+    ap (option_and_then (λ (x : Entry). last_position (calls_by x.event.actor) (take (p - 1) xs))) (sym put_there) ∙ n.its_call in
     let last_call : last_position (calls_by b.element.event.actor) b.before ≡ Some c =
     ap (last_position (calls_by b.element.event.actor)) (sym (seam_before xs b.before rest b.element p second b.number)) ∙ its_call in
     let d = apart_at_last (calls_by b.element.event.actor) b.before c last_call in
@@ -169,9 +170,9 @@ argument_taken R w v xs c p k a formed ran =
     argued a.call.event.act p.a.op p.puts still ∙ same_value (value_to_put p.a.op) a.value three.before.at a.cell holds found
 
 pub handed_over : (R : ℕ) (w : World) (es : List Event) (ran : Ran) (c p k : ℕ) → IsWellFormed R w → run R w es ≡ Ok ran
-    → origin_among ran.entries k ≡ Ok (record { call = Some c; put = Some p; take = k }) → IsHandedOver ran.entries c k
+    → origin_in ran.entries k ≡ Ok (record { call = Some c; put = Some p; take = k }) → IsHandedOver ran.entries c k
 handed_over R w es ran c p k formed goes h =
-    let a = taken_apart ran.entries c p k (named_at ran.entries c p k (numbered ran.entries k) refl h) in
+    let a = taken_apart ran.entries c p k (named_at ran.entries c p k h) in
     let all : run R w (events ran.entries) ≡ Ok ran = ap (run R w) (run_events R w es ran goes) ∙ goes in
     record {
       call = a.call;

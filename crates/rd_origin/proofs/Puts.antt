@@ -7,7 +7,8 @@ use Rattle.rd_cell.specs.declared.operations.Operation.TheVariants.{Cas2, Swap}
 use Rattle.rd_cell.specs.Cells.{is_value, is_cell, value_in_cell}
 use Rattle.rd_cell.specs.Contents.{share, after_write, after_write_at, holding}
 use Rattle.rd_cell.specs.Operations.{swaps, wrote_cell}
-use Rattle.rd_cell.specs.Access.{no_access, perform_effect, operate, make, number_made}
+use Rattle.rd_cell.specs.Access.{no_access, operate, make, number_made, effect_at}
+use Rattle.rd_cell.specs.Results.{result_map}
 use Rattle.rd_actor.specs.declared.actors.Act.TheVariants.{Enq, Deq, AEnq, ADeq, Go, Starve}
 use Rattle.rd_actor.specs.declared.actors.Pc.{Pc}
 use Rattle.rd_actor.specs.declared.actors.Pc.TheVariants.{E8, E12, A2}
@@ -55,7 +56,7 @@ cas_puts v s i old new (Some (CellIs c)) at q found h = by (is_cell c old)
     own : (w : Wrote) → (not (is_nothing w) && is_place (CellAt s i) q) ≡ true → CellAt s i ≡ q
     own w e = is_place-true (CellAt s i) q (and_parts (not (is_nothing w)) (is_place (CellAt s i) q) e).1
 
-    by : (b : Bool) → IfOk (perform_effect (CellAt s i) (CellIs c) (swaps b (CellIs new))) (PutsOnly v at E8 q)
+    by : (b : Bool) → IfOk (result_map (effect_at (CellAt s i) (CellIs c)) (swaps b (CellIs new))) (PutsOnly v at E8 q)
     by false = λ e. cc
     by true = λ e.
         subst (λ (r : Place). HoldsOnly v (after_write_at (written (Some (CellAt s i)) (wrote_cell c new)) (share (CellAt s i) (Some (CellIs new))) at) r)

@@ -7,7 +7,8 @@ use Rattle.rd_cell.specs.declared.operations.Operation.TheVariants.{Cas2, Swap}
 use Rattle.rd_cell.specs.Cells.{is_value, is_cell}
 use Rattle.rd_cell.specs.Contents.{half, share, after_write, after_write_at}
 use Rattle.rd_cell.specs.Operations.{swaps, wrote_cell}
-use Rattle.rd_cell.specs.Access.{no_access, perform_effect, operate, make, number_made}
+use Rattle.rd_cell.specs.Access.{no_access, operate, make, number_made, effect_at}
+use Rattle.rd_cell.specs.Results.{result_map}
 use Rattle.rd_actor.specs.declared.actors.Act.TheVariants.{Enq, Deq, AEnq, ADeq, Go, Starve}
 use Rattle.rd_actor.specs.declared.actors.Pc.{Pc}
 use Rattle.rd_actor.specs.declared.actors.Pc.TheVariants.{Idle, E8, E10, E12, A2, Q5, Q6, Q7}
@@ -94,7 +95,7 @@ cas_leaves v s i old new (Some (CellIs c)) at q h = by (is_cell c old)
     wrote : is_nothing (wrote_cell c new) ≡ false
     wrote = cond_both (is_value c.val new.val) WroteIndex WrotePlace (λ (w : Wrote). is_nothing w ≡ false) (λ e. refl) (λ e. refl)
 
-    by : (b : Bool) → IfOk (perform_effect (CellAt s i) (CellIs c) (swaps b (CellIs new))) (LeavesUnless v at E8 q)
+    by : (b : Bool) → IfOk (result_map (effect_at (CellAt s i) (CellIs c)) (swaps b (CellIs new))) (LeavesUnless v at E8 q)
     by false = λ e. h
     by true = λ e. other (wrote_cell c new) wrote q h e
 cas_leaves v s i old new (Some _) at q h = tt

@@ -5,7 +5,8 @@ use Rattle.rd_step.specs.Prelude.{Cell, SegName, Place, CellAt, ValAt, IdxAt, Ar
 use Rattle.rd_cell.specs.declared.operations.Operation.TheVariants.{Cas2, Swap}
 use Rattle.rd_cell.specs.Cells.{is_cell}
 use Rattle.rd_cell.specs.Operations.{swaps}
-use Rattle.rd_cell.specs.Access.{perform_effect, operate}
+use Rattle.rd_cell.specs.Access.{operate, effect_at}
+use Rattle.rd_cell.specs.Results.{result_map}
 use Rattle.rd_cell.proofs.CellLemmas.{is_cell-true}
 use Rattle.rd_actor.specs.declared.actors.Act.TheVariants.{Enq, Deq, AEnq, ADeq, Go, Starve}
 use Rattle.rd_actor.specs.declared.actors.OpReply.TheVariants.{Value as Dequeued}
@@ -48,7 +49,7 @@ cas_takes : (R : ℕ) (at : Contents) (a : Actor) (cell : Place) (u : ℕ) (s : 
 cas_takes R at a cell u s i old new None found k = tt
 cas_takes R at a cell u s i old new (Some (CellIs c)) found k = by (is_cell c old) refl
   where
-    by : (b : Bool) → is_cell c old ≡ b → IfOk (perform_effect (CellAt s i) (CellIs c) (swaps b (CellIs new))) (TakesFrom R at a cell u Q5)
+    by : (b : Bool) → is_cell c old ≡ b → IfOk (result_map (effect_at (CellAt s i) (CellIs c)) (swaps b (CellIs new))) (TakesFrom R at a cell u Q5)
     by false is = λ h e. cc
     by true is =
         λ h e.

@@ -8,7 +8,8 @@ use Rattle.rd_cell.specs.Cells.{is_cell, value_in_cell}
 use Rattle.rd_cell.specs.Places.{some_covers, written}
 use Rattle.rd_cell.specs.Contents.{share, after_write, after_write_at, holding}
 use Rattle.rd_cell.specs.Operations.{swaps, adds, wrote_content, wrote_by}
-use Rattle.rd_cell.specs.Access.{contents_after, effect_at, perform_effect, operate}
+use Rattle.rd_cell.specs.Access.{contents_after, effect_at, operate}
+use Rattle.rd_cell.specs.Results.{result_map}
 use Rattle.rd_cell.proofs.CellLemmas.{is_cell-true}
 use Rattle.rd_cell.proofs.AccessLemmas.{is_cell_at, after_write-outside, after_write-inside, operand-covered}
 use Rattle.rd_cell.proofs.EffectLemmas.{not_written}
@@ -133,13 +134,13 @@ after_effect v p c at r f writes h = by f.writes writes
         ]
 
 kept_effect : (v : ℕ) (p : Place) (c : Content) (at : Contents) (r : Place) (x : Result Effect Refusal) → IfOk x (WritesOnly v) → HasOnly v (at r)
-    → IfOk (perform_effect p c x) (λ did. HasOnly v (contents_after did at r))
+    → IfOk (result_map (effect_at p c) x) (λ did. HasOnly v (contents_after did at r))
 kept_effect v p c at r (Err refusal) w h = tt
 kept_effect v p c at r (Ok f) w h = after_effect v p c at r f w h
 
 -- what is not covered has what it had
 outside_effect : (v : ℕ) (p : Place) (c : Content) (at : Contents) (r : Place) (x : Result Effect Refusal) → covers p r ≡ false → HasOnly v (at r)
-    → IfOk (perform_effect p c x) (λ did. HasOnly v (contents_after did at r))
+    → IfOk (result_map (effect_at p c) x) (λ did. HasOnly v (contents_after did at r))
 outside_effect v p c at r (Err refusal) e h = tt
 outside_effect v p c at r (Ok f) e h =
     subst (HasOnly v)

@@ -1,7 +1,8 @@
 -- Where a value that a step took came from (the table of control points is Morrison and Afek's,
 -- 2013, in our profile).
-use Rattle.std.specs.Prelude.{ℕ, ◌-◌, ◌==◌, ◌&&◌, not, Bool, true, false, if◌then◌else◌, List, length, take, ok_or, Option, Some, None, Result, Ok, Err}
-use Rattle.rd_step.specs.Prelude.{Place, CellAt, WholeOf, is_name, is_place, is_nothing, Refusal, NoSuchStep, NotATake, Act, OpReply, Ran}
+use Rattle.std.specs.Option.{option_map_or}
+use Rattle.std.specs.Prelude.{ℕ, ◌-◌, ◌==◌, ◌&&◌, not, Bool, true, false, if◌then◌else◌, List, length, take, ok_or, option_and_then, Option, Some, None, Result, Ok, Err}
+use Rattle.rd_step.specs.Prelude.{Place, CellAt, WholeOf, is_name, is_place, is_nothing, Refusal, NoSuchStep, NotATake, Act, OpReply, and_then}
 use Rattle.rd_step.specs.Lists.{numbered}
 use Rattle.rd_step.specs.declared.entries.Entry.{Entry}
 use Rattle.rd_actor.specs.declared.actors.Act.TheVariants.{Enq, AEnq, Go, Starve}
@@ -24,8 +25,7 @@ is_call _ = true
 
 -- whether the place of an access, if it has one, is this cell
 abbrev pub is_at : Option Place → Place → Bool
-is_at None cell = false
-is_at (Some p) cell = is_place p cell
+is_at place cell = option_map_or (λ p. is_place p cell) place false
 
 -- whether the place is the whole of a segment, and the cell is cell 0 of that segment
 abbrev pub is_first_cell : Option Place → Place → Bool
@@ -52,38 +52,27 @@ calls_by actor x = (actor == x.event.actor) && is_call x.event.act
 -- the position of the last put into the cell before position k; none if there is no such put, or no
 -- cell
 abbrev pub put_of : List Entry → ℕ → Option Place → Option ℕ
-put_of entries k None = None
-put_of entries k (Some cell) = last_position (puts_into cell) (take (k - 1) entries)
+put_of entries k place = option_and_then (λ cell. last_position (puts_into cell) (take (k - 1) entries)) place
 
 -- the position of the last call before position j by the actor of that position's step; none if
 -- there is no such call or step
-abbrev pub call_before : List Entry → ℕ → Option Entry → Option ℕ
-call_before entries j None = None
-call_before entries j (Some x) = last_position (calls_by x.event.actor) (take (j - 1) entries)
+abbrev pub call_before : List Entry → ℕ → Option ℕ
+call_before entries j = option_and_then (λ x. last_position (calls_by x.event.actor) (take (j - 1) entries)) (numbered entries j)
 
--- the position of the call in which the put at position j was made; none if there is no such
+-- the position of the call in which the put at this position was made; none if there is no such
 -- position or call
 abbrev pub call_of : List Entry → Option ℕ → Option ℕ
-call_of entries None = None
-call_of entries (Some j) = call_before entries j (numbered entries j)
+call_of entries put = option_and_then (call_before entries) put
 
 -- the origin of the value taken at position k: that step, its put and its call
 abbrev pub origin_by : List Entry → ℕ → Option ℕ → Origin
 origin_by entries k put = record { call = call_of entries put; put = put; take = k }
 
--- the origin of the value taken at position k, which has this step, or has none
-abbrev pub origin_at : List Entry → ℕ → Result Entry Refusal → Result Origin Refusal
-origin_at entries k (Err refusal) = Err refusal
-origin_at entries k (Ok x) = if takes_value x.reply then Ok (origin_by entries k (put_of entries k x.place)) else Err NotATake
-
 -- the origin of the value taken at position k, from 1, among these steps, or why there is none
-abbrev pub origin_among : List Entry → ℕ → Result Origin Refusal
-origin_among entries k = origin_at entries k (ok_or (numbered entries k) (NoSuchStep (length entries)))
-
--- the origin of the value taken at position k among the steps of a run, or why there is none
-abbrev pub origin_in : ℕ → Result Ran Refusal → Result Origin Refusal
-origin_in k (Err refusal) = Err refusal
-origin_in k (Ok ran) = origin_among ran.entries k
+abbrev pub origin_in : List Entry → ℕ → Result Origin Refusal
+origin_in entries k =
+    and_then (ok_or (numbered entries k) (NoSuchStep (length entries))) (λ x.
+    if takes_value x.reply then Ok (origin_by entries k (put_of entries k x.place)) else Err NotATake)
 
 -- the argument of an act that calls an enqueue, on either queue; none for any other act
 abbrev pub argument : Act → Option ℕ

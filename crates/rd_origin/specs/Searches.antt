@@ -1,4 +1,5 @@
 -- The kinds of steps that the searches for an origin look for.
+use Rattle.std.specs.Option.{option_map_or}
 use Rattle.std.specs.Prelude.{ℕ, Bool, false, List, Option, Some, None}
 use Rattle.rd_step.specs.Lists.{numbered}
 use Rattle.rd_step.specs.declared.entries.Entry.{Entry}
@@ -13,8 +14,7 @@ is_of_kind (CallBy actor) x = calls_by actor x
 
 -- whether there is a step, and it is of the kind
 abbrev pub is_some_of_kind : StepKind → Option Entry → Bool
-is_some_of_kind kind None = false
-is_some_of_kind kind (Some x) = is_of_kind kind x
+is_some_of_kind kind o = option_map_or (is_of_kind kind) o false
 
 -- whether there is a step of this number, from 1, and it is of the kind
 abbrev pub is_of_kind_at : StepKind → List Entry → ℕ → Bool

@@ -5,14 +5,14 @@ ghost use Rattle.rd_step.specs.declared.entries.Event.{Event};
 ghost use Rattle.rd_step.specs.declared.entries.Entry.{Entry as SomeEntry};
 ghost use Rattle.rd_step.specs.Prelude.{World, Ran, run, IsWellFormed};
 ghost use Rattle.rd_origin.specs.Positions.{last_position, IsGreatest, HasNone};
-ghost use Rattle.rd_origin.specs.Origins.{origin_among};
+ghost use Rattle.rd_origin.specs.Origins.{origin_in};
 ghost use Rattle.rd_origin.specs.Laws.{IsHandedOver};
 
 /// What is taken is what was put: in a run from any well-formed start, if both the call and the put
 /// of a taken value were made in the run, the value is the argument of the call.
 pub fn what_is_taken_is_the_calls_argument()
     ensures { (R : ℕ) (w : World) (es : List Event) (ran : Ran) (c p k : ℕ) → IsWellFormed R w → run R w es ≡ Ok ran
-        → origin_among ran.entries k ≡ Ok (record { call = Some c; put = Some p; take = k }) → IsHandedOver ran.entries c k }
+        → origin_in ran.entries k ≡ Ok (record { call = Some c; put = Some p; take = k }) → IsHandedOver ran.entries c k }
 {}
 
 /// The last position at which a test passes, by which put, call and writer are defined, is the

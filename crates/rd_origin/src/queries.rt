@@ -2,6 +2,7 @@
 //! place.
 
 ghost use Rattle.std.specs.Prelude.{◌≡◌};
+ghost use Rattle.rd_step.specs.Prelude.{and_then};
 ghost use Rattle.rd_journal.specs.Sessions.{state};
 ghost use Rattle.rd_journal.specs.State.{run_of};
 ghost use Rattle.rd_origin.specs.Origins.{takes_value, put_of, call_of, origin_in};
@@ -26,7 +27,7 @@ use rd_journal::{LiveEntries, Session};
 /// `NoSuchStep`, with the number of live steps, if `k` is 0 or above that number; `NotATake` if the
 /// step took no value.
 pub fn origin<const R: usize>(session: &Session<R>, k: u64) -> Result<Origin, Refusal>
-    ensures answer { result ≡ origin_in k (run_of R (state session.now)) }
+    ensures answer { result ≡ and_then (run_of R (state session.now)) (λ ran. origin_in ran.entries k) }
 {
     let taken = session.entry(k)?;
     if !takes_value(taken.reply) {
@@ -77,7 +78,7 @@ pub fn last_writer<const R: usize>(
     session: &Session<R>,
     place: Place,
 ) -> Result<Option<u64>, Refusal>
-    ensures answer { result ≡ last_writer_in place (run_of R (state session.now)) }
+    ensures answer { result ≡ and_then (run_of R (state session.now)) (λ ran. last_writer_in ran place) }
 {
     let Some(_) = session.world().content(place) else {
         return Err(Refusal::NoSuchPlace);

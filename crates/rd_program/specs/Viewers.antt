@@ -1,4 +1,5 @@
 -- Several scripts over one fresh world: what was written, and how the view ended.
+use Rattle.std.specs.Result.{result_map_both}
 use Rattle.std.specs.Prelude.{◌≡◌, ℕ, Bool, List, length, Option, Result, Ok, Err, Vec}
 use Rattle.std.specs.Global.{Global}
 use Rattle.rd_marks.specs.Books.{BookState}
@@ -11,8 +12,7 @@ use Rattle.rd_program.specs.declared.faults.ProgramFault.TheVariants.{View}
 
 -- the program's outcome of a view: the number of recorded calls, or why the view was not written
 abbrev pub view_outcome : Result History ViewFault → Result ℕ ProgramFault
-view_outcome (Ok history) = Ok (length (entries history))
-view_outcome (Err fault) = Err (View fault)
+view_outcome viewed = result_map_both (λ history. length (entries history)) View viewed
 
 -- what became of a view of these scripts over a book in this state, by the program's outcome
 abbrev pub ViewsOver : ℕ → BookState → List (Vec ℕ Global) → Option (List ℕ) → Option (List ℕ) → Bool → Result ℕ ProgramFault → Type 0

@@ -4,7 +4,8 @@ use Rattle.std.proofs.lemmas.Bool.{cases_lt}
 use Rattle.std.proofs.lemmas.Option.{slice_get_past}
 use Rattle.rd_ring.specs.Prelude.{Cell, SegName, Place, CellAt, Wrote, WroteNothing, Content, Name, Number, TailIs, NextIs, ValIs, IdxIs, Operation, Read, ReadValue, ReadSafeAndIndex, Answer, Done, Refusal, is_of, is_of_same_segment, effect, cell_of_halves, operand, operate, Operates}
 use Rattle.rd_cell.specs.Operations.{read_answer}
-use Rattle.rd_cell.specs.Access.{effect_at, perform_effect}
+use Rattle.rd_cell.specs.Access.{effect_at}
+use Rattle.rd_cell.specs.Results.{result_map}
 use Rattle.rd_cell.proofs.AccessLemmas.{operate-old}
 use Rattle.rd_ring.specs.declared.segments.Segment.{Segment}
 use Rattle.rd_ring.specs.Segments.{part, OperatesAt, RefusesAt}
@@ -25,7 +26,7 @@ pub reads_at : {R : ℕ} (seg : Segment R) (p : Place) (op : Operation) (c : Con
     → Operates (is_of_same_segment p) p op done (part seg) (part seg)
 reads_at seg p op c a done found answers notes = record {
   performed = effect_at p c (record { answer = a; writes = None });
-  performs = ap (operate p op) found ∙ ap (perform_effect p c) (read_effect op c a answers);
+  performs = ap (operate p op) found ∙ ap (result_map (effect_at p c)) (read_effect op c a answers);
   keeps = sym notes;
   leaves = λ q h. refl;
 }

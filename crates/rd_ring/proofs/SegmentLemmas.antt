@@ -6,7 +6,8 @@ use Rattle.rd_ring.specs.Prelude.{COUNTER_END, Cell, SegName, Place, Head, Tail,
 use Rattle.rd_cell.specs.Cells.{is_value}
 use Rattle.rd_cell.specs.Contents.{after_write_at}
 use Rattle.rd_cell.specs.Operations.{swaps}
-use Rattle.rd_cell.specs.Access.{effect_at, perform_effect}
+use Rattle.rd_cell.specs.Access.{effect_at}
+use Rattle.rd_cell.specs.Results.{result_map}
 use Rattle.rd_cell.proofs.CellLemmas.{is_value-true, is_cell-true, is_cell_same}
 use Rattle.rd_cell.proofs.ListLemmas.{slice_get-set_same, slice_get-set_other}
 use Rattle.rd_ring.specs.declared.segments.Segment.{Segment}
@@ -92,7 +93,7 @@ wrote_at : {R : ℕ} (old new : Segment R) (place : SegName → Place) (op : Ope
 wrote_at old new place op found leaves answer all there does puts = record {
   named = λ s. record {
     performed = effect_at (place s) found (record { answer = answer; writes = Some leaves });
-    performs = ap (operate (place s) op) (there s) ∙ ap (perform_effect (place s) found) does;
+    performs = ap (operate (place s) op) (there s) ∙ ap (result_map (effect_at (place s) found)) does;
     keeps = λ i. record { place = Some (place s); old = Some found; answer = answer; wrote = all i };
     leaves = λ q h.
         puts.named s q h
@@ -107,7 +108,7 @@ read_at : {R : ℕ} (old new : Segment R) (place : SegName → Place) (op : Oper
 read_at old new place op found answer there does same = record {
   named = λ s. record {
     performed = effect_at (place s) found (record { answer = answer; writes = None });
-    performs = ap (operate (place s) op) (there s) ∙ ap (perform_effect (place s) found) does;
+    performs = ap (operate (place s) op) (there s) ∙ ap (result_map (effect_at (place s) found)) does;
     keeps = refl;
     leaves = λ q h. same q;
   };
@@ -123,7 +124,7 @@ head_added old new within below puts =
 
 pub head_ended : {R : ℕ} (old : Segment R) → old.head ≡ COUNTER_END → RefusesAt Head Add old CounterEnd
 head_ended old ended = λ s.
-    ap (perform_effect (Head s) (Number old.head)) (cond-false (nat_lt old.head COUNTER_END) _ _ (le-ltb old.head COUNTER_END (omega arith)))
+    ap (result_map (effect_at (Head s) (Number old.head))) (cond-false (nat_lt old.head COUNTER_END) _ _ (le-ltb old.head COUNTER_END (omega arith)))
 
 pub tail_added : {R : ℕ} (old new : Segment R) → old.tail ≤ COUNTER_END → old.tail ≢ COUNTER_END
     → RestoresAt Tail (TailIs old.closed (old.tail + 1)) old new
@@ -134,7 +135,7 @@ tail_added old new within below puts =
 
 pub tail_ended : {R : ℕ} (old : Segment R) → old.tail ≡ COUNTER_END → RefusesAt Tail Add old CounterEnd
 tail_ended old ended = λ s.
-    ap (perform_effect (Tail s) (TailIs old.closed old.tail)) (cond-false (nat_lt old.tail COUNTER_END) _ _ (le-ltb old.tail COUNTER_END (omega arith)))
+    ap (result_map (effect_at (Tail s) (TailIs old.closed old.tail))) (cond-false (nat_lt old.tail COUNTER_END) _ _ (le-ltb old.tail COUNTER_END (omega arith)))
 
 -- Compare-and-swaps
 
@@ -182,7 +183,7 @@ cell_won old new i x from to read is puts = record {
     performed = effect_at (CellAt s i) (CellIs x) (record { answer = Won; writes = Some (CellIs to) });
     performs =
         ap (operate (CellAt s i) (Cas2 from to)) (cell_found old s i x read)
-        ∙ ap (λ (b : Bool). perform_effect (CellAt s i) (CellIs x) (swaps b (CellIs to))) (is_cell_same x from is);
+        ∙ ap (λ (b : Bool). result_map (effect_at (CellAt s i) (CellIs x)) (swaps b (CellIs to))) (is_cell_same x from is);
     keeps = refl;
     leaves = λ q h.
         cond_both (is_value x.val to.val) WroteIndex WrotePlace

@@ -26,3 +26,4 @@ pub use Rattle.rd_cell.specs.Cells.{is_cell, new_cell}
 pub use Rattle.rd_cell.specs.Contents.{Contents, after_write, half, cell_of_halves, share, restore, operand, can_hold, is_there, content_at, fresh_segment, holding}
 pub use Rattle.rd_cell.specs.Operations.{Effect, effect, wrote_cell, wrote_content, wrote_by}
 pub use Rattle.rd_cell.specs.Access.{Performed, contents_after, done_of, number_made, operate, make, perform, HasEffect, Operates, OperatesOn, Makes, Restores, RefusesMaking, everywhere}
+pub use Rattle.rd_cell.specs.Results.{and_then, result_map}

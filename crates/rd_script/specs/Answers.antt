@@ -1,5 +1,6 @@
 -- What a line is answered, and what state it leaves: the answer to the command that it spells, or
 -- its fault.
+use Rattle.std.specs.Result.{result_map_both}
 use Rattle.std.specs.Prelude.{◌≡◌, ℕ, List, Result, Ok, Err}
 use Rattle.rd_step.specs.Prelude.{Refusal}
 use Rattle.rd_marks.specs.declared.commands.Command.{Command}
@@ -18,8 +19,7 @@ pub record Answered : Type 0 where
 
 -- the answer to a line, by what the book answers to its command
 abbrev pub line_answer : Result Reply Refusal → LineAnswer
-line_answer (Ok reply) = Ok reply
-line_answer (Err refusal) = Err (Refused refusal)
+line_answer answer = result_map_both (λ reply. reply) Refused answer
 
 -- a line that spells this command, or has this fault, may be answered so and leave this state; a
 -- fault leaves the state as it is

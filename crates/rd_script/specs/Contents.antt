@@ -1,4 +1,5 @@
 -- The words that spell segments' names, and the contents of places.
+use Rattle.std.specs.Option.{option_map_or}
 use Rattle.std.specs.Prelude.{ℕ, Bool, true, false, List, ◌++◌, codes, Option, Some, None}
 use Rattle.std.specs.Fmt.{decimal}
 use Rattle.rd_step.specs.Prelude.{SegName, Content, Cell, ArrSlot}
@@ -11,13 +12,11 @@ name_words s = decimal s.maker ++ codes "." ++ decimal s.n
 
 -- the words of a value, or `none`
 abbrev pub value_words : Option ℕ → List ℕ
-value_words None = codes "none"
-value_words (Some x) = decimal x
+value_words value = option_map_or decimal value (codes "none")
 
 -- the words of the name of the segment that follows, or `none`
 abbrev pub next_words : Option SegName → List ℕ
-next_words None = codes "none"
-next_words (Some s) = name_words s
+next_words next = option_map_or name_words next (codes "none")
 
 -- the word for whether a ring is closed for enqueues
 abbrev pub tail_word : Bool → List ℕ

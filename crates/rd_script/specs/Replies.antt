@@ -1,4 +1,5 @@
 -- The text of each answer: one line, ended by a line feed.
+use Rattle.std.specs.Option.{option_map_or}
 use Rattle.std.specs.Prelude.{ℕ, List, [], ◌∷◌, ◌++◌, codes, Option, Some, None, Result, Ok, Err}
 use Rattle.std.specs.Fmt.{decimal}
 use Rattle.rd_step.specs.Prelude.{OpReply}
@@ -15,13 +16,11 @@ use Rattle.rd_script.specs.Refusals.{any_words}
 
 -- the words of what a call replied, after a space, if the event ended one; else none
 abbrev pub event_reply : Option OpReply → List ℕ
-event_reply None = []
-event_reply (Some reply) = codes " " ++ reply_word reply
+event_reply o = option_map_or (λ reply. codes " " ++ reply_word reply) o []
 
 -- the words of a step's number, or a hyphen if there is no such step
 abbrev pub step_number : Option ℕ → List ℕ
-step_number None = codes "-"
-step_number (Some k) = decimal k
+step_number o = option_map_or decimal o (codes "-")
 
 -- the words of an origin: the steps that called, put and took a value
 abbrev pub origin_words : OriginOf → List ℕ

@@ -1,5 +1,6 @@
 -- The words of a step: its event, the place of its access, what it wrote of it, what it answered,
 -- and what its call replied.
+use Rattle.std.specs.Option.{option_map_or}
 use Rattle.std.specs.Prelude.{ℕ, List, ◌++◌, codes, Option, Some, None}
 use Rattle.rd_cell.specs.declared.operations.Answer.TheVariants.{Nothing, Found, Value as ValueRead, SafeAndIndex, WasClosed, Won, Lost, Made}
 use Rattle.rd_actor.specs.declared.actors.OpReply.TheVariants.{Enqueued, Value, Empty}
@@ -12,8 +13,7 @@ use Rattle.rd_script.specs.Spelling.{place_words}
 
 -- the words of a step's place, or a hyphen if it has none
 abbrev pub step_place : Option Place → List ℕ
-step_place None = codes "-"
-step_place (Some place) = place_words place
+step_place o = option_map_or place_words o (codes "-")
 
 -- the word for how a step touched its place, if it has one
 abbrev pub access_word : Option Place → Wrote → List ℕ
@@ -41,8 +41,7 @@ reply_word Empty = codes "empty"
 
 -- the words of what a call replied, if the step ended one, else a hyphen
 abbrev pub step_reply : Option OpReply → List ℕ
-step_reply None = codes "-"
-step_reply (Some reply) = reply_word reply
+step_reply o = option_map_or reply_word o (codes "-")
 
 -- the words of what the access of a step did
 abbrev pub done_words : Entry → List ℕ

@@ -1,5 +1,6 @@
 -- The makers' lists of segments, as one map from the segments' places to contents.
-use Rattle.std.specs.Prelude.{◌≡◌, ℕ, ◌<◌, ◌++◌, ◌∷◌, [], List, Vec, Option, Some, None, slice_get, if◌then◌else◌, length}
+use Rattle.std.specs.Option.{option_map_or}
+use Rattle.std.specs.Prelude.{◌≡◌, ℕ, ◌<◌, ◌++◌, ◌∷◌, [], List, Vec, Option, Some, None, slice_get, if◌then◌else◌, length, option_and_then}
 use Rattle.std.specs.declared.alloc.Global.{Global}
 use Rattle.rd_ring.specs.Prelude.{MOST_SEGMENTS, SegName, Place, Head, Tail, Next, ValAt, IdxAt, Content, Contents, root, is_name, fresh_segment, holding}
 use Rattle.rd_ring.specs.declared.segments.Segment.{Segment}
@@ -11,8 +12,7 @@ ListOf R = Vec (Segment R) Global
 
 -- the element n, from 0, of a maker's list; none if there is no list
 abbrev pub by_number : {X : Type 0} → Option (Vec X Global) → ℕ → Option X
-by_number None n = None
-by_number (Some list) n = slice_get list.items n
+by_number o n = option_and_then (λ list. slice_get list.items n) o
 
 -- the element of this name in the makers' lists, if there is one
 abbrev pub by_name : {X : Type 0} → List (Vec X Global) → SegName → Option X
@@ -20,8 +20,7 @@ by_name makers s = by_number (slice_get makers s.maker) s.n
 
 -- the content of a segment's place, or none if there is no segment
 abbrev pub part_of : {R : ℕ} → Option (Segment R) → Place → Option Content
-part_of None p = None
-part_of (Some s) p = part s p
+part_of o p = option_and_then (λ s. part s p) o
 
 -- the contents of the places of all segments, where `segment` gives the contents of the segment of
 -- each name
@@ -39,8 +38,7 @@ segments_of makers = segments_by (λ n. part_of (by_name makers n))
 
 -- how many segments there are in a list, if there is one
 abbrev pub count_in : {X : Type 0} → Option (Vec X Global) → ℕ
-count_in None = 0
-count_in (Some list) = length list.items
+count_in o = option_map_or (λ list. length list.items) o 0
 
 -- how many segments this maker has in the lists
 abbrev pub count : {X : Type 0} → List (Vec X Global) → ℕ → ℕ

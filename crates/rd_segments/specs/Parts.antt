@@ -1,5 +1,5 @@
 -- A space, as it is put together from parts.
-use Rattle.std.specs.Prelude.{◌≡◌, ℕ, Bool, List, Vec, Option, Some, None, slice_get}
+use Rattle.std.specs.Prelude.{◌≡◌, ℕ, Bool, List, Vec, Option, Some, None, slice_get, option_and_then}
 use Rattle.std.specs.List.{list_all}
 use Rattle.std.specs.declared.alloc.Global.{Global}
 use Rattle.rd_ring.specs.Prelude.{SegName, Place, Contents}
@@ -15,8 +15,7 @@ PartsOf R = Vec (SegmentParts R) Global
 
 -- the content of each place of a segment with these words, or none if there is no segment
 abbrev pub part_of_parts : {R : ℕ} → Option (SegmentParts R) → Contents
-part_of_parts None p = None
-part_of_parts (Some s) p = part_from s p
+part_of_parts o p = option_and_then (λ s. part_from s p) o
 
 -- the content of each place of a space that is put together from these parts
 abbrev pub contents_of_parts : {R : ℕ} → List (PartsOf R) → SegName → SegName → ArrayParts → Contents

@@ -1,12 +1,12 @@
 -- Room: how many segments of each maker can be made before its list has to grow.
+use Rattle.std.specs.Option.{option_map_or}
 use Rattle.std.specs.Prelude.{ℕ, ◌-◌, ◌==◌, ◌&&◌, Bool, true, List, Option, Some, None, slice_get, if◌then◌else◌, vec_len, vec_capacity}
 use Rattle.rd_ring.specs.Prelude.{Place, WholeOf, Content}
 use Rattle.rd_segments.specs.Lists.{ListOf}
 
 -- how many more segments a list has room for, if there is one
 abbrev pub spare_in : {R : ℕ} → Option (ListOf R) → ℕ
-spare_in None = 0
-spare_in (Some list) = vec_capacity list - vec_len list
+spare_in o = option_map_or (λ list. vec_capacity list - vec_len list) o 0
 
 -- how many more segments this maker's list has room for
 abbrev pub spare : {R : ℕ} → List (ListOf R) → ℕ → ℕ

@@ -5,16 +5,18 @@ use Rattle.std.proofs.lemmas.Bool.{cases_eq, cases_Bool, cond-true, cond-false, 
 use Rattle.std.proofs.lemmas.Result.{IfOk-at_ok}
 use mathlib.Core.Path.{fun_ext}
 use Rattle.rd_ring.specs.Prelude.{MOST_SEGMENTS, SegName, Place, Head, Tail, Next, CellAt, ValAt, IdxAt, WholeOf, Content, Access, NoPlace, At, Make, Operation, Refusal, is_of, covers, written, wrote_by, share, Contents, after_write, operand, restore, is_there, holding, Effect, effect, Performed, contents_after, operate, make, perform}
-use Rattle.rd_cell.specs.Access.{effect_at, number_made_from, number_made, perform_effect}
+use Rattle.rd_cell.specs.Access.{effect_at, number_made_from, number_made}
+use Rattle.rd_cell.specs.Results.{result_map}
 use Rattle.rd_cell.proofs.PlaceLemmas.{is_name-true}
 use Rattle.rd_cell.proofs.AccessLemmas.{is_cell_at, after_write-outside, operand-covered}
 use Rattle.rd_cell.proofs.EffectLemmas.{not_written}
+use Rattle.rd_cell.proofs.ResultLemmas.{and_then_ok, result_map_ok}
 use Rattle.rd_actor.specs.declared.actors.Actor.{Actor}
 use Rattle.rd_actor.specs.Table.{after}
 use Rattle.rd_step.specs.World.{World}
 use Rattle.rd_step.specs.declared.entries.Event.{Event}
 use Rattle.rd_step.specs.Step.{Stepped, with_actor, step, unstep}
-use Rattle.rd_step.specs.Run.{Ran, run_preceded_by, run_from_step, run}
+use Rattle.rd_step.specs.Run.{Ran, preceded_by, run}
 use Rattle.rd_step.specs.WellFormed.{Presence, belongs, IsWellFormed}
 use Rattle.rd_step.proofs.Halves.{nothing_there, bare_cell}
 use Rattle.rd_step.proofs.Steps.{took, with_actor-same, with_actor-other}
@@ -33,7 +35,7 @@ back-effect p c e at bare h q =
     (λ k. sym (operand-covered p at c q h (bare q) k))
     (λ k. after_write-outside (written (Some p) (wrote_by c e.writes)) (share p e.writes) at q (not_written (Some p) (wrote_by c e.writes) q k))
 
-back-result : (p : Place) (c : Content) (r : Result Effect Refusal) (at : Contents) → Bare at → operand at p ≡ Some c → IfOk (perform_effect p c r) (PutsBack at)
+back-result : (p : Place) (c : Content) (r : Result Effect Refusal) (at : Contents) → Bare at → operand at p ≡ Some c → IfOk (result_map (effect_at p c) r) (PutsBack at)
 back-result p c (Err x) at bare h = tt
 back-result p c (Ok e) at bare h = back-effect p c e at bare h
 
@@ -116,20 +118,12 @@ pub record RanOn (R : ℕ) (w : World) (e : Event) (es : List Event) (r : Ran) :
   pub goes_on : run R one.world es ≡ Ok rest
   pub joins : record { world = rest.world; entries = one.entry ∷ rest.entries } ≡ r
 
-ran_rest : (R : ℕ) (w : World) (e : Event) (es : List Event) (r : Ran) (s : Stepped) (o : Result Ran Refusal) → step R w e ≡ Ok s
-    → run R s.world es ≡ o → run_preceded_by s.entry o ≡ Ok r → RanOn R w e es r
-ran_rest R w e es r s (Err x) h k l = cc
-ran_rest R w e es r s (Ok rest) h k l = record { one = s; goes = h; rest = rest; goes_on = k; joins = cc }
-
-ran_step : (R : ℕ) (w : World) (e : Event) (es : List Event) (r : Ran) (o : Result Stepped Refusal) → step R w e ≡ o
-    → run_from_step (λ v. run R v es) o ≡ Ok r → RanOn R w e es r
-ran_step R w e es r (Err x) h k = cc
-ran_step R w e es r (Ok s) h k = ran_rest R w e es r s (run R s.world es) h refl k
-
 pub ran_on : (R : ℕ) (w : World) (e : Event) (es : List Event) (r : Ran) → run R w (e ∷ es) ≡ Ok r → RanOn R w e es r
-ran_on R w e es r h = ran_step R w e es r (step R w e) refl h
+ran_on R w e es r h =
+    and_then_ok (step R w e) _ r h (λ s goes k.
+    result_map_ok (run R s.world es) (preceded_by s.entry) r k (λ rest on joins. record { one = s; goes = goes; rest = rest; goes_on = on; joins = joins }))
 
 -- a step and a run after it make a run
 pub run-cons : (R : ℕ) (w : World) (e : Event) (es : List Event) (s : Stepped) (r : Ran) → step R w e ≡ Ok s → run R s.world es ≡ Ok r
     → run R w (e ∷ es) ≡ Ok (record { world = r.world; entries = s.entry ∷ r.entries })
-run-cons R w e es s r h k = ap (run_from_step (λ v. run R v es)) h ∙ ap (run_preceded_by s.entry) k
+run-cons R w e es s r h k = grind arith

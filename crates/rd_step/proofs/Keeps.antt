@@ -4,7 +4,8 @@ use Rattle.std.proofs.lemmas.Bool.{cases_eq, cases_Bool, cond_both}
 use Rattle.std.proofs.lemmas.Result.{IfOk-at_ok}
 use mathlib.Core.Path.{fun_ext}
 use Rattle.rd_ring.specs.Prelude.{SegName, Place, Head, Content, Access, NoPlace, At, Make, Nothing, Made, Operation, Refusal, MOST_SEGMENTS, root, some_covers, written, share, wrote_content, wrote_by, operand, contents_after, Contents, is_there, Effect, effect, Performed, number_made, operate, make, perform}
-use Rattle.rd_cell.specs.Access.{effect_at, perform_effect}
+use Rattle.rd_cell.specs.Access.{effect_at}
+use Rattle.rd_cell.specs.Results.{result_map}
 use Rattle.rd_cell.specs.Contents.{after_write_at}
 use Rattle.rd_cell.proofs.PlaceLemmas.{is_name-refl, written-covers}
 use Rattle.rd_cell.proofs.AccessLemmas.{after_write-outside, after_write-inside, after-is_some}
@@ -120,7 +121,7 @@ Keeps R w e a did = IsWellFormed R (step_outcome w e a did (after R a e.act did.
 
 keeps_done : (R : ℕ) (w : World) (e : Event) (a : Actor) (p : Place) (op : Operation) (c : Content) (r : Result Effect Refusal)
     → IsWellFormed R w → w.actor e.actor ≡ Some a → need R a e.act ≡ Ok (At p op) → record_fits R (is_there w.at) a ≡ true → operand w.at p ≡ Some c
-    → IfOk r (EffectFits R (is_there w.at) p op) → IfOk (perform_effect p c r) (Keeps R w e a)
+    → IfOk r (EffectFits R (is_there w.at) p op) → IfOk (result_map (effect_at p c) r) (Keeps R w e a)
 keeps_done R w e a p op c (Err refusal) formed has needs fits found good = tt
 keeps_done R w e a p op c (Ok f) formed has needs fits found good =
     keeps_by R w e.actor a (after R a e.act f.answer).0 p c f formed has found good.0

@@ -3,7 +3,8 @@ use Rattle.std.proofs.Common.{◌≡◌, ℕ, nat_lt, refl, sym, ◌∙◌, ap, 
 use Rattle.std.proofs.lemmas.Bool.{cond_both}
 use Rattle.std.proofs.lemmas.Result.{IfOk-at_ok}
 use Rattle.rd_ring.specs.Prelude.{MOST_SEGMENTS, SegName, Place, WholeOf, Content, Access, NoPlace, At, Make, Operation, Refusal, Contents, operand, Effect, effect, Performed, number_made, operate, make, perform}
-use Rattle.rd_cell.specs.Access.{perform_effect}
+use Rattle.rd_cell.specs.Access.{effect_at}
+use Rattle.rd_cell.specs.Results.{result_map}
 use Rattle.rd_step.specs.World.{World}
 use Rattle.rd_step.specs.declared.entries.Event.{Event}
 use Rattle.rd_step.specs.Step.{Stepped, step}
@@ -15,7 +16,7 @@ use Rattle.rd_step.proofs.Steps.{took}
 abbrev NotesOld : Contents → Performed → Type 0
 NotesOld at did = (p : Place) → did.place ≡ Some p → operand at p ≡ did.old
 
-notes-effect : (p : Place) (c : Content) (r : Result Effect Refusal) (at : Contents) → operand at p ≡ Some c → IfOk (perform_effect p c r) (NotesOld at)
+notes-effect : (p : Place) (c : Content) (r : Result Effect Refusal) (at : Contents) → operand at p ≡ Some c → IfOk (result_map (effect_at p c) r) (NotesOld at)
 notes-effect p c (Err x) at h = tt
 notes-effect p c (Ok e) at h = λ q k. let same : p ≡ q = cc in ap (operand at) (sym same) ∙ h
 

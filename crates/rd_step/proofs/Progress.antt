@@ -1,15 +1,17 @@
 -- Progress: what an actor of a well-formed world asks for suits what is there, and the answer leads
 -- it to another control point.
-use Rattle.std.proofs.Common.{◌≡◌, ◌≢◌, ℕ, ◌+◌, ◌%◌, ◌<◌, ◌≤◌, Bool, true, false, not, ◌==◌, ◌&&◌, ◌||◌, if◌then◌else◌, nat_lt, nat_le, refl, sym, ◌∙◌, ap, subst, arith, Option, Some, None, is_some, is_none, Result, Ok, Err, IfOk, lt-ltb}
+use Rattle.std.proofs.Common.{◌≡◌, ◌≢◌, ℕ, ◌+◌, ◌%◌, ◌<◌, ◌≤◌, Bool, true, false, not, ◌==◌, ◌&&◌, ◌||◌, if◌then◌else◌, nat_lt, nat_le, refl, sym, ◌∙◌, ap, subst, arith, Option, Some, None, is_some, is_none, ok_or, Result, Ok, Err, IfOk, lt-ltb}
 use Rattle.std.proofs.lemmas.Bool.{cond_both, and_parts, and_from}
 use Rattle.std.proofs.lemmas.Result.{IfOk-at_ok}
 use mathlib.Core.Path.{fun_ext}
 use Rattle.rd_ring.specs.Prelude.{SLOTS, MOST_SEGMENTS, COUNTER_END, Cell, SegName, Place, QHead, QTail, Head, Tail, Next, CellAt, ValAt, IdxAt, Wrote, WroteNothing, ArrHead, ArrTail, ArrCell, ArrSlot, Empty as NobodyYet, Top, Held, Content, Name, Number, TailIs, NextIs, CellIs, ValIs, IdxIs, Slot, Operation, Read, ReadValue, ReadSafeAndIndex, Add, AddArray, Close, CasName, CasNext, CasTail, Cas2, Swap, Found, Won, Lost, Nothing, Made, Access, NoPlace, At, Make, Refusal, NoActor, CounterEnd, ArrayEnd, NoSuchPlace, is_name, is_cell, some_covers, is_nothing, written, Contents, is_there, operand, Effect, effect, Performed, number_made, operate, make, perform}
 use Rattle.rd_cell.specs.Cells.{is_bit}
 use Rattle.rd_cell.specs.Operations.{swaps, adds}
-use Rattle.rd_cell.specs.Access.{perform_effect}
+use Rattle.rd_cell.specs.Access.{effect_at}
+use Rattle.rd_cell.specs.Results.{result_map}
 use Rattle.rd_cell.proofs.AccessLemmas.{after_write-outside}
 use Rattle.rd_cell.proofs.PlaceLemmas.{written-covers}
+use Rattle.rd_cell.proofs.ResultLemmas.{and_then_err, ok_or_ok}
 use Rattle.rd_actor.specs.declared.actors.Act.{Act}
 use Rattle.rd_actor.specs.declared.actors.Act.TheVariants.{Enq, Deq, AEnq, ADeq, Go, Starve}
 use Rattle.rd_actor.specs.declared.actors.Actor.{Actor}
@@ -22,7 +24,7 @@ use Rattle.rd_actor.specs.Table.{need, need_at, need_call, need_choice, with_pc,
 use Rattle.rd_actor.specs.Words.{pass_fits, array_enqueues, array_dequeues, words_fit_at}
 use Rattle.rd_step.specs.World.{World}
 use Rattle.rd_step.specs.declared.entries.Event.{Event}
-use Rattle.rd_step.specs.Step.{Stepped, step, step_of_actor, step_of_need, step_of_access}
+use Rattle.rd_step.specs.Step.{Stepped, step}
 use Rattle.rd_step.specs.Laws.{IsStepRefusal, SuitsContent, MovesOn, ChangesOnly}
 use Rattle.rd_step.specs.WellFormed.{Presence, content_fits, record_fits, actor_fits, IsWellFormed}
 use Rattle.rd_step.proofs.Halves.{has_place, has_operand}
@@ -233,7 +235,7 @@ abbrev Ends : ℕ → Actor → Act → Result Performed Refusal → Type 0
 Ends R a act (Ok did) = (after R a act did.answer).0.pc ≢ a.pc
 Ends R a act (Err refusal) = IsStepRefusal refusal
 
-goes_ends : (R : ℕ) (a : Actor) (p : Place) (c : Content) (r : Result Effect Refusal) → Goes R a.pc a r → Ends R a Go (perform_effect p c r)
+goes_ends : (R : ℕ) (a : Actor) (p : Place) (c : Content) (r : Result Effect Refusal) → Goes R a.pc a r → Ends R a Go (result_map (effect_at p c) r)
 goes_ends R a p c (Ok e) h = h
 goes_ends R a p c (Err CounterEnd) h = tt
 goes_ends R a p c (Err ArrayEnd) h = tt
@@ -326,20 +328,17 @@ need_refused R a act refusal h = refused (need R a act) (cases act) h
 
 -- a step is refused in its cases alone
 pub refused_in_cases : (R : ℕ) (w : World) (e : Event) (refusal : Refusal) → 1 ≤ R → IsWellFormed R w → step R w e ≡ Err refusal → IsStepRefusal refusal
-refused_in_cases R w e refusal some formed h = by_actor (w.actor e.actor) refl h
+refused_in_cases R w e refusal some formed h =
+    and_then_err (ok_or (w.actor e.actor) NoActor) _ refusal h (no_actor (w.actor e.actor)) (λ a there h1.
+    let has = ok_or_ok (w.actor e.actor) NoActor a there in
+    and_then_err (need R a e.act) _ refusal h1 (need_refused R a e.act refusal) (λ x needs h2.
+    and_then_err (perform R e.actor w.at x) _ refusal h2
+    (λ does. subst (Ends R a e.act) does (access_ends R e.actor w a e.act x some formed (fits_here R w e.actor a formed has) needs))
+    (λ did does h3. cc)))
   where
-    by_access : (a : Actor) (r : Result Performed Refusal) → Ends R a e.act r → step_of_access R w e a r ≡ Err refusal → IsStepRefusal refusal
-    by_access a (Ok did) k l = cc
-    by_access a (Err y) k l = let same : y ≡ refusal = cc in subst (λ (z : Refusal). IsStepRefusal z) same k
-
-    by_need : (a : Actor) → w.actor e.actor ≡ Some a → (r : Result Access Refusal) → need R a e.act ≡ r → step_of_need R w e a r ≡ Err refusal → IsStepRefusal refusal
-    by_need a has (Err y) k l = let same : y ≡ refusal = cc in need_refused R a e.act refusal (k ∙ ap Err same)
-    by_need a has (Ok x) k l =
-        by_access a (perform R e.actor w.at x) (access_ends R e.actor w a e.act x some formed (fits_here R w e.actor a formed has) k) l
-
-    by_actor : (o : Option Actor) → w.actor e.actor ≡ o → step_of_actor R w e o ≡ Err refusal → IsStepRefusal refusal
-    by_actor None has l = let same : NoActor ≡ refusal = cc in subst (λ (z : Refusal). IsStepRefusal z) same tt
-    by_actor (Some a) has l = by_need a has (need R a e.act) refl l
+    no_actor : (o : Option Actor) → ok_or o NoActor ≡ Err refusal → IsStepRefusal refusal
+    no_actor None l = let same : NoActor ≡ refusal = cc in subst (λ (z : Refusal). IsStepRefusal z) same tt
+    no_actor (Some a) l = cc
 
 -- what is asked for suits what is there
 pub suits_content : (R : ℕ) (w : World) (n : ℕ) (a : Actor) (act : Act) (p : Place) (op : Operation) → 1 ≤ R → IsWellFormed R w

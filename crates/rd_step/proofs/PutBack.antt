@@ -4,7 +4,8 @@ use Rattle.std.proofs.Common.{◌≡◌, ◌≢◌, ℕ, zero, suc, ◌+◌, ◌
 use Rattle.std.proofs.lemmas.Bool.{cond_both, cond-false, and_right, ne_eqb, eqb-false, both_ways, false_from_ne_true, not-true}
 use Rattle.std.proofs.lemmas.Result.{IfOk-at_ok}
 use Rattle.rd_ring.specs.Prelude.{MOST_SEGMENTS, operand, SegName, Place, Head, Content, Access, NoPlace, At, Make, Operation, Refusal, is_of, Contents, is_there, holding, Effect, effect, Performed, contents_after, number_made, operate, make, perform}
-use Rattle.rd_cell.specs.Access.{perform_effect}
+use Rattle.rd_cell.specs.Access.{effect_at}
+use Rattle.rd_cell.specs.Results.{result_map}
 use Rattle.rd_cell.proofs.PlaceLemmas.{is_name-refl}
 use Rattle.rd_cell.proofs.AccessLemmas.{is_cell_at, keeps-operate, keeps-perform}
 use Rattle.rd_actor.specs.declared.actors.Actor.{Actor}
@@ -77,7 +78,7 @@ abbrev CanGoBack : ℕ → ℕ → Contents → Contents → Performed → Type 
 CanGoBack R n before at did = GoesOn R n (contents_after did before) at → CanPutBack at did.place did.old
 
 can-effect : (R n : ℕ) (w : World) (at : Contents) (p : Place) (c : Content) (r : Result Effect Refusal) → operand w.at p ≡ Some c
-    → content_fits R (is_there w.at) p c ≡ true → ((q : Place) → IfOk (perform_effect p c r) (StaysAt w.at q)) → IfOk (perform_effect p c r) (CanGoBack R n w.at at)
+    → content_fits R (is_there w.at) p c ≡ true → ((q : Place) → IfOk (result_map (effect_at p c) r) (StaysAt w.at q)) → IfOk (result_map (effect_at p c) r) (CanGoBack R n w.at at)
 can-effect R n w at p c (Err x) found fits stays = tt
 can-effect R n w at p c (Ok e) found fits stays = λ on. (
   operand_stays R (is_there at) w.at at p c found on.fits (λ q there. on.stays q (stays q ∙ there)),

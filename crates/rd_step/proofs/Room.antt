@@ -1,17 +1,18 @@
 -- The room that a step uses is the room that its undoing gives back.
-use Rattle.std.proofs.Common.{◌≡◌, ℕ, nat_lt, Bool, true, refl, ◌∙◌, ap, subst, Option, Some, None, Result, Ok, Err, IfOk}
+use Rattle.std.proofs.Common.{◌≡◌, ℕ, nat_lt, Bool, true, refl, ◌∙◌, ap, subst, arith, Option, Some, None, Result, Ok, Err, IfOk}
 use Rattle.std.proofs.lemmas.Bool.{cond_both}
 use Rattle.std.proofs.lemmas.Result.{IfOk-at_ok}
 use Rattle.rd_ring.specs.Prelude.{MOST_SEGMENTS, Place, Content, Access, NoPlace, At, Make, Operation, Refusal, is_nothing, Contents, operand, Effect, effect, Performed, number_made, operate, make, perform}
-use Rattle.rd_cell.specs.Access.{perform_effect}
+use Rattle.rd_cell.specs.Access.{effect_at}
+use Rattle.rd_cell.specs.Results.{result_map}
 use Rattle.rd_segments.specs.Room.{room_used, room_returned}
 use Rattle.rd_step.specs.World.{World}
 use Rattle.rd_step.specs.declared.entries.Event.{Event}
 use Rattle.rd_step.specs.Step.{Stepped, step}
-use Rattle.rd_step.specs.Room.{makes, actor_makes, needs_making, makes_segment}
+use Rattle.rd_step.specs.Room.{makes, makes_segment}
 use Rattle.rd_step.proofs.Steps.{took}
 
-returned-effect : (p : Place) (c : Content) (r : Result Effect Refusal) (m : ℕ) → IfOk (perform_effect p c r) (λ did. 0 ≡ room_returned did.place did.old m)
+returned-effect : (p : Place) (c : Content) (r : Result Effect Refusal) (m : ℕ) → IfOk (result_map (effect_at p c) r) (λ did. 0 ≡ room_returned did.place did.old m)
 returned-effect p c (Err x) m = tt
 returned-effect p c (Ok e) m = refl
 
@@ -34,7 +35,7 @@ pub room_used_returned : (R : ℕ) (w : World) (e : Event) (s : Stepped) (m : �
     → room_used (makes_segment R w e) e.actor m ≡ room_returned s.entry.place s.entry.old_content m
 room_used_returned R w e s m h =
     let t = took R w e s h in
-    let by : makes_segment R w e ≡ makes t.access = ap (actor_makes R e.act) t.has ∙ ap needs_making t.needs in
+    let by : makes_segment R w e ≡ makes t.access = grind (arith, t.has, t.needs) in
     let did : room_used (makes t.access) e.actor m ≡ room_returned t.did.place t.did.old m =
     IfOk-at_ok (λ (d : Performed). room_used (makes t.access) e.actor m ≡ room_returned d.place d.old m) t.does (returned-perform R e.actor w.at t.access m) in
     subst (λ (x : Stepped). room_used (makes_segment R w e) e.actor m ≡ room_returned x.entry.place x.entry.old_content m) t.ends
@@ -44,7 +45,7 @@ room_used_returned R w e s m h =
 abbrev ReturnsNone : ℕ → Performed → Type 0
 ReturnsNone m did = is_nothing did.wrote ≡ true → room_returned did.place did.old m ≡ 0
 
-none-effect : (p : Place) (c : Content) (r : Result Effect Refusal) (m : ℕ) → IfOk (perform_effect p c r) (ReturnsNone m)
+none-effect : (p : Place) (c : Content) (r : Result Effect Refusal) (m : ℕ) → IfOk (result_map (effect_at p c) r) (ReturnsNone m)
 none-effect p c (Err x) m = tt
 none-effect p c (Ok e) m = λ k. refl
 

@@ -15,10 +15,10 @@ use Rattle.rd_actor.proofs.Representable.{representable}
 use Rattle.rd_step.specs.World.{World}
 use Rattle.rd_step.specs.declared.entries.Event.{Event}
 use Rattle.rd_step.specs.declared.entries.Entry.{Entry}
-use Rattle.rd_step.specs.Step.{Stepped, with_actor, step, step_of_actor, step_of_need, step_of_access, IsLast}
+use Rattle.rd_step.specs.Step.{Stepped, with_actor, step, IsLast}
 use Rattle.rd_step.specs.Fields.{world_of_fields, access_suits}
 use Rattle.rd_step.specs.Lists.{numbered}
-use Rattle.rd_step.specs.Room.{makes, needs_making, actor_makes, makes_segment, IsRefused}
+use Rattle.rd_step.specs.Room.{makes, makes_segment, IsRefused}
 use Rattle.rd_step.specs.Touched.{made_at}
 use Rattle.rd_step.specs.WellFormed.{Presence, actor_fits, record_fits, maker_fits, is_actor, IsWellFormed}
 use Rattle.rd_step.proofs.Steps.{step_of, step_refused}
@@ -193,18 +193,12 @@ representable_here R space xs e a formed small has =
 -- whether an actor's event makes a segment, by its access
 pub makes_by : (R : ℕ) (w : World) (e : Event) (a : Actor) (x : Access) → w.actor e.actor ≡ Some a → need R a e.act ≡ Ok x
     → makes_segment R w e ≡ makes x
-makes_by R w e a x has needs = ap (actor_makes R e.act) has ∙ ap needs_making needs
+makes_by R w e a x has needs = grind arith
 
 -- what a performed access makes a step of
 step_performed : (R : ℕ) (w : World) (e : Event) (a : Actor) (x : Access) → w.actor e.actor ≡ Some a → need R a e.act ≡ Ok x
     → IsOk (perform R e.actor w.at x) → IsOk (step R w e)
-step_performed R w e a x has needs ok =
-    ap (λ (r : Result Stepped Refusal). is_ok r) (ap (step_of_actor R w e) has ∙ ap (step_of_need R w e a) needs)
-    ∙ done (perform R e.actor w.at x) ok
-  where
-    done : (r : Result Performed Refusal) → is_ok r ≡ true → is_ok (step_of_access R w e a r) ≡ true
-    done (Ok did) h = refl
-    done (Err y) h = h
+step_performed R w e a x has needs ok = grind arith
 
 pub step_refuses : (R : ℕ) (space : Space R) (xs : List Actor) (e : Event) (a : Actor) (x : Access) (refusal : Refusal)
     → numbered xs e.actor ≡ Some a → need R a e.act ≡ Ok x

@@ -1,7 +1,7 @@
 -- Which step depends on which (Danos and Krivine 2004: what must be undone first; the places and
 -- the symmetry are our profile's), what is left if a step is taken out, and the causal closure of a
 -- step.
-use Rattle.std.specs.Prelude.{◌≡◌, ◌<◌, ◌≤◌, true, false, ℕ, zero, suc, ◌+◌, ◌-◌, Bool, nat_lt, ◌==◌, ◌||◌, if◌then◌else◌, List, [], ◌∷◌, ◌++◌, length, take, drop, Option, Some, None, slice_get}
+use Rattle.std.specs.Prelude.{◌≡◌, ◌<◌, ◌≤◌, true, false, ℕ, zero, suc, ◌+◌, ◌-◌, Bool, nat_lt, ◌==◌, ◌||◌, if◌then◌else◌, List, [], ◌∷◌, ◌++◌, length, take, drop, Option, Some, None, option_and_then}
 use Rattle.rd_ring.specs.Prelude.{interfere}
 use Rattle.rd_step.specs.declared.entries.Entry.{Entry}
 use Rattle.rd_step.specs.Lists.{numbered}
@@ -22,16 +22,9 @@ abbrev pub first_from : Entry → ℕ → List Entry → Option ℕ
 first_from x n [] = None
 first_from x n (y ∷ ys) = if depends x y then Some n else first_from x (n + 1) ys
 
--- the number of the first of these entries, numbered from n on, that depends on x; none if there is
--- no x
-abbrev pub first_after : Option Entry → ℕ → List Entry → Option ℕ
-first_after None n ys = None
-first_after (Some x) n ys = first_from x n ys
-
 -- the least position above k, counted from 1, whose entry depends on that at k
 abbrev pub first_dependant : List Entry → ℕ → Option ℕ
-first_dependant entries zero = None
-first_dependant entries (suc k) = first_after (slice_get entries k) (suc (suc k)) (drop (suc k) entries)
+first_dependant entries k = option_and_then (λ x. first_from x (k + 1) (drop k entries)) (numbered entries k)
 
 -- the causal closure of position k: the least set of positions that holds k, and with each position
 -- every later one whose entry depends on that one's

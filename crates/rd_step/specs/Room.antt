@@ -1,8 +1,7 @@
 -- Which steps make a segment, and so use their actor's room, and how they are refused.
-use Rattle.std.specs.Prelude.{◌≡◌, ◌⊎◌, ℕ, Option, Some, None, Bool, true, false, IsTrue, IsOk, Result, Ok, Err}
-use Rattle.rd_ring.specs.Prelude.{Access, Make, Refusal, NoMemory}
-use Rattle.rd_actor.specs.declared.actors.Actor.{Actor}
-use Rattle.rd_actor.specs.declared.actors.Act.{Act}
+use Rattle.std.specs.Result.{result_unwrap_or}
+use Rattle.std.specs.Prelude.{◌≡◌, ◌⊎◌, ℕ, ok_or, Bool, true, false, IsTrue, IsOk, Result, Err}
+use Rattle.rd_ring.specs.Prelude.{Access, Make, Refusal, NoActor, NoMemory, and_then, result_map}
 use Rattle.rd_actor.specs.Table.{need}
 use Rattle.rd_step.specs.declared.entries.Event.{Event}
 use Rattle.rd_step.specs.World.{World}
@@ -13,20 +12,13 @@ abbrev pub makes : Access → Bool
 makes (Make x) = true
 makes _ = false
 
--- whether an actor that asks for this access makes a segment; not if it is refused
-abbrev pub needs_making : Result Access Refusal → Bool
-needs_making (Err e) = false
-needs_making (Ok access) = makes access
+-- the access that the event's actor asks for, or why it may not
+abbrev pub access_of : ℕ → World → Event → Result Access Refusal
+access_of R w e = and_then (ok_or (w.actor e.actor) NoActor) (λ a. need R a e.act)
 
--- whether the actor with this record, if there is one, makes a segment by this act, over rings of R
--- cells
-abbrev pub actor_makes : ℕ → Act → Option Actor → Bool
-actor_makes R act None = false
-actor_makes R act (Some a) = needs_making (need R a act)
-
--- whether the event is a step that makes a segment
+-- whether the event is a step that makes a segment; not if it is refused
 abbrev pub makes_segment : ℕ → World → Event → Bool
-makes_segment R w e = actor_makes R e.act (w.actor e.actor)
+makes_segment R w e = result_unwrap_or (result_map makes (access_of R w e)) false
 
 -- a step with this outcome makes a segment and is refused by nothing else, but its actor has no
 -- room

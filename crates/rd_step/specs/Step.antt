@@ -1,7 +1,7 @@
 -- The plain step: one event in a world (Morrison and Afek 2013, in our profile of docs/MODEL.md),
 -- and its undoing.
-use Rattle.std.specs.Prelude.{◌≡◌, ℕ, ◌+◌, ◌≤◌, true, false, ◌==◌, if◌then◌else◌, Option, Some, None, is_some, IsTrue, Result, Ok, Err}
-use Rattle.rd_ring.specs.Prelude.{SegName, Place, WholeOf, Content, Access, Refusal, NoActor, Contents, operand, restore, is_there, can_hold, Performed, contents_after, perform}
+use Rattle.std.specs.Prelude.{◌≡◌, ℕ, ◌+◌, ◌≤◌, true, false, ◌==◌, if◌then◌else◌, Option, Some, None, is_some, ok_or, IsTrue, Result, Ok}
+use Rattle.rd_ring.specs.Prelude.{SegName, Place, WholeOf, Content, Refusal, NoActor, Contents, operand, restore, is_there, can_hold, Performed, contents_after, perform, and_then}
 use Rattle.rd_actor.specs.declared.actors.Actor.{Actor}
 use Rattle.rd_actor.specs.declared.actors.OpReply.{OpReply}
 use Rattle.rd_actor.specs.Table.{need, after}
@@ -34,25 +34,14 @@ step_outcome w e a did next = record {
   };
 }
 
--- the outcome of a step whose actor has this record and whose access did this, or was refused
-abbrev pub step_of_access : ℕ → World → Event → Actor → Result Performed Refusal → Result Stepped Refusal
-step_of_access R w e a (Err refusal) = Err refusal
-step_of_access R w e a (Ok did) = Ok (step_outcome w e a did (after R a e.act did.answer))
-
--- the outcome of a step whose actor has this record and asks for this access, or is refused
-abbrev pub step_of_need : ℕ → World → Event → Actor → Result Access Refusal → Result Stepped Refusal
-step_of_need R w e a (Err refusal) = Err refusal
-step_of_need R w e a (Ok access) = step_of_access R w e a (perform R e.actor w.at access)
-
--- the outcome of a step whose actor has this record, if there is such an actor
-abbrev pub step_of_actor : ℕ → World → Event → Option Actor → Result Stepped Refusal
-step_of_actor R w e None = Err NoActor
-step_of_actor R w e (Some a) = step_of_need R w e a (need R a e.act)
-
 -- the step of an event in a world: the event's actor asks for its one access, which is done at its
 -- one place, and the actor goes on with the answer. All other places and actors stay
 abbrev pub step : ℕ → World → Event → Result Stepped Refusal
-step R w e = step_of_actor R w e (w.actor e.actor)
+step R w e =
+    and_then (ok_or (w.actor e.actor) NoActor) (λ a.
+    and_then (need R a e.act) (λ access.
+    and_then (perform R e.actor w.at access) (λ did.
+    Ok (step_outcome w e a did (after R a e.act did.answer)))))
 
 -- the segment is there, an actor made it, and it is the last one that this actor made
 pub record IsLast (at : Contents) (s : SegName) : Type 0 where

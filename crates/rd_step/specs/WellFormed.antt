@@ -1,4 +1,5 @@
 -- Well-formed worlds.
+use Rattle.std.specs.Option.{option_map_or}
 use Rattle.std.specs.Prelude.{◌≡◌, ℕ, zero, suc, ◌+◌, ◌≤◌, Bool, true, false, not, ◌==◌, ◌&&◌, nat_lt, nat_le, Option, Some, None, is_some, IsTrue}
 use Rattle.rd_ring.specs.Prelude.{COUNTER_END, MOST_SEGMENTS, SLOTS, MOST_ACTORS, SegName, Place, QHead, QTail, Head, Tail, Next, CellAt, ValAt, IdxAt, ArrHead, ArrTail, ArrCell, Content, Name, Number, TailIs, NextIs, CellIs, ValIs, IdxIs, Slot, root, is_there}
 use Rattle.rd_actor.specs.declared.actors.Actor.{Actor}
@@ -27,8 +28,7 @@ belongs R there _ = false
 
 -- whether the segment that a next names is there, if it names one
 abbrev pub next_fits : Presence → Option SegName → Bool
-next_fits there None = true
-next_fits there (Some m) = there m
+next_fits there next = option_map_or there next true
 
 -- whether a content fits its place: it is of the place's kind, the segments that it names are
 -- there, a segment's counters are at most 2^62 and the array's at most 64, and a cell's index is at
@@ -49,8 +49,7 @@ content_fits R there _ _ = false
 
 -- whether the content of a place, if there is one, fits the place
 abbrev pub place_fits : ℕ → Presence → Place → Option Content → Bool
-place_fits R there p None = true
-place_fits R there p (Some c) = content_fits R there p c
+place_fits R there p o = option_map_or (content_fits R there p) o true
 
 -- whether the segments that an actor's words name are there
 abbrev pub names_fit : Presence → Actor → Bool
@@ -71,8 +70,7 @@ record_fits R there a = names_fit there a && numbers_fit R a && words_fit a
 
 -- whether an actor's record fits, if there is such an actor
 abbrev pub actor_fits : ℕ → Presence → Option Actor → Bool
-actor_fits R there None = true
-actor_fits R there (Some a) = record_fits R there a
+actor_fits R there o = option_map_or (record_fits R there) o true
 
 -- there are 1 to 16 actors, numbered from 1 without a gap
 pub record IsNumbered (is_actor : ℕ → Bool) : Type 0 where

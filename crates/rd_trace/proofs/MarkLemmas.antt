@@ -1,6 +1,6 @@
 -- Bookmarks as values.
-use Rattle.std.proofs.Common.{◌≡◌, ℕ, nat_eq, nat_lt, zero, suc, ◌+◌, ◌<◌, ◌≤◌, true, false, ◌||◌, List, [], ◌∷◌, ◌++◌, map, length, get_or, take, drop, slice_get, codes, Decides, Option, Some, None, option_map, IfSome, Ok, inl, inr, refl, sym, ap, ap₂, ◌∙◌, subst, arith}
-use Rattle.rd_trace.proofs.Prelude.{AllByRecursion, list_any, list_all, IsDistinct, and_parts, or_cases, eqb-true, true≢false, false≢true, same_Some, map_push, take_all, length-take-le, IsDistinct-head, IsDistinct-tail, IsDistinct-push, escape, escape_byte, escape_byte_plain, Data, view, items_view, compact_text, comma_if, MarkName, Event, MOST_MARKS, is_name_byte, is_mark_name, bytes_of, same_name, HaveDifferentNames, Mark, BookState, mark_at, mark_events, name_and_length, Gives, SpellEach, items_by, event_of, event_data, IsMark, AreMarks, saved_mark, mark_data, AreAppended, IsMarkAppended, SavedMark}
+use Rattle.std.proofs.Common.{◌≡◌, ℕ, nat_eq, nat_lt, zero, suc, ◌+◌, ◌<◌, ◌≤◌, true, false, ◌||◌, List, [], ◌∷◌, ◌++◌, map, length, get_or, take, drop, slice_get, codes, Decides, Option, Some, None, ok_or, option_map, IfSome, Ok, inl, inr, refl, sym, ap, ap₂, ◌∙◌, subst, arith}
+use Rattle.rd_trace.proofs.Prelude.{AllByRecursion, list_any, list_all, IsDistinct, and_parts, or_cases, eqb-true, true≢false, false≢true, same_Some, map_push, take_all, length-take-le, IsDistinct-head, IsDistinct-tail, IsDistinct-push, escape, escape_byte, escape_byte_plain, Data, view, items_view, compact_text, comma_if, MarkName, Event, MOST_MARKS, is_name_byte, is_mark_name, bytes_of, same_name, HaveDifferentNames, Mark, BookState, mark_at, mark_events, name_and_length, result_map, NoMark, Gives, SpellEach, items_by, event_of, event_data, IsMark, AreMarks, saved_mark, mark_data, AreAppended, IsMarkAppended, SavedMark}
 use Rattle.std.specs.Cmp.{IsEquivalence}
 use Rattle.std.proofs.lemmas.Slice.Eq.{bytes_eq-Decides}
 use Rattle.serde_json.specs.declared.value.Value.{Value}
@@ -120,7 +120,7 @@ within_bound (n ∷ ms) (suc i) m h = omega (arith, within_bound ms i m h)
 
 module _ (ms : List Mark) (i : ℕ) (name : MarkName) (len : ℕ) (old mid comma new : List ℕ) (so_far : AreAppended IsMark mark_data (take i ms) old mid)
     (more : comma ≡ mid ++ comma_if (nat_lt 0 i)) where
-  next_appended_of : (o : Option Mark) → slice_get ms i ≡ o → name_and_length o ≡ Ok (name, len)
+  next_appended_of : (o : Option Mark) → slice_get ms i ≡ o → result_map name_and_length (ok_or o NoMark) ≡ Ok (name, len)
       → IfSome (option_map (λ m. m.events) o) (λ es. IsMarkAppended (record { name = name; events = es }) comma new) → AreAppended IsMark mark_data (take (suc i) ms) old new
   next_appended_of None there found h = absurd (cc)
   next_appended_of (Some m) there found h =
@@ -144,7 +144,7 @@ module _ (b : BookState) (i n : ℕ) (next : n ≡ suc i) where
   -- there is one at each number
   pub some_mark : i < length b.marks → ((name : MarkName) (len : ℕ) → mark_at b n ≡ Ok (name, len) → ⊥) → ⊥
   some_mark within none =
-      next_there b.marks i within (λ m h. none m.name (length m.events) (ap (mark_at b) next ∙ ap name_and_length h))
+      next_there b.marks i within (λ m h. none m.name (length m.events) (ap (mark_at b) next ∙ ap (λ (o : Option Mark). result_map name_and_length (ok_or o NoMark)) h))
 
 plain_byte : (x : ℕ) → is_name_byte x ≡ true → escape_byte x ≡ x ∷ []
 plain_byte x h = grind (arith, or_cases, eqb-true, escape_byte_plain)

@@ -39,8 +39,8 @@ pub use Rattle.rd_ring.specs.declared.parts.SegmentParts.{SegmentParts}
 pub use Rattle.rd_segments.specs.declared.array.ArrayParts.{ArrayParts}
 pub use Rattle.rd_step.specs.Lists.{numbered}
 pub use Rattle.rd_step.specs.Parts.{array_fits, first_flaw, indexes_fit, world_of_parts}
-pub use Rattle.rd_step.specs.Prelude.{Act, MOST_ACTORS, MOST_STEPS, MarkTaken, OpReply, Ran, Refusal, SLOTS, Stepped, TooLong, TooManyMarks, World, run, step}
-pub use Rattle.rd_step.specs.Run.{run_entries, run_from_step}
+pub use Rattle.rd_step.specs.Prelude.{and_then, result_map, NoMark, Act, MOST_ACTORS, MOST_STEPS, MarkTaken, OpReply, Ran, Refusal, SLOTS, Stepped, TooLong, TooManyMarks, World, run, step}
+pub use Rattle.rd_step.specs.Run.{preceded_by, run_entries}
 pub use Rattle.rd_step.specs.Starts.{fresh_world}
 pub use Rattle.rd_step.specs.declared.entries.Entry.{Entry}
 pub use Rattle.rd_step.specs.declared.entries.Event.{Event}

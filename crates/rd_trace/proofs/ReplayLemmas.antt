@@ -1,12 +1,12 @@
 -- Steps that are made again: what goes through, and what is refused.
-use Rattle.rd_trace.proofs.Prelude.{common_steps, AllByRecursion, cond-false, IsDistinct-head, IsDistinct-tail, take-append_seam, drop-append_seam, append-nil, length-map, map-append, map_more, get_or-map, take_more, take_all, drop_all, take-take, take-append-drop, drop-append-le, length-take-le, length-drop, OutOfMemory, World, Refusal, TooLong, MarkTaken, TooManyMarks, OpReply, Stepped, step, Ran, run, MOST_STEPS, run_entries, run_from_step, Entry, Event, State, step_after, with_event, apply, reply_to, back_one, times, back, MarkName, MOST_MARKS, bytes_of, same_name, Mark, BookState, with_session, with_marks, marked_events, mark, GoThrough, MarksGoThrough, HaveDifferentNames, SavedMark, LoadTraceFault, saved_mark, start_world, start_flaw, Trace, loaded_state, session_at, IsRefusedAt, IsMarkRefusedAt, HasMarks, IsPlayable, Replays, IsAt, RefusesOne, StepsAll, GoesTo, MakesLive, SetsMarks, IsFaultOfStep, IsFaultOfMark}
+use Rattle.rd_trace.proofs.Prelude.{common_steps, AllByRecursion, cond-false, IsDistinct-head, IsDistinct-tail, take-append_seam, drop-append_seam, append-nil, length-map, map-append, map_more, get_or-map, take_more, take_all, drop_all, take-take, take-append-drop, drop-append-le, length-take-le, length-drop, OutOfMemory, World, Refusal, TooLong, MarkTaken, TooManyMarks, OpReply, Stepped, step, Ran, run, MOST_STEPS, run_entries, preceded_by, and_then, result_map, Entry, Event, State, step_after, with_event, apply, reply_to, back_one, times, back, MarkName, MOST_MARKS, bytes_of, same_name, Mark, BookState, with_session, with_marks, marked_events, mark, GoThrough, MarksGoThrough, HaveDifferentNames, SavedMark, LoadTraceFault, saved_mark, start_world, start_flaw, Trace, loaded_state, session_at, IsRefusedAt, IsMarkRefusedAt, HasMarks, IsPlayable, Replays, IsAt, RefusesOne, StepsAll, GoesTo, MakesLive, SetsMarks, IsFaultOfStep, IsFaultOfMark}
 use Rattle.std.proofs.Common.{◌≡◌, ◌≢◌, ◌⊎◌, inl, inr, ℕ, zero, suc, ◌+◌, ◌-◌, ◌<◌, ◌≤◌, ◌==◌, if◌then◌else◌, Bool, true, false, List, [], ◌∷◌, ◌++◌, length, take, drop, get_or, map, Some, None, Option, is_some, Result, Ok, Err, IsOk, refl, sym, ap, ap₂, ◌∙◌, subst, arith, append_assoc, length-append, ne_eqb, eq-eqb}
 use Rattle.std.proofs.lemmas.Cmp.{nat_list_eq_equiv}
 use Rattle.rd_step.specs.Run.{events}
 use Rattle.rd_journal.proofs.Calls.{back_goes}
 use Rattle.rd_marks.specs.declared.commands.Command.{Command}
 use Rattle.rd_marks.specs.declared.replies.Reply.{Reply}
-use Rattle.rd_marks.specs.Commands.{Answered, event_answer, move_answer, Happened, IsObeyed}
+use Rattle.rd_marks.specs.Commands.{Answered, answer_with, move_answer, Happened, IsObeyed}
 use Rattle.rd_marks.specs.Events.{as_event}
 use Rattle.rd_trace.specs.declared.replay.RefusedEvent.{RefusedEvent}
 use Rattle.rd_trace.proofs.SpellLemmas.{split_at, take_item}
@@ -26,13 +26,17 @@ opened b s v w session marks state world = grind arith
 
 -- Runs that go through
 
-one_step : (R : ℕ) (o : Result Stepped Refusal) → IsOk o → IsOk (run_from_step (λ v. run R v []) o)
+-- the run of these events after a step, if it was not refused
+abbrev run_after : ℕ → List Event → Result Stepped Refusal → Result Ran Refusal
+run_after R es o = and_then o (λ s. result_map (preceded_by s.entry) (run R s.world es))
+
+one_step : (R : ℕ) (o : Result Stepped Refusal) → IsOk o → IsOk (run_after R [] o)
 one_step R o k = grind arith
 
 -- a run goes on with a step from its last world, if that is so from each world that its first step
 -- leads to
 run_on : (R : ℕ) (es : List Event) (e : Event) → ((w : World) → IsOk (step_after R (run R w es) e) → IsOk (run R w (es ++ e ∷ []))) → (o : Result Stepped Refusal)
-    → IsOk (step_after R (run_from_step (λ v. run R v es) o) e) → IsOk (run_from_step (λ v. run R v (es ++ e ∷ [])) o)
+    → IsOk (step_after R (run_after R es o) e) → IsOk (run_after R (es ++ e ∷ []) o)
 run_on R es e from o k = grind arith
 
 -- a run goes on with a step from its last world
@@ -41,7 +45,7 @@ run_last R w [] e h = one_step R (step R w e) h
 run_last R w (x ∷ es) e h = run_on R es e (λ v k. run_last R v es e k) (step R w x) h
 
 runs_first : (R : ℕ) (xs ys : List Event) → ((v : World) → IsOk (run R v (xs ++ ys)) → IsOk (run R v xs)) → (o : Result Stepped Refusal)
-    → IsOk (run_from_step (λ v. run R v (xs ++ ys)) o) → IsOk (run_from_step (λ v. run R v xs) o)
+    → IsOk (run_after R (xs ++ ys) o) → IsOk (run_after R xs o)
 runs_first R xs ys from o k = grind arith
 
 -- the first events of a run run
@@ -67,7 +71,7 @@ apply_at : (R : ℕ) (s : State) (e : Event) → apply R s e ≡ apply R (sessio
 apply_at R s e = grind arith
 
 -- what an event that happened leaves, and what it shows of its step
-applied_parts : (s after : State) (e : Event) (full : Bool) (o : Result Stepped Refusal) → (if full then Err TooLong else with_event s e o) ≡ Ok after
+applied_parts : (s after : State) (e : Event) (full : Bool) (o : Result Stepped Refusal) → (if full then Err TooLong else result_map (λ stepped. with_event s e) o) ≡ Ok after
     → (full ≡ false) × IsOk o × (after ≡ record { start = s.start; live = s.live ++ e ∷ []; undone = [] })
 applied_parts s after e full o h = grind arith
 
@@ -156,9 +160,9 @@ all_of R old new es i all h = all_stepped R old new es (subst (λ (done : List E
 pub event_happened : (R : ℕ) (b : BookState) (command : Command) (e : Event) (a : Answered) → as_event command ≡ Some e → IsObeyed R b command a → Happened R b e a
 event_happened R b command e a k obeyed = grind arith
 
-event_not_made : (b after : BookState) (cause : Refusal) (told : Option OpReply) (o : Result State Refusal) → record { answer = Err cause; state = after } ≡ event_answer b told o
-    → o ≡ Err cause
-event_not_made b after cause told o h = grind arith
+event_not_made : (b after : BookState) (cause : Refusal) (reply : State → Reply) (o : Result State Refusal)
+    → record { answer = Err cause; state = after } ≡ answer_with b reply (with_session b) o → o ≡ Err cause
+event_not_made b after cause reply o h = grind arith
 
 -- what an event leaves that happened, and why one was refused
 pub happened : (R : ℕ) (b after : BookState) (e : Event) (reply : Reply) → Happened R b e (record { answer = Ok reply; state = after })
@@ -167,7 +171,7 @@ happened R b after e reply k = grind (arith, common_steps)
 
 pub not_happened : (R : ℕ) (b after : BookState) (e : Event) (cause : Refusal) → Happened R b e (record { answer = Err cause; state = after })
     → (apply R b.session e ≡ Err cause) ⊎ (cause ≡ OutOfMemory)
-not_happened R b after e cause (inl h) = inl (event_not_made b after cause (reply_to R b.session e) (apply R b.session e) h)
+not_happened R b after e cause (inl h) = inl (event_not_made b after cause _ (apply R b.session e) h)
 not_happened R b after e cause (inr h) = inr (cc (ap (λ (a : Answered). a.answer) h.1))
 
 -- Going back
@@ -394,19 +398,29 @@ module _ {R : ℕ} {B : Type 0} (IsBook : B → Type 0) (t : Trace R) where
 
 -- What goes through is not refused
 
-of_first : (R : ℕ) (later : List Event) (o : Result Stepped Refusal) → IsOk (run_from_step (λ v. run R v later) o) → IsOk o
+of_first : (R : ℕ) (later : List Event) (o : Result Stepped Refusal) → IsOk (run_after R later o) → IsOk o
 of_first R later o k = grind arith
 
+-- a step before a run changes neither whether it goes through nor what happens in its last world
+preceded_ok : (x : Entry) (r : Result Ran Refusal) → IsOk (result_map (preceded_by x) r) → IsOk r
+preceded_ok x r k = grind arith
+
+preceded_last : (R : ℕ) (x : Entry) (r : Result Ran Refusal) (e : Event) → IsOk (step_after R r e) → IsOk (step_after R (result_map (preceded_by x) r) e)
+preceded_last R x (Ok ran) e k = k
+preceded_last R x (Err refusal) e k = k
+
 in_rest : (R : ℕ) (before : List Event) (e : Event) (later : List Event) → ((w : World) → IsOk (run R w (before ++ e ∷ later)) → IsOk (step_after R (run R w before) e)) → (o : Result Stepped Refusal)
-    → IsOk (run_from_step (λ v. run R v (before ++ e ∷ later)) o) → IsOk (step_after R (run_from_step (λ v. run R v before) o) e)
-in_rest R before e later from o k = grind arith
+    → IsOk (run_after R (before ++ e ∷ later) o) → IsOk (step_after R (run_after R before o) e)
+in_rest R before e later from (Ok s) k =
+    preceded_last R s.entry (run R s.world before) e (from s.world (preceded_ok s.entry (run R s.world (before ++ e ∷ later)) k))
+in_rest R before e later from (Err refusal) k = absurd cc
 
 -- each event of a run that goes through happens in the last world of those before it
 happens_in : (R : ℕ) (w : World) (before : List Event) (e : Event) (later : List Event) → IsOk (run R w (before ++ e ∷ later)) → IsOk (step_after R (run R w before) e)
 happens_in R w [] e later h = of_first R later (step R w e) h
 happens_in R w (x ∷ before) e later h = in_rest R before e later (λ v k. happens_in R v before e later k) (step R w x) h
 
-not_refused : (s : State) (e : Event) (cause : Refusal) (full : Bool) (o : Result Stepped Refusal) → full ≡ false → IsOk o → (if full then Err TooLong else with_event s e o) ≡ Err cause → ⊥
+not_refused : (s : State) (e : Event) (cause : Refusal) (full : Bool) (o : Result Stepped Refusal) → full ≡ false → IsOk o → (if full then Err TooLong else result_map (λ stepped. with_event s e) o) ≡ Err cause → ⊥
 not_refused s e cause full o room ok h = grind arith
 
 room_left : (n m : ℕ) → n + suc m ≤ MOST_STEPS → (n == MOST_STEPS) ≡ false

@@ -1,4 +1,5 @@
 -- Actors as values: an object with a member for each word of an actor's record.
+use Rattle.std.specs.Option.{option_map_or}
 use Rattle.std.specs.Prelude.{◌≡◌, ℕ, List, codes, bytes_eq, if◌then◌else◌, Option, Some, None, option_map, option_and_then}
 use Rattle.serde_json.specs.Data.{Data, null, boolean, number, string, array, object, unsigned, Items, no_items, item, no_members, member}
 use Rattle.serde_json.specs.Find.{get, as_str, as_u64}
@@ -21,8 +22,7 @@ value_of (object ms) = None
 
 -- the JSON value of a value, or of none
 abbrev pub value_data : Option ℕ → Data
-value_data None = null
-value_data (Some x) = number (unsigned x)
+value_data o = option_map_or (λ x. number (unsigned x)) o null
 
 -- the call that a word spells without a number
 abbrev pub short_op : List ℕ → Option (Option Op)

@@ -1,4 +1,5 @@
 -- Names of segments as values: `[M,S]`, and `null` where a next names none.
+use Rattle.std.specs.Option.{option_map_or}
 use Rattle.std.specs.Prelude.{ℕ, List, Option, Some, None, option_map, option_and_then}
 use Rattle.serde_json.specs.Data.{Data, null, boolean, number, string, array, object, unsigned, Items, no_items, item}
 use Rattle.serde_json.specs.Find.{get, as_array}
@@ -35,5 +36,4 @@ name_data s = array (item (number (unsigned s.maker)) (item (number (unsigned s.
 
 -- the value as which a next is written
 abbrev pub next_data : Option SegName → Data
-next_data None = null
-next_data (Some s) = name_data s
+next_data o = option_map_or name_data o null

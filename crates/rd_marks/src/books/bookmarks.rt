@@ -1,6 +1,7 @@
 //! The commands on bookmarks: the call of the book, and its answer.
 
 ghost use Rattle.std.specs.Prelude.{◌≡◌, length, IsOk};
+ghost use Rattle.rd_step.specs.Prelude.{result_map};
 
 use super::super::names::MarkName;
 use super::super::replies::Reply;
@@ -10,7 +11,7 @@ use rd_cell::Refusal;
 impl<const R: usize> Book<R> {
     ghost use Rattle.rd_marks.specs.BookViews.{book_state, name_room};
     ghost use Rattle.rd_marks.specs.Books.{mark, drop_mark, goto_mark, mark_at, MakesSteps};
-    ghost use Rattle.rd_marks.specs.Commands.{IsMade, IsCompared, NeedsNoMemory, step_counts, mark_answer, reply_with};
+    ghost use Rattle.rd_marks.specs.Commands.{IsMade, IsCompared, NeedsNoMemory, step_counts, answer_with};
     ghost use Rattle.rd_marks.specs.declared.commands.Command.TheVariants.{Mark as MarkAs};
     ghost use Rattle.rd_marks.specs.declared.replies.Reply.TheVariants.{Marked, Dropped, Mark as MarkIs};
 
@@ -26,7 +27,7 @@ impl<const R: usize> Book<R> {
 
     /// Drops a bookmark. Returns the reply that it was dropped.
     pub(super) fn answer_drop_mark(&mut self, name: MarkName) -> Result<Reply, Refusal>
-        ensures { record { answer = result; state = book_state self.new } ≡ mark_answer (book_state self.old) (λ c. Dropped) (drop_mark (book_state self.old) name) }
+        ensures { record { answer = result; state = book_state self.new } ≡ answer_with (book_state self.old) (λ c. Dropped) (λ c. c) (drop_mark (book_state self.old) name) }
     {
         self.drop_mark(name)?;
         Ok(Reply::Dropped)
@@ -43,7 +44,7 @@ impl<const R: usize> Book<R> {
 
     /// The name and the length of the bookmark of this number.
     pub(super) fn answer_mark_at(&self, i: u64) -> Result<Reply, Refusal>
-        ensures { result ≡ reply_with (λ m. MarkIs m.0 m.1) (mark_at (book_state self.now) i) }
+        ensures { result ≡ result_map (λ m. MarkIs m.0 m.1) (mark_at (book_state self.now) i) }
     {
         let (name, len) = self.mark_at(i)?;
         Ok(Reply::Mark { name, len })

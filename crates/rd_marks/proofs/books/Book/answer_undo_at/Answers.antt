@@ -1,6 +1,7 @@
-use Rattle.std.proofs.Common.{arith}
-use Rattle.rd_marks.proofs.Prelude.{length-map, Entry, journal}
+use Rattle.std.proofs.Common.{ap, arith}
+use Rattle.rd_marks.proofs.Prelude.{length-map, Entry, journal, marks_of, lists_in}
 use Rattle.rd_marks.proofs.Here.{after_out, undone_alone_leaves, undone_within}
+use Rattle.rd_marks.proofs.AnswerLemmas.{move_answered}
 use Rattle.rd_marks.proofs.Starts.{undo_at_start, start_stays, runs_stay}
 use Rattle.rd_marks.proofs.books.Book.answer_undo_at.Goals as goal
 
@@ -15,3 +16,9 @@ invariant_of-self g c =
           done.ensures.ok (λ moved. omega (arith, undone_within g.row.R _ c.args.k _ moved, length-map (journal book.session).live (λ (x : Entry). x.event))) done.ensures.entries
           (undone_alone_leaves c.args.k _ _ _ c.saturating_sub.ensures);
     }
+
+pub returns : goal.returns
+returns g c =
+    let done = c.undo_at-done in
+    move_answered (journal c.args.self.now.session) (journal done.new.self) (marks_of (lists_in c.args.self.now.bookmarks)) _ c.counts_after.result done.result _
+    done.ensures.ok done.ensures.err done.ensures.unchanged (ap marks_of c.cut_back.ensures.lists) c.counts_after.ensures.ok c.counts_after.ensures.err

@@ -1,10 +1,14 @@
 use Rattle.std.proofs.Common.{sym, ◌∙◌}
 use Rattle.rd_marks.proofs.Prelude.{book_state}
-use Rattle.rd_marks.proofs.ObeyLemmas.{happened_leaves, obeyed_leaves, event_needs}
+use Rattle.rd_marks.proofs.ObeyLemmas.{happened_leaves, obeyed_leaves, event_needs, event_obeyed}
 use Rattle.rd_marks.proofs.books.Book.obey.Goals as goal
 
 pub returns-in-Some-clause-succeeds : goal.returns-in-Some-clause-succeeds
 returns-in-Some-clause-succeeds g c = λ needs. absurd (event_needs (book_state c.args.self.now) _ c.args.command c.in-Some.event (sym c.as_event.ensures ∙ c.in-Some.is) needs)
+
+pub returns-in-Some-clause-answer : goal.returns-in-Some-clause-answer
+returns-in-Some-clause-answer g c =
+    event_obeyed g.row.R (book_state c.args.self.now) c.args.command c.in-Some.event _ (sym c.as_event.ensures ∙ c.in-Some.is) c.answer_event.ensures
 
 pub returns-in-Some-clause-start : goal.returns-in-Some-clause-start
 returns-in-Some-clause-start g c = (happened_leaves g.row.R (book_state c.args.self.now) c.in-Some.event _ c.answer_event.ensures).start
