@@ -104,7 +104,9 @@ abbrev pub overlaps_under : Place → Option Place → Bool
 overlaps_under p o = is_under_some (value_of_place p) o || (is_under (own_key p) o || is_under_some (whole_key p) o)
 
 pub overlaps-keys : (p : Place) (o : Option Place) → some_overlap (Some p) o ≡ overlaps_under p o
-overlaps-keys p o = grind (arith, overlaps-whole, overlaps-cell)
+overlaps-keys (Whole s) o = grind (arith, overlaps-whole)
+overlaps-keys (Cell s i) o = grind (arith, overlaps-cell)
+overlaps-keys p o = grind arith
 
 -- the lists of an index
 

@@ -50,7 +50,7 @@ pub record AreSeparate (h : Homes) : Type 0 where
   pub last : (w : Bool) (q : Key) → ((is_home h.place w q || is_home h.value w q) && is_home h.segment w q) ≡ false
 
 pub separate : (h : Homes) (x : Entry) → h ≡ homes_of x → AreSeparate h
-separate h x is = grind (arith, apart, place_value)
+separate h x is = grind (arith, apart, either_apart, place_value, place_segment, value_segment)
 
 pub home_own : (h : Home) (w : Bool) (q : Key) → h.key ≡ Some q → counts w h.wrote ≡ true → is_home h w q ≡ true
 home_own h w q e c = and_from (counts w h.wrote) (is_that q h.key) c (ap (is_that q) e ∙ is_key-refl q)
