@@ -1,10 +1,10 @@
 -- An effect on some of the places, as one on all of them.
-use Rattle.std.proofs.Common.{◌≡◌, true, false, Bool, inl, inr, refl, sym, ◌∙◌, ap, subst, Option, Some, None, Result, Ok, Err, IfOk}
-use Rattle.std.proofs.lemmas.Bool.{cases_Bool, cond-true, false_from_ne_true, both_ways}
+use Rattle.std.proofs.lemmas.Grind.{common_steps}
+use Rattle.std.proofs.Common.{◌≡◌, true, false, Bool, inl, inr, sym, ◌∙◌, ap, Option, Some, None, Result, Ok, Err, IfOk, arith}
+use Rattle.std.proofs.lemmas.Bool.{cases_Bool, false_from_ne_true, both_ways}
 use Rattle.std.proofs.lemmas.Result.{IfOk-at_ok}
 use Rattle.rd_cell.specs.declared.places.Place.{Place}
 use Rattle.rd_cell.specs.declared.places.SegName.{SegName}
-use Rattle.rd_cell.specs.declared.places.Place.TheVariants.{Head, Tail, Next, Cell as CellAt, Val as ValAt, Idx as IdxAt}
 use Rattle.rd_cell.specs.declared.places.Wrote.{Wrote}
 use Rattle.rd_cell.specs.declared.places.Wrote.TheVariants.{Nothing as WroteNothing, Place as AllOfPlace}
 use Rattle.rd_cell.specs.declared.contents.Content.{Content}
@@ -14,12 +14,11 @@ use Rattle.rd_cell.specs.declared.operations.Answer.{Answer}
 use Rattle.rd_cell.specs.declared.access.Done.{Done}
 use Rattle.rd_cell.specs.declared.refusal.Refusal.{Refusal}
 use Rattle.rd_cell.specs.Places.{is_of, is_place, is_of_same_segment, covers, segment_of, some_covers, written}
-use Rattle.rd_cell.specs.Contents.{Contents, share, after_write_at, restore, operand}
-use Rattle.rd_cell.specs.Operations.{effect, wrote_content}
-use Rattle.rd_cell.specs.Access.{Performed, effect_at, operate, HasEffect, everywhere, Operates, OperatesOn, Restores}
-use Rattle.rd_cell.specs.Results.{result_map}
-use Rattle.rd_cell.proofs.PlaceLemmas.{is_name-refl, is_place-true, is_of_cell-of, Covering, itself, as_cell, as_whole, covers_cases, covers-refl, written-covers}
-use Rattle.rd_cell.proofs.AccessLemmas.{after_write-outside, after_write-same, operand-same, place-operate}
+use Rattle.rd_cell.specs.Contents.{Contents, restore, operand}
+use Rattle.rd_cell.specs.Operations.{effect}
+use Rattle.rd_cell.specs.Access.{Performed, operate, HasEffect, everywhere, Operates, OperatesOn, Restores}
+use Rattle.rd_cell.proofs.PlaceLemmas.{is_place-true, written-covers}
+use Rattle.rd_cell.proofs.AccessLemmas.{after_write-outside, after_write-same, place-operate}
 
 -- if two pairs of contents agree on the places that are looked at, and nothing else is covered or
 -- changed
@@ -58,96 +57,50 @@ lift looked_at p does does' done old new old' new' same place agrees h = record 
 lift_operation : (looked_at : Place → Bool) (p : Place) (op : Operation) (o : Option Content) (done : Done) (old new old' new' : Contents)
     → operand old' p ≡ o → Agrees looked_at p old new old' new' → HasEffect looked_at (operate p op o) done old new
     → Operates everywhere p op done old' new'
-lift_operation looked_at p op o done old new old' new' found agrees h =
-    lift looked_at p (operate p op o) (operate p op (operand old' p)) done old new old' new' (ap (operate p op) found) (place-operate p op o) agrees h
+lift_operation looked_at p op o done old new old' new' found agrees h = grind (arith, lift, place-operate)
 
 -- what an operation at p works on is the same in both
 pub operand_agrees : (looked_at : Place → Bool) (p : Place) (old new old' new' : Contents) → Agrees looked_at p old new old' new'
     → operand old' p ≡ operand old p
-operand_agrees looked_at p old new old' new' agrees =
-    operand-same p old' old (λ q k.
-    sym (agrees.old_inside q
-    (elim (cases_Bool (looked_at q)) [ inl e ↦ e | inr e ↦ absurd (both_ways (covers p q) (agrees.not_covered q e) k) ])))
+operand_agrees looked_at p old new old' new' agrees = grind arith
 
 pub lift_operates : (looked_at : Place → Bool) (p : Place) (op : Operation) (done : Done) (old new old' new' : Contents)
     → Agrees looked_at p old new old' new' → Operates looked_at p op done old new → Operates everywhere p op done old' new'
-lift_operates looked_at p op done old new old' new' agrees h =
-    lift_operation looked_at p op (operand old p) done old new old' new' (operand_agrees looked_at p old new old' new' agrees) agrees h
+lift_operates looked_at p op done old new old' new' agrees h = grind (arith, lift_operation, operand_agrees)
 
 -- and what is put back
 pub lift_restore : (looked_at : Place → Bool) (p : Place) (o : Option Content) (old new old' new' : Contents)
     → Agrees looked_at p old new old' new' → Restores looked_at p o old new → (q : Place) → new' q ≡ restore (Some p) o old' q
-lift_restore looked_at p o old new old' new' agrees h q =
-    elim (cases_Bool (looked_at q)) [
-      | inl e ↦ sym (agrees.new_inside q e) ∙ h q e ∙ after_write-same (Some p) (share p o) old old' q (agrees.old_inside q e)
-      | inr e ↦ agrees.outside q e ∙ sym (after_write-outside (Some p) (share p o) old' q (agrees.not_covered q e))
-    ]
+lift_restore looked_at p o old new old' new' agrees h q = grind arith
 
 -- an effect on all places is one on those that are looked at
 pub narrow : (looked_at : Place → Bool) (does : Result Performed Refusal) (done : Done) (old new : Contents)
     → HasEffect everywhere does done old new → HasEffect looked_at does done old new
-narrow looked_at does done old new h = record {
-  performed = h.performed;
-  performs = h.performs;
-  keeps = h.keeps;
-  leaves = λ q e. h.leaves q refl;
-}
+narrow looked_at does done old new h = grind arith
 
 -- One place
-
--- a place that is one with another covers it
-pub place_covers : (p q : Place) → is_place p q ≡ true → covers p q ≡ true
-place_covers p q h = subst (λ (x : Place). covers p x ≡ true) (is_place-true p q h) (covers-refl p)
 
 -- a content that is none of a cell
 abbrev pub is_cell_content : Content → Bool
 is_cell_content (CellIs x) = true
 is_cell_content _ = false
 
--- it is put as it is wherever it is put
-pub share_plain : (p : Place) (c : Content) (q : Place) → is_cell_content c ≡ false → share p (Some c) q ≡ Some c
-share_plain (CellAt s i) (CellIs x) q h = cc
-share_plain (CellAt s i) _ q h = refl
-share_plain _ c q h = refl
-
--- and over it all of its place is written
-wrote_plain : (old new : Content) → is_cell_content new ≡ false → wrote_content old new ≡ AllOfPlace
-wrote_plain (CellIs x) (CellIs y) h = cc
-wrote_plain _ _ h = refl
-
 -- an operation that wrote this content, which is none of a cell
 pub wrote_on : (p : Place) (op : Operation) (old new : Content) (answer : Answer) (done : Done) → is_cell_content new ≡ false
     → effect op old ≡ Ok (record { answer = answer; writes = Some new }) → done ≡ record { place = Some p; old = Some old; answer = answer; wrote = AllOfPlace }
     → OperatesOn p op done old new
-wrote_on p op old new answer done plain does notes = record {
-  performed = effect_at p old (record { answer = answer; writes = Some new });
-  performs = ap (result_map (effect_at p old)) does;
-  keeps = (λ i. record { place = Some p; old = Some old; answer = answer; wrote = wrote_plain old new plain i }) ∙ sym notes;
-  leaves = λ q e.
-      sym (ap (λ (w : Wrote). after_write_at (written (Some p) w) (share p (Some new)) (λ (r : Place). Some old) q) (wrote_plain old new plain)
-      ∙ cond-true (covers p q) (share p (Some new) q) (Some old) (place_covers p q e) ∙ share_plain p new q plain);
-}
+wrote_on p op old new answer done plain does notes = grind arith
 
 -- an operation that wrote nothing
 pub read_on : (p : Place) (op : Operation) (old : Content) (answer : Answer) (done : Done)
     → effect op old ≡ Ok (record { answer = answer; writes = None }) → done ≡ record { place = Some p; old = Some old; answer = answer; wrote = WroteNothing }
     → OperatesOn p op done old old
-read_on p op old answer done does notes = record {
-  performed = effect_at p old (record { answer = answer; writes = None });
-  performs = ap (result_map (effect_at p old)) does;
-  keeps = sym notes;
-  leaves = λ q e. refl;
-}
+read_on p op old answer done does notes = grind arith
 
 -- if two contents have this at p alone
 pub agrees_at : (p : Place) (was now : Content) (old new : Contents) → ((q : Place) → covers p q ≡ is_place p q) → old p ≡ Some was → new p ≡ Some now
     → ((q : Place) → is_place p q ≡ false → new q ≡ old q) → Agrees (is_place p) p (λ q. Some was) (λ q. Some now) old new
-agrees_at p was now old new plain found left others = record {
-  old_inside = λ q h. sym (ap old (sym (is_place-true p q h)) ∙ found);
-  new_inside = λ q h. sym (ap new (sym (is_place-true p q h)) ∙ left);
-  not_covered = λ q h. plain q ∙ h;
-  outside = others;
-}
+agrees_at p was now old new plain found left others = grind (arith, common_steps, is_place-true)
 
 -- an operation that had its effect on what is at a place, if every other place is as before, was
 -- done there
@@ -162,33 +115,12 @@ place_operates p op was now old new plain works found left others (Ok done) h =
 
 -- the places beside one that a segment has are that segment's
 pub beside_is_of : (p q : Place) (name : SegName) → segment_of p ≡ Some name → is_of_same_segment p q ≡ is_of name q
-beside_is_of (Head s) q name h = let e : s ≡ name = cc in ap (λ (n : SegName). is_of n q) e
-beside_is_of (Tail s) q name h = let e : s ≡ name = cc in ap (λ (n : SegName). is_of n q) e
-beside_is_of (Next s) q name h = let e : s ≡ name = cc in ap (λ (n : SegName). is_of n q) e
-beside_is_of (CellAt s i) q name h = let e : s ≡ name = cc in ap (λ (n : SegName). is_of n q) e
-beside_is_of (ValAt s i) q name h = let e : s ≡ name = cc in ap (λ (n : SegName). is_of n q) e
-beside_is_of (IdxAt s i) q name h = let e : s ≡ name = cc in ap (λ (n : SegName). is_of n q) e
-beside_is_of _ q name h = cc
+beside_is_of p q name h = grind arith
 
 -- a place that a segment has is one of its own
 pub own_place : (p : Place) (name : SegName) → segment_of p ≡ Some name → is_of name p ≡ true
-own_place (Head s) name h = let e : s ≡ name = cc in subst (λ (x : SegName). is_of x (Head s) ≡ true) e (is_name-refl s)
-own_place (Tail s) name h = let e : s ≡ name = cc in subst (λ (x : SegName). is_of x (Tail s) ≡ true) e (is_name-refl s)
-own_place (Next s) name h = let e : s ≡ name = cc in subst (λ (x : SegName). is_of x (Next s) ≡ true) e (is_name-refl s)
-own_place (CellAt s i) name h = let e : s ≡ name = cc in subst (λ (x : SegName). is_of x (CellAt s i) ≡ true) e (is_name-refl s)
-own_place (ValAt s i) name h = let e : s ≡ name = cc in subst (λ (x : SegName). is_of x (ValAt s i) ≡ true) e (is_name-refl s)
-own_place (IdxAt s i) name h = let e : s ≡ name = cc in subst (λ (x : SegName). is_of x (IdxAt s i) ≡ true) e (is_name-refl s)
-own_place _ name h = cc
+own_place p name h = grind arith
 
 -- it covers nothing outside of the segment
 pub not_covered_outside : (p q : Place) (name : SegName) → segment_of p ≡ Some name → is_of name q ≡ false → covers p q ≡ false
-not_covered_outside p q name h other =
-    false_from_ne_true (covers p q) (λ k. both_ways (is_of name q) other (by (covers_cases p q k)))
-  where
-    by : Covering p q → is_of name q ≡ true
-    by (itself e) = subst (λ (x : Place). is_of name x ≡ true) e (own_place p name h)
-    by (as_cell s i e f) =
-        let own : Some s ≡ Some name = sym (ap segment_of e) ∙ h in
-        let same : s ≡ name = cc in
-        subst (λ (n : SegName). is_of n q ≡ true) same (is_of_cell-of s i q f)
-    by (as_whole s e f) = let none : None ≡ Some name = sym (ap segment_of e) ∙ h in absurd (cc)
+not_covered_outside p q name h other = grind arith

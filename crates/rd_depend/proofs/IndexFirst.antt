@@ -1,7 +1,7 @@
 -- The first dependant, from the first later positions in an actor's list, a place's and a
 -- segment's.
 use Rattle.std.proofs.Common.{◌≡◌, ℕ, zero, suc, ◌+◌, ◌<◌, ◌≤◌, Bool, true, false, not, ◌||◌, ◌==◌, if◌then◌else◌, nat_lt, List, [], ◌∷◌, length, drop, Option, Some, None, option_and_then, refl, sym, ap, subst, ◌∙◌, arith}
-use Rattle.rd_depend.proofs.Prelude.{nat_tests, is_some, SegName, Place, Cell, Val, Idx, Whole, is_of_cell, segment_of, some_overlap, is_nothing, written, interfere, Entry, Wrote, first_from, first_dependant, depends, depends_on_one, numbered, symmetric, DependIndex, At, In, is_kept_at, is_under, is_under_some, own_key, value_of_place, whole_key, AscendsFrom, IsAscending, first_above, earlier, Touch, By, reached, is_value_written, touches, positions_from, positions, kept, IsIndexOf}
+use Rattle.rd_depend.proofs.Prelude.{nat_tests, is_some, SegName, Place, Cell, Val, Idx, Whole, is_of_cell, some_overlap, is_nothing, written, interfere, Entry, Wrote, first_from, first_dependant, depends, depends_on_one, numbered, symmetric, DependIndex, At, In, is_kept_at, is_under, is_under_some, own_key, value_of_place, whole_key, AscendsFrom, IsAscending, first_above, earlier, Touch, By, reached, is_value_written, touches, positions_from, positions, kept, IsIndexOf}
 use Rattle.rd_depend.proofs.IndexPositions.{positions-ascend, positions-number, number-within, ascending}
 
 -- the same test

@@ -11,13 +11,6 @@ use Rattle.rd_depend.proofs.TakingOut.{touched-alike, wrote-alike, AreApart, IsA
 grows : (b w v : Bool) (r : Reached) (i j : ℕ) → bound (if b then passed r w i else r) v < j → bound r v < j
 grows b w v r i j h = grind arith
 
--- and where one did the second is after the first
-seen_touching : (b w v : Bool) (r : Reached) (i j : ℕ) → bound (if b then passed r w i else r) v < j → b ≡ true → w ≡ true → i < j
-seen_touching b w v r i j h e f = grind arith
-
-seen_writing : (b w v : Bool) (r : Reached) (i j : ℕ) → bound (if b then passed r w i else r) v < j → b ≡ true → v ≡ true → i < j
-seen_writing b w v r i j h e f = grind arith
-
 -- The same under all keys
 
 in_order-alike : (s : Key → Reached) (x y : Entry) (i : ℕ) → AreAlike x y → IsInOrder s x i → IsInOrder s y i

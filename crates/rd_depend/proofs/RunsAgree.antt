@@ -26,10 +26,6 @@ makings_before : (xs ys : List Entry) → AllMakingsWrote (xs ++ ys) → AllMaki
 makings_before [] ys h = tt
 makings_before (x ∷ xs) ys h = (h.0, makings_before xs ys h.1)
 
-making_at : (xs : List Entry) (y : Entry) (ys : List Entry) → AllMakingsWrote (xs ++ y ∷ ys) → MakingWrote y
-making_at [] y ys h = h.0
-making_at (x ∷ xs) y ys h = making_at xs y ys h.1
-
 -- Free and apart
 
 all_apart : (x : Entry) (ys : List Entry) → MakingWrote x → AllMakingsWrote ys → IsFree x ys → IsApartFrom x ys

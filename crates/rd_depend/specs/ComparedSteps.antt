@@ -1,6 +1,6 @@
 -- What the code keeps while it compares two runs: how far the steps of the first run reached in the
 -- second, and which steps of the second are left.
-use Rattle.std.specs.Prelude.{◌≡◌, ℕ, List, Option, Some, None, map, reverse, unwrap_or}
+use Rattle.std.specs.Prelude.{◌≡◌, ℕ, List, Option, map, reverse, unwrap_or}
 use Rattle.indexmap.specs.IndexMap.{get}
 use Rattle.rd_step.specs.declared.entries.Entry.{Entry}
 use Rattle.rd_depend.specs.declared.index.keys.Key.{Key}

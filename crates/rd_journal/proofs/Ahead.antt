@@ -50,8 +50,6 @@ out_undone n k old new some within moved = grind (arith, length-take-le, length-
 pub none_taken : (n : ℕ) (xs : List Entry) → xs ≡ [] → take n xs ≡ []
 none_taken n xs none = grind arith
 
--- The next steps ahead, made again
-
 -- The track
 
 -- the live steps and those ahead of them

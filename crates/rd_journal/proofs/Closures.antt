@@ -1,7 +1,7 @@
 -- The causal closure is the least set that holds its step and what depends on its members, and lone
 -- undos that take the step out take all of it out.
 use Rattle.rd_journal.proofs.Prelude.{common_steps, cases_Bool, cases_eq, cond-true, cond-false, lt-ltb, le-ltb, ltb-true, ltb-false, depends, IsFree, first_dependant, depends_on_one, closure, closure_of, without_closure, marked, unmarked, IsInClosure, closure_from, first_from, AreLoneUndos, number_after, numbered, Entry, Journal, IsUndoneAlone, IsRolledBack}
-use Rattle.std.proofs.Common.{◌≡◌, ◌≢◌, ℕ, zero, suc, ◌+◌, ◌-◌, ◌<◌, ◌≤◌, ◌==◌, ◌||◌, inl, inr, Bool, true, false, nat_lt, if◌then◌else◌, refl, sym, ◌∙◌, ap, subst, arith, List, [], ◌∷◌, ◌++◌, length, get_or, take, drop, slice_get, Option, Some, None, eq-eqb, ne_eqb}
+use Rattle.std.proofs.Common.{◌≡◌, ◌≢◌, ℕ, zero, suc, ◌+◌, ◌-◌, ◌<◌, ◌≤◌, ◌==◌, ◌||◌, inl, inr, Bool, true, false, nat_lt, if◌then◌else◌, refl, sym, ◌∙◌, ap, subst, arith, List, [], ◌∷◌, ◌++◌, length, get_or, take, drop, slice_get, Some, None, eq-eqb, ne_eqb}
 use Rattle.rd_step.specs.Dependence.IsInClosure.{itself, dependant}
 use Rattle.rd_journal.proofs.Gathering.{cut_at}
 use Rattle.rd_journal.proofs.Finding.{numbered_in, scan_is}

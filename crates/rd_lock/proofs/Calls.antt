@@ -7,7 +7,7 @@ use Rattle.rd_lock.specs.declared.views.Stage.{Stage}
 use Rattle.rd_lock.specs.declared.views.Stage.TheVariants.{Out, Holds}
 use Rattle.rd_lock.specs.Histories.{named, Adds, placed}
 use Rattle.rd_lock.specs.Rule.{number_in, view_of, in_hand}
-use Rattle.rd_lock.specs.Steps.{knows_served, has_put, after_served, IsNewestServed, saw_served, released}
+use Rattle.rd_lock.specs.Steps.{knows_served, has_put, saw_served, released}
 use Rattle.rd_lock.specs.Locks.{KnowsOpening, IsDueIn, HasPutIn}
 use Rattle.rd_lock.proofs.Lock.{Lock, Rule}
 use Rattle.rd_lock.proofs.Lists.{named_own}
@@ -30,12 +30,7 @@ module _ {T E O : Type 0} where
   -- after a load of served
   pub saw : (m m' : Me (Option T) (View E O)) (p : PassView E O) (n : ℕ) → m ≡ (view_of (p ∷ []) Out, []) → saw_served m n m'
       → (m' ≡ (view_of (knows_served n p ∷ []) Out, [])) × (p.served ≤ n) × (n ≤ 2 ^ 63) × (p.next ≤ 2 ^ 63)
-  saw m m' p n is h = let new = subst (λ (x : Me (Option T) (View E O)). IsNewestServed n x.0) is h.0 in (
-    h.1 ∙ ap (λ (x : Me (Option T) (View E O)). (after_served n x.0.stage x.0, x.1)) is,
-    new.1.0.0,
-    new.0,
-    new.1.0.1,
-  )
+  saw m m' p n is h = grind arith
 
   module _ (history : T → List (ℕ × E)) (origin : T → O) where
     -- what a release tells

@@ -32,42 +32,21 @@ module _ {T E O : Type 0} (lock : Lock T E O) where
   -- the value stays where it was when a seat that doesn't hold changes
   pub place_else : (f g : Facts T E) (views : List (View E O)) (id : ℕ) (v w : View E O) (place : Place T) → get_elem? views id ≡ some v → (v.stage ≢ Holds f.served f.log) → g.log ≡ f.log → g.served ≡ f.served
       → Placed lock f views place → Placed lock g (set views id w) place
-  place_else f g views id v w (home x) at free log served h = (h.0 ∙ sym log, h.1)
-  place_else f g views id v w (away k) at free log served (u, here, holds) = dite (ℕ_discrete k id)
-      (λ e. absurd (free (ap (λ (x : View E O). x.stage) (some-injective v u (sym at ∙ (ap (λ (j : ℕ). get_elem? views j) (sym e) ∙ here))) ∙ holds)))
-      (λ ne. (u, set_else views id k w ne ∙ here, holds ∙ (λ i. Holds (sym served i) (sym log i))))
+  place_else f g views id v w place at free log served h = grind (arith, set_else)
 
   -- the facts after the ticket n is drawn
   abbrev drawn : Facts T E → ℕ → Place T → Facts T E
   drawn f id place = record { next = f.next + 1; served = f.served; log = f.log; owner = f.owner; taker = put f.taker f.next id; place = place }
 
   drawn_suits : (f : Facts T E) (id j : ℕ) (place : Place T) (p q : PassView E O) → Suits lock f id p → j ≢ id → Suits lock f j q → Suits lock (drawn f id place) j q
-  drawn_suits f id j place p q mine ne h = record {
-    owned = h.owned;
-    numbered = h.numbered;
-    informed = h.informed;
-    has_seen = h.has_seen;
-    has_put = h.has_put;
-    words = let a = h.words.0 in (omega arith, h.words.1);
-    only = λ one. absurd (ne (one_seat lock f id j p q one mine h));
-  }
+  drawn_suits f id j place p q mine ne h = grind arith
 
   drawer_suits : (f : Facts T E) (id : ℕ) (place : Place T) (p : PassView E O) → Suits lock f id p → Suits lock (drawn f id place) id (knows_next (f.next + 1) p)
-  drawer_suits f id place p h = record {
-    owned = h.owned;
-    numbered = h.numbered;
-    informed = h.informed;
-    has_seen = h.has_seen;
-    has_put = h.has_put;
-    words = (omega arith, h.words.1);
-    only = λ one. (refl, (h.only one).1);
-  }
+  drawer_suits f id place p h = grind arith
 
   -- another seat's stage, where it doesn't hold or the value stays
   drawn_stays : (f : Facts T E) (id j : ℕ) (place : Place T) → (f.place ≡ away j → place ≡ away j) → (s : Stage E) → StageSuits lock f j s → StageSuits lock (drawn f id place) j s
-  drawn_stays f id j place stays Out h = tt
-  drawn_stays f id j place stays (Waits t) h = let a = h.1 in (h.0, omega arith, put_else f.taker f.next id t (λ e. omega arith) ∙ h.2)
-  drawn_stays f id j place stays (Holds t found) h = let a = h.1 in (h.0, omega arith, put_else f.taker f.next id t (λ e. omega arith) ∙ h.2, stays h.3, h.4)
+  drawn_stays f id j place stays s h = grind arith
 
   -- the facts after a draw are kept, whether the drawer waits or holds then
   drawn_kept : (f : Facts T E) (views : List (View E O)) (id : ℕ) (p : PassView E O) (s : Stage E) (place : Place T) → Kept lock f views → get_elem? views id ≡ some (view_of (p ∷ []) Out) → f.next < 2 ^ 63

@@ -17,7 +17,6 @@ use Rattle.rd_lock.specs.declared.tickets.Busy.{Busy}
 use Rattle.rd_lock.proofs.Lock.{Lock, Fits, Suits, Kept, Rule}
 use Rattle.rd_lock.proofs.Lists.{every_from}
 use Rattle.rd_lock.proofs.Keeps.{alone_with}
-use Rattle.rd_lock.proofs.Releases.{value_or}
 use Rattle.rd_lock.proofs.Draws.{no_ticket, idle_home}
 
 module _ (E : Type 0) {O : Type 0} where
@@ -48,18 +47,7 @@ module _ {T E O : Type 0} (lock : Lock T E O) where
 
   newcomers_fit : (x : T) (first k n : ℕ) → 0 < k → k + n ≤ seats + 1 → AllByRecursion (Suits lock (opened x first) 0) (newcomers seats root first k n)
   newcomers_fit x first k zero low high = tt
-  newcomers_fit x first k (suc n) low high = (
-    record {
-      owned = refl;
-      numbered = (low, omega arith);
-      informed = (refl, refl);
-      has_seen = ([], refl);
-      has_put = refl;
-      words = (omega arith, omega arith);
-      only = λ _. (refl, refl);
-    },
-    newcomers_fit x first (suc k) n (omega arith) (omega arith),
-  )
+  newcomers_fit x first k (suc n) low high = grind (arith, newcomers_fit x first (suc k) n (omega arith) (omega arith))
 
   first_view : (x : T) (first : ℕ) (j : ℕ) (v : View E O) → get_elem? (opening_view seats root first ∷ []) j ≡ some v → Fits lock (opened x first) j v
   first_view x first zero v at = subst (Fits lock (opened x first) 0) (some-injective (opening_view seats root first) v at) (record {
@@ -153,9 +141,7 @@ module _ {T E O : Type 0} (lock : Lock T E O) where
 
   -- and tell what it is
   pub is_left : (ps : List (PassView E O)) (ws : List ℕ) (xs : List (Option T)) → IsEnded ps ws xs → (x : T) → (get_or ws 0 0 ≡ get_or ws 1 0) × (get_elem? xs 0 ≡ some (Some x)) → IsLeft history origin seats root ps x
-  is_left ps ws xs e x found = let v = e.value (ap (λ l. get_or l 0 0) (sym e.words) ∙ (found.0 ∙ ap (λ l. get_or l 1 0) e.words)) in
-      let same : v.0 ≡ x = ap (value_or x) (some-injective (Some v.0) (Some x) (sym v.1.0 ∙ found.1)) in
-      subst (IsLeft history origin seats root ps) same (v.1.1, v.1.2, v.2)
+  is_left ps ws xs e x found = grind arith
 
   -- with all passes the words are equal
   pub all_equal : (ps : List (PassView E O)) (ws : List ℕ) (xs : List (Option T)) → IsEnded ps ws xs → AreAll seats (numbers_of ps) → get_or ws 0 0 ≡ get_or ws 1 0

@@ -1,5 +1,5 @@
 -- How a change of one seat's view keeps the rule.
-use Rattle.std.proofs.Common.{◌≡◌, ◌≢◌, ℕ, ◌^◌, ◌<◌, ◌≤◌, ◌⊎◌, List, [], ◌∷◌, map, get_or, set, sym, refl, ap, ◌∙◌, subst, inl, inr, ⊎_elim, Option}
+use Rattle.std.proofs.Common.{◌≡◌, ◌≢◌, ℕ, ◌^◌, ◌<◌, ◌≤◌, ◌⊎◌, List, [], ◌∷◌, map, get_or, set, sym, refl, ap, ◌∙◌, subst, ⊎_elim, Option, arith}
 use mathlib.Core.Logic.{dite}
 use mathlib.Core.Option.{some, some-ne-none, some-injective}
 use native.Mathlib.Decide.{ℕ_discrete}
@@ -63,9 +63,7 @@ module _ {T E O : Type 0} (lock : Lock T E O) where
   -- a seat that holds a ticket still does after a change of its view that keeps the stage
   ticket_stays : (f : Facts T E) (views : List (View E O)) (id : ℕ) (v w : View E O) → get_elem? views id ≡ some v → w.stage ≡ v.stage → (k t : ℕ) → HasTicket views k t
       → ((k ≡ id) × (ticket w.stage ≡ some t)) ⊎ ((k ≢ id) × HasTicket views k t)
-  ticket_stays f views id v w at same k t (u, here, has) = dite (ℕ_discrete k id)
-      (λ e. let is : u ≡ v = some-injective u v (sym here ∙ (ap (λ (j : ℕ). get_elem? views j) e ∙ at)) in inl (e, ap ticket same ∙ (ap (λ (x : View E O). ticket x.stage) (sym is) ∙ has)))
-      (λ ne. inr (ne, (u, here, has)))
+  ticket_stays f views id v w at same k t h = grind arith
 
   -- so is the value where it was
   place_stays : (f : Facts T E) (views : List (View E O)) (id : ℕ) (v w : View E O) (place : Place T) → get_elem? views id ≡ some v → w.stage ≡ v.stage → Placed lock f views place

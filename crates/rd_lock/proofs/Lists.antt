@@ -1,5 +1,6 @@
 -- Histories, and facts of each element of a list.
-use Rattle.std.proofs.Common.{◌≡◌, ◌≢◌, ℕ, zero, suc, ◌+◌, ◌<◌, ◌≤◌, ◌⊎◌, Bool, true, false, cond, eqb, List, [], ◌∷◌, ◌++◌, map, length, sym, refl, ap, ◌∙◌, subst, inl, inr, ⊎_elim, arith, append_assoc, add-zero, eq-eqb, ne_eqb}
+use Rattle.std.proofs.lemmas.Grind.{common_steps}
+use Rattle.std.proofs.Common.{◌≡◌, ◌≢◌, ℕ, zero, suc, ◌+◌, ◌<◌, ◌≤◌, ◌⊎◌, cond, eqb, List, [], ◌∷◌, ◌++◌, map, length, sym, refl, ap, ◌∙◌, inl, inr, ⊎_elim, arith, append_assoc, add-zero, eq-eqb, ne_eqb}
 use Rattle.std.proofs.lemmas.List.{append-nil}
 use mathlib.Core.Option.{some, some-ne-none, some-injective}
 use mathlib.Core.List.{IsPrefix}
@@ -25,8 +26,7 @@ module _ {A : Type 0} where
   every_from P Q f (x ∷ xs) h = (f x h.0, every_from P Q f xs h.1)
 
   pub every_append : (P : A → Type 0) (xs ys : List A) → AllByRecursion P xs → AllByRecursion P ys → AllByRecursion P (xs ++ ys)
-  every_append P [] ys h k = k
-  every_append P (x ∷ xs) ys h k = (h.0, every_append P xs ys h.1 k)
+  every_append P xs ys h k = grind (arith, common_steps)
 
   pub every_map : {B : Type 0} (f : A → B) (P : B → Type 0) (xs : List A) → AllByRecursion (λ x. P (f x)) xs → AllByRecursion P (map f xs)
   every_map f P [] h = tt
@@ -35,11 +35,6 @@ module _ {A : Type 0} where
   pub every_both : (P Q R : A → Type 0) → ((x : A) → P x → Q x → R x) → (xs : List A) → AllByRecursion P xs → AllByRecursion Q xs → AllByRecursion R xs
   every_both P Q R f [] h k = tt
   every_both P Q R f (x ∷ xs) h k = (f x h.0 k.0, every_both P Q R f xs h.1 k.1)
-
-  pub every_at : (P : A → Type 0) (xs : List A) (i : ℕ) (a : A) → get_elem? xs i ≡ some a → AllByRecursion P xs → P a
-  every_at P [] i a e h = absurd (some-ne-none a (sym e))
-  every_at P (x ∷ xs) zero a e h = subst P (some-injective x a e) h.0
-  every_at P (x ∷ xs) (suc i) a e h = every_at P xs i a e h.1
 
   pub pairwise_from : (R S : A → A → Type 0) → ((x y : A) → R x y → S x y) → (xs : List A) → Pairwise R xs → Pairwise S xs
   pairwise_from R S f [] h = tt
@@ -82,18 +77,11 @@ module _ {E : Type 0} where
   named_others pass k [] other (e ∷ es) ne = rw (ne_eqb other pass ne) (named_others pass (suc k) [] other es ne)
   named_others pass k (x ∷ xs) other es ne = ap (λ l. cond (eqb x.0 pass) ((k, x.1) ∷ l) l) (named_others pass (suc k) xs other es ne)
 
-  named_step : (b : Bool) (k pass n : ℕ) (e : E) (xs all : List (ℕ × E)) (es : List E) → named pass (suc k) all ≡ named pass (suc k) xs ++ placed n es
-      → cond b ((k, e) ∷ named pass (suc k) all) (named pass (suc k) all) ≡ cond b ((k, e) ∷ named pass (suc k) xs) (named pass (suc k) xs) ++ placed n es
-  named_step true k pass n e xs all es h = ap (λ l. (k, e) ∷ l) h
-  named_step false k pass n e xs all es h = h
-
   -- the pass's own new entries are all its own
   pub named_own : (pass k : ℕ) (xs : List (ℕ × E)) (es : List E) → named pass k (xs ++ signed pass es) ≡ named pass k xs ++ placed (k + length xs) es
   named_own pass k [] [] = refl
   named_own pass k [] (e ∷ es) = rw (eq-eqb pass pass refl) (ap (λ l. (k, e) ∷ l) (named_own pass (suc k) [] es ∙ ap (λ n. placed n es) (add-zero (suc k))) ∙ ap (λ n. (n, e) ∷ placed (suc n) es) (sym (add-zero k)))
-  named_own pass k (x ∷ xs) es = let n : suc k + length xs ≡ k + suc (length xs) = omega arith in
-      named_step (eqb x.0 pass) k pass (k + suc (length xs)) x.1 xs (xs ++ signed pass es) es
-      (named_own pass (suc k) xs es ∙ ap (λ m. named pass (suc k) xs ++ placed m es) n)
+  named_own pass k (x ∷ xs) es = grind (arith, named_own pass (suc k) xs es)
 
   pub names_signed : (n pass : ℕ) (es : List E) → 0 < pass → pass ≤ n → NamesUpTo n (signed pass es)
   names_signed n pass [] low high = tt

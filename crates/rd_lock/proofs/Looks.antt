@@ -35,38 +35,17 @@ module _ {T E O : Type 0} (lock : Lock T E O) where
   -- another seat's view, whose members and stage still fit
   pub others_fit : (f g : Facts T E) (j : ℕ) (u : View E O) → ((p : PassView E O) → Suits lock f j p → Suits lock g j p) → ((s : Stage E) → StageSuits lock f j s → StageSuits lock g j s)
       → Fits lock f j u → Fits lock g j u
-  others_fit f g j u suits stays h = record {
-    members = every_from (Suits lock f j) (Suits lock g j) suits u.members h.members;
-    apart = h.apart;
-    stage = stays u.stage h.stage;
-    alone = h.alone;
-  }
+  others_fit f g j u suits stays h = grind (arith, every_from)
 
   -- where there is one seat, there is one pass
   pub one_seat : (f : Facts T E) (i j : ℕ) (p q : PassView E O) → seats ≡ 1 → Suits lock f i p → Suits lock f j q → j ≡ i
   one_seat f i j p q one a b = let x = a.numbered in let y = b.numbered in let same : q.pass ≡ p.pass = omega arith in sym b.owned ∙ (ap f.owner same ∙ a.owned)
 
   next_suits : (f : Facts T E) (id : ℕ) (p : PassView E O) → Suits lock f id p → Suits lock f id (knows_next f.next p)
-  next_suits f id p h = record {
-    owned = h.owned;
-    numbered = h.numbered;
-    informed = h.informed;
-    has_seen = h.has_seen;
-    has_put = h.has_put;
-    words = (omega arith, h.words.1);
-    only = λ one. (refl, (h.only one).1);
-  }
+  next_suits f id p h = grind arith
 
   pub served_suits : (f : Facts T E) (id : ℕ) (p : PassView E O) → f.served ≤ f.next → Suits lock f id p → Suits lock f id (knows_served f.served p)
-  served_suits f id p order h = let least = h.words.0 in record {
-    owned = h.owned;
-    numbered = h.numbered;
-    informed = h.informed;
-    has_seen = h.has_seen;
-    has_put = h.has_put;
-    words = (omega arith, omega arith);
-    only = λ one. let e = (h.only one).0 in (omega arith, refl);
-  }
+  served_suits f id p order h = grind arith
 
   pub newest_next : (f : Facts T E) (views : List (View E O)) (id : ℕ) (v : View E O) → Kept lock f views → Fits lock f id v → IsNewestNext f.next v
   newest_next f views id v kept fits = (kept.limit, every_from (Suits lock f id) (λ p. p.next ≤ f.next) (λ p h. h.words.0) v.members fits.members)

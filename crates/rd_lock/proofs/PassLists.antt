@@ -1,5 +1,6 @@
 -- Lists of passes, and the members of their seats.
-use Rattle.std.proofs.Common.{◌≡◌, ℕ, zero, suc, ◌+◌, ◌-◌, ◌<◌, ◌≤◌, List, [], ◌∷◌, ◌++◌, map, length, sym, refl, ap, ◌∙◌, subst, arith, Result, Ok, Err, IfOk, IfErr, IsOk, length-append, rules, append_assoc}
+use Rattle.std.proofs.lemmas.Grind.{common_steps}
+use Rattle.std.proofs.Common.{◌≡◌, ℕ, zero, suc, ◌+◌, ◌-◌, ◌<◌, ◌≤◌, List, [], ◌∷◌, ◌++◌, map, length, sym, refl, ap, ◌∙◌, subst, arith, Result, IfOk, IfErr, IsOk, length-append, append_assoc}
 use Rattle.std.proofs.lemmas.List.{append-nil}
 use mathlib.Core.List.{IsPrefix}
 use Rattle.atomic_table.specs.Seated.{TableId}
@@ -34,30 +35,24 @@ module _ {A : Type 0} where
   some_first (x ∷ xs) h = (x, xs, refl)
 
   pub none_left : (xs : List A) → length xs ≡ 0 → xs ≡ []
-  none_left [] h = refl
-  none_left (x ∷ xs) h = absurd (omega arith)
+  none_left xs h = grind (arith, common_steps)
 
 module _ {A B : Type 0} where
   pub if_ok_map : (P Q : A → Type 0) (r : Result A B) → ((x : A) → P x → Q x) → IfOk r P → IfOk r Q
-  if_ok_map P Q (Ok x) f h = f x h
-  if_ok_map P Q (Err e) f h = tt
+  if_ok_map P Q r f h = grind arith
 
   pub if_err_map : (P Q : B → Type 0) (r : Result A B) → ((e : B) → P e → Q e) → IfErr r P → IfErr r Q
-  if_err_map P Q (Ok x) f h = tt
-  if_err_map P Q (Err e) f h = f e h
+  if_err_map P Q r f h = grind arith
 
   pub is_ok_unless : (P : B → Type 0) (r : Result A B) → ((e : B) → P e → ⊥) → IfErr r P → IsOk r
-  is_ok_unless P (Ok x) f h = search rules
-  is_ok_unless P (Err e) f h = absurd (f e h)
+  is_ok_unless P r f h = grind arith
 
 module _ {E O : Type 0} where
   pub parts : (ps : List (PassView E O)) → first_of_members ps ++ other_members ps ≡ ps
-  parts [] = refl
-  parts (p ∷ ps) = refl
+  parts ps = grind arith
 
   pub one_first : (ps : List (PassView E O)) → 0 < length ps → length (first_of_members ps) ≡ 1
-  one_first [] h = absurd (omega arith)
-  one_first (p ∷ ps) h = refl
+  one_first ps h = grind arith
 
 module _ (E : Type 0) {O : Type 0} where
   pub newcomers_count : (count : ℕ) (origin : O) (first k n : ℕ) → length {A = PassView E O} (newcomers count origin first k n) ≡ n
@@ -79,10 +74,7 @@ module _ {T E O : Type 0} (lock : Lock T E O) where
   open lock use {history, origin, seats, root}
 
   pub joins_it : (id other : ℕ) (v w : View E O) → v.stage ≡ Out → w.stage ≡ Out → Joins (Rule lock) id v other w (view_of (w.members ++ v.members) Out) (view_of [] Out)
-  joins_it id other v w out out' =
-      subst (λ (x : View E O). Joins (Rule lock) id x other w (view_of (w.members ++ v.members) Out) (view_of [] Out)) (λ i. view_of v.members (sym out i))
-      (subst (λ (x : View E O). Joins (Rule lock) id (view_of v.members Out) other x (view_of (w.members ++ v.members) Out) (view_of [] Out)) (λ i. view_of w.members (sym out' i))
-      (joins lock id other v.members w.members))
+  joins_it id other v w out out' = grind (arith, joins)
 
   pub splits_it : (id : ℕ) (v : View E O) → v.stage ≡ Out → 0 < length v.members → Splits (Rule lock) id v (view_of (other_members v.members) Out) (view_of (first_of_members v.members) Out)
   splits_it id v out some_members = let h = some_first v.members some_members in
@@ -101,8 +93,7 @@ module _ {T E O : Type 0} {K : Ghosts T E O} where
   -- the numbers of the members are those of the passes
   pub same_numbers : (xs : List (Pass T E O K)) → map (λ (p : PassView E O). p.pass) (members_of xs) ≡ map number xs
   same_numbers [] = refl
-  same_numbers (x ∷ xs) = let p = one_of x.seat.me.0.members x.alone in
-      ap (λ ps. map (λ (p : PassView E O). p.pass) (ps ++ members_of xs)) p.1 ∙ (λ i. sym (ap number_in p.1) i ∷ same_numbers xs i)
+  same_numbers (x ∷ xs) = grind (arith, one_of, same_numbers xs)
 
   -- what holds of the members holds of the passes
   of_each : (P : PassView E O → Type 0) (Q : List (PassView E O) → Type 0) → ((p : PassView E O) → P p → Q (p ∷ [])) → (xs : List (Pass T E O K)) → AllByRecursion P (members_of xs) → AllByRecursion (λ (x : Pass T E O K). Q x.seat.me.0.members) xs
@@ -155,13 +146,11 @@ module _ {T E O : Type 0} {K : Ghosts T E O} where
 
   -- one more pass is handed out
   pub handed : (xs : List (Pass T E O K)) (x : Pass T E O K) (ps all : List (PassView E O)) → members_of xs ++ ps ≡ all → x.seat.me.0.members ≡ first_of_members ps → members_of (xs ++ x ∷ []) ++ other_members ps ≡ all
-  handed xs x ps all is mine = ap (λ l. l ++ other_members ps) (members_append xs (x ∷ []) ∙ ap (λ l. members_of xs ++ l) (append-nil x.seat.me.0.members ∙ mine))
-      ∙ (append_assoc (members_of xs) (first_of_members ps) (other_members ps) ∙ (ap (λ l. members_of xs ++ l) (parts ps) ∙ is))
+  handed xs x ps all is mine = grind (arith, members_append, append-nil, append_assoc, parts)
 
   -- the last pass is taken from the list
   pub popped : (old new : List (Pass T E O K)) (x : Pass T E O K) (ps all : List (PassView E O)) → old ≡ new ++ x ∷ [] → members_of old ++ ps ≡ all → members_of new ++ (x.seat.me.0.members ++ ps) ≡ all
-  popped old new x ps all is h = sym (append_assoc (members_of new) x.seat.me.0.members ps)
-      ∙ (ap (λ l. l ++ ps) (sym (members_append new (x ∷ []) ∙ ap (λ l. members_of new ++ l) (append-nil x.seat.me.0.members)) ∙ ap members_of (sym is)) ∙ h)
+  popped old new x ps all is h = grind (arith, append_assoc, members_append, append-nil)
 
   -- the same, by the numbers that the lock was opened with
   pub opened_new : (lock : TicketLock T E O) (table : TableId) (count : ℕ) (top : O) (first given n : ℕ) (xs : List (Pass T E O K)) → seats lock ≡ count → opened_origin K.origin lock ≡ top → given ≡ first

@@ -1,4 +1,5 @@
 -- The release, which gives the value back.
+use Rattle.std.proofs.lemmas.Grind.{common_steps}
 use Rattle.std.proofs.Common.{◌≡◌, ◌≢◌, ℕ, ◌+◌, ◌%◌, ◌^◌, ◌<◌, ◌≤◌, List, [], ◌∷◌, ◌++◌, set, sym, refl, ap, ◌∙◌, subst, inr, arith, Option, Some, None}
 use mathlib.Core.Option.{some, some-injective}
 use lib.ListN.{get_elem?}
@@ -6,7 +7,7 @@ use Rattle.atomic_table.specs.Table.{Act, gives, Valid, homes_after, carried_aft
 use Rattle.rd_lock.specs.declared.views.PassView.{PassView}
 use Rattle.rd_lock.specs.declared.views.View.{View}
 use Rattle.rd_lock.specs.declared.views.Stage.{Stage}
-use Rattle.rd_lock.specs.declared.views.Stage.TheVariants.{Out, Waits, Holds}
+use Rattle.rd_lock.specs.declared.views.Stage.TheVariants.{Out, Holds}
 use Rattle.rd_lock.specs.Histories.{named, signed, Adds, NamesUpTo}
 use Rattle.rd_lock.specs.Rule.{Place, home, away, Facts, ticket, view_of, single_slot}
 use Rattle.rd_lock.specs.Steps.{has_put, released}
@@ -38,32 +39,14 @@ module _ {T E O : Type 0} (lock : Lock T E O) where
 
   -- another pass's member, whose entries are as they were
   done_suits : (f : Facts T E) (id j : ℕ) (x : T) (es : List E) (p q : PassView E O) → Suits lock f id p → j ≢ id → history x ≡ f.log ++ signed p.pass es → Suits lock f j q → Suits lock (done f x) j q
-  done_suits f id j x es p q mine ne added h = let other : p.pass ≢ q.pass = (λ e. ne (sym h.owned ∙ (ap f.owner (sym e) ∙ mine.owned))) in record {
-    owned = h.owned;
-    numbered = h.numbered;
-    informed = h.informed;
-    has_seen = prefix_trans q.seen f.log (history x) h.has_seen (signed p.pass es, sym added);
-    has_put = h.has_put ∙ (sym (named_others q.pass 0 f.log p.pass es other) ∙ ap (named q.pass 0) (sym added));
-    words = let a = h.words.1 in (h.words.0, omega arith);
-    only = λ one. absurd (ne (one_seat lock f id j p q one mine h));
-  }
+  done_suits f id j x es p q mine ne added h = grind (arith, common_steps, prefix_trans, named_others, one_seat)
 
   -- the pass that put
   putter_suits : (f : Facts T E) (id : ℕ) (x : T) (p : PassView E O) → Suits lock f id p → Suits lock (done f x) id (has_put (history x) (f.served + 1) p)
-  putter_suits f id x p h = record {
-    owned = h.owned;
-    numbered = h.numbered;
-    informed = h.informed;
-    has_seen = prefix_same (history x);
-    has_put = refl;
-    words = (h.words.0, omega arith);
-    only = λ one. ((h.only one).0, refl);
-  }
+  putter_suits f id x p h = grind (arith, prefix_same)
 
   done_stays : (f : Facts T E) (id j : ℕ) (x : T) → j ≢ id → f.taker f.served ≡ id → f.place ≡ away id → (s : Stage E) → StageSuits lock f j s → StageSuits lock (done f x) j s
-  done_stays f id j x ne mine is Out h = tt
-  done_stays f id j x ne mine is (Waits t) h = let low = h.0 in let apart : t ≢ f.served = (λ e. ne (sym h.2 ∙ (ap f.taker e ∙ mine))) in (omega arith, h.1, h.2)
-  done_stays f id j x ne mine is (Holds t found) h = let a = h.0 in absurd (ne (sym h.2 ∙ (ap f.taker a ∙ mine)))
+  done_stays f id j x ne mine is s h = grind arith
 
   gives_back : (slots id : ℕ) (p : PassView E O) (t : ℕ) (log : List (ℕ × E)) (x : T) (es : List E) (f : Facts T E) (views : List (View E O)) → history x ≡ log ++ signed p.pass es → origin x ≡ p.origin → Kept lock f views
       → get_elem? views id ≡ some (view_of (p ∷ []) (Holds t log))

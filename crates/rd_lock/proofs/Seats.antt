@@ -1,5 +1,5 @@
 -- Two seats made one, and one made two.
-use Rattle.std.proofs.Common.{◌≡◌, ◌≢◌, ℕ, cond, eqb, List, [], ◌∷◌, ◌++◌, length, set, sym, refl, ap, ◌∙◌, subst, inl, inr, ⊎_elim, eq-eqb, ne_eqb}
+use Rattle.std.proofs.Common.{◌≡◌, ◌≢◌, ℕ, cond, eqb, List, [], ◌∷◌, ◌++◌, length, set, sym, refl, ap, ◌∙◌, subst, inl, inr, ⊎_elim, eq-eqb, ne_eqb, arith}
 use mathlib.Core.Logic.{dite}
 use mathlib.Core.Option.{some, some-injective}
 use native.Mathlib.Decide.{ℕ_discrete}
@@ -9,10 +9,10 @@ use Rattle.atomic_table.proofs.Lists.{at_set, at_longer, at_last, set_here, set_
 use Rattle.rd_lock.specs.declared.views.PassView.{PassView}
 use Rattle.rd_lock.specs.declared.views.View.{View}
 use Rattle.rd_lock.specs.declared.views.Stage.{Stage}
-use Rattle.rd_lock.specs.declared.views.Stage.TheVariants.{Out, Waits, Holds}
+use Rattle.rd_lock.specs.declared.views.Stage.TheVariants.{Out}
 use Rattle.rd_lock.specs.Histories.{IsIn}
 use Rattle.std.specs.List.{AllByRecursion}
-use Rattle.rd_lock.specs.Rule.{Place, home, away, Facts, view_of, numbers_of, HasPass}
+use Rattle.rd_lock.specs.Rule.{Place, Facts, view_of, numbers_of, HasPass}
 use Rattle.rd_lock.proofs.Lock.{Lock, Fits, Suits, StageSuits, Rule, Placed}
 use Rattle.rd_lock.proofs.Lists.{inside, at_end, every_append, every_both, pairwise_append, every_from}
 use Rattle.rd_lock.proofs.Facts.{put, put_here, put_else}
@@ -66,37 +66,18 @@ module _ {T E O : Type 0} (lock : Lock T E O) where
 
   -- one who comes over
   comes : (f : Facts T E) (id other : ℕ) (p : PassView E O) → Suits lock f other p → Suits lock (joined f id other) id p
-  comes f id other p h = record {
-    owned = ap (λ b. cond b id (f.owner p.pass)) (eq-eqb (f.owner p.pass) other h.owned);
-    numbered = h.numbered;
-    informed = h.informed;
-    has_seen = h.has_seen;
-    has_put = h.has_put;
-    words = h.words;
-    only = h.only;
-  }
+  comes f id other p h = grind arith
 
   -- one who stays
   stays : (f : Facts T E) (id other j : ℕ) (p : PassView E O) → j ≢ other → Suits lock f j p → Suits lock (joined f id other) j p
-  stays f id other j p ne h = record {
-    owned = ap (λ b. cond b id (f.owner p.pass)) (ne_eqb (f.owner p.pass) other (λ e. ne (sym h.owned ∙ e))) ∙ h.owned;
-    numbered = h.numbered;
-    informed = h.informed;
-    has_seen = h.has_seen;
-    has_put = h.has_put;
-    words = h.words;
-    only = h.only;
-  }
+  stays f id other j p ne h = grind arith
 
   same_stage : (f : Facts T E) (id other j : ℕ) (s : Stage E) → StageSuits lock f j s → StageSuits lock (joined f id other) j s
-  same_stage f id other j Out h = tt
-  same_stage f id other j (Waits t) h = h
-  same_stage f id other j (Holds t found) h = h
+  same_stage f id other j s h = grind arith
 
   -- members of two seats are apart
   across : (f : Facts T E) (id other : ℕ) (ps qs : List (PassView E O)) → other ≢ id → AllByRecursion (Suits lock f id) ps → AllByRecursion (Suits lock f other) qs → AllByRecursion (λ q. AllByRecursion (λ (p : PassView E O). p.pass ≢ q.pass) ps) qs
-  across f id other ps qs ne mine theirs = every_from (Suits lock f other) (λ q. AllByRecursion (λ (p : PassView E O). p.pass ≢ q.pass) ps)
-      (λ q b. every_from (Suits lock f id) (λ p. p.pass ≢ q.pass) (λ p a e. ne (sym b.owned ∙ (ap f.owner (sym e) ∙ a.owned))) ps mine) qs theirs
+  across f id other ps qs ne mine theirs = grind (arith, every_from)
 
   -- a ticket or the value is with neither of two seats that are out
   pub joins : (id other : ℕ) (ps qs : List (PassView E O)) → Joins (Rule lock) id (view_of ps Out) other (view_of qs Out) (view_of (qs ++ ps) Out) (view_of [] Out)
@@ -135,36 +116,17 @@ module _ {T E O : Type 0} (lock : Lock T E O) where
   parted f pass new = record { next = f.next; served = f.served; log = f.log; owner = put f.owner pass new; taker = f.taker; place = f.place }
 
   moves_out : (f : Facts T E) (id new : ℕ) (p : PassView E O) → Suits lock f id p → Suits lock (parted f p.pass new) new p
-  moves_out f id new p h = record {
-    owned = put_here f.owner p.pass new p.pass refl;
-    numbered = h.numbered;
-    informed = h.informed;
-    has_seen = h.has_seen;
-    has_put = h.has_put;
-    words = h.words;
-    only = h.only;
-  }
+  moves_out f id new p h = grind arith
 
   stays_in : (f : Facts T E) (j pass new : ℕ) (q : PassView E O) → q.pass ≢ pass → Suits lock f j q → Suits lock (parted f pass new) j q
-  stays_in f j pass new q ne h = record {
-    owned = put_else f.owner pass new q.pass ne ∙ h.owned;
-    numbered = h.numbered;
-    informed = h.informed;
-    has_seen = h.has_seen;
-    has_put = h.has_put;
-    words = h.words;
-    only = h.only;
-  }
+  stays_in f j pass new q ne h = grind arith
 
   stage_in : (f : Facts T E) (j pass new : ℕ) (s : Stage E) → StageSuits lock f j s → StageSuits lock (parted f pass new) j s
-  stage_in f j pass new Out h = tt
-  stage_in f j pass new (Waits t) h = h
-  stage_in f j pass new (Holds t found) h = h
+  stage_in f j pass new s h = grind arith
 
   -- the value stays where it is when a seat comes
   place_longer : (f g : Facts T E) (views : List (View E O)) (w : View E O) (place : Place T) → g.log ≡ f.log → g.served ≡ f.served → Placed lock f views place → Placed lock g (views ++ w ∷ []) place
-  place_longer f g views w (home x) log served h = (h.0 ∙ sym log, h.1)
-  place_longer f g views w (away k) log served h = (h.0, at_longer views (w ∷ []) k h.0 h.1, h.2 ∙ (λ i. Holds (sym served i) (sym log i)))
+  place_longer f g views w place log served h = grind (arith, at_longer)
 
   pub splits : (id : ℕ) (p : PassView E O) (ps : List (PassView E O)) → Splits (Rule lock) id (view_of (p ∷ ps) Out) (view_of ps Out) (view_of (p ∷ []) Out)
   splits id p ps s r at = let f = r.0 in let kept = r.3 in let v : View E O = view_of (p ∷ ps) Out in let left : View E O = view_of ps Out in let right : View E O = view_of (p ∷ []) Out in

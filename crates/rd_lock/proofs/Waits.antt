@@ -1,5 +1,5 @@
 -- Loads of served by a pass that waits.
-use Rattle.std.proofs.Common.{◌≡◌, ℕ, List, [], ◌∷◌, set, sym, refl, ap, ◌∙◌, subst, inl, inr, Option, Some}
+use Rattle.std.proofs.Common.{◌≡◌, ℕ, List, [], ◌∷◌, set, sym, refl, ap, ◌∙◌, subst, inl, inr, Option, Some, arith}
 use mathlib.Core.Logic.{dite}
 use mathlib.Core.Option.{some, some-injective}
 use native.Mathlib.Decide.{ℕ_discrete}
@@ -9,14 +9,14 @@ use Rattle.atomic_table.proofs.Lists.{set_here}
 use Rattle.rd_lock.specs.declared.views.PassView.{PassView}
 use Rattle.rd_lock.specs.declared.views.View.{View}
 use Rattle.rd_lock.specs.declared.views.Stage.{Stage}
-use Rattle.rd_lock.specs.declared.views.Stage.TheVariants.{Out, Waits, Holds}
+use Rattle.rd_lock.specs.declared.views.Stage.TheVariants.{Waits, Holds}
 use Rattle.rd_lock.specs.Rule.{Place, home, away, Facts, ticket, view_of, single_slot}
 use Rattle.rd_lock.specs.Steps.{knows_served, after_served, listened}
 use Rattle.rd_lock.proofs.Lock.{Lock, Suits, StageSuits, Kept, Rule, Placed}
 use Rattle.rd_lock.proofs.Lists.{inside}
 use Rattle.rd_lock.proofs.Keeps.{moved, allowed}
 use Rattle.rd_lock.proofs.Looks.{others_fit, served_suits, newest_served, served_kept}
-use Rattle.rd_lock.proofs.Draws.{found, elsewhere}
+use Rattle.rd_lock.proofs.Draws.{found}
 
 module _ {T E O : Type 0} (lock : Lock T E O) where
   open lock use {history, origin, root}
@@ -38,9 +38,7 @@ module _ {T E O : Type 0} (lock : Lock T E O) where
   taken_suits f id j p h = record { owned = h.owned; numbered = h.numbered; informed = h.informed; has_seen = h.has_seen; has_put = h.has_put; words = h.words; only = h.only }
 
   taken_stays : (f : Facts T E) (id j : ℕ) (x : T) → f.place ≡ home x → (s : Stage E) → StageSuits lock f j s → StageSuits lock (taken f id) j s
-  taken_stays f id j x is Out h = tt
-  taken_stays f id j x is (Waits t) h = h
-  taken_stays f id j x is (Holds t found) h = absurd (elsewhere lock j (sym is ∙ h.3))
+  taken_stays f id j x is s h = grind arith
 
   served_takes : (slots id : ℕ) (p : PassView E O) (f : Facts T E) (views : List (View E O)) → Kept lock f views → get_elem? views id ≡ some (view_of (p ∷ []) (Waits f.served))
       → (w : View E O) × (a : Act (Option T)) × (g : Facts T E) × (f.served ∷ f.next ∷ [] ≡ g.served ∷ g.next ∷ []) × Valid (single_slot f.place) [] a

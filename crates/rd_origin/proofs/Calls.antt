@@ -1,16 +1,9 @@
 -- Along a run an actor that makes no other call is in its call or idle, and a cell into which
 -- nothing is put has its value or none.
-use Rattle.std.proofs.Common.{◌≡◌, ℕ, Bool, true, false, ◌==◌, ◌&&◌, inl, inr, sym, ◌∙◌, ap, subst, eqb-true, List, [], ◌∷◌, Option, Some, None, Ok}
-use Rattle.std.proofs.lemmas.Bool.{cond_both, and_parts, cond-true}
-use Rattle.rd_step.specs.Prelude.{Place, Actor, after, World, Stepped, step, Ran, run}
-use Rattle.rd_actor.specs.declared.actors.Op.{Op}
-use Rattle.rd_step.specs.declared.entries.Event.{Event}
-use Rattle.rd_step.specs.declared.entries.Entry.{Entry}
-use Rattle.rd_step.proofs.Steps.{took}
-use Rattle.rd_journal.specs.Journal.{events}
+use Rattle.std.proofs.Common.{◌≡◌, ℕ, Bool, true, false, ◌==◌, ◌&&◌, inl, inr, sym, ◌∙◌, ap, subst, eqb-true, List, [], ◌∷◌, Option, Some, None, Ok, arith}
+use Rattle.rd_origin.proofs.Prelude.{cond_both, and_parts, cond-true, Place, World, Stepped, step, run, Op, Event, Entry, took, events, is_call, puts_into, calls_by}
+use Rattle.rd_step.specs.Prelude.{Actor, after}
 use Rattle.rd_step.proofs.RunParts.{beginning}
-use Rattle.rd_journal.proofs.Runs.{as_ok, as_ok-same}
-use Rattle.rd_origin.specs.Origins.{is_call, puts_into, calls_by}
 use Rattle.rd_origin.proofs.Split.{NonePasses}
 use Rattle.rd_origin.proofs.Rows.{IsStill}
 use Rattle.rd_origin.proofs.Ops.{called, after_still, after_call}
@@ -55,9 +48,7 @@ call_stays R w e s n o goes h was =
 -- the same along a run
 pub call_stays_along : (R : ℕ) (n : ℕ) (o : Option Op) (w v : World) (xs : List Entry) → run R w (events xs) ≡ Ok (record { world = v; entries = xs })
     → NonePasses (calls_by n) xs → IsIn o (w.actor n) → IsIn o (v.actor n)
-call_stays_along R n o w v [] h none was =
-    let last : as_ok (record { world = w; entries = [] }) ≡ Ok (record { world = v; entries = [] }) = h in
-    subst (λ (u : World). IsIn o (u.actor n)) (ap (λ (y : Ran). y.world) (as_ok-same (record { world = w; entries = [] }) (record { world = v; entries = [] }) last)) was
+call_stays_along R n o w v [] h none was = grind arith
 call_stays_along R n o w v (x ∷ xs) h none was =
     let first = beginning R w x xs v h in
     call_stays_along R n o first.after v xs first.rest none.1
@@ -65,9 +56,7 @@ call_stays_along R n o w v (x ∷ xs) h none was =
 
 pub value_stays_along : (R : ℕ) (q : Place) (u : ℕ) (w v : World) (xs : List Entry) → run R w (events xs) ≡ Ok (record { world = v; entries = xs })
     → NonePasses (puts_into q) xs → HoldsOnly u w.at q → HoldsOnly u v.at q
-value_stays_along R q u w v [] h none was =
-    let last : as_ok (record { world = w; entries = [] }) ≡ Ok (record { world = v; entries = [] }) = h in
-    subst (λ (z : World). HoldsOnly u z.at q) (ap (λ (y : Ran). y.world) (as_ok-same (record { world = w; entries = [] }) (record { world = v; entries = [] }) last)) was
+value_stays_along R q u w v [] h none was = grind arith
 value_stays_along R q u w v (x ∷ xs) h none was =
     let first = beginning R w x xs v h in
     value_stays_along R q u first.after v xs first.rest none.1

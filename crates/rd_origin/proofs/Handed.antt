@@ -1,21 +1,12 @@
 -- What is taken is the argument of the call whose put it was.
-use Rattle.std.proofs.Common.{◌≡◌, ℕ, suc, ◌-◌, Bool, true, false, if◌then◌else◌, inl, inr, refl, sym, ◌∙◌, ap, subst, append_assoc, List, ◌∷◌, ◌++◌, length, take, ok_or, option_and_then, Option, Some, None, Ok, Err}
-use Rattle.rd_cell.proofs.ResultLemmas.{and_then_ok, ok_or_ok}
-use Rattle.rd_step.specs.Prelude.{Place, Contents, NoSuchStep, NotATake, OpReply, World, Stepped, Ran, run, IsWellFormed}
-use Rattle.rd_step.specs.Lists.{numbered}
-use Rattle.rd_actor.specs.declared.actors.OpReply.TheVariants.{Value as Dequeued}
-use Rattle.rd_actor.specs.Table.{value_to_put}
-use Rattle.rd_step.specs.declared.entries.Event.{Event}
-use Rattle.rd_step.specs.declared.entries.Entry.{Entry}
+use Rattle.std.proofs.Common.{◌≡◌, ℕ, suc, ◌-◌, true, sym, ◌∙◌, ap, subst, append_assoc, List, ◌∷◌, ◌++◌, length, take, option_and_then, Option, Some, Ok, arith}
+use Rattle.rd_origin.proofs.Prelude.{Place, Contents, OpReply, World, Stepped, Ran, run, IsWellFormed, numbered, Dequeued, value_to_put, Event, Entry, events, puts_into, calls_by, argument}
 use Rattle.rd_step.proofs.Keeps.{keeps}
 use Rattle.rd_step.proofs.Removal.{run_keeps}
 use Rattle.rd_step.proofs.Equivalence.{run_events}
-use Rattle.rd_journal.specs.Journal.{events}
 use Rattle.rd_step.proofs.RunParts.{middle}
-use Rattle.rd_journal.proofs.Runs.{as_ok-same}
-use Rattle.rd_origin.specs.declared.origins.Origin.{Origin}
 use Rattle.rd_origin.specs.Positions.{last_position}
-use Rattle.rd_origin.specs.Origins.{takes_value, puts_into, calls_by, put_of, call_of, origin_by, origin_in, argument}
+use Rattle.rd_origin.specs.Origins.{takes_value, put_of, call_of, origin_in}
 use Rattle.rd_origin.specs.Laws.{IsHandedOver}
 use Rattle.rd_origin.proofs.Split.{at_seam, before_seam, apart, NonePasses, apart_at_last}
 use Rattle.rd_origin.proofs.Rows.{IsStill}
@@ -35,25 +26,8 @@ record Named (xs : List Entry) (c p k : ℕ) : Type 0 where
   pub its_put : put_of xs k taken.place ≡ Some p
   pub its_call : call_of xs (Some p) ≡ Some c
 
-named_by : (xs : List Entry) (c p k : ℕ) (x : Entry) (b : Bool) → numbered xs k ≡ Some x → takes_value x.reply ≡ b
-    → (if b then Ok (origin_by xs k (put_of xs k x.place)) else Err NotATake) ≡ Ok (record { call = Some c; put = Some p; take = k }) → Named xs c p k
-named_by xs c p k x false there is h = cc
-named_by xs c p k x true there is h =
-    let same : origin_by xs k (put_of xs k x.place) ≡ record { call = Some c; put = Some p; take = k } =
-    as_ok-same (origin_by xs k (put_of xs k x.place)) (record { call = Some c; put = Some p; take = k }) h in
-    let its_put : put_of xs k x.place ≡ Some p = ap (λ (o : Origin). o.put) same in
-    record {
-      taken = x;
-      there = there;
-      takes = is;
-      its_put = its_put;
-      its_call = ap (call_of xs) (sym its_put) ∙ ap (λ (o : Origin). o.call) same;
-    }
-
 named_at : (xs : List Entry) (c p k : ℕ) → origin_in xs k ≡ Ok (record { call = Some c; put = Some p; take = k }) → Named xs c p k
-named_at xs c p k h =
-    and_then_ok (ok_or (numbered xs k) (NoSuchStep (length xs))) _ _ h (λ x there g.
-    named_by xs c p k x (takes_value x.reply) (ok_or_ok (numbered xs k) _ x there) refl g)
+named_at xs c p k h = grind arith
 
 -- the cell of the put
 record PutIn (xs : List Entry) (p k : ℕ) (place : Option Place) : Type 0 where
@@ -62,13 +36,11 @@ record PutIn (xs : List Entry) (p k : ℕ) (place : Option Place) : Type 0 where
   pub last : last_position (puts_into cell) (take (k - 1) xs) ≡ Some p
 
 put_in : (xs : List Entry) (p k : ℕ) (place : Option Place) → put_of xs k place ≡ Some p → PutIn xs p k place
-put_in xs p k None h = cc
-put_in xs p k (Some cell) h = record { cell = cell; is = refl; last = h }
+put_in xs p k place h = grind arith
 
 -- the value that is handed out
 value_out : (r : Option OpReply) → takes_value r ≡ true → (u : ℕ) × (r ≡ Some (Dequeued u))
-value_out (Some (Dequeued u)) h = (u, refl)
-value_out _ h = cc
+value_out r h = grind arith
 
 -- The entries taken apart at call, put and take
 
@@ -94,12 +66,10 @@ record Apart (xs : List Entry) (c p k : ℕ) : Type 0 where
 
 -- an element after the beginning has the number after its length
 seam_number : (xs before behind : List Entry) (x : Entry) (j : ℕ) → xs ≡ before ++ x ∷ behind → suc (length before) ≡ j → numbered xs j ≡ Some x
-seam_number xs before behind x j whole e =
-    subst (λ (n : ℕ). numbered xs n ≡ Some x) e (ap (λ (l : List Entry). numbered l (suc (length before))) whole ∙ at_seam before behind x)
+seam_number xs before behind x j whole e = grind (arith, at_seam)
 
 seam_before : (xs before behind : List Entry) (x : Entry) (j : ℕ) → xs ≡ before ++ x ∷ behind → suc (length before) ≡ j → take (j - 1) xs ≡ before
-seam_before xs before behind x j whole e =
-    subst (λ (n : ℕ). take (n - 1) xs ≡ before) e (ap (λ (l : List Entry). take (suc (length before) - 1) l) whole ∙ before_seam before (x ∷ behind))
+seam_before xs before behind x j whole e = grind (arith, before_seam)
 
 taken_apart : (xs : List Entry) (c p k : ℕ) → Named xs c p k → Apart xs c p k
 taken_apart xs c p k n =
@@ -142,8 +112,7 @@ taken_apart xs c p k n =
 -- The value
 
 same_value : (v u : ℕ) (at : Contents) (q : Place) → HoldsOnly v at q → held_at at q ≡ Some u → Some v ≡ Some u
-same_value v u at q (inl is) h = sym is ∙ h
-same_value v u at q (inr none) h = let wrong : None ≡ Some u = sym none ∙ h in cc
+same_value v u at q h k = grind arith
 
 argument_taken : (R : ℕ) (w v : World) (xs : List Entry) (c p k : ℕ) (a : Apart xs c p k) → IsWellFormed R w
     → run R w (events xs) ≡ Ok (record { world = v; entries = xs }) → argument a.call.event.act ≡ Some a.value

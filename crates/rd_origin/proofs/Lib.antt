@@ -1,5 +1,5 @@
+pub mod Prelude
 pub mod Search
-pub mod Found
 pub mod Split
 pub mod Rows
 pub mod Ops

@@ -1,6 +1,7 @@
 -- A list taken apart at a position, and at the last position that passes a test.
+use Rattle.rd_origin.proofs.Prelude.{numbered}
+use Rattle.std.proofs.lemmas.Grind.{common_steps}
 use Rattle.std.proofs.Common.{sym, subst, ◌<◌, ◌≡◌, ℕ, zero, suc, ◌-◌, Bool, true, false, refl, ap, ◌∙◌, List, [], ◌∷◌, ◌++◌, length, take, drop, slice_get, Option, Some, None, arith}
-use Rattle.rd_step.specs.Lists.{numbered}
 use Rattle.rd_origin.specs.Positions.{behind, last_position, IsGreatest}
 
 -- the element after the beginning
@@ -10,11 +11,7 @@ at_seam {X} (y ∷ xs) ys x = at_seam xs ys x
 
 -- the beginning
 pub before_seam : {X : Type 0} (xs ys : List X) → take (suc (length xs) - 1) (xs ++ ys) ≡ xs
-before_seam {X} xs ys = let e : suc (length xs) - 1 ≡ length xs = omega arith in ap (λ (n : ℕ). take n (xs ++ ys)) e ∙ all xs ys
-  where
-    all : {X : Type 0} (xs ys : List X) → take (length xs) (xs ++ ys) ≡ xs
-    all {X} [] ys = refl
-    all {X} (x ∷ xs) ys = ap (λ (zs : List X). x ∷ zs) (all xs ys)
+before_seam {X} xs ys = grind (arith, common_steps)
 
 -- a list taken apart at one of its positions
 pub record ApartAt {X : Type 0} (xs : List X) (k : ℕ) (x : X) : Type 0 where
@@ -48,9 +45,7 @@ pub record ApartAtLast {X : Type 0} (test : X → Bool) (xs : List X) (j : ℕ) 
   pub none : NonePasses test behind
 
 some_behind : (b : Bool) (n : Option ℕ) → behind b n ≡ None → (b ≡ false) × (n ≡ None)
-some_behind b (Some n) h = cc
-some_behind true None h = cc
-some_behind false None h = (refl, refl)
+some_behind b n h = grind arith
 
 pub none_passes : {X : Type 0} (test : X → Bool) (xs : List X) → last_position test xs ≡ None → NonePasses test xs
 none_passes {X} test [] h = tt
@@ -100,8 +95,7 @@ none_behind {X} test (b ∷ bs) behind x y (suc i) h below k = none_behind test 
 
 none_numbered : {X : Type 0} (test : X → Bool) (before behind : List X) (x y : X) (i : ℕ) → NonePasses test behind → suc (length before) < i
     → numbered (before ++ x ∷ behind) i ≡ Some y → test y ≡ false
-none_numbered {X} test before behind x y zero h below k = cc
-none_numbered {X} test before behind x y (suc i) h below k = none_behind test before behind x y i h (omega (arith, below)) k
+none_numbered {X} test before behind x y i h below k = grind (arith, none_behind)
 
 pub is_greatest : {X : Type 0} (test : X → Bool) (xs : List X) (j : ℕ) → last_position test xs ≡ Some j → IsGreatest test xs j
 is_greatest {X} test xs j h =

@@ -1,6 +1,6 @@
 -- The kinds of steps that the searches for an origin look for.
 use Rattle.std.specs.Option.{option_map_or}
-use Rattle.std.specs.Prelude.{ℕ, Bool, false, List, Option, Some, None}
+use Rattle.std.specs.Prelude.{ℕ, Bool, false, List, Option}
 use Rattle.rd_step.specs.Lists.{numbered}
 use Rattle.rd_step.specs.declared.entries.Entry.{Entry}
 use Rattle.rd_origin.specs.declared.searches.StepKind.{StepKind}

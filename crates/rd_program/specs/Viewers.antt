@@ -1,6 +1,6 @@
 -- Several scripts over one fresh world: what was written, and how the view ended.
 use Rattle.std.specs.Result.{result_map_both}
-use Rattle.std.specs.Prelude.{◌≡◌, ℕ, Bool, List, length, Option, Result, Ok, Err, Vec}
+use Rattle.std.specs.Prelude.{◌≡◌, ℕ, Bool, List, length, Option, Result, Vec}
 use Rattle.std.specs.Global.{Global}
 use Rattle.rd_marks.specs.Books.{BookState}
 use Rattle.rd_desk.specs.declared.histories.History.{History}

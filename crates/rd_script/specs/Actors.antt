@@ -1,5 +1,5 @@
 -- The words of an actor in a reply.
-use Rattle.std.specs.Prelude.{ℕ, List, [], ◌++◌, codes, Option, Some, None}
+use Rattle.std.specs.Prelude.{ℕ, List, ◌++◌, codes, Option, Some, None}
 use Rattle.rd_step.specs.Prelude.{Actor}
 use Rattle.rd_actor.specs.declared.actors.Op.{Op}
 use Rattle.rd_actor.specs.declared.actors.Op.TheVariants.{Enq, Deq, AEnq, ADeq}

@@ -1,6 +1,6 @@
 -- The words that spell segments' names, and the contents of places.
 use Rattle.std.specs.Option.{option_map_or}
-use Rattle.std.specs.Prelude.{ℕ, Bool, true, false, List, ◌++◌, codes, Option, Some, None}
+use Rattle.std.specs.Prelude.{ℕ, Bool, true, false, List, ◌++◌, codes, Option}
 use Rattle.std.specs.Fmt.{decimal}
 use Rattle.rd_step.specs.Prelude.{SegName, Content, Cell, ArrSlot}
 use Rattle.rd_step.specs.Prelude.{Name, Number, TailIs, NextIs, CellIs, ValIs, IdxIs, Whole, Slot, Empty, Top, Held}

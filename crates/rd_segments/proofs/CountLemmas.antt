@@ -1,39 +1,30 @@
 -- How many segments a maker has made, counted in the map and in its list.
-use Rattle.std.proofs.Common.{◌≡◌, ℕ, zero, suc, ◌+◌, ◌<◌, ◌≤◌, true, false, inl, inr, refl, ◌∙◌, ap, arith, List, Vec, Global, length, Option, Some, None, is_some, slice_get}
-use Rattle.std.proofs.lemmas.Bool.{cases_lt, cond-true, cond-false}
-use Rattle.std.proofs.lemmas.Option.{slice_get_past, slice_get_cases}
-use Rattle.rd_ring.specs.Prelude.{MOST_SEGMENTS, SegName, Head, is_there}
+use Rattle.std.proofs.Common.{◌≡◌, ℕ, zero, suc, ◌+◌, ◌<◌, ◌≤◌, true, false, inl, inr, ◌∙◌, ap, arith, List, Vec, Global, length, Option, is_some, slice_get}
+use Rattle.rd_segments.proofs.Prelude.{cases_lt, cond-true, cond-false, slice_get_past, MOST_SEGMENTS, SegName, Head, Segment, ArrayParts, ListOf, by_number, part_of, count_in, count, contents_of}
+use Rattle.std.proofs.lemmas.Option.{slice_get_cases}
+use Rattle.rd_ring.specs.Prelude.{is_there}
 use Rattle.rd_cell.specs.Access.{number_made_from, number_made}
-use Rattle.rd_ring.specs.declared.segments.Segment.{Segment}
-use Rattle.rd_segments.specs.declared.array.ArrayParts.{ArrayParts}
-use Rattle.rd_segments.specs.Lists.{ListOf, by_number, by_name, part_of, count_in, count}
-use Rattle.rd_segments.specs.SpaceFields.{contents_of}
 
 pub in_list : {X : Type 0} (xs : List X) (n : ℕ) → n < length xs → is_some (slice_get xs n) ≡ true
 in_list xs n h = elim (slice_get_cases xs n).1 [ inl w ↦ ap is_some w.2 | inr p ↦ absurd (omega (arith, p.0)) ]
 
 pub numbered_there : {X : Type 0} (o : Option (Vec X Global)) (n : ℕ) → n < count_in o → is_some (by_number o n) ≡ true
-numbered_there None n h = absurd (omega arith)
-numbered_there (Some list) n h = in_list list.items n h
+numbered_there o n h = grind (arith, in_list)
 
 pub numbered_absent : {X : Type 0} (o : Option (Vec X Global)) (n : ℕ) → count_in o ≤ n → is_some (by_number o n) ≡ false
-numbered_absent None n h = refl
-numbered_absent (Some list) n h = ap is_some (slice_get_past list.items n h)
+numbered_absent o n h = grind (arith, is_some, slice_get_past)
 
 head_there : {R : ℕ} (o : Option (Segment R)) (s : SegName) → is_some (part_of o (Head s)) ≡ is_some o
-head_there None s = refl
-head_there (Some x) s = refl
+head_there o s = grind arith
 
 -- a segment is there if its number is below its maker's count
 pub there_below : {R : ℕ} (makers : List (ListOf R)) (qhead qtail : SegName) (array : ArrayParts) (m n : ℕ) → n < count makers m
     → is_there (contents_of makers qhead qtail array) (record { maker = m; n = n }) ≡ true
-there_below makers qhead qtail array m n h =
-    head_there (by_name makers (record { maker = m; n = n })) (record { maker = m; n = n }) ∙ numbered_there (slice_get makers m) n h
+there_below makers qhead qtail array m n h = grind (arith, head_there, numbered_there, slice_get)
 
 pub absent_from : {R : ℕ} (makers : List (ListOf R)) (qhead qtail : SegName) (array : ArrayParts) (m n : ℕ) → count makers m ≤ n
     → is_there (contents_of makers qhead qtail array) (record { maker = m; n = n }) ≡ false
-absent_from makers qhead qtail array m n h =
-    head_there (by_name makers (record { maker = m; n = n })) (record { maker = m; n = n }) ∙ numbered_absent (slice_get makers m) n h
+absent_from makers qhead qtail array m n h = grind (arith, head_there, numbered_absent, slice_get)
 
 counts_from : {R : ℕ} (makers : List (ListOf R)) (qhead qtail : SegName) (array : ArrayParts) (more m n : ℕ) → n ≤ count makers m → count makers m ≤ n + more
     → number_made_from more (contents_of makers qhead qtail array) m n ≡ count makers m

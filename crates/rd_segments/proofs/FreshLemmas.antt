@@ -1,18 +1,8 @@
 -- When a space is as a fresh one: by its ends, its array and its makers' lists.
-use Rattle.std.proofs.Common.{◌≡◌, ℕ, zero, suc, ◌-◌, ◌<◌, ◌≤◌, ◌&&◌, ◌==◌, if◌then◌else◌, nat_lt, All, List, [], ◌∷◌, length, get_or, take, drop, slice_get, Option, Some, None, option_map, inl, inr, refl, sym, ap, ap₂, ◌∙◌, arith, lt-ltb, le-ltb, ne_eqb}
-use Rattle.std.proofs.lemmas.Bool.{cases_Bool, cases_lt, cond-true, cond-false, and_left, and_right}
-use Rattle.std.proofs.lemmas.Option.{slice_get-get_or, slice_get_past}
+use Rattle.std.proofs.Common.{◌≡◌, ℕ, zero, suc, ◌-◌, ◌<◌, ◌≤◌, ◌&&◌, ◌==◌, if◌then◌else◌, nat_lt, All, List, [], ◌∷◌, length, get_or, take, drop, slice_get, Option, Some, None, option_map, inl, inr, refl, sym, ap, ◌∙◌, arith, lt-ltb, le-ltb, ne_eqb}
+use Rattle.rd_segments.proofs.Prelude.{common_steps, cases_Bool, cases_lt, cond-true, cond-false, and_left, and_right, slice_get-get_or, slice_get_past, fun_ext, is_name-true, SLOTS, SegName, Place, QHead, QTail, Head, Tail, Next, ValAt, IdxAt, ArrHead, ArrTail, ArrCell, Content, Name, Number, Slot, Empty, root, is_name, Contents, fresh_segment, Segment, part, ListOf, by_number, by_name, part_of, IsFresh, IsFreshAlone, ArrayParts, array_part, fresh_array, contents_of, fresh_space}
 use Rattle.std.proofs.lemmas.List.Elements.{All-head, All-tail}
 use Rattle.std.proofs.lemmas.List.{take_rest}
-use mathlib.Core.Path.{fun_ext}
-use Rattle.rd_cell.proofs.PlaceLemmas.{is_name-true}
-use Rattle.rd_ring.specs.Prelude.{SLOTS, SegName, Place, QHead, QTail, Head, Tail, Next, ValAt, IdxAt, ArrHead, ArrTail, ArrCell, Content, Name, Number, Slot, Empty, root, is_name, Contents, fresh_segment}
-use Rattle.rd_ring.specs.declared.segments.Segment.{Segment}
-use Rattle.rd_ring.specs.Segments.{part}
-use Rattle.rd_segments.specs.Lists.{ListOf, by_number, by_name, part_of, IsFresh, IsFreshAlone}
-use Rattle.rd_segments.specs.declared.array.ArrayParts.{ArrayParts}
-use Rattle.rd_segments.specs.Array.{array_part, fresh_array}
-use Rattle.rd_segments.specs.SpaceFields.{contents_of, fresh_space}
 
 -- ---- the array
 
@@ -62,9 +52,7 @@ module _ {R : ℕ} where
   alone_one s h q = let same : s ≡ h.segment = cc (h.alone) in ap (λ (x : Segment R). part x q) same ∙ h.fresh_parts q
 
   pub only_one : (ss : List (Segment R)) (s : Segment R) → length ss ≡ 1 → s ≡ get_or ss 0 s → ss ≡ s ∷ []
-  only_one [] s len is = absurd (omega (arith, len))
-  only_one (t ∷ []) s len is = ap (λ x. x ∷ []) (sym is)
-  only_one (t ∷ u ∷ ss) s len is = absurd (omega (arith, len))
+  only_one ss s len is = grind (arith, common_steps)
 
   pub not_alone : (ss : List (Segment R)) → (length ss ≡ 1 → ⊥) → IsFreshAlone ss → ⊥
   not_alone ss other h = other (ap length h.alone)
@@ -72,8 +60,7 @@ module _ {R : ℕ} where
   -- the first list, and the others
   pub first_and_others : (makers : List (ListOf R)) (first : ListOf R) → 1 ≤ length makers → first ≡ get_or makers 0 first
       → makers ≡ first ∷ take (length makers - 1) (drop 1 makers)
-  first_and_others [] first some is = absurd (omega (arith, some))
-  first_and_others (list ∷ lists) first some is = ap₂ (λ l ls. l ∷ ls) (sym is) (sym (take_rest (list ∷ lists) 1))
+  first_and_others makers first some is = grind (arith, common_steps, take_rest)
 
   none_in : (lists : List (ListOf R)) (m n : ℕ) → All (λ list. list.items ≡ []) lists → by_number (slice_get lists m) n ≡ None
   none_in [] m n h = refl
@@ -88,9 +75,7 @@ module _ {R : ℕ} where
 
   root_alone : (first : ListOf R) (lists : List (ListOf R)) (s : Segment R) → first.items ≡ s ∷ [] → All (λ list. list.items ≡ []) lists → (m n : ℕ)
       → by_number (slice_get (first ∷ lists) m) n ≡ (if is_name root (record { maker = m; n = n }) then Some s else None)
-  root_alone first lists s one none zero zero = ap (λ ss. slice_get ss 0) one
-  root_alone first lists s one none zero (suc n) = ap (λ ss. slice_get ss (suc n)) one ∙ sym (later_segment n s)
-  root_alone first lists s one none (suc m) n = none_in lists m n none ∙ sym (other_maker m n s)
+  root_alone first lists s one none m n = grind (arith, slice_get, later_segment, none_in, other_maker)
 
   pub fresh_lists : (first : ListOf R) (lists : List (ListOf R)) → IsFreshAlone first.items → All (λ list. list.items ≡ []) lists → IsFresh (first ∷ lists)
   fresh_lists first lists h none = record {
@@ -132,8 +117,7 @@ some_segment None c h = absurd (cc)
 some_segment (Some s) c h = (s, refl)
 
 no_segment : {R : ℕ} (o : Option (Segment R)) (t : SegName) → part_of o (Head t) ≡ None → o ≡ None
-no_segment None t h = refl
-no_segment (Some s) t h = absurd (cc)
+no_segment o t h = grind arith
 
 module _ {R : ℕ} (makers : List (ListOf R)) (qhead qtail : SegName) (array : ArrayParts) (e : contents_of makers qhead qtail array ≡ fresh_space R) where
   at : (q : Place) → contents_of makers qhead qtail array q ≡ fresh_space R q

@@ -1,3 +1,4 @@
+pub mod Prelude
 pub mod EndsLemmas
 pub mod ArrayLemmas
 pub mod ListsLemmas

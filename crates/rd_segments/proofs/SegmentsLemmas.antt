@@ -1,60 +1,23 @@
 -- The segments' places after a change of one segment.
-use Rattle.std.proofs.Common.{◌≡◌, ℕ, ◌-◌, ◌<◌, true, false, nat_lt, if◌then◌else◌, inl, inr, refl, sym, ◌∙◌, ap, subst, arith, List, take, length, set, get_or, Option, Some, None, is_some, slice_get, Result, Ok, Err, IfOk, IfErr, OnErr, lt-ltb, vec_len, vec_capacity}
-use Rattle.std.specs.Vec.{with_item}
-use Rattle.std.proofs.lemmas.Bool.{cases_Bool, cond-true, cond-false}
-use mathlib.Core.Path.{fun_ext}
-use Rattle.rd_ring.specs.Prelude.{MOST_SEGMENTS, SegName, Place, Head, Tail, Next, CellAt, ValAt, IdxAt, WholeOf, WrotePlace, Content, Operation, Made, Done, Refusal, is_name, is_of, is_of_same_segment, segment_of, Contents, holding, operand, operate, everywhere, Operates, Makes, Restores, RefusesMaking}
-use Rattle.rd_cell.proofs.PlaceLemmas.{is_name-true, is_name-refl}
-use Rattle.rd_cell.proofs.EffectLemmas.{Agrees, operand_agrees, lift_operates, lift_restore, beside_is_of, not_covered_outside}
-use Rattle.rd_ring.specs.declared.segments.Segment.{Segment}
-use Rattle.rd_ring.specs.Segments.{part}
-use Rattle.rd_segments.specs.Lists.{ListOf, by_name, part_of, segments_of, count_in, count, Changes, IsLengthened}
-use Rattle.rd_segments.specs.Room.{spare_in, spare}
+use Rattle.std.proofs.Common.{◌≡◌, ℕ, ◌-◌, ◌<◌, true, false, nat_lt, if◌then◌else◌, inl, inr, refl, sym, ◌∙◌, ap, arith, List, take, length, set, get_or, Option, Some, None, is_some, slice_get, Result, Ok, Err, IfOk, IfErr, OnErr, lt-ltb, vec_len, vec_capacity}
+use Rattle.rd_segments.proofs.Prelude.{common_steps, with_item, cases_Bool, cond-true, cond-false, fun_ext, MOST_SEGMENTS, SegName, Place, WholeOf, WrotePlace, Content, Operation, Done, Refusal, is_name, is_of, segment_of, Contents, operand, operate, everywhere, Operates, Makes, Restores, is_name-refl, Agrees, operand_agrees, lift_operates, lift_restore, Segment, part, ListOf, by_name, segments_of, count, Changes, IsLengthened, spare}
+use Rattle.rd_ring.specs.Prelude.{Made, is_of_same_segment, holding, RefusesMaking}
+use Rattle.rd_cell.proofs.EffectLemmas.{beside_is_of, not_covered_outside}
 use Rattle.rd_segments.proofs.ListsLemmas.{named_is, segment_written, list_read, list_lengthened, list_same, last_taken}
 
 -- what the segment of a name has at its places is what is there
 pub segments_part : {R : ℕ} (makers : List (ListOf R)) (name : SegName) (segment : Segment R) (q : Place) → by_name makers name ≡ Some segment
     → is_of name q ≡ true → part segment q ≡ segments_of makers q
-segments_part {R} makers name segment (Head t) there h = sym (ap (λ (o : Option (Segment R)). part_of o (Head t)) (ap (by_name makers) (sym (is_name-true name t h)) ∙ there))
-segments_part {R} makers name segment (Tail t) there h = sym (ap (λ (o : Option (Segment R)). part_of o (Tail t)) (ap (by_name makers) (sym (is_name-true name t h)) ∙ there))
-segments_part {R} makers name segment (Next t) there h = sym (ap (λ (o : Option (Segment R)). part_of o (Next t)) (ap (by_name makers) (sym (is_name-true name t h)) ∙ there))
-segments_part {R} makers name segment (ValAt t i) there h = sym (ap (λ (o : Option (Segment R)). part_of o (ValAt t i)) (ap (by_name makers) (sym (is_name-true name t h)) ∙ there))
-segments_part {R} makers name segment (IdxAt t i) there h = sym (ap (λ (o : Option (Segment R)). part_of o (IdxAt t i)) (ap (by_name makers) (sym (is_name-true name t h)) ∙ there))
-segments_part makers name segment (CellAt t i) there h = refl
-segments_part makers name segment (WholeOf t) there h = refl
-segments_part makers name segment _ there h = cc
-
--- if no segment has the name, nothing is there
-segments_none : {R : ℕ} (makers : List (ListOf R)) (name : SegName) (q : Place) → by_name makers name ≡ None → is_of name q ≡ true
-    → segments_of makers q ≡ None
-segments_none {R} makers name (Head t) none h = ap (λ (o : Option (Segment R)). part_of o (Head t)) (ap (by_name makers) (sym (is_name-true name t h)) ∙ none)
-segments_none {R} makers name (Tail t) none h = ap (λ (o : Option (Segment R)). part_of o (Tail t)) (ap (by_name makers) (sym (is_name-true name t h)) ∙ none)
-segments_none {R} makers name (Next t) none h = ap (λ (o : Option (Segment R)). part_of o (Next t)) (ap (by_name makers) (sym (is_name-true name t h)) ∙ none)
-segments_none {R} makers name (ValAt t i) none h = ap (λ (o : Option (Segment R)). part_of o (ValAt t i)) (ap (by_name makers) (sym (is_name-true name t h)) ∙ none)
-segments_none {R} makers name (IdxAt t i) none h = ap (λ (o : Option (Segment R)). part_of o (IdxAt t i)) (ap (by_name makers) (sym (is_name-true name t h)) ∙ none)
-segments_none makers name _ none h = refl
+segments_part {R} makers name segment q there h = grind arith
 
 -- the places of the other segments have what they had
 pub segments_other : {R : ℕ} (old new : List (ListOf R)) (name : SegName) (o : Option (Segment R)) (q : Place) → Changes name o old new
     → is_of name q ≡ false → segments_of new q ≡ segments_of old q
-segments_other {R} old new name o (Head t) changes h = ap (λ (x : Option (Segment R)). part_of x (Head t)) (changes.at t ∙ cond-false (is_name name t) o (by_name old t) h)
-segments_other {R} old new name o (Tail t) changes h = ap (λ (x : Option (Segment R)). part_of x (Tail t)) (changes.at t ∙ cond-false (is_name name t) o (by_name old t) h)
-segments_other {R} old new name o (Next t) changes h = ap (λ (x : Option (Segment R)). part_of x (Next t)) (changes.at t ∙ cond-false (is_name name t) o (by_name old t) h)
-segments_other {R} old new name o (ValAt t i) changes h = ap (λ (x : Option (Segment R)). part_of x (ValAt t i)) (changes.at t ∙ cond-false (is_name name t) o (by_name old t) h)
-segments_other {R} old new name o (IdxAt t i) changes h = ap (λ (x : Option (Segment R)). part_of x (IdxAt t i)) (changes.at t ∙ cond-false (is_name name t) o (by_name old t) h)
-segments_other old new name o _ changes h = refl
+segments_other {R} old new name o q changes h = grind arith
 
 -- the places are those of the names alone
 pub segments_same : {R : ℕ} (old new : List (ListOf R)) → ((t : SegName) → by_name new t ≡ by_name old t) → segments_of new ≡ segments_of old
-segments_same {R} old new same = fun_ext each
-  where
-    each : (q : Place) → segments_of new q ≡ segments_of old q
-    each (Head t) = ap (λ (o : Option (Segment R)). part_of o (Head t)) (same t)
-    each (Tail t) = ap (λ (o : Option (Segment R)). part_of o (Tail t)) (same t)
-    each (Next t) = ap (λ (o : Option (Segment R)). part_of o (Next t)) (same t)
-    each (ValAt t i) = ap (λ (o : Option (Segment R)). part_of o (ValAt t i)) (same t)
-    each (IdxAt t i) = ap (λ (o : Option (Segment R)). part_of o (IdxAt t i)) (same t)
-    each _ = refl
+segments_same {R} old new same = grind arith
 
 -- the name of a change has what it says
 changed_here : {R : ℕ} (old new : List (ListOf R)) (name : SegName) (o : Option (Segment R)) → Changes name o old new → by_name new name ≡ o
@@ -64,12 +27,7 @@ changed_here old new name o changes = changes.at name ∙ cond-true (is_name nam
 segment_agrees : {R : ℕ} (old new : List (ListOf R)) (name : SegName) (before left : Segment R) (p : Place) → by_name old name ≡ Some before
     → Changes name (Some left) old new → segment_of p ≡ Some name
     → Agrees (is_of_same_segment p) p (part before) (part left) (segments_of old) (segments_of new)
-segment_agrees old new name before left p there changes own = record {
-  old_inside = λ q h. segments_part old name before q there (sym (beside_is_of p q name own) ∙ h);
-  new_inside = λ q h. segments_part new name left q (changed_here old new name (Some left) changes) (sym (beside_is_of p q name own) ∙ h);
-  not_covered = λ q h. not_covered_outside p q name own (sym (beside_is_of p q name own) ∙ h);
-  outside = λ q h. segments_other old new name (Some left) q changes (sym (beside_is_of p q name own) ∙ h);
-}
+segment_agrees old new name before left p there changes own = grind (arith, segments_part, beside_is_of, changed_here, not_covered_outside, segments_other)
 
 -- the segment that an operation or a restore at a place goes to, as it is read in its list
 pub record Reads {R : ℕ} (makers : List (ListOf R)) (name : SegName) (m : ℕ) (list : ListOf R) (before : Segment R) (p : Place) : Type 0 where
@@ -82,10 +40,7 @@ pub record Reads {R : ℕ} (makers : List (ListOf R)) (name : SegName) (m : ℕ)
 reads_agree : {R : ℕ} (makers : List (ListOf R)) (name : SegName) (m : ℕ) (list : ListOf R) (before left : Segment R) (p : Place)
     → Reads makers name m list before p
     → Agrees (is_of_same_segment p) p (part before) (part left) (segments_of makers) (segments_of (set makers m (with_item list name.n left)))
-reads_agree makers name m list before left p h =
-    segment_agrees makers (set makers m (with_item list name.n left)) name before left p
-    (named_is makers name m list before h.maker h.there h.list_is h.segment_is)
-    (segment_written makers name m list left h.maker h.there h.list_is) h.own
+reads_agree makers name m list before left p h = grind (arith, common_steps, segment_agrees, named_is, segment_written)
 
 pub operates_in : {R : ℕ} (makers : List (ListOf R)) (name : SegName) (m : ℕ) (list : ListOf R) (before left : Segment R) (p : Place) (op : Operation)
     → Reads makers name m list before p → (r : Result Done Refusal) → IfOk r (λ done. Operates (is_of_same_segment p) p op done (part before) (part left))
@@ -136,13 +91,7 @@ made_at old new name (Some s) news q changes holds none =
           ∙ sym (cond-true (is_of name q) (news q) (segments_of old q) h)
       | inr h ↦ segments_other old new name (Some s) q changes h ∙ sym (cond-false (is_of name q) (news q) (segments_of old q) h)
     ]
-made_at old new name None news q changes holds none =
-    elim (cases_Bool (is_of name q)) [
-      | inl h ↦
-          segments_none new name q (changed_here old new name None changes) h ∙ sym (none refl q)
-          ∙ sym (cond-true (is_of name q) (news q) (segments_of old q) h)
-      | inr h ↦ segments_other old new name None q changes h ∙ sym (cond-false (is_of name q) (news q) (segments_of old q) h)
-    ]
+made_at old new name None news q changes holds none = grind arith
 
 -- a maker's list as it is read
 pub record ReadsList {R : ℕ} (makers : List (ListOf R)) (maker m : ℕ) (list : ListOf R) : Type 0 where
@@ -172,24 +121,17 @@ makes_in {R} makers maker m value list left reads (Ok name) h =
 pub named_in : {R : ℕ} (makers : List (ListOf R)) (maker m value : ℕ) (list left : ListOf R) → ReadsList makers maker m list
     → (r : Result SegName Refusal) → IfOk r (λ name. IsLengthened R maker value name list left)
     → IfOk r (λ name. name ≡ record { maker = maker; n = count makers maker })
-named_in makers maker m value list left reads (Err e) h = tt
-named_in makers maker m value list left reads (Ok name) h =
-    h.name_is ∙ (λ i. record { maker = maker; n = sym (ap count_in (list_found makers maker m list reads)) i })
+named_in makers maker m value list left reads r h = grind (arith, list_found)
 
 pub refuses_making : {R : ℕ} (makers : List (ListOf R)) (maker m : ℕ) (list : ListOf R) → ReadsList makers maker m list
     → (r : Result SegName Refusal) → IfErr r (λ e. RefusesMaking (length list.items) (vec_capacity list - vec_len list) e)
     → IfErr r (λ e. RefusesMaking (count makers maker) (spare makers maker) e)
 refuses_making makers maker m list reads (Ok name) h = tt
-refuses_making {R} makers maker m list reads (Err e) h =
-    let found = list_found makers maker m list reads in
-    subst (λ (k : ℕ). RefusesMaking k (spare makers maker) e) (sym (ap count_in found))
-    (subst (λ (k : ℕ). RefusesMaking (length list.items) k e) (sym (ap spare_in found)) h)
+refuses_making {R} makers maker m list reads (Err e) h = grind (arith, list_found)
 
 pub making_same : {R : ℕ} (makers : List (ListOf R)) (maker m : ℕ) (list left : ListOf R) → ReadsList makers maker m list
     → (r : Result SegName Refusal) → OnErr r (left.items ≡ list.items) → OnErr r (segments_of (set makers m left) ≡ segments_of makers)
-making_same makers maker m list left reads (Ok name) same = tt
-making_same makers maker m list left reads (Err e) same =
-    segments_same makers (set makers m left) (list_same makers maker m list left reads.maker_is reads.within reads.list_is same)
+making_same makers maker m list left reads r same = grind (arith, segments_same, list_same)
 
 -- the maker's last segment was taken away
 pub unmakes_in : {R : ℕ} (makers : List (ListOf R)) (maker m : ℕ) (list left : ListOf R) → ReadsList makers maker m list

@@ -1,59 +1,17 @@
 -- Parts with a list for each maker, whose world is well-formed, have no flaw.
-use Rattle.std.proofs.Common.{◌≡◌, ℕ, zero, suc, ◌+◌, ◌≤◌, Bool, true, false, not, ◌==◌, ◌&&◌, nat_lt, nat_le, ◌↔◌, if◌then◌else◌, inl, inr, refl, ◌∙◌, ap, subst, arith, List, [], ◌∷◌, length, slice_get, Option, Some, None, option_map, le-leb, ltb-true, eq-eqb}
-use Rattle.std.specs.List.{list_all}
-use Rattle.std.proofs.lemmas.Bool.{cases_lt, and_parts, and_from}
-use Rattle.rd_ring.specs.Prelude.{MOST_ACTORS, SLOTS, MOST_SEGMENTS, COUNTER_END, Cell, SegName, Place, QHead, QTail, Head, Tail, Next, IdxAt, ArrHead, ArrTail, IdxIs}
-use Rattle.rd_ring.specs.declared.parts.SegmentParts.{SegmentParts}
-use Rattle.rd_ring.specs.Segments.{part_from, counters_fit}
-use Rattle.rd_segments.specs.Lists.{by_number, by_name, count_in, count}
-use Rattle.rd_segments.specs.Parts.{PartsOf, part_of_parts, each_segment}
-use Rattle.rd_segments.proofs.CountLemmas.{in_list, numbered_there}
-use Rattle.rd_actor.specs.declared.actors.Actor.{Actor}
-use Rattle.rd_actor.specs.Words.{words_fit}
-use Rattle.rd_step.specs.declared.parts.Parts.{Parts}
-use Rattle.rd_step.specs.declared.flaws.Flaw.{Flaw}
-use Rattle.rd_step.specs.declared.flaws.Flaw.TheVariants.{Makers, PlaceNames, ActorNames, Counters, Indexes, ArrayCounters, ActorNumbers, ActorWords}
-use Rattle.rd_step.specs.Lists.{numbered}
-use Rattle.rd_step.specs.WellFormed.{Presence, place_fits, next_fits, names_fit, numbers_fit, record_fits, actor_fits, is_actor, IsNumbered, AreMade, IsWellFormed}
-use Rattle.rd_step.specs.Parts.{world_of_parts, has, makers_fit, place_names_fit, actor_names_fit, indexes_fit, array_fits, first_flaw}
+use Rattle.std.proofs.Common.{◌≡◌, ℕ, zero, suc, ◌+◌, ◌≤◌, Bool, true, not, ◌&&◌, nat_lt, nat_le, ◌↔◌, if◌then◌else◌, inl, inr, refl, ◌∙◌, ap, subst, arith, List, [], ◌∷◌, length, slice_get, Option, Some, None, option_map, le-leb, ltb-true, eq-eqb}
+use Rattle.rd_step.proofs.Prelude.{list_all, cases_lt, and_parts, and_from, MOST_ACTORS, MOST_SEGMENTS, COUNTER_END, Cell, SegName, Place, QHead, QTail, Head, Tail, Next, IdxAt, ArrHead, ArrTail, IdxIs, SegmentParts, counters_fit, by_number, by_name, count_in, count, PartsOf, part_of_parts, each_segment, in_list, numbered_there, Actor, words_fit, Parts, Flaw, numbered, Presence, place_fits, next_fits, names_fit, numbers_fit, record_fits, actor_fits, is_actor, IsNumbered, AreMade, IsWellFormed, world_of_parts, has, indexes_fit, first_flaw}
+use Rattle.rd_ring.specs.Segments.{part_from}
 use Rattle.rd_step.proofs.Assembled.{NoFlaw, within, presence, numbered_below, assembled, lists_right}
 
 -- Each condition holds: no flaw
 
 -- if the first condition holds and none of the rest is flawed, no flaw is named
 none_first : (b : Bool) (f : Flaw) (rest : Option Flaw) → b ≡ true → rest ≡ None → (if not b then Some f else rest) ≡ None
-none_first true f rest h none = none
-none_first false f rest h none = cc
-
-makers_right : {R : ℕ} (p : Parts R) → NoFlaw p → makers_fit p ≡ true
-makers_right p f =
-    let n = length p.actors.items in
-    let lists = length p.segments.items == suc n in
-    let root = count p.segments.items 0 == 1 in
-    let few = list_all (λ list. nat_le (length list.items) MOST_SEGMENTS) p.segments.items in
-    let m2 = and_from (nat_le 1 n) (nat_le n MOST_ACTORS) f.some_actors f.few_actors in
-    let m3 = and_from (nat_le 1 n && nat_le n MOST_ACTORS) lists m2 f.lists in
-    let m4 = and_from (nat_le 1 n && nat_le n MOST_ACTORS && lists) root m3 f.one_root in
-    and_from (nat_le 1 n && nat_le n MOST_ACTORS && lists && root) few m4 f.few_segments
-
-place_names_right : {R : ℕ} (p : Parts R) → NoFlaw p → place_names_fit p ≡ true
-place_names_right p f =
-    let ends = and_from (has p p.qhead) (has p p.qtail) f.qhead f.qtail in
-    and_from (has p p.qhead && has p p.qtail) (each_segment (λ s. next_fits (has p) s.next) p.segments.items) ends f.nexts
-
-array_right : {R : ℕ} (p : Parts R) → NoFlaw p → array_fits p.array ≡ true
-array_right p f = and_from (nat_le p.array.head SLOTS) (nat_le p.array.tail SLOTS) f.array_head f.array_tail
+none_first b f rest h none = grind arith
 
 unflawed : {R : ℕ} (p : Parts R) → NoFlaw p → first_flaw p ≡ None
-unflawed {R} p f =
-    let eight = none_first (list_all words_fit p.actors.items) ActorWords None f.words refl in
-    let seven = none_first (list_all (numbers_fit R) p.actors.items) ActorNumbers _ f.numbers eight in
-    let six = none_first (array_fits p.array) ArrayCounters _ (array_right p f) seven in
-    let five = none_first (each_segment (indexes_fit (COUNTER_END + R)) p.segments.items) Indexes _ f.indexes six in
-    let four = none_first (each_segment counters_fit p.segments.items) Counters _ f.counters five in
-    let three = none_first (actor_names_fit p) ActorNames _ f.names four in
-    let two = none_first (place_names_fit p) PlaceNames _ (place_names_right p f) three in
-    none_first (makers_fit p) Makers _ (makers_right p f) two
+unflawed {R} p f = grind arith
 
 -- What holds of the one at each index holds of each element
 

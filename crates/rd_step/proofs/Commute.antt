@@ -1,35 +1,13 @@
 -- A step that does not depend on the one before it may go first.
-use Rattle.std.proofs.Common.{◌≡◌, ◌≢◌, ℕ, false, ◌==◌, if◌then◌else◌, inl, inr, refl, sym, ◌∙◌, ap, subst, Option, Some, Ok}
-use Rattle.std.proofs.lemmas.Bool.{cases_eq, eqb-false, or_parts}
-use mathlib.Core.Path.{fun_ext}
-use Rattle.rd_ring.specs.Prelude.{Access, Performed, contents_after, perform}
+use Rattle.std.proofs.Common.{◌≡◌, ◌≢◌, ℕ, false, ◌==◌, refl, sym, ◌∙◌, subst, Option, Some, Ok, arith}
+use Rattle.rd_step.proofs.Prelude.{eqb-false, or_parts, Access, Performed, contents_after, perform, Actor, need, after, World, Event, Stepped, with_actor, step_outcome, step, depends, CommutingSquare}
 use Rattle.rd_cell.proofs.AccessLemmas.{interferes, interferes-sym, perform_around, after_swap}
-use Rattle.rd_actor.specs.declared.actors.Actor.{Actor}
-use Rattle.rd_actor.specs.Table.{need, after}
-use Rattle.rd_step.specs.World.{World}
-use Rattle.rd_step.specs.declared.entries.Event.{Event}
-use Rattle.rd_step.specs.Step.{Stepped, with_actor, step_outcome, step}
-use Rattle.rd_step.specs.Dependence.{depends}
-use Rattle.rd_step.specs.Laws.{CommutingSquare}
-use Rattle.rd_step.proofs.Steps.{Took, took, step_of, with_actor-same, with_actor-other}
+use Rattle.rd_step.proofs.Steps.{Took, took, step_of, with_actor-other}
 
 -- the records of two actors may be set in either order
 with_actor-swap : (m n : ℕ) (a b : Actor) (actors : ℕ → Option Actor) → m ≢ n
     → with_actor m a (with_actor n b actors) ≡ with_actor n b (with_actor m a actors)
-with_actor-swap m n a b actors ne = fun_ext each
-  where
-    at_m : (k : ℕ) → k ≡ m → with_actor m a (with_actor n b actors) k ≡ with_actor n b (with_actor m a actors) k
-    at_m k h =
-        subst (λ (j : ℕ). with_actor m a (with_actor n b actors) j ≡ with_actor n b (with_actor m a actors) j) (sym h)
-        (with_actor-same m a (with_actor n b actors) ∙ sym (with_actor-other n b (with_actor m a actors) m ne ∙ with_actor-same m a actors))
-
-    off_m : (k : ℕ) → k ≢ m → with_actor m a (with_actor n b actors) k ≡ with_actor n b (with_actor m a actors) k
-    off_m k h =
-        with_actor-other m a (with_actor n b actors) k h
-        ∙ ap (λ (o : Option Actor). if k == n then Some b else o) (sym (with_actor-other m a actors k h))
-
-    each : (k : ℕ) → with_actor m a (with_actor n b actors) k ≡ with_actor n b (with_actor m a actors) k
-    each k = elim (cases_eq k m) [ inl h ↦ at_m k h | inr h ↦ off_m k h ]
+with_actor-swap m n a b actors ne = grind arith
 
 -- the law, for two steps taken apart
 swapped : (R : ℕ) (w : World) (e f : Event) (a b : Actor) (x y : Access) (d k : Performed)
@@ -48,8 +26,7 @@ swapped R w e f a b x y d k has_a needs_a does_a has_b needs_b does_b ne free =
     let did_a : perform R e.actor (contents_after k w.at) x ≡ Ok d = perform_around R f.actor e.actor w.at w.at y x k d ne' did_b does_a (interferes-sym d k free) ∙ does_a in
     let v' = step_outcome w f b k nb in
     let u' = step_outcome v'.world e a d na in
-    let contents : contents_after d (contents_after k w.at) ≡ contents_after k (contents_after d w.at) =
-    sym (after_swap d k w.at free) in
+    let contents : contents_after d (contents_after k w.at) ≡ contents_after k (contents_after d w.at) = grind (arith, after_swap) in
     let actors = with_actor-swap e.actor f.actor na.0 nb.0 w.actor ne in
     record {
       first = v';

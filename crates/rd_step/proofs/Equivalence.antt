@@ -1,15 +1,9 @@
 -- A step that depends on no earlier one may go first in its run, and equivalent lists of events
 -- reach one world.
-use Rattle.std.proofs.Common.{◌≡◌, ℕ, false, refl, sym, ◌∙◌, ap, subst, List, [], ◌∷◌, ◌++◌, Result, Ok}
+use Rattle.std.proofs.Common.{◌≡◌, ℕ, false, refl, sym, ◌∙◌, ap, subst, List, [], ◌∷◌, ◌++◌, Result, Ok, arith}
+use Rattle.rd_step.proofs.Prelude.{Refusal, World, Event, Entry, Stepped, step, Ran, run, events, depends, IsFree}
 use Rattle.std.specs.Prelude.{IsPermutation}
-use Rattle.rd_ring.specs.Prelude.{Refusal}
-use Rattle.std.proofs.lemmas.List.Sorted.{IsPermutation-refl, IsPermutation-sym, IsPermutation-cons, IsPermutation-trans, IsPermutation-middle}
-use Rattle.rd_step.specs.World.{World}
-use Rattle.rd_step.specs.declared.entries.Event.{Event}
-use Rattle.rd_step.specs.declared.entries.Entry.{Entry}
-use Rattle.rd_step.specs.Step.{Stepped, step}
-use Rattle.rd_step.specs.Run.{Ran, run, events}
-use Rattle.rd_step.specs.Dependence.{depends, IsFree}
+use Rattle.std.proofs.lemmas.List.Sorted.{IsPermutation-sym, IsPermutation-cons, IsPermutation-trans, IsPermutation-middle}
 use Rattle.rd_step.specs.Equivalence.{IsIndependentOf, IsEquivalent, ReachesTheSame}
 use Rattle.rd_step.proofs.Steps.{took}
 use Rattle.rd_step.proofs.Commute.{commutes}
@@ -42,11 +36,7 @@ pub record GoesFirst (R : ℕ) (w : World) (e : Event) (x : Entry) (others : Lis
 pub goes_first : (R : ℕ) (w : World) (e : Event) (earlier later : List Event) (r : Ran) (s : Stepped) (q : Ran)
     → run R w earlier ≡ Ok r → step R r.world e ≡ Ok s → IsFree s.entry r.entries → run R s.world later ≡ Ok q
     → GoesFirst R w e s.entry (earlier ++ later) (record { world = q.world; entries = r.entries ++ q.entries })
-goes_first R w e [] later r s q h k free l =
-    let p : record { world = w; entries = [] } ≡ r = cc in
-    subst (λ (y : Ran). step R y.world e ≡ Ok s → GoesFirst R w e s.entry later (record { world = q.world; entries = y.entries ++ q.entries })) p
-    (λ goes. record { after = s.world; goes = goes; runs = l })
-    k
+goes_first R w e [] later r s q h k free l = grind arith
 goes_first R w e (f ∷ fs) later r s q h k free l =
     let ran = ran_on R w f fs r h in
     let goes : step R ran.rest.world e ≡ Ok s = ap (λ (y : Ran). step R y.world e) ran.joins ∙ k in
@@ -129,22 +119,7 @@ pub record StandsIn (R : ℕ) (w : World) (e : Event) (earlier later : List Even
 
 stands_through : (R : ℕ) (w : World) (e : Event) (earlier later : List Event) (q : Ran) (t : RanThrough R w earlier e later q)
     → IsFree t.one.entry t.before.entries → StandsIn R w e earlier later q
-stands_through R w e earlier later q t free =
-    let s = took R t.before.world e t.one t.goes in
-    let first = goes_first R w e earlier later t.before t.one t.rest t.runs t.goes free t.goes_on in
-    record {
-      x = t.one.entry;
-      of_event = ap (λ (y : Stepped). y.entry.event) (sym s.ends);
-      before = t.before.entries;
-      behind = t.rest.entries;
-      entries = ap (λ (y : Ran). y.entries) (sym t.joins);
-      before_events = run_events R w earlier t.before t.runs;
-      behind_events = run_events R t.one.world later t.rest t.goes_on;
-      free = free;
-      first =
-          subst (λ (v : World). GoesFirst R w e t.one.entry (earlier ++ later) (record { world = v; entries = t.before.entries ++ t.rest.entries }))
-          (ap (λ (y : Ran). y.world) t.joins) first;
-    }
+stands_through R w e earlier later q t free = grind (arith, took, goes_first, run_events)
 
 pub stands_in : (R : ℕ) (w : World) (e : Event) (earlier later : List Event) (q : Ran) → run R w (earlier ++ e ∷ later) ≡ Ok q
     → IsIndependentOf R w e earlier → StandsIn R w e earlier later q
@@ -160,9 +135,7 @@ stands_in R w e earlier later q h alone =
 -- Equivalent lists
 
 both_empty : (R : ℕ) (w : World) (r q : Ran) → run R w [] ≡ Ok r → run R w [] ≡ Ok q → ReachesTheSame r q
-both_empty R w r q h k =
-    let p : r ≡ q = as_ran-same r q (sym h ∙ k) in
-    subst (λ (y : Ran). ReachesTheSame r y) p (record { same_world = refl; same_entries = IsPermutation-refl r.entries })
+both_empty R w r q h k = grind arith
 
 -- equivalent lists reach one world, with the same entries in some order
 pub reach_the_same : (R : ℕ) (w : World) (es fs : List Event) (r q : Ran) → run R w es ≡ Ok r → run R w fs ≡ Ok q
@@ -174,8 +147,7 @@ reach_the_same R w (e ∷ es) fs r q h k same =
     let one : record { world = s.first.after; entry = s.x } ≡ ran.one = as_stepped-same _ _ (sym s.first.goes ∙ ran.goes) in
     let its : same.stepped ≡ ran.one = as_stepped-same _ _ (sym same.goes ∙ ran.goes) in
     let others : Ran = record { world = q.world; entries = s.before ++ s.behind } in
-    let runs : run R ran.one.world (same.earlier ++ same.later) ≡ Ok others =
-    ap (λ (y : Stepped). run R y.world (same.earlier ++ same.later)) (sym one) ∙ s.first.runs in
+    let runs : run R ran.one.world (same.earlier ++ same.later) ≡ Ok others = grind arith in
     let rest = reach_the_same R ran.one.world es (same.earlier ++ same.later) ran.rest others ran.goes_on runs
     (subst (λ (y : Stepped). IsEquivalent R y.world es (same.earlier ++ same.later)) its same.rest) in
     let moved : IsPermutation (s.x ∷ (s.before ++ s.behind)) (s.before ++ s.x ∷ s.behind) =

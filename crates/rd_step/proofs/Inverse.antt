@@ -1,25 +1,12 @@
 -- The words that an entry keeps give the world before its step back, and a step on which no later
 -- one depends may be taken out of a run.
 use Rattle.std.proofs.Common.{◌≡◌, ℕ, zero, suc, ◌+◌, ◌<◌, true, false, nat_lt, inl, inr, refl, sym, ◌∙◌, ap, subst, arith, List, ◌∷◌, Option, Some, None, Result, Ok, Err, IfOk, ltb-true}
-use Rattle.std.proofs.lemmas.Bool.{cases_eq, cases_Bool, cond-true, cond-false, cond_both, and_right}
-use Rattle.std.proofs.lemmas.Result.{IfOk-at_ok}
-use mathlib.Core.Path.{fun_ext}
-use Rattle.rd_ring.specs.Prelude.{MOST_SEGMENTS, SegName, Place, Head, Tail, Next, CellAt, ValAt, IdxAt, WholeOf, Content, Access, NoPlace, At, Make, Operation, Refusal, is_of, covers, written, wrote_by, share, Contents, after_write, operand, restore, is_there, holding, Effect, effect, Performed, contents_after, operate, make, perform}
-use Rattle.rd_cell.specs.Access.{effect_at, number_made_from, number_made}
-use Rattle.rd_cell.specs.Results.{result_map}
-use Rattle.rd_cell.proofs.PlaceLemmas.{is_name-true}
-use Rattle.rd_cell.proofs.AccessLemmas.{is_cell_at, after_write-outside, operand-covered}
+use Rattle.rd_step.proofs.Prelude.{cases_Bool, cond-true, cond-false, cond_both, IfOk-at_ok, fun_ext, MOST_SEGMENTS, SegName, Place, WholeOf, Content, Access, NoPlace, At, Make, Operation, Refusal, is_of, covers, written, wrote_by, share, Contents, after_write, operand, restore, is_there, holding, Effect, Performed, contents_after, operate, make, perform, effect_at, number_made_from, result_map, is_cell_at, after_write-outside, Actor, after, World, Event, Stepped, with_actor, step, unstep, Ran, run, Presence, belongs, IsWellFormed}
+use Rattle.rd_cell.specs.Access.{number_made}
+use Rattle.rd_cell.proofs.AccessLemmas.{operand-covered}
 use Rattle.rd_cell.proofs.EffectLemmas.{not_written}
-use Rattle.rd_cell.proofs.ResultLemmas.{and_then_ok, result_map_ok}
-use Rattle.rd_actor.specs.declared.actors.Actor.{Actor}
-use Rattle.rd_actor.specs.Table.{after}
-use Rattle.rd_step.specs.World.{World}
-use Rattle.rd_step.specs.declared.entries.Event.{Event}
-use Rattle.rd_step.specs.Step.{Stepped, with_actor, step, unstep}
-use Rattle.rd_step.specs.Run.{Ran, preceded_by, run}
-use Rattle.rd_step.specs.WellFormed.{Presence, belongs, IsWellFormed}
 use Rattle.rd_step.proofs.Halves.{nothing_there, bare_cell}
-use Rattle.rd_step.proofs.Steps.{took, with_actor-same, with_actor-other}
+use Rattle.rd_step.proofs.Steps.{took}
 
 -- the contents that an access left, with what was at its place put back, are those from before it
 abbrev PutsBack : Contents → Performed → Type 0
@@ -40,8 +27,7 @@ back-result p c (Err x) at bare h = tt
 back-result p c (Ok e) at bare h = back-effect p c e at bare h
 
 back-operate : (p : Place) (op : Operation) (o : Option Content) (at : Contents) → Bare at → operand at p ≡ o → IfOk (operate p op o) (PutsBack at)
-back-operate p op None at bare h = tt
-back-operate p op (Some c) at bare h = back-result p c (effect op c) at bare h
+back-operate p op o at bare h = grind (arith, back-result)
 
 -- below the bound, the number that counting ends at names no segment that is there
 number_made_from-absent : (more : ℕ) (at : Contents) (m n : ℕ) → number_made_from more at m n < n + more
@@ -64,14 +50,7 @@ number_made-absent at m h = number_made_from-absent MOST_SEGMENTS at m 0 h
 
 -- a place of a segment that is not there has nothing
 pub absent_place : (R : ℕ) (there : Presence) (s : SegName) (q : Place) → there s ≡ false → is_of s q ≡ true → belongs R there q ≡ false
-absent_place R there s (Head t) h e = subst (λ (x : SegName). there x ≡ false) (is_name-true s t e) h
-absent_place R there s (Tail t) h e = subst (λ (x : SegName). there x ≡ false) (is_name-true s t e) h
-absent_place R there s (Next t) h e = subst (λ (x : SegName). there x ≡ false) (is_name-true s t e) h
-absent_place R there s (ValAt t i) h e = and_right (nat_lt i R) (there t) (subst (λ (x : SegName). there x ≡ false) (is_name-true s t e) h)
-absent_place R there s (IdxAt t i) h e = and_right (nat_lt i R) (there t) (subst (λ (x : SegName). there x ≡ false) (is_name-true s t e) h)
-absent_place R there s (CellAt t i) h e = refl
-absent_place R there s (WholeOf t) h e = refl
-absent_place R there s _ h e = cc
+absent_place R there s q h e = grind arith
 
 back-make : (R actor n x : ℕ) (w : World) → IsWellFormed R w → (n < MOST_SEGMENTS → is_there w.at (record { maker = actor; n = n }) ≡ false)
     → IfOk (make R (record { maker = actor; n = n }) x) (PutsBack w.at)
@@ -91,14 +70,7 @@ back-perform R actor w (Make x) formed = back-make R actor (number_made w.at act
 
 -- the actors with one's old record put back are those from before
 actor_back : (n : ℕ) (a b : Actor) (actors : ℕ → Option Actor) → actors n ≡ Some a → with_actor n a (with_actor n b actors) ≡ actors
-actor_back n a b actors has = fun_ext each
-  where
-    each : (m : ℕ) → with_actor n a (with_actor n b actors) m ≡ actors m
-    each m =
-        elim (cases_eq m n) [
-          | inl h ↦ ap (with_actor n a (with_actor n b actors)) h ∙ with_actor-same n a (with_actor n b actors) ∙ sym (ap actors h ∙ has)
-          | inr h ↦ with_actor-other n a (with_actor n b actors) m h ∙ with_actor-other n b actors m h
-        ]
+actor_back n a b actors has = grind arith
 
 -- the words that an entry keeps give back the world before its step
 pub undoes : (R : ℕ) (w : World) (e : Event) (s : Stepped) → IsWellFormed R w → step R w e ≡ Ok s → unstep s.world s.entry ≡ w
@@ -119,9 +91,7 @@ pub record RanOn (R : ℕ) (w : World) (e : Event) (es : List Event) (r : Ran) :
   pub joins : record { world = rest.world; entries = one.entry ∷ rest.entries } ≡ r
 
 pub ran_on : (R : ℕ) (w : World) (e : Event) (es : List Event) (r : Ran) → run R w (e ∷ es) ≡ Ok r → RanOn R w e es r
-ran_on R w e es r h =
-    and_then_ok (step R w e) _ r h (λ s goes k.
-    result_map_ok (run R s.world es) (preceded_by s.entry) r k (λ rest on joins. record { one = s; goes = goes; rest = rest; goes_on = on; joins = joins }))
+ran_on R w e es r h = grind arith
 
 -- a step and a run after it make a run
 pub run-cons : (R : ℕ) (w : World) (e : Event) (es : List Event) (s : Stepped) (r : Ran) → step R w e ≡ Ok s → run R s.world es ≡ Ok r

@@ -1,22 +1,11 @@
 -- A step keeps a world well-formed.
-use Rattle.std.proofs.Common.{◌≡◌, ℕ, Bool, true, ◌==◌, nat_lt, inl, inr, refl, sym, ◌∙◌, ap, subst, subst₂, Option, Some, None, is_some, IfSome, Result, Ok, Err, IfOk}
-use Rattle.std.proofs.lemmas.Bool.{cases_eq, cases_Bool, cond_both}
-use Rattle.std.proofs.lemmas.Result.{IfOk-at_ok}
-use mathlib.Core.Path.{fun_ext}
-use Rattle.rd_ring.specs.Prelude.{SegName, Place, Head, Content, Access, NoPlace, At, Make, Nothing, Made, Operation, Refusal, MOST_SEGMENTS, root, some_covers, written, share, wrote_content, wrote_by, operand, contents_after, Contents, is_there, Effect, effect, Performed, number_made, operate, make, perform}
-use Rattle.rd_cell.specs.Access.{effect_at}
-use Rattle.rd_cell.specs.Results.{result_map}
+use Rattle.std.proofs.Common.{◌≡◌, ℕ, Bool, true, ◌==◌, nat_lt, inl, inr, refl, sym, ◌∙◌, ap, subst, subst₂, Option, Some, None, is_some, IfSome, Result, Ok, Err, IfOk, arith}
+use Rattle.rd_step.proofs.Prelude.{cases_Bool, cond_both, IfOk-at_ok, fun_ext, SegName, Place, Head, Content, Access, NoPlace, At, Make, Nothing, Made, Operation, Refusal, MOST_SEGMENTS, root, some_covers, written, share, wrote_by, operand, contents_after, Contents, is_there, Effect, effect, Performed, operate, make, perform, effect_at, result_map, is_name-refl, written-covers, after_write-outside, Actor, need, after, World, Event, Stepped, with_actor, step_outcome, step, Presence, belongs, content_fits, place_fits, record_fits, actor_fits, is_actor, IsNumbered, AreMade, IsWellFormed}
+use Rattle.rd_ring.specs.Prelude.{wrote_content, number_made}
 use Rattle.rd_cell.specs.Contents.{after_write_at}
-use Rattle.rd_cell.proofs.PlaceLemmas.{is_name-refl, written-covers}
-use Rattle.rd_cell.proofs.AccessLemmas.{after_write-outside, after_write-inside, after-is_some}
-use Rattle.rd_actor.specs.declared.actors.Actor.{Actor}
-use Rattle.rd_actor.specs.Table.{need, after}
-use Rattle.rd_step.specs.World.{World}
-use Rattle.rd_step.specs.declared.entries.Event.{Event}
-use Rattle.rd_step.specs.Step.{Stepped, with_actor, step_outcome, step}
-use Rattle.rd_step.specs.WellFormed.{Presence, belongs, content_fits, place_fits, record_fits, actor_fits, is_actor, IsNumbered, AreMade, IsWellFormed}
+use Rattle.rd_cell.proofs.AccessLemmas.{after_write-inside, after-is_some}
 use Rattle.rd_step.proofs.Halves.{bare_cell, operand_fits, share_fits, same_kinds}
-use Rattle.rd_step.proofs.Steps.{took, with_actor-same, with_actor-other}
+use Rattle.rd_step.proofs.Steps.{took}
 use Rattle.rd_step.proofs.Fits.{op_fits, access_fits, record_grows, actor_grows, need_fits}
 use Rattle.rd_step.proofs.Effects.{EffectFits, effect_fits}
 use Rattle.rd_step.proofs.Rows.{after_fits}
@@ -25,14 +14,7 @@ use Rattle.rd_step.proofs.Making.{made-below, laid, laid_new, laid_grows, maker_
 -- giving an actor that is there another record adds no actor
 is_actor-same : (n : ℕ) (a b : Actor) (actors : ℕ → Option Actor) → actors n ≡ Some a
     → is_actor (with_actor n b actors) ≡ is_actor actors
-is_actor-same n a b actors has = fun_ext each
-  where
-    each : (m : ℕ) → is_some (with_actor n b actors m) ≡ is_some (actors m)
-    each m =
-        elim (cases_eq m n) [
-          | inl h ↦ ap (λ (k : ℕ). is_some (with_actor n b actors k)) h ∙ ap is_some (with_actor-same n b actors) ∙ sym (ap is_some (ap actors h ∙ has))
-          | inr h ↦ ap is_some (with_actor-other n b actors m h)
-        ]
+is_actor-same n a b actors has = grind arith
 
 -- what is left at each place by an operation at one that is there fits, if what is written fits
 effect_left_fits : (R : ℕ) (there : Presence) (at : Contents) (p : Place) (c : Content) (f : Effect) (q : Place)
@@ -155,8 +137,7 @@ keeps_perform : (R : ℕ) (w : World) (e : Event) (a : Actor) (x : Access) → I
 keeps_perform R w e a NoPlace formed has needs fits good =
     keeps_actor R w e.actor a (after R a e.act Nothing).0 formed has
     (after_fits R (is_there w.at) a e.act NoPlace Nothing formed.made.rooted needs refl refl fits)
-keeps_perform R w e a (At p op) formed has needs fits good =
-    keeps_operate R w e a p op (operand w.at p) formed has needs fits refl good
+keeps_perform R w e a (At p op) formed has needs fits good = grind (arith, keeps_operate)
 keeps_perform R w e a (Make v) formed has needs fits good = keeps_make R w e a v formed has needs fits
 
 -- a step keeps a world well-formed

@@ -1,3 +1,4 @@
+pub mod Prelude
 pub mod PassedUp
 pub mod Steps
 pub mod Commute

@@ -1,23 +1,9 @@
 -- The step of an entry, made again by what the entry keeps.
 use Rattle.std.proofs.Common.{◌≡◌, ℕ, ◌≤◌, true, inl, inr, refl, sym, ◌∙◌, ap, subst, arith, List, Option, Some, IsTrue, Result, Ok, Err, IfOk, IfErr}
-use mathlib.Core.Path.{fun_ext}
-use Rattle.rd_ring.specs.Prelude.{Access, Done, Refusal, is_nothing, Performed, contents_after, perform, everywhere, HasEffect}
-use Rattle.rd_segments.specs.declared.space.Space.{Space}
-use Rattle.rd_segments.specs.Space.{contents, room}
-use Rattle.rd_actor.specs.declared.actors.Actor.{Actor}
-use Rattle.rd_actor.specs.declared.actors.OpReply.{OpReply}
-use Rattle.rd_actor.specs.Table.{need, after}
-use Rattle.rd_step.specs.World.{World}
-use Rattle.rd_step.specs.declared.entries.Entry.{Entry}
-use Rattle.rd_step.specs.Step.{Stepped, with_actor, step}
-use Rattle.rd_step.specs.Fields.{world_of_fields}
-use Rattle.rd_step.specs.Lists.{numbered}
-use Rattle.rd_step.specs.Room.{makes, makes_segment, IsRefused}
-use Rattle.rd_step.specs.WellFormed.{IsWellFormed}
+use Rattle.rd_step.proofs.Prelude.{fun_ext, Access, Done, Refusal, is_nothing, Performed, contents_after, perform, everywhere, HasEffect, Space, contents, room, Actor, OpReply, need, after, World, Entry, Stepped, with_actor, step, world_of_fields, numbered, makes, makes_segment, IsRefused, IsWellFormed}
 use Rattle.rd_step.proofs.Keeps.{keeps}
 use Rattle.rd_step.proofs.Progress.{changes_only}
 use Rattle.rd_step.proofs.Steps.{took}
-use Rattle.rd_step.proofs.WorldLemmas.{makes_by}
 
 -- the step from w that leaves v and this entry, by the words that the entry keeps
 pub record Leaves (R : ℕ) (w v : World) (x : Entry) : Type 0 where
@@ -52,10 +38,7 @@ not_refused R space xs v x access refusal h needs has_room (inl refused) =
     let l = leaves R (world_of_fields space xs) v x h in
     let same : l.access ≡ access = cc (l.needs, needs) in
     cc (sym (ap (λ (y : Access). perform R x.event.actor (contents space) y) same) ∙ l.does, refused)
-not_refused R space xs v x access refusal h needs has_room (inr lacks) =
-    let l = leaves R (world_of_fields space xs) v x h in
-    let some = has_room (makes_by R (world_of_fields space xs) x.event x.old_actor access l.has needs ∙ lacks.1.1) in
-    absurd (omega (arith, some, lacks.1.2))
+not_refused R space xs v x access refusal h needs has_room (inr lacks) = grind arith
 
 -- the step of the entry leaves these fields, and they are a well-formed world
 pub record IsMadeAgain (R : ℕ) (old new : Space R) (xs ys : List Actor) (x : Entry) : Type 0 where
@@ -68,8 +51,7 @@ made_again : (R : ℕ) (old new : Space R) (xs ys : List Actor) (v : World) (x :
     → v.at ≡ contents new → IsMadeAgain R old new xs ys x
 made_again R old new xs ys v x next formed h goes_on actors places =
     let l = leaves R (world_of_fields old xs) v x h in
-    let words : v.actor ≡ numbered ys =
-    l.actors ∙ sym (ap (λ (n : Actor × Option OpReply). with_actor x.event.actor n.0 (numbered xs)) goes_on) ∙ sym actors in
+    let words : v.actor ≡ numbered ys = grind arith in
     let same : v ≡ world_of_fields new ys = λ i. record { at = places i; actor = words i } in
     record {
       goes = h ∙ ap (λ (w : World). Ok (record { world = w; entry = x })) same;
@@ -96,8 +78,7 @@ pub access_again : (R : ℕ) (old new : Space R) (xs ys : List Actor) (v : World
 access_again R old new xs ys v x next access (Ok done) formed h has_room goes_on actors needs accesses refused =
     let l = leaves R (world_of_fields old xs) v x h in
     let same : l.access ≡ access = cc (l.needs, needs) in
-    let does : perform R x.event.actor (contents old) access ≡ Ok l.did =
-    sym (ap (λ (y : Access). perform R x.event.actor (contents old) y) same) ∙ l.does in
+    let does : perform R x.event.actor (contents old) access ≡ Ok l.did = grind arith in
     let did : l.did ≡ accesses.performed = cc (does, accesses.performs) in
     let left : contents new ≡ contents_after accesses.performed (contents old) = fun_ext (λ q. accesses.leaves q refl) in
     made_again R old new xs ys v x next formed h goes_on actors

@@ -1,13 +1,9 @@
 -- A making keeps a world well-formed: the new segment is its maker's next one, and its places are
 -- just those that belong there.
-use Rattle.std.proofs.Common.{◌≡◌, ℕ, zero, suc, ◌+◌, ◌<◌, ◌≤◌, Bool, true, false, not, ◌==◌, ◌&&◌, nat_lt, inl, inr, refl, sym, ◌∙◌, ap, subst, arith, Option, Some, None, is_some, ltb-true, le-leb, eqb-true}
-use Rattle.std.proofs.lemmas.Bool.{cases_eq, cases_Bool, cond-true, cond-false, cond_both, and_parts, and_from, and_left}
-use Rattle.rd_ring.specs.Prelude.{MOST_SEGMENTS, COUNTER_END, SegName, Place, Head, Tail, Next, CellAt, ValAt, IdxAt, WholeOf, Content, Number, ValIs, IdxIs, root, is_name, is_of, Contents, is_there, after_write, holding}
-use Rattle.rd_cell.specs.Cells.{value_in_cell}
-use Rattle.rd_cell.specs.Access.{number_made_from, number_made}
-use Rattle.rd_cell.proofs.PlaceLemmas.{is_name-true}
-use Rattle.rd_step.specs.WellFormed.{Presence, belongs, place_fits, maker_fits, AreMade}
-use Rattle.rd_step.proofs.Fits.{Grows, place_grows}
+use Rattle.std.proofs.Common.{◌≡◌, ℕ, zero, suc, ◌+◌, ◌<◌, ◌≤◌, Bool, true, false, not, ◌==◌, nat_lt, inl, inr, sym, ◌∙◌, ap, subst, arith, Some, is_some, eqb-true}
+use Rattle.rd_step.proofs.Prelude.{cases_eq, cases_Bool, cond-true, cond-false, and_parts, MOST_SEGMENTS, SegName, Place, Head, WholeOf, Number, root, is_name, Contents, is_there, after_write, holding, number_made_from, is_name-true, belongs, place_fits, maker_fits, AreMade}
+use Rattle.rd_cell.specs.Access.{number_made}
+use Rattle.rd_step.proofs.Fits.{Grows}
 
 -- every number below the one that counting ends at names a segment that is there
 made_from-below : (more : ℕ) (at : Contents) (m n k : ℕ) → n ≤ k → k < number_made_from more at m n
@@ -45,14 +41,12 @@ pub laid_other : (R : ℕ) (s : SegName) (x : ℕ) (at : Contents) (t : SegName)
 laid_other R s x at t e = ap is_some (cond-false (is_name s t) (Some (Number 0)) (at (Head t)) e)
 
 pub laid_grows : (R : ℕ) (s : SegName) (x : ℕ) (at : Contents) → Grows (is_there at) (is_there (laid R s x at))
-laid_grows R s x at t h =
-    elim (cases_Bool (is_name s t)) [ inl e ↦ laid_new R s x at t e | inr e ↦ laid_other R s x at t e ∙ h ]
+laid_grows R s x at t h = grind arith
 
 -- a maker is an actor
 pub maker_is : (is_actor : ℕ → Bool) (m n : ℕ) → not (is_actor 0) ≡ true → is_actor m ≡ true → nat_lt n MOST_SEGMENTS ≡ true
     → maker_fits is_actor m n ≡ true
-maker_is is_actor zero n h k l = cc
-maker_is is_actor (suc m) n h k l = and_from (is_actor (suc m)) (nat_lt n MOST_SEGMENTS) k l
+maker_is is_actor m n h k l = grind arith
 
 -- the segments stay such as actors made
 pub laid_made : (R : ℕ) (s : SegName) (x : ℕ) (at : Contents) (is_actor : ℕ → Bool) → maker_fits is_actor s.maker s.n ≡ true
@@ -81,63 +75,10 @@ laid_made R s x at is_actor fits below were = record { rooted = laid_grows R s x
               (were.no_gap m n (sym (laid_other R s x at (record { maker = m; n = suc n }) e) ∙ h))
         ]
 
--- a new segment has just the places that belong to it
-new_place : (R : ℕ) (s : SegName) (x : ℕ) (there : Presence) (p : Place) → ((t : SegName) → is_name s t ≡ true → there t ≡ true)
-    → is_of s p ≡ true → is_some (holding R x p) ≡ belongs R there p
-new_place R s x there (Head t) h e = sym (h t e)
-new_place R s x there (Tail t) h e = sym (h t e)
-new_place R s x there (Next t) h e = sym (h t e)
-new_place R s x there (ValAt t i) h e =
-    cond_both (nat_lt i R) (Some (ValIs (value_in_cell x i))) None
-    (λ (o : Option Content). is_some o ≡ (nat_lt i R && there t))
-    (λ b. sym (and_from (nat_lt i R) (there t) b (h t e))) (λ b. sym (and_left (nat_lt i R) (there t) b))
-new_place R s x there (IdxAt t i) h e =
-    cond_both (nat_lt i R) (Some (IdxIs true i)) None
-    (λ (o : Option Content). is_some o ≡ (nat_lt i R && there t))
-    (λ b. sym (and_from (nat_lt i R) (there t) b (h t e))) (λ b. sym (and_left (nat_lt i R) (there t) b))
-new_place R s x there (CellAt t i) h e = refl
-new_place R s x there (WholeOf t) h e = refl
-new_place R s x there _ h e = cc
-
--- and which other places belong stays
-old_place : (R : ℕ) (s : SegName) (there there' : Presence) (p : Place) → ((t : SegName) → is_name s t ≡ false → there' t ≡ there t)
-    → is_of s p ≡ false → belongs R there p ≡ belongs R there' p
-old_place R s there there' (Head t) h e = sym (h t e)
-old_place R s there there' (Tail t) h e = sym (h t e)
-old_place R s there there' (Next t) h e = sym (h t e)
-old_place R s there there' (ValAt t i) h e = ap (λ (b : Bool). nat_lt i R && b) (sym (h t e))
-old_place R s there there' (IdxAt t i) h e = ap (λ (b : Bool). nat_lt i R && b) (sym (h t e))
-old_place R s there there' _ h e = refl
-
 pub laid_places : (R : ℕ) (s : SegName) (x : ℕ) (at : Contents) → ((p : Place) → is_some (at p) ≡ belongs R (is_there at) p) → (p : Place)
     → is_some (laid R s x at p) ≡ belongs R (is_there (laid R s x at)) p
-laid_places R s x at were p =
-    elim (cases_Bool (is_of s p)) [
-      | inl e ↦
-          ap is_some (cond-true (is_of s p) (holding R x p) (at p) e)
-          ∙ new_place R s x (is_there (laid R s x at)) p (laid_new R s x at) e
-      | inr e ↦
-          ap is_some (cond-false (is_of s p) (holding R x p) (at p) e)
-          ∙ were p ∙ old_place R s (is_there at) (is_there (laid R s x at)) p (laid_other R s x at) e
-    ]
-
--- what a new segment holds fits
-new_fits : (R : ℕ) (x : ℕ) (there : Presence) (p : Place) → place_fits R there p (holding R x p) ≡ true
-new_fits R x there (Head t) = refl
-new_fits R x there (Tail t) = refl
-new_fits R x there (Next t) = refl
-new_fits R x there (ValAt t i) =
-    cond_both (nat_lt i R) (Some (ValIs (value_in_cell x i))) None
-    (λ (o : Option Content). place_fits R there (ValAt t i) o ≡ true) (λ b. refl) (λ b. refl)
-new_fits R x there (IdxAt t i) =
-    cond_both (nat_lt i R) (Some (IdxIs true i)) None
-    (λ (o : Option Content). place_fits R there (IdxAt t i) o ≡ true)
-    (λ b. let below : i < R = ltb-true i R b in le-leb i (COUNTER_END + R) (omega arith)) (λ b. refl)
-new_fits R x there _ = refl
+laid_places R s x at were p = grind arith
 
 pub laid_fits : (R : ℕ) (s : SegName) (x : ℕ) (at : Contents) → ((p : Place) → place_fits R (is_there at) p (at p) ≡ true) → (p : Place)
     → place_fits R (is_there (laid R s x at)) p (laid R s x at p) ≡ true
-laid_fits R s x at were p =
-    cond_both (is_of s p) (holding R x p) (at p) (λ (o : Option Content). place_fits R (is_there (laid R s x at)) p o ≡ true)
-    (λ e. new_fits R x (is_there (laid R s x at)) p)
-    (λ e. place_grows R (is_there at) (is_there (laid R s x at)) p (at p) (laid_grows R s x at) (were p))
+laid_fits R s x at were p = grind arith

@@ -1,14 +1,7 @@
 -- The old words of a step's entry are the words from before the step.
-use Rattle.std.proofs.Common.{◌≡◌, ℕ, nat_lt, refl, sym, ◌∙◌, ap, subst, Option, Some, None, Result, Ok, Err, IfOk}
-use Rattle.std.proofs.lemmas.Bool.{cond_both}
-use Rattle.std.proofs.lemmas.Result.{IfOk-at_ok}
-use Rattle.rd_ring.specs.Prelude.{MOST_SEGMENTS, SegName, Place, WholeOf, Content, Access, NoPlace, At, Make, Operation, Refusal, Contents, operand, Effect, effect, Performed, number_made, operate, make, perform}
-use Rattle.rd_cell.specs.Access.{effect_at}
-use Rattle.rd_cell.specs.Results.{result_map}
-use Rattle.rd_step.specs.World.{World}
-use Rattle.rd_step.specs.declared.entries.Event.{Event}
-use Rattle.rd_step.specs.Step.{Stepped, step}
-use Rattle.rd_step.specs.WellFormed.{IsWellFormed}
+use Rattle.std.proofs.Common.{◌≡◌, ℕ, refl, subst, Option, Some, Ok, IfOk, arith}
+use Rattle.rd_step.proofs.Prelude.{IfOk-at_ok, SegName, Place, Content, Access, NoPlace, At, Make, Operation, Contents, operand, Performed, operate, make, perform, World, Event, Stepped, step, IsWellFormed}
+use Rattle.rd_ring.specs.Prelude.{number_made}
 use Rattle.rd_step.specs.Laws.{KeepsOldWords}
 use Rattle.rd_step.proofs.Steps.{took}
 
@@ -16,20 +9,12 @@ use Rattle.rd_step.proofs.Steps.{took}
 abbrev NotesOld : Contents → Performed → Type 0
 NotesOld at did = (p : Place) → did.place ≡ Some p → operand at p ≡ did.old
 
-notes-effect : (p : Place) (c : Content) (r : Result Effect Refusal) (at : Contents) → operand at p ≡ Some c → IfOk (result_map (effect_at p c) r) (NotesOld at)
-notes-effect p c (Err x) at h = tt
-notes-effect p c (Ok e) at h = λ q k. let same : p ≡ q = cc in ap (operand at) (sym same) ∙ h
-
 notes-operate : (p : Place) (op : Operation) (o : Option Content) (at : Contents) → operand at p ≡ o → IfOk (operate p op o) (NotesOld at)
-notes-operate p op None at h = tt
-notes-operate p op (Some c) at h = notes-effect p c (effect op c) at h
+notes-operate p op o at h = grind arith
 
 -- the whole of a segment takes no operation
 notes-make : (R x : ℕ) (s : SegName) (w : World) → IfOk (make R s x) (NotesOld w.at)
-notes-make R x s w =
-    cond_both (nat_lt s.n MOST_SEGMENTS) _ _ (λ (r : Result Performed Refusal). IfOk r (NotesOld w.at))
-    (λ below p k. let same : WholeOf s ≡ p = cc in ap (operand w.at) (sym same))
-    (λ e. tt)
+notes-make R x s w = grind arith
 
 notes-perform : (R actor : ℕ) (w : World) (x : Access) → IsWellFormed R w → IfOk (perform R actor w.at x) (NotesOld w.at)
 notes-perform R actor w NoPlace formed = λ p k. cc

@@ -1,21 +1,12 @@
 -- A step takes nothing away, makes no segment of another actor, and what its entry keeps may be put
 -- back after it.
-use Rattle.std.proofs.Common.{◌≡◌, ◌≢◌, ℕ, zero, suc, ◌+◌, ◌<◌, ◌≤◌, Bool, true, false, not, ◌==◌, nat_lt, refl, sym, ◌∙◌, ap, subst, arith, Option, Some, None, is_some, Result, Ok, Err, IfOk, ltb-true}
-use Rattle.std.proofs.lemmas.Bool.{cond_both, cond-false, and_right, ne_eqb, eqb-false, both_ways, false_from_ne_true, not-true}
-use Rattle.std.proofs.lemmas.Result.{IfOk-at_ok}
-use Rattle.rd_ring.specs.Prelude.{MOST_SEGMENTS, operand, SegName, Place, Head, Content, Access, NoPlace, At, Make, Operation, Refusal, is_of, Contents, is_there, holding, Effect, effect, Performed, contents_after, number_made, operate, make, perform}
-use Rattle.rd_cell.specs.Access.{effect_at}
-use Rattle.rd_cell.specs.Results.{result_map}
-use Rattle.rd_cell.proofs.PlaceLemmas.{is_name-refl}
-use Rattle.rd_cell.proofs.AccessLemmas.{is_cell_at, keeps-operate, keeps-perform}
-use Rattle.rd_actor.specs.declared.actors.Actor.{Actor}
-use Rattle.rd_step.specs.World.{World}
-use Rattle.rd_step.specs.declared.entries.Event.{Event}
-use Rattle.rd_step.specs.Step.{Stepped, step, CanPutBack}
-use Rattle.rd_step.specs.WellFormed.{content_fits, place_fits, IsWellFormed}
-use Rattle.rd_step.proofs.Halves.{bare_cell, operand_fits, operand_stays}
+use Rattle.std.proofs.Common.{◌≡◌, ◌≢◌, ℕ, suc, ◌+◌, ◌<◌, ◌≤◌, Bool, true, false, not, ◌==◌, nat_lt, refl, ◌∙◌, ap, subst, arith, Option, Some, None, is_some, Result, Ok, IfOk, ltb-true}
+use Rattle.rd_step.proofs.Prelude.{cond_both, and_right, both_ways, IfOk-at_ok, MOST_SEGMENTS, operand, SegName, Place, Head, Content, Access, NoPlace, At, Make, Operation, Refusal, is_of, Contents, is_there, Effect, effect, Performed, contents_after, operate, make, perform, effect_at, result_map, is_name-refl, is_cell_at, Actor, World, Event, Stepped, step, CanPutBack, content_fits, place_fits, IsWellFormed}
+use Rattle.std.proofs.lemmas.Bool.{ne_eqb, false_from_ne_true}
+use Rattle.rd_ring.specs.Prelude.{number_made}
+use Rattle.rd_cell.proofs.AccessLemmas.{keeps-operate}
+use Rattle.rd_step.proofs.Halves.{bare_cell, operand_fits}
 use Rattle.rd_step.proofs.Steps.{took}
-use Rattle.rd_step.proofs.Fits.{may_fit}
 use Rattle.rd_step.proofs.Making.{laid_new, laid_other}
 use Rattle.rd_step.proofs.Inverse.{number_made-absent, absent_place}
 
@@ -27,16 +18,12 @@ StaysAt at q did = is_some (contents_after did at q) ≡ is_some (at q)
 
 stays-make : (R : ℕ) (s : SegName) (x : ℕ) (at : Contents) (q : Place) → (s.n < MOST_SEGMENTS → is_of s q ≡ false)
     → IfOk (make R s x) (StaysAt at q)
-stays-make R s x at q other =
-    cond_both (nat_lt s.n MOST_SEGMENTS) _ _ (λ (r : Result Performed Refusal). IfOk r (StaysAt at q))
-    (λ e. ap is_some (cond-false (is_of s q) (holding R x q) (at q) (other (ltb-true s.n MOST_SEGMENTS e)))) (λ e. tt)
+stays-make R s x at q other = grind arith
 
 -- an access keeps which places are there that are none of its actor's next segment
 stays-perform : (R actor : ℕ) (at : Contents) (x : Access) (q : Place) → (is_cell_at q ≡ true → at q ≡ None)
     → (number_made at actor < MOST_SEGMENTS → is_of (record { maker = actor; n = number_made at actor }) q ≡ false) → IfOk (perform R actor at x) (StaysAt at q)
-stays-perform R actor at NoPlace q bare other = refl
-stays-perform R actor at (At p op) q bare other = keeps-operate p op (operand at p) at q refl bare
-stays-perform R actor at (Make x) q bare other = stays-make R (record { maker = actor; n = number_made at actor }) x at q other
+stays-perform R actor at x q bare other = grind (arith, keeps-operate, stays-make)
 
 -- a place that is there is none of a segment that an actor may make next
 not_next : (R : ℕ) (w : World) (n : ℕ) (q : Place) → IsWellFormed R w → is_some (w.at q) ≡ true → number_made w.at n < MOST_SEGMENTS
@@ -56,14 +43,7 @@ stays_at R w e s q formed h there =
 -- a step by one actor keeps which of another's segments are there
 pub others_stay : (R : ℕ) (w : World) (e : Event) (s : Stepped) (n k : ℕ) → step R w e ≡ Ok s → (n == s.entry.event.actor) ≡ false
     → is_there s.world.at (record { maker = n; n = k }) ≡ is_there w.at (record { maker = n; n = k })
-others_stay R w e s n k h other =
-    let t = took R w e s h in
-    let q : Place = Head (record { maker = n; n = k }) in
-    subst (λ (x : Stepped). (n == x.entry.event.actor) ≡ false → is_some (x.world.at q) ≡ is_some (w.at q)) t.ends
-    (λ ne.
-    let apart : n ≢ e.actor = eqb-false n e.actor ne in
-    IfOk-at_ok (StaysAt w.at q) t.does (keeps-perform R e.actor w.at t.access n k (λ same. apart (sym same))))
-    other
+others_stay R w e s n k h other = grind arith
 
 -- What may be put back
 
@@ -79,11 +59,7 @@ CanGoBack R n before at did = GoesOn R n (contents_after did before) at → CanP
 
 can-effect : (R n : ℕ) (w : World) (at : Contents) (p : Place) (c : Content) (r : Result Effect Refusal) → operand w.at p ≡ Some c
     → content_fits R (is_there w.at) p c ≡ true → ((q : Place) → IfOk (result_map (effect_at p c) r) (StaysAt w.at q)) → IfOk (result_map (effect_at p c) r) (CanGoBack R n w.at at)
-can-effect R n w at p c (Err x) found fits stays = tt
-can-effect R n w at p c (Ok e) found fits stays = λ on. (
-  operand_stays R (is_there at) w.at at p c found on.fits (λ q there. on.stays q (stays q ∙ there)),
-  may_fit R (is_there w.at) p c fits,
-)
+can-effect R n w at p c r found fits stays = grind arith
 
 can-operate : (R n : ℕ) (w : World) (at : Contents) (p : Place) (op : Operation) (o : Option Content) → IsWellFormed R w → operand w.at p ≡ o
     → IfOk (operate p op o) (CanGoBack R n w.at at)
@@ -94,8 +70,7 @@ can-operate R n w at p op (Some c) formed found =
 
 -- an actor's number is not 0
 numbered : (is_actor : ℕ → Bool) (n : ℕ) → not (is_actor 0) ≡ true → is_actor n ≡ true → 1 ≤ n
-numbered is_actor zero h k = absurd (both_ways (is_actor 0) (not-true (is_actor 0) h) k)
-numbered is_actor (suc n) h k = omega arith
+numbered is_actor n h k = grind arith
 
 can-make : (R : ℕ) (w : World) (n : ℕ) (a : Actor) (at : Contents) (x : ℕ) → IsWellFormed R w → w.actor n ≡ Some a
     → IfOk (make R (record { maker = n; n = number_made w.at n }) x) (CanGoBack R n w.at at)

@@ -1,48 +1,23 @@
 -- A step on which no later one depends may be taken out of a run, and go last.
-use Rattle.std.proofs.Common.{◌≡◌, ℕ, true, ◌==◌, refl, sym, ◌∙◌, ap, subst, List, [], ◌∷◌, Option, Some, is_some, Ok}
-use Rattle.std.proofs.lemmas.Bool.{cond_both, or_parts}
-use Rattle.rd_ring.specs.Prelude.{Place, is_there, interfere}
-use Rattle.rd_actor.specs.declared.actors.Actor.{Actor}
-use Rattle.rd_actor.specs.Table.{after}
-use Rattle.rd_step.specs.World.{World}
-use Rattle.rd_step.specs.declared.entries.Event.{Event}
-use Rattle.rd_step.specs.declared.entries.Entry.{Entry}
-use Rattle.rd_step.specs.Step.{Stepped, step, unstep, CanPutBack}
-use Rattle.rd_step.specs.Run.{Ran, run}
-use Rattle.rd_step.specs.Dependence.{IsFree}
-use Rattle.rd_step.specs.Laws.{CommutingSquare, IsRemovable, WasStepped, IsTakenOut}
-use Rattle.rd_step.specs.WellFormed.{IsWellFormed}
+use Rattle.std.proofs.Common.{◌≡◌, ℕ, true, ◌==◌, sym, ◌∙◌, ap, subst, List, [], ◌∷◌, is_some, Ok, arith}
+use Rattle.rd_step.proofs.Prelude.{or_parts, Place, is_there, interfere, World, Event, Entry, Stepped, step, unstep, CanPutBack, Ran, run, IsFree, CommutingSquare, IsWellFormed}
+use Rattle.rd_step.specs.Laws.{IsRemovable, WasStepped, IsTakenOut}
 use Rattle.rd_step.proofs.Steps.{took, with_actor-same}
 use Rattle.rd_step.proofs.Commute.{commutes}
 use Rattle.rd_step.proofs.Keeps.{keeps}
-use Rattle.rd_step.proofs.Inverse.{undoes, ran_on, run-cons}
+use Rattle.rd_step.proofs.Inverse.{undoes, ran_on}
 use Rattle.rd_step.proofs.PutBack.{stays_at, others_stay, entry_can}
 
 -- the last step of a run taken out
 last_removed : (R : ℕ) (w : World) (e : Event) (s : Stepped) → IsWellFormed R w → step R w e ≡ Ok s
     → IsRemovable R w e s [] (record { world = s.world; entries = [] })
-last_removed R w e s formed h =
-    let back = undoes R w e s formed h in
-    record {
-      rest = ap (λ (v : World). Ok (record { world = v; entries = [] })) (sym back);
-      again = ap (λ (v : World). step R v e) back ∙ h;
-      well_formed = subst (λ (v : World). IsWellFormed R v) (sym back) formed;
-    }
+last_removed R w e s formed h = grind (arith, undoes)
 
 -- a step that the next one doesn't depend on, taken out before it
 removed_before : (R : ℕ) (w : World) (e f : Event) (s u : Stepped) (fs : List Event) (rest : Ran) (sw : CommutingSquare R w e f s u)
     → IsRemovable R sw.first.world e sw.second fs rest
     → IsRemovable R w e s (f ∷ fs) (record { world = rest.world; entries = u.entry ∷ rest.entries })
-removed_before R w e f s u fs rest sw r =
-    let same : unstep rest.world sw.second.entry ≡ unstep rest.world s.entry = ap (unstep rest.world) sw.entry_unchanged in
-    record {
-      rest =
-          run-cons R w f fs sw.first (record { world = unstep rest.world sw.second.entry; entries = rest.entries }) sw.goes_first r.rest
-          ∙ (λ i. Ok (record { world = same i; entries = sw.same_entry i ∷ rest.entries }));
-      again =
-          subst (λ (x : Entry). step R (unstep rest.world x) e ≡ Ok (record { world = rest.world; entry = x })) sw.entry_unchanged r.again;
-      well_formed = subst (λ (v : World). IsWellFormed R v) same r.well_formed;
-    }
+removed_before R w e f s u fs rest sw r = grind arith
 
 -- the law
 pub removes : (R : ℕ) (w : World) (e : Event) (s : Stepped) (es : List Event) (r : Ran) → IsWellFormed R w → step R w e ≡ Ok s
@@ -72,11 +47,7 @@ run_keeps R w (e ∷ es) r formed h =
 -- a step takes no actor away
 stays_actor : (R : ℕ) (w : World) (e : Event) (s : Stepped) (n : ℕ) → step R w e ≡ Ok s → is_some (w.actor n) ≡ true
     → is_some (s.world.actor n) ≡ true
-stays_actor R w e s n h there =
-    let t = took R w e s h in
-    let next = after R t.a e.act t.did.answer in
-    subst (λ (x : Stepped). is_some (x.world.actor n) ≡ true) t.ends
-    (cond_both (n == e.actor) (Some next.0) (w.actor n) (λ (o : Option Actor). is_some o ≡ true) (λ k. refl) (λ k. there))
+stays_actor R w e s n h there = grind arith
 
 run_stays_at : (R : ℕ) (w : World) (es : List Event) (r : Ran) (q : Place) → IsWellFormed R w → run R w es ≡ Ok r → is_some (w.at q) ≡ true
     → is_some (r.world.at q) ≡ true
@@ -100,9 +71,7 @@ run_stays_actor R w (e ∷ es) r n h there =
 -- steps that do not depend on x keep which segments of its actor are there
 run_others : (R : ℕ) (w : World) (es : List Event) (r : Ran) (x : Entry) (k : ℕ) → run R w es ≡ Ok r → IsFree x r.entries
     → is_there r.world.at (record { maker = x.event.actor; n = k }) ≡ is_there w.at (record { maker = x.event.actor; n = k })
-run_others R w [] r x k h free =
-    let p : w ≡ r.world = cc in
-    ap (λ (v : World). is_there v.at (record { maker = x.event.actor; n = k })) (sym p)
+run_others R w [] r x k h free = grind arith
 run_others R w (e ∷ es) r x k h free =
     let ran = ran_on R w e es r h in
     let p : ran.rest.world ≡ r.world = ap (λ (y : Ran). y.world) ran.joins in
@@ -116,11 +85,7 @@ run_others R w (e ∷ es) r x k h free =
 
 -- the actor of a step is there after it
 entry_actor : (R : ℕ) (w : World) (e : Event) (s : Stepped) → step R w e ≡ Ok s → is_some (s.world.actor s.entry.event.actor) ≡ true
-entry_actor R w e s h =
-    let t = took R w e s h in
-    let next = after R t.a e.act t.did.answer in
-    subst (λ (x : Stepped). is_some (x.world.actor x.entry.event.actor) ≡ true) t.ends
-    (ap is_some (with_actor-same e.actor next.0 w.actor))
+entry_actor R w e s h = grind (arith, took, is_some, with_actor-same)
 
 -- what `revert` asks for holds if an entry's step may be undone, and what is left is the run of the
 -- later steps

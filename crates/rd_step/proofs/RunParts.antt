@@ -1,11 +1,8 @@
 -- Runs whose entries are known, taken apart at their first step and at one in their middle.
-use Rattle.std.proofs.Common.{◌≡◌, ℕ, refl, ◌∙◌, ap, List, [], ◌∷◌, ◌++◌, Result, Ok, Err}
-use Rattle.rd_ring.specs.Prelude.{Refusal}
-use Rattle.rd_step.specs.World.{World}
-use Rattle.rd_step.specs.declared.entries.Entry.{Entry}
-use Rattle.rd_step.specs.Step.{step}
-use Rattle.rd_step.specs.Run.{Ran, run, events, run_entries, IsRunFrom}
-use Rattle.rd_step.proofs.Inverse.{ran_on, run-cons}
+use Rattle.std.proofs.Common.{◌≡◌, ℕ, refl, ◌∙◌, ap, List, [], ◌∷◌, ◌++◌, Result, Ok, Err, arith}
+use Rattle.rd_step.proofs.Prelude.{Refusal, World, Entry, step, Ran, run, events}
+use Rattle.rd_step.specs.Run.{run_entries, IsRunFrom}
+use Rattle.rd_step.proofs.Inverse.{run-cons}
 
 -- the last world of a run that leaves these entries
 pub record RunsTo (R : ℕ) (w : World) (xs : List Entry) : Type 0 where
@@ -29,17 +26,7 @@ pub record Beginning (R : ℕ) (s : World) (x : Entry) (xs : List Entry) (w : Wo
 
 pub beginning : (R : ℕ) (s : World) (x : Entry) (xs : List Entry) (w : World)
     → run R s (events (x ∷ xs)) ≡ Ok (record { world = w; entries = x ∷ xs }) → Beginning R s x xs w
-beginning R s x xs w h =
-    let ran = ran_on R s x.event (events xs) (record { world = w; entries = x ∷ xs }) h in
-    let there : ran.rest.world ≡ w = ap (λ (y : Ran). y.world) ran.joins in
-    let all : ran.one.entry ∷ ran.rest.entries ≡ x ∷ xs = ap (λ (y : Ran). y.entries) ran.joins in
-    let its : ran.one.entry ≡ x = cc in
-    let others : ran.rest.entries ≡ xs = cc in
-    record {
-      after = ran.one.world;
-      goes = ran.goes ∙ (λ i. Ok (record { world = ran.one.world; entry = its i }));
-      rest = ran.goes_on ∙ (λ i. Ok (record { world = there i; entries = others i }));
-    }
+beginning R s x xs w h = grind arith
 
 -- the same where only its entries are known
 pub record FirstStep (R : ℕ) (s : World) (x : Entry) (xs : List Entry) : Type 0 where

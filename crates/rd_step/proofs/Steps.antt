@@ -1,13 +1,6 @@
 -- A step that was not refused, taken apart.
 use Rattle.std.proofs.Common.{◌≡◌, ℕ, ◌==◌, refl, arith, Option, Some, ok_or, Ok, Err, ne_eqb, eq-eqb}
-use Rattle.std.proofs.lemmas.Bool.{cond-true, cond-false}
-use Rattle.rd_cell.proofs.ResultLemmas.{and_then_ok, ok_or_ok}
-use Rattle.rd_ring.specs.Prelude.{Access, Refusal, NoActor, Performed, perform}
-use Rattle.rd_actor.specs.declared.actors.Actor.{Actor}
-use Rattle.rd_actor.specs.Table.{need, after}
-use Rattle.rd_step.specs.World.{World}
-use Rattle.rd_step.specs.declared.entries.Event.{Event}
-use Rattle.rd_step.specs.Step.{Stepped, with_actor, step_outcome, step}
+use Rattle.rd_step.proofs.Prelude.{cond-true, cond-false, and_then_ok, ok_or_ok, Access, Refusal, NoActor, Performed, perform, Actor, need, after, World, Event, Stepped, with_actor, step_outcome, step}
 
 -- the step of e from w: the actor's record, its access and what that did
 pub record Took (R : ℕ) (w : World) (e : Event) (s : Stepped) : Type 0 where
@@ -31,11 +24,6 @@ took R w e s m =
 pub step_of : (R : ℕ) (w : World) (e : Event) (a : Actor) (x : Access) (did : Performed) → w.actor e.actor ≡ Some a
     → need R a e.act ≡ Ok x → perform R e.actor w.at x ≡ Ok did → step R w e ≡ Ok (step_outcome w e a did (after R a e.act did.answer))
 step_of R w e a x did h k l = grind arith
-
--- an access that is refused makes a step that is refused
-pub step_refused : (R : ℕ) (w : World) (e : Event) (a : Actor) (x : Access) (refusal : Refusal) → w.actor e.actor ≡ Some a
-    → need R a e.act ≡ Ok x → perform R e.actor w.at x ≡ Err refusal → step R w e ≡ Err refusal
-step_refused R w e a x refusal h k l = grind arith
 
 -- an actor that may not go makes a step that is refused
 pub step_not_needed : (R : ℕ) (w : World) (e : Event) (a : Actor) (refusal : Refusal) → w.actor e.actor ≡ Some a

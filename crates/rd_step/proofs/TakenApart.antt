@@ -1,18 +1,9 @@
 -- The parts that a world is taken apart into.
 use Rattle.std.proofs.Common.{◌≡◌, ℕ, suc, ◌≤◌, ◌∙◌, sym, ap, subst, List, Vec, length, None}
+use Rattle.rd_step.proofs.Prelude.{MOST_CELLS, SegName, Actor, Space, contents, lists, PartsOf, contents_of_parts, Parts, World, world_of_fields, numbered, IsWellFormed, world_of_parts, first_flaw}
 use Rattle.std.specs.declared.alloc.Global.{Global}
-use Rattle.rd_ring.specs.Prelude.{MOST_CELLS, SegName}
-use Rattle.rd_actor.specs.declared.actors.Actor.{Actor}
 use Rattle.rd_segments.specs.declared.array.ArrayParts.{ArrayParts}
-use Rattle.rd_segments.specs.declared.space.Space.{Space}
-use Rattle.rd_segments.specs.Space.{contents, lists, head_name, tail_name, array_words}
-use Rattle.rd_segments.specs.Parts.{PartsOf, contents_of_parts}
-use Rattle.rd_step.specs.declared.parts.Parts.{Parts}
-use Rattle.rd_step.specs.World.{World}
-use Rattle.rd_step.specs.Fields.{world_of_fields}
-use Rattle.rd_step.specs.Lists.{numbered}
-use Rattle.rd_step.specs.WellFormed.{IsWellFormed}
-use Rattle.rd_step.specs.Parts.{world_of_parts, first_flaw}
+use Rattle.rd_segments.specs.Space.{head_name, tail_name, array_words}
 use Rattle.rd_step.proofs.Accepted.{accepted}
 
 -- these segments and actors are those of a space and of a world's actors

@@ -4,7 +4,7 @@ use Rattle.rd_ring.specs.Prelude.{Refusal, and_then, result_map}
 use Rattle.rd_step.specs.World.{World}
 use Rattle.rd_step.specs.declared.entries.Event.{Event}
 use Rattle.rd_step.specs.declared.entries.Entry.{Entry}
-use Rattle.rd_step.specs.Step.{Stepped, step}
+use Rattle.rd_step.specs.Step.{step}
 
 -- the last world of a run, and the entry of each of its steps
 pub record Ran : Type 0 where

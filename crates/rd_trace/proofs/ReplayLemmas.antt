@@ -1,6 +1,6 @@
 -- Steps that are made again: what goes through, and what is refused.
-use Rattle.rd_trace.proofs.Prelude.{common_steps, AllByRecursion, cond-false, IsDistinct-head, IsDistinct-tail, take-append_seam, drop-append_seam, append-nil, length-map, map-append, map_more, get_or-map, take_more, take_all, drop_all, take-take, take-append-drop, drop-append-le, length-take-le, length-drop, OutOfMemory, World, Refusal, TooLong, MarkTaken, TooManyMarks, OpReply, Stepped, step, Ran, run, MOST_STEPS, run_entries, preceded_by, and_then, result_map, Entry, Event, State, step_after, with_event, apply, reply_to, back_one, times, back, MarkName, MOST_MARKS, bytes_of, same_name, Mark, BookState, with_session, with_marks, marked_events, mark, GoThrough, MarksGoThrough, HaveDifferentNames, SavedMark, LoadTraceFault, saved_mark, start_world, start_flaw, Trace, loaded_state, session_at, IsRefusedAt, IsMarkRefusedAt, HasMarks, IsPlayable, Replays, IsAt, RefusesOne, StepsAll, GoesTo, MakesLive, SetsMarks, IsFaultOfStep, IsFaultOfMark}
-use Rattle.std.proofs.Common.{◌≡◌, ◌≢◌, ◌⊎◌, inl, inr, ℕ, zero, suc, ◌+◌, ◌-◌, ◌<◌, ◌≤◌, ◌==◌, if◌then◌else◌, Bool, true, false, List, [], ◌∷◌, ◌++◌, length, take, drop, get_or, map, Some, None, Option, is_some, Result, Ok, Err, IsOk, refl, sym, ap, ap₂, ◌∙◌, subst, arith, append_assoc, length-append, ne_eqb, eq-eqb}
+use Rattle.rd_trace.proofs.Prelude.{common_steps, AllByRecursion, cond-false, IsDistinct-head, IsDistinct-tail, take-append_seam, drop-append_seam, append-nil, length-map, map-append, map_more, get_or-map, take_more, take_all, drop_all, take-take, take-append-drop, drop-append-le, length-take-le, length-drop, OutOfMemory, World, Refusal, TooLong, MarkTaken, TooManyMarks, Stepped, step, Ran, run, MOST_STEPS, run_entries, preceded_by, and_then, result_map, Entry, Event, State, step_after, with_event, apply, back_one, times, back, MarkName, MOST_MARKS, bytes_of, same_name, Mark, BookState, with_session, with_marks, marked_events, mark, GoThrough, MarksGoThrough, HaveDifferentNames, SavedMark, LoadTraceFault, saved_mark, start_world, start_flaw, Trace, loaded_state, session_at, IsRefusedAt, IsMarkRefusedAt, HasMarks, IsPlayable, Replays, IsAt, RefusesOne, StepsAll, GoesTo, MakesLive, SetsMarks, IsFaultOfStep, IsFaultOfMark}
+use Rattle.std.proofs.Common.{◌≡◌, ◌≢◌, ◌⊎◌, inl, inr, ℕ, zero, suc, ◌+◌, ◌-◌, ◌<◌, ◌≤◌, ◌==◌, if◌then◌else◌, Bool, true, false, List, [], ◌∷◌, ◌++◌, length, take, drop, get_or, map, Some, None, is_some, Result, Ok, Err, IsOk, refl, sym, ap, ap₂, ◌∙◌, subst, arith, append_assoc, length-append, ne_eqb, eq-eqb}
 use Rattle.std.proofs.lemmas.Cmp.{nat_list_eq_equiv}
 use Rattle.rd_step.specs.Run.{events}
 use Rattle.rd_journal.proofs.Calls.{back_goes}
@@ -56,14 +56,6 @@ first_run R w (x ∷ xs) ys h = runs_first R xs ys (λ v k. first_run R v xs ys 
 -- a run that leaves entries goes through
 went : (ran : Result Ran Refusal) (xs : List Entry) → run_entries ran ≡ Ok xs → IsOk ran
 went ran xs h = grind arith
-
-first_go : (R : ℕ) (w : World) (k : ℕ) (es : List Event) → GoThrough R w es → GoThrough R w (take k es)
-first_go R w k es h =
-    let all : take k es ++ drop k es ≡ es = take-append-drop k es in
-    record {
-      few = omega (arith, h.few, ap length all, length-append (take k es) (drop k es));
-      runs = first_run R w (take k es) (drop k es) (subst (λ (fs : List Event). IsOk (run R w fs)) (sym all) h.runs);
-    }
 
 -- One event
 

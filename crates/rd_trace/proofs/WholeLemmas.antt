@@ -1,8 +1,7 @@
 -- The value of a book has no float, and is not deep.
 use Rattle.std.proofs.Common.{◌≡◌, ℕ, suc, ◌≤◌, Bool, false, ◌||◌, List, [], ◌∷◌, Option, Vec, Global, inl, inr, refl, sym, ap₂, subst, arith}
-use Rattle.rd_trace.proofs.Prelude.{Data, array, object, unsigned, Items, no_items, item, Members, no_members, member, depth, items_depth, members_depth, max_depth, has_float, items_have_float, members_have_float, SegName, Cell, ArrSlot, SegmentParts, ArrayParts, Actor, World, Act, Event, Parts, bytes_of, Mark, BookState, items_by, name_data, next_data, short_data, long_data, act_data, event_data, value_data, op_data, actor_data, cell_data, segment_data, list_data, filled_slots, content_data, slot_data, array_data, IsStartData, fresh_data, parts_data, mark_data, book_data}
-use Rattle.serde_json.specs.Data.{null, boolean, number, string}
-use Rattle.rd_actor.specs.declared.actors.Op.{Op}
+use Rattle.rd_trace.proofs.Prelude.{Data, array, object, unsigned, Items, no_items, item, Members, no_members, member, depth, items_depth, members_depth, max_depth, has_float, items_have_float, members_have_float, SegName, Cell, ArrSlot, SegmentParts, ArrayParts, Actor, World, Act, Event, Parts, bytes_of, Mark, BookState, items_by, name_data, next_data, act_data, event_data, value_data, actor_data, cell_data, segment_data, list_data, filled_slots, content_data, slot_data, array_data, IsStartData, fresh_data, parts_data, mark_data, book_data}
+use Rattle.serde_json.specs.Data.{boolean, number, string}
 
 -- a value has no float, and is at most so deep; so are items, and members
 record IsPlain (n : ℕ) (d : Data) : Type 0 where
@@ -18,9 +17,6 @@ record AreMembersPlain (n : ℕ) (ms : Members) : Type 0 where
   pub shallow : members_depth ms ≤ n
 
 module _ (n : ℕ) where
-  null_plain : IsPlain n null
-  null_plain = record { whole = refl; shallow = omega arith }
-
   boolean_plain : (b : Bool) → IsPlain n (boolean b)
   boolean_plain b = record { whole = refl; shallow = omega arith }
 
@@ -64,12 +60,6 @@ module _ (n : ℕ) where
   value_plain : (o : Option ℕ) → IsPlain n (value_data o)
   value_plain o = grind arith
 
-  short_plain : (word : List ℕ) (actor : ℕ) → IsPlain (suc n) (short_data word actor)
-  short_plain word actor = array_plain n (more n (string_plain n word) (more n (number_plain n actor) (none n)))
-
-  long_plain : {d : Data} (word : List ℕ) (actor : ℕ) → IsPlain n d → IsPlain (suc n) (long_data word actor d)
-  long_plain word actor h = array_plain n (more n (string_plain n word) (more n (number_plain n actor) (more n h (none n))))
-
   act_plain : (actor : ℕ) (act : Act) → IsPlain (suc n) (act_data actor act)
   act_plain actor act = grind arith
 
@@ -79,9 +69,6 @@ module _ (n : ℕ) where
 -- ---- actors
 
 module _ (n : ℕ) where
-  op_plain : (o : Option Op) → IsPlain (suc n) (op_data o)
-  op_plain o = grind arith
-
   actor_plain : (a : Actor) → IsPlain (suc (suc n)) (actor_data a)
   actor_plain a = grind arith
 

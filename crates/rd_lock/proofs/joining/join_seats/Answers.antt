@@ -1,4 +1,4 @@
-use Rattle.std.proofs.Common.{◌++◌, [], ◌∷◌, sym, ap, ◌∙◌, subst}
+use Rattle.std.proofs.Common.{◌++◌, [], ◌∷◌, sym, ap, ◌∙◌, subst, arith}
 use Rattle.std.proofs.lemmas.List.{append-nil}
 use Rattle.std.specs.List.{AllByRecursion}
 use Rattle.rd_lock.specs.Rule.{in_hand}
@@ -28,11 +28,4 @@ join_seat-requires g c = let i = c.loop-pass.invariant in let is = c.in-Some-pop
     )
 
 pub loop-pass-preserved : goal.loop-pass-preserved
-loop-pass-preserved g c = let i = c.loop-pass.invariant in let is = c.in-Some-pop.ensures.items in let pass = c.in-Some-pop.pass in let new = c.pop-in-loop-pass.new.self.items in let e = c.join_seat.ensures in
-    let each = subst (AllByRecursion (IsSeatOf c.args.shared.now.table_id)) is i.own in record {
-      table = e.0 ∙ i.table;
-      out = ap (λ m. m.0.stage) e.2;
-      hand = ap (λ m. m.1) e.2 ∙ i.hand;
-      own = every_front _ new (pass ∷ []) each;
-      members = ap (λ m. members_of new ++ m.0.members) e.2 ∙ popped c.loop-pass.passes.items new pass c.loop-pass.seat.me.0.members _ is i.members;
-    }
+loop-pass-preserved g c = grind (arith, every_front, popped)

@@ -8,6 +8,4 @@ returns-then-is_of_kind_at c =
     sym (c.loop-number.invariant ∙ found_there c.args.kind c.args.steps.now (c.loop-number.number - 1) (c.loop-number.number - 1 - 1) one (sym c.is_of_kind_at.ensures ∙ c.if-is_of_kind_at.true))
 
 pub loop-number-preserved : goal.loop-number-preserved
-loop-number-preserved c =
-    let one : c.loop-number.number - 1 ≡ suc (c.loop-number.number - 1 - 1) = omega arith in
-    c.loop-number.invariant ∙ passed_there c.args.kind c.args.steps.now (c.loop-number.number - 1) (c.loop-number.number - 1 - 1) one (sym c.is_of_kind_at.ensures ∙ c.if-is_of_kind_at.false)
+loop-number-preserved c = grind (arith, passed_there)

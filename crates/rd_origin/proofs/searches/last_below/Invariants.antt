@@ -1,6 +1,6 @@
 use Rattle.std.proofs.Common.{◌≡◌, ◌-◌, take}
+use Rattle.rd_origin.proofs.Prelude.{is_of_kind}
 use Rattle.rd_origin.specs.Positions.{last_position}
-use Rattle.rd_origin.specs.Searches.{is_of_kind}
 use Rattle.rd_origin.proofs.searches.last_below.Given as goal
 
 abbrev pub invariant-loop-number : goal.invariant-loop-number

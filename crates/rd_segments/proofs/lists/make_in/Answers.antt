@@ -1,3 +1,4 @@
+use Rattle.std.proofs.Common.{arith}
 use Rattle.rd_segments.proofs.ListsLemmas.{spare_lessened, spare_same, spare_others}
 use Rattle.rd_segments.proofs.SegmentsLemmas.{makes_in, named_in, refuses_making, making_same}
 use Rattle.rd_segments.proofs.lists.make_in.Goals as goal
@@ -13,24 +14,16 @@ returns-clause-ok g c =
     (record { maker_is = c.from.ensures; within = c.requires.maker_there; list_is = c.index_mut.ensures.value }) c.make_next.result c.make_next.ensures.ok
 
 pub returns-clause-err : goal.returns-clause-err
-returns-clause-err g c =
-    refuses_making c.args.makers.now.items c.args.maker c.from.result c.index_mut.result.now
-    (record { maker_is = c.from.ensures; within = c.requires.maker_there; list_is = c.index_mut.ensures.value }) c.make_next.result c.make_next.ensures.err
+returns-clause-err g c = grind (arith, refuses_making)
 
 pub returns-clause-unchanged : goal.returns-clause-unchanged
-returns-clause-unchanged g c =
-    making_same c.args.makers.now.items c.args.maker c.from.result c.index_mut.result.now c.make_next.new.list
-    (record { maker_is = c.from.ensures; within = c.requires.maker_there; list_is = c.index_mut.ensures.value }) c.make_next.result c.make_next.ensures.unchanged
+returns-clause-unchanged g c = grind (arith, making_same)
 
 pub returns-clause-room : goal.returns-clause-room
-returns-clause-room g c =
-    spare_lessened c.args.makers.now.items c.args.maker c.from.result c.index_mut.result.now c.make_next.new.list _
-    c.from.ensures c.requires.maker_there c.index_mut.ensures.value c.make_next.ensures.room
+returns-clause-room g c = grind (arith, spare_lessened)
 
 pub returns-clause-others : goal.returns-clause-others
 returns-clause-others g c = spare_others c.args.makers.now.items c.args.maker c.from.result c.make_next.new.list c.from.ensures
 
 pub returns-clause-ended : goal.returns-clause-ended
-returns-clause-ended g c = λ ended.
-    spare_same c.args.makers.now.items c.args.maker c.from.result c.index_mut.result.now c.make_next.new.list
-    c.from.ensures c.requires.maker_there c.index_mut.ensures.value (c.make_next.ensures.ended ended)
+returns-clause-ended g c = grind (arith, spare_same)

@@ -1,4 +1,4 @@
-use Rattle.std.proofs.Common.{◌<◌, arith, length}
+use Rattle.std.proofs.Common.{arith}
 use Rattle.rd_segments.proofs.ListsLemmas.{spare_written, maker_within}
 use Rattle.rd_segments.proofs.SegmentsLemmas.{operates_in, refuses_in, unchanged_in}
 use Rattle.rd_segments.proofs.lists.operate_in.Goals as goal
@@ -24,7 +24,4 @@ returns-clause-unchanged g c =
     c.operate.result c.operate.ensures.unchanged
 
 pub returns-clause-room : goal.returns-clause-room
-returns-clause-room g c =
-    let within : c.args.name.maker < length c.args.makers.now.items = maker_within c.args.makers.now.items c.args.name c.requires.there in
-    let at : c.from.result < length c.args.makers.now.items = let e = c.from.ensures in omega arith in
-    spare_written c.args.makers.now.items c.from.result c.args.name.n c.index_mut.result.now c.operate.new.self at c.index_mut.ensures.value
+returns-clause-room g c = grind (arith, maker_within, spare_written)

@@ -1,4 +1,5 @@
-use Rattle.std.proofs.Common.{◌<◌, arith, length}
+use Rattle.std.proofs.Common.{arith}
+use Rattle.rd_segments.proofs.Prelude.{common_steps}
 use Rattle.rd_segments.proofs.ListsLemmas.{segment_there, spare_written, maker_within}
 use Rattle.rd_segments.proofs.SegmentsLemmas.{restores_in}
 use Rattle.rd_segments.proofs.lists.restore_in.Goals as goal
@@ -17,7 +18,4 @@ returns-clause-done g c =
     c.restore.ensures
 
 pub returns-clause-room : goal.returns-clause-room
-returns-clause-room g c =
-    let within : c.args.name.maker < length c.args.makers.now.items = maker_within c.args.makers.now.items c.args.name (segment_there _ c.args.place c.requires.there) in
-    let at : c.from.result < length c.args.makers.now.items = let e = c.from.ensures in omega arith in
-    spare_written c.args.makers.now.items c.from.result c.args.name.n c.index_mut.result.now c.restore.new.self at c.index_mut.ensures.value
+returns-clause-room g c = grind (arith, common_steps, maker_within, segment_there, spare_written)

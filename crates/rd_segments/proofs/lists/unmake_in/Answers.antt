@@ -1,23 +1,13 @@
-use Rattle.std.proofs.Common.{◌<◌, arith}
-use Rattle.rd_segments.specs.Lists.{count}
+use Rattle.std.proofs.Common.{arith}
 use Rattle.rd_segments.proofs.ListsLemmas.{spare_given, count_within, count_read}
 use Rattle.rd_segments.proofs.SegmentsLemmas.{unmakes_in}
 use Rattle.rd_segments.proofs.lists.unmake_in.Goals as goal
 
 pub take_last-requires : goal.take_last-requires
-take_last-requires g c =
-    let within = count_within c.args.makers.now.items c.args.maker c.requires.has_one in
-    let one : 0 < count c.args.makers.now.items c.args.maker = c.requires.has_one in
-    let counted = count_read c.args.makers.now.items c.args.maker c.from.result c.index_mut.result.now c.from.ensures within c.index_mut.ensures.value in
-    (omega (arith, c.requires.small), (c.requires.small, omega arith))
+take_last-requires g c = grind (arith, count_within, count_read)
 
 pub returns-clause-gone : goal.returns-clause-gone
-returns-clause-gone g c =
-    unmakes_in c.args.makers.now.items c.args.maker c.from.result c.index_mut.result.now c.take_last.new.list
-    (record { maker_is = c.from.ensures; within = count_within c.args.makers.now.items c.args.maker c.requires.has_one; list_is = c.index_mut.ensures.value })
-    c.take_last.ensures.items
+returns-clause-gone g c = grind (arith, unmakes_in, count_within)
 
 pub returns-clause-room : goal.returns-clause-room
-returns-clause-room g c =
-    spare_given c.args.makers.now.items c.args.maker c.from.result c.index_mut.result.now c.take_last.new.list
-    c.from.ensures (count_within c.args.makers.now.items c.args.maker c.requires.has_one) c.index_mut.ensures.value c.take_last.ensures.room
+returns-clause-room g c = grind (arith, spare_given, count_within)

@@ -1,15 +1,10 @@
 use Rattle.std.proofs.Common.{◌≡◌, List, ◌++◌, ◌∷◌, [], ◌∙◌, ap, arith}
-use Rattle.rd_ring.specs.declared.segments.Segment.{Segment}
-use Rattle.rd_segments.specs.Lists.{ListOf, by_name}
+use Rattle.rd_segments.proofs.Prelude.{Segment, ListOf, by_name}
 use Rattle.rd_segments.proofs.ListsLemmas.{first_list, empty_pushed}
 use Rattle.rd_segments.proofs.makers.first_lists.Goals as goal
 
 pub loop-preserved : goal.loop-preserved
-loop-preserved g c = (
-  omega arith,
-  omega arith,
-  λ t. ap (λ xs. by_name xs t) c.push_reserved-in-loop.ensures.items ∙ empty_pushed c.loop.makers.items _ c.new.ensures.items t ∙ c.loop.invariant.2 t,
-)
+loop-preserved g c = grind (arith, empty_pushed)
 
 pub returns-clause-ok : goal.returns-clause-ok
 returns-clause-ok g c =

@@ -1,7 +1,5 @@
 use Rattle.std.proofs.Common.{◌≡◌, List, [], ◌∷◌, sym, subst, arith}
-use Rattle.std.proofs.lemmas.Bool.{false≢true}
-use Rattle.rd_ring.specs.declared.segments.Segment.{Segment}
-use Rattle.rd_segments.specs.Lists.{IsFreshAlone}
+use Rattle.rd_segments.proofs.Prelude.{false≢true, Segment, IsFreshAlone}
 use Rattle.rd_segments.proofs.FreshLemmas.{one_alone, alone_one, only_one, not_alone}
 use Rattle.rd_segments.proofs.makers.is_fresh_alone.Goals as goal
 

@@ -1,6 +1,6 @@
-use Rattle.std.proofs.Common.{refl, Err}
-use Rattle.rd_segments.specs.Space.{contents}
-use Rattle.rd_step.proofs.PassedUp.{error_passed_up, same_passed_up}
+use Rattle.std.proofs.Common.{refl, arith}
+use Rattle.rd_step.proofs.Prelude.{contents}
+use Rattle.rd_step.proofs.PassedUp.{error_passed_up}
 use Rattle.rd_step.proofs.WorldLemmas.{makes_access, refuses_access}
 use Rattle.rd_step.proofs.fields.make.Goals as goal
 
@@ -14,5 +14,4 @@ returns-clause-ok g c =
     makes_access c.args.space.now (contents c.make.new.self) c.args.actor c.args.value c.in_ok-name.name _ c.requires.counted c.in_ok-name.ensures.name c.in_ok-name.ensures.ok refl
 
 pub returns-in_err-name-clause-ended : goal.returns-in_err-name-clause-ended
-returns-in_err-name-clause-ended g c = λ ended.
-    c.in_err-name.ensures.ended (same_passed_up c.in_err-name.field-0.0 _ (Err c.in_err-name.field-0.0) c.from_residual.result refl c.from_residual.ensures.1 ended)
+returns-in_err-name-clause-ended g c = grind arith

@@ -1,6 +1,5 @@
 use Rattle.std.proofs.Common.{sym, ◌∙◌}
-use Rattle.rd_ring.specs.Prelude.{restore}
-use Rattle.rd_segments.specs.Space.{contents}
+use Rattle.rd_step.proofs.Prelude.{restore, contents}
 use Rattle.rd_step.proofs.fields.put_back.Goals as goal
 
 pub returns-in-Some-Some-clause-done : goal.returns-in-Some-Some-clause-done

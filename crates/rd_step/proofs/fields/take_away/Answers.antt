@@ -1,15 +1,10 @@
 use Rattle.std.proofs.Common.{sym, ◌∙◌, subst, arith, Some, None}
-use Rattle.rd_ring.specs.Prelude.{Place, restore}
-use Rattle.rd_step.specs.Step.{CanPutBack}
-use Rattle.rd_segments.specs.Space.{contents}
+use Rattle.rd_step.proofs.Prelude.{Place, restore, CanPutBack, contents}
 use Rattle.rd_step.proofs.WorldLemmas.{made_whole, last_some, last_taken}
 use Rattle.rd_step.proofs.fields.take_away.Goals as goal
 
 pub unmake-requires : goal.unmake-requires
-unmake-requires g c =
-    let whole = made_whole c.args.place c.in-Some.name (sym c.made_at.ensures ∙ c.in-Some.is) in
-    let last = subst (λ (p : Place). CanPutBack (contents c.args.space.now) (Some p) None) whole c.requires.can in
-    (omega (arith, c.requires.small), last_some c.args.space.now c.in-Some.name last)
+unmake-requires g c = grind (arith, made_whole, last_some)
 
 pub returns-in-Some-clause-done : goal.returns-in-Some-clause-done
 returns-in-Some-clause-done g c =

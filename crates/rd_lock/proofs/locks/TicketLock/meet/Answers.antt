@@ -1,11 +1,10 @@
-use Rattle.std.proofs.Common.{rules, map, subst, ap, ◌∙◌}
+use Rattle.std.proofs.Common.{rules, map, ap, ◌∙◌, arith}
 use Rattle.rd_lock.specs.Rule.{in_hand}
 use Rattle.rd_lock.proofs.Lock.{lock_of}
 use Rattle.rd_lock.proofs.Looks.{looks_served}
 use Rattle.rd_lock.proofs.PassLists.{joins_it, splits_it}
 use Rattle.rd_lock.proofs.Meetings.{some_both, in_line}
-use Rattle.rd_lock.specs.Steps.{knows_served, AreInLine}
-use Rattle.rd_lock.specs.Histories.{Pairwise}
+use Rattle.rd_lock.specs.Steps.{knows_served}
 use Rattle.rd_lock.proofs.locks.TicketLock.meet.Goals as goal
 
 pub join_seat-requires : goal.join_seat-requires
@@ -30,5 +29,4 @@ split_seat-second-requires g c = (
 )
 
 pub returns-clause-order : goal.returns-clause-order
-returns-clause-order g c = in_line c.args.one.seat.me.0.members c.args.other.seat.me.0.members c.args.one.alone c.args.other.alone
-    (subst (λ m. Pairwise AreInLine m.0.members) c.join_seat.ensures.2 c.load-served.ensures.2.2)
+returns-clause-order g c = grind (arith, in_line)

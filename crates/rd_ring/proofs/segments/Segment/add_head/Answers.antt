@@ -1,11 +1,9 @@
-use Rattle.std.proofs.Common.{refl}
-use Rattle.rd_ring.proofs.SegmentLemmas.{head_put, head_added, head_ended}
+use Rattle.std.proofs.Common.{arith}
+use Rattle.rd_ring.proofs.SegmentLemmas.{head_ended}
 use Rattle.rd_ring.proofs.segments.Segment.add_head.Goals as goal
 
 pub returns-then-self-eq-COUNTER_END-clause-err : goal.returns-then-self-eq-COUNTER_END-clause-err
 returns-then-self-eq-COUNTER_END-clause-err g c = head_ended c.args.self.now c.if-self-eq-COUNTER_END.true
 
 pub returns-clause-ok : goal.returns-clause-ok
-returns-clause-ok g c =
-    head_added c.args.self.now _ c.args.self.now.head_within c.if-self-eq-COUNTER_END.false
-    (head_put c.args.self.now _ _ refl refl refl refl refl)
+returns-clause-ok g c = grind arith

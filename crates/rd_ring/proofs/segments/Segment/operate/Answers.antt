@@ -1,7 +1,7 @@
 use Rattle.std.proofs.Common.{sym, ◌∙◌, ap, arith, refl, Some, if◌then◌else◌}
-use Rattle.rd_ring.specs.Prelude.{Head, Tail, Next, CellAt, Content, Wrote, WroteNothing, WrotePlace, Won, Lost, Found, WasClosed, operand}
+use Rattle.rd_ring.specs.Prelude.{Tail, Next, CellAt, Content, Wrote, WroteNothing, WrotePlace, Won, Lost, WasClosed, operand}
 use Rattle.rd_ring.specs.Segments.{part}
-use Rattle.rd_ring.proofs.OperationLemmas.{reads_at, does_at, refuses_at, cell_is_within}
+use Rattle.rd_ring.proofs.OperationLemmas.{reads_at, does_at, cell_is_within}
 use Rattle.rd_ring.proofs.segments.Segment.operate.Goals as goal
 
 pub returns-in-Some-read-clause-ok : goal.returns-in-Some-read-clause-ok
@@ -16,24 +16,16 @@ cas2_cell-won-requires g c = (
 )
 
 pub returns-in-Err-clause-err : goal.returns-in-Err-clause-err
-returns-in-Err-clause-err g c =
-    refuses_at c.args.self.now (λ s. Head s) _ c.args.place _ c.args.operation _ c.in-Head-Add.is-0 c.in-Head-Add.is-1 c.in-Err.ensures.err
+returns-in-Err-clause-err g c = grind arith
 
 pub returns-in-Ok-clause-ok : goal.returns-in-Ok-clause-ok
-returns-in-Ok-clause-ok g c =
-    does_at c.args.self.now _ (λ s. Head s) _ c.args.place _ c.args.operation _ c.in-Some.found _ _ c.at-in-Ok.result (λ q. refl)
-    c.in-Head-Add.is-0 c.in-Head-Add.is-1 (sym c.in-Some.ensures) c.in-Ok.ensures.ok
-    (λ e. c.at-in-Ok.ensures ∙ ap (λ (x : Content). record { place = Some c.args.place; old = Some x; answer = Found x; wrote = WrotePlace }) e)
+returns-in-Ok-clause-ok g c = grind arith
 
 pub returns-in-Err-add_tail-clause-err : goal.returns-in-Err-add_tail-clause-err
-returns-in-Err-add_tail-clause-err g c =
-    refuses_at c.args.self.now (λ s. Tail s) _ c.args.place _ c.args.operation _ c.in-Tail-Add.is-0 c.in-Tail-Add.is-1 c.in-Err-add_tail.ensures.err
+returns-in-Err-add_tail-clause-err g c = grind arith
 
 pub returns-in-Ok-add_tail-clause-ok : goal.returns-in-Ok-add_tail-clause-ok
-returns-in-Ok-add_tail-clause-ok g c =
-    does_at c.args.self.now _ (λ s. Tail s) _ c.args.place _ c.args.operation _ c.in-Some.found _ _ c.at-in-Ok-add_tail.result (λ q. refl)
-    c.in-Tail-Add.is-0 c.in-Tail-Add.is-1 (sym c.in-Some.ensures) c.in-Ok-add_tail.ensures.ok
-    (λ e. c.at-in-Ok-add_tail.ensures ∙ ap (λ (x : Content). record { place = Some c.args.place; old = Some x; answer = Found x; wrote = WrotePlace }) e)
+returns-in-Ok-add_tail-clause-ok g c = grind arith
 
 pub returns-in-Tail-Close-clause-ok : goal.returns-in-Tail-Close-clause-ok
 returns-in-Tail-Close-clause-ok g c =

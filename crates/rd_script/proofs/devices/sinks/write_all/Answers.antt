@@ -1,5 +1,5 @@
 use Rattle.rd_script.proofs.Prelude.{common_steps, Appends, take-append-drop, take_rest, append-nil, TakesBeginning}
-use Rattle.std.proofs.Common.{[], take, drop, sym, subst, arith, length-drop}
+use Rattle.std.proofs.Common.{[], take, drop, subst, arith, length-drop}
 use Rattle.std.proofs.Math.Seq.{take-add}
 use Rattle.rd_script.proofs.KnownLemmas.{Appends-join, Appends-from_keeps}
 use Rattle.rd_step.proofs.PassedUp.{fact_passed_up}

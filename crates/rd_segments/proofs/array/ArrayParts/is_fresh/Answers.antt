@@ -1,4 +1,4 @@
-use Rattle.rd_cell.proofs.TestLemmas.{both_tests, first_test}
+use Rattle.rd_segments.proofs.Prelude.{both_tests, first_test}
 use Rattle.rd_segments.proofs.FreshLemmas.{array_fresh, array_counters, array_slots}
 use Rattle.rd_segments.proofs.array.ArrayParts.is_fresh.Goals as goal
 

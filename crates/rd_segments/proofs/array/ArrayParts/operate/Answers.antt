@@ -1,5 +1,5 @@
 use Rattle.std.proofs.Common.{refl, arith}
-use Rattle.rd_ring.specs.Prelude.{Empty}
+use Rattle.rd_segments.proofs.Prelude.{Empty}
 use Rattle.rd_segments.proofs.ArrayLemmas.{head_does, tail_does, slot_does}
 use Rattle.rd_segments.proofs.array.ArrayParts.operate.Goals as goal
 

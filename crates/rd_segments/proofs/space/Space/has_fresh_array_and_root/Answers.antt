@@ -1,6 +1,5 @@
 use Rattle.std.proofs.Common.{List, sym, subst}
-use Rattle.rd_cell.proofs.TestLemmas.{both_tests, first_test}
-use Rattle.rd_segments.specs.Lists.{ListOf, IsFresh}
+use Rattle.rd_segments.proofs.Prelude.{both_tests, first_test, ListOf, IsFresh}
 use Rattle.rd_segments.proofs.space.Space.has_fresh_array_and_root.Goals as goal
 
 pub returns-then-is_fresh : goal.returns-then-is_fresh

@@ -1,6 +1,5 @@
 use Rattle.std.proofs.Common.{◌∙◌}
-use Rattle.rd_cell.proofs.TestLemmas.{both_tests, first_test}
-use Rattle.rd_segments.specs.SpaceFields.{contents_of}
+use Rattle.rd_segments.proofs.Prelude.{both_tests, first_test, contents_of}
 use Rattle.rd_segments.proofs.SpaceLemmas.{space_fresh}
 use Rattle.rd_segments.proofs.FreshLemmas.{fresh_ends, fresh_inside}
 use Rattle.rd_segments.proofs.space.Space.is_fresh.Goals as goal

@@ -1,5 +1,5 @@
-use Rattle.std.proofs.Common.{sym}
-use Rattle.rd_segments.proofs.SpaceLemmas.{space_operates, space_refuses, unchanged_fields, head_operates, tail_operates, array_operates, array_refuses, array_unchanged}
+use Rattle.std.proofs.Common.{sym, arith}
+use Rattle.rd_segments.proofs.SpaceLemmas.{space_operates, unchanged_fields, head_operates, tail_operates, array_operates, array_unchanged}
 use Rattle.rd_segments.proofs.space.Space.operate.Goals as goal
 
 pub returns-else-is_none-clause-ok : goal.returns-else-is_none-clause-ok
@@ -28,9 +28,7 @@ returns-in-None-clause-unchanged g c =
     c.operate.result c.operate.ensures.unchanged
 
 pub returns-else-is_none-clause-err : goal.returns-else-is_none-clause-err
-returns-else-is_none-clause-err g c =
-    space_refuses c.args.self.now.makers.items c.args.self.now.qhead c.args.self.now.qtail c.args.self.now.array
-    c.in-Some.name c.args.place c.args.operation (sym c.in-Some.ensures) c.operate_in.result c.operate_in.ensures.err
+returns-else-is_none-clause-err g c = grind arith
 
 pub returns-else-is_none-clause-unchanged : goal.returns-else-is_none-clause-unchanged
 returns-else-is_none-clause-unchanged g c =
@@ -38,6 +36,4 @@ returns-else-is_none-clause-unchanged g c =
     c.operate_in.result c.operate_in.ensures.unchanged
 
 pub returns-in-None-clause-err : goal.returns-in-None-clause-err
-returns-in-None-clause-err g c =
-    array_refuses c.args.self.now.makers.items c.args.self.now.qhead c.args.self.now.qtail c.args.self.now.array
-    c.args.place c.args.operation (cc) c.operate.result c.operate.ensures.err
+returns-in-None-clause-err g c = grind arith

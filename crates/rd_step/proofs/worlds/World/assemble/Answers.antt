@@ -1,6 +1,5 @@
 use Rattle.std.proofs.Common.{sym, ◌∙◌, subst}
-use Rattle.rd_step.specs.World.{World}
-use Rattle.rd_step.specs.WellFormed.{IsWellFormed}
+use Rattle.rd_step.proofs.Prelude.{World, IsWellFormed}
 use Rattle.rd_step.proofs.Assembled.{assembled, lists_right, parts_make}
 use Rattle.rd_step.proofs.worlds.World.assemble.Goals as goal
 

@@ -1,7 +1,5 @@
 use Rattle.std.proofs.Common.{◌≡◌, ◌∙◌, ℕ, suc, ap, subst, sym, length, arith}
-use Rattle.rd_actor.specs.Actors.{idle}
-use Rattle.rd_step.specs.World.{World}
-use Rattle.rd_step.specs.WellFormed.{IsWellFormed}
+use Rattle.rd_step.proofs.Prelude.{idle, World, IsWellFormed}
 use Rattle.rd_step.proofs.Starts.{fields_make, fresh_formed}
 use Rattle.rd_step.proofs.worlds.World.fresh.Goals as goal
 

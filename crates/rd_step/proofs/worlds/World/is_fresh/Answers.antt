@@ -1,8 +1,6 @@
 use Rattle.std.proofs.Common.{◌≡◌, List, All, length, sym, ap, subst}
+use Rattle.rd_step.proofs.Prelude.{Actor, idle, World}
 use Rattle.rd_cell.proofs.TestLemmas.{both_tests, first_test}
-use Rattle.rd_actor.specs.declared.actors.Actor.{Actor}
-use Rattle.rd_actor.specs.Actors.{idle}
-use Rattle.rd_step.specs.World.{World}
 use Rattle.rd_step.proofs.Starts.{idle_actors, all_idle}
 use Rattle.rd_step.proofs.worlds.World.is_fresh.Goals as goal
 

@@ -1,12 +1,10 @@
 use Rattle.std.proofs.Common.{◌∙◌, sym, subst, arith}
-use Rattle.rd_step.specs.World.{World}
-use Rattle.rd_step.specs.WellFormed.{IsWellFormed}
+use Rattle.rd_step.proofs.Prelude.{World, IsWellFormed}
 use Rattle.rd_step.proofs.WorldLemmas.{some_maker, same_world}
 use Rattle.rd_step.proofs.worlds.World.make_room.Goals as goal
 
 pub make_room-requires : goal.make_room-requires
-make_room-requires g c =
-    (omega arith, some_maker c.args.self.now.space c.args.self.now.actors.items c.args.actor c.args.self.now.makers c.requires)
+make_room-requires g c = grind (arith, some_maker)
 
 pub invariant_of-self : goal.invariant_of-self
 invariant_of-self g c = record {

@@ -1,7 +1,5 @@
 use Rattle.std.proofs.Common.{◌≡◌, ◌∙◌, ℕ, suc, ap, subst, sym, length, arith}
-use Rattle.rd_actor.specs.Actors.{poised}
-use Rattle.rd_step.specs.World.{World}
-use Rattle.rd_step.specs.WellFormed.{IsWellFormed}
+use Rattle.rd_step.proofs.Prelude.{poised, World, IsWellFormed}
 use Rattle.rd_step.proofs.Starts.{fields_make, poised_formed}
 use Rattle.rd_step.proofs.worlds.World.poised.Goals as goal
 

@@ -1,6 +1,5 @@
 use Rattle.std.proofs.Common.{sym, ◌∙◌, ap, subst, suc, ℕ}
-use Rattle.rd_step.specs.World.{World}
-use Rattle.rd_step.specs.WellFormed.{IsWellFormed}
+use Rattle.rd_step.proofs.Prelude.{World, IsWellFormed}
 use Rattle.rd_step.proofs.worlds.World.revert.Goals as goal
 
 pub invariant_of-self : goal.invariant_of-self

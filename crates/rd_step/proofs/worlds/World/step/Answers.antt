@@ -1,7 +1,5 @@
 use Rattle.std.proofs.Common.{Bool, suc, ◌∙◌, ◌≤◌, ◌+◌, refl, sym, ap, subst, inl, arith, Ok, Err}
-use Rattle.rd_segments.specs.Room.{room_used}
-use Rattle.rd_segments.specs.Space.{room}
-use Rattle.rd_step.specs.Fields.{world_of_fields}
+use Rattle.rd_step.proofs.Prelude.{room_used, room, world_of_fields}
 use Rattle.rd_step.proofs.PassedUp.{error_passed_up, same_passed_up, fact_passed_up}
 use Rattle.rd_step.proofs.Steps.{step_not_needed}
 use Rattle.rd_step.proofs.WorldLemmas.{representable_here, actor_maker, few_made, need_suits, step_refuses, step_goes, makes_by, still_well_formed, same_world}

@@ -1,0 +1,49 @@
+-- The words that several proofs of the crate use: definitions of this crate and of those below,
+-- generated types and their variants, and lemmas of these crates and of std.
+pub use mathlib.Core.Path.{fun_ext}
+pub use Rattle.std.proofs.lemmas.Bool.{and_from, and_parts, and_right, both_ways, cases_Bool, cases_eq, cases_lt, cond-false, cond-true, cond_both, eqb-false, or_parts}
+pub use Rattle.std.proofs.lemmas.Grind.{common_steps}
+pub use Rattle.std.proofs.lemmas.Option.{slice_get_past}
+pub use Rattle.std.proofs.lemmas.Result.{IfOk-at_ok}
+pub use Rattle.std.specs.List.{list_all}
+pub use Rattle.rd_actor.specs.Actors.{idle, poised}
+pub use Rattle.rd_actor.specs.Table.{after, after_at, after_swap_in, after_swap_out, after_take, need, need_at, need_call, need_choice, pc_after_empty_pass, with_pc}
+pub use Rattle.rd_actor.specs.Words.{array_dequeues, array_enqueues, pass_fits, words_fit, words_fit_at}
+pub use Rattle.rd_actor.specs.declared.actors.Act.{Act}
+pub use Rattle.rd_actor.specs.declared.actors.Act.TheVariants.{ADeq, AEnq, Deq, Enq, Go, Starve}
+pub use Rattle.rd_actor.specs.declared.actors.Actor.{Actor}
+pub use Rattle.rd_actor.specs.declared.actors.OpReply.{OpReply}
+pub use Rattle.rd_actor.specs.declared.actors.OpReply.TheVariants.{Empty}
+pub use Rattle.rd_actor.specs.declared.actors.Pc.{Pc}
+pub use Rattle.rd_actor.specs.declared.actors.Pc.TheVariants.{A1, A2, B1, B2, B3, E1, E10, E11, E12, E13, E14, E2, E3, E4, E5, E6, E7, E8, E9, Idle, Q1, Q10, Q11, Q12, Q13, Q14, Q2, Q3, Q4, Q5, Q6, Q7, Q8, Q9}
+pub use Rattle.rd_cell.proofs.AccessLemmas.{after_write-outside, is_cell_at}
+pub use Rattle.rd_cell.proofs.PlaceLemmas.{is_name-refl, is_name-true, written-covers}
+pub use Rattle.rd_cell.proofs.ResultLemmas.{and_then_ok, ok_or_ok}
+pub use Rattle.rd_cell.specs.Access.{effect_at}
+unfoldable pub use Rattle.rd_cell.specs.Access.{number_made_from}
+pub use Rattle.rd_cell.specs.Cells.{is_bit}
+pub use Rattle.rd_cell.specs.Operations.{adds, swaps}
+pub use Rattle.rd_cell.specs.Results.{result_map}
+pub use Rattle.rd_ring.specs.Prelude.{Access, Add, AddArray, Answer, ArrCell, ArrHead, ArrSlot, ArrTail, ArrayEnd, At, COUNTER_END, Cas2, CasName, CasNext, CasTail, Cell, CellAt, CellIs, Close, Content, Contents, CounterEnd, Done, Effect, Empty as NobodyYet, Found, HasEffect, Head, Held, IdxAt, IdxIs, Lost, MOST_ACTORS, MOST_CELLS, MOST_SEGMENTS, Made, Make, Name, Next, NextIs, NoActor, NoPlace, Nothing, Number, Operation, Performed, Place, QHead, QTail, Read, ReadSafeAndIndex, ReadValue, Refusal, SLOTS, SafeAndIndex, SegName, Slot, Swap, Tail, TailIs, Top, ValAt, ValIs, WholeOf, Won, Wrote, WroteNothing, after_write, contents_after, covers, effect, everywhere, holding, interfere, is_array, is_cell, is_name, is_nothing, is_of, is_there, make, operand, operate, perform, restore, root, share, some_covers, written, wrote_by}
+pub use Rattle.rd_ring.specs.Segments.{counters_fit}
+pub use Rattle.rd_ring.specs.declared.parts.SegmentParts.{SegmentParts}
+pub use Rattle.rd_segments.proofs.CountLemmas.{in_list, numbered_there}
+pub use Rattle.rd_segments.specs.Lists.{by_name, by_number, count, count_in}
+pub use Rattle.rd_segments.specs.Parts.{PartsOf, contents_of_parts, each_segment, part_of_parts}
+pub use Rattle.rd_segments.specs.Room.{room_used}
+pub use Rattle.rd_segments.specs.Space.{contents, lists, room}
+pub use Rattle.rd_segments.specs.declared.space.Space.{Space}
+pub use Rattle.rd_step.specs.Dependence.{IsFree, depends}
+pub use Rattle.rd_step.specs.Fields.{world_of_fields}
+pub use Rattle.rd_step.specs.Laws.{CommutingSquare}
+pub use Rattle.rd_step.specs.Lists.{numbered}
+pub use Rattle.rd_step.specs.Parts.{actor_names_fit, array_fits, first_flaw, has, indexes_fit, makers_fit, place_names_fit, world_of_parts}
+pub use Rattle.rd_step.specs.Room.{IsRefused, makes, makes_segment}
+pub use Rattle.rd_step.specs.Run.{Ran, events, run}
+pub use Rattle.rd_step.specs.Step.{CanPutBack, Stepped, step, step_outcome, unstep, with_actor}
+pub use Rattle.rd_step.specs.WellFormed.{AreMade, IsNumbered, IsWellFormed, Presence, actor_fits, belongs, content_fits, is_actor, maker_fits, names_fit, next_fits, numbers_fit, place_fits, record_fits}
+pub use Rattle.rd_step.specs.World.{World}
+pub use Rattle.rd_step.specs.declared.entries.Entry.{Entry}
+pub use Rattle.rd_step.specs.declared.entries.Event.{Event}
+pub use Rattle.rd_step.specs.declared.flaws.Flaw.{Flaw}
+pub use Rattle.rd_step.specs.declared.parts.Parts.{Parts}
