@@ -1,0 +1,303 @@
+#!/usr/bin/env python3
+"""Draws all pictures of the pages anew and compares them with those that are stored.
+
+    python3 checks/pictures.py [--store] [--program P]
+
+It is the last command of the gate, over the program that `rt ci` leaves. Of each picture it checks
+that it is stored byte for byte as `tools/picture.py` draws it and is shown on its page; that it is
+well-formed XML with a title and a description; that no two labels overlap and none is cut off; and
+that its dots agree with `bench/dependence.py`, which knows dependence from docs/MODEL.md alone: two
+rows share a lane on which one of their dots is filled exactly if the two steps depend on each
+other. The last of these is checked of 200 runs that are drawn at random too, with what `--undo` and
+`--roll` mark. `--store` stores the pictures in place of comparing them. Each check prints a line;
+the status is 1 if one of them fails. Only Python's standard library is used.
+"""
+
+import argparse
+import contextlib
+import io
+import itertools
+import random
+import sys
+import tempfile
+from dataclasses import dataclass
+from pathlib import Path
+from xml.etree import ElementTree
+
+TOP = Path(__file__).resolve().parent.parent
+sys.path[:0] = [str(TOP / "tools"), str(TOP / "bench")]
+
+import dependence
+import drawing
+import picture
+import program
+
+EXAMPLES = Path("crates/lessons/data")
+RUNS, STEPS = 200, 60  # how many runs are drawn at random, and the lines of each
+SVG = "{http://www.w3.org/2000/svg}"
+HIGH, LOW = 0.8, 0.22  # how far a letter reaches above and below its line, as a part of its size
+
+# The pictures that the pages show: the page, the picture's file, the script, and the options. A
+# name without a folder is one of the examples.
+PICTURES = [
+    ("README.md", "session.svg", "session.script", "--lines 15 --undo 8"),
+]
+
+
+# ---- What a picture has --------------------------------------------------------------------------
+
+
+@dataclass
+class Drawn:
+    """A picture as its elements say it."""
+
+    rows: list  # of each row its dots: the lane's position, and whether it is filled
+    texts: list  # the boxes of all labels, each with its text
+    size: tuple
+    title: str
+    about: str
+    marked: dict  # the rows that are marked, by the kind of mark
+
+
+def box_of(text):
+    """The box of a label, as a wide font has it: left, top, right, bottom."""
+    size, x, y = (float(text.get(name)) for name in ("font-size", "x", "y"))
+    width = drawing.width_of(text.text, size, text.get("font-weight") == "bold")
+    left = x - width * {"start": 0, "middle": 0.5, "end": 1}[text.get("text-anchor")]
+    return left, y - HIGH * size, left + width, y + LOW * size
+
+
+def dot_of(element):
+    """Where a dot or a cross is, and whether it is filled."""
+    if element.tag == f"{SVG}circle":
+        return float(element.get("cx")), float(element.get("cy")), element.get("fill") != drawing.GROUND
+    x, y = element.get("d").removeprefix("M").split("l")[0].split(" ")
+    half = drawing.DOT - 0.5
+    return float(x) + half, float(y) + half, False
+
+
+def rows_at(group, tops):
+    """The marks of a group, each by its kind and the rows that it covers."""
+    marked = {}
+    for mark in group if group is not None else []:
+        if mark.get("class") == "bar":
+            ends = {tops[float(mark.get(name))] for name in ("y1", "y2")}
+        else:
+            ends = {tops[float(mark.get("y")) + drawing.ROW // 2 - 1]}
+        marked.setdefault(mark.get("class"), set()).update(ends)
+    return marked
+
+
+def read(svg):
+    """What a picture has."""
+    root = ElementTree.fromstring(svg)
+    groups = [group for group in root.iter(f"{SVG}g") if group.get("class").split(" ")[0] == "row"]
+    dots = [[dot_of(it) for it in group if it.get("class")] for group in groups]
+    tops = {row[0][1]: at for at, row in enumerate(dots, 1)}
+    return Drawn(
+        rows=[{round(x): filled for x, _, filled in row} for row in dots],
+        texts=[(box_of(text), text.text) for text in root.iter(f"{SVG}text")],
+        size=(float(root.get("width")), float(root.get("height"))),
+        title=root.findtext(f"{SVG}title", ""),
+        about=root.findtext(f"{SVG}desc", ""),
+        marked=rows_at(next(iter(root.findall(f"{SVG}g[@class='asked']")), None), tops),
+    )
+
+
+# ---- The checks of a picture ---------------------------------------------------------------------
+
+
+def labels_fault(drawn):
+    """What is wrong with the labels of a picture, or nothing."""
+    width, height = drawn.size
+    for (left, top, right, bottom), text in drawn.texts:
+        if left < 0 or top < 0 or right > width or bottom > height:
+            return f"the label {text} is cut off"
+    for (one, text), (other, more) in itertools.combinations(drawn.texts, 2):
+        if one[0] < other[2] and other[0] < one[2] and one[1] < other[3] and other[1] < one[3]:
+            return f"the labels {text} and {more} overlap"
+    return ""
+
+
+def words_fault(drawn):
+    """What is wrong with the title and the description, or nothing."""
+    if not drawn.title:
+        return "it has no title"
+    return "" if drawn.about.count("actor ") >= len(drawn.rows) else "its description lacks steps"
+
+
+def share(one, other):
+    """Whether two rows share a lane on which one of their dots is filled."""
+    return any(filled or other[lane] for lane, filled in one.items() if lane in other)
+
+
+def dots_fault(drawn, steps):
+    """Where the dots of a picture and the dependence of its steps differ, or nothing."""
+    if len(drawn.rows) != len(steps):
+        return f"it has {len(drawn.rows)} rows for {len(steps)} steps"
+    for (at, one), (later, other) in itertools.combinations(enumerate(drawn.rows), 2):
+        if share(one, other) != dependence.depend(steps[at], steps[later]):
+            return f"steps {at + 1} and {later + 1} look as if they did or did not depend"
+    return ""
+
+
+def marks_fault(drawn, arguments, steps, live):
+    """What is marked that should not be, or the other way round, or nothing."""
+    wanted = {}
+    if arguments.undo:
+        later = dependence.first_dependant(steps[:live], arguments.undo)
+        wanted = {"bar": {arguments.undo, later}} if later else {"free": {arguments.undo}}
+    if arguments.roll:
+        wanted = {"goes": set(dependence.closure(steps[:live], arguments.roll))}
+    return "" if drawn.marked == wanted else f"it marks {drawn.marked}, wanted {wanted}"
+
+
+def faults_of(svg, arguments):
+    """The first thing that is wrong with a picture of a whole run, or nothing."""
+    drawn, session = read(svg), picture.Session(arguments)
+    ring = int(arguments.ring or 4)
+    steps = [dependence.step_of(record, ring) for record in picture.records_of(session)]
+    return (
+        words_fault(drawn)
+        or labels_fault(drawn)
+        or dots_fault(drawn, steps)
+        or marks_fault(drawn, arguments, steps, session.live)
+    )
+
+
+# ---- The pictures --------------------------------------------------------------------------------
+
+
+def path_of(name):
+    """The file of an example, or of a name with a folder."""
+    return TOP / (name if "/" in name else EXAMPLES / name)
+
+
+def arguments_of(script, options, program_path):
+    """The command line of a picture."""
+    words = [str(path_of(word)) if word.endswith(".trace") else word for word in options.split()]
+    return picture.parser().parse_args([str(path_of(script)), *words, "--program", program_path])
+
+
+def link_of(page, name):
+    """How a page names a picture."""
+    target, folder = path_of(name), (TOP / page).parent
+    return str(target.relative_to(folder)) if target.is_relative_to(folder) else str(target.relative_to(TOP))
+
+
+def picture_fault(page, name, script, options, given):
+    """What is wrong with one picture, or nothing. It is stored first if that is wanted."""
+    arguments = arguments_of(script, options, given.program)
+    svg = drawing.draw(picture.picture_of(arguments)[0])
+    if given.store:
+        path_of(name).write_text(svg, encoding="utf-8")
+    if not path_of(name).is_file() or path_of(name).read_text(encoding="utf-8") != svg:
+        return "it is not stored as it is drawn: --store stores it"
+    if f"]({link_of(page, name)})" not in (TOP / page).read_text(encoding="utf-8"):
+        return f"{page} does not show it"
+    return faults_of(svg, arguments)
+
+
+def strangers():
+    """The pictures that are stored and that no page shows."""
+    known = {path_of(name) for _, name, _, _ in PICTURES}
+    return sorted({*TOP.glob("docs/*.svg"), *TOP.glob(f"{EXAMPLES}/*.svg")} - known)
+
+
+# ---- Runs drawn at random ------------------------------------------------------------------------
+
+
+def random_script(chance):
+    """A script of calls, steps, choices and a few undos, some of which are refused."""
+    weights = {"go": 14, "enq": 3, "deq": 3, "aenq": 1, "adeq": 1, "starve": 2, "undo": 1, "redo": 1}
+    lines = []
+    for word in chance.choices([*weights], [*weights.values()], k=STEPS):
+        actor, value = chance.randint(1, 3), chance.randint(0, 9)
+        more = {"enq": f" {value}", "aenq": f" {value}", "starve": chance.choice([" yes", " no"])}.get(word, "")
+        lines.append(word if word in ("undo", "redo") else f"{word} {actor}{more}")
+    return "".join(f"{line}\n" for line in lines)
+
+
+def random_fault(seed, folder, given):
+    """What is wrong with the picture of one run, or nothing."""
+    chance, script = random.Random(seed), folder / "random.script"
+    script.write_text(random_script(chance), encoding="ascii")
+    words = [str(script), "--ring", chance.choice(["2", "4", "8"]), "--program", given.program]
+    live = picture.Session(picture.parser().parse_args(words)).live
+    asked = chance.choice([["--undo"], ["--roll"]]) if live else []
+    arguments = picture.parser().parse_args([*words, *asked, *([str(chance.randint(1, live))] if live else [])])
+    return faults_of(drawing.draw(picture.picture_of(arguments)[0]), arguments)
+
+
+def random_faults(given):
+    """What is wrong with the first run whose picture is wrong, or nothing."""
+    with tempfile.TemporaryDirectory() as folder:
+        faults = ((seed, random_fault(seed, Path(folder), given)) for seed in range(1, RUNS + 1))
+        return next((f"run {seed}: {fault}" for seed, fault in faults if fault), "")
+
+
+# ---- What is refused -----------------------------------------------------------------------------
+
+# Command lines that give no picture, each with what is written to standard error.
+REFUSED = [
+    ("no.script", "", "no.script: No such file or directory"),
+    ("session.script", "--undo 99", "step 99 is not among the steps 1 to 14 that are drawn"),
+    ("session.script", "--from 9 --to 3", "the run has the steps 1 to 14: --from and --to name a part of them"),
+    ("session.script", "--program nowhere", "there is no program at nowhere"),
+    ("session.script", "--trace session.report", "lcrqdb: refused 27 BadTrace"),
+]
+
+
+def refusal_fault(script, options, wanted, given):
+    """What is wrong with what a command line without a picture gives, or nothing."""
+    words = [str(path_of(script)), "--program", given.program]
+    words += [str(path_of(word)) if "." in word else word for word in options.split()]
+    told = io.StringIO()
+    with contextlib.redirect_stderr(told), contextlib.redirect_stdout(io.StringIO()):
+        status = picture.main(words)
+    text = told.getvalue()
+    return "" if status == 1 and wanted in text and text.count("\n") == 1 else f"it ended with {status} and {text!r}"
+
+
+def long_run_fault(given):
+    """What is wrong with a run that is too long for one picture, or nothing."""
+    with tempfile.TemporaryDirectory() as folder:
+        script = Path(folder) / "long.script"
+        script.write_text(("enq 1 7\n" + "go 1\n" * 6) * 40, encoding="ascii")
+        words = [str(script), "--program", given.program]
+        try:
+            picture.picture_of(picture.parser().parse_args(words))
+            return "it is drawn"
+        except picture.Fault as fault:
+            if "choose at most 200 of them" not in str(fault):
+                return str(fault)
+        part = picture.parser().parse_args([*words, "--from", "31", "--to", "230"])
+        drawn = read(drawing.draw(picture.picture_of(part)[0]))
+        return labels_fault(drawn) or ("" if len(drawn.rows) == 200 else f"{len(drawn.rows)} rows are drawn")
+
+
+def checks(given):
+    """The checks, each a name and what is wrong, or nothing."""
+    for page, name, script, options in PICTURES:
+        yield f"{name} of {page}", picture_fault(page, name, script, options, given)
+    for path in strangers():
+        yield path.name, "no page shows it"
+    yield f"{RUNS} runs at random", random_faults(given)
+    yield "a run of more than 200 steps", long_run_fault(given)
+    for script, options, wanted in REFUSED:
+        yield f"refused: {script} {options}".strip(), refusal_fault(script, options, wanted, given)
+
+
+def main():
+    parser = argparse.ArgumentParser(description="Compares the pictures of the pages with those drawn anew.")
+    parser.add_argument("--store", action="store_true", help="store the pictures in place of comparing them")
+    program.add_program(parser)
+    given = parser.parse_args()
+    if not Path(given.program).is_file():
+        print(f"pictures.py: there is no program at {given.program}: {picture.BUILD} builds it", file=sys.stderr)
+        return 2
+    return program.print_checks(checks(given))
+
+
+if __name__ == "__main__":
+    sys.exit(main())
