@@ -7,9 +7,10 @@ the gate compares with the program.
 The gate's programs see the files of their own folders alone. So the session of the README and the
 examples of the manual are in `examples/`, each a script beside its report, and the program
 `lessons` compares what the one is answered with the other. This compares the pages with these
-files. A view, and the line of a trace, are in the stored output of `rehearsals`. A block that shows
-a reply and is none of these is a fault. Each block prints one line; the status is 1 if any of them
-differs. Only Python's standard library is used.
+files. A view, and the line of a trace, are in the stored output of `rehearsals`, and the scripts of
+a view are in `examples/` too, byte for byte. A block that shows a reply and is none of these is a
+fault. Each block and each such script prints one line; the status is 1 if any of them differs. Only
+Python's standard library is used.
 """
 
 import json
@@ -21,7 +22,7 @@ import schema
 
 TOP = Path(__file__).resolve().parent.parent
 EXAMPLES = TOP / "crates" / "lessons" / "data"
-REHEARSED = TOP / "crates" / "rehearsals" / "stdout"
+REHEARSALS = TOP / "crates" / "rehearsals"
 BLOCK = re.compile(r"^( *)```(\w+)\n(.*?)^ *```$", re.MULTILINE | re.DOTALL)
 REPLY = re.compile(
     r"(?:ok|at|is|marked|marks|mark|actor|step|origin|writer|refused|viewer|history|same|dropped)\b.*|dropped"
@@ -34,6 +35,17 @@ PAGES = {
     "README.md": [("session", None)],
     "docs/MANUAL.md": [("manual-1", None), ("manual-2", None), ("manual-3", "manual-1"), ("manual-4", None)],
 }
+
+# The scripts of `rehearsals` that the manual names, for whoever types its commands in `examples/`.
+COPIED = ["questions.script", "question.script"]
+
+
+def tried(check, *given):
+    """What a check finds wrong, or nothing; a file that it can't read is wrong too."""
+    try:
+        return check(*given)
+    except (OSError, ValueError) as fault:
+        return str(fault)
 
 
 def blocks_of(page):
@@ -52,7 +64,9 @@ def rows_of(lines):
 def example(name):
     """The lines of an example with the replies of its report."""
     lines, replies = ((EXAMPLES / f"{name}.{kind}").read_text(encoding="ascii").splitlines() for kind in ("script", "report"))
-    return [list(row) for row in zip(lines, replies, strict=True)]
+    if len(lines) != len(replies):
+        raise ValueError(f"{name}.script has {len(lines)} lines, and {name}.report has {len(replies)}")
+    return [list(row) for row in zip(lines, replies)]
 
 
 def is_example(rows, name, before):
@@ -67,18 +81,32 @@ def is_example(rows, name, before):
 def is_rehearsed(lines):
     """What is wrong with a block of a command line and what it writes, or of a trace alone, or
     nothing."""
-    stored = REHEARSED.read_text(encoding="utf-8")
+    stored = (REHEARSALS / "stdout").read_text(encoding="utf-8")
     head = [lines[0], "  status: 0"] if lines[0].startswith("lcrqdb ") else []
     wanted = "\n".join(head + [OUTPUT + line for line in lines[len(head[:1]):]]) + "\n"
     return "" if wanted in stored else "it is not in the stored output of rehearsals"
+
+
+def value_in(path):
+    """The value of a JSON file; none of any other, which somebody may have left among the examples."""
+    try:
+        return json.loads(path.read_text(encoding="ascii"))
+    except (OSError, ValueError):
+        return None
 
 
 def is_a_trace(lines):
     """What is wrong with a trace that is written by hand, or nothing, where it is one of the traces
     of the examples."""
     value = json.loads("\n".join(lines))
-    traces = [json.loads(path.read_text(encoding="ascii")) for path in EXAMPLES.glob("*.trace")]
+    traces = [value_in(path) for path in EXAMPLES.glob("*.trace")]
     return schema.fault_of(value) or ("" if value in traces else "no example has this trace")
+
+
+def is_copied(name):
+    """What is wrong with a script of `rehearsals` among the examples, or nothing."""
+    copy, source = EXAMPLES / name, REHEARSALS / "data" / name
+    return "" if copy.read_bytes() == source.read_bytes() else f"it is not {source.relative_to(TOP)}"
 
 
 def checks_of(name, examples):
@@ -90,23 +118,30 @@ def checks_of(name, examples):
         rows = rows_of(lines)
         if rows and left:
             example_name, before = left.pop(0)
-            yield f"{name}: {example_name}", is_example(rows, example_name, before)
+            yield f"{name}: {example_name}", tried(is_example, rows, example_name, before)
         elif rows:
             yield f"{name}: {lines[0]}", "it is none of the examples"
         elif lines[0].startswith('{"version"'):
-            yield f"{name}: a trace by hand", is_a_trace(lines)
+            yield f"{name}: a trace by hand", tried(is_a_trace, lines)
         elif lines[0].startswith('{"') or any(REPLY.fullmatch(line) for line in lines):
-            yield f"{name}: {lines[0]}", is_rehearsed(lines)
+            yield f"{name}: {lines[0]}", tried(is_rehearsed, lines)
     for example_name, _ in left:
         yield f"{name}: {example_name}", "it is not on the page"
 
 
+def all_checks():
+    """The checks of all pages, and of the scripts that they name."""
+    for name, examples in PAGES.items():
+        yield from checks_of(name, examples)
+    for name in COPIED:
+        yield f"examples/{name}", tried(is_copied, name)
+
+
 def main():
     wrong = 0
-    for name, examples in PAGES.items():
-        for check, fault in checks_of(name, examples):
-            wrong += bool(fault)
-            print(f"WRONG {check}: {fault}" if fault else f"ok    {check}")
+    for check, fault in all_checks():
+        wrong += bool(fault)
+        print(f"WRONG {check}: {fault}" if fault else f"ok    {check}")
     return 1 if wrong else 0
 
 
