@@ -41,6 +41,8 @@ HIGH, LOW = 0.8, 0.22  # how far a letter reaches above and below its line, as a
 # name without a folder is one of the examples.
 PICTURES = [
     ("README.md", "session.svg", "session.script", "--lines 15 --undo 8"),
+    ("docs/MODEL.md", "docs/dependence.svg", "model.script", "--undo 11"),
+    ("docs/MODEL.md", "docs/rollback.svg", "model.script", "--roll 11"),
 ]
 
 
