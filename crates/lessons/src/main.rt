@@ -18,7 +18,7 @@ use std::sync::Wait;
 use std::thread::Threads;
 
 /// The lessons, in the order of reading: each has a page and a script of this name.
-const LESSONS: [&str; 14] = [
+const LESSONS: [&str; 15] = [
     "01-one-enqueue-and-back",
     "02-empty-dequeue-repairs-tail",
     "03-refused-undo-names-dependant",
@@ -33,6 +33,7 @@ const LESSONS: [&str; 14] = [
     "12-two-viewers",
     "13-a-start-of-ones-own",
     "14-what-the-safe-bit-prevents",
+    "15-why-a-dequeue-looks-twice",
 ];
 
 /// The guide's page.
