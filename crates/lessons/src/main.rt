@@ -3,8 +3,9 @@
 //!
 //! A lesson's page has a table with its script beside the replies. The guide, and a lesson over two
 //! starts, have several tables and traces: just those that their scripts give, in this order. The
-//! sessions of the README and the manual have a report beside each script. For each page or report,
-//! one line that is printed states whether it is as the scripts give it.
+//! sessions of the README and the manual, and that of the poised world, have a report beside each
+//! script. For each page or report, one line that is printed states whether it is as the scripts
+//! give it.
 #![tactic(auto)]
 
 use anyhow::Result;
@@ -39,15 +40,17 @@ const LESSONS: [&str; 15] = [
 /// The guide's page.
 const GUIDE: &str = "guide";
 
-/// The session of README.md and the examples of docs/MANUAL.md: each has a script and a report of
-/// this name. The second part is whether it runs over the trace of this name.
-const SESSIONS: [(&str, bool); 6] = [
+/// The session of README.md, the examples of docs/MANUAL.md, and two draws from the poised world:
+/// each has a script and a report of this name. The second part is whether it runs over the trace of
+/// this name.
+const SESSIONS: [(&str, bool); 7] = [
     ("session", false),
     ("manual-1", false),
     ("manual-2", false),
     ("manual-3", false),
     ("manual-4", false),
     ("manual-5", true),
+    ("poised", true),
 ];
 
 /// Mistakes in the guide's start: the text that is there, and the wrong text in its place.
