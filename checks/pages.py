@@ -33,7 +33,9 @@ OUTPUT = "  output|"  # before each line of standard output in the stored output
 # page leaves out before it.
 PAGES = {
     "README.md": [("session", None)],
-    "docs/MANUAL.md": [("manual-1", None), ("manual-2", None), ("manual-3", "manual-1"), ("manual-4", None)],
+    "docs/MANUAL.md": [
+        ("poised", None), ("manual-1", None), ("manual-2", None), ("manual-3", "manual-1"), ("manual-4", None),
+    ],
 }
 
 # The scripts of `rehearsals` that the manual names, for whoever types its commands in `examples/`.

@@ -17,6 +17,8 @@ import argparse
 import contextlib
 import io
 import itertools
+import json
+import os
 import random
 import sys
 import tempfile
@@ -33,6 +35,7 @@ import picture
 import program
 
 EXAMPLES = Path("crates/lessons/data")
+GUIDE = f"{EXAMPLES}/guide.md"
 RUNS, STEPS = 200, 60  # how many runs are drawn at random, and the lines of each
 SVG = "{http://www.w3.org/2000/svg}"
 HIGH, LOW = 0.8, 0.22  # how far a letter reaches above and below its line, as a part of its size
@@ -43,6 +46,32 @@ PICTURES = [
     ("README.md", "session.svg", "session.script", "--lines 15 --undo 8"),
     ("docs/MODEL.md", "docs/dependence.svg", "model.script", "--undo 11"),
     ("docs/MODEL.md", "docs/rollback.svg", "model.script", "--roll 11"),
+    ("docs/MANUAL.md", "poised.svg", "poised.script", "--trace poised.trace"),
+    (GUIDE, "guide-1.svg", "guide-1.script", "--undo 10"),
+    (GUIDE, "guide-4.svg", "guide-4.script", "--trace guide-4.trace"),
+]
+
+# Those of the lessons: the lesson, which of its pictures it is where it has two, and the options.
+# Page, picture and script have the lesson's name, and so has the trace, which TRACE stands for.
+LESSONS = [
+    ("01-one-enqueue-and-back", "", "--undo 4"),
+    ("02-empty-dequeue-repairs-tail", "", "--undo 11"),
+    ("03-refused-undo-names-dependant", "", "--lines 11 --undo 4"),
+    ("04-independent-steps-change-places", "", "--undo 8"),
+    ("05-unsafe-cell", "", "--ring 2 --undo 20"),
+    ("06-starvation-closes-ring", "", "--lines 20 --undo 10"),
+    ("07-two-makers-race", "", "--undo 22"),
+    ("08-causal-rollback", "", "--lines 15 --roll 8"),
+    ("09-bookmarks-and-same", "", "--undo 7"),
+    ("10-array-queue-livelock", "", "--lines 16 --undo 15"),
+    ("11-who-wrote-this", "", "--trace TRACE --undo 14"),
+    ("12-two-viewers", "-1", ""),
+    ("12-two-viewers", "-2", ""),
+    ("13-a-start-of-ones-own", "", "--trace TRACE --lines 20 --undo 3"),
+    ("14-what-the-safe-bit-prevents", "-1", "--trace TRACE --lines 20 --undo 7"),
+    ("14-what-the-safe-bit-prevents", "-2", "--trace TRACE --undo 13"),
+    ("15-why-a-dequeue-looks-twice", "-1", "--trace TRACE --undo 1"),
+    ("15-why-a-dequeue-looks-twice", "-2", "--trace TRACE --lines 10 --undo 1"),
 ]
 
 
@@ -157,7 +186,7 @@ def marks_fault(drawn, arguments, steps, live):
 def faults_of(svg, arguments):
     """The first thing that is wrong with a picture of a whole run, or nothing."""
     drawn, session = read(svg), picture.Session(arguments)
-    ring = int(arguments.ring or 4)
+    ring = json.loads(Path(arguments.trace).read_text())["ring"] if arguments.trace else int(arguments.ring or 4)
     steps = [dependence.step_of(record, ring) for record in picture.records_of(session)]
     return (
         words_fault(drawn)
@@ -183,8 +212,7 @@ def arguments_of(script, options, program_path):
 
 def link_of(page, name):
     """How a page names a picture."""
-    target, folder = path_of(name), (TOP / page).parent
-    return str(target.relative_to(folder)) if target.is_relative_to(folder) else str(target.relative_to(TOP))
+    return os.path.relpath(path_of(name), (TOP / page).parent)
 
 
 def picture_fault(page, name, script, options, given):
@@ -200,9 +228,17 @@ def picture_fault(page, name, script, options, given):
     return faults_of(svg, arguments)
 
 
+def pictures():
+    """All pictures: the page, the file, the script and the options of each."""
+    yield from PICTURES
+    for lesson, which, options in LESSONS:
+        name = lesson + which
+        yield f"{EXAMPLES}/{lesson}.md", f"{name}.svg", f"{name}.script", options.replace("TRACE", f"{name}.trace")
+
+
 def strangers():
     """The pictures that are stored and that no page shows."""
-    known = {path_of(name) for _, name, _, _ in PICTURES}
+    known = {path_of(name) for _, name, _, _ in pictures()}
     return sorted({*TOP.glob("docs/*.svg"), *TOP.glob(f"{EXAMPLES}/*.svg")} - known)
 
 
@@ -280,7 +316,7 @@ def long_run_fault(given):
 
 def checks(given):
     """The checks, each a name and what is wrong, or nothing."""
-    for page, name, script, options in PICTURES:
+    for page, name, script, options in pictures():
         yield f"{name} of {page}", picture_fault(page, name, script, options, given)
     for path in strangers():
         yield path.name, "no page shows it"

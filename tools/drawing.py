@@ -300,7 +300,7 @@ def frame_at(x, y, width, height):
 def bar_at(x, y, height):
     """The part of a lane between two steps that share it."""
     ends = {"x1": x, "y1": y, "x2": x, "y2": y + height}
-    return element("line", class_="bar", **ends, stroke=ASKED, stroke_width=13, stroke_opacity=0.6, stroke_linecap="round")
+    return element("line", class_="bar", **ends, stroke=ASKED, stroke_width=13, stroke_opacity=0.85, stroke_linecap="round")
 
 
 def asked_lines(layout):
