@@ -8,7 +8,8 @@ What a line is, and what a trace is, comes from its own grammars here, written f
 and not from the code. On each trace that is loaded docs/trace.schema.json is tried too: what it
 refuses has to be BadTrace, and what it takes may be BadTrace only where no schema can say so. Each
 check prints one line; the status is 1 if any of them differs. The timed ones say how time and
-memory grow with the text. Only Python's standard library is used.
+memory grow with the text. Like schema.py it needs `jsonschema`: python3-jsonschema of Debian, or
+jsonschema of pip.
 """
 
 import argparse
@@ -429,7 +430,6 @@ def load(built, text, script=b"len\n"):
 
 # ---- The schema of traces ------------------------------------------------------------------------
 
-SCHEMA = schema.load_schema()
 MOST_FOR_SCHEMA = 1_000_000  # bytes of a text on which the schema is tried
 
 
@@ -461,7 +461,7 @@ def schema_fault(text, is_bad):
         return ""  # no JSON, or none of which anything is promised
     if value is None:
         return ""
-    fault = schema.fault_of(value, SCHEMA)
+    fault = schema.fault_of(value)
     if fault and not is_bad:
         return f"the schema refuses it: {fault}"
     return "the schema takes it" if is_bad and not fault and not is_beyond_schemas(value) else ""
