@@ -281,7 +281,7 @@ REFUSED = [
     ("no.script", "", "no.script: No such file or directory"),
     ("session.script", "--undo 99", "step 99 is not among the steps 1 to 14 that are drawn"),
     ("session.script", "--from 9 --to 3", "the run has the steps 1 to 14: --from and --to name a part of them"),
-    ("session.script", "--program nowhere", "there is no program at nowhere"),
+    ("session.script", "--program nowhere", "no program at nowhere"),
     ("session.script", "--trace session.report", "lcrqdb: refused 27 BadTrace"),
 ]
 
@@ -291,9 +291,12 @@ def refusal_fault(script, options, wanted, given):
     words = [str(path_of(script)), "--program", given.program]
     words += [str(path_of(word)) if "." in word else word for word in options.split()]
     told = io.StringIO()
-    with contextlib.redirect_stderr(told), contextlib.redirect_stdout(io.StringIO()):
-        status = picture.main(words)
-    text = told.getvalue()
+    try:
+        with contextlib.redirect_stderr(told), contextlib.redirect_stdout(io.StringIO()):
+            status = picture.main(words)
+        text = told.getvalue()
+    except SystemExit as ended:
+        status, text = 1, f"{ended}\n"
     return "" if status == 1 and wanted in text and text.count("\n") == 1 else f"it ended with {status} and {text!r}"
 
 
@@ -330,11 +333,7 @@ def main():
     parser = argparse.ArgumentParser(description="Compares the pictures of the pages with those drawn anew.")
     parser.add_argument("--store", action="store_true", help="store the pictures in place of comparing them")
     program.add_program(parser)
-    given = parser.parse_args()
-    if not Path(given.program).is_file():
-        print(f"pictures.py: there is no program at {given.program}: {picture.BUILD} builds it", file=sys.stderr)
-        return 2
-    return program.print_checks(checks(given))
+    return program.print_checks(checks(parser.parse_args()))
 
 
 if __name__ == "__main__":

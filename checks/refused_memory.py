@@ -17,10 +17,10 @@ Parts, all of them if none is named:
     back      the program, with nothing refused: what 62 of 64 bookmarks had is given back when they
               are dropped
 
-P is the built program, T the built tests of crates/shortages; `rt ci` leaves both in the crates'
-folders out/. Each part prints a line with how many points were refused, and the status is 1 if
-anything is wrong. It needs a C compiler (`cc`) and `prlimit`. Only Python's standard library is
-used.
+P is the built program, and T the built tests of crates/shortages, for the first three parts; `rt
+ci` leaves both in the crates' folders out/. Each part prints a line with how many points were
+refused, and the status is 1 if anything is wrong. It needs a C compiler (`cc`) and `prlimit`. Only
+Python's standard library is used.
 """
 
 import argparse
@@ -456,8 +456,8 @@ def back_part(given, refuser):
     yield f"{left >> 10} KiB are left of {taken >> 10}", None, fault
 
 
-PARTS = {"devices": devices_part, "tests": tests_part, "none": none_part}
-PARTS |= {"one": one_part, "rest": rest_part, "undos": undos_part, "limits": limits_part, "back": back_part}
+OF_TESTS = {"devices": devices_part, "tests": tests_part, "none": none_part}
+PARTS = OF_TESTS | {"one": one_part, "rest": rest_part, "undos": undos_part, "limits": limits_part, "back": back_part}
 
 
 def print_part(part, outcomes):
@@ -481,9 +481,12 @@ def main():
     program.add_program(parser)
     parser.add_argument("--tests", default=str(program.CRATES / "shortages/out/shortages_tests"), help="the built tests of crates/shortages")
     given, wrong = parser.parse_args(), 0
+    parts = given.parts or list(PARTS)
+    if not OF_TESTS.keys().isdisjoint(parts):
+        program.required(given.tests, "rt ci, which is the gate")
     with tempfile.TemporaryDirectory() as folder:
         refuser = Refuser(folder)
-        for part in given.parts or PARTS:
+        for part in parts:
             wrong += print_part(part, PARTS[part](given, refuser))
     print("nothing is wrong" if not wrong else f"{wrong} wrong")
     return 1 if wrong else 0

@@ -33,7 +33,6 @@ from drawing import Dot, Picture, Row, actor_lane, draw, order_of, segment_of
 from program import add_program, run
 
 MOST_ROWS = 200
-BUILD = "(cd crates/lcrqdb && rt run -- run ../../examples/session.script)"
 
 
 class Fault(Exception):
@@ -72,8 +71,6 @@ class Session:
 
 def words_of(arguments):
     """The words that start the program."""
-    if not Path(arguments.program).is_file():
-        raise Fault(f"there is no program at {arguments.program}: {BUILD} builds it")
     if arguments.trace is None:
         options = [("--actors", arguments.actors), ("--ring", arguments.ring)]
         chosen = [word for option, value in options if value for word in (option, value)]

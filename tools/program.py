@@ -17,6 +17,7 @@ from pathlib import Path
 TOP = Path(__file__).resolve().parent.parent
 CRATES = TOP / "crates"
 BUILT = CRATES / "lcrqdb" / "out" / "lcrqdb"  # where `rt run` and `rt ci` leave it
+BUILDS = "(cd crates/lcrqdb && rt run -- run ../../examples/session.script)"
 SECONDS = 120.0  # a run, or a line, that takes longer has failed
 LOOK_EVERY = 0.001
 PIPE_BYTES = 1 << 16
@@ -29,9 +30,19 @@ class Broken(Exception):
     """The program ended, took too long or gave another reply than the one that is wanted."""
 
 
+def required(path, command):
+    """Where a program is that this path names. Where there is none the script ends in one line,
+    with the command that builds it."""
+    found = shutil.which(path)
+    if not found:
+        raise SystemExit(f"no program at {path}: at the top of the repository, this builds it: {command}")
+    return found
+
+
 def add_program(parser):
-    """Adds the option that names the built program."""
-    parser.add_argument("--program", default=str(BUILT), help="the built program (that of rt ci)")
+    """Adds the option that names the built program, which has to be there."""
+    option = {"default": str(BUILT), "help": "the built program (that of rt ci)"}
+    parser.add_argument("--program", type=lambda path: required(path, BUILDS), **option)
 
 
 # ---- Runs ----------------------------------------------------------------------------------------
