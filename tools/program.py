@@ -170,9 +170,9 @@ class Driven:
             raise Broken(f"the program did not end in {self.seconds} s") from fault
 
     def ask(self, line):
-        """The reply to a line, and how many milliseconds it took from end to end, and of the
-        program's processor time."""
-        text = line.encode("ascii") + b"\n"
+        """The reply to a line, whose letters are its bytes, and how many milliseconds it took from
+        end to end, and of the program's processor time."""
+        text = line.encode("latin-1") + b"\n"
         try:
             worked, begin = time.clock_gettime_ns(self.clock), time.perf_counter_ns()
             os.write(self.child.stdin.fileno(), text)
