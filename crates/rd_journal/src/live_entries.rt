@@ -1,4 +1,4 @@
-//! The entries of the live steps, lent to be read.
+//! Entries of the live steps, or of those ahead of them, lent to be read.
 
 ghost use Rattle.std.specs.Prelude.{◌≡◌, ◌<◌, ◌≤◌, List, None, Some, length, drop, slice_get, slice_index_or, MatchOption};
 ghost use Rattle.std.specs.List.{All};
@@ -7,8 +7,8 @@ ghost use Rattle.rd_journal.specs.Numbers.{at_numbers};
 use rd_step::Entry;
 use std::marker::Model;
 
-/// Entries of live steps, in their order: a list that is read where the entries are kept, by the
-/// numbers of their slots.
+/// Entries of the live steps, or of those ahead of them, in their order: a list that is read where
+/// the entries are kept, by the numbers of their slots.
 #[derive(Drop)]
 pub struct LiveEntries<'a> {
     slots: &'a [Entry],

@@ -1,5 +1,5 @@
--- Which commands are events. No public clause cites it: what a command that is an event is answered
--- is in `Commands.antt`.
+-- Which commands are events: `Command::of_event` returns the command of an event. What a command
+-- that is an event is answered is in `Commands.antt`.
 use Rattle.std.specs.Prelude.{Option, Some, None}
 use Rattle.rd_actor.specs.declared.actors.Act.TheVariants.{Enq as CallsEnq, Deq as CallsDeq, AEnq as CallsArrayEnq, ADeq as CallsArrayDeq, Go as GoesOn, Starve as Starves}
 use Rattle.rd_step.specs.declared.entries.Event.{Event}

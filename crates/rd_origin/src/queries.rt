@@ -68,8 +68,7 @@ fn last_call(steps: &LiveEntries, number: Option<u64>) -> Option<u64>
 }
 
 /// Returns the number of the last live step that wrote this place, or one of the places that it
-/// names; none if no live step did. It takes no memory. The session finds it in its index, and
-/// scans from the back only those live steps that the index lacks because memory was refused.
+/// names; none if no live step did. It takes no memory, and asks the session's index once.
 ///
 /// # Errors
 ///

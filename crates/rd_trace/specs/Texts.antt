@@ -15,7 +15,7 @@ abbrev pub joined_text : Bool → Items → List ℕ
 joined_text later no_items = []
 joined_text later (item d ds) = comma_if later ++ (compact_text d ++ joined_text true ds)
 
--- the tokens of a value give it again, and its numbers are numbers of JSON
+-- as JSON the value is read as itself, and its numbers are numbers of JSON
 pub record IsReadBack (d : Data) : Type 0 where
   pub numbers : HasNumbers (outline d)
   pub back : of_json (outline d) ≡ Some d

@@ -35,7 +35,7 @@ impl Both {
         }
     }
 
-    /// Pushes an entry.
+    /// Pushes an entry, or does nothing where there are 65,535.
     fn push(&mut self, entry: Entry) -> Result<(), Fail> {
         if self.entries.len() < MOST_STEPS {
             self.entries.reserve(1)?;

@@ -9,7 +9,8 @@ use rd_marks::{Command, Reply};
 use std::sync::Wait;
 use std::sync::atomic::{AtomicBool, Ordering};
 
-/// A viewer gives up after this many calls.
+/// A viewer of this test gives up after this many calls. The limit of a history, which has the same
+/// name, is less.
 const MOST_CALLS: u64 = 100_000_000;
 
 /// A gate whose first viewer asks a desk again and again, until the desk was busy for the second

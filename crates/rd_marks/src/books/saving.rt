@@ -12,8 +12,8 @@ impl<const R: usize> Book<R> {
     ghost use Rattle.rd_marks.specs.Books.{mark_events, mark_event, to_start, AnswersEvents};
 
     /// The event of this number, from 1, of the bookmark of this number, from 1, if there is one.
-    /// It takes no memory, and time that grows with the number of steps after it; `mark_events`
-    /// gives all of them at once.
+    /// It takes no memory, and looks at each stretch once at most; `mark_events` gives all of them
+    /// at once.
     pub fn mark_event(&self, i: u64, n: u64) -> Option<Event>
         ensures { result ≡ mark_event (book_state self.now) i n }
     {
