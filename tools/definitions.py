@@ -1,111 +1,69 @@
 #!/usr/bin/env python3
-"""Which definitions and types a contract reaches: what its reader has to believe, and nothing more.
+"""Which definitions and types a contract reaches: what its reader has to believe.
 
-    python3 tools/definitions.py [FILE FUNCTION..]
+    python3 tools/definitions.py [--text] [FILE FUNCTION[.LABEL]..]..
 
-FILE is a source file, named from `crates/`, and each FUNCTION one of its functions. Without them it
-is the contracts that carry the headline. The names in a contract are followed through `ghost use`
-into `specs/`, from there through the imports of each definition, and from types of the code into
-`src/`. Ghost fields are left out, since the checker proves them. Names are found by their words, so
-a few definitions too many may be listed.
+FILE is a source file, named from `crates/`, and each FUNCTION one of its functions: with a LABEL
+its clause of this label (`Book::obey.answer`), else all that it ensures. What a function requires
+goes with each of its clauses. Without a FILE these are the clauses that carry the headline.
 
-Standard output gets a Markdown table, a row a file in the order of crates.txt, with the lines of
-what is listed that are neither blank nor a comment alone. Only Python's standard library is used.
+The words of a clause are followed through `ghost use` into `specs/`, from there through the imports
+of each definition, and from types of the code into `src/`. The type of a field is followed only if
+something that is reached names the field. Ghost fields are left out, since the checker proves them.
+Names are found by their words, so a few definitions too many may be listed.
+
+Standard output gets a Markdown table from the contract down: a row a file, in the order in which
+the files are reached, with the lines of what is listed that are neither blank nor a comment alone.
+The last row has the names of the toolchain that are reached, its operators left out. With `--text`
+it gets the definitions themselves, in this order. Only Python's standard library is used.
 """
 
 import argparse
+import collections
 import functools
 import re
+import signal
 import sys
 from pathlib import Path
 
-from lines import counts_as_line, crate_names
+from contracts import blocks_of, code_of, crate_of, functions_of, lines_of, parts_of, without_ghosts
+from lines import crate_names
 from program import CRATES, print_head, print_row
 
-HEADLINE = [
-    ("rd_marks/src/books/obeying.rt", ["obey", "apply_all"]),
-    ("rd_marks/src/books.rt", ["session"]),
-    ("rd_journal/src/sessions.rt", ["open", "undo_at", "roll"]),
-    ("rd_journal/src/sessions/queries.rt", ["world"]),
-    ("rd_step/src/worlds.rt", ["fresh", "poised", "assemble"]),
-]
+# The clauses that carry the headline.
+HEADLINE = """
+    rd_marks/src/books/obeying.rt obey.answer obey.start obey.unchanged apply_all.ok
+    rd_marks/src/books.rt session.state
+    rd_journal/src/sessions.rt open.state undo_at.answer undo_at.run
+    rd_journal/src/sessions/queries.rt world.run world.runs
+    rd_step/src/worlds.rt fresh.ok poised.ok assemble.ok assemble.flawless
+""".split()
 WORD = re.compile(r"(?<![.\w])[A-Za-z_]\w*")
-NAMES = r"(?:\{([^}]*)\}| as (\w+))"
-MODULE = r"Rattle\.(\w+)\.specs\.([\w.]+?)\.?"
-IMPORT = re.compile(rf"^ *(?:pub |ghost )*use {MODULE}{NAMES}", re.MULTILINE)
+TYPE_NAME = re.compile(r"\b[A-Z]\w*")
+NAMED_FIELD = re.compile(r"\.(\w+)|[{;]\s(\w+) = ")
+IMPORT = re.compile(r"^ *(?:pub |ghost )*use ([\w.]+?)(?:\.\{([^}]*)\}| as (\w+));?$", re.MULTILINE)
 FROM_CRATE = re.compile(r"^use (\w+)::([^;]*);", re.MULTILINE)
-DEFINITION = re.compile(r" *(?:(?:abbrev|unfoldable) (?:pub )?|pub (?:record|data) )(\w+)")
-TYPE = re.compile(r" *(?:pub(?:\(\w+\))? )?(?:struct|enum|trait|const) (\w+)")
-
-# ---- What a file has -----------------------------------------------------------------------------
 
 
-@functools.cache
-def text_of(path):
-    """The text of a file."""
-    return path.read_text(encoding="utf-8")
+class Unknown(Exception):
+    """What is asked for is not there."""
+
+
+# ---- What a name means ---------------------------------------------------------------------------
 
 
 @functools.cache
 def imports_of(path):
-    """What each imported name of a file stands for: a crate, a module of its definitions, and the
-    name there, or none for the module itself."""
+    """What each imported name of a file stands for: a module of definitions, and the name there, or
+    none for the module itself."""
     found = {}
-    for crate, module, names, alias in IMPORT.findall(text_of(path)):
+    for module, names, alias in IMPORT.findall("\n".join(lines_of(path))):
         if alias:
-            found[alias] = (crate, module, None)
+            found[alias] = (module, None)
         for name in filter(None, (name.strip() for name in names.split(","))):
             original, _, renamed = name.partition(" as ")
-            found[renamed or original] = (crate, module, original)
+            found[renamed or original] = (module, original)
     return found
-
-
-def block_from(lines, first, is_last):
-    """The lines from this one to the last of its block."""
-    last = next((at for at in range(first, len(lines)) if is_last(lines[at])), len(lines) - 1)
-    return "\n".join(lines[first : last + 1])
-
-
-def definition_from(lines, first):
-    """A definition, which ends at the next blank line."""
-    return block_from(lines, first, lambda line: not line.strip())
-
-
-def type_from(lines, first):
-    """A type or a constant of the code, which ends at its own line or at the brace below."""
-    begin = lines[first]
-    if begin.endswith(";"):
-        return begin
-    brace = begin[: len(begin) - len(begin.lstrip())] + "}"
-    return block_from(lines, first, lambda line: line == brace)
-
-
-@functools.cache
-def blocks_of(path):
-    """The definitions of a file of definitions, or the types of a source file, by their names."""
-    kind, block = (DEFINITION, definition_from) if path.suffix == ".antt" else (TYPE, type_from)
-    lines = text_of(path).splitlines()
-    found = ((at, kind.match(line)) for at, line in enumerate(lines))
-    return {name[1]: block(lines, at) for at, name in found if name}
-
-
-def contract_of(path, function):
-    """A function without its body."""
-    lines = text_of(path).splitlines()
-    for at, line in enumerate(lines):
-        if found := re.match(rf"( *)(?:pub )?fn {function}\b", line):
-            body = found[1] + "{"
-            return block_from(lines, at, lambda it: it == body or it.endswith(" {"))
-    raise SystemExit(f"no function {function} in {path}")
-
-
-def without_ghosts(text, suffix):
-    """A block without comments and ghost fields."""
-    lines = [line for line in text.splitlines() if counts_as_line(line, suffix)]
-    return "\n".join(line for line in lines if not line.strip().startswith("ghost "))
-
-
-# ---- What a name means ---------------------------------------------------------------------------
 
 
 @functools.cache
@@ -119,14 +77,10 @@ def types():
     return found
 
 
-def crate_of(path):
-    """The crate of a file."""
-    return path.relative_to(CRATES).parts[0]
-
-
 def type_named(name, path):
     """The type of this name that a source file means: its own, its crate's, or an imported one."""
-    files, uses = types().get(name, []), FROM_CRATE.findall(text_of(path))
+    files = types().get(name, [])
+    uses = FROM_CRATE.findall("\n".join(lines_of(path))) if files else []
     imported = {crate for crate, names in uses if re.search(rf"\b{name}\b", names)}
     own = [it for it in files if it == path]
     of_crate = [it for it in files if crate_of(it) == crate_of(path)]
@@ -143,62 +97,186 @@ def declared(crate, names):
     return None
 
 
-def target_of(crate, module, name):
-    """What an imported name stands for; none if it is of no crate of this repository."""
-    names = module.split(".")
-    if names[0] == "declared":
-        return declared(crate, names[1:] + [name or ""])
-    path = CRATES / crate / "specs" / Path(*names).with_suffix(".antt")
-    return named(name, path) if path.is_file() else None
+def imported(module, name):
+    """What an imported name stands for: a file and a name there, without a file where the name is
+    the toolchain's."""
+    root, crate, *names = module.split(".")
+    if root != "Rattle" or not (CRATES / crate).is_dir():
+        return None, name or module.split(".")[-1]
+    if names[1] == "declared":
+        return declared(crate, [*names[2:], name or ""])
+    path = CRATES / crate / "specs" / Path(*names[1:]).with_suffix(".antt")
+    return meant(name, path) if path.is_file() else None
 
 
-def named(name, path):
-    """The definition or type that a word means in a file, if it means one: a file and a name."""
+def meant(name, path):
+    """The definition or type that a word means in a file, if it means one."""
     if path.suffix == ".antt" and name in blocks_of(path):
         return path, name
     if name in imports_of(path):
-        return target_of(*imports_of(path)[name])
+        return imported(*imports_of(path)[name])
     return type_named(name, path) if path.suffix == ".rt" else None
 
 
-# ---- The table -----------------------------------------------------------------------------------
+# ---- What is reached -----------------------------------------------------------------------------
 
 
-def reached_from(contracts):
-    """All definitions and types that contracts reach, each by its file and name with its text."""
-    waiting = [(path, contract_of(path, name)) for path, names in contracts for name in names]
-    reached = {}
-    while waiting:
-        path, text = waiting.pop()
-        for word in set(WORD.findall(text)):
-            found = named(word, path)
-            if found and found not in reached:
-                reached[found] = without_ghosts(blocks_of(found[0])[found[1]], found[0].suffix)
-                waiting.append((found[0], reached[found]))
+def functions_named(path, name):
+    """The functions of a source file that a name means, as `obey` or `Book::obey`."""
+    owner, _, short = name.rpartition("::")
+    found = [it for it in functions_of(path) if it.name == short and owner in ("", it.owner)]
+    if not found:
+        raise Unknown(f"no function {name} in {path.relative_to(CRATES)}")
+    return found
+
+
+def clauses_of(path, name, label):
+    """What the functions of this name require, and what they ensure, by this label if there is one;
+    each clause with its function."""
+    found = [(function, clause) for function in functions_named(path, name) for clause in function.clauses]
+    ensured = [clause for _, clause in found if clause.kind == "ensures"]
+    wanted = [clause for clause in ensured if label in ("", clause.label)]
+    if not ensured:
+        raise Unknown(f"{name} ensures nothing")
+    if not wanted:
+        labels = ", ".join(clause.label or "a clause without a label" for clause in ensured)
+        raise Unknown(f"no clause {label} of {name}, which ensures {labels}")
+    return [(function, clause) for function, clause in found if clause in wanted or clause.kind == "requires"]
+
+
+class Reached:
+    """What contracts reach, in the order in which it is reached, breadth first."""
+
+    def __init__(self):
+        self.clauses = {}  # by files, names of functions and functions
+        self.texts = {}  # those of definitions and types, by their files and names
+        self.toolchain = set()  # its names
+        self.waiting = collections.deque()  # files, and texts there whose words are to be followed
+        self.unread = []  # fields that nothing has named so far, each its file, its name and its type
+        self.read = set()  # the names of the others
+
+    def add_clauses(self, path, asked):
+        """Adds the clauses of a function that are asked for."""
+        name, _, label = asked.partition(".")
+        for function, clause in clauses_of(path, name, label):
+            clauses = self.clauses.setdefault((path, name, function), [])
+            clauses += [clause] if clause not in clauses else []
+            self.waiting.append((path, clause.text.partition("{")[2]))
+
+    def add(self, path, name):
+        """Adds a definition or a type of a file."""
+        self.texts[path, name] = text = without_ghosts(blocks_of(path)[name])
+        head, fields = parts_of(code_of(text, path.suffix))
+        self.waiting.append((path, head))
+        self.unread += [(path, *field) for field in fields]
+
+    def follow(self):
+        """Follows all words, those of a field once something names it."""
+        while self.waiting:
+            path, text = self.waiting.popleft()
+            for word in dict.fromkeys(WORD.findall(text)):
+                self.follow_word(path, word)
+            self.read |= {name or key for name, key in NAMED_FIELD.findall(text)}
+            self.waiting.extend((at, type_) for at, name, type_ in self.unread if name in self.read)
+            self.unread = [it for it in self.unread if it[1] not in self.read]
+
+    def follow_word(self, path, word):
+        """Adds what a word means in a file, if it means anything that isn't there yet."""
+        found = meant(word, path)
+        if found and found[0] is None:
+            self.toolchain.add(found[1])
+        elif found and found not in self.texts:
+            self.add(*found)
+
+
+def asked_for(words):
+    """The files of a command line, each with the names after it."""
+    asked = []
+    for word in words:
+        if word.endswith(".rt") or not asked:
+            asked.append((word.removeprefix("crates/"), []))
+        else:
+            asked[-1][1].append(word)
+    return asked
+
+
+def reached_from(words):
+    """What the clauses reach that a command line asks for."""
+    reached = Reached()
+    for file, names in asked_for(words):
+        path = CRATES / file
+        if not (path.is_file() and path.suffix == ".rt"):
+            raise Unknown(f"no source file {file} in crates/")
+        if not names:
+            raise Unknown(f"which function of {file}?")
+        for name in names:
+            reached.add_clauses(path, name)
+    for path, _, function in reached.clauses:
+        types = TYPE_NAME.findall(f"{function.signature} {function.owner}")
+        reached.waiting.append((path, " ".join(types)))
+    reached.follow()
     return reached
 
 
+# ---- What is printed -----------------------------------------------------------------------------
+
+
+def by_file(named):
+    """Names as lists, by their files."""
+    files = {}
+    for path, name in named:
+        files.setdefault(path.relative_to(CRATES), []).append(name)
+    return files.items()
+
+
+def clause_names(reached):
+    """The files and the names of the clauses."""
+    for (path, name, _), clauses in reached.clauses.items():
+        labels = [clause.label for clause in clauses if clause.kind == "ensures"]
+        yield from ((path, f"{name}.{label}" if label else name) for label in labels)
+
+
 def print_table(reached):
-    """Prints what is reached, a row a file."""
-    order = {name: number for number, name in enumerate(crate_names())}
-    files = sorted({path for path, _ in reached}, key=lambda it: (order[crate_of(it)], str(it)))
-    total = 0
+    """Prints the clauses, and then what is reached, a row a file."""
+    lines = {it: len(code_of(text, it[0].suffix).splitlines()) for it, text in reached.texts.items()}
+    files = by_file(reached.texts)
     print_head("File", "Lines", "What is read there")
-    for path in files:
-        names = [name for name in blocks_of(path) if (path, name) in reached]
-        lines = sum(len(reached[path, name].splitlines()) for name in names)
-        total += lines
-        print_row(path.relative_to(CRATES), f"{lines:,}", ", ".join(names))
-    print_row("all", f"{total:,}", f"{len(reached)} in {len(files)} files")
+    for path, names in by_file(clause_names(reached)):
+        print_row(path, "", ", ".join(names))
+    for path, names in files:
+        print_row(path, f"{sum(lines[CRATES / path, name] for name in names):,}", ", ".join(names))
+    print_row("all", f"{sum(lines.values()):,}", f"{len(lines)} definitions and types in {len(files)} files")
+    print_row("the toolchain", "", ", ".join(sorted(reached.toolchain)))
+
+
+def print_texts(reached):
+    """Prints the clauses, definitions and types themselves, each with its file."""
+    contracts = [
+        (path, "\n".join([function.signature, *(clause.text for clause in clauses)]))
+        for (path, _, function), clauses in reached.clauses.items()
+    ]
+    last = None
+    for path, text in [*contracts, *((path, text) for (path, _), text in reached.texts.items())]:
+        if path != last:
+            print(f"==== {path.relative_to(CRATES)}\n")
+        print(f"{text}\n")
+        last = path
+    print(f"==== the toolchain\n\n{', '.join(sorted(reached.toolchain))}")
 
 
 def main():
     parser = argparse.ArgumentParser(description="Which definitions and types a contract reaches.")
-    parser.add_argument("file", nargs="?", help="a source file, from crates/; else the headline's")
-    parser.add_argument("functions", nargs="*", metavar="function", help="functions of this file")
+    parser.add_argument("--text", action="store_true", help="print the definitions themselves")
+    words = "a source file, from crates/, and functions of it, with or without a label; else the headline's"
+    parser.add_argument("words", nargs="*", metavar="FILE FUNCTION[.LABEL]", help=words)
     given = parser.parse_args()
-    contracts = [(given.file, given.functions)] if given.file else HEADLINE
-    print_table(reached_from([(CRATES / path, names) for path, names in contracts]))
+    signal.signal(signal.SIGPIPE, signal.SIG_DFL)  # who reads the output may stop
+    try:
+        reached = reached_from(given.words or HEADLINE)
+    except Unknown as fault:
+        print(f"definitions.py: {fault}", file=sys.stderr)
+        return 2
+    (print_texts if given.text else print_table)(reached)
     return 0
 
 

@@ -1,0 +1,131 @@
+"""The contracts, definitions and types of the crates, read off the layout that `rt fmt` gives.
+
+`functions_of` gives the functions of a source file, each with its clauses, and `blocks_of` the
+definitions of a file of definitions, or the types and constants of a source file.
+"""
+
+import collections
+import functools
+import re
+
+from lines import COMMENT, counts_as_line
+from program import CRATES
+
+Function = collections.namedtuple("Function", "owner name is_public signature clauses")
+Clause = collections.namedtuple("Clause", "kind label text")
+
+OWNER = re.compile(r"(?:pub )?(?:impl\b(?:<.*?>)? (?:.* for )?|trait )(\w+)\b.*\{$")
+FUNCTION = re.compile(r" *(pub )?(?:pub\(\w+\) )?(?:const )?fn (\w+)")
+CLAUSE = re.compile(r" *(requires|ensures)(?: (\w+))? \{")
+DEFINITION = re.compile(r" *(?:(?:abbrev|unfoldable) (?:pub )?|pub (?:record|data) )(\w+)")
+TYPE = re.compile(r"(?:pub(?:\(\w+\))? )?(?:struct|enum|trait|const|type) (?!fn )(\w+)")
+STRUCT = re.compile(r"(?:pub(?:\(\w+\))? )?struct .*\{$", re.MULTILINE)
+FIELD = re.compile(r" {4}(?:pub(?:\(\w+\))? )?(\w+): (.*)")
+GHOST_FIELD = re.compile(r"^(?: *//.*\n)* {4}ghost (\w+): \{.*\},\n", re.MULTILINE)
+
+
+@functools.cache
+def lines_of(path):
+    """The lines of a file."""
+    return path.read_text(encoding="utf-8").splitlines()
+
+
+def crate_of(path):
+    """The crate of a file."""
+    return path.relative_to(CRATES).parts[0]
+
+
+# ---- Functions -----------------------------------------------------------------------------------
+
+
+def clauses_at(lines, at):
+    """The clauses from this line on."""
+    found = []
+    for line in lines[at:]:
+        if begins := CLAUSE.match(line):
+            found.append(Clause(*begins.groups(), line.rstrip(";")))
+        elif found and found[-1].text.count("{") != found[-1].text.count("}"):
+            found[-1] = found[-1]._replace(text=f"{found[-1].text}\n{line}")
+        else:
+            break
+    return found
+
+
+def function_at(lines, first, owner):
+    """The function that begins at this line."""
+    begins, last = FUNCTION.match(lines[first]), first
+    while not lines[last].endswith(("{", ";")) and not CLAUSE.match(lines[last + 1]):
+        last += 1
+    signature = "\n".join(lines[first : last + 1]).rstrip("{; \n")
+    return Function(owner, begins[2], bool(begins[1]), signature, tuple(clauses_at(lines, last + 1)))
+
+
+@functools.cache
+def functions_of(path):
+    """The functions of a source file, each with the type or the trait that it is of, if any."""
+    lines, owner, found = lines_of(path), None, []
+    for at, line in enumerate(lines):
+        if begins := OWNER.match(line):
+            owner = begins[1]
+        elif line == "}":
+            owner = None
+        elif FUNCTION.match(line):
+            found.append(function_at(lines, at, owner))
+    return found
+
+
+# ---- Definitions and types -----------------------------------------------------------------------
+
+
+def last_line_of(lines, first, suffix):
+    """The last line of a definition, before a blank one, or of a type, whose brace or semicolon is
+    not indented."""
+    ends = {".antt": lambda line: not line.strip(), ".rt": lambda line: re.match(r"\}$|\S.*;$", line)}
+    last = next((at for at in range(first, len(lines)) if ends[suffix](lines[at])), len(lines) - 1)
+    return last if lines[last].strip() else last - 1
+
+
+def block_at(lines, first, suffix):
+    """The definition or the type that begins at this line, with the comment above it."""
+    above = first
+    while lines[above - 1].strip().startswith((COMMENT[suffix], "#[")):
+        above -= 1
+    comment = [line for line in lines[above:first] if not line.strip().startswith("#[")]
+    return "\n".join(comment + lines[first : last_line_of(lines, first, suffix) + 1])
+
+
+@functools.cache
+def blocks_of(path):
+    """The definitions of a file of definitions, or the types of a source file, by their names."""
+    begins, lines = {".antt": DEFINITION, ".rt": TYPE}[path.suffix], lines_of(path)
+    found = ((at, begins.match(line)) for at, line in enumerate(lines))
+    return {name[1]: block_at(lines, at, path.suffix) for at, name in found if name}
+
+
+def without_ghosts(text):
+    """A type without what the checker proves of each of its values; a trait keeps its ghost words."""
+    return GHOST_FIELD.sub("", text)
+
+
+def ghosts_of(text):
+    """The names of what the checker proves of each value of a type."""
+    return GHOST_FIELD.findall(text)
+
+
+def code_of(text, suffix):
+    """A block without its comments and blank lines."""
+    return "\n".join(line for line in text.splitlines() if counts_as_line(line, suffix))
+
+
+def parts_of(text):
+    """A struct without comments as its first line, and the names and types of its fields; another
+    block is whole, with no field."""
+    found, lines = [], text.splitlines()
+    if not STRUCT.match(text):
+        return text, []
+    for line in lines[1:-1]:
+        if begins := FIELD.match(line):
+            found.append(begins.groups())
+        else:
+            found[-1] = (found[-1][0], f"{found[-1][1]} {line.strip()}")
+    return lines[0], found
