@@ -51,26 +51,26 @@ def clauses_at(lines, at):
     return found
 
 
-def function_at(lines, first, owner):
-    """The function that begins at this line."""
+def function_at(lines, first, header):
+    """The function that begins at this line, in what begins with this header, if in anything."""
     begins, last = FUNCTION.match(lines[first]), first
     while not lines[last].endswith(("{", ";")) and not CLAUSE.match(lines[last + 1]):
         last += 1
     signature = "\n".join(lines[first : last + 1]).rstrip("{; \n")
-    return Function(owner, begins[2], bool(begins[1]), signature, tuple(clauses_at(lines, last + 1)))
+    owner = header and OWNER.match(header)[1]
+    is_public = bool(begins[1]) or (header or "").startswith("pub trait")
+    return Function(owner, begins[2], is_public, signature, tuple(clauses_at(lines, last + 1)))
 
 
 @functools.cache
 def functions_of(path):
     """The functions of a source file, each with the type or the trait that it is of, if any."""
-    lines, owner, found = lines_of(path), None, []
+    lines, header, found = lines_of(path), None, []
     for at, line in enumerate(lines):
-        if begins := OWNER.match(line):
-            owner = begins[1]
-        elif line == "}":
-            owner = None
+        if OWNER.match(line) or line == "}":
+            header = line if line != "}" else None
         elif FUNCTION.match(line):
-            found.append(function_at(lines, at, owner))
+            found.append(function_at(lines, at, header))
     return found
 
 
