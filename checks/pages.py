@@ -4,6 +4,10 @@ the gate compares with the program.
 
     python3 checks/pages.py
 
+And it looks up what docs/PROVED.md and the READMEs of the crates name in backticks: functions,
+clauses, definitions, types and files. A name that is not in the tree, or not in the file that is
+named for it, is a fault too.
+
 The gate's programs see the files of their own folders alone. So the session of the README and the
 examples of the manual are in `examples/`, each a script beside its report, and the program
 `lessons` compares what the one is answered with the other. This compares the pages with these
@@ -19,6 +23,11 @@ import sys
 from pathlib import Path
 
 TOP = Path(__file__).resolve().parent.parent
+sys.path.insert(0, str(TOP / "tools"))
+
+import contracts
+from program import CRATES
+
 EXAMPLES = TOP / "crates" / "lessons" / "data"
 REHEARSALS = TOP / "crates" / "rehearsals"
 BLOCK = re.compile(r"^( *)```(\w+)\n(.*?)^ *```$", re.MULTILINE | re.DOTALL)
@@ -144,5 +153,58 @@ def main():
     return 1 if wrong else 0
 
 
+# ---- Names ---------------------------------------------------------------------------------------
+
+QUOTED = re.compile(r"`([^`]+)`")
+CITED = re.compile(r"((?:`[^`]+`|[^`()|])+)\(`([\w/]+\.\w+)`\)")  # what a row cites, and of which file
+NAME = re.compile(r"(?:\w+::)*([A-Za-z_]\w+)")
+FILE = re.compile(r"[\w.-]*/[\w./-]*|\w+\.(?:rt|antt|py|md)")
+
+
+def missing_of(line):
+    """What a row cites, as `name`: `label` (`file`), and the file doesn't have."""
+    for cited, file in CITED.findall(line) if line.startswith("|") else []:
+        path = CRATES / file
+        for part in cited.split(";") if path.is_file() else []:
+            names, _, labels = part.partition("`: `")
+            for name in QUOTED.findall(f"{names}`"):
+                there = contracts.labels_of(path, name)
+                if there is None:
+                    yield f"{name} in {file}"
+                else:
+                    yield from (f"{it} of {name}" for it in QUOTED.findall(f"`{labels}") if it not in there)
+
+
+def unknown_in(page, line, names):
+    """The files and the names of a line that are not in the tree."""
+    for word in QUOTED.findall(line):
+        name = NAME.fullmatch(re.sub("<.*>", "", word))
+        if name:
+            is_there = name[1] in names
+        elif FILE.fullmatch(word) and "/" in word:
+            places = [TOP / word, CRATES / word, *page.parent.rglob(word)]
+            is_there = word.strip("/") in names or any(place.exists() for place in places)
+        else:
+            is_there = word in names or not FILE.fullmatch(word)
+        if not is_there:
+            yield word
+
+
+def check_names():
+    """Prints each name on docs/PROVED.md and the READMEs of the crates that is not in the tree, or not
+    in the file that is named for it; returns the exit status."""
+    names = {name for path in CRATES.rglob("*") for name in contracts.names_in(path)}
+    names |= {"ensures", "requires", *re.findall(r"\w+", (TOP / "crates.txt").read_text(encoding="utf-8"))}
+    pages, wrong = [TOP / "docs" / "PROVED.md", *sorted(CRATES.glob("*/README.md"))], 0
+    for page in pages:
+        for number, line in enumerate(page.read_text(encoding="utf-8").splitlines(), 1):
+            for name in [*missing_of(line), *unknown_in(page, line, names)]:
+                print(f"WRONG {page.relative_to(TOP)}:{number}: no {name}")
+                wrong += 1
+    if not wrong:
+        print(f"ok    the names of {len(pages)} pages")
+    return 1 if wrong else 0
+
+
 if __name__ == "__main__":
-    sys.exit(main())
+    sys.exit(max(main(), check_names()))

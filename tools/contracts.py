@@ -1,7 +1,8 @@
 """The contracts, definitions and types of the crates, read off the layout that `rt fmt` gives.
 
 `functions_of` gives the functions of a source file, each with its clauses, and `blocks_of` the
-definitions of a file of definitions, or the types and constants of a source file.
+definitions of a file of definitions, or the types and constants of a source file. `labels_of` and
+`names_in` are for pages that name these.
 """
 
 import collections
@@ -21,6 +22,8 @@ DEFINITION = re.compile(r" *(?:(?:abbrev|unfoldable) (?:pub )?|pub (?:record|dat
 TYPE = re.compile(r"(?:pub(?:\(\w+\))? )?(?:struct|enum|trait|const|type) (?!fn )(\w+)")
 STRUCT = re.compile(r"(?:pub(?:\(\w+\))? )?struct .*\{$", re.MULTILINE)
 FIELD = re.compile(r" {4}(?:pub(?:\(\w+\))? )?(\w+): (.*)")
+MEMBER = re.compile(r"^ +(?:pub |ghost )?(\w+)(?: ?:|,$|[({]| \{)", re.MULTILINE)  # of a type or a record
+OTHER = re.compile(r"^pub (\w+) :|\bconst (\w+):|^ *(?:pub |ghost )*use (.*)", re.MULTILINE)
 GHOST_FIELD = re.compile(r"^(?: *//.*\n)* {4}ghost (\w+): \{.*\},\n", re.MULTILINE)
 
 
@@ -129,3 +132,32 @@ def parts_of(text):
         else:
             found[-1] = (found[-1][0], f"{found[-1][1]} {line.strip()}")
     return lines[0], found
+
+
+# ---- Names ---------------------------------------------------------------------------------------
+
+
+def labels_of(path, name):
+    """The labels of what a file promises under a name: a function's clauses, a type's ghost fields, a
+    record's fields; none if the file has no such name."""
+    owner, _, short = name.rpartition("::")
+    named = [it for it in functions_of(path) if it.name == short and owner in ("", "laws", it.owner)]
+    text = blocks_of(path).get(short)
+    if named:
+        return {clause.label for it in named for clause in it.clauses}
+    return None if text is None else set(MEMBER.findall(text))
+
+
+def names_in(path):
+    """The names that a file of a crate has: its own, those of functions, clauses, definitions, lemmas,
+    types and their members, and what it imports."""
+    found = {path.stem, *path.relative_to(CRATES).parts}
+    if path.suffix == ".rt":
+        for function in functions_of(path):
+            found |= {function.name, *(clause.label for clause in function.clauses)}
+    if path.suffix in COMMENT:
+        for name, text in blocks_of(path).items():
+            found |= {name, *MEMBER.findall(text)}
+        others = OTHER.findall("\n".join(lines_of(path)))
+        found |= {word for names in others for word in re.findall(r"\w+", " ".join(names))}
+    return found
