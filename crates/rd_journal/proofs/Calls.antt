@@ -1,5 +1,5 @@
 -- What the calls of a session answer, over its journal.
-use Rattle.std.proofs.Common.{◌≡◌, ℕ, zero, suc, ◌+◌, ◌-◌, ◌<◌, ◌≤◌, ◌⊎◌, refl, sym, ◌∙◌, ap, subst, List, [], ◌∷◌, ◌++◌, length, get_or, ok_or, Result, Ok, Err, arith, ne_eqb, length-append}
+use Rattle.std.proofs.Common.{◌≡◌, ℕ, zero, suc, ◌+◌, ◌-◌, ◌<◌, ◌≤◌, ◌⊎◌, refl, sym, ◌∙◌, ap, subst, List, [], ◌∷◌, ◌++◌, length, get_or, ok_or, Result, Ok, Err, IsOk, arith, ne_eqb, length-append}
 use Rattle.rd_journal.proofs.Prelude.{result_map, cond-false, map-append, length-map, take-map, slice_get_past, slice_get-get_or, Refusal, NoSuchStep, Stepped, step, IsWellFormed, MOST_STEPS, Event, Entry, Journal, events, IsRun, entry_of, IsSession, HasRoom, State, state_of, with_event, apply, back_one, forward_one, times, undo, redo, back, forward, IsLengthened, IsMovedBack, IsBeforeLast}
 use Rattle.rd_journal.proofs.Runs.{step_event, start_stays, now_formed, grown}
 
@@ -80,6 +80,13 @@ same_session R old new before after session same more =
 applied : (R : ℕ) (j : Journal) (e : Event) (r : Result Stepped Refusal) → IsRun R j → length j.live < MOST_STEPS → step R j.world e ≡ r
     → apply R (state_of j) e ≡ result_map (λ stepped. with_event (state_of j) e) r
 applied R j e r runs less k = grind (arith, live_len, cond-false, ne_eqb)
+
+mapped_ok : {X Y : Type 0} (f : X → Y) (r : Result X Refusal) → IsOk r → IsOk (result_map f r)
+mapped_ok f r ok = grind arith
+
+-- where the step goes, so does the event
+pub applies : (R : ℕ) (j : Journal) (e : Event) → IsRun R j → length j.live < MOST_STEPS → IsOk (step R j.world e) → IsOk (apply R (state_of j) e)
+applies R j e runs less ok = rw (applied R j e (step R j.world e) runs less refl) (mapped_ok (λ (stepped : Stepped). with_event (state_of j) e) (step R j.world e) ok)
 
 pub apply_refused : (R : ℕ) (j : Journal) (e : Event) (refusal : Refusal) → IsRun R j → length j.live < MOST_STEPS → step R j.world e ≡ Err refusal
     → apply R (state_of j) e ≡ Err refusal

@@ -1,14 +1,15 @@
 -- The code's session, as its journal, as its state, and with its track, its room and its index:
 -- what public clauses cite.
-use Rattle.std.specs.Prelude.{ℕ, List, ◌++◌}
-use Rattle.rd_step.specs.Prelude.{model, room as world_room}
+use Rattle.std.specs.Prelude.{◌≡◌, ◌⊎◌, ℕ, List, ◌++◌, Err}
+use Rattle.rd_step.specs.Prelude.{Refusal, NoMemory, model, room as world_room}
 use Rattle.rd_depend.specs.declared.index.DependIndex.{DependIndex}
 use Rattle.rd_journal.specs.declared.sessions.Session.{Session}
 use Rattle.rd_step.specs.declared.entries.Event.{Event}
 use Rattle.rd_journal.specs.Journal.{Journal, events}
 use Rattle.rd_journal.specs.Kept.{journal_of}
 use Rattle.rd_journal.specs.Entries.{ahead_entries, entries_capacity}
-use Rattle.rd_journal.specs.State.{State, state_of}
+use Rattle.rd_journal.specs.Room.{IsOutOfMemory}
+use Rattle.rd_journal.specs.State.{State, state_of, apply}
 
 -- the session's world and entries
 abbrev pub journal : {R : ℕ} → Session R → Journal
@@ -35,3 +36,8 @@ capacity s = entries_capacity s.entries
 -- the session's index of dependants: that of the live steps and, after them, of those ahead
 abbrev pub index : {R : ℕ} → Session R → DependIndex
 index s = s.index
+
+-- a session may refuse an event so: as the event is refused in its state, or for lack of memory
+-- where room is missing
+abbrev pub MayRefuse : {R : ℕ} → Session R → Event → Refusal → Type 0
+MayRefuse {R} s e refusal = (apply R (state s) e ≡ Err refusal) ⊎ ((refusal ≡ NoMemory) × IsOutOfMemory R (journal s) (capacity s) (room s) (index s) e)

@@ -1,6 +1,6 @@
 -- What a session is to its callers: a start world, the live events and the undone events. It has no
 -- entry, no old word and no position in a run, and its definitions use only the run of a list.
-use Rattle.std.specs.Prelude.{ℕ, zero, suc, Bool, ◌-◌, ◌==◌, nat_lt, if◌then◌else◌, List, [], ◌∷◌, ◌++◌, length, take, drop, Option, Some, None, option_and_then, Result, Ok, Err}
+use Rattle.std.specs.Prelude.{◌≡◌, ◌⊎◌, ℕ, zero, suc, Bool, ◌-◌, ◌<◌, ◌==◌, nat_lt, if◌then◌else◌, List, [], ◌∷◌, ◌++◌, length, take, drop, Option, Some, None, option_and_then, Result, Ok, Err, IsOk}
 use Rattle.std.specs.Result.{result_ok}
 use Rattle.rd_step.specs.Prelude.{Refusal, TooLong, NothingToUndo, NothingToRedo, NoSuchStep, Depended, OpReply, World, Stepped, step, Ran, run, first_dependant, without, closure, marked, unmarked, MOST_STEPS, and_then, result_map}
 use Rattle.rd_step.specs.declared.entries.Event.{Event}
@@ -37,6 +37,12 @@ with_event s e = record { start = s.start; live = s.live ++ e ∷ []; undone = [
 abbrev pub apply : ℕ → State → Event → Result State Refusal
 apply R s e =
     if length s.live == MOST_STEPS then Err TooLong else result_map (λ stepped. with_event s e) (step_after R (run_of R s) e)
+
+-- memory may be refused to an event in this state: fewer steps are live than may be, and either none
+-- is undone or nothing else refuses the event
+pub record MayLackMemory (R : ℕ) (s : State) (e : Event) : Type 0 where
+  pub not_full : length s.live < MOST_STEPS
+  pub asked : (s.undone ≡ []) ⊎ IsOk (apply R s e)
 
 -- the state where the last of live became the front of undone, if there was one
 abbrev pub back_one : State → State

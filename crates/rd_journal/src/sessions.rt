@@ -25,10 +25,10 @@ ghost use Rattle.std.specs.Prelude.{◌≡◌, ◌⊎◌, ◌++◌, ◌+◌, ◌
 ghost use Rattle.rd_step.specs.Prelude.{model, room as world_room, step};
 ghost use Rattle.rd_journal.specs.Journal.{events, start_of, IsRunFrom};
 ghost use Rattle.rd_journal.specs.Kept.{whole_journal, IsSession};
-ghost use Rattle.rd_journal.specs.Room.{IsOutOfMemory, ComesAfterRoom, LacksRoom};
+ghost use Rattle.rd_journal.specs.Room.{ComesAfterRoom, LacksRoom};
 ghost use Rattle.rd_depend.specs.Index.{IsIndexOf};
 ghost use Rattle.rd_journal.specs.Entries.{ahead_entries, kept_entries};
-ghost use Rattle.rd_journal.specs.State.{apply, reply_to, undo, undo_at, back, redo, forward, roll, switch};
+ghost use Rattle.rd_journal.specs.State.{apply, reply_to, MayLackMemory, undo, undo_at, back, redo, forward, roll, switch};
 ghost use Rattle.rd_journal.specs.Moves.{IsLengthened, IsMovedBack, IsMovedForward, IsBeforeLast, IsUndoneAlone, IsRunWithout, IsSwitched, IsRolledBack, IsWithoutClosure, answer_at, roll_answer};
 
 use super::entries::Entries;
@@ -71,7 +71,7 @@ impl<const R: usize> Drop for Session<R> {
 }
 
 impl<const R: usize> Session<R> {
-    ghost use Rattle.rd_journal.specs.Sessions.{journal, state, track, room, capacity, index};
+    ghost use Rattle.rd_journal.specs.Sessions.{journal, state, track, room, capacity, index, MayRefuse};
 
     /// Opens a session in a world, which is its start. It takes no memory.
     pub fn open(alloc: Global, world: World<R>) -> Session<R>
@@ -105,9 +105,8 @@ impl<const R: usize> Session<R> {
         ensures number { IfOk result (λ done. done.0 ≡ length (journal self.new).live) }
         ensures reply { IfOk result (λ done. reply_to R (state self.old) event ≡ done.1.reply) }
         ensures err { IfErr result (λ refusal. (apply R (state self.old) event ≡ Err refusal)
-            ⊎ ((refusal ≡ Refusal.NoMemory) × (length (state self.old).live < MOST_STEPS))) }
-        ensures memory { IfErr result (λ refusal. (apply R (state self.old) event ≡ Err refusal)
-            ⊎ ((refusal ≡ Refusal.NoMemory) × IsOutOfMemory R (journal self.old) (capacity self.old) (room self.old) (index self.old) event)) }
+            ⊎ ((refusal ≡ Refusal.NoMemory) × MayLackMemory R (state self.old) event)) }
+        ensures memory { IfErr result (MayRefuse self.old event) }
         ensures order { IfErr result (λ refusal. ComesAfterRoom (length (journal self.new).live) (capacity self.new) refusal) }
         ensures unchanged { OnErr result (journal self.new ≡ journal self.old) }
         ensures track { OnErr result (track self.new ≡ track self.old) }

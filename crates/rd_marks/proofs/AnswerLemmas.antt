@@ -1,7 +1,7 @@
 -- What moves, events and marks are answered, from what the calls say of their results.
-use Rattle.std.proofs.Common.{◌≡◌, ◌⊎◌, ◌<◌, ℕ, inl, inr, sym, ap, ◌∙◌, subst, arith, List, length, Option, Result, Ok, Err, OnOk, OnErr, IfErr}
+use Rattle.std.proofs.Common.{◌≡◌, ◌⊎◌, ℕ, inl, inr, sym, ap, ◌∙◌, subst, arith, List, length, Option, Result, Ok, Err, OnOk, OnErr, IfErr}
 use Rattle.std.specs.Result.{IsErrAnd}
-use Rattle.rd_marks.proofs.Prelude.{Refusal, NoMemory, OpReply, World, Event, Entry, IsPrefix, MOST_STEPS, Session, state, track, Journal, journal, State, state_of, apply, reply_to, lists_in, here_in, AreRuns, events, Mark, BookState, with_session, Answered, answer_with, move_answer, Happened, length-map}
+use Rattle.rd_marks.proofs.Prelude.{Refusal, NoMemory, OpReply, World, Event, Entry, IsPrefix, Session, state, track, Journal, journal, State, MayLackMemory, state_of, apply, reply_to, lists_in, here_in, AreRuns, events, Mark, BookState, with_session, Answered, answer_with, move_answer, Happened, length-map}
 use Rattle.rd_marks.specs.Commands.{step_counts}
 use Rattle.rd_marks.specs.declared.replies.Reply.{Reply}
 use Rattle.rd_marks.specs.declared.replies.Reply.TheVariants.{Applied}
@@ -46,7 +46,7 @@ module _ (R : ℕ) (old new : Journal) (marks : List Mark) (e : Event) where
 
   -- the answer to an event that was refused
   pub event_refused : (answer : Result Reply Refusal) (refusal : Refusal) → new ≡ old → IsErrAnd answer (λ e. e ≡ refusal)
-      → (apply R (state_of old) e ≡ Err refusal) ⊎ ((refusal ≡ NoMemory) × (length (state_of old).live < MOST_STEPS))
+      → (apply R (state_of old) e ≡ Err refusal) ⊎ ((refusal ≡ NoMemory) × MayLackMemory R (state_of old) e)
       → Happened R before e (record { answer = answer; state = record { session = state_of new; marks = marks } })
   event_refused answer refusal same is (inl h) =
       inl ((λ i. record { answer = passed_up refusal answer is i; state = record { session = state_of (same i); marks = marks } }) ∙ sym (ap of_step h))

@@ -1,7 +1,8 @@
 -- No command moves the start, and a refused one changes nothing.
-use Rattle.std.proofs.Common.{◌≡◌, ℕ, sym, subst, List, [], ◌∷◌, ◌++◌, length, Some, Result, Ok, OnErr, arith}
+use Rattle.std.proofs.Common.{◌≡◌, ℕ, sym, subst, List, [], ◌∷◌, ◌++◌, length, Some, None, Result, Ok, Err, OnErr, IfErr, ◌∙◌, arith}
 use Rattle.std.proofs.lemmas.Option.{same_Some}
-use Rattle.rd_marks.proofs.Prelude.{Refusal, Event, State, apply, reply_to, undo, undo_at, roll, back, redo, forward, Command, BookState, MarkName, with_session, goto_mark, Answered, answer_with, move_answer, query_answer, happens, Happened, IsMade, NeedsNoMemory, IsObeyed, AreObeyed}
+use Rattle.rd_journal.specs.Sessions.{MayRefuse}
+use Rattle.rd_marks.proofs.Prelude.{Refusal, Event, Session, State, apply, reply_to, undo, undo_at, roll, back, redo, forward, Command, BookState, MarkName, with_session, goto_mark, Answered, answer_with, move_answer, query_answer, happens, Happened, IsMade, NeedsNoMemory, IsObeyed, AreObeyed}
 use Rattle.rd_marks.specs.declared.commands.Command.TheVariants.{Enq, Deq, ArrayEnq, ArrayDeq, Go, Starve, Undo, UndoAt, Roll, Back, Redo, Forward, Mark as MarkAs, DropMark, GotoMark, Marks, MarkAt, Same, Origin, Writer, Show, Actor, Step, Len}
 use Rattle.rd_marks.specs.declared.replies.Reply.{Reply}
 use Rattle.rd_marks.specs.declared.replies.Reply.TheVariants.{Applied}
@@ -90,3 +91,15 @@ one_more_obeyed R b m t (x ∷ xs) (y ∷ ys) c answer h k = (h.0, h.1, one_more
 -- an event sets no mark
 pub event_needs : (b : BookState) (room : ℕ) (c : Command) (e : Event) → as_event c ≡ Some e → NeedsNoMemory b room c → ⊥
 event_needs b room c e is needs = grind arith
+
+-- Memory refused to a command that is an event, and to no other
+
+pub refused_event : {R : ℕ} {X : Type 0} (r : Result X Refusal) (s : Session R) (c : Command) (e : Event) → as_event c ≡ Some e → IfErr r (MayRefuse s e)
+    → IfErr r (λ refusal. (f : Event) → as_event c ≡ Some f → MayRefuse s f refusal)
+refused_event (Ok x) s c e is h = tt
+refused_event (Err refusal) s c e is h = λ f its. subst (λ (x : Event). MayRefuse s x refusal) (same_Some e f (sym is ∙ its)) h
+
+pub no_event_refused : {R : ℕ} {X : Type 0} (r : Result X Refusal) (s : Session R) (c : Command) → as_event c ≡ None
+    → IfErr r (λ refusal. (f : Event) → as_event c ≡ Some f → MayRefuse s f refusal)
+no_event_refused (Ok x) s c none = tt
+no_event_refused (Err refusal) s c none = λ f its. absurd (cc)

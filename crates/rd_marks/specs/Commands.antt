@@ -1,10 +1,10 @@
 -- What each command answers and leaves, by the state of the book alone. The queries look at the run
 -- of the live events; there is no inverse and no old content here.
 use Rattle.std.specs.Prelude.{◌≡◌, ℕ, ◌<◌, ◌⊎◌, Bool, List, [], ◌∷◌, length, ok_or, Result, Ok, Err, IsOk}
-use Rattle.rd_step.specs.Prelude.{Refusal, NoActor, NoSuchPlace, NoSuchStep, NoMemory, content_at, Act, Ran, MOST_STEPS, numbered, and_then, result_map}
+use Rattle.rd_step.specs.Prelude.{Refusal, NoActor, NoSuchPlace, NoSuchStep, NoMemory, content_at, Act, Ran, numbered, and_then, result_map}
 use Rattle.rd_actor.specs.declared.actors.Act.TheVariants.{Enq as CallsEnq, Deq as CallsDeq, AEnq as CallsArrayEnq, ADeq as CallsArrayDeq, Go as GoesOn, Starve as Starves}
 use Rattle.rd_step.specs.declared.entries.Event.{Event}
-use Rattle.rd_journal.specs.State.{State, run_of, apply, reply_to, undo, undo_at, roll, back, redo, forward}
+use Rattle.rd_journal.specs.State.{State, run_of, apply, reply_to, MayLackMemory, undo, undo_at, roll, back, redo, forward}
 use Rattle.rd_origin.specs.Origins.{origin_in}
 use Rattle.rd_origin.specs.Writers.{last_writer_in}
 use Rattle.rd_marks.specs.declared.names.MarkName.{MarkName}
@@ -57,10 +57,10 @@ query_reply R b reply look = result_map reply (and_then (run_of R b.session) loo
 abbrev pub happens : ℕ → BookState → Event → Answered
 happens R b e = answer_with b (λ s. Applied (length s.live) (reply_to R b.session e)) (with_session b) (apply R b.session e)
 
--- an event may be answered so and leave this state: as it happens, or, where fewer steps are live
--- than may be, by NoMemory with nothing changed
+-- an event may be answered so and leave this state: as it happens, or, where memory may be refused
+-- to it, by NoMemory with nothing changed
 abbrev pub Happened : ℕ → BookState → Event → Answered → Type 0
-Happened R b e answered = (answered ≡ happens R b e) ⊎ ((length b.session.live < MOST_STEPS) × (answered ≡ refused b NoMemory))
+Happened R b e answered = (answered ≡ happens R b e) ⊎ (MayLackMemory R b.session e × (answered ≡ refused b NoMemory))
 
 -- setting or going to a mark may be answered so and leave this state: as it is defined, or, only if
 -- it asks for room, by NoMemory with nothing changed

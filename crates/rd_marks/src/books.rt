@@ -52,7 +52,7 @@ impl<const R: usize> Drop for Book<R> {
 
 impl<const R: usize> Book<R> {
     ghost use Rattle.rd_marks.specs.Beginnings.{CountsBeginnings, NeedsNoEntry};
-    ghost use Rattle.rd_marks.specs.BookViews.{book_state, name_room};
+    ghost use Rattle.rd_marks.specs.BookViews.{book_state, session_of, name_room};
     ghost use Rattle.rd_marks.specs.Rules.{KeepsRules};
     ghost use Rattle.rd_marks.specs.Books.{marked_events, mark, drop_mark, goto_mark, mark_at, MakesSteps, AnswersSame};
 
@@ -71,6 +71,7 @@ impl<const R: usize> Book<R> {
     /// Returns the session of the book.
     pub fn session(&self) -> &Session<R>
         ensures state { state result.now ≡ (book_state self.now).session }
+        ensures value { result.now ≡ session_of self.now }
     {
         &self.session
     }

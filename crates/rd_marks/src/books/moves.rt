@@ -1,6 +1,7 @@
 //! Events, undos and redos as commands: the call of the session, and its answer.
 
 ghost use Rattle.std.specs.Prelude.{◌≡◌, Ok, Err, OnOk, IfErr};
+ghost use Rattle.rd_journal.specs.Sessions.{MayRefuse};
 
 use super::super::replies::Reply;
 use super::Book;
@@ -9,13 +10,14 @@ use rd_step::Event;
 
 impl<const R: usize> Book<R> {
     ghost use Rattle.rd_journal.specs.State.{undo, undo_at, roll, back, redo, forward};
-    ghost use Rattle.rd_marks.specs.BookViews.{book_state};
+    ghost use Rattle.rd_marks.specs.BookViews.{book_state, session_of};
     ghost use Rattle.rd_marks.specs.Commands.{Happened, move_answer, step_counts};
 
     /// Makes an event happen. Returns the number of its step, and the reply of the call that it
     /// ends, if it ends one.
     pub(super) fn answer_event(&mut self, event: Event) -> Result<Reply, Refusal>
-        ensures { Happened R (book_state self.old) event (record { answer = result; state = book_state self.new }) }
+        ensures happens { Happened R (book_state self.old) event (record { answer = result; state = book_state self.new }) }
+        ensures memory { IfErr result (MayRefuse (session_of self.old) event) }
     {
         let (step, entry) = self.session.apply(event)?;
         self.bookmarks.cut_here(step as usize - 1);

@@ -1,6 +1,8 @@
 //! A book obeys commands: each call of a book and of its session as one value, and lists of them.
 
-ghost use Rattle.std.specs.Prelude.{◌≡◌, [], None, IsOk, OnErr, IfOk, IfErr};
+ghost use Rattle.std.specs.Prelude.{◌≡◌, [], None, Some, IsOk, OnErr, IfOk, IfErr};
+ghost use Rattle.rd_step.specs.declared.entries.Event.{Event as Happening};
+ghost use Rattle.rd_journal.specs.Sessions.{MayRefuse};
 
 use super::super::commands::Command;
 use super::super::replies::Reply;
@@ -9,7 +11,7 @@ use rd_cell::Refusal;
 use std::alloc::Global;
 
 impl<const R: usize> Book<R> {
-    ghost use Rattle.rd_marks.specs.BookViews.{book_state, name_room};
+    ghost use Rattle.rd_marks.specs.BookViews.{book_state, session_of, name_room};
     ghost use Rattle.rd_marks.specs.Commands.{IsObeyed, AreObeyed, NeedsNoMemory};
     ghost use Rattle.rd_marks.specs.Events.{as_event};
 
@@ -22,6 +24,7 @@ impl<const R: usize> Book<R> {
     pub fn obey(&mut self, command: Command) -> Result<Reply, Refusal>
         ensures answer { IsObeyed R (book_state self.old) command (record { answer = result; state = book_state self.new }) }
         ensures succeeds { NeedsNoMemory (book_state self.old) (name_room self.old) command → IsOk result }
+        ensures memory { IfErr result (λ refusal. (event : Happening) → as_event command ≡ Some event → MayRefuse (session_of self.old) event refusal) }
         ensures start { (book_state self.new).session.start ≡ (book_state self.old).session.start }
         ensures unchanged { OnErr result (book_state self.new ≡ book_state self.old) }
     {

@@ -1,7 +1,7 @@
 use Rattle.std.proofs.Common.{◌≡◌, ◌∙◌, ◌<◌, List, ◌++◌, length, take, inl, inr, refl, sym, ap, subst, arith}
 use Rattle.rd_journal.proofs.Prelude.{append-nil, take_all, take-append-le, Entry, NoMemory, model, room, MOST_STEPS, error_passed_up, fact_passed_up, IsIndexOf, ok_then, IsLengthened, whole_journal, journal_of, live_entries, ahead_entries, journal}
 use Rattle.rd_journal.proofs.Ahead.{is_session, none_taken}
-use Rattle.rd_journal.proofs.Calls.{live_len, apply_refused, apply_goes, longer_session, same_session}
+use Rattle.rd_journal.proofs.Calls.{live_len, applies, apply_refused, apply_goes, longer_session, same_session}
 use Rattle.rd_journal.proofs.Outcomes.{err_then}
 use Rattle.rd_journal.proofs.EntryLemmas.{full_entries}
 use Rattle.rd_journal.proofs.RoomLemmas.{stepped_back}
@@ -23,8 +23,10 @@ invariant_of-self g c =
 pub returns-in_err-make_room_for-clause-err : goal.returns-in_err-make_room_for-clause-err
 returns-in_err-make_room_for-clause-err g c =
     let old = journal c.args.self.now in
-    error_passed_up _ NoMemory c.from_residual.result c.from_residual.ensures.1
-    (inr (refl, omega (arith, live_len old, c.live_len.ensures, (is_session c.args.self.now).few)))
+    error_passed_up _ NoMemory c.from_residual.result c.from_residual.ensures.1 (inr (refl, record {
+      not_full = omega (arith, live_len old, c.live_len.ensures, (is_session c.args.self.now).few);
+      asked = inl (grind (arith, full_entries, none_taken));
+    }))
 
 pub returns-in_err-make_room_for-clause-memory : goal.returns-in_err-make_room_for-clause-memory
 returns-in_err-make_room_for-clause-memory g c = grind (arith, full_entries, error_passed_up, is_session, none_taken)
@@ -58,7 +60,7 @@ returns-in_err-entry-clause-err g c =
     error_passed_up _ c.in_err-entry.field-0.0 c.from_residual-in_err-entry.result c.from_residual-in_err-entry.ensures.1 (
     elim c.in_err-entry.ensures.err [
       | inl h ↦ inl (apply_refused g.row.R old c.args.event c.in_err-entry.field-0.0 (is_session self).runs less h)
-      | inr h ↦ inr (h.0, omega (arith, less, live_len old))
+      | inr h ↦ inr (h.0, record { not_full = omega (arith, less, live_len old); asked = inr (applies g.row.R old c.args.event (is_session self).runs less h.1.0) })
     ])
 
 pub returns-in_err-entry-clause-memory : goal.returns-in_err-entry-clause-memory
@@ -104,6 +106,13 @@ invariant_of-self-then-is_err g c =
       within = omega (arith, self.within, ap length c.make_room_for.ensures.ahead);
       indexed = err_then c.index_instead.result (sym c.is_err.ensures.value ∙ c.if-is_err.true) c.index_instead.ensures.err;
     }
+
+pub returns-then-is_err-clause-err : goal.returns-then-is_err-clause-err
+returns-then-is_err-clause-err g c =
+    let self = c.args.self.now in
+    let old = journal self in
+    let less : length old.live < MOST_STEPS = omega (arith, c.live_len.ensures, self.kept.few) in
+    inr (refl, record { not_full = omega (arith, less, live_len old); asked = inr (applies g.row.R old c.args.event (is_session self).runs less (grind (arith, c.in_ok-entry.ensures.ok))) })
 
 pub returns-then-is_err-clause-unchanged : goal.returns-then-is_err-clause-unchanged
 returns-then-is_err-clause-unchanged g c =

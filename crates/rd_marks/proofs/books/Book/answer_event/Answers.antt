@@ -3,6 +3,7 @@ use Rattle.rd_marks.proofs.Prelude.{ahead_entries, journal, state, events, marks
 use Rattle.rd_marks.proofs.Here.{track_cut, added_leaves}
 use Rattle.rd_marks.proofs.AnswerLemmas.{event_made, event_refused}
 use Rattle.rd_marks.proofs.Starts.{apply_start, start_stays, runs_stay}
+use Rattle.rd_step.proofs.PassedUp.{error_passed_up}
 use Rattle.rd_marks.proofs.books.Book.answer_event.Goals as goal
 
 pub invariant_of-self : goal.invariant_of-self
@@ -24,12 +25,15 @@ invariant_of-self-2 g c =
           (added_leaves _ c.in_ok-step.entry old (journal c.apply.new.self) refl c.in_ok-step.ensures.entries);
     }
 
-pub returns-in_err-step : goal.returns-in_err-step
-returns-in_err-step g c =
+pub returns-in_err-step-clause-happens : goal.returns-in_err-step-clause-happens
+returns-in_err-step-clause-happens g c =
     event_refused g.row.R (journal c.args.self.now.session) (journal c.apply.new.self) (marks_of (lists_in c.args.self.now.bookmarks)) c.args.event
     c.from_residual.result _ c.in_err-step.ensures.unchanged c.from_residual.ensures.1 c.in_err-step.ensures.err
 
-pub returns : goal.returns
-returns g c =
+pub returns-clause-happens : goal.returns-clause-happens
+returns-clause-happens g c =
     event_made g.row.R (journal c.args.self.now.session) (journal c.apply.new.self) (marks_of (lists_in c.args.self.now.bookmarks)) c.args.event
     _ c.in_ok-step.step c.in_ok-step.entry.reply c.in_ok-step.ensures.ok c.in_ok-step.ensures.number c.in_ok-step.ensures.reply (ap marks_of c.cut_here.ensures.lists)
+
+pub returns-in_err-step-clause-memory : goal.returns-in_err-step-clause-memory
+returns-in_err-step-clause-memory g c = error_passed_up _ c.in_err-step.field-0.0 c.from_residual.result c.from_residual.ensures.1 c.in_err-step.ensures.memory
