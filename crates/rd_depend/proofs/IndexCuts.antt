@@ -1,6 +1,6 @@
 -- The positions above a number taken out of all lists: the index is then that of the first entries.
-use Rattle.std.proofs.Common.{◌≡◌, ℕ, zero, suc, ◌+◌, ◌<◌, ◌≤◌, Bool, List, [], ◌∷◌, length, get_or, ◌++◌, take, drop, refl, ap, arith}
-use Rattle.rd_depend.proofs.Prelude.{nat_tests, length-take-le, take-append-drop, Entry, DependIndex, AscendsFrom, up_to, Touch, positions_from, number_of, touches, capacity, IsIndexOf, HasRoomFor, CutsAll}
+use Rattle.std.proofs.Common.{◌≡◌, ℕ, zero, suc, ◌+◌, ◌<◌, ◌≤◌, Bool, List, [], ◌∷◌, length, get_or, take, drop, refl, ap, arith}
+use Rattle.rd_depend.proofs.Prelude.{nat_tests, length-take-le, take-append-drop, Entry, DependIndex, AscendsFrom, up_to, Touch, positions_from, number_of, touches, capacity, IsIndexOf, GivesRoom, CutsAll}
 use Rattle.rd_depend.proofs.IndexPositions.{positions-ascend, number-append}
 use Rattle.rd_depend.proofs.IndexFirst.{kept-ascends}
 use Rattle.rd_depend.proofs.IndexRoom.{room_stays}
@@ -37,18 +37,14 @@ positions-up_to test n m (suc k) (x ∷ xs) h = grind (arith, positions-up_to te
 pub cut_index : (old new : DependIndex) (n : ℕ) → CutsAll n old new → n < old.len → (es : List Entry) → IsIndexOf old es → IsIndexOf new (take n es)
 cut_index old new n cuts less es is = grind (arith, kept-ascends, positions-up_to, length-take-le)
 
--- where the first entries are left, in lists that can have as many as before, there is room for the
--- others
-pub cut_room : (old new : DependIndex) (n : ℕ) (es rest : List Entry) → IsIndexOf old es → IsIndexOf new (take n es) → ((t : Touch) → capacity new t ≡ capacity old t)
-    → HasRoomFor old rest → HasRoomFor new (drop n es ++ rest)
-cut_room old new n es rest was is stays has = record {
-  lists = λ t.
-      omega (
-        arith,
-        has.lists t,
-        room_stays old new es (take n es) was is stays t,
-        ap (number_of (touches t)) (take-append-drop n es),
-        number-append (touches t) (take n es) (drop n es),
-        number-append (touches t) (drop n es) rest,
-      );
-}
+-- where the first entries are left, in lists that can have as many as before, the others have given
+-- their room back
+pub cut_room : (old new : DependIndex) (n : ℕ) (es : List Entry) → IsIndexOf old es → IsIndexOf new (take n es) → ((t : Touch) → capacity new t ≡ capacity old t)
+    → GivesRoom old new (drop n es)
+cut_room old new n es was is stays = λ t.
+    omega (
+      arith,
+      room_stays old new es (take n es) was is stays t,
+      ap (number_of (touches t)) (take-append-drop n es),
+      number-append (touches t) (take n es) (drop n es),
+    )

@@ -1,7 +1,7 @@
 -- A position moved after others in all lists: the index is then that of the entries with that one
 -- moved, and has the same room.
 use Rattle.std.proofs.Common.{◌≡◌, ℕ, suc, ◌+◌, ◌-◌, ◌≤◌, Bool, List, [], ◌∷◌, ◌++◌, length, take, drop, Some, refl, sym, ap, subst, ◌∙◌, append_assoc, arith, length-append, length-drop}
-use Rattle.rd_depend.proofs.Prelude.{drop_of_length-le, length-take-le, take_all, take-append-drop, drop-drop, Entry, numbered, without, DependIndex, IsMoved, positions_from, positions, number_of, touches, kept, IsIndexOf, HasRoomFor, MovesAll}
+use Rattle.rd_depend.proofs.Prelude.{drop_of_length-le, length-take-le, take_all, take-append-drop, drop-drop, Entry, numbered, without, DependIndex, IsMoved, positions_from, positions, number_of, touches, kept, IsIndexOf, GivesRoom, MovesAll}
 use Rattle.rd_depend.specs.Lists.{with_first}
 use Rattle.rd_depend.specs.Moved.{moved_behind}
 use Rattle.rd_depend.proofs.IndexPositions.{positions-ascend, ascending, positions-within, positions-append, positions-lower, number-append}
@@ -81,16 +81,13 @@ moved_index old new k n some order within moves es is =
     }
 
 pub moved_room : (old new : DependIndex) (k n : ℕ) → 1 ≤ k → k ≤ n → n ≤ old.len → MovesAll k n old new → (es : List Entry) → IsIndexOf old es
-    → (rest : List Entry) → HasRoomFor old rest → HasRoomFor new rest
-moved_room old new k n some order within moves es is rest has = record {
-  lists = λ t.
-      omega (
-        arith,
-        has.lists t,
-        room_stays old new es (moved_behind es k n) is (moved_index old new k n some order within moves es is) moves.capacity_stays t,
-        number-moved (touches t) es k n (cut es k n some order (omega arith)),
-      );
-}
+    → GivesRoom old new []
+moved_room old new k n some order within moves es is = λ t.
+    omega (
+      arith,
+      room_stays old new es (moved_behind es k n) is (moved_index old new k n some order within moves es is) moves.capacity_stays t,
+      number-moved (touches t) es k n (cut es k n some order (omega arith)),
+    )
 
 -- moved after all others
 pub moved_last : (es : List Entry) (k n : ℕ) (x : Entry) → n ≡ length es → numbered es k ≡ Some x → moved_behind es k n ≡ without es k ++ x ∷ []

@@ -65,6 +65,15 @@ pub record IsIndexOf (index : DependIndex) (entries : List Entry) : Type 0 where
 pub record HasRoomFor (index : DependIndex) (entries : List Entry) : Type 0 where
   pub lists : (t : Touch) → number_of (touches t) entries ≤ spare index t
 
+-- each list has room for the positions of those of the given entries that it is to keep, once those
+-- of the entries that go were taken out
+pub record HasRoomInstead (index : DependIndex) (gone given : List Entry) : Type 0 where
+  pub lists : (t : Touch) → number_of (touches t) given ≤ spare index t + number_of (touches t) gone
+
+-- positions of these entries were taken out of the index, and each list has more room by its own
+abbrev pub GivesRoom : DependIndex → DependIndex → List Entry → Type 0
+GivesRoom old new gone = (t : Touch) → spare new t ≡ spare old t + number_of (touches t) gone
+
 -- the index is that of some entries, and the last of them is this one
 pub record IsLast (index : DependIndex) (x : Entry) : Type 0 where
   pub before : List Entry

@@ -9,7 +9,7 @@ ghost use Rattle.std.specs.Prelude.{◌≡◌, ◌+◌, ◌-◌, ◌<◌, ◌≤
 ghost use Rattle.rd_step.specs.declared.entries.Entry.{Entry as SomeEntry};
 ghost use Rattle.rd_step.specs.Lists.{numbered, without};
 ghost use Rattle.rd_step.specs.Prelude.{first_dependant, depends_on_one};
-ghost use Rattle.rd_depend.specs.Index.{IsIndexOf, IsIndex, IsHeld, IsLast, HasRoomFor};
+ghost use Rattle.rd_depend.specs.Index.{Touch, IsIndexOf, IsIndex, IsHeld, IsLast, HasRoomFor, GivesRoom, capacity};
 ghost use Rattle.rd_depend.specs.Moved.{moved_behind};
 ghost use Rattle.rd_depend.specs.Writers.{last_position, writes_to};
 
@@ -84,7 +84,7 @@ impl DependIndex {
     pub fn pop(&mut self, entry: &Entry)
         requires { IsLast self.old entry.now }
         ensures left { (es : List SomeEntry) → IsIndexOf self.old (es ++ entry.now ∷ []) → IsIndexOf self.new es }
-        ensures room { (rest : List SomeEntry) → HasRoomFor self.old rest → HasRoomFor self.new (entry.now ∷ rest) }
+        ensures room { GivesRoom self.old self.new (entry.now ∷ []) }
     {
         self.drop_last(entry);
     }
@@ -95,7 +95,7 @@ impl DependIndex {
         requires held { IsHeld self.old k entry.now }
         requires few { self.old.len ≤ MOST_STEPS }
         ensures left { (es : List SomeEntry) → IsIndexOf self.old es → numbered es k ≡ Some entry.now → IsIndexOf self.new (without es k) }
-        ensures room { (rest : List SomeEntry) → HasRoomFor self.old rest → HasRoomFor self.new (entry.now ∷ rest) }
+        ensures room { GivesRoom self.old self.new (entry.now ∷ []) }
     {
         self.move_behind(k, self.len());
         self.drop_last(entry);
@@ -110,7 +110,8 @@ impl DependIndex {
         requires within { n ≤ self.old.len }
         requires few { self.old.len ≤ MOST_STEPS }
         ensures moved { (es : List SomeEntry) → IsIndexOf self.old es → IsIndexOf self.new (moved_behind es k n) }
-        ensures room { (rest : List SomeEntry) → HasRoomFor self.old rest → HasRoomFor self.new rest }
+        ensures room { GivesRoom self.old self.new [] }
+        ensures capacity { (t : Touch) → capacity self.new t ≡ capacity self.old t }
     {
         self.move_position(k as u32, n as u32);
     }
@@ -120,7 +121,7 @@ impl DependIndex {
     pub fn truncate(&mut self, n: u64)
         requires few { self.old.len ≤ MOST_STEPS }
         ensures left { (es : List SomeEntry) → IsIndexOf self.old es → IsIndexOf self.new (take n es) }
-        ensures room { (es rest : List SomeEntry) → IsIndexOf self.old es → HasRoomFor self.old rest → HasRoomFor self.new (drop n es ++ rest) }
+        ensures room { (es : List SomeEntry) → IsIndexOf self.old es → GivesRoom self.old self.new (drop n es) }
     {
         if n < self.len() {
             self.cut(n as u32);

@@ -1,12 +1,36 @@
 -- Room in the index of dependants: it is counted for each actor, place and segment, so it does not
 -- ask in which order entries are.
-use Rattle.std.proofs.Common.{List, [], ◌∷◌, ◌++◌, arith}
-use Rattle.rd_journal.proofs.Prelude.{Entry, DependIndex, touches, HasRoomFor}
+use Rattle.std.proofs.Common.{ℕ, List, [], ◌∷◌, ◌++◌, take, drop, ap, arith}
+use Rattle.rd_journal.proofs.Prelude.{take-append-drop, Entry, DependIndex, touches, number_of, GivesRoom, HasRoomFor, HasRoomInstead, LacksIndexRoom}
 use Rattle.rd_depend.proofs.IndexPositions.{number-append}
 
 -- there is room for none
 pub fits_none : (index : DependIndex) → HasRoomFor index []
 fits_none index = record { lists = λ t. omega arith }
+
+-- where entries gave their room back there is room for them, and for those for which there was
+pub fits_back : (old new : DependIndex) (gone rest : List Entry) → GivesRoom old new gone → HasRoomFor old rest → HasRoomFor new (gone ++ rest)
+fits_back old new gone rest gives has = record { lists = λ t. omega (arith, number-append (touches t) gone rest, has.lists t, gives t) }
+
+-- and for those for which there is in their place
+pub fits_instead : (old new : DependIndex) (gone given : List Entry) → GivesRoom old new gone → HasRoomInstead old gone given → HasRoomFor new given
+fits_instead old new gone given gives has = record { lists = λ t. omega (arith, has.lists t, gives t) }
+
+-- what has no room in place of more entries has none in place of the first of them
+pub lacks_fewer : (index : DependIndex) (m : ℕ) (front gone given : List Entry) → (HasRoomInstead index (front ++ gone) given → ⊥)
+    → LacksIndexRoom index (front ++ take m gone) given
+lacks_fewer index m front gone given lacks has = lacks (record {
+  lists = λ t.
+      let parts = ap (number_of (touches t)) (take-append-drop m gone) in
+      omega (
+        arith,
+        has.lists t,
+        number-append (touches t) front gone,
+        number-append (touches t) front (take m gone),
+        number-append (touches t) (take m gone) (drop m gone),
+        parts,
+      );
+})
 
 -- there is room for the first ones
 pub fits_first : (index : DependIndex) (xs ys : List Entry) → HasRoomFor index (xs ++ ys) → HasRoomFor index xs

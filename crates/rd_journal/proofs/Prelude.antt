@@ -10,7 +10,7 @@ pub use Rattle.std.specs.List.{All, count_by}
 pub use Rattle.std.specs.Vec.{vec_capacity}
 pub use borrow.Rule.Slice.PartMut.{mid_of, put_mid}
 pub use Rattle.rd_depend.proofs.IndexChanges.{not_refused, ok_then}
-pub use Rattle.rd_depend.specs.Index.{HasRoomFor, IsIndexOf, touches}
+pub use Rattle.rd_depend.specs.Index.{GivesRoom, HasRoomFor, HasRoomInstead, IsIndexOf, number_of, spare, touches}
 pub use Rattle.rd_depend.specs.Moved.{moved_behind}
 pub use Rattle.rd_depend.specs.declared.index.DependIndex.{DependIndex}
 pub use Rattle.rd_step.proofs.Inverse.{ran_on, run-cons, undoes}
@@ -34,6 +34,6 @@ pub use Rattle.rd_journal.specs.Moves.{IsBeforeLast, IsLengthened, IsMovedBack, 
 pub use Rattle.rd_journal.specs.Numbers.{IsOrder, at_numbers}
 pub use Rattle.rd_journal.specs.Entries.{ahead_entries, kept_entries, live_entries, entries_capacity}
 unfoldable pub use Rattle.rd_journal.specs.Entries.{all_entries}
-pub use Rattle.rd_journal.specs.Room.{HasRoom, HasRoomForAll, room_returned_by, room_without}
+pub use Rattle.rd_journal.specs.Room.{HasRoom, HasRoomForAll, LacksIndexRoom, room_returned_by, room_without}
 pub use Rattle.rd_journal.specs.Sessions.{journal, state}
 pub use Rattle.rd_journal.specs.State.{State, MayLackMemory, apply, back, back_one, forward, forward_one, redo, roll, run_of, state_of, switch, times, undo, undo_at, undone_alone, undone_alone_unless, undone_marked, with_event}

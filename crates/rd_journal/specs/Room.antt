@@ -1,12 +1,12 @@
 -- The room that redoing asks for, which is what undoing gave back, and when an event may be out of
 -- memory.
-use Rattle.std.specs.Prelude.{◌≡◌, ℕ, ◌+◌, ◌≤◌, ◌<◌, ◌⊎◌, IsSome, List, [], ◌∷◌, length, drop, Result, Ok}
+use Rattle.std.specs.Prelude.{◌≡◌, ℕ, ◌+◌, ◌≤◌, ◌<◌, ◌⊎◌, IsSome, List, [], ◌∷◌, ◌++◌, length, drop, Result, Ok}
 use Rattle.rd_step.specs.Prelude.{Refusal, TooLong, NoMemory, World, Stepped, step, MOST_STEPS}
 use Rattle.rd_step.specs.declared.entries.Event.{Event}
 use Rattle.rd_step.specs.declared.entries.Entry.{Entry}
 use Rattle.rd_step.specs.Room.{makes_segment, room_returned, FindsNoRoom}
 use Rattle.rd_depend.specs.declared.index.DependIndex.{DependIndex}
-use Rattle.rd_depend.specs.Index.{HasRoomFor}
+use Rattle.rd_depend.specs.Index.{HasRoomInstead}
 use Rattle.rd_journal.specs.Journal.{Journal}
 
 -- how much of m's room undoing these entries gave back
@@ -23,15 +23,15 @@ pub record HasRoom (undone : List Entry) (room : ℕ → ℕ) : Type 0 where
 pub record HasRoomForAll (w : World) (given : List Entry) (room : ℕ → ℕ) : Type 0 where
   pub at : (m : ℕ) → IsSome (w.actor m) → room_returned_by given m ≤ room m
 
--- the index has no room for all of these entries after its own
-abbrev pub LacksIndexRoom : DependIndex → List Entry → Type 0
-LacksIndexRoom index given = HasRoomFor index given → ⊥
+-- the index has no room for the given entries, even where the entries that go gave theirs back
+abbrev pub LacksIndexRoom : DependIndex → List Entry → List Entry → Type 0
+LacksIndexRoom index gone given = HasRoomInstead index gone given → ⊥
 
--- the index has no room for the entry of a step
-pub record IsNotIndexed (stepped : Result Stepped Refusal) (index : DependIndex) : Type 0 where
+-- the index has no room for the entry of a step in place of the undone ones
+pub record IsNotIndexed (stepped : Result Stepped Refusal) (undone : List Entry) (index : DependIndex) : Type 0 where
   pub after : Stepped
   pub goes : stepped ≡ Ok after
-  pub lacks : LacksIndexRoom index (after.entry ∷ [])
+  pub lacks : LacksIndexRoom index undone (after.entry ∷ [])
 
 -- memory was refused to the event, while fewer steps are live than may be: for one more entry,
 -- where none is undone and the live ones fill the room that there is; for a segment that nothing
@@ -39,7 +39,7 @@ pub record IsNotIndexed (stepped : Result Stepped Refusal) (index : DependIndex)
 pub record IsOutOfMemory (R : ℕ) (j : Journal) (capacity : ℕ) (room : ℕ → ℕ) (index : DependIndex) (e : Event) : Type 0 where
   pub not_full : length j.live < MOST_STEPS
   pub asked : ((j.undone ≡ []) × (capacity ≡ length j.live)) ⊎ FindsNoRoom (step R j.world e) (makes_segment R j.world e) (room e.actor)
-      ⊎ IsNotIndexed (step R j.world e) index
+      ⊎ IsNotIndexed (step R j.world e) j.undone index
 
 -- the refusal of the step itself is answered only where there is room for its entry
 abbrev pub ComesAfterRoom : ℕ → ℕ → Refusal → Type 0
@@ -55,6 +55,6 @@ LacksRoomForMakings given room = (m : ℕ) × (room m < room_returned_by given m
 
 -- room is missing for a switch: for the given entries after the first n, or, once the others are
 -- undone, for the makings among them at some maker, or in the index
-abbrev pub LacksRoom : ℕ → List Entry → List Entry → ℕ → (ℕ → ℕ) → DependIndex → Type 0
-LacksRoom n live given capacity room index =
-    (capacity < n + length given) ⊎ LacksRoomForMakings given (room_without (drop n live) room) ⊎ LacksIndexRoom index given
+abbrev pub LacksRoom : ℕ → Journal → List Entry → ℕ → (ℕ → ℕ) → DependIndex → Type 0
+LacksRoom n j given capacity room index =
+    (capacity < n + length given) ⊎ LacksRoomForMakings given (room_without (drop n j.live) room) ⊎ LacksIndexRoom index (drop n j.live ++ j.undone) given

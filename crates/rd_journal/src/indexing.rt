@@ -8,7 +8,7 @@
 ghost use Rattle.std.specs.Prelude.{◌++◌, ◌+◌, ◌<◌, ◌≤◌, [], List, ◌∷◌, OnOk, OnErr, length, take, drop};
 ghost use Rattle.rd_step.specs.declared.entries.Entry.{Entry as SomeEntry};
 ghost use Rattle.rd_step.specs.Prelude.{MOST_STEPS};
-ghost use Rattle.rd_depend.specs.Index.{IsIndexOf, HasRoomFor};
+ghost use Rattle.rd_depend.specs.Index.{IsIndexOf, HasRoomFor, HasRoomInstead, GivesRoom};
 ghost use Rattle.rd_journal.specs.Entries.{kept_entries};
 
 use super::entries::Entries;
@@ -38,7 +38,7 @@ pub(crate) fn index_instead(
     requires few { n + length given.now ≤ MOST_STEPS }
     ensures ok { OnOk result (IsIndexOf index.new (take n (kept_entries entries.now) ++ given.now)) }
     ensures err { OnErr result (IsIndexOf index.new (kept_entries entries.now)) }
-    ensures lacks { OnErr result (HasRoomFor index.old given.now → ⊥) }
+    ensures lacks { OnErr result (HasRoomInstead index.old (drop n (kept_entries entries.now)) given.now → ⊥) }
 {
     cut_index(index, entries, n);
     let put = index.push_all(given);
@@ -54,7 +54,7 @@ pub(crate) fn cut_index(index: &mut DependIndex, entries: &Entries, n: usize)
     requires indexed { IsIndexOf index.old (kept_entries entries.now) }
     requires within { n ≤ length (kept_entries entries.now) }
     ensures left { IsIndexOf index.new (take n (kept_entries entries.now)) }
-    ensures room { (rest : List SomeEntry) → HasRoomFor index.old rest → HasRoomFor index.new (drop n (kept_entries entries.now) ++ rest) }
+    ensures room { GivesRoom index.old index.new (drop n (kept_entries entries.now)) }
 {
     if entries.kept_len() - n > MOST_SINGLE_REMOVALS {
         index.truncate(n as u64);
@@ -68,7 +68,7 @@ fn pop_behind(index: &mut DependIndex, entries: &Entries, n: usize)
     requires indexed { IsIndexOf index.old (kept_entries entries.now) }
     requires within { n ≤ length (kept_entries entries.now) }
     ensures left { IsIndexOf index.new (take n (kept_entries entries.now)) }
-    ensures room { (rest : List SomeEntry) → HasRoomFor index.old rest → HasRoomFor index.new (drop n (kept_entries entries.now) ++ rest) }
+    ensures room { GivesRoom index.old index.new (drop n (kept_entries entries.now)) }
 {
     for last in (n..entries.kept_len()).rev() {
         index.pop(entries.kept_at(last));

@@ -21,7 +21,7 @@ mod removal;
 mod starting;
 mod switching;
 
-ghost use Rattle.std.specs.Prelude.{◌≡◌, ◌⊎◌, ◌++◌, ◌+◌, ◌<◌, ◌≤◌, [], length, take, drop, Ok, Err, IsOk, OnOk, OnErr, IfOk, IfErr};
+ghost use Rattle.std.specs.Prelude.{◌≡◌, ◌⊎◌, ◌++◌, ◌+◌, ◌≤◌, [], length, take, drop, Ok, Err, IsOk, OnOk, OnErr, IfOk, IfErr};
 ghost use Rattle.rd_step.specs.Prelude.{model, room as world_room, step};
 ghost use Rattle.rd_journal.specs.Journal.{events, start_of, IsRunFrom};
 ghost use Rattle.rd_journal.specs.Kept.{whole_journal, IsSession};
@@ -294,7 +294,7 @@ impl<const R: usize> Session<R> {
         ensures ok { OnOk result (state self.new ≡ switch (state self.old) n (events entries.now)) }
         ensures entries { OnOk result (IsSwitched n entries.now (journal self.old) (journal self.new)) }
         ensures err { IfErr result (λ refusal. (refusal ≡ Refusal.NoMemory)
-            × LacksRoom n (journal self.old).live entries.now (capacity self.old) (room self.old) (index self.old)) }
+            × LacksRoom n (journal self.old) entries.now (capacity self.old) (room self.old) (index self.old)) }
         ensures unchanged { OnErr result (journal self.new ≡ journal self.old) }
         ensures succeeds { entries.now ≡ [] → IsOk result }
         ensures capacity { n + length entries.now ≤ capacity self.old → capacity self.new ≡ capacity self.old }

@@ -36,7 +36,7 @@ impl<const R: usize> Session<R> {
         ensures makings { OnOk result (HasRoomForAll (journal self.new).world given.now
             (room_without (drop kept (journal self.new).live) (room self.new))) }
         ensures err { IfErr result (λ refusal. (refusal ≡ Refusal.NoMemory)
-            × LacksRoom kept (journal self.old).live given.now (capacity self.old) (room self.old) (index self.old)) }
+            × LacksRoom kept (journal self.old) given.now (capacity self.old) (room self.old) (index self.old)) }
         ensures succeeds { given.now ≡ [] → IsOk result }
         ensures capacity { kept + length given.now ≤ capacity self.old → capacity self.new ≡ capacity self.old }
         ensures unchanged { journal self.new ≡ journal self.old }
@@ -66,7 +66,7 @@ impl<const R: usize> Session<R> {
         requires makings { HasRoomForAll (journal self.old).world given.now (room_without (drop n (journal self.old).live) (room self.old)) }
         ensures entries { OnOk result (IsSwitched n given.now (journal self.old) (journal self.new)) }
         ensures state { OnOk result (state self.new ≡ switch (state self.old) n (events given.now)) }
-        ensures err { IfErr result (λ refusal. (refusal ≡ Refusal.NoMemory) × LacksIndexRoom (index self.old) given.now) }
+        ensures err { IfErr result (λ refusal. (refusal ≡ Refusal.NoMemory) × LacksIndexRoom (index self.old) (drop n (journal self.old).live ++ (journal self.old).undone) given.now) }
         ensures unchanged { OnErr result (journal self.new ≡ journal self.old) }
         ensures track { OnErr result (track self.new ≡ track self.old) }
         ensures capacity { capacity self.new ≡ capacity self.old }

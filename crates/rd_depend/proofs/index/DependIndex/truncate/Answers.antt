@@ -8,7 +8,7 @@ returns-then-n-len c =
     let old = c.args.self.now in
     let new = c.cut.new.self in
     let left = cut_index old new c.args.n c.cut.ensures (omega arith) in
-    record { left = left; room = λ es rest is has. cut_room old new c.args.n es rest is (left es is) c.cut.ensures.capacity_stays has }
+    record { left = left; room = λ es is. cut_room old new c.args.n es is (left es is) c.cut.ensures.capacity_stays }
 
 pub returns-else-n-len : goal.returns-else-n-len
 returns-else-n-len c = grind (arith, common_steps)

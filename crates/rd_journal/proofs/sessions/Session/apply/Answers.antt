@@ -1,9 +1,10 @@
-use Rattle.std.proofs.Common.{◌≡◌, ◌∙◌, ◌<◌, List, ◌++◌, length, take, inl, inr, refl, sym, ap, subst, arith}
-use Rattle.rd_journal.proofs.Prelude.{append-nil, take_all, take-append-le, Entry, NoMemory, model, room, MOST_STEPS, error_passed_up, fact_passed_up, IsIndexOf, ok_then, IsLengthened, whole_journal, journal_of, live_entries, ahead_entries, journal}
+use Rattle.std.proofs.Common.{◌≡◌, ◌∙◌, ◌<◌, List, [], ◌∷◌, ◌++◌, length, take, drop, inl, inr, refl, sym, ap, subst, arith}
+use Rattle.rd_journal.proofs.Prelude.{append-nil, take_all, take-append-le, drop-append_seam, Entry, HasRoomInstead, kept_entries, NoMemory, model, room, MOST_STEPS, error_passed_up, fact_passed_up, IsIndexOf, ok_then, IsLengthened, whole_journal, journal_of, live_entries, ahead_entries, journal}
 use Rattle.rd_journal.proofs.Ahead.{is_session, none_taken}
 use Rattle.rd_journal.proofs.Calls.{live_len, applies, apply_refused, apply_goes, longer_session, same_session}
 use Rattle.rd_journal.proofs.Outcomes.{err_then}
 use Rattle.rd_journal.proofs.EntryLemmas.{full_entries}
+use Rattle.rd_journal.proofs.IndexRoom.{lacks_fewer}
 use Rattle.rd_journal.proofs.RoomLemmas.{stepped_back}
 use Rattle.rd_journal.proofs.Runs.{now_formed, just_stepped}
 use Rattle.rd_journal.proofs.sessions.Session.apply.Goals as goal
@@ -113,6 +114,24 @@ returns-then-is_err-clause-err g c =
     let old = journal self in
     let less : length old.live < MOST_STEPS = omega (arith, c.live_len.ensures, self.kept.few) in
     inr (refl, record { not_full = omega (arith, less, live_len old); asked = inr (applies g.row.R old c.args.event (is_session self).runs less (grind (arith, c.in_ok-entry.ensures.ok))) })
+
+pub returns-then-is_err-clause-memory : goal.returns-then-is_err-clause-memory
+returns-then-is_err-clause-memory g c =
+    let self = c.args.self.now in
+    let old = journal self in
+    let less : length old.live < MOST_STEPS = omega (arith, c.live_len.ensures, self.kept.few) in
+    let gone : drop c.live_len-live.result (kept_entries c.make_room_for.new.self) ≡ ahead_entries self.entries = grind (arith, drop-append_seam) in
+    let had = err_then c.index_instead.result (sym c.is_err.ensures.value ∙ c.if-is_err.true) c.index_instead.ensures.lacks in
+    let lacks = subst (λ (es : List Entry). HasRoomInstead self.index es c.from_ref.result.now → ⊥) gone had in
+    inr (refl, record {
+      not_full = less;
+      asked = inr (inr (record {
+        after = record { world = model c.step.new.self; entry = c.in_ok-entry.entry };
+        goes = c.in_ok-entry.ensures.ok;
+        lacks = lacks_fewer self.index self.undone [] (ahead_entries self.entries) (c.in_ok-entry.entry ∷ [])
+            (subst (λ (es : List Entry). HasRoomInstead self.index (ahead_entries self.entries) es → ⊥) c.from_ref.ensures.value lacks);
+      }));
+    })
 
 pub returns-then-is_err-clause-unchanged : goal.returns-then-is_err-clause-unchanged
 returns-then-is_err-clause-unchanged g c =

@@ -2,7 +2,7 @@ use Rattle.rd_journal.proofs.Prelude.{common_steps, append-nil, length-take-le, 
 use Rattle.std.proofs.Common.{◌≡◌, ◌∙◌, ◌-◌, List, [], ◌++◌, refl, ap, subst, arith, take, drop, length, length-append}
 use Rattle.rd_journal.proofs.Ahead.{is_session}
 use Rattle.rd_journal.proofs.Finding.{cut_before}
-use Rattle.rd_journal.proofs.IndexRoom.{fits_none, fits_turned}
+use Rattle.rd_journal.proofs.IndexRoom.{fits_none, fits_back, fits_turned}
 use Rattle.rd_journal.proofs.RolledBack.{IsGatheredLast, gathered_session, rolled_start}
 use Rattle.rd_journal.proofs.sessions.Session.undo_block.Goals as goal
 
@@ -15,7 +15,7 @@ gather_closure-count-requires-clause-room g c =
     let n = c.args.k - 1 in
     subst (λ (es : List Entry). HasRoomFor c.cut_index.new.index es)
     (append-nil (drop n (kept_entries self.entries)) ∙ drop-append-le n (live_entries self.entries) (ahead_entries self.entries) (omega (arith, c.requires.position)))
-    (c.cut_index.ensures.room [] (fits_none self.index))
+    (fits_back self.index c.cut_index.new.index (drop n (kept_entries self.entries)) [] c.cut_index.ensures.room (fits_none self.index))
 
 pub truncate-requires : goal.truncate-requires
 truncate-requires g c =
@@ -53,7 +53,8 @@ fill_index-requires g c =
     let long : n ≡ index.len = omega (arith, left.len, len) in
     let room : HasRoomFor index (closure_of live k ++ (drop n (without_closure live k) ++ ahead)) =
     subst (λ (es : List Entry). HasRoomFor index (es ++ (drop n (without_closure live k) ++ ahead))) (drop_at (take n live) (closure_of live k) n len)
-    (c.truncate.ensures.room (take n live ++ closure_of live k) (drop n (without_closure live k) ++ ahead) said.index said.room) in
+    (fits_back c.gather_closure-count.new.index index (drop n (take n live ++ closure_of live k)) (drop n (without_closure live k) ++ ahead)
+    (c.truncate.ensures.room (take n live ++ closure_of live k) said.index) said.room) in
     record {
       indexed =
           grind arith;
