@@ -21,7 +21,7 @@ mod removal;
 mod starting;
 mod switching;
 
-ghost use Rattle.std.specs.Prelude.{◌≡◌, ◌⊎◌, ◌++◌, ◌+◌, ◌≤◌, [], length, take, drop, Ok, Err, IsOk, OnOk, OnErr, IfOk, IfErr};
+ghost use Rattle.std.specs.Prelude.{◌≡◌, ◌⊎◌, ◌++◌, ◌+◌, ◌≤◌, ℕ, [], length, take, drop, Ok, Err, IsOk, OnOk, OnErr, IfOk, IfErr};
 ghost use Rattle.rd_step.specs.Prelude.{model, room as world_room, step};
 ghost use Rattle.rd_journal.specs.Journal.{events, start_of, IsRunFrom};
 ghost use Rattle.rd_journal.specs.Kept.{whole_journal, IsSession};
@@ -73,11 +73,12 @@ impl<const R: usize> Drop for Session<R> {
 impl<const R: usize> Session<R> {
     ghost use Rattle.rd_journal.specs.Sessions.{journal, state, track, room, capacity, index, MayRefuse};
 
-    /// Opens a session in a world, which is its start. It takes no memory.
+    /// Opens a session in a world, which is its start and keeps its room. It takes no memory.
     pub fn open(alloc: Global, world: World<R>) -> Session<R>
         ensures state { state result ≡ record { start = model world.entry; live = []; undone = [] } }
         ensures journal { journal result ≡ record { world = model world.entry; live = []; undone = [] } }
         ensures capacity { capacity result ≡ 0 }
+        ensures room { (m : ℕ) → room result m ≡ world_room world.entry m }
     {
         Session {
             world,

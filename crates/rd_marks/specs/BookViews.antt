@@ -5,7 +5,7 @@ use Rattle.rd_journal.specs.Sessions.{state}
 use Rattle.rd_journal.specs.declared.sessions.Session.{Session}
 use Rattle.rd_marks.specs.declared.books.Book.{Book}
 use Rattle.rd_marks.specs.Books.{BookState}
-use Rattle.rd_marks.specs.Kept.{lists_in}
+use Rattle.rd_marks.specs.Kept.{lists_in, entries_kept}
 use Rattle.rd_marks.specs.Marks.{marks_of}
 
 -- the state of a book: its session's state, and its marks with their events
@@ -19,3 +19,7 @@ session_of b = b.session
 -- for how many more names of bookmarks there is room
 abbrev pub name_room : {R : ℕ} → Book R → ℕ
 name_room b = spare b.bookmarks.names
+
+-- how many entries a book keeps for its bookmarks
+abbrev pub mark_entries : {R : ℕ} → Book R → ℕ
+mark_entries b = entries_kept b.bookmarks

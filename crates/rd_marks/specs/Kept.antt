@@ -1,12 +1,12 @@
 -- A view of a book's bookmarks: each name with its entries, and the entries with which the
 -- session's track begins.
-use Rattle.std.specs.Prelude.{List}
+use Rattle.std.specs.Prelude.{ℕ, List}
 use Rattle.rd_step.specs.declared.entries.Entry.{Entry}
 use Rattle.rd_marks.specs.declared.names.MarkName.{MarkName}
 use Rattle.rd_marks.specs.declared.stretches.Place.{Place}
 use Rattle.rd_marks.specs.declared.bookmarks.Bookmarks.{Bookmarks}
 use Rattle.rd_marks.specs.Layout.{named_lists}
-use Rattle.rd_marks.specs.Stretches.{entries_at, IsWithin}
+use Rattle.rd_marks.specs.Stretches.{entries_at, count_of, IsWithin}
 
 -- each name of a bookmark with its entries
 abbrev pub lists_in : Bookmarks → List (MarkName × List Entry)
@@ -23,3 +23,7 @@ IsPlaceIn b p = IsWithin b.stretches.list.items p
 -- the entries with which the session's track begins
 abbrev pub here_in : Bookmarks → List Entry
 here_in b = entries_in b b.here
+
+-- how many entries are kept for all bookmarks
+abbrev pub entries_kept : Bookmarks → ℕ
+entries_kept b = count_of b.stretches.list.items

@@ -40,7 +40,7 @@ pub(crate) struct Bookmarks {
 
 impl Bookmarks {
     ghost use Rattle.rd_marks.specs.Beginnings.{CountsBeginnings, NeedsNoEntry};
-    ghost use Rattle.rd_marks.specs.Kept.{lists_in, entries_in, here_in, IsPlaceIn};
+    ghost use Rattle.rd_marks.specs.Kept.{lists_in, entries_in, entries_kept, here_in, IsPlaceIn};
     ghost use Rattle.rd_marks.specs.Layout.{AreRuns};
     ghost use Rattle.rd_marks.specs.Marks.{marks_of};
     ghost use Rattle.rd_marks.specs.Names.{same_name};
@@ -68,7 +68,8 @@ impl Bookmarks {
 
     /// Returns how many entries are kept for all bookmarks.
     pub(crate) fn nodes(&self) -> usize
-        ensures { CountsBeginnings (marks_of (lists_in self.now)) result }
+        ensures counts { CountsBeginnings (marks_of (lists_in self.now)) result }
+        ensures entries { result ≡ entries_kept self.now }
     {
         self.stretches.entries()
     }

@@ -52,7 +52,7 @@ impl<const R: usize> Drop for Book<R> {
 
 impl<const R: usize> Book<R> {
     ghost use Rattle.rd_marks.specs.Beginnings.{CountsBeginnings, NeedsNoEntry};
-    ghost use Rattle.rd_marks.specs.BookViews.{book_state, session_of, name_room};
+    ghost use Rattle.rd_marks.specs.BookViews.{book_state, session_of, name_room, mark_entries};
     ghost use Rattle.rd_marks.specs.Rules.{KeepsRules};
     ghost use Rattle.rd_marks.specs.Books.{marked_events, mark, drop_mark, goto_mark, mark_at, MakesSteps, AnswersSame};
 
@@ -177,7 +177,8 @@ impl<const R: usize> Book<R> {
     /// Returns the number of different lists, except the empty one, that begin the steps of some
     /// bookmark. This many entries are kept for the bookmarks. It takes no memory.
     pub fn nodes(&self) -> u64
-        ensures { CountsBeginnings (book_state self.now).marks result }
+        ensures counts { CountsBeginnings (book_state self.now).marks result }
+        ensures entries { result ≡ mark_entries self.now }
     {
         self.bookmarks.nodes() as u64
     }

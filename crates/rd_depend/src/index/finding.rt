@@ -1,7 +1,7 @@
 //! The first dependant by look-ups: the first later position of the actor, and for each place that
 //! the step touched the first one that touched it, or if the step only read it that wrote it.
 
-ghost use Rattle.std.specs.Prelude.{◌≡◌, ◌+◌, ◌<◌, ◌≤◌, ◌^◌, List, Some, length};
+ghost use Rattle.std.specs.Prelude.{◌≡◌, ◌+◌, ◌<◌, ◌≤◌, ◌^◌, List, Some, IsSome, length};
 ghost use Rattle.std.specs.Option.{is_some};
 ghost use Rattle.rd_cell.specs.Places.{interfere};
 ghost use Rattle.rd_step.specs.declared.entries.Entry.{Entry as SomeEntry};
@@ -81,6 +81,7 @@ impl DependIndex {
             → result ≡ first_above k (positions (λ y. is_under_some key (reached writes y)) es) }
         ensures cost { probes.new.count ≤ probes.old.count + 19 }
         ensures counts { probes.old.count ≤ probes.new.count }
+        ensures looks { IsSome key → probes.old.count < probes.new.count }
     {
         let Some(key) = key else {
             return None;

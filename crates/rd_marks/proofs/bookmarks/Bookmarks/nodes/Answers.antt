@@ -8,5 +8,5 @@ entries-requires c =
     let b = c.args.self.now in
     count_fits b.stretches.list.items b.stretches.nested b.names.entries b.kept.needed b.kept.within b.kept.few
 
-pub returns : goal.returns
-returns c = grind (arith, counts)
+pub returns-clause-counts : goal.returns-clause-counts
+returns-clause-counts c = grind (arith, counts)
