@@ -14,6 +14,7 @@ pub mod StretchUses
 pub mod Switches
 pub mod SameLemmas
 pub mod Here
+pub mod Headlines
 pub mod RulesLemmas
 pub mod Reading
 pub mod Putting

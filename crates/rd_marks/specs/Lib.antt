@@ -10,4 +10,5 @@ pub mod Kept
 pub mod Rules
 pub mod BookViews
 pub mod Commands
+pub mod Headline
 pub mod Events

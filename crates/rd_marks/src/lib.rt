@@ -7,6 +7,7 @@
 mod bookmarks;
 mod books;
 mod commands;
+pub mod laws;
 mod names;
 mod replies;
 mod stretches;

@@ -2,9 +2,10 @@
 
 ghost use Rattle.std.specs.Prelude.{◌≡◌, [], None, Some, IsOk, OnErr, IfOk, IfErr};
 ghost use Rattle.rd_step.specs.declared.entries.Event.{Event as Happening};
-ghost use Rattle.rd_journal.specs.Sessions.{MayRefuse};
+ghost use Rattle.rd_journal.specs.Sessions.{journal, MayRefuse};
 
 use super::super::commands::Command;
+use super::super::laws::a_book_is_the_run_of_its_live_events;
 use super::super::replies::Reply;
 use super::Book;
 use rd_cell::Refusal;
@@ -12,7 +13,8 @@ use std::alloc::Global;
 
 impl<const R: usize> Book<R> {
     ghost use Rattle.rd_marks.specs.BookViews.{book_state, session_of, name_room};
-    ghost use Rattle.rd_marks.specs.Commands.{IsObeyed, AreObeyed, NeedsNoMemory};
+    ghost use Rattle.rd_marks.specs.Commands.{IsObeyed, NeedsNoMemory};
+    ghost use Rattle.rd_marks.specs.Headline.{Headline};
     ghost use Rattle.rd_marks.specs.Events.{as_event};
 
     /// Obeys a command, and returns the answer.
@@ -46,7 +48,7 @@ impl<const R: usize> Book<R> {
         alloc: Global,
         commands: &[Command],
     ) -> Result<Vec<Result<Reply, Refusal>>, Refusal>
-        ensures ok { IfOk result (λ answers. AreObeyed R (book_state self.old) commands.now answers.items (book_state self.new)) }
+        ensures headline { IfOk result (λ answers. Headline R (book_state self.old) commands.now answers.items (book_state self.new) (journal (session_of self.new))) }
         ensures err { IfErr result (λ refusal. refusal ≡ Refusal.NoMemory) }
         ensures succeeds { commands.now ≡ [] → IsOk result }
         ensures start { (book_state self.new).session.start ≡ (book_state self.old).session.start }
@@ -59,6 +61,7 @@ impl<const R: usize> Book<R> {
             let answer = self.obey(commands[i]);
             answers.push_reserved(answer);
         }
+        a_book_is_the_run_of_its_live_events(self);
         Ok(answers)
     }
 

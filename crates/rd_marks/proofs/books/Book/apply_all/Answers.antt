@@ -1,5 +1,8 @@
-use Rattle.std.proofs.Common.{◌≡◌, ◌+◌, sym, [], ◌∷◌, ◌++◌, take, get_or, add-one, arith}
+use Rattle.std.proofs.Common.{subst, List, ◌≡◌, ◌+◌, sym, [], ◌∷◌, ◌++◌, take, get_or, add-one, arith}
 use Rattle.rd_marks.proofs.Prelude.{take-suc, book_state}
+use Rattle.std.proofs.lemmas.List.{take_all}
+use Rattle.rd_marks.specs.Commands.{AreObeyed}
+use Rattle.rd_marks.specs.declared.commands.Command.{Command}
 use Rattle.rd_marks.proofs.ObeyLemmas.{one_more_obeyed}
 use Rattle.rd_marks.proofs.books.Book.apply_all.Goals as goal
 
@@ -13,3 +16,12 @@ loop-i-preserved g c =
     let done = one_more_obeyed g.row.R (book_state c.args.self.now) (book_state c.loop-i.self) (book_state c.obey-answer.new.self) (take i cs) c.loop-i.answers.items command c.obey-answer.result
     c.loop-i.invariant.obeyed c.obey-answer.ensures.answer in
     grind (arith, more, done, c.obey-answer.ensures.start, c.loop-i.invariant.start)
+
+pub returns-clause-headline : goal.returns-clause-headline
+returns-clause-headline g c =
+    let all = take_all c.loop-i.i c.args.commands.now c.loop-i-test.false in
+    record {
+      answered = subst (λ (cs : List Command). AreObeyed g.row.R (book_state c.args.self.now) cs c.loop-i.answers.items (book_state c.loop-i.self)) all c.loop-i.invariant.obeyed;
+      start = c.loop-i.invariant.start;
+      is_run = c.a_book_is_the_run_of_its_live_events.ensures;
+    }

@@ -1,0 +1,39 @@
+-- A session's run as the headline has it.
+use Rattle.std.proofs.Common.{◌≡◌, ◌<◌, ◌≤◌, ◌↔◌, inl, inr, ℕ, zero, suc, List, length, Option, Some, None, Err, sym, arith}
+use Rattle.std.proofs.lemmas.Bool.{cond-true, cond-false, lt-ltb, le-ltb}
+use Rattle.std.proofs.lemmas.Option.{slice_get_past}
+use Rattle.rd_marks.proofs.Prelude.{length-map, cases_lt, State, state_of, undo_at, Journal, BookState}
+use Rattle.rd_step.specs.Prelude.{Depended, NoSuchStep, first_dependant}
+use Rattle.rd_journal.specs.Journal.{IsRun}
+use Rattle.rd_journal.specs.State.{undone_alone_unless}
+use Rattle.rd_marks.specs.Headline.{IsRunOfLive}
+
+-- what undoing a step that is live comes to
+there : (R : ℕ) (j : Journal) (i : ℕ) → IsRun R j → i < length j.live
+    → undo_at R (state_of j) (suc i) ≡ undone_alone_unless (state_of j) (suc i) (first_dependant j.live (suc i))
+there R j i runs within = grind (arith, length-map, cond-true, lt-ltb)
+
+-- what undoing a step that is not live comes to
+missing : (R : ℕ) (j : Journal) (i : ℕ) → length j.live ≤ i → undo_at R (state_of j) (suc i) ≡ Err (NoSuchStep (length j.live))
+missing R j i past = grind (arith, length-map, cond-false, le-ltb)
+
+-- nothing depends on a step that is not live
+none : (j : Journal) (i : ℕ) → length j.live ≤ i → first_dependant j.live (suc i) ≡ None
+none j i past = grind (arith, slice_get_past)
+
+-- undoing a step alone names just the dependant that is found
+names : (s : State) (k n : ℕ) (found : Option ℕ) → (undone_alone_unless s k found ≡ Err (Depended n)) ↔ (found ≡ Some n)
+names s k n None = grind arith
+names s k n (Some j) = grind arith
+
+-- a lone undo is refused exactly where there is a dependant, and names the first
+refused : (R : ℕ) (j : Journal) → IsRun R j → (k n : ℕ) → (undo_at R (state_of j) k ≡ Err (Depended n)) ↔ (first_dependant j.live k ≡ Some n)
+refused R j runs zero n = grind arith
+refused R j runs (suc i) n = elim (cases_lt i (length j.live)) [
+    | inl within ↦ rw (there R j i runs within) (names (state_of j) (suc i) n (first_dependant j.live (suc i)))
+    | inr past ↦ rw (missing R j i past) (rw (none j i past) (grind arith))
+  ]
+
+-- a book over this journal, whatever its marks
+pub run_of_live : (R : ℕ) (j : Journal) (b : BookState) → b.session ≡ state_of j → IsRun R j → IsRunOfLive R b j
+run_of_live R j b is runs = rw is (record { ran = runs.live_ran; refused = refused R j runs })

@@ -1,0 +1,12 @@
+use Rattle.std.proofs.Common.{refl, subst}
+use Rattle.rd_journal.specs.Journal.{IsRun}
+use Rattle.rd_journal.specs.Sessions.{journal}
+use Rattle.rd_journal.specs.declared.sessions.Session.{Session}
+use Rattle.rd_marks.specs.BookViews.{book_state, session_of}
+use Rattle.rd_marks.proofs.Headlines.{run_of_live}
+use Rattle.rd_marks.proofs.laws.a_book_is_the_run_of_its_live_events.Goals as goal
+
+pub returns : goal.returns
+returns g c =
+    let runs = subst (λ (s : Session g.row.R). IsRun g.row.R (journal s)) c.session.ensures.value c.world-world.ensures.runs in
+    run_of_live g.row.R (journal (session_of c.args.book.now)) (book_state c.args.book.now) refl runs
