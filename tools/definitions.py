@@ -5,7 +5,7 @@
 
 FILE is a source file, named from `crates/`, and each FUNCTION one of its functions: with a LABEL
 its clause of this label (`Book::obey.answer`), else all that it ensures. What a function requires
-goes with each of its clauses. Without a FILE these are the clauses that carry the headline.
+goes with each of its clauses. Without a FILE it is the clause that carries the headline.
 
 The words of a clause are followed through `ghost use` into `specs/`, from there through the imports
 of each definition, and from types of the code into `src/`. The type of a field is followed only if
@@ -30,14 +30,8 @@ from contracts import blocks_of, code_of, crate_of, functions_of, lines_of, part
 from lines import crate_names
 from program import CRATES, print_head, print_row
 
-# The clauses that carry the headline.
-HEADLINE = """
-    rd_marks/src/books/obeying.rt obey.answer obey.start obey.unchanged apply_all.ok
-    rd_marks/src/books.rt session.state
-    rd_journal/src/sessions.rt open.state undo_at.answer undo_at.run
-    rd_journal/src/sessions/queries.rt world.run world.runs
-    rd_step/src/worlds.rt fresh.ok poised.ok assemble.ok assemble.flawless
-""".split()
+# The clause that carries the headline.
+HEADLINE = ["rd_marks/src/books/obeying.rt", "apply_all.headline"]
 WORD = re.compile(r"(?<![.\w])[A-Za-z_]\w*")
 TYPE_NAME = re.compile(r"\b[A-Z]\w*")
 NAMED_FIELD = re.compile(r"\.(\w+)|[{;]\s(\w+) = ")
