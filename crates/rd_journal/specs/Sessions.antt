@@ -1,14 +1,15 @@
 -- The code's session, as its journal, as its state, and with its track, its room and its index:
 -- what public clauses cite.
-use Rattle.std.specs.Prelude.{◌≡◌, ◌⊎◌, ℕ, List, ◌++◌, Err}
+use Rattle.std.specs.Prelude.{◌≡◌, ◌⊎◌, ℕ, List, ◌++◌, take, Err}
 use Rattle.rd_step.specs.Prelude.{Refusal, NoMemory, model, room as world_room}
 use Rattle.rd_depend.specs.declared.index.DependIndex.{DependIndex}
 use Rattle.rd_journal.specs.declared.sessions.Session.{Session}
 use Rattle.rd_step.specs.declared.entries.Event.{Event}
+use Rattle.rd_step.specs.declared.entries.Entry.{Entry}
 use Rattle.rd_journal.specs.Journal.{Journal, events}
 use Rattle.rd_journal.specs.Kept.{journal_of}
 use Rattle.rd_journal.specs.Entries.{ahead_entries, entries_capacity}
-use Rattle.rd_journal.specs.Room.{IsOutOfMemory}
+use Rattle.rd_journal.specs.Room.{IsOutOfMemory, LacksRoom}
 use Rattle.rd_journal.specs.State.{State, state_of, apply}
 
 -- the session's world and entries
@@ -41,3 +42,11 @@ index s = s.index
 -- where room is missing
 abbrev pub MayRefuse : {R : ℕ} → Session R → Event → Refusal → Type 0
 MayRefuse {R} s e refusal = (apply R (state s) e ≡ Err refusal) ⊎ ((refusal ≡ NoMemory) × IsOutOfMemory R (journal s) (capacity s) (room s) (index s) e)
+
+-- a session lacks room for going to these events: for the entries of those after the first ones,
+-- which stay
+pub record LacksRoomFor {R : ℕ} (s : Session R) (es : List Event) : Type 0 where
+  pub kept : ℕ
+  pub given : List Entry
+  pub all : take kept (state s).live ++ events given ≡ es
+  pub lacks : LacksRoom kept (journal s) given (capacity s) (room s) (index s)

@@ -1,7 +1,11 @@
 -- The marks that a list of names with entries is: looking one up, putting one last, taking one
 -- away.
-use Rattle.std.proofs.Common.{◌↔◌, IsTrue, is_ok, ◌⊎◌, ◌≢◌, suc, Result, Ok, Err, IsOk, IfErr, ne_eqb, ◌≡◌, ℕ, Bool, true, false, cond, map, refl, sym, ap, ◌∙◌, subst, List, [], ◌∷◌, ◌++◌, length, is_some, option_map, ok_or, Option, Some, None, All, slice_get, arith}
-use Rattle.rd_marks.proofs.Prelude.{lookup, remove_entry, insert_entry, All-cons, All-head, All-tail, Entry, Event, MarkName, same_name, eq-eqb, false≢true, length-map, get_or_from_slice_get, slice_get-map, slice_get_within, Refusal, World, NoMark, NoMemory, MarkTaken, TooManyMarks, MOST_MARKS, AreEntriesOfRun, IsPrefix, Mark, BookState, with_marks, marked_events, without_mark, mark, drop_mark, goto_mark, mark_at, mark_events, name_and_length, result_map, MakesSteps, AnswersSame, IsEquivalent, DecidesEquivalence, mark_of, marks_of, events}
+use Rattle.std.proofs.Common.{inr, ◌↔◌, IsTrue, is_ok, ◌⊎◌, ◌≢◌, suc, Result, Ok, Err, IsOk, IfErr, ne_eqb, ◌≡◌, ℕ, Bool, true, false, cond, map, refl, sym, ap, ◌∙◌, subst, List, [], ◌∷◌, ◌++◌, length, is_some, option_map, ok_or, Option, Some, None, All, slice_get, arith}
+use Rattle.rd_marks.proofs.Prelude.{lookup, remove_entry, insert_entry, All-cons, All-head, All-tail, Entry, Event, MarkName, same_name, eq-eqb, false≢true, length-map, get_or_from_slice_get, slice_get-map, slice_get_within, Refusal, World, NoMark, NoMemory, MarkTaken, TooManyMarks, MOST_MARKS, AreEntriesOfRun, IsPrefix, Mark, BookState, with_marks, marked_events, without_mark, mark, drop_mark, goto_mark, mark_at, mark_events, name_and_length, result_map, MakesSteps, AnswersSame, IsEquivalent, DecidesEquivalence, mark_of, marks_of, events, Place, book_state, entries_in}
+use Rattle.rd_journal.specs.Sessions.{LacksRoomFor}
+use Rattle.rd_marks.specs.BookViews.{MayRefuseToGo}
+use Rattle.rd_marks.specs.Kept.{IsInPieces}
+use Rattle.rd_marks.specs.declared.books.Book.{Book}
 
 -- taking an entry away, whatever is made of the values
 pub removed_mapped : {K V W : Type 0} (f : V → W) (test : K → Bool) (ms : List (K × V)) → map (λ m. (m.0, f m.1)) (remove_entry test ms) ≡ remove_entry test (map (λ m. (m.0, f m.1)) ms)
@@ -69,10 +73,10 @@ none_removed test [] h = refl
 none_removed test (m ∷ ms) h = grind (arith, cond, none_removed test ms)
 
 -- which only memory for its steps can refuse
-pub goto_not_done : {X : Type 0} (r : Result X Refusal) (b : BookState) (name : MarkName) (es : List Event) → marked_events b.marks name ≡ Some es
-    → IfErr r (λ refusal. refusal ≡ NoMemory) → (IsPrefix es b.session.live → IsOk r)
+pub goto_not_done : {X : Type 0} (P : Type 0) (r : Result X Refusal) (b : BookState) (name : MarkName) (es : List Event) → marked_events b.marks name ≡ Some es
+    → IfErr r (λ refusal. (refusal ≡ NoMemory) × P) → (IsPrefix es b.session.live → IsOk r)
     → IfErr r (λ refusal. (goto_mark b name ≡ Err refusal) ⊎ ((refusal ≡ NoMemory) × MakesSteps b name))
-goto_not_done r b name es there h goes = grind arith
+goto_not_done P r b name es there h goes = grind arith
 
 -- The comparison of two marks
 
@@ -116,3 +120,14 @@ mark_too_many b name new h = rw (new, eq-eqb (length b.marks) MOST_MARKS h) refl
 -- what is refused does not go
 pub mark_refused : {P : Type 0} (b : BookState) (name : MarkName) (refusal : Refusal) → mark b name ≡ Err refusal → IsOk (mark b name) → P
 mark_refused b name refusal h goes = absurd (false≢true (sym (ap is_ok h) ∙ goes))
+
+-- going to a mark that is there is refused memory where room is missing
+pub goto_lacks : {R : ℕ} {X : Type 0} (r : Result X Refusal) (b : Book R) (name : MarkName) (place : Place) → marked_events (book_state b).marks name ≡ Some (events (entries_in b.bookmarks place))
+    → IfErr r (λ refusal. (refusal ≡ NoMemory) × (LacksRoomFor b.session (events (entries_in b.bookmarks place)) ⊎ IsInPieces b.bookmarks place)) → IfErr r (MayRefuseToGo b name)
+goto_lacks (Ok x) b name place its h = tt
+goto_lacks (Err refusal) b name place its h = inr (h.0, record { place = place; its = its; lacks = h.1 })
+
+-- what is said of an error, where there is one
+pub if_then_for : {X : Type 0} (r : Result X Refusal) (P : Refusal → Type 0) → IfErr r P → (refusal : Refusal) → r ≡ Err refusal → P refusal
+if_then_for (Ok x) P h refusal is = absurd (cc)
+if_then_for (Err e) P h refusal is = subst P (let same : e ≡ refusal = cc in same) h

@@ -7,6 +7,8 @@ use Rattle.rd_marks.specs.declared.commands.Command.TheVariants.{Enq, Deq, Array
 use Rattle.rd_marks.specs.declared.replies.Reply.{Reply}
 use Rattle.rd_marks.specs.declared.replies.Reply.TheVariants.{Applied}
 use Rattle.rd_actor.specs.declared.actors.Act.TheVariants.{Enq as CallsEnq, Deq as CallsDeq, AEnq as CallsArrayEnq, ADeq as CallsArrayDeq, Go as GoesOn, Starve as Starves}
+use Rattle.rd_marks.specs.BookViews.{MayRefuseAsGoing}
+use Rattle.rd_marks.specs.declared.books.Book.{Book}
 use Rattle.rd_marks.specs.Commands.{event}
 use Rattle.rd_marks.specs.Events.{as_event}
 use Rattle.rd_marks.proofs.Starts.{apply_start, undo_start, undo_at_start, roll_start, back_start, redo_start, forward_start}
@@ -103,3 +105,7 @@ pub no_event_refused : {R : ℕ} {X : Type 0} (r : Result X Refusal) (s : Sessio
     → IfErr r (λ refusal. (f : Event) → as_event c ≡ Some f → MayRefuse s f refusal)
 no_event_refused (Ok x) s c none = tt
 no_event_refused (Err refusal) s c none = λ f its. absurd (cc)
+
+-- an event goes to no mark
+pub event_goes_nowhere : {R : ℕ} (b : Book R) (c : Command) (e : Event) (refusal : Refusal) → as_event c ≡ Some e → MayRefuseAsGoing b c refusal
+event_goes_nowhere b c e refusal is = grind arith

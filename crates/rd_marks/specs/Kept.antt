@@ -6,7 +6,7 @@ use Rattle.rd_marks.specs.declared.names.MarkName.{MarkName}
 use Rattle.rd_marks.specs.declared.stretches.Place.{Place}
 use Rattle.rd_marks.specs.declared.bookmarks.Bookmarks.{Bookmarks}
 use Rattle.rd_marks.specs.Layout.{named_lists}
-use Rattle.rd_marks.specs.Stretches.{entries_at, count_of, IsWithin}
+use Rattle.rd_marks.specs.Stretches.{entries_at, count_of, IsWithin, AreInPieces}
 
 -- each name of a bookmark with its entries
 abbrev pub lists_in : Bookmarks → List (MarkName × List Entry)
@@ -27,3 +27,7 @@ here_in b = entries_in b b.here
 -- how many entries are kept for all bookmarks
 abbrev pub entries_kept : Bookmarks → ℕ
 entries_kept b = count_of b.stretches.list.items
+
+-- the entries of a place are not all in one stretch
+abbrev pub IsInPieces : Bookmarks → Place → Type 0
+IsInPieces b p = AreInPieces b.stretches.list.items p

@@ -113,3 +113,10 @@ lowered j p = if nat_le j p.stretch then record { stretch = p.stretch - 1; numbe
 abbrev pub count_of : List Stretch → ℕ
 count_of [] = 0
 count_of (s ∷ ss) = length s.entries.items + count_of ss
+
+-- the entries of a place are of more than one stretch: that of the last one shares some of them
+pub record AreInPieces (ss : List Stretch) (p : Place) : Type 0 where
+  pub at : Place
+  pub same : entries_at ss at ≡ entries_at ss p
+  pub own : IsOwn ss at
+  pub shares : 0 < shared_at ss at.stretch

@@ -52,7 +52,7 @@ impl<const R: usize> Drop for Book<R> {
 
 impl<const R: usize> Book<R> {
     ghost use Rattle.rd_marks.specs.Beginnings.{CountsBeginnings, NeedsNoEntry};
-    ghost use Rattle.rd_marks.specs.BookViews.{book_state, session_of, name_room, mark_entries};
+    ghost use Rattle.rd_marks.specs.BookViews.{book_state, session_of, name_room, mark_entries, MayRefuseToGo};
     ghost use Rattle.rd_marks.specs.Rules.{KeepsRules};
     ghost use Rattle.rd_marks.specs.Books.{marked_events, mark, drop_mark, goto_mark, mark_at, MakesSteps, AnswersSame};
 
@@ -128,12 +128,13 @@ impl<const R: usize> Book<R> {
     /// # Errors
     ///
     /// In this order: `NoMark` if there is none of that name; `NoMemory` if room for the steps that
-    /// are made again was refused, which never happens if the live steps begin with the bookmark's.
-    /// Nothing has changed then.
+    /// are made again was refused, or for a copy of their entries, which never happens if the live
+    /// steps begin with the bookmark's. Nothing has changed then.
     pub fn goto_mark(&mut self, name: MarkName) -> Result<(), Refusal>
         ensures ok { OnOk result (goto_mark (book_state self.old) name ≡ Ok (book_state self.new)) }
         ensures err { IfErr result (λ refusal. (goto_mark (book_state self.old) name ≡ Err refusal)
             ⊎ ((refusal ≡ Refusal.NoMemory) × MakesSteps (book_state self.old) name)) }
+        ensures memory { IfErr result (MayRefuseToGo self.old name) }
         ensures unchanged { OnErr result (book_state self.new ≡ book_state self.old) }
     {
         let Some(place) = self.bookmarks.find(&name) else {

@@ -1,11 +1,11 @@
 //! Going to a bookmark.
 
-ghost use Rattle.std.specs.Prelude.{◌≡◌, [], IsOk, OnOk, IfErr, OnErr};
+ghost use Rattle.std.specs.Prelude.{◌≡◌, ◌⊎◌, [], IsOk, OnOk, IfErr, OnErr};
 ghost use Rattle.rd_depend.specs.Beginnings.{IsPrefix};
 ghost use Rattle.rd_journal.specs.Journal.{events};
-ghost use Rattle.rd_journal.specs.Sessions.{state, track, journal};
+ghost use Rattle.rd_journal.specs.Sessions.{state, track, journal, LacksRoomFor};
 ghost use Rattle.rd_marks.specs.Layout.{AreEntriesOfRun};
-ghost use Rattle.rd_marks.specs.Stretches.{entries_at, IsWithin};
+ghost use Rattle.rd_marks.specs.Stretches.{entries_at, IsWithin, AreInPieces};
 
 use super::super::stretches::{Place, Stretches};
 use super::Bookmarks;
@@ -14,7 +14,7 @@ use rd_journal::Session;
 use std::alloc::Global;
 
 impl Bookmarks {
-    ghost use Rattle.rd_marks.specs.Kept.{lists_in, entries_in, here_in, IsPlaceIn};
+    ghost use Rattle.rd_marks.specs.Kept.{lists_in, entries_in, here_in, IsPlaceIn, IsInPieces};
 
     /// Makes the steps of a place the live ones, with none undone. If they are on the session's
     /// track, the session goes along it. Else the live steps with which they begin stay, and the
@@ -22,8 +22,8 @@ impl Bookmarks {
     ///
     /// # Errors
     ///
-    /// `NoMemory` if room for the others was refused, which never happens if there are none.
-    /// Nothing has changed then.
+    /// `NoMemory` if room for the others, or for a copy of them where they are not all in one
+    /// stretch, was refused, which never happens if there are none. Nothing has changed then.
     pub(crate) fn go_to<const R: usize>(
         &mut self,
         alloc: Global,
@@ -37,8 +37,10 @@ impl Bookmarks {
             ≡ record { start = (state session.old).start; live = events (entries_in self.old place); undone = [] }) }
         ensures lists { lists_in self.new ≡ lists_in self.old }
         ensures stands { IsPrefix (events (here_in self.new)) (track session.new) }
-        ensures err { IfErr result (λ refusal. refusal ≡ Refusal.NoMemory) }
+        ensures err { IfErr result (λ refusal. (refusal ≡ Refusal.NoMemory)
+            × (LacksRoomFor session.old (events (entries_in self.old place)) ⊎ IsInPieces self.old place)) }
         ensures succeeds { IsPrefix (events (entries_in self.old place)) (state session.old).live → IsOk result }
+        ensures along { IsPrefix (events (entries_in self.old place)) (events (here_in self.old)) → IsOk result }
         ensures unchanged { OnErr result (journal session.new ≡ journal session.old) }
     {
         if self.stretches.common(self.here, place) == place.number {
@@ -57,8 +59,8 @@ impl Bookmarks {
 ///
 /// # Errors
 ///
-/// `NoMemory` if room for the others was refused, which never happens if there are none. Nothing
-/// has changed then.
+/// `NoMemory` if room for the others or for a copy of them was refused, which never happens if there
+/// are none. Nothing has changed then.
 fn exchange<const R: usize>(
     stretches: &Stretches,
     alloc: Global,
@@ -72,7 +74,8 @@ fn exchange<const R: usize>(
     requires stands { IsPrefix (events (entries_at stretches.now.list.items here)) (track session.old) }
     ensures ok { OnOk result (state session.new
         ≡ record { start = (state session.old).start; live = events (entries_at stretches.now.list.items place); undone = [] }) }
-    ensures err { IfErr result (λ refusal. refusal ≡ Refusal.NoMemory) }
+    ensures err { IfErr result (λ refusal. (refusal ≡ Refusal.NoMemory)
+        × (LacksRoomFor session.old (events (entries_at stretches.now.list.items place)) ⊎ AreInPieces stretches.now.list.items place)) }
     ensures succeeds { IsPrefix (events (entries_at stretches.now.list.items place)) (state session.old).live → IsOk result }
     ensures unchanged { OnErr result (journal session.new ≡ journal session.old) }
     ensures track { OnErr result (track session.new ≡ track session.old) }

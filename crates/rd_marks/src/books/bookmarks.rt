@@ -1,6 +1,6 @@
 //! The commands on bookmarks: the call of the book, and its answer.
 
-ghost use Rattle.std.specs.Prelude.{◌≡◌, length, IsOk};
+ghost use Rattle.std.specs.Prelude.{◌≡◌, length, IsOk, IfErr};
 ghost use Rattle.rd_step.specs.Prelude.{result_map};
 
 use super::super::names::MarkName;
@@ -9,7 +9,7 @@ use super::Book;
 use rd_cell::Refusal;
 
 impl<const R: usize> Book<R> {
-    ghost use Rattle.rd_marks.specs.BookViews.{book_state, name_room};
+    ghost use Rattle.rd_marks.specs.BookViews.{book_state, name_room, MayRefuseToGo};
     ghost use Rattle.rd_marks.specs.Books.{mark, drop_mark, goto_mark, mark_at, MakesSteps};
     ghost use Rattle.rd_marks.specs.Commands.{IsMade, IsCompared, NeedsNoMemory, step_counts, answer_with};
     ghost use Rattle.rd_marks.specs.declared.commands.Command.TheVariants.{Mark as MarkAs};
@@ -35,8 +35,9 @@ impl<const R: usize> Book<R> {
 
     /// Goes to a bookmark. Returns how many steps are live and undone then.
     pub(super) fn answer_goto_mark(&mut self, name: MarkName) -> Result<Reply, Refusal>
-        ensures { IsMade (book_state self.old) (λ c. step_counts c.session) (goto_mark (book_state self.old) name)
+        ensures answer { IsMade (book_state self.old) (λ c. step_counts c.session) (goto_mark (book_state self.old) name)
             (MakesSteps (book_state self.old) name) (record { answer = result; state = book_state self.new }) }
+        ensures memory { IfErr result (MayRefuseToGo self.old name) }
     {
         self.goto_mark(name)?;
         Ok(self.step_counts())

@@ -3,6 +3,7 @@
 ghost use Rattle.std.specs.Prelude.{◌≡◌, [], None, Some, IsOk, OnErr, IfOk, IfErr};
 ghost use Rattle.rd_step.specs.declared.entries.Event.{Event as Happening};
 ghost use Rattle.rd_journal.specs.Sessions.{journal, MayRefuse};
+ghost use Rattle.std.specs.Result.{ForErr};
 
 use super::super::commands::Command;
 use super::super::laws::a_book_is_the_run_of_its_live_events;
@@ -12,7 +13,7 @@ use rd_cell::Refusal;
 use std::alloc::Global;
 
 impl<const R: usize> Book<R> {
-    ghost use Rattle.rd_marks.specs.BookViews.{book_state, session_of, name_room};
+    ghost use Rattle.rd_marks.specs.BookViews.{book_state, session_of, name_room, MayRefuseAsGoing};
     ghost use Rattle.rd_marks.specs.Commands.{IsObeyed, NeedsNoMemory};
     ghost use Rattle.rd_marks.specs.Headline.{Headline};
     ghost use Rattle.rd_marks.specs.Events.{as_event};
@@ -27,6 +28,7 @@ impl<const R: usize> Book<R> {
         ensures answer { IsObeyed R (book_state self.old) command (record { answer = result; state = book_state self.new }) }
         ensures succeeds { NeedsNoMemory (book_state self.old) (name_room self.old) command → IsOk result }
         ensures memory { IfErr result (λ refusal. (event : Happening) → as_event command ≡ Some event → MayRefuse (session_of self.old) event refusal) }
+        ensures room { ForErr result (MayRefuseAsGoing self.old command) }
         ensures start { (book_state self.new).session.start ≡ (book_state self.old).session.start }
         ensures unchanged { OnErr result (book_state self.new ≡ book_state self.old) }
     {
@@ -70,6 +72,7 @@ impl<const R: usize> Book<R> {
         requires no_event { as_event command ≡ None }
         ensures answer { IsObeyed R (book_state self.old) command (record { answer = result; state = book_state self.new }) }
         ensures succeeds { NeedsNoMemory (book_state self.old) (name_room self.old) command → IsOk result }
+        ensures room { ForErr result (MayRefuseAsGoing self.old command) }
     {
         match command {
             Command::Undo => self.answer_undo(),

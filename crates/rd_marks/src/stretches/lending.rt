@@ -1,6 +1,6 @@
 //! The entries of a place, lent and copied.
 
-ghost use Rattle.std.specs.Prelude.{◌≡◌, ◌<◌, ◌≤◌, ◌-◌, Some, drop, slice_get, IsOk, IfOk, IfSome};
+ghost use Rattle.std.specs.Prelude.{◌≡◌, ◌<◌, ◌≤◌, ◌-◌, Some, drop, slice_get, IsOk, IsSome, IfOk, IfSome, OnErr};
 ghost use Rattle.std.specs.Cow.{cow_slice_items};
 ghost use Rattle.rd_step.specs.Run.{events};
 ghost use Rattle.rd_step.specs.Lists.{numbered};
@@ -11,7 +11,7 @@ use std::alloc::{AllocError, Global};
 use std::borrow::CowSlice;
 
 impl Stretches {
-    ghost use Rattle.rd_marks.specs.Stretches.{entries_at, IsWithin, IsOwn};
+    ghost use Rattle.rd_marks.specs.Stretches.{entries_at, shared_at, IsWithin, IsOwn, AreInPieces};
 
     /// The event of this number, from 1, of the entries of a place, if there is one.
     pub(crate) fn event_at(&self, of: Place, n: u64) -> Option<Event>
@@ -41,7 +41,7 @@ impl Stretches {
     /// # Errors
     ///
     /// `AllocError` if memory was refused for a copy, which never happens if there are no such
-    /// entries.
+    /// entries, or all entries of the place are of one stretch.
     pub(crate) fn entries_behind(
         &self,
         alloc: Global,
@@ -51,6 +51,7 @@ impl Stretches {
         requires present { IsWithin self.now.list.items of }
         requires within { n ≤ of.number }
         ensures ok { IfOk result (λ entries. cow_slice_items entries ≡ drop n (entries_at self.now.list.items of)) }
+        ensures err { OnErr result (AreInPieces self.now.list.items of) }
         ensures succeeds { of.number ≡ n → IsOk result }
     {
         let own = self.own_place(of);
@@ -65,7 +66,8 @@ impl Stretches {
         requires present { IsWithin self.now.list.items of }
         requires own { IsOwn self.now.list.items of }
         requires within { n ≤ of.number }
-        ensures { IfSome result (λ entries. entries.now ≡ drop n (entries_at self.now.list.items of)) }
+        ensures lent { IfSome result (λ entries. entries.now ≡ drop n (entries_at self.now.list.items of)) }
+        ensures found { n < of.number → shared_at self.now.list.items of.stretch ≤ n → IsSome result }
     {
         let stretch = self.list.get(of.stretch)?;
         if n < stretch.shared {

@@ -24,10 +24,13 @@ invariant_of-self g c =
 pub returns-in_err-make_room_for-clause-err : goal.returns-in_err-make_room_for-clause-err
 returns-in_err-make_room_for-clause-err g c =
     let old = journal c.args.self.now in
-    error_passed_up _ NoMemory c.from_residual.result c.from_residual.ensures.1 (inr (refl, record {
-      not_full = omega (arith, live_len old, c.live_len.ensures, (is_session c.args.self.now).few);
-      asked = inl (grind (arith, full_entries, none_taken));
-    }))
+    error_passed_up _ NoMemory c.from_residual.result c.from_residual.ensures.1 (inr (
+      refl,
+      record {
+        not_full = omega (arith, live_len old, c.live_len.ensures, (is_session c.args.self.now).few);
+        asked = inl (grind (arith, full_entries, none_taken));
+      },
+    ))
 
 pub returns-in_err-make_room_for-clause-memory : goal.returns-in_err-make_room_for-clause-memory
 returns-in_err-make_room_for-clause-memory g c = grind (arith, full_entries, error_passed_up, is_session, none_taken)
@@ -123,15 +126,18 @@ returns-then-is_err-clause-memory g c =
     let gone : drop c.live_len-live.result (kept_entries c.make_room_for.new.self) ≡ ahead_entries self.entries = grind (arith, drop-append_seam) in
     let had = err_then c.index_instead.result (sym c.is_err.ensures.value ∙ c.if-is_err.true) c.index_instead.ensures.lacks in
     let lacks = subst (λ (es : List Entry). HasRoomInstead self.index es c.from_ref.result.now → ⊥) gone had in
-    inr (refl, record {
-      not_full = less;
-      asked = inr (inr (record {
-        after = record { world = model c.step.new.self; entry = c.in_ok-entry.entry };
-        goes = c.in_ok-entry.ensures.ok;
-        lacks = lacks_fewer self.index self.undone [] (ahead_entries self.entries) (c.in_ok-entry.entry ∷ [])
-            (subst (λ (es : List Entry). HasRoomInstead self.index (ahead_entries self.entries) es → ⊥) c.from_ref.ensures.value lacks);
-      }));
-    })
+    inr (
+      refl,
+      record {
+        not_full = less;
+        asked = inr (inr (record {
+          after = record { world = model c.step.new.self; entry = c.in_ok-entry.entry };
+          goes = c.in_ok-entry.ensures.ok;
+          lacks = lacks_fewer self.index self.undone [] (ahead_entries self.entries) (c.in_ok-entry.entry ∷ [])
+              (subst (λ (es : List Entry). HasRoomInstead self.index (ahead_entries self.entries) es → ⊥) c.from_ref.ensures.value lacks);
+        }));
+      },
+    )
 
 pub returns-then-is_err-clause-unchanged : goal.returns-then-is_err-clause-unchanged
 returns-then-is_err-clause-unchanged g c =

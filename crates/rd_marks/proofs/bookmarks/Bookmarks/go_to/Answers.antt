@@ -1,6 +1,9 @@
-use Rattle.std.proofs.Common.{◌≡◌, ◌≤◌, [], ℕ, List, length, take, lit<, refl, subst, ap, ◌∙◌, arith}
+use Rattle.std.proofs.Common.{sym, ◌≡◌, ◌≤◌, [], ℕ, List, length, take, lit<, refl, subst, ap, ◌∙◌, arith}
+use Rattle.rd_step.proofs.PassedUp.{error_passed_up}
 use Rattle.rd_marks.proofs.Prelude.{fact_passed_up, Event, IsPrefix, state, track, Bookmarks, Place, here_in, entries_in, IsPlaceIn, events}
+use Rattle.rd_marks.proofs.Prelude.{entries_at, length-take, take-length}
 use Rattle.rd_marks.proofs.Here.{along_to}
+use Rattle.rd_marks.proofs.Starting.{events_length}
 use Rattle.rd_marks.proofs.bookmarks.Bookmarks.go_to.Goals as goal
 
 -- the entries of the place begin the track
@@ -24,3 +27,19 @@ returns-then-common-place-clause-ok g c =
 
 pub returns-in_err-exchange-clause-unchanged : goal.returns-in_err-exchange-clause-unchanged
 returns-in_err-exchange-clause-unchanged g c = fact_passed_up c.from_residual.result c.in_err-exchange.ensures.unchanged
+
+pub returns-in_err-exchange-clause-err : goal.returns-in_err-exchange-clause-err
+returns-in_err-exchange-clause-err g c = error_passed_up _ c.in_err-exchange.field-0.0 c.from_residual.result c.from_residual.ensures.1 c.in_err-exchange.ensures.err
+
+pub returns-in_err-exchange-clause-along : goal.returns-in_err-exchange-clause-along
+returns-in_err-exchange-clause-along g c = λ h.
+    let ss = c.args.self.now.stretches.list.items in
+    let place = c.args.place in
+    let es = events (entries_at ss place) in
+    let hs = events (entries_at ss c.args.self.now.here) in
+    let len : length es ≡ place.number = events_length ss place c.requires.within in
+    let here : length hs ≡ c.args.self.now.here.number = events_length ss c.args.self.now.here c.args.self.now.kept.lies in
+    let alike : take place.number hs ≡ es = subst (λ (n : ℕ). take n hs ≡ es) len h in
+    let all : take place.number es ≡ es = subst (λ (n : ℕ). take n es ≡ es) len (take-length es) in
+    let fewer : place.number ≤ c.args.self.now.here.number = omega (arith, ap length alike, length-take place.number hs, len, here) in
+    absurd (omega (arith, c.common.ensures.second, c.common.ensures.most place.number fewer (omega arith) (alike ∙ sym all), c.if-common-place.false))

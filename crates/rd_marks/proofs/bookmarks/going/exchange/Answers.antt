@@ -1,8 +1,9 @@
-use Rattle.std.proofs.Common.{List, lit<, ap, subst, length, ◌∙◌, arith}
+use Rattle.std.proofs.Common.{List, ◌++◌, take, lit<, ap, subst, length, ◌∙◌, arith}
 use Rattle.rd_marks.proofs.Prelude.{length-map, Entry, journal, state, entries_at, events, IsRunFrom}
+use Rattle.rd_marks.specs.Stretches.{AreInPieces}
 use Rattle.rd_marks.proofs.Here.{live_along}
 use Rattle.rd_marks.proofs.Starting.{entries_length}
-use Rattle.rd_marks.proofs.EntryLemmas.{switched, may_switch, few_enough}
+use Rattle.rd_marks.proofs.EntryLemmas.{switched, joined_events, lacked, may_switch, few_enough}
 use Rattle.rd_marks.proofs.Switches.{common_live, none_behind, whole_common}
 use Rattle.rd_marks.proofs.bookmarks.going.exchange.Goals as goal
 
@@ -41,3 +42,15 @@ returns-in-Ok-clause-succeeds g c = λ h.
     let all = whole_common c.args.stretches.now.list.items c.follow-beginning.result c.args.place c.common-common.result (events c.live-live.result) c.requires.within c.follow-beginning.ensures.along
     c.follow-beginning.ensures.deepest (grind (arith, c.live-live.ensures.events, h)) c.common-common.ensures.second c.common-common.ensures.most in
     c.switch.ensures.succeeds (none_behind c.args.stretches.now.list.items c.args.place c.common-common.result c.deref.result.now c.requires.within all (c.deref.ensures.value ∙ c.in-Ok.ensures.ok))
+
+pub returns-in-Ok-clause-err : goal.returns-in-Ok-clause-err
+returns-in-Ok-clause-err g c =
+    let ss = c.args.stretches.now.list.items in
+    let n = c.common-common.result in
+    let said = c.common-common.ensures in
+    let ys = entries_at ss c.args.place in
+    let given = c.deref.ensures.value ∙ c.in-Ok.ensures.ok in
+    let same = common_live ss c.follow-beginning.result c.args.place n (events c.live-live.result) (state c.args.session.now).live c.live-live.ensures.events said.first
+    c.follow-beginning.ensures.along said.alike in
+    let all = ap (λ (xs : List Entry). take n (state c.args.session.now).live ++ events xs) given ∙ joined_events n (state c.args.session.now).live ys same in
+    lacked c.switch.result c.args.session.now n c.deref.result.now (events ys) (AreInPieces ss c.args.place) all c.switch.ensures.err

@@ -1,6 +1,6 @@
 use Rattle.std.proofs.Common.{List, sym, ap, ◌∙◌, option_map, arith}
 use Rattle.rd_marks.proofs.Prelude.{Entry, state, book_state, lists_in, entries_in, AreEntriesOfRun, same_name, events}
-use Rattle.rd_marks.proofs.MarkLemmas.{all_found, found_events, goto_not_done}
+use Rattle.rd_marks.proofs.MarkLemmas.{all_found, found_events, goto_not_done, goto_lacks}
 use Rattle.rd_marks.proofs.Starts.{runs_stay, start_kept}
 use Rattle.rd_marks.proofs.books.Book.goto_mark.Goals as goal
 
@@ -18,7 +18,7 @@ returns-clause-ok g c = grind (arith, found_events, option_map)
 
 pub returns-clause-err : goal.returns-clause-err
 returns-clause-err g c =
-    goto_not_done c.go_to.result (book_state c.args.self.now) c.args.name (events (entries_in c.args.self.now.bookmarks c.in-Some.place))
+    goto_not_done _ c.go_to.result (book_state c.args.self.now) c.args.name (events (entries_in c.args.self.now.bookmarks c.in-Some.place))
     (found_events c.args.name (lists_in c.args.self.now.bookmarks) ∙ ap (option_map events) (sym c.in-Some.ensures.found)) c.go_to.ensures.err c.go_to.ensures.succeeds
 
 pub invariant_of-self : goal.invariant_of-self
@@ -26,3 +26,11 @@ invariant_of-self g c = record {
   runs = runs_stay g.row.R _ _ _ _ (start_kept c.go_to.result _ _ _ c.go_to.ensures.ok c.go_to.ensures.unchanged) c.go_to.ensures.lists c.args.self.now.runs;
   stands = c.go_to.ensures.stands;
 }
+
+pub returns-in_default-clause-memory : goal.returns-in_default-clause-memory
+returns-in_default-clause-memory g c = grind (arith, found_events, option_map)
+
+pub returns-clause-memory : goal.returns-clause-memory
+returns-clause-memory g c =
+    goto_lacks c.go_to.result c.args.self.now c.args.name c.in-Some.place
+    (found_events c.args.name (lists_in c.args.self.now.bookmarks) ∙ ap (option_map events) (sym c.in-Some.ensures.found)) c.go_to.ensures.err

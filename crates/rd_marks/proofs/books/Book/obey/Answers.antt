@@ -1,6 +1,6 @@
 use Rattle.std.proofs.Common.{sym, ◌∙◌}
 use Rattle.rd_marks.proofs.Prelude.{book_state}
-use Rattle.rd_marks.proofs.ObeyLemmas.{happened_leaves, obeyed_leaves, event_needs, event_obeyed, refused_event, no_event_refused}
+use Rattle.rd_marks.proofs.ObeyLemmas.{happened_leaves, obeyed_leaves, event_needs, event_obeyed, refused_event, no_event_refused, event_goes_nowhere}
 use Rattle.rd_marks.proofs.books.Book.obey.Goals as goal
 
 pub returns-in-Some-clause-succeeds : goal.returns-in-Some-clause-succeeds
@@ -28,3 +28,6 @@ returns-in-Some-clause-memory g c =
 
 pub returns-in-None-clause-memory : goal.returns-in-None-clause-memory
 returns-in-None-clause-memory g c = no_event_refused c.answer_to.result c.args.self.now.session c.args.command (sym c.as_event.ensures ∙ c.in-None.is)
+
+pub returns-in-Some-clause-room : goal.returns-in-Some-clause-room
+returns-in-Some-clause-room g c = λ refusal is. event_goes_nowhere c.args.self.now c.args.command c.in-Some.event refusal (sym c.as_event.ensures ∙ c.in-Some.is)
