@@ -1,6 +1,7 @@
 //! The events that two runs have in common at their beginning.
 
-ghost use Rattle.std.specs.Prelude.{◌≡◌, ◌↔◌, ◌≤◌, length, take, IsTrue};
+ghost use Rattle.std.specs.Prelude.{◌≡◌, ◌↔◌, ◌≤◌, Some, length, take, slice_get, IsTrue};
+ghost use Rattle.rd_step.specs.declared.entries.Event.{Event as Happening};
 ghost use Rattle.rd_step.specs.Run.{events};
 ghost use Rattle.rd_depend.specs.Beginnings.{IsPrefix};
 
@@ -13,6 +14,7 @@ pub(crate) fn common_beginning(a: &[Entry], b: &[Entry]) -> usize
     ensures in_first { result ≤ length a.now }
     ensures in_second { result ≤ length b.now }
     ensures same { events (take result a.now) ≡ events (take result b.now) }
+    ensures longest { (e : Happening) → slice_get (events a.now) result ≡ Some e → slice_get (events b.now) result ≡ Some e → ⊥ }
     ensures first_begins { IsPrefix (events a.now) (events b.now) → result ≡ length a.now }
     ensures second_begins { IsPrefix (events b.now) (events a.now) → result ≡ length b.now }
 {

@@ -157,6 +157,7 @@ impl Bookmarks {
         ensures found { result ≡ is_some (lookup (same_name name.now) (lists_in self.old)) }
         ensures lists { lists_in self.new ≡ remove_entry (same_name name.now) (lists_in self.old) }
         ensures here { IsPrefix (here_in self.new) (here_in self.old) }
+        ensures room { spare self.old.names ≤ spare self.new.names }
     {
         match self.names.shift_remove(name) {
             None => false,

@@ -13,7 +13,7 @@ mod obeying;
 mod queries;
 mod saving;
 
-ghost use Rattle.std.specs.Prelude.{◌≡◌, ◌<◌, ◌⊎◌, [], length, Ok, Err, OnOk, OnErr, IfErr, IsOk};
+ghost use Rattle.std.specs.Prelude.{◌≡◌, ◌<◌, ◌≤◌, ◌⊎◌, [], length, Ok, Err, OnOk, OnErr, IfErr, IsOk};
 ghost use Rattle.rd_cell.specs.declared.refusal.Refusal.TheVariants.{NoMemory};
 ghost use Rattle.rd_step.specs.Run.{events};
 ghost use Rattle.rd_depend.specs.Beginnings.{IsPrefix};
@@ -104,7 +104,8 @@ impl<const R: usize> Book<R> {
         }
     }
 
-    /// Drops the bookmark of this name. The others keep their order. It takes no memory.
+    /// Drops the bookmark of this name. The others keep their order. It takes no memory, and no
+    /// room for names.
     ///
     /// # Errors
     ///
@@ -112,6 +113,7 @@ impl<const R: usize> Book<R> {
     pub fn drop_mark(&mut self, name: MarkName) -> Result<(), Refusal>
         ensures ok { OnOk result (drop_mark (book_state self.old) name ≡ Ok (book_state self.new)) }
         ensures err { IfErr result (λ refusal. drop_mark (book_state self.old) name ≡ Err refusal) }
+        ensures room { name_room self.old ≤ name_room self.new }
         ensures unchanged { OnErr result (book_state self.new ≡ book_state self.old) }
     {
         if self.bookmarks.drop(&name) {

@@ -51,7 +51,8 @@ pub(super) fn prune(
 )
     requires within { All (λ m. IsWithin stretches.old.list.items m.1) names.old.entries }
     requires here { IsWithin stretches.old.list.items here.old }
-    ensures { IsPruned 0 stretches.old.list.items stretches.new.list.items names.old.entries names.new.entries here.old here.new }
+    ensures pruned { IsPruned 0 stretches.old.list.items stretches.new.list.items names.old.entries names.new.entries here.old here.new }
+    ensures room { spare names.new ≡ spare names.old }
 {
     let mut i = stretches.len();
     while i > 0 {
@@ -74,6 +75,7 @@ fn trim(
     requires needed { AreNeededFrom (suc i) stretches.old.list.items (places_of names.old.entries) }
     ensures pruned { IsPruned i stretches.old.list.items stretches.new.list.items names.old.entries names.new.entries here.old here.new }
     ensures below { i ≤ length stretches.new.list.items }
+    ensures room { spare names.new ≡ spare names.old }
 {
     let needed = stretches.shared(i + 1).max(greatest_in(names, i));
     let shift = stretches.shrink(i, needed);

@@ -1,6 +1,6 @@
 //! Growing a list, and taking away what no place needs.
 
-ghost use Rattle.std.specs.Prelude.{◌≡◌, ◌↔◌, ◌<◌, ◌≤◌, ◌++◌, suc, take, length, IsTrue, OnOk, OnErr, IfOk, IsOk};
+ghost use Rattle.std.specs.Prelude.{◌≡◌, ◌↔◌, ◌<◌, ◌≤◌, ◌+◌, ◌++◌, suc, take, length, vec_capacity, IsTrue, OnOk, OnErr, IfOk, IsOk};
 ghost use Rattle.rd_marks.specs.Changes.{IsLow};
 ghost use Rattle.rd_marks.specs.Stretches.{raised, lowered};
 ghost use Rattle.rd_step.specs.Prelude.{MOST_STEPS};
@@ -231,6 +231,7 @@ impl Stretches {
 fn append(entries: &mut Vec<Entry>, more: &LiveEntries) -> Result<(), AllocError>
     ensures ok { OnOk result (entries.new.items ≡ entries.old.items ++ more.now) }
     ensures err { OnErr result (entries.new.items ≡ entries.old.items) }
+    ensures succeeds { length entries.old.items + length more.now ≤ vec_capacity entries.old → IsOk result }
 {
     entries.reserve(more.len())?;
     for index in 0..more.len() {

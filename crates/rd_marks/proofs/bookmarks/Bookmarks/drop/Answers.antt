@@ -18,4 +18,4 @@ pub returns-in-Some-clause-found : goal.returns-in-Some-clause-found
 returns-in-Some-clause-found c = grind (arith, option_map, c.in-Some.ensures.value, lookup-map_values (entries_in c.args.self.now) (same_name c.args.name.now) c.args.self.now.names.entries)
 
 pub returns-in-Some-clause-lists : goal.returns-in-Some-clause-lists
-returns-in-Some-clause-lists c = grind (arith, c.prune.ensures.lists, c.shift_remove.ensures.entries, removed_mapped (entries_in c.args.self.now) (same_name c.args.name.now) c.args.self.now.names.entries)
+returns-in-Some-clause-lists c = grind (arith, c.prune.ensures.pruned.lists, c.shift_remove.ensures.entries, removed_mapped (entries_in c.args.self.now) (same_name c.args.name.now) c.args.self.now.names.entries)
