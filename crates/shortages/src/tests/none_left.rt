@@ -1,24 +1,27 @@
-//! Undos, redos, dropped bookmarks, one that needs no new entry, and queries while all memory is
-//! refused.
+//! Undos, redos, an event after an undo, dropped bookmarks, one that needs no new entry, going to
+//! bookmarks whose steps have room, and queries while all memory is refused.
 
 use super::trials::{Trial, look, plays};
 use std::alloc::Global;
 
 /// Two bookmarks of which neither begins the other, the race of two actors to put a new ring after
-/// a full one, and a bookmark at its thirty steps, which are live.
+/// a full one, a bookmark at its thirty steps, and eight of a third actor after them, which fill its
+/// list in the index.
 const BEFORE: &str = "\
     deq 3\nmark x\nundo\ndeq 4\nmark y\nundo\nenq 1 7\ngo 1\ngo 1\ngo 1\ngo 1\ngo 1\ngo 1\n\
     enq 1 8\ngo 1\ngo 1\ngo 1\ngo 1\ngo 1\ngo 1\nenq 1 9\ngo 1\ngo 1\nenq 2 10\ngo 2\ngo 2\ngo 1\n\
-    go 1\ngo 1\ngo 1\ngo 1\ngo 2\ngo 1\ngo 2\nundo 27\nredo\ngo 2\ngo 1\nmark all";
+    go 1\ngo 1\ngo 1\ngo 1\ngo 2\ngo 1\ngo 2\nundo 27\nredo\ngo 2\ngo 1\nmark all\n\
+    deq 3\ngo 3\ngo 3\ngo 3\ngo 3\ngo 3\ndeq 3\ngo 3";
 
-/// Lines that take no memory. The steps of the bookmark that is set begin those of one that is
-/// there.
+/// Lines that take no memory. The event is the one that was undone. The steps of each bookmark that
+/// is set begin those of one that is there, and its name takes room that is left or given back. What
+/// is gone to lies on the way back, is made of steps that were undone, and lies ahead.
 const MOVES: &[u8] =
-    b"undo\nmark most\nundo 28\nback 3\nredo\nforward 2\nroll 27\nundo 30\nundo 1\nforward 5\ndrop x\ndrop x\ngoto z";
+    b"undo\ngo 3\ngoto all\nundo\nmark most\nundo 28\nback 3\nredo\nforward 2\nroll 27\nundo 30\nundo 1\nforward 5\ndrop x\ndrop x\ngoto z\nmark again\ngoto all\nback 4\ngoto all";
 
 /// What they are answered.
 const MOVED: &[u8] =
-    b"at 29 1\nmarked 29\nat 28 2\nat 25 5\nat 26 4\nat 28 2\nat 26 4\nrefused 12 NoSuchStep 26\nrefused 13 Depended 2\nrefused 11 NothingToRedo\ndropped\nrefused 14 NoMark\nrefused 14 NoMark\n";
+    b"at 37 1\nok 38\nat 30 0\nat 29 1\nmarked 29\nat 28 2\nat 25 5\nat 26 4\nat 28 2\nat 26 4\nrefused 12 NoSuchStep 26\nrefused 13 Depended 2\nrefused 11 NothingToRedo\ndropped\nrefused 14 NoMark\nrefused 14 NoMark\nmarked 26\nat 30 0\nat 26 4\nat 30 0\n";
 
 /// A book with all these steps and bookmarks, if there was memory for them.
 fn ready(alloc: Global) -> Option<Trial> {
