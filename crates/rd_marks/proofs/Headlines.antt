@@ -30,9 +30,9 @@ names s k n (Some j) = grind arith
 refused : (R : ℕ) (j : Journal) → IsRun R j → (k n : ℕ) → (undo_at R (state_of j) k ≡ Err (Depended n)) ↔ (first_dependant j.live k ≡ Some n)
 refused R j runs zero n = grind arith
 refused R j runs (suc i) n = elim (cases_lt i (length j.live)) [
-    | inl within ↦ rw (there R j i runs within) (names (state_of j) (suc i) n (first_dependant j.live (suc i)))
-    | inr past ↦ rw (missing R j i past) (rw (none j i past) (grind arith))
-  ]
+  | inl within ↦ rw (there R j i runs within) (names (state_of j) (suc i) n (first_dependant j.live (suc i)))
+  | inr past ↦ rw (missing R j i past) (rw (none j i past) (grind arith))
+]
 
 -- a book over this journal, whatever its marks
 pub run_of_live : (R : ℕ) (j : Journal) (b : BookState) → b.session ≡ state_of j → IsRun R j → IsRunOfLive R b j
