@@ -52,7 +52,13 @@ module _ {T O : Type 0} {K : Ghosts T Call O} (R : ℕ) (opened : BookState) (ol
   KnowsAfterRefusal TicketsEnded = IsSamePass old new × (next_seen new ≡ 2 ^ 63)
   KnowsAfterRefusal (Busy words) = IsSamePass old new × (words.next ≡ next_seen new) × (words.served ≡ served_seen new) × (words.served < words.next) × (words.next < 2 ^ 63)
 
-  -- what a viewer knows after a call that may wait, by the outcome of the call
-  abbrev pub KnowsAfterCall : Command → Result (Result Reply Refusal) DeskRefusal → Type 0
-  KnowsAfterCall command (Ok answer) = HasAsked command answer
-  KnowsAfterCall command (Err refusal) = KnowsAfterRefusal refusal × IsNotBusy refusal
+  -- what a viewer knows by the outcome of a call that may wait
+  abbrev pub KnowsByOutcome : Command → Result (Result Reply Refusal) DeskRefusal → Type 0
+  KnowsByOutcome command (Ok answer) = HasAsked command answer
+  KnowsByOutcome command (Err refusal) = KnowsAfterRefusal refusal × IsNotBusy refusal
+
+  -- what a viewer knows after a call that may wait; a viewer that had seen all tickets drawn is
+  -- answered nothing but that the tickets have ended
+  pub record KnowsAfterCall (command : Command) (answer : Result (Result Reply Refusal) DeskRefusal) : Type 0 where
+    pub outcome : KnowsByOutcome command answer
+    pub ended : next_seen old ≡ 2 ^ 63 → answer ≡ Err TicketsEnded

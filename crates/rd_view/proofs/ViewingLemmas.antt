@@ -1,5 +1,5 @@
 -- What passes know after a chain of calls, and how that stands to the history that leaves the desk.
-use Rattle.std.proofs.Common.{◌≡◌, ◌∙◌, ℕ, zero, suc, List, [], ◌∷◌, ◌++◌, Result, Ok, Err, Vec, map, drop, length, slice_index_or, arith, refl, sym, ap, subst, append_assoc}
+use Rattle.std.proofs.Common.{◌≡◌, ◌∙◌, ◌^◌, ℕ, zero, suc, List, [], ◌∷◌, ◌++◌, Result, Ok, Err, Vec, map, drop, length, slice_index_or, arith, refl, sym, ap, subst, append_assoc}
 use Rattle.std.specs.Global.{Global}
 use Rattle.std.proofs.lemmas.List.{append-nil, map-append}
 use Rattle.rd_step.specs.Prelude.{Refusal}
@@ -7,7 +7,7 @@ use Rattle.rd_lock.specs.declared.views.Recorded.{Ghosts}
 use Rattle.rd_lock.specs.declared.passes.Pass.{Pass}
 use Rattle.rd_lock.specs.Histories.{named, numbers}
 use Rattle.std.specs.List.{AllByRecursion, AllZip}
-use Rattle.rd_lock.specs.Locks.{number, own, seen}
+use Rattle.rd_lock.specs.Locks.{number, own, seen, next_seen}
 use Rattle.rd_marks.specs.Books.{BookState}
 use Rattle.rd_marks.specs.declared.books.Book.{Book}
 use Rattle.rd_marks.specs.declared.commands.Command.{Command}
@@ -20,12 +20,12 @@ use Rattle.rd_desk.specs.declared.histories.History.{History}
 use Rattle.rd_desk.specs.declared.recording.BookWithHistory.{BookWithHistory}
 use Rattle.rd_desk.specs.declared.viewers.Ran.{Ran}
 use Rattle.rd_desk.specs.declared.viewers.Ran.TheVariants.{Answered, NoMemory as NotStarted}
-use Rattle.rd_desk.specs.Asking.{KnowsAfterCall, KnowsAfterRefusal}
+use Rattle.rd_desk.specs.Asking.{KnowsAfterCall, KnowsAfterRefusal, KnowsByOutcome}
 use Rattle.rd_desk.specs.Desks.{IsViewerOf, IsNewViewer, AgreesWith, opened_state}
 use Rattle.rd_desk.specs.Histories.{entries, viewer_entry}
 use Rattle.rd_desk.specs.Viewers.{IsChain, IsRan}
 use Rattle.rd_script.specs.declared.faults.LineFault.{LineFault}
-use Rattle.rd_view.specs.Viewing.{commands_of, calls_of, passes_of, answers_of, IsSeen, WasAnswered, AreAnswered}
+use Rattle.rd_view.specs.Viewing.{commands_of, calls_of, passes_of, answers_of, IsSeen, WasAnswered, AreAnswered, StaysEnded}
 
 -- no list is one with an element before it
 no_cons : {A : Type 0} (x : A) (xs : List A) → [] ≡ x ∷ xs → ⊥
@@ -61,19 +61,20 @@ module _ (R : ℕ) (K : Ghosts (BookWithHistory R) Call (Book R)) (opened : Book
   chain_grew [] [] p q is = (ap number is, ap (λ x. map (λ e. e.1) (own x)) is ∙ sym (append-nil (map (λ e. e.1) (own p))))
   chain_grew (c ∷ commands) (Ok answer ∷ answers) p q is =
       let more = chain_grew commands answers is.0 q is.2 in (
-        more.0 ∙ is.1.same_number,
+        more.0 ∙ is.1.outcome.same_number,
         more.1
-            ∙ ap (λ es. map (λ e. e.1) es ++ calls_of commands answers) is.1.has_grown
+            ∙ ap (λ es. map (λ e. e.1) es ++ calls_of commands answers) is.1.outcome.has_grown
             ∙ ap (λ es. es ++ calls_of commands answers) (map-append (λ e. e.1) (own p) _)
             ∙ append_assoc (map (λ e. e.1) (own p)) (record { command = c; answer = answer } ∷ []) (calls_of commands answers),
       )
   chain_grew (c ∷ commands) (Err refusal ∷ answers) p q is =
       let more = chain_grew commands answers is.0 q is.2 in
-      let same = refused_same p is.0 refusal is.1.0 in (more.0 ∙ same.0, more.1 ∙ ap (λ es. map (λ e. e.1) es ++ calls_of commands answers) same.1)
+      let same = refused_same p is.0 refusal is.1.outcome.0 in (more.0 ∙ same.0, more.1 ∙ ap (λ es. map (λ e. e.1) es ++ calls_of commands answers) same.1)
   chain_grew _ _ p q is = absurd is
 
   -- what a pass has seen after a call
-  is_seen : (viewer : ℕ) (command : Command) (answer : Answer) (p q : ViewPass) → number p ≡ viewer → told p command answer q → IsSeen R opened viewer (seen p) command answer (seen q)
+  is_seen : (viewer : ℕ) (command : Command) (answer : Answer) (p q : ViewPass) → number p ≡ viewer → KnowsByOutcome R opened p q command answer
+      → IsSeen R opened viewer (seen p) command answer (seen q)
   is_seen viewer command (Ok answer) p q is asked = (
     asked.between,
     subst (λ n. seen q ≡ (seen p ++ asked.between) ++ viewer_entry n command answer ∷ []) is asked.has_seen,
@@ -86,7 +87,7 @@ module _ (R : ℕ) (K : Ghosts (BookWithHistory R) Call (Book R)) (opened : Book
   is_seen viewer command (Err (Busy words)) p q is found = found.1
 
   -- a call leaves the number of its pass
-  same_number : (command : Command) (answer : Answer) (p q : ViewPass) → told p command answer q → number q ≡ number p
+  same_number : (command : Command) (answer : Answer) (p q : ViewPass) → KnowsByOutcome R opened p q command answer → number q ≡ number p
   same_number command (Ok answer) p q asked = asked.same_number
   same_number command (Err refusal) p q found = (refused_same p q refusal found.0).0
 
@@ -96,10 +97,31 @@ module _ (R : ℕ) (K : Ghosts (BookWithHistory R) Call (Book R)) (opened : Book
   are_seen viewer [] [] p q is chain = ap seen chain
   are_seen viewer (c ∷ commands) (answer ∷ answers) p q is chain = (
     seen chain.0,
-    is_seen viewer c answer p chain.0 is chain.1,
-    are_seen viewer commands answers chain.0 q (same_number c answer p chain.0 chain.1 ∙ is) chain.2,
+    is_seen viewer c answer p chain.0 is chain.1.outcome,
+    are_seen viewer commands answers chain.0 q (same_number c answer p chain.0 chain.1.outcome ∙ is) chain.2,
   )
   are_seen viewer _ _ p q is chain = absurd chain
+
+  -- a pass that is answered that the tickets have ended has seen all of them drawn
+  has_seen_the_end : (command : Command) (answer : Answer) (p q : ViewPass) → answer ≡ Err TicketsEnded → told p command answer q → next_seen q ≡ 2 ^ 63
+  has_seen_the_end command answer p q is knows = (subst (λ a. KnowsByOutcome R opened p q command a) is knows.outcome).0.1
+
+  -- and is answered nothing else then
+  all_ended : (commands : List Command) (answers : List Answer) (p q : ViewPass) → next_seen p ≡ 2 ^ 63 → IsChain told p commands answers q
+      → AllByRecursion (λ answer. answer ≡ Err TicketsEnded) answers
+  all_ended [] [] p q at chain = tt
+  all_ended (c ∷ commands) (answer ∷ answers) p q at chain =
+      let now = chain.1.ended at in (now, all_ended commands answers chain.0 q (has_seen_the_end c answer p chain.0 now chain.1) chain.2)
+  all_ended _ _ p q at chain = absurd chain
+
+  -- so after the first such answer there is no other
+  pub stays_ended : (commands : List Command) (answers : List Answer) (p q : ViewPass) → IsChain told p commands answers q → StaysEnded answers
+  stays_ended [] [] p q chain = tt
+  stays_ended (c ∷ commands) (answer ∷ answers) p q chain = (
+    λ now. all_ended commands answers chain.0 q (has_seen_the_end c answer p chain.0 now chain.1) chain.2,
+    stays_ended commands answers chain.0 q chain.2,
+  )
+  stays_ended _ _ p q chain = absurd chain
 
 module _ (R : ℕ) (K : Ghosts (BookWithHistory R) Call (Book R)) (desk : Desk R) where
   -- the gate's relations of this desk
@@ -137,6 +159,7 @@ module _ (R : ℕ) (K : Ghosts (BookWithHistory R) Call (Book R)) (desk : Desk R
         calls =
             ap (λ k. map (λ e. e.1) (named k 0 (entries history))) (sym (grew.0 ∙ is)) ∙ ap (λ es. map (λ e. e.1) es) (sym knows.1) ∙ grew.1
             ∙ ap (λ es. map (λ e. e.1) es ++ calls_of commands answers) new.has_own;
+        ended = stays_ended R K (opened_state desk) commands answers first last chain;
       }
 
   -- what all viewers were answered, from this number on

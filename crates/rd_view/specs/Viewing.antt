@@ -18,7 +18,7 @@ use Rattle.rd_desk.specs.declared.viewers.Ran.TheVariants.{Answered, NoMemory as
 use Rattle.rd_desk.specs.declared.histories.TheConstants.{MOST_CALLS}
 use Rattle.rd_desk.specs.Histories.{entries, viewer_entry, IsLegal, IsUnrecorded}
 use Rattle.rd_desk.specs.Viewers.{IsChain}
-use Rattle.std.specs.List.{AllZip}
+use Rattle.std.specs.List.{AllByRecursion, AllZip}
 use Rattle.rd_script.specs.declared.faults.LineFault.{LineFault}
 use Rattle.rd_script.specs.Device.{TakesBeginning}
 use Rattle.rd_script.specs.Lines.{lines_of, AreSaid}
@@ -74,15 +74,21 @@ module _ (R : ℕ) (opened : BookState) (viewer : ℕ) where
   IsSeen old command (Err TicketsEnded) new = new ≡ old
   IsSeen old command (Err (Busy words)) new = ⊥
 
+-- after the first answer that the tickets have ended there is no other answer
+abbrev pub StaysEnded : List (Result (Result Reply Refusal) DeskRefusal) → Type 0
+StaysEnded [] = Unit {0}
+StaysEnded (answer ∷ answers) = (answer ≡ Err TicketsEnded → AllByRecursion (λ later. later ≡ Err TicketsEnded) answers) × StaysEnded answers
+
 module _ (R : ℕ) (opened : BookState) (history : List (ℕ × Call)) where
   -- the viewer of this number asked these commands, one after another, and got these answers; the
   -- history begins with all that it has seen then, and its calls there, in order, are just those
-  -- that were recorded
+  -- that were recorded; once the tickets have ended, they have ended for each later command
   pub record WasAnswered (viewer : ℕ) (commands : List Command) (answers : List (Result (Result Reply Refusal) DeskRefusal)) : Type 0 where
     pub seen : List (ℕ × Call)
     pub chain : IsChain (IsSeen R opened viewer) [] commands answers seen
     pub extends : IsPrefix seen history
     pub calls : map (λ e. e.1) (named viewer 0 history) ≡ calls_of commands answers
+    pub ended : StaysEnded answers
 
   -- the viewer of this number got these answers to its commands, or its thread was not started
   abbrev pub IsAnswered : ℕ → List Command → Option (Vec (Result (Result Reply Refusal) DeskRefusal) Global) → Type 0
