@@ -1,6 +1,6 @@
 //! What the viewers did: their calls, in the one order in which the book obeyed them.
 
-ghost use Rattle.std.specs.Prelude.{◌≡◌, ◌<◌, ◌==◌, ◌++◌, ◌∷◌, [], length, vec_len, vec_capacity, OnOk};
+ghost use Rattle.std.specs.Prelude.{◌≡◌, ◌<◌, ◌≤◌, ◌==◌, ◌++◌, ◌∷◌, [], length, vec_len, vec_capacity, OnOk, OnErr};
 
 use rd_cell::Refusal;
 use rd_marks::{Command, Reply};
@@ -67,6 +67,7 @@ impl History {
     pub(crate) fn make_room(&mut self) -> Result<(), AllocError>
         ensures entries { entries self.new ≡ entries self.old }
         ensures ok { OnOk result (vec_len self.new.entries < vec_capacity self.new.entries) }
+        ensures err { OnErr result (vec_capacity self.old.entries ≤ vec_len self.old.entries) }
     {
         self.entries.reserve(1)
     }

@@ -5,8 +5,9 @@
 //! is room to record it. The book is kept in a box, so that a call moves a few words into the lock
 //! and out of it, and not the book.
 
-ghost use Rattle.std.specs.Prelude.{◌≡◌, ◌<◌, ◌≤◌, ◌++◌, ◌∷◌, [], length, IfOk, IfErr, OnOk, OnErr};
+ghost use Rattle.std.specs.Prelude.{◌≡◌, ◌<◌, ◌≤◌, ◌++◌, ◌∷◌, [], length, vec_len, vec_capacity, IfOk, IfErr, OnOk, OnErr};
 ghost use Rattle.rd_marks.specs.BookViews.{book_state};
+ghost use Rattle.rd_desk.specs.declared.gates.DeskRefusal.TheVariants.{NotRecorded};
 ghost use Rattle.rd_desk.specs.Histories.{MOST_CALLS, entries, IsLeftBy, IsUnrecorded, viewer_entry as recorded};
 
 use super::gates::DeskRefusal;
@@ -74,6 +75,7 @@ impl<const R: usize> BookWithHistory<R> {
         ensures ok { IfOk result (λ answer. entries self.new.history ≡ entries self.old.history ++ recorded viewer command answer ∷ []) }
         ensures few { OnOk result (length (entries self.old.history) < MOST_CALLS) }
         ensures err { IfErr result (λ refusal. IsUnrecorded (entries self.old.history) refusal) }
+        ensures full { IfErr result (λ refusal. refusal ≡ NotRecorded → vec_capacity self.old.history.entries ≤ vec_len self.old.history.entries) }
         ensures unchanged { OnErr result (entries self.new.history ≡ entries self.old.history) }
         ensures opened { self.new.opened.value ≡ self.old.opened.value }
     {
