@@ -78,4 +78,4 @@ pub record Performs {S : Type 0} (text : S → Text) (words : Result (Vec S Glob
   pub reported : Option (List ℕ)
   pub report_failed : Bool
   pub does : HasOutcome text words (record d { out_after = reported; out_failed = report_failed }) outcome
-  pub ends : Ends outcome status d.out_failed reported d.out_after errors_failed errors errors'
+  pub ends : Ends outcome status report_failed d.out_failed reported d.out_after errors_failed errors errors'

@@ -53,7 +53,7 @@ impl Outcome {
         requires output_works { is_shown self.now ≡ true → O.has_failed output.old ≡ false }
         requires errors_work { E.has_failed errors.old ≡ false }
         ensures { Ends self.now (exit_status result)
-            (O.has_failed output.new) (O.contents output.old) (O.contents output.new)
+            (O.has_failed output.old) (O.has_failed output.new) (O.contents output.old) (O.contents output.new)
             (E.has_failed errors.new) (E.contents errors.old) (E.contents errors.new) }
     {
         match self {

@@ -54,8 +54,12 @@ abbrev pub Takes : Bool → Option (List ℕ) → Option (List ℕ) → List ℕ
 Takes false old new text = Appends old new text
 Takes true old new text = TakesBeginning old new text
 
--- how the program ends after an outcome: with status 0 and nothing more on standard error, or with
--- status 1 and the line of the refusal there
+-- a stream got nothing: it has what it had, and has failed only if it had failed before
+abbrev pub GetsNothing : Bool → Bool → Option (List ℕ) → Option (List ℕ) → Type 0
+GetsNothing failed failed' old new = (new ≡ old) × (failed' ≡ failed)
+
+-- how the program ends after an outcome: with status 0 and nothing more on standard error, which
+-- has not failed, or with status 1 and the line of the refusal there
 abbrev pub EndsAs : Result ℕ ProgramFault → ℕ → Bool → Option (List ℕ) → Option (List ℕ) → Type 0
-EndsAs (Ok lines) status failed errors errors' = (status ≡ 0) × (errors' ≡ errors)
+EndsAs (Ok lines) status failed errors errors' = (status ≡ 0) × GetsNothing false failed errors errors'
 EndsAs (Err fault) status failed errors errors' = (status ≡ 1) × Takes failed errors errors' (error_line (refusal_of fault))

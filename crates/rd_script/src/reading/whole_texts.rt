@@ -1,6 +1,6 @@
 //! What the lines of a whole text spell: each is read like a line from a device.
 
-ghost use Rattle.std.specs.Prelude.{◌≡◌, ◌≢◌, ◌==◌, [], IfOk, IfErr};
+ghost use Rattle.std.specs.Prelude.{◌≡◌, ◌≢◌, ◌==◌, [], IfOk, IfErr, IsOk};
 ghost use Rattle.std.specs.List.{slice_split};
 ghost use Rattle.rd_cell.specs.declared.refusal.Refusal.TheVariants.{NoMemory};
 ghost use Rattle.rd_script.specs.Lines.{lines_of, AreSaid};
@@ -16,10 +16,11 @@ use std::alloc::Global;
 ///
 /// # Errors
 ///
-/// `NoMemory` if the room for them was refused.
+/// `NoMemory` if the room for them was refused. Never if the text is empty.
 pub fn lines(alloc: Global, text: &[u8]) -> Result<Vec<Result<Command, LineFault>>, Refusal>
     ensures ok { IfOk result (λ said. AreSaid (lines_of text.now) said.items) }
     ensures err { IfErr result (λ refusal. refusal ≡ NoMemory) }
+    ensures succeeds { text.now ≡ [] → IsOk result }
 {
     if text.is_empty() {
         return Ok(Vec::new(alloc));
