@@ -4,6 +4,7 @@
 //! Rows are borrowed, and one helper walks those of a kind, with one assertion: so their proof is
 //! cheap.
 
+mod conversations;
 mod devices;
 mod going;
 mod halves;

@@ -30,7 +30,7 @@ const AMPLE: usize = 1_000_000;
 
 /// The command lines, in order. Where one opens a file, the script on the input differs from that
 /// in the file.
-const REHEARSALS: [Rehearsal; 27] = [
+const REHEARSALS: [Rehearsal; 29] = [
     Rehearsal {
         words: &[
             "run",
@@ -135,6 +135,11 @@ const REHEARSALS: [Rehearsal; 27] = [
         room: AMPLE,
     },
     Rehearsal {
+        words: &["view", "--help"],
+        input: "len\n",
+        room: AMPLE,
+    },
+    Rehearsal {
         words: &["run", "two-actors.script"],
         input: "",
         room: 7,
@@ -159,6 +164,11 @@ const REHEARSALS: [Rehearsal; 27] = [
             "--actors",
             "2",
         ],
+        input: "len\n",
+        room: AMPLE,
+    },
+    Rehearsal {
+        words: &["view", "each-command.script"],
         input: "len\n",
         room: AMPLE,
     },
