@@ -69,6 +69,7 @@ def session(events="[]", marks="[]", start='{"fresh":1}', undone="[]") -> str:
 TRACES = [
     ("a trace", '{"actors":4,"events":[["enq",1,7],["go",1]],"ring":4,"version":1}\n', "len\n", 0, "at 2 0\n", ""),
     ("a trace in another order", '{"version":1, "ring":2, "events":[], "actors":1}', "deq 2\n", 0, "refused 1 NoActor\n", ""),
+    ("a trace above 2 MB", '{"version":1, "ring":2, "events":[], "actors":1}' + " " * 2_200_000, "len\n", 0, "at 0 0\n", ""),
     ("half a trace", '{"actors":4,"ev', "len\n", 1, "", "lcrqdb: refused 27 BadTrace\n"),
     ("a float in a trace", '{"actors":4,"events":[],"ring":4,"version":1.0}', "len\n", 1, "", "lcrqdb: refused 27 BadTrace\n"),
     (
