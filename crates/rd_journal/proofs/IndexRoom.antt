@@ -12,10 +12,6 @@ fits_none index = record { lists = λ t. omega arith }
 pub fits_back : (old new : DependIndex) (gone rest : List Entry) → GivesRoom old new gone → HasRoomFor old rest → HasRoomFor new (gone ++ rest)
 fits_back old new gone rest gives has = record { lists = λ t. omega (arith, number-append (touches t) gone rest, has.lists t, gives t) }
 
--- and for those for which there is in their place
-pub fits_instead : (old new : DependIndex) (gone given : List Entry) → GivesRoom old new gone → HasRoomInstead old gone given → HasRoomFor new given
-fits_instead old new gone given gives has = record { lists = λ t. omega (arith, has.lists t, gives t) }
-
 -- what has no room in place of more entries has none in place of the first of them
 pub lacks_fewer : (index : DependIndex) (m : ℕ) (front gone given : List Entry) → (HasRoomInstead index (front ++ gone) given → ⊥)
     → LacksIndexRoom index (front ++ take m gone) given
@@ -35,10 +31,6 @@ lacks_fewer index m front gone given lacks has = lacks (record {
 -- there is room for the first ones
 pub fits_first : (index : DependIndex) (xs ys : List Entry) → HasRoomFor index (xs ++ ys) → HasRoomFor index xs
 fits_first index xs ys has = record { lists = λ t. omega (arith, number-append (touches t) xs ys, has.lists t) }
-
--- and for the last ones
-pub fits_last : (index : DependIndex) (xs ys : List Entry) → HasRoomFor index (xs ++ ys) → HasRoomFor index ys
-fits_last index xs ys has = record { lists = λ t. omega (arith, number-append (touches t) xs ys, has.lists t) }
 
 -- where there is room for one and others there is room for it
 pub fits_one : (index : DependIndex) (x : Entry) (rest : List Entry) → HasRoomFor index (x ∷ rest) → HasRoomFor index (x ∷ [])

@@ -1,5 +1,5 @@
 -- A session's run as the headline has it.
-use Rattle.std.proofs.Common.{◌≡◌, ◌<◌, ◌≤◌, ◌↔◌, inl, inr, ℕ, zero, suc, List, length, Option, Some, None, Err, sym, arith}
+use Rattle.std.proofs.Common.{◌≡◌, ◌<◌, ◌≤◌, ◌↔◌, inl, inr, ℕ, zero, suc, length, Option, Some, None, Err, arith}
 use Rattle.std.proofs.lemmas.Bool.{cond-true, cond-false, lt-ltb, le-ltb}
 use Rattle.std.proofs.lemmas.Option.{slice_get_past}
 use Rattle.rd_marks.proofs.Prelude.{length-map, cases_lt, State, state_of, undo_at, Journal, BookState}

@@ -1,5 +1,5 @@
 use Rattle.std.proofs.Common.{◌≡◌, ◌∙◌, ◌<◌, List, [], ◌∷◌, ◌++◌, length, take, drop, inl, inr, refl, sym, ap, subst, arith}
-use Rattle.rd_journal.proofs.Prelude.{append-nil, take_all, take-append-le, drop-append_seam, Entry, HasRoomInstead, kept_entries, NoMemory, model, room, MOST_STEPS, error_passed_up, fact_passed_up, IsIndexOf, ok_then, IsLengthened, whole_journal, journal_of, live_entries, ahead_entries, journal}
+use Rattle.rd_journal.proofs.Prelude.{append-nil, take_all, take-append-le, drop-append_seam, Entry, HasRoomInstead, kept_entries, NoMemory, model, room, MOST_STEPS, error_passed_up, fact_passed_up, IsIndexOf, ok_then, IsLengthened, events, whole_journal, journal_of, live_entries, ahead_entries, journal}
 use Rattle.rd_journal.proofs.Ahead.{is_session, none_taken}
 use Rattle.rd_journal.proofs.Calls.{live_len, applies, apply_refused, apply_goes, longer_session, same_session}
 use Rattle.rd_journal.proofs.Outcomes.{err_then}
@@ -23,12 +23,14 @@ invariant_of-self g c =
 
 pub returns-in_err-make_room_for-clause-err : goal.returns-in_err-make_room_for-clause-err
 returns-in_err-make_room_for-clause-err g c =
-    let old = journal c.args.self.now in
+    let self = c.args.self.now in
+    let old = journal self in
+    let full = full_entries self.entries (omega (arith, c.in_err-make_room_for.ensures.err, c.live_len-live.ensures)) in
     error_passed_up _ NoMemory c.from_residual.result c.from_residual.ensures.1 (inr (
       refl,
       record {
-        not_full = omega (arith, live_len old, c.live_len.ensures, (is_session c.args.self.now).few);
-        asked = inl (grind (arith, full_entries, none_taken));
+        not_full = omega (arith, live_len old, c.live_len.ensures, (is_session self).few);
+        asked = inl (ap events (none_taken self.undone (ahead_entries self.entries) full.none));
       },
     ))
 
