@@ -6,7 +6,7 @@
 It prints a Markdown table, a row a crate in the order of crates.txt. Code is what `src/` has but
 tests, contracts included; definitions are `specs/`, proofs are `proofs/`; tests are `src/tests.rt`,
 `src/tests/` and the proofs of these, in the crate or in the one with `_tests` after its name, and
-all that `machine_tests` and `test_kit` have. Which definitions a contract reaches is said by
+all that the crates of several crates' tests and `test_kit` have. Which definitions a contract reaches is said by
 `definitions.py`.
 
 A line counts if it is neither blank nor a comment alone. Only Python's standard library is used.

@@ -1,4 +1,0 @@
-//! The text of a view, and views of scripts by threads.
-
-mod reports;
-mod viewing;

@@ -1,0 +1,11 @@
+//! The tests of the desk, over a book of 4 actors and rings of 4 cells; the text of a view, and
+//! views of scripts by threads.
+
+mod busy;
+mod calls;
+mod ends;
+mod gate;
+mod reports;
+mod rows;
+mod threads;
+mod viewing;
