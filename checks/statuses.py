@@ -19,6 +19,7 @@ sys.path.insert(0, str(Path(__file__).resolve().parent.parent / "tools"))
 import program
 
 LESSONS = program.CRATES / "lessons" / "data"
+EACH = program.CRATES / "rehearsals" / "data" / "each-command.script"  # a line of each command
 
 # A name, the words, standard input, the status, and how standard output and standard error begin.
 ROWS = [
@@ -222,12 +223,20 @@ def is_as_its_page_says(built: str, page: Path) -> bool:
     return status == 0 and table_of(lines, output.splitlines()) in text
 
 
+def help_fault(built: str) -> str:
+    """Which commands the help of `run` leaves out, or nothing."""
+    _, text, _ = run(built, ["run", "--help"])
+    listed = set(text.partition("Lines of a script:")[2].replace(",", " ").split())
+    return " ".join(sorted({line.split(" ")[0] for line in EACH.read_text().splitlines()} - listed))
+
+
 def all_checks(built: str):
     """The checks, each a name and what is wrong, or nothing."""
     for row in ROWS:
         yield row[0], run_row(built, row)
     for row in TRACES:
         yield row[0], run_trace(built, row)
+    yield "the help has each command", help_fault(built)
     yield "a closed pipe", closed_pipe(built)
     yield "a full device", full_device(built)
     for page in sorted(LESSONS.glob("[0-9]*.md")):
