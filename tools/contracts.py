@@ -18,6 +18,8 @@ Clause = collections.namedtuple("Clause", "kind label text")
 OWNER = re.compile(r"(?:pub )?(?:impl\b(?:<.*?>)? (?:.* for )?|trait )(\w+)\b.*\{$")
 FUNCTION = re.compile(r" *(pub )?(?:pub\(\w+\) )?(?:const )?fn (\w+)")
 CLAUSE = re.compile(r" *(requires|ensures)(?: (\w+))? \{")
+HEADING = re.compile(r" *(?://.*)?$")  # of a group of clauses, or the blank line above it
+BEGINS_CLAUSES = re.compile(f"{CLAUSE.pattern}|{HEADING.pattern}")
 DEFINITION = re.compile(r" *(?:(?:abbrev|unfoldable) (?:pub )?|pub (?:record|data) )(\w+)")
 TYPE = re.compile(r"(?:pub(?:\(\w+\))? )?(?:struct|enum|trait|const|type) (?!fn )(\w+)")
 STRUCT = re.compile(r"(?:pub(?:\(\w+\))? )?struct .*\{$", re.MULTILINE)
@@ -49,7 +51,7 @@ def clauses_at(lines, at):
             found.append(Clause(*begins.groups(), line.rstrip(";")))
         elif found and found[-1].text.count("{") != found[-1].text.count("}"):
             found[-1] = found[-1]._replace(text=f"{found[-1].text}\n{line}")
-        else:
+        elif not HEADING.match(line):
             break
     return found
 
@@ -57,7 +59,7 @@ def clauses_at(lines, at):
 def function_at(lines, first, header):
     """The function that begins at this line, in what begins with this header, if in anything."""
     begins, last = FUNCTION.match(lines[first]), first
-    while not lines[last].endswith(("{", ";")) and not CLAUSE.match(lines[last + 1]):
+    while not lines[last].endswith(("{", ";")) and not BEGINS_CLAUSES.match(lines[last + 1]):
         last += 1
     signature = "\n".join(lines[first : last + 1]).rstrip("{; \n")
     owner = header and OWNER.match(header)[1]

@@ -1,6 +1,8 @@
 -- What the calls of a session answer, over its journal.
-use Rattle.std.proofs.Common.{◌≡◌, ℕ, zero, suc, ◌+◌, ◌-◌, ◌<◌, ◌≤◌, ◌⊎◌, refl, sym, ◌∙◌, ap, subst, List, [], ◌∷◌, ◌++◌, length, get_or, ok_or, Result, Ok, Err, IsOk, arith, ne_eqb, length-append}
-use Rattle.rd_journal.proofs.Prelude.{result_map, cond-false, map-append, length-map, take-map, slice_get_past, slice_get-get_or, Refusal, NoSuchStep, Stepped, step, IsWellFormed, MOST_STEPS, Event, Entry, Journal, events, IsRun, entry_of, IsSession, HasRoom, State, state_of, with_event, apply, back_one, forward_one, times, undo, redo, back, forward, IsLengthened, IsMovedBack, IsBeforeLast}
+use Rattle.std.proofs.Common.{◌≡◌, ℕ, zero, suc, ◌+◌, ◌-◌, ◌<◌, ◌≤◌, ◌⊎◌, refl, sym, ◌∙◌, ap, subst, List, [], ◌∷◌, ◌++◌, length, take, get_or, ok_or, Result, Ok, Err, IsOk, arith, ne_eqb, length-append}
+use Rattle.rd_journal.proofs.Prelude.{result_map, cond-false, map-append, length-map, take-map, slice_get_past, slice_get-get_or, Refusal, NoSuchStep, Stepped, step, IsWellFormed, MOST_STEPS, Event, Entry, model, live_entries, ahead_entries, Journal, events, IsRun, entry_of, IsSession, HasRoom, State, state_of, with_event, apply, back_one, forward_one, times, undo, redo, back, forward, IsLengthened, IsMovedBack, IsBeforeLast}
+use Rattle.rd_journal.specs.Sessions.{IsUnchanged}
+use Rattle.rd_journal.specs.declared.sessions.Session.{Session}
 use Rattle.rd_journal.proofs.Runs.{step_event, start_stays, now_formed, grown}
 
 -- Lengths
@@ -75,6 +77,14 @@ same_session R old new before after session same more =
       runs = session.runs;
       has_room = record { at = λ m. let a = session.has_room.at m in let b = more m in omega arith };
     })
+
+-- a session with the world and the entries from before is unchanged
+pub unchanged : {R : ℕ} (old new : Session R) → model new.world ≡ model old.world → live_entries new.entries ≡ live_entries old.entries
+    → ahead_entries new.entries ≡ ahead_entries old.entries → new.undone ≡ old.undone → IsUnchanged old new
+unchanged old new world live ahead count = record {
+  journal = λ i. record { world = world i; live = live i; undone = take (count i) (ahead i) };
+  track = λ i. events (live i) ++ events (ahead i);
+}
 
 -- the event is answered as its step is, since the live events run to the world
 applied : (R : ℕ) (j : Journal) (e : Event) (r : Result Stepped Refusal) → IsRun R j → length j.live < MOST_STEPS → step R j.world e ≡ r

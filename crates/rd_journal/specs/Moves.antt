@@ -1,6 +1,7 @@
 -- How a call changes the entries of a journal.
 use Rattle.std.specs.Prelude.{◌≡◌, ℕ, zero, suc, ◌-◌, nat_lt, if◌then◌else◌, List, [], ◌∷◌, ◌++◌, length, take, drop, Option, Some, None, Result, Ok, Err}
-use Rattle.rd_step.specs.Prelude.{Refusal, NoSuchStep, Depended, first_dependant, without, unmarked, closure, closure_of, without_closure, run}
+use Rattle.rd_step.specs.Prelude.{Refusal, NoSuchStep, Depended, step, first_dependant, without, unmarked, closure, closure_of, without_closure, run}
+use Rattle.rd_step.specs.declared.entries.Event.{Event}
 use Rattle.rd_step.specs.declared.entries.Entry.{Entry}
 use Rattle.rd_journal.specs.Journal.{Journal, start_of, events}
 
@@ -8,6 +9,13 @@ use Rattle.rd_journal.specs.Journal.{Journal, start_of, events}
 pub record IsLengthened (x : Entry) (old new : Journal) : Type 0 where
   pub live : new.live ≡ old.live ++ x ∷ []
   pub undone : new.undone ≡ []
+
+-- the step of an event leads from the old world to the new one, and its entry is the last live one,
+-- with this number
+pub record IsStepOf (R : ℕ) (e : Event) (done : ℕ × Entry) (old new : Journal) : Type 0 where
+  pub goes : step R old.world e ≡ Ok (record { world = new.world; entry = done.1 })
+  pub entries : IsLengthened done.1 old new
+  pub number : done.0 ≡ length new.live
 
 -- the last n live entries became the front of the undone ones, in their order, and no entry
 -- changed

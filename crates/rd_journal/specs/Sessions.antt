@@ -1,6 +1,6 @@
 -- The code's session, as its journal, as its state, and with its track, its room and its index:
 -- what public clauses cite.
-use Rattle.std.specs.Prelude.{◌≡◌, ◌⊎◌, ℕ, List, ◌++◌, take, Err}
+use Rattle.std.specs.Prelude.{◌≡◌, ◌⊎◌, ℕ, List, ◌++◌, take, Result, Ok, Err}
 use Rattle.rd_step.specs.Prelude.{Refusal, NoMemory, model, room as world_room}
 use Rattle.rd_depend.specs.declared.index.DependIndex.{DependIndex}
 use Rattle.rd_journal.specs.declared.sessions.Session.{Session}
@@ -37,6 +37,23 @@ capacity s = entries_capacity s.entries
 -- the session's index of dependants: that of the live steps and, after them, of those ahead
 abbrev pub index : {R : ℕ} → Session R → DependIndex
 index s = s.index
+
+-- a call answers as a function on states does: at `Ok` the session's state is the function's, and
+-- a refusal is the function's, and leaves the session as it was
+abbrev pub AnswersAs : {R : ℕ} → Result State Refusal → Result Unit Refusal → Session R → Session R → Type 0
+AnswersAs wanted (Ok _) old new = wanted ≡ Ok (state new)
+AnswersAs wanted (Err refusal) old new = (wanted ≡ Err refusal) × (new ≡ old)
+
+-- the session goes along its track: the track, the index and the room for entries stay
+pub record GoesAlong {R : ℕ} (old new : Session R) : Type 0 where
+  pub track : track new ≡ track old
+  pub index : index new ≡ index old
+  pub capacity : capacity new ≡ capacity old
+
+-- the session has the journal and the track from before
+pub record IsUnchanged {R : ℕ} (old new : Session R) : Type 0 where
+  pub journal : journal new ≡ journal old
+  pub track : track new ≡ track old
 
 -- a session may refuse an event so: as the event is refused in its state, or for lack of memory
 -- where room is missing

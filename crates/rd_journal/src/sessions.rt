@@ -22,14 +22,14 @@ mod starting;
 mod switching;
 
 ghost use Rattle.std.specs.Prelude.{◌≡◌, ◌⊎◌, ◌++◌, ◌+◌, ◌≤◌, ℕ, [], length, take, drop, Ok, Err, IsOk, OnOk, OnErr, IfOk, IfErr};
-ghost use Rattle.rd_step.specs.Prelude.{model, room as world_room, step};
+ghost use Rattle.rd_step.specs.Prelude.{model, room as world_room};
 ghost use Rattle.rd_journal.specs.Journal.{events, start_of, IsRunFrom};
 ghost use Rattle.rd_journal.specs.Kept.{whole_journal, IsSession};
 ghost use Rattle.rd_journal.specs.Room.{ComesAfterRoom, LacksRoom};
 ghost use Rattle.rd_depend.specs.Index.{IsIndexOf};
 ghost use Rattle.rd_journal.specs.Entries.{ahead_entries, kept_entries};
 ghost use Rattle.rd_journal.specs.State.{apply, reply_to, MayLackMemory, undo, undo_at, back, redo, forward, roll, switch};
-ghost use Rattle.rd_journal.specs.Moves.{IsLengthened, IsMovedBack, IsMovedForward, IsBeforeLast, IsUndoneAlone, IsRunWithout, IsSwitched, IsRolledBack, IsWithoutClosure, answer_at, roll_answer};
+ghost use Rattle.rd_journal.specs.Moves.{IsStepOf, IsMovedBack, IsMovedForward, IsBeforeLast, IsUndoneAlone, IsRunWithout, IsSwitched, IsRolledBack, IsWithoutClosure, answer_at, roll_answer};
 
 use super::entries::Entries;
 use super::indexing::index_instead;
@@ -71,7 +71,7 @@ impl<const R: usize> Drop for Session<R> {
 }
 
 impl<const R: usize> Session<R> {
-    ghost use Rattle.rd_journal.specs.Sessions.{journal, state, track, room, capacity, index, MayRefuse};
+    ghost use Rattle.rd_journal.specs.Sessions.{journal, state, track, room, capacity, index, MayRefuse, AnswersAs, GoesAlong, IsUnchanged};
 
     /// Opens a session in a world, which is its start and keeps its room. It takes no memory.
     pub fn open(alloc: Global, world: World<R>) -> Session<R>
@@ -99,18 +99,17 @@ impl<const R: usize> Session<R> {
     /// `NoMemory` if the index of dependants has no room for the step and was refused it. Nothing
     /// has changed then.
     pub fn apply(&mut self, event: Event) -> Result<(u64, Entry), Refusal>
+        // A step is made in the world, and its event is put last in the state.
         ensures ok { OnOk result (apply R (state self.old) event ≡ Ok (state self.new)) }
-        ensures step { IfOk result (λ done. step R (journal self.old).world event
-            ≡ Ok (record { world = (journal self.new).world; entry = done.1 })) }
-        ensures entries { IfOk result (λ done. IsLengthened done.1 (journal self.old) (journal self.new)) }
-        ensures number { IfOk result (λ done. done.0 ≡ length (journal self.new).live) }
         ensures reply { IfOk result (λ done. reply_to R (state self.old) event ≡ done.1.reply) }
+        ensures step { IfOk result (λ done. IsStepOf R event done (journal self.old) (journal self.new)) }
+
+        // It is refused in its state, or for lack of memory, and then nothing changes.
         ensures err { IfErr result (λ refusal. (apply R (state self.old) event ≡ Err refusal)
             ⊎ ((refusal ≡ Refusal.NoMemory) × MayLackMemory R (state self.old) event)) }
         ensures memory { IfErr result (MayRefuse self.old event) }
         ensures order { IfErr result (λ refusal. ComesAfterRoom (length (journal self.new).live) (capacity self.new) refusal) }
-        ensures unchanged { OnErr result (journal self.new ≡ journal self.old) }
-        ensures track { OnErr result (track self.new ≡ track self.old) }
+        ensures unchanged { OnErr result (IsUnchanged self.old self.new) }
     {
         if self.entries.live_len() == MOST_STEPS {
             return Err(Refusal::TooLong);
@@ -133,14 +132,10 @@ impl<const R: usize> Session<R> {
     ///
     /// `NothingToUndo(0)` if no step is live. Nothing has changed then.
     pub fn undo(&mut self) -> Result<(), Refusal>
-        ensures ok { OnOk result (undo (state self.old) ≡ Ok (state self.new)) }
+        ensures state { AnswersAs (undo (state self.old)) result self.old self.new }
         ensures entries { OnOk result (IsMovedBack 1 (journal self.old) (journal self.new)) }
         ensures succeeds { 1 ≤ length (journal self.old).live → IsOk result }
-        ensures err { IfErr result (λ refusal. undo (state self.old) ≡ Err refusal) }
-        ensures unchanged { OnErr result (journal self.new ≡ journal self.old) }
-        ensures capacity { capacity self.new ≡ capacity self.old }
-        ensures track { track self.new ≡ track self.old }
-        ensures index { index self.new ≡ index self.old }
+        ensures along { GoesAlong self.old self.new }
     {
         if self.entries.live_len() == 0 {
             return Err(Refusal::NothingToUndo(0));
@@ -160,14 +155,11 @@ impl<const R: usize> Session<R> {
     /// the number of the first live step that depends on the `k`-th, if there is one. Nothing has
     /// changed then.
     pub fn undo_at(&mut self, k: u64) -> Result<(), Refusal>
-        ensures ok { OnOk result (undo_at R (state self.old) k ≡ Ok (state self.new)) }
+        ensures state { AnswersAs (undo_at R (state self.old) k) result self.old self.new }
         ensures entries { OnOk result (IsUndoneAlone k (journal self.old) (journal self.new)) }
         ensures run { OnOk result (IsRunWithout R k (journal self.old) (journal self.new)) }
         ensures answer { result ≡ answer_at (journal self.old) k }
-        ensures err { IfErr result (λ refusal. undo_at R (state self.old) k ≡ Err refusal) }
-        ensures unchanged { OnErr result (journal self.new ≡ journal self.old) }
         ensures capacity { capacity self.new ≡ capacity self.old }
-        ensures track { OnErr result (track self.new ≡ track self.old) }
     {
         let len = self.len();
         if len < k || k == 0 {
@@ -192,14 +184,11 @@ impl<const R: usize> Session<R> {
     /// `NoSuchStep`, with the number of live steps, if `k` is not from 1 to it. Nothing has changed
     /// then.
     pub fn roll(&mut self, k: u64) -> Result<(), Refusal>
-        ensures ok { OnOk result (roll R (state self.old) k ≡ Ok (state self.new)) }
+        ensures state { AnswersAs (roll R (state self.old) k) result self.old self.new }
         ensures entries { OnOk result (IsRolledBack k (journal self.old) (journal self.new)) }
         ensures run { OnOk result (IsWithoutClosure R k (journal self.old) (journal self.new)) }
         ensures answer { result ≡ roll_answer (journal self.old) k }
-        ensures err { IfErr result (λ refusal. roll R (state self.old) k ≡ Err refusal) }
-        ensures unchanged { OnErr result (journal self.new ≡ journal self.old) }
         ensures capacity { capacity self.new ≡ capacity self.old }
-        ensures track { OnErr result (track self.new ≡ track self.old) }
     {
         let len = self.len();
         if len < k || k == 0 {
@@ -217,15 +206,11 @@ impl<const R: usize> Session<R> {
     /// `NothingToUndo`, with the number of live steps, if `n` is above it. Nothing has changed
     /// then.
     pub fn back(&mut self, n: u64) -> Result<(), Refusal>
-        ensures ok { OnOk result (back (state self.old) n ≡ Ok (state self.new)) }
+        ensures state { AnswersAs (back (state self.old) n) result self.old self.new }
         ensures entries { OnOk result (IsMovedBack n (journal self.old) (journal self.new)) }
         ensures run { OnOk result (IsBeforeLast R n (journal self.old) (journal self.new)) }
         ensures succeeds { n ≤ length (journal self.old).live → IsOk result }
-        ensures err { IfErr result (λ refusal. back (state self.old) n ≡ Err refusal) }
-        ensures unchanged { OnErr result (journal self.new ≡ journal self.old) }
-        ensures capacity { capacity self.new ≡ capacity self.old }
-        ensures track { track self.new ≡ track self.old }
-        ensures index { index self.new ≡ index self.old }
+        ensures along { GoesAlong self.old self.new }
     {
         let len = self.len();
         if n > len {
@@ -242,13 +227,9 @@ impl<const R: usize> Session<R> {
     ///
     /// `NothingToRedo` if no step is undone. Nothing has changed then.
     pub fn redo(&mut self) -> Result<(), Refusal>
-        ensures ok { OnOk result (redo (state self.old) ≡ Ok (state self.new)) }
+        ensures state { AnswersAs (redo (state self.old)) result self.old self.new }
         ensures entries { OnOk result (IsMovedForward 1 (journal self.old) (journal self.new)) }
-        ensures err { IfErr result (λ refusal. redo (state self.old) ≡ Err refusal) }
-        ensures unchanged { OnErr result (journal self.new ≡ journal self.old) }
-        ensures capacity { capacity self.new ≡ capacity self.old }
-        ensures track { track self.new ≡ track self.old }
-        ensures index { index self.new ≡ index self.old }
+        ensures along { GoesAlong self.old self.new }
     {
         if self.undone_len() == 0 {
             return Err(Refusal::NothingToRedo);
@@ -264,13 +245,9 @@ impl<const R: usize> Session<R> {
     ///
     /// `NothingToRedo` if fewer than `n` steps are undone. Nothing has changed then.
     pub fn forward(&mut self, n: u64) -> Result<(), Refusal>
-        ensures ok { OnOk result (forward (state self.old) n ≡ Ok (state self.new)) }
+        ensures state { AnswersAs (forward (state self.old) n) result self.old self.new }
         ensures entries { OnOk result (IsMovedForward n (journal self.old) (journal self.new)) }
-        ensures err { IfErr result (λ refusal. forward (state self.old) n ≡ Err refusal) }
-        ensures unchanged { OnErr result (journal self.new ≡ journal self.old) }
-        ensures capacity { capacity self.new ≡ capacity self.old }
-        ensures track { track self.new ≡ track self.old }
-        ensures index { index self.new ≡ index self.old }
+        ensures along { GoesAlong self.old self.new }
     {
         if n > self.undone_len() {
             return Err(Refusal::NothingToRedo);
@@ -296,10 +273,9 @@ impl<const R: usize> Session<R> {
         ensures entries { OnOk result (IsSwitched n entries.now (journal self.old) (journal self.new)) }
         ensures err { IfErr result (λ refusal. (refusal ≡ Refusal.NoMemory)
             × LacksRoom n (journal self.old) entries.now (capacity self.old) (room self.old) (index self.old)) }
-        ensures unchanged { OnErr result (journal self.new ≡ journal self.old) }
+        ensures unchanged { OnErr result (IsUnchanged self.old self.new) }
         ensures succeeds { entries.now ≡ [] → IsOk result }
         ensures capacity { n + length entries.now ≤ capacity self.old → capacity self.new ≡ capacity self.old }
-        ensures track { OnErr result (track self.new ≡ track self.old) }
     {
         self.make_room_to_switch(n, entries)?;
         self.exchange(n as usize, entries)
@@ -312,9 +288,7 @@ impl<const R: usize> Session<R> {
     pub fn go_along(&mut self, n: u64)
         requires within { n ≤ length (track self.old) }
         ensures state { state self.new ≡ record { start = (state self.old).start; live = take n (track self.old); undone = [] } }
-        ensures track { track self.new ≡ track self.old }
-        ensures index { index self.new ≡ index self.old }
-        ensures capacity { capacity self.new ≡ capacity self.old }
+        ensures along { GoesAlong self.old self.new }
     {
         let len = self.len();
         if n > len {

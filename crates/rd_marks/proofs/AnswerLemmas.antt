@@ -1,28 +1,34 @@
 -- What moves, events and marks are answered, from what the calls say of their results.
-use Rattle.std.proofs.Common.{◌≡◌, ◌⊎◌, ℕ, inl, inr, sym, ap, ◌∙◌, subst, arith, List, length, Option, Result, Ok, Err, OnOk, OnErr, IfErr}
+use Rattle.std.proofs.Common.{◌≡◌, ◌⊎◌, ℕ, inl, inr, sym, ap, ◌∙◌, subst, List, length, Option, Result, Ok, Err, OnOk, IfErr}
 use Rattle.std.specs.Result.{IsErrAnd}
-use Rattle.rd_marks.proofs.Prelude.{Refusal, NoMemory, OpReply, World, Event, Entry, IsPrefix, Session, state, track, Journal, journal, State, MayLackMemory, state_of, apply, reply_to, lists_in, here_in, AreRuns, events, Mark, BookState, with_session, Answered, answer_with, move_answer, Happened, length-map}
+use Rattle.rd_marks.proofs.Prelude.{Refusal, NoMemory, OpReply, World, Event, Entry, IsPrefix, Session, state, track, Journal, State, MayLackMemory, state_of, apply, reply_to, lists_in, here_in, AreRuns, events, Mark, BookState, with_session, Answered, answer_with, move_answer, Happened, length-map}
+use Rattle.rd_journal.specs.Sessions.{AnswersAs, GoesAlong}
 use Rattle.rd_marks.specs.Commands.{step_counts}
 use Rattle.rd_marks.specs.declared.replies.Reply.{Reply}
 use Rattle.rd_marks.specs.declared.replies.Reply.TheVariants.{Applied}
 use Rattle.rd_marks.specs.declared.books.Book.{Book}
-use Rattle.rd_marks.proofs.Starts.{start_stays}
+use Rattle.rd_marks.proofs.Starts.{answers_start}
 
 -- what a move along the track leaves of the bookmarks
 pub kept_along : {R : ℕ} (book : Book R) (new : Session R) (done : Result (Unit {0}) Refusal) (moved : Result State Refusal)
-    → ((t : State) → moved ≡ Ok t → t.start ≡ (state book.session).start) → OnOk done (moved ≡ Ok (state new)) → OnErr done (journal new ≡ journal book.session)
-    → track new ≡ track book.session → AreRuns R (state new).start (lists_in book.bookmarks) × IsPrefix (events (here_in book.bookmarks)) (track new)
-kept_along {R} book new done moved starts ok unchanged same = (
-  subst (λ (w : World). AreRuns R w (lists_in book.bookmarks)) (sym (start_stays done (journal book.session) (journal new) moved starts ok unchanged)) book.runs,
-  subst (λ (es : List Event). IsPrefix (events (here_in book.bookmarks)) es) (sym same) book.stands,
+    → ((t : State) → moved ≡ Ok t → t.start ≡ (state book.session).start) → AnswersAs moved done book.session new → GoesAlong book.session new
+    → AreRuns R (state new).start (lists_in book.bookmarks) × IsPrefix (events (here_in book.bookmarks)) (track new)
+kept_along {R} book new done moved starts answers along = (
+  subst (λ (w : World). AreRuns R w (lists_in book.bookmarks)) (sym (answers_start moved done book.session new starts answers)) book.runs,
+  subst (λ (es : List Event). IsPrefix (events (here_in book.bookmarks)) es) (sym along.track) book.stands,
 )
 
 -- the answer to a move, and what it leaves
-pub move_answered : (old new : Journal) (marks after : List Mark) (answer : Result Reply Refusal) (done : Result (Unit {0}) Refusal) (moved : Result State Refusal)
-    → OnOk done (moved ≡ Ok (state_of new)) → IfErr done (λ refusal. moved ≡ Err refusal) → OnErr done (new ≡ old) → after ≡ marks
-    → OnOk done (answer ≡ Ok (step_counts (state_of new))) → IfErr done (λ refusal. answer ≡ Err refusal)
-    → record { answer = answer; state = record { session = state_of new; marks = after } } ≡ move_answer (record { session = state_of old; marks = marks }) moved
-move_answered old new marks after answer done moved ok err same kept counts refuses = grind arith
+pub move_answered : {R : ℕ} (old new : Session R) (marks after : List Mark) (answer : Result Reply Refusal) (done : Result (Unit {0}) Refusal) (moved : Result State Refusal)
+    → AnswersAs moved done old new → after ≡ marks → OnOk done (answer ≡ Ok (step_counts (state new))) → IfErr done (λ refusal. answer ≡ Err refusal)
+    → record { answer = answer; state = record { session = state new; marks = after } } ≡ move_answer (record { session = state old; marks = marks }) moved
+move_answered old new marks after answer (Ok tt) moved answers kept counts refuses =
+    let its : answer ≡ Ok (step_counts (state new)) = counts in
+    (λ i. record { answer = its i; state = record { session = state new; marks = kept i } }) ∙ sym (ap (move_answer (record { session = state old; marks = marks })) answers)
+move_answered old new marks after answer (Err e) moved answers kept counts refuses =
+    let its : answer ≡ Err e = refuses in
+    (λ i. record { answer = its i; state = record { session = state (answers.1 i); marks = kept i } })
+    ∙ sym (ap (move_answer (record { session = state old; marks = marks })) answers.0)
 
 -- what is passed up is the answer
 passed_up : (refusal : Refusal) (answer : Result Reply Refusal) → IsErrAnd answer (λ e. e ≡ refusal) → answer ≡ Err refusal

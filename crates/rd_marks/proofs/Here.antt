@@ -1,7 +1,8 @@
 -- Where the session's track lies among the bookmarks' entries, and what each call leaves of that.
-use Rattle.std.proofs.Common.{◌≡◌, ℕ, zero, suc, ◌-◌, ◌≤◌, Bool, nat_lt, if◌then◌else◌, refl, ap, List, [], ◌∷◌, ◌++◌, length, take, drop, Result, Ok, Err, OnOk, OnErr, arith}
-use Rattle.rd_marks.proofs.Prelude.{take-append_seam, take-length, take-map, take-take, take-append-le, length-map, length-take, Refusal, closure, unmarked, Event, Entry, IsPrefix, Session, Journal, ahead_entries, state, track, State, undo_at, roll, Place, Stretch, stretch_list, entries_at, IsWithin, IsAlong, events}
+use Rattle.std.proofs.Common.{◌≡◌, ℕ, zero, suc, ◌-◌, ◌≤◌, Bool, nat_lt, if◌then◌else◌, refl, ap, List, [], ◌∷◌, ◌++◌, length, take, drop, Result, Ok, Err, OnOk, arith}
+use Rattle.rd_marks.proofs.Prelude.{take-append_seam, take-length, take-map, take-take, take-append-le, length-map, length-take, Refusal, closure, unmarked, Event, Entry, IsPrefix, Session, Journal, ahead_entries, journal, state, track, State, undo_at, roll, Place, Stretch, stretch_list, entries_at, IsWithin, IsAlong, events}
 use Rattle.rd_journal.specs.Moves.{IsLengthened, IsUndoneAlone, IsRolledBack}
+use Rattle.rd_journal.specs.Sessions.{AnswersAs}
 use Rattle.rd_marks.proofs.Starting.{begins_events, begins_shorter, begins_trans, events_length, events_of_first, fewer_begin, entries_length}
 
 -- What a call leaves of the first live entries
@@ -56,13 +57,12 @@ module _ (here there : List Entry) (begins : IsPrefix there here) where
       grind (arith, stands, short, within, same, length-map, length-take, fact_3, fact_4, fact_5, fact_6, fact, fact_2, still_begins (events old.live ++ old_ahead))
 
   -- where steps were taken out after them, if the call was not refused
-  pub after_out : {X P Q : Type 0} (r : Result X Refusal) (n : ℕ) (old new : Journal) (old_ahead new_ahead : List Event)
-      → IsPrefix (events here) (events old.live ++ old_ahead) → OnOk r (length there ≤ n)
-      → OnErr r (events new.live ++ new_ahead ≡ events old.live ++ old_ahead) → OnOk r P → (P → n ≤ length old.live) → OnOk r Q
-      → (Q → take n new.live ≡ take n old.live) → IsPrefix (events there) (events new.live ++ new_ahead)
-  after_out (Ok x) n old new old_ahead new_ahead stands short unchanged done within left leaves =
-      track_cut n old new old_ahead new_ahead stands short (within done) (leaves left)
-  after_out (Err e) n old new old_ahead new_ahead stands short unchanged done within left leaves = rw unchanged (still_begins (events old.live ++ old_ahead) stands)
+  pub after_out : {R : ℕ} {Q : Type 0} (r : Result (Unit {0}) Refusal) (moved : Result State Refusal) (n : ℕ) (old new : Session R)
+      → IsPrefix (events here) (track old) → OnOk r (length there ≤ n) → AnswersAs moved r old new → (moved ≡ Ok (state new) → n ≤ length (journal old).live)
+      → OnOk r Q → (Q → take n (journal new).live ≡ take n (journal old).live) → IsPrefix (events there) (track new)
+  after_out (Ok tt) moved n old new stands short answers within left leaves =
+      track_cut n (journal old) (journal new) (events (ahead_entries old.entries)) (events (ahead_entries new.entries)) stands short (within answers) (leaves left)
+  after_out (Err e) moved n old new stands short answers within left leaves = rw answers.1 (still_begins (track old) stands)
 
 -- entries with the events of the live steps begin the track
 pub live_begin : {R : ℕ} (session : Session R) (xs : List Entry) → events xs ≡ (state session).live → IsPrefix (events xs) (track session)

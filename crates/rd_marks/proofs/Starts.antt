@@ -1,6 +1,7 @@
 -- No call of a session moves its start, so the marks of a book stay runs from there.
 use Rattle.std.proofs.Common.{◌≡◌, ℕ, zero, suc, ◌==◌, nat_lt, Bool, if◌then◌else◌, refl, sym, ap, ◌∙◌, List, [], length, Result, Ok, Err, OnOk, OnErr, arith}
-use Rattle.rd_marks.proofs.Prelude.{Refusal, World, Event, Entry, Journal, start_of, State, state_of, apply, back_one, forward_one, times, undo, back, redo, forward, undo_at, roll, MarkName, AreRuns}
+use Rattle.rd_journal.specs.Sessions.{AnswersAs}
+use Rattle.rd_marks.proofs.Prelude.{Refusal, World, Event, Entry, Session, state, Journal, start_of, State, state_of, apply, back_one, forward_one, times, undo, back, redo, forward, undo_at, roll, MarkName, AreRuns}
 
 of_ok : (s t : State) (r : Result State Refusal) → r ≡ Ok s → r ≡ Ok t → t.start ≡ s.start
 of_ok s t r k h = let e : s ≡ t = cc in ap (λ (u : State). u.start) (sym e)
@@ -42,6 +43,11 @@ roll_start R s k t l = grind arith
 pub start_stays : {X : Type 0} (r : Result X Refusal) (i j : Journal) (moved : Result State Refusal)
     → ((u : State) → moved ≡ Ok u → u.start ≡ start_of i) → OnOk r (moved ≡ Ok (state_of j)) → OnErr r (j ≡ i) → start_of j ≡ start_of i
 start_stays r i j moved starts h g = grind arith
+
+pub answers_start : {R : ℕ} (moved : Result State Refusal) (done : Result (Unit {0}) Refusal) (old new : Session R)
+    → ((t : State) → moved ≡ Ok t → t.start ≡ (state old).start) → AnswersAs moved done old new → (state new).start ≡ (state old).start
+answers_start {R} moved (Ok tt) old new starts answers = starts (state new) answers
+answers_start {R} moved (Err e) old new starts answers = ap (λ (s : Session R). (state s).start) answers.1
 
 -- going somewhere leaves it as well
 pub start_kept : {X : Type 0} (r : Result X Refusal) (i j : Journal) (es : List Event) → OnOk r (state_of j ≡ record { start = start_of i; live = es; undone = [] }) → OnErr r (j ≡ i) → start_of j ≡ start_of i

@@ -8,16 +8,14 @@ use super::Session;
 use super::starting::{step_all, undo_behind};
 
 impl<const R: usize> Session<R> {
-    ghost use Rattle.rd_journal.specs.Sessions.{journal, state, track, capacity, index};
+    ghost use Rattle.rd_journal.specs.Sessions.{journal, state, GoesAlong};
 
     /// Undoes the last `n` live steps, the last one first: their old words are put back.
     pub(super) fn undo_many(&mut self, n: u64)
         requires enough { n ≤ length (journal self.old).live }
         ensures entries { IsMovedBack n (journal self.old) (journal self.new) }
         ensures state { state self.new ≡ times n back_one (state self.old) }
-        ensures track { track self.new ≡ track self.old }
-        ensures capacity { capacity self.new ≡ capacity self.old }
-        ensures index { index self.new ≡ index self.old }
+        ensures along { GoesAlong self.old self.new }
     {
         let left = self.entries.live_len() - n as usize;
         undo_behind(&mut self.world, &self.entries.live(), left);
@@ -32,9 +30,7 @@ impl<const R: usize> Session<R> {
         requires enough { n ≤ length (journal self.old).undone }
         ensures entries { IsMovedForward n (journal self.old) (journal self.new) }
         ensures state { state self.new ≡ times n forward_one (state self.old) }
-        ensures track { track self.new ≡ track self.old }
-        ensures capacity { capacity self.new ≡ capacity self.old }
-        ensures index { index self.new ≡ index self.old }
+        ensures along { GoesAlong self.old self.new }
     {
         step_all(&mut self.world, &self.entries.ahead(n as usize));
         self.entries.step_forward(n as usize);

@@ -21,7 +21,7 @@ use rd_step::{Entry, World};
 const ACTOR_NUMBERS: usize = 256;
 
 impl<const R: usize> Session<R> {
-    ghost use Rattle.rd_journal.specs.Sessions.{journal, state, track, room, capacity, index};
+    ghost use Rattle.rd_journal.specs.Sessions.{journal, state, room, capacity, index, GoesAlong, IsUnchanged};
 
     /// Makes room for the given entries after the first `kept` ones, and for the makings among
     /// them. Memory is asked for only if room is missing.
@@ -39,8 +39,7 @@ impl<const R: usize> Session<R> {
             × LacksRoom kept (journal self.old) given.now (capacity self.old) (room self.old) (index self.old)) }
         ensures succeeds { given.now ≡ [] → IsOk result }
         ensures capacity { kept + length given.now ≤ capacity self.old → capacity self.new ≡ capacity self.old }
-        ensures unchanged { journal self.new ≡ journal self.old }
-        ensures track { track self.new ≡ track self.old }
+        ensures unchanged { IsUnchanged self.old self.new }
         ensures index { index self.new ≡ index self.old }
     {
         self.entries.make_room_for(kept as usize + given.len())?;
@@ -67,8 +66,7 @@ impl<const R: usize> Session<R> {
         ensures entries { OnOk result (IsSwitched n given.now (journal self.old) (journal self.new)) }
         ensures state { OnOk result (state self.new ≡ switch (state self.old) n (events given.now)) }
         ensures err { IfErr result (λ refusal. (refusal ≡ Refusal.NoMemory) × LacksIndexRoom (index self.old) (drop n (journal self.old).live ++ (journal self.old).undone) given.now) }
-        ensures unchanged { OnErr result (journal self.new ≡ journal self.old) }
-        ensures track { OnErr result (track self.new ≡ track self.old) }
+        ensures unchanged { OnErr result (IsUnchanged self.old self.new) }
         ensures capacity { capacity self.new ≡ capacity self.old }
     {
         index_instead(&mut self.index, &self.entries, n, given)?;
@@ -84,9 +82,7 @@ impl<const R: usize> Session<R> {
         requires within { n ≤ length (ahead_entries self.old.entries) }
         ensures entries { IsSwitched (length (journal self.old).live) (take n (ahead_entries self.old.entries)) (journal self.old) (journal self.new) }
         ensures start { start_of (journal self.new) ≡ start_of (journal self.old) }
-        ensures track { track self.new ≡ track self.old }
-        ensures capacity { capacity self.new ≡ capacity self.old }
-        ensures index { index self.new ≡ index self.old }
+        ensures along { GoesAlong self.old self.new }
     {
         self.undone = n;
         self.redo_many(n as u64);

@@ -1,7 +1,7 @@
 use Rattle.std.proofs.Common.{◌≡◌, ◌∙◌, ◌<◌, List, [], ◌∷◌, ◌++◌, length, take, drop, inl, inr, refl, sym, ap, subst, arith}
 use Rattle.rd_journal.proofs.Prelude.{append-nil, take_all, take-append-le, drop-append_seam, Entry, HasRoomInstead, kept_entries, NoMemory, model, room, MOST_STEPS, error_passed_up, fact_passed_up, IsIndexOf, ok_then, IsLengthened, events, whole_journal, journal_of, live_entries, ahead_entries, journal}
 use Rattle.rd_journal.proofs.Ahead.{is_session, none_taken}
-use Rattle.rd_journal.proofs.Calls.{live_len, applies, apply_refused, apply_goes, longer_session, same_session}
+use Rattle.rd_journal.proofs.Calls.{live_len, applies, apply_refused, apply_goes, longer_session, same_session, unchanged}
 use Rattle.rd_journal.proofs.Outcomes.{err_then}
 use Rattle.rd_journal.proofs.EntryLemmas.{full_entries}
 use Rattle.rd_journal.proofs.IndexRoom.{lacks_fewer}
@@ -39,11 +39,7 @@ returns-in_err-make_room_for-clause-memory g c = grind (arith, full_entries, err
 
 pub returns-in_err-make_room_for-clause-unchanged : goal.returns-in_err-make_room_for-clause-unchanged
 returns-in_err-make_room_for-clause-unchanged g c =
-    fact_passed_up c.from_residual.result (λ i. record {
-      world = model c.args.self.now.world;
-      live = c.make_room_for.ensures.live i;
-      undone = take c.args.self.now.undone (c.make_room_for.ensures.ahead i);
-    })
+    fact_passed_up c.from_residual.result (unchanged c.args.self.now _ refl c.make_room_for.ensures.live c.make_room_for.ensures.ahead refl)
 
 pub invariant_of-self-in-Break-branch-2 : goal.invariant_of-self-in-Break-branch-2
 invariant_of-self-in-Break-branch-2 g c =
@@ -83,11 +79,7 @@ returns-in_err-entry-clause-memory g c =
 pub returns-in_err-entry-clause-unchanged : goal.returns-in_err-entry-clause-unchanged
 returns-in_err-entry-clause-unchanged g c =
     fact_passed_up c.from_residual-in_err-entry.result
-    (λ i. record {
-      world = c.in_err-entry.ensures.unchanged i;
-      live = c.make_room_for.ensures.live i;
-      undone = take c.args.self.now.undone (c.make_room_for.ensures.ahead i);
-    })
+    (unchanged c.args.self.now _ c.in_err-entry.ensures.unchanged c.make_room_for.ensures.live c.make_room_for.ensures.ahead refl)
 
 pub unstep-requires : goal.unstep-requires
 unstep-requires g c =
@@ -146,11 +138,7 @@ returns-then-is_err-clause-unchanged g c =
     let self = c.args.self.now in
     let back = (just_stepped g.row.R (model self.world) (model c.step.new.self) c.args.event c.in_ok-entry.entry (now_formed g.row.R (journal self) (is_session self).runs)
     c.in_ok-entry.ensures.ok).back in
-    λ i. record {
-      world = (c.unstep.ensures.back ∙ back) i;
-      live = c.make_room_for.ensures.live i;
-      undone = take self.undone (c.make_room_for.ensures.ahead i);
-    }
+    unchanged self _ (c.unstep.ensures.back ∙ back) c.make_room_for.ensures.live c.make_room_for.ensures.ahead refl
 
 pub invariant_of-self-2 : goal.invariant_of-self-2
 invariant_of-self-2 g c =

@@ -4,8 +4,8 @@ use Rattle.rd_journal.proofs.Ahead.{is_session}
 use Rattle.rd_journal.proofs.Calls.{live_len, back_goes, before_last}
 use Rattle.rd_journal.proofs.sessions.Session.back.Goals as goal
 
-pub returns-clause-ok : goal.returns-clause-ok
-returns-clause-ok g c =
+pub returns-clause-state : goal.returns-clause-state
+returns-clause-state g c =
     let enough : c.args.n ≤ length (state c.args.self.now).live = omega (arith, live_len (journal c.args.self.now)) in
     back_goes (state c.args.self.now) (state c.undo_many.new.self) c.args.n enough c.undo_many.ensures.state
 

@@ -1,6 +1,6 @@
-use Rattle.std.proofs.Common.{List, ◌∙◌, ap, sym, subst, arith, length, take, drop, OnOk, ◌++◌}
+use Rattle.std.proofs.Common.{List, refl, ◌∙◌, ap, sym, subst, arith, length, take, drop, OnOk, ◌++◌}
 use Rattle.rd_journal.proofs.Prelude.{model, room, Entry, IsIndexOf, events, whole_journal, HasRoomForAll, room_without}
-use Rattle.rd_journal.proofs.Calls.{same_session}
+use Rattle.rd_journal.proofs.Calls.{same_session, unchanged}
 use Rattle.rd_journal.proofs.sessions.Session.make_room_to_switch.Goals as goal
 
 pub invariant_of-self : goal.invariant_of-self
@@ -32,15 +32,11 @@ invariant_of-self-2 g c =
       indexed = subst (λ (es : List Entry). IsIndexOf self.index es) (λ i. sym c.make_room_for.ensures.live i ++ sym c.make_room_for.ensures.ahead i) self.indexed;
     }
 
-pub returns-clause-unchanged : goal.returns-clause-unchanged
-returns-clause-unchanged g c = λ i. record {
-  world = c.make_room_for_makings.ensures.unchanged i;
-  live = c.make_room_for.ensures.live i;
-  undone = take c.args.self.now.undone (c.make_room_for.ensures.ahead i);
-}
+pub returns-in_err-make_room_for-clause-unchanged : goal.returns-in_err-make_room_for-clause-unchanged
+returns-in_err-make_room_for-clause-unchanged g c = unchanged _ _ refl c.make_room_for.ensures.live c.make_room_for.ensures.ahead refl
 
-pub returns-clause-track : goal.returns-clause-track
-returns-clause-track g c = λ i. events (c.make_room_for.ensures.live i) ++ events (c.make_room_for.ensures.ahead i)
+pub returns-clause-unchanged : goal.returns-clause-unchanged
+returns-clause-unchanged g c = unchanged _ _ c.make_room_for_makings.ensures.unchanged c.make_room_for.ensures.live c.make_room_for.ensures.ahead refl
 
 pub returns-clause-makings : goal.returns-clause-makings
 returns-clause-makings g c =

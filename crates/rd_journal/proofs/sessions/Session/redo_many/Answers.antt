@@ -51,5 +51,5 @@ returns-clause-state g c =
     state_forward n (journal self) (journal_of new.world c.step_forward.new.self (self.undone - n)) (led_forward g.row.R n old new self.kept.runs goes moved)
     (forward_undone self.undone n old new (omega (arith, c.requires.enough, length-take self.undone old.undone)) moved)
 
-pub returns-clause-track : goal.returns-clause-track
-returns-clause-track g c = grind (arith, common_steps)
+pub returns-clause-along : goal.returns-clause-along
+returns-clause-along g c = grind (arith, common_steps)

@@ -1,4 +1,4 @@
-use Rattle.std.proofs.Common.{◌≤◌, ◌∙◌, Ok, length, inl, inr, sym, ap, arith}
+use Rattle.std.proofs.Common.{◌≤◌, ◌∙◌, Ok, length, inl, inr, refl, sym, ap, arith}
 use Rattle.rd_journal.proofs.Prelude.{journal, State}
 use Rattle.rd_journal.proofs.Ahead.{is_session}
 use Rattle.rd_journal.proofs.RolledBack.{rolled_state, rolled_run, roll_answer_missing, roll_answer_there, roll_missing, roll_there}
@@ -8,13 +8,15 @@ use Rattle.rd_journal.proofs.sessions.Session.roll.Goals.{then-len-k-via-then-le
 pub returns-then-len-k-clause-answer : goal.returns-then-len-k-clause-answer
 returns-then-len-k-clause-answer g c = grind (arith, roll_answer_missing, then-len-k-via-then-len-k, then-len-k-via-else-len-k+then-k-eq0)
 
-pub returns-then-len-k-clause-err : goal.returns-then-len-k-clause-err
-returns-then-len-k-clause-err g c =
-    roll_missing g.row.R (journal c.args.self.now) c.args.k c.len-len.result c.len-len.ensures.entries
-    (elim c.then-len-k.branch [ then-len-k-via-then-len-k w ↦ inr (omega arith) | then-len-k-via-else-len-k+then-k-eq0 w ↦ inl (omega arith) ])
+pub returns-then-len-k-clause-state : goal.returns-then-len-k-clause-state
+returns-then-len-k-clause-state g c = (
+  roll_missing g.row.R (journal c.args.self.now) c.args.k c.len-len.result c.len-len.ensures.entries
+      (elim c.then-len-k.branch [ then-len-k-via-then-len-k w ↦ inr (omega arith) | then-len-k-via-else-len-k+then-k-eq0 w ↦ inl (omega arith) ]),
+  refl,
+)
 
-pub returns-clause-ok : goal.returns-clause-ok
-returns-clause-ok g c =
+pub returns-clause-state : goal.returns-clause-state
+returns-clause-state g c =
     let old = journal c.args.self.now in
     let within : c.args.k ≤ length old.live = omega (arith, c.len-len.ensures.entries) in
     roll_there g.row.R old c.args.k (is_session c.args.self.now).runs (omega arith) within

@@ -1,4 +1,4 @@
-use Rattle.std.proofs.Common.{◌-◌, ◌+◌, ◌≤◌, List, length, take, drop, sym, ap, subst, arith, length-append, length-drop, rules}
+use Rattle.std.proofs.Common.{◌-◌, ◌+◌, ◌≤◌, List, length, take, drop, refl, sym, ap, subst, arith, length-append, length-drop, rules}
 use Rattle.rd_journal.proofs.Prelude.{model, room, Entry, IsIndexOf, start_of, LeadsTo, whole_journal, journal_of, IsMovedBack, room_returned_by, journal}
 use Rattle.rd_journal.proofs.Ahead.{back_undone, track_back}
 use Rattle.rd_journal.proofs.Starting.{live_lead}
@@ -57,7 +57,11 @@ returns-clause-state g c =
     state_back n (journal self) (journal_of new.world c.step_back.new.self (self.undone + n)) c.requires.enough (led_back g.row.R n old new leads moved)
     (back_undone self.undone n old new c.requires.enough moved)
 
-pub returns-clause-track : goal.returns-clause-track
-returns-clause-track g c =
-    track_back c.args.n (whole_journal (model c.args.self.now.world) c.args.self.now.entries) (whole_journal (model c.undo_behind.new.world) c.step_back.new.self)
-    (record { live = c.step_back.ensures.live; undone = c.step_back.ensures.ahead })
+pub returns-clause-along : goal.returns-clause-along
+returns-clause-along g c = record {
+  track =
+      track_back c.args.n (whole_journal (model c.args.self.now.world) c.args.self.now.entries) (whole_journal (model c.undo_behind.new.world) c.step_back.new.self)
+      (record { live = c.step_back.ensures.live; undone = c.step_back.ensures.ahead });
+  index = refl;
+  capacity = c.step_back.ensures.capacity;
+}

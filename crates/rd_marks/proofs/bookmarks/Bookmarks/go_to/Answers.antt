@@ -25,6 +25,9 @@ returns-then-common-place-clause-ok g c =
     ∙ ap (λ (es : List Event). record { start = (state c.args.session.now).start; live = es; undone = [] })
     (on_track c.args.self.now c.args.place (track c.args.session.now) c.common.result c.requires.within c.requires.stands c.common.ensures.first c.common.ensures.alike (omega (arith, c.if-common-place.true))).1
 
+pub returns-then-common-place-clause-stands : goal.returns-then-common-place-clause-stands
+returns-then-common-place-clause-stands g c = rw c.go_along.ensures.along.track c.requires.stands
+
 pub returns-in_err-exchange-clause-unchanged : goal.returns-in_err-exchange-clause-unchanged
 returns-in_err-exchange-clause-unchanged g c = fact_passed_up c.from_residual.result c.in_err-exchange.ensures.unchanged
 

@@ -1,4 +1,5 @@
 use Rattle.std.proofs.Common.{List, ◌++◌, take, lit<, ap, subst, length, ◌∙◌, arith}
+use Rattle.std.proofs.lemmas.Result.{on_err_weaker}
 use Rattle.rd_marks.proofs.Prelude.{length-map, Entry, journal, state, entries_at, events, IsRunFrom}
 use Rattle.rd_marks.specs.Stretches.{AreInPieces}
 use Rattle.rd_marks.proofs.Here.{live_along}
@@ -36,6 +37,12 @@ returns-in-Ok-clause-ok g c =
     let fact = switched c.switch.result (state c.args.session.now) (state c.switch.new.self) c.common-common.result c.deref.result.now (entries_at c.args.stretches.now.list.items c.args.place) in
     let fact_2 = common_live c.args.stretches.now.list.items c.follow-beginning.result c.args.place c.common-common.result (events c.live-live.result) (state c.args.session.now).live in
     grind (arith, c.deref.ensures.value, c.in-Ok.ensures.ok, c.switch.ensures.ok, fact_2, fact)
+
+pub returns-in-Ok-clause-unchanged : goal.returns-in-Ok-clause-unchanged
+returns-in-Ok-clause-unchanged g c = on_err_weaker c.switch.result (λ is. is.journal) c.switch.ensures.unchanged
+
+pub returns-in-Ok-clause-track : goal.returns-in-Ok-clause-track
+returns-in-Ok-clause-track g c = on_err_weaker c.switch.result (λ is. is.track) c.switch.ensures.unchanged
 
 pub returns-in-Ok-clause-succeeds : goal.returns-in-Ok-clause-succeeds
 returns-in-Ok-clause-succeeds g c = λ h.
