@@ -1,7 +1,11 @@
 -- What the calls of a session answer, over its journal.
-use Rattle.std.proofs.Common.{◌≡◌, ℕ, zero, suc, ◌+◌, ◌-◌, ◌<◌, ◌≤◌, ◌⊎◌, refl, sym, ◌∙◌, ap, subst, List, [], ◌∷◌, ◌++◌, length, take, get_or, ok_or, Result, Ok, Err, IsOk, arith, ne_eqb, length-append}
-use Rattle.rd_journal.proofs.Prelude.{result_map, cond-false, map-append, length-map, take-map, slice_get_past, slice_get-get_or, Refusal, NoSuchStep, Stepped, step, IsWellFormed, MOST_STEPS, Event, Entry, model, live_entries, ahead_entries, Journal, events, IsRun, entry_of, IsSession, HasRoom, State, state_of, with_event, apply, back_one, forward_one, times, undo, redo, back, forward, IsLengthened, IsMovedBack, IsBeforeLast}
-use Rattle.rd_journal.specs.Sessions.{IsUnchanged}
+use Rattle.std.proofs.Common.{◌≡◌, ℕ, zero, suc, ◌+◌, ◌-◌, ◌<◌, ◌≤◌, ◌⊎◌, refl, sym, ◌∙◌, ap, subst, List, [], ◌∷◌, ◌++◌, length, take, get_or, ok_or, Result, Ok, Err, IsOk, IfErr, inl, inr, arith, ne_eqb, length-append}
+use Rattle.rd_journal.proofs.Prelude.{result_map, cond-false, map-append, length-map, take-map, slice_get_past, slice_get-get_or, Refusal, NoSuchStep, Stepped, step, IsWellFormed, MOST_STEPS, Event, Entry, model, room, live_entries, ahead_entries, kept_entries, IsIndexOf, whole_journal, journal, state, MayLackMemory, NoMemory, Journal, events, IsRun, entry_of, IsSession, HasRoom, State, state_of, with_event, apply, back_one, forward_one, times, undo, redo, back, forward, IsLengthened, IsMovedBack, IsBeforeLast}
+use Rattle.rd_journal.specs.Sessions.{IsUnchanged, MayRefuse, capacity, room as session_room, index}
+use Rattle.rd_journal.specs.Room.{IsOutOfMemory}
+use Rattle.rd_journal.specs.declared.entries.Entries.{Entries}
+use Rattle.rd_step.specs.declared.worlds.World.{World as CodeWorld}
+use Rattle.rd_journal.proofs.Ahead.{is_session}
 use Rattle.rd_journal.specs.declared.sessions.Session.{Session}
 use Rattle.rd_journal.proofs.Runs.{step_event, start_stays, now_formed, grown}
 
@@ -78,6 +82,22 @@ same_session R old new before after session same more =
       has_room = record { at = λ m. let a = session.has_room.at m in let b = more m in omega arith };
     })
 
+-- the same of a session whose world and entries are as they were
+pub record IsStill {R : ℕ} (old : Session R) (world : CodeWorld R) (entries : Entries) : Type 0 where
+  pub kept : IsSession R (whole_journal (model world) entries) (room world)
+  pub within : old.undone ≤ length (ahead_entries entries)
+  pub indexed : IsIndexOf old.index (kept_entries entries)
+
+pub still : {R : ℕ} (old : Session R) (world : CodeWorld R) (entries : Entries) → model world ≡ model old.world → live_entries entries ≡ live_entries old.entries
+    → ahead_entries entries ≡ ahead_entries old.entries → ((m : ℕ) → room old.world m ≤ room world m) → IsStill old world entries
+still {R} old world entries same live ahead more = record {
+  kept =
+      same_session R (whole_journal (model old.world) old.entries) (whole_journal (model world) entries) (room old.world) (room world) old.kept
+      (λ i. record { world = same i; live = live i; undone = ahead i }) more;
+  within = omega (arith, old.within, ap length ahead);
+  indexed = subst (λ (es : List Entry). IsIndexOf old.index es) (λ i. sym live i ++ sym ahead i) old.indexed;
+}
+
 -- a session with the world and the entries from before is unchanged
 pub unchanged : {R : ℕ} (old new : Session R) → model new.world ≡ model old.world → live_entries new.entries ≡ live_entries old.entries
     → ahead_entries new.entries ≡ ahead_entries old.entries → new.undone ≡ old.undone → IsUnchanged old new
@@ -97,6 +117,26 @@ mapped_ok f r ok = grind arith
 -- where the step goes, so does the event
 pub applies : (R : ℕ) (j : Journal) (e : Event) → IsRun R j → length j.live < MOST_STEPS → IsOk (step R j.world e) → IsOk (apply R (state_of j) e)
 applies R j e runs less ok = rw (applied R j e (step R j.world e) runs less refl) (mapped_ok (λ (stepped : Stepped). with_event (state_of j) e) (step R j.world e) ok)
+
+is_ok : (r : Result Stepped Refusal) (s : Stepped) → r ≡ Ok s → IsOk r
+is_ok r s h = grind arith
+
+-- where memory is missing it may be refused in the session's state
+may_lack : {R : ℕ} (s : Session R) (e : Event) → IsOutOfMemory R (journal s) (capacity s) (session_room s) (index s) e → MayLackMemory R (state s) e
+may_lack {R} s e out = record {
+  not_full = omega (arith, out.not_full, live_len (journal s));
+  asked = elim out.asked [
+    | inl h ↦ inl (ap events h.0)
+    | inr h ↦ inr (applies R (journal s) e (is_session s).runs out.not_full (elim h [ inl made ↦ made.0 | inr lone ↦ is_ok _ lone.after lone.goes ]))
+  ];
+}
+
+-- so what is said of the session is said of its state
+pub said_of_state : {R : ℕ} {X : Type 0} (s : Session R) (e : Event) (r : Result X Refusal) → IfErr r (MayRefuse s e)
+    → IfErr r (λ refusal. (apply R (state s) e ≡ Err refusal) ⊎ ((refusal ≡ NoMemory) × MayLackMemory R (state s) e))
+said_of_state s e (Ok x) h = h
+said_of_state s e (Err refusal) (inl h) = inl h
+said_of_state s e (Err refusal) (inr h) = inr (h.0, may_lack s e h.1)
 
 pub apply_refused : (R : ℕ) (j : Journal) (e : Event) (refusal : Refusal) → IsRun R j → length j.live < MOST_STEPS → step R j.world e ≡ Err refusal
     → apply R (state_of j) e ≡ Err refusal

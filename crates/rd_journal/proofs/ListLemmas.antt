@@ -1,6 +1,6 @@
 -- Lists cut in two, the last element of a list, and one moved after others.
 use Rattle.std.proofs.Common.{◌≡◌, ℕ, zero, suc, ◌+◌, ◌-◌, ◌<◌, ◌≤◌, List, [], ◌∷◌, ◌++◌, length, get_or, take, drop, refl, sym, ◌∙◌, ap, arith, length-append, length-drop}
-use Rattle.rd_journal.proofs.Prelude.{put_mid, mid_of, drop-cons, take-append_seam, drop-append_seam, append-nil, take_all, append_assoc, take-append-drop, length-take-le, take-take, drop-take, drop-append-le, drop-drop, moved_behind}
+use Rattle.rd_journal.proofs.Prelude.{put_mid, mid_of, drop-cons, take_at, drop_at, append-nil, take_all, append_assoc, take-append-drop, length-take-le, take-take, drop-take, drop-append-le, drop-drop, moved_behind}
 use Rattle.std.proofs.Math.ListN.{drop_of_length-le}
 
 -- an element that is there
@@ -55,14 +55,8 @@ turned {X} es k l some below =
 
 pub behind_before : {X : Type 0} (es : List X) (k l : ℕ) → 1 ≤ k → k ≤ l → l ≤ length es
     → take (l - 1) (moved_behind es k l) ≡ take (k - 1) (take l es) ++ drop k (take l es)
-behind_before {X} es k l some below within =
-    let xs = take (k - 1) (take l es) ++ drop k (take l es) in
-    let ys = take 1 (drop (k - 1) (take l es)) ++ drop l es in
-    ap (λ (n : ℕ). take n (xs ++ ys)) (sym (others_length es k l some below within)) ∙ take-append_seam xs ys
+behind_before {X} es k l some below within = grind (arith, others_length, take_at)
 
 pub behind_from : {X : Type 0} (es : List X) (k l : ℕ) → 1 ≤ k → k ≤ l → l ≤ length es
     → drop (l - 1) (moved_behind es k l) ≡ take 1 (drop (k - 1) (take l es)) ++ drop l es
-behind_from {X} es k l some below within =
-    let xs = take (k - 1) (take l es) ++ drop k (take l es) in
-    let ys = take 1 (drop (k - 1) (take l es)) ++ drop l es in
-    ap (λ (n : ℕ). drop n (xs ++ ys)) (sym (others_length es k l some below within)) ∙ drop-append_seam xs ys
+behind_from {X} es k l some below within = grind (arith, others_length, drop_at)

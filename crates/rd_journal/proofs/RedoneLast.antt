@@ -1,27 +1,17 @@
 -- Live followed by undone is one run, and what is undone alone and redone is the last step of the
 -- same world.
-use Rattle.std.proofs.Common.{◌≡◌, ℕ, ◌-◌, ◌≤◌, refl, sym, ◌∙◌, ap, arith, List, [], ◌∷◌, ◌++◌, length, take, drop, None, Result, Ok, Err}
-use Rattle.rd_journal.proofs.Prelude.{cases_Bool, cond-true, cond-false, ltb-true, map-append, length-map, Refusal, first_dependant, Ran, run, step, unstep, Event, Entry, IsTakenOut, taken_out, Journal, events, start_of, IsRun, IsMovedLast, IsOneRun, IsUndoneAlone, State, state_of, run_of, forward_one, undone_alone, undo_at, redo}
-use Rattle.rd_journal.specs.Journal.{run_entries}
+use Rattle.std.proofs.Common.{◌≡◌, ℕ, ◌-◌, ◌≤◌, refl, sym, ◌∙◌, ap, arith, List, [], ◌∷◌, ◌++◌, length, take, drop, None, Ok}
+use Rattle.rd_journal.proofs.Prelude.{cases_Bool, cond-true, cond-false, ltb-true, length-map, first_dependant, Ran, step, unstep, Entry, IsTakenOut, taken_out, Journal, IsRun, IsMovedLast, IsOneRun, IsUndoneAlone, State, state_of, run_of, forward_one, undone_alone, undo_at, redo}
 use Rattle.rd_journal.proofs.ListLemmas.{nth}
 use Rattle.rd_journal.proofs.LoneUndo.{IsNumber, from_it, may_undo_at, undone_alone_state}
-use Rattle.rd_journal.proofs.Runs.{as_ok-same, step_event, run_joined, grown}
+use Rattle.rd_journal.proofs.Runs.{step_event, start_stays, now_formed, grown}
 use Rattle.rd_journal.proofs.There.{one_journal}
-use Rattle.rd_journal.proofs.Walks.{forward_state}
+use Rattle.rd_journal.proofs.Walks.{whole_run, state_forward}
 
 -- One run
 
-one_run_of : (R : ℕ) (j : Journal) (o : Result Ran Refusal) → IsRun R j → run R j.world (events j.undone) ≡ o → run_entries o ≡ Ok j.undone
-    → IsOneRun R j
-one_run_of R j (Err refusal) runs h k = cc
-one_run_of R j (Ok r) runs h k =
-    let same : r.entries ≡ j.undone = as_ok-same r.entries j.undone k in
-    ap (λ (es : List Event). run_entries (run R (start_of j) es)) (map-append (λ (x : Entry). x.event) j.live j.undone)
-    ∙ ap run_entries (run_joined R (start_of j) (events j.live) (events j.undone) (record { world = j.world; entries = j.live }) r runs.live_ran h)
-    ∙ ap (λ (ys : List Entry). Ok (j.live ++ ys)) same
-
 pub one_run : (R : ℕ) (j : Journal) → IsRun R j → IsOneRun R j
-one_run R j runs = one_run_of R j (run R j.world (events j.undone)) runs refl runs.undone_run_on
+one_run R j runs = whole_run R j runs
 
 -- Calls that were not refused
 
@@ -63,7 +53,7 @@ again R old n x at none runs =
     record {
       runs = grown R v old.world xs (x ∷ old.undone) old.undone x x.event left_runs goes runs.undone_run_on;
       state =
-          forward_state R v old.world xs old.undone x left_runs goes
+          state_forward 1 left (again_journal old n x) (start_stays R v old.world xs x x.event (now_formed R left left_runs) goes) (record { live = refl; undone = refl })
           ∙ ap forward_one (undone_alone_state n old left moved (may.start left out moved));
     }
 

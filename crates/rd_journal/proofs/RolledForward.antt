@@ -1,14 +1,16 @@
 -- Redoing all that a rollback undid.
-use Rattle.std.proofs.Common.{◌≡◌, ℕ, ◌≤◌, sym, ◌∙◌, ap, arith, List, [], ◌∷◌, ◌++◌, length, Ok}
-use Rattle.rd_journal.proofs.Prelude.{append-nil, append_assoc, map-append, length-map, World, closure, closure_of, without_closure, Event, Entry, Journal, events, start_of, IsRun, IsClosureLast, State, state_of, run_of, forward_one, times, forward, undone_marked, roll, Ran}
+use Rattle.std.proofs.Common.{◌≡◌, ℕ, ◌≤◌, sym, ◌∙◌, ap, arith, List, ◌++◌, length, Ok}
+use Rattle.rd_journal.proofs.Prelude.{take-append_seam, drop-append_seam, map-append, length-map, World, closure, closure_of, without_closure, Event, Entry, Journal, events, start_of, IsRun, IsClosureLast, State, state_of, run_of, forward_one, times, forward, undone_marked, roll, Ran}
 use Rattle.rd_journal.proofs.RolledBack.{closure_last, reordered, marked-map, unmarked-map}
-use Rattle.rd_journal.proofs.There.{times_first, one_journal}
+use Rattle.rd_journal.proofs.There.{one_journal}
+use Rattle.rd_journal.proofs.Walks.{times_forward}
 
 -- redoing this many steps puts them last
 forward_all : (w : World) (xs ys zs : List Event)
     → times (length ys) forward_one (record { start = w; live = xs; undone = ys ++ zs }) ≡ record { start = w; live = xs ++ ys; undone = zs }
-forward_all w xs [] zs = λ i. record { start = w; live = sym (append-nil xs) i; undone = zs }
-forward_all w xs (y ∷ ys) zs = grind (arith, times_first, append_assoc, forward_all w (xs ++ y ∷ []) ys zs)
+forward_all w xs ys zs =
+    times_forward (length ys) (record { start = w; live = xs; undone = ys ++ zs })
+    ∙ (λ i. record { start = w; live = xs ++ take-append_seam ys zs i; undone = drop-append_seam ys zs i })
 
 -- a forward that was not refused
 went_on : (s t : State) (n : ℕ) → forward s n ≡ Ok t → t ≡ times n forward_one s

@@ -1,5 +1,5 @@
 -- The room that redoing wants is there: what undoing gave back.
-use Rattle.std.proofs.Common.{◌≡◌, ℕ, ◌+◌, ◌≤◌, true, arith, List, ◌∷◌, drop, Ok}
+use Rattle.std.proofs.Common.{◌≡◌, ℕ, ◌+◌, ◌≤◌, true, arith, List, ◌∷◌, Ok}
 use Rattle.rd_journal.proofs.Prelude.{World, step, Event, Entry, makes_segment, room_used, room_returned, room_used_returned, HasRoom}
 
 -- undoing a step gives back the room that redoing it wants
@@ -8,15 +8,15 @@ pub given_back : (xs ys : List Entry) (x : Entry) (before after : ℕ → ℕ) �
 given_back xs ys x before after front has gives = grind arith
 
 -- a making that is redone finds its room
-pub redo_room : (R : ℕ) (w v : World) (ys : List Entry) (x : Entry) (room : ℕ → ℕ) → ys ≡ x ∷ drop 1 ys
+pub redo_room : (R : ℕ) (w v : World) (ys zs : List Entry) (x : Entry) (room : ℕ → ℕ) → ys ≡ x ∷ zs
     → step R w x.event ≡ Ok (record { world = v; entry = x }) → HasRoom ys room → makes_segment R w x.event ≡ true → 1 ≤ room x.event.actor
-redo_room R w v ys x room first goes has makes = grind arith
+redo_room R w v ys zs x room first goes has makes = grind arith
 
 -- and what is left is enough for the others
-pub redone_room : (R : ℕ) (w v : World) (ys : List Entry) (x : Entry) (before after : ℕ → ℕ) → ys ≡ x ∷ drop 1 ys
+pub redone_room : (R : ℕ) (w v : World) (ys zs : List Entry) (x : Entry) (before after : ℕ → ℕ) → ys ≡ x ∷ zs
     → step R w x.event ≡ Ok (record { world = v; entry = x }) → HasRoom ys before
-    → ((m : ℕ) → before m ≤ after m + room_used (makes_segment R w x.event) x.event.actor m) → HasRoom (drop 1 ys) after
-redone_room R w v ys x before after first goes has left = grind arith
+    → ((m : ℕ) → before m ≤ after m + room_used (makes_segment R w x.event) x.event.actor m) → HasRoom zs after
+redone_room R w v ys zs x before after first goes has left = grind arith
 
 -- a step that is undone at once gives back the room that it took
 pub stepped_back : (R : ℕ) (w v : World) (e : Event) (x : Entry) (before stepped after : ℕ → ℕ) → step R w e ≡ Ok (record { world = v; entry = x })

@@ -1,7 +1,7 @@
 -- Runs and their entries: two runs joined, the last step of a run, and a journal that gains or
 -- loses a step.
 use Rattle.std.proofs.Common.{◌≡◌, ℕ, refl, sym, ◌∙◌, ap, subst, List, [], ◌∷◌, ◌++◌, Result, Ok, arith}
-use Rattle.rd_journal.proofs.Prelude.{append-nil, map-append, Refusal, World, Stepped, step, unstep, Ran, run, IsFree, IsWellFormed, Event, Entry, preceded_by, result_map, WasStepped, IsTakenOut, took, undoes, ran_on, run-cons, run_keeps, taken_out, beginning, Middle, middle, Journal, events, world_before, start_of, IsRun}
+use Rattle.rd_journal.proofs.Prelude.{map-append, Refusal, World, Stepped, step, unstep, Ran, run, IsFree, IsWellFormed, Event, Entry, preceded_by, result_map, WasStepped, IsTakenOut, took, undoes, ran_on, run-cons, run_keeps, beginning, Middle, middle, Journal, events, world_before, start_of, IsRun}
 use Rattle.rd_step.proofs.Keeps.{keeps}
 use Rattle.rd_journal.specs.Journal.{run_entries}
 
@@ -126,23 +126,6 @@ may_take_out R w xs ys zs x runs free = record { was = was; start = start; runs 
       live_ran = ap (λ (u : World). run R u (events (xs ++ ys))) (start v out) ∙ others v out;
       undone_run_on =
           grind (arith, preceded_entries);
-    }
-
--- the last live step of a journal may be undone, and the journal that is left, with its entry in
--- front of the undone ones, is one of the same start
-pub record MayUndo (R : ℕ) (w : World) (xs ys : List Entry) (x : Entry) : Type 0 where
-  pub was : WasStepped R w x
-  pub runs : IsRun R (record { world = unstep w x; live = xs; undone = x ∷ ys })
-
-pub shrunk : (R : ℕ) (w : World) (xs ys : List Entry) (x : Entry) → IsRun R (record { world = w; live = xs ++ x ∷ []; undone = ys })
-    → MayUndo R w xs ys x
-shrunk R w xs ys x runs =
-    let may = may_take_out R w xs [] ys x runs tt in
-    record {
-      was = may.was;
-      runs =
-          subst (λ (l : List Entry). IsRun R (record { world = unstep w x; live = l; undone = x ∷ ys })) (append-nil xs)
-          (may.runs (unstep w x) (taken_out R w x may.was));
     }
 
 -- a step that was just made may be undone, which gives the world before it

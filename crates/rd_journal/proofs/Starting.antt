@@ -1,8 +1,8 @@
 -- Undoing the last steps that lead to a world; and the event of an undone step.
-use Rattle.std.proofs.Common.{◌≡◌, ℕ, ◌-◌, ◌<◌, ◌≤◌, ◌⊎◌, sym, ◌∙◌, ap, List, [], ◌∷◌, ◌++◌, length, take, drop, get_or, slice_get, option_map, Some, None, arith}
-use Rattle.rd_journal.proofs.Prelude.{take_more, slice_get-map, slice_get_past, slice_get-get_or, World, run, unstep, WasStepped, Entry, Journal, events, world_before, start_of, IsRun, LeadsTo, numbered}
+use Rattle.std.proofs.Common.{◌≡◌, ℕ, ◌-◌, ◌<◌, ◌≤◌, ◌⊎◌, sym, ◌∙◌, ap, subst, List, [], ◌∷◌, ◌++◌, length, take, drop, get_or, slice_get, option_map, Some, None, arith}
+use Rattle.rd_journal.proofs.Prelude.{append-nil, taken_out, take_more, slice_get-map, slice_get_past, slice_get-get_or, World, run, unstep, WasStepped, Entry, Journal, events, world_before, start_of, IsRun, LeadsTo, numbered}
 use Rattle.rd_journal.proofs.ListLemmas.{drop_one_less}
-use Rattle.rd_journal.proofs.Runs.{goes_back, world_before-last, shrunk}
+use Rattle.rd_journal.proofs.Runs.{goes_back, may_take_out}
 
 -- the last of the steps that lead to a world may be undone, and then the others lead to what is
 -- left
@@ -12,14 +12,15 @@ pub record MayStepBack (R : ℕ) (start w : World) (xs : List Entry) (x : Entry)
 
 pub may_step_back : (R : ℕ) (start w : World) (xs : List Entry) (x : Entry) → LeadsTo R start w (xs ++ x ∷ []) → MayStepBack R start w xs x
 may_step_back R start w xs x leads =
-    let l = xs ++ x ∷ [] in
-    let back : world_before w l ≡ start = goes_back R start w l leads.well_formed leads.ran in
-    let runs : IsRun R (record { world = w; live = l; undone = [] }) = grind arith in
-    let may = shrunk R w xs [] x runs in
-    let same : world_before (unstep w x) xs ≡ start = sym (world_before-last w xs x) ∙ back in
+    let v = unstep w x in
+    let back : world_before w (xs ++ x ∷ []) ≡ start = goes_back R start w (xs ++ x ∷ []) leads.well_formed leads.ran in
+    let may = may_take_out R w xs [] [] x (grind arith) tt in
+    let out = taken_out R w x may.was in
     record {
       was = may.was;
-      left = record { well_formed = leads.well_formed; ran = ap (λ (u : World). run R u (events xs)) (sym same) ∙ may.runs.live_ran };
+      left =
+          subst (λ (l : List Entry). LeadsTo R start v l) (append-nil xs)
+          (record { well_formed = leads.well_formed; ran = ap (λ (u : World). run R u (events (xs ++ []))) (sym (may.start v out ∙ back)) ∙ (may.runs v out).live_ran });
     }
 
 -- the live steps lead from the start to the world

@@ -193,8 +193,3 @@ no_making_missed xs i m base count x h here none counted =
     let so_far = room_returned_by (take i xs) m in
     let more : so_far ≡ room_returned_by (take (i + 1) xs) m = returned_next xs i m so_far 0 so_far x h refl (sym (none_returned y.place y.old_content m (ap made (sym here) ∙ none))) (omega arith) in
     omega (arith, counted, more)
-
--- what was counted for an actor
-pub makings_known : (f : ℕ → ℕ) (counts : List ℕ) (number actor : ℕ) → actor ≡ number + 1 → ((m : ℕ) → m < 256 → get_or counts m 0 ≡ f m) → number + 1 < 256
-    → get_or counts actor 0 ≡ f (number + 1)
-makings_known f counts number actor its counted small = ap (λ (n : ℕ). get_or counts n 0) its ∙ counted (number + 1) small

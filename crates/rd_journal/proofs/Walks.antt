@@ -1,14 +1,14 @@
 -- Undoing a journal's last live steps and redoing its first undone ones, and how the state changes.
-use Rattle.std.proofs.Common.{◌≡◌, ℕ, zero, suc, ◌+◌, ◌-◌, ◌≤◌, sym, ◌∙◌, ap, subst, List, [], ◌∷◌, ◌++◌, length, take, drop, Ok, arith, length-append}
-use Rattle.rd_journal.proofs.Prelude.{take-length, drop-length, take-add, append-nil, append_assoc, map-append, length-map, take-map, drop-map, take-append-drop, take-take, length-take-le, drop-append-le, drop-drop, World, step, run, IsWellFormed, Event, Entry, runs_to, Journal, events, world_before, start_of, IsRun, IsRunFrom, LeadsTo, IsSession, IsMovedBack, IsMovedForward, room_returned_by, HasRoom, State, state_of, back_one, forward_one, times}
+use Rattle.std.proofs.Common.{◌≡◌, ℕ, zero, suc, ◌+◌, ◌-◌, ◌≤◌, sym, ◌∙◌, ap, subst, List, ◌++◌, length, take, drop, Ok, arith, length-append}
+use Rattle.rd_journal.proofs.Prelude.{take-length, drop-length, take-add, append-nil, append_assoc, map-append, length-map, take-map, drop-map, take-append-drop, take-take, length-take-le, drop-append-le, drop-drop, World, run, IsWellFormed, Event, Entry, runs_to, Journal, events, world_before, start_of, IsRun, IsRunFrom, LeadsTo, IsSession, IsMovedBack, IsMovedForward, room_returned_by, HasRoom, State, state_of, back_one, forward_one, times}
 use Rattle.rd_journal.specs.Journal.{run_entries}
-use Rattle.rd_journal.proofs.Runs.{run_joined, goes_back, start_stays, now_formed}
+use Rattle.rd_journal.proofs.Runs.{run_joined, goes_back}
 use Rattle.rd_journal.proofs.Switching.{returned_joined, runs_on}
 
 -- What is left is a session
 
 -- the live and the undone entries are those of one run from the start
-whole_run : (R : ℕ) (j : Journal) → IsRun R j → IsRunFrom R (start_of j) (j.live ++ j.undone)
+pub whole_run : (R : ℕ) (j : Journal) → IsRun R j → IsRunFrom R (start_of j) (j.live ++ j.undone)
 whole_run R j runs =
     let on = runs_to R j.world j.undone runs.undone_run_on in
     ap run_entries (ap (run R (start_of j)) (map-append (λ (x : Entry). x.event) j.live j.undone)
@@ -92,7 +92,7 @@ room_first n xs room has = record {
 
 -- The state
 
-times_back : (n : ℕ) (s : State) → n ≤ length s.live
+pub times_back : (n : ℕ) (s : State) → n ≤ length s.live
     → times n back_one s ≡ record { start = s.start; live = take (length s.live - n) s.live; undone = drop (length s.live - n) s.live ++ s.undone }
 times_back zero s within =
     let all : length s.live ≡ length s.live - 0 = omega arith in
@@ -122,7 +122,7 @@ pub state_back : (n : ℕ) (old new : Journal) → n ≤ length old.live → sta
     → state_of new ≡ times n back_one (state_of old)
 state_back n old new within start moved = grind (arith, length-map, take-map, map-append, drop-map, times_back)
 
-times_forward : (n : ℕ) (s : State) → times n forward_one s ≡ record { start = s.start; live = s.live ++ take n s.undone; undone = drop n s.undone }
+pub times_forward : (n : ℕ) (s : State) → times n forward_one s ≡ record { start = s.start; live = s.live ++ take n s.undone; undone = drop n s.undone }
 times_forward zero s = λ i. record { start = s.start; live = sym (append-nil s.live) i; undone = s.undone }
 times_forward (suc n) s =
     let next : n + 1 ≡ suc n = omega arith in
@@ -137,13 +137,3 @@ times_forward (suc n) s =
 
 pub state_forward : (n : ℕ) (old new : Journal) → start_of new ≡ start_of old → IsMovedForward n old new → state_of new ≡ times n forward_one (state_of old)
 state_forward n old new start moved = grind (arith, map-append, take-map, drop-map, times_forward)
-
--- the state of a journal whose first undone entry became the last live one
-pub forward_state : (R : ℕ) (w v : World) (xs ys : List Entry) (x : Entry) → IsRun R (record { world = w; live = xs; undone = x ∷ ys })
-    → step R w x.event ≡ Ok (record { world = v; entry = x })
-    → state_of (record { world = v; live = xs ++ x ∷ []; undone = ys })
-    ≡ forward_one (state_of (record { world = w; live = xs; undone = x ∷ ys }))
-forward_state R w v xs ys x runs h =
-    let start = start_stays R w v xs x x.event (now_formed R (record { world = w; live = xs; undone = x ∷ ys }) runs) h in
-    let all : events (xs ++ x ∷ []) ≡ events xs ++ x.event ∷ [] = map-append (λ (y : Entry). y.event) xs (x ∷ []) in
-    λ i. record { start = start i; live = all i; undone = events ys }

@@ -1,22 +1,16 @@
-use Rattle.std.proofs.Common.{◌+◌, ◌-◌, arith}
+use Rattle.std.proofs.Common.{arith}
 use Rattle.rd_journal.proofs.Prelude.{all_entries}
 use Rattle.rd_journal.proofs.EntryLemmas.{all-length, live-length, cut_back, cut_short, border_moved}
 use Rattle.rd_journal.proofs.entries.Entries.step_back.Goals as goal
 
 pub returns-clause-live : goal.returns-clause-live
 unfolding all_entries
-returns-clause-live c =
-    let self = c.args.self.now in
-    cut_short (all_entries self) self.live c.args.n (omega (arith, all-length self, self.within))
+returns-clause-live c = grind (arith, live-length, all-length, cut_short)
 
 pub returns-clause-ahead : goal.returns-clause-ahead
 unfolding all_entries
-returns-clause-ahead c =
-    let self = c.args.self.now in
-    cut_back (all_entries self) self.live self.ahead c.args.n (omega (arith, live-length self, c.requires)) (omega (arith, all-length self, self.within))
+returns-clause-ahead c = grind (arith, live-length, all-length, cut_back)
 
 pub returns-clause-kept : goal.returns-clause-kept
 unfolding all_entries
-returns-clause-kept c =
-    let self = c.args.self.now in
-    border_moved (all_entries self) self.live self.ahead (self.live - c.args.n) (self.ahead + c.args.n) (omega (arith, live-length self, c.requires))
+returns-clause-kept c = grind (arith, live-length, all-length, border_moved)

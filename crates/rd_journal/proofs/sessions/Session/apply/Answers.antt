@@ -1,7 +1,7 @@
-use Rattle.std.proofs.Common.{◌≡◌, ◌∙◌, ◌<◌, List, [], ◌∷◌, ◌++◌, length, take, drop, inl, inr, refl, sym, ap, subst, arith}
-use Rattle.rd_journal.proofs.Prelude.{append-nil, take_all, take-append-le, drop-append_seam, Entry, HasRoomInstead, kept_entries, NoMemory, model, room, MOST_STEPS, error_passed_up, fact_passed_up, IsIndexOf, ok_then, IsLengthened, events, whole_journal, journal_of, live_entries, ahead_entries, journal}
+use Rattle.std.proofs.Common.{ℕ, Err, ◌≡◌, ◌∙◌, ◌<◌, List, [], ◌∷◌, ◌++◌, length, take, drop, inl, inr, refl, sym, ap, subst, arith}
+use Rattle.rd_journal.proofs.Prelude.{append-nil, take_all, take-append-le, drop-append_seam, Entry, HasRoomInstead, kept_entries, NoMemory, model, room, MOST_STEPS, error_passed_up, fact_passed_up, ok_then, IsLengthened, whole_journal, journal_of, live_entries, ahead_entries, journal}
 use Rattle.rd_journal.proofs.Ahead.{is_session, none_taken}
-use Rattle.rd_journal.proofs.Calls.{live_len, applies, apply_refused, apply_goes, longer_session, same_session, unchanged}
+use Rattle.rd_journal.proofs.Calls.{apply_refused, apply_goes, longer_session, still, unchanged, said_of_state}
 use Rattle.rd_journal.proofs.Outcomes.{err_then}
 use Rattle.rd_journal.proofs.EntryLemmas.{full_entries}
 use Rattle.rd_journal.proofs.IndexRoom.{lacks_fewer}
@@ -11,31 +11,14 @@ use Rattle.rd_journal.proofs.sessions.Session.apply.Goals as goal
 
 pub invariant_of-self : goal.invariant_of-self
 invariant_of-self g c =
-    let self = c.args.self.now in
-    record {
-      kept =
-          same_session g.row.R (whole_journal (model self.world) self.entries) (whole_journal (model self.world) c.make_room_for.new.self) (room self.world) (room self.world) self.kept
-          (λ i. record { world = model self.world; live = c.make_room_for.ensures.live i; undone = c.make_room_for.ensures.ahead i })
-          (λ m. omega arith);
-      within = omega (arith, self.within, ap length c.make_room_for.ensures.ahead);
-      indexed = subst (λ (es : List Entry). IsIndexOf self.index es) (λ i. sym c.make_room_for.ensures.live i ++ sym c.make_room_for.ensures.ahead i) self.indexed;
-    }
-
-pub returns-in_err-make_room_for-clause-err : goal.returns-in_err-make_room_for-clause-err
-returns-in_err-make_room_for-clause-err g c =
-    let self = c.args.self.now in
-    let old = journal self in
-    let full = full_entries self.entries (omega (arith, c.in_err-make_room_for.ensures.err, c.live_len-live.ensures)) in
-    error_passed_up _ NoMemory c.from_residual.result c.from_residual.ensures.1 (inr (
-      refl,
-      record {
-        not_full = omega (arith, live_len old, c.live_len.ensures, (is_session self).few);
-        asked = inl (ap events (none_taken self.undone (ahead_entries self.entries) full.none));
-      },
-    ))
+    let is = still c.args.self.now c.args.self.now.world c.make_room_for.new.self refl c.make_room_for.ensures.live c.make_room_for.ensures.ahead (λ m. omega arith) in
+    record { kept = is.kept; within = is.within; indexed = is.indexed }
 
 pub returns-in_err-make_room_for-clause-memory : goal.returns-in_err-make_room_for-clause-memory
 returns-in_err-make_room_for-clause-memory g c = grind (arith, full_entries, error_passed_up, is_session, none_taken)
+
+pub returns-in_err-make_room_for-clause-err : goal.returns-in_err-make_room_for-clause-err
+returns-in_err-make_room_for-clause-err g c = said_of_state c.args.self.now c.args.event c.from_residual.result (returns-in_err-make_room_for-clause-memory g c)
 
 pub returns-in_err-make_room_for-clause-unchanged : goal.returns-in_err-make_room_for-clause-unchanged
 returns-in_err-make_room_for-clause-unchanged g c =
@@ -43,27 +26,9 @@ returns-in_err-make_room_for-clause-unchanged g c =
 
 pub invariant_of-self-in-Break-branch-2 : goal.invariant_of-self-in-Break-branch-2
 invariant_of-self-in-Break-branch-2 g c =
-    let self = c.args.self.now in
-    record {
-      kept =
-          same_session g.row.R (whole_journal (model self.world) self.entries) (whole_journal (model c.step.new.self) c.make_room_for.new.self) (room self.world)
-          (room c.step.new.self) self.kept
-          (λ i. record { world = c.in_err-entry.ensures.unchanged i; live = c.make_room_for.ensures.live i; undone = c.make_room_for.ensures.ahead i })
-          c.in_err-entry.ensures.kept;
-      within = omega (arith, self.within, ap length c.make_room_for.ensures.ahead);
-      indexed = subst (λ (es : List Entry). IsIndexOf self.index es) (λ i. sym c.make_room_for.ensures.live i ++ sym c.make_room_for.ensures.ahead i) self.indexed;
-    }
-
-pub returns-in_err-entry-clause-err : goal.returns-in_err-entry-clause-err
-returns-in_err-entry-clause-err g c =
-    let self = c.args.self.now in
-    let old = journal self in
-    let less : length old.live < MOST_STEPS = omega (arith, c.live_len.ensures, self.kept.few) in
-    error_passed_up _ c.in_err-entry.field-0.0 c.from_residual-in_err-entry.result c.from_residual-in_err-entry.ensures.1 (
-    elim c.in_err-entry.ensures.err [
-      | inl h ↦ inl (apply_refused g.row.R old c.args.event c.in_err-entry.field-0.0 (is_session self).runs less h)
-      | inr h ↦ inr (h.0, record { not_full = omega (arith, less, live_len old); asked = inr (applies g.row.R old c.args.event (is_session self).runs less h.1.0) })
-    ])
+    let is = still c.args.self.now c.step.new.self c.make_room_for.new.self c.in_err-entry.ensures.unchanged c.make_room_for.ensures.live c.make_room_for.ensures.ahead
+    c.in_err-entry.ensures.kept in
+    record { kept = is.kept; within = is.within; indexed = is.indexed }
 
 pub returns-in_err-entry-clause-memory : goal.returns-in_err-entry-clause-memory
 returns-in_err-entry-clause-memory g c =
@@ -75,6 +40,9 @@ returns-in_err-entry-clause-memory g c =
       | inl h ↦ inl (apply_refused g.row.R old c.args.event c.in_err-entry.field-0.0 (is_session self).runs less h)
       | inr h ↦ inr (h.0, record { not_full = less; asked = inr (inl h.1) })
     ])
+
+pub returns-in_err-entry-clause-err : goal.returns-in_err-entry-clause-err
+returns-in_err-entry-clause-err g c = said_of_state c.args.self.now c.args.event c.from_residual-in_err-entry.result (returns-in_err-entry-clause-memory g c)
 
 pub returns-in_err-entry-clause-unchanged : goal.returns-in_err-entry-clause-unchanged
 returns-in_err-entry-clause-unchanged g c =
@@ -94,23 +62,14 @@ invariant_of-self-then-is_err g c =
     let self = c.args.self.now in
     let back = (just_stepped g.row.R (model self.world) (model c.step.new.self) c.args.event c.in_ok-entry.entry (now_formed g.row.R (journal self) (is_session self).runs)
     c.in_ok-entry.ensures.ok).back in
+    let is = still self c.unstep.new.world c.make_room_for.new.self (c.unstep.ensures.back ∙ back) c.make_room_for.ensures.live c.make_room_for.ensures.ahead
+    (stepped_back g.row.R (model self.world) (model c.step.new.self) c.args.event c.in_ok-entry.entry (room self.world) (room c.step.new.self) (room c.unstep.new.world)
+    c.in_ok-entry.ensures.ok c.in_ok-entry.ensures.room c.unstep.ensures.room) in
     record {
-      kept =
-          same_session g.row.R (whole_journal (model self.world) self.entries) (whole_journal (model c.unstep.new.world) c.make_room_for.new.self) (room self.world)
-          (room c.unstep.new.world) self.kept
-          (λ i. record { world = (c.unstep.ensures.back ∙ back) i; live = c.make_room_for.ensures.live i; undone = c.make_room_for.ensures.ahead i })
-          (stepped_back g.row.R (model self.world) (model c.step.new.self) c.args.event c.in_ok-entry.entry (room self.world) (room c.step.new.self) (room c.unstep.new.world)
-          c.in_ok-entry.ensures.ok c.in_ok-entry.ensures.room c.unstep.ensures.room);
-      within = omega (arith, self.within, ap length c.make_room_for.ensures.ahead);
+      kept = is.kept;
+      within = is.within;
       indexed = err_then c.index_instead.result (sym c.is_err.ensures.value ∙ c.if-is_err.true) c.index_instead.ensures.err;
     }
-
-pub returns-then-is_err-clause-err : goal.returns-then-is_err-clause-err
-returns-then-is_err-clause-err g c =
-    let self = c.args.self.now in
-    let old = journal self in
-    let less : length old.live < MOST_STEPS = omega (arith, c.live_len.ensures, self.kept.few) in
-    inr (refl, record { not_full = omega (arith, less, live_len old); asked = inr (applies g.row.R old c.args.event (is_session self).runs less (grind (arith, c.in_ok-entry.ensures.ok))) })
 
 pub returns-then-is_err-clause-memory : goal.returns-then-is_err-clause-memory
 returns-then-is_err-clause-memory g c =
@@ -132,6 +91,9 @@ returns-then-is_err-clause-memory g c =
         }));
       },
     )
+
+pub returns-then-is_err-clause-err : goal.returns-then-is_err-clause-err
+returns-then-is_err-clause-err g c = said_of_state {X = ℕ × Entry} c.args.self.now c.args.event (Err NoMemory) (returns-then-is_err-clause-memory g c)
 
 pub returns-then-is_err-clause-unchanged : goal.returns-then-is_err-clause-unchanged
 returns-then-is_err-clause-unchanged g c =

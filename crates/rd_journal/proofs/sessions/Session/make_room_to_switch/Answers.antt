@@ -1,36 +1,18 @@
-use Rattle.std.proofs.Common.{List, refl, ◌∙◌, ap, sym, subst, arith, length, take, drop, OnOk, ◌++◌}
-use Rattle.rd_journal.proofs.Prelude.{model, room, Entry, IsIndexOf, events, whole_journal, HasRoomForAll, room_without}
-use Rattle.rd_journal.proofs.Calls.{same_session, unchanged}
+use Rattle.std.proofs.Common.{List, refl, ◌∙◌, ap, subst, arith, drop, OnOk}
+use Rattle.rd_journal.proofs.Prelude.{model, room, Entry, HasRoomForAll, room_without}
+use Rattle.rd_journal.proofs.Calls.{still, unchanged}
 use Rattle.rd_journal.proofs.sessions.Session.make_room_to_switch.Goals as goal
 
 pub invariant_of-self : goal.invariant_of-self
 invariant_of-self g c =
-    let self = c.args.self.now in
-    record {
-      kept =
-          same_session g.row.R (whole_journal (model self.world) self.entries) (whole_journal (model self.world) c.make_room_for.new.self) (room self.world) (room self.world) self.kept
-          (λ i. record { world = model self.world; live = c.make_room_for.ensures.live i; undone = c.make_room_for.ensures.ahead i })
-          (λ m. omega arith);
-      within = omega (arith, self.within, ap length c.make_room_for.ensures.ahead);
-      indexed = subst (λ (es : List Entry). IsIndexOf self.index es) (λ i. sym c.make_room_for.ensures.live i ++ sym c.make_room_for.ensures.ahead i) self.indexed;
-    }
+    let is = still c.args.self.now c.args.self.now.world c.make_room_for.new.self refl c.make_room_for.ensures.live c.make_room_for.ensures.ahead (λ m. omega arith) in
+    record { kept = is.kept; within = is.within; indexed = is.indexed }
 
 pub invariant_of-self-2 : goal.invariant_of-self-2
 invariant_of-self-2 g c =
-    let self = c.args.self.now in
-    record {
-      kept =
-          same_session g.row.R (whole_journal (model self.world) self.entries) (whole_journal (model c.make_room_for_makings.new.world) c.make_room_for.new.self) (room self.world)
-          (room c.make_room_for_makings.new.world) self.kept
-          (λ i. record {
-            world = c.make_room_for_makings.ensures.unchanged i;
-            live = c.make_room_for.ensures.live i;
-            undone = c.make_room_for.ensures.ahead i;
-          })
-          c.make_room_for_makings.ensures.room;
-      within = omega (arith, self.within, ap length c.make_room_for.ensures.ahead);
-      indexed = subst (λ (es : List Entry). IsIndexOf self.index es) (λ i. sym c.make_room_for.ensures.live i ++ sym c.make_room_for.ensures.ahead i) self.indexed;
-    }
+    let is = still c.args.self.now c.make_room_for_makings.new.world c.make_room_for.new.self c.make_room_for_makings.ensures.unchanged c.make_room_for.ensures.live
+    c.make_room_for.ensures.ahead c.make_room_for_makings.ensures.room in
+    record { kept = is.kept; within = is.within; indexed = is.indexed }
 
 pub returns-in_err-make_room_for-clause-unchanged : goal.returns-in_err-make_room_for-clause-unchanged
 returns-in_err-make_room_for-clause-unchanged g c = unchanged _ _ refl c.make_room_for.ensures.live c.make_room_for.ensures.ahead refl

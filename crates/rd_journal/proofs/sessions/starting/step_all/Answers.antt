@@ -1,16 +1,9 @@
-use Rattle.std.proofs.Common.{◌≡◌, ◌∙◌, ◌+◌, ◌<◌, ℕ, List, [], ◌∷◌, ◌++◌, Ok, take, drop, length, refl, sym, ap, subst, arith}
-use Rattle.rd_journal.proofs.Prelude.{drop_all, map-append, take_all, take_more, World, Stepped, model, room, run, Entry, first_step, run-cons, events, IsRunFrom, HasRoom}
+use Rattle.std.proofs.Common.{◌≡◌, ◌∙◌, ◌+◌, ◌<◌, List, [], ◌∷◌, ◌++◌, Ok, take, drop, length, refl, sym, ap, subst, arith}
+use Rattle.rd_journal.proofs.Prelude.{drop_all, map-append, take_all, take_more, World, Stepped, model, room, run, Entry, first_step, run-cons, events, IsRunFrom}
 use Rattle.rd_journal.proofs.ListLemmas.{drop_one_less}
 use Rattle.rd_journal.proofs.RoomLemmas.{redo_room, redone_room}
 use Rattle.rd_journal.proofs.Runs.{run_joined}
 use Rattle.rd_journal.proofs.sessions.starting.step_all.Goals as goal
-
--- the next one in front
-in_front : (xs : List Entry) (n : ℕ) (x : Entry) → drop n xs ≡ x ∷ drop (n + 1) xs → drop n xs ≡ x ∷ drop 1 (drop n xs)
-in_front xs n x here = here ∙ ap (λ (ys : List Entry). x ∷ drop 1 ys) (sym here)
-
-behind_it : (xs : List Entry) (n : ℕ) (x : Entry) → drop n xs ≡ x ∷ drop (n + 1) xs → drop 1 (drop n xs) ≡ drop (n + 1) xs
-behind_it xs n x here = ap (λ (ys : List Entry). drop 1 ys) here
 
 pub loop-next-init : goal.loop-next-init
 loop-next-init g c = record { ran = refl; rest = c.requires.runs; more = λ rest has. has; room = c.requires.room }
@@ -26,7 +19,7 @@ step_again-requires g c =
       omega (arith, c.loop-next.world.small),
       (
         (first.after, first.goes),
-        redo_room g.row.R w first.after (drop n xs) x (room c.loop-next.world) (in_front xs n x here) first.goes c.loop-next.invariant.room,
+        redo_room g.row.R w first.after (drop n xs) (drop (n + 1) xs) x (room c.loop-next.world) here first.goes c.loop-next.invariant.room,
       ),
     )
 
@@ -54,14 +47,11 @@ loop-next-preserved g c =
           ∙ ap (λ (ys : List Entry). Ok (record { world = v; entries = ys })) (sym more);
       rest = subst (λ (u : World). IsRunFrom g.row.R u (drop (n + 1) xs)) same first.rest;
       room =
-          subst (λ (ys : List Entry). HasRoom ys (room c.step_again.new.self)) (behind_it xs n x here)
-          (redone_room g.row.R w v (drop n xs) x (room c.loop-next.world) (room c.step_again.new.self) (in_front xs n x here) c.step_again.ensures.done
-          c.loop-next.invariant.room c.step_again.ensures.room);
+          redone_room g.row.R w v (drop n xs) (drop (n + 1) xs) x (room c.loop-next.world) (room c.step_again.new.self) here c.step_again.ensures.done
+          c.loop-next.invariant.room c.step_again.ensures.room;
       more = λ rest has.
-          subst (λ (ys : List Entry). HasRoom ys (room c.step_again.new.self)) (ap (λ (ys : List Entry). drop 1 (ys ++ rest)) here)
-          (redone_room g.row.R w v (drop n xs ++ rest) x (room c.loop-next.world) (room c.step_again.new.self)
-          (ap (λ (ys : List Entry). ys ++ rest) here ∙ ap (λ (ys : List Entry). x ∷ drop 1 (ys ++ rest)) (sym here)) c.step_again.ensures.done
-          (c.loop-next.invariant.more rest has) c.step_again.ensures.room);
+          redone_room g.row.R w v (drop n xs ++ rest) (drop (n + 1) xs ++ rest) x (room c.loop-next.world) (room c.step_again.new.self)
+          (ap (λ (ys : List Entry). ys ++ rest) here) c.step_again.ensures.done (c.loop-next.invariant.more rest has) c.step_again.ensures.room;
     }
 
 pub returns-clause-ran : goal.returns-clause-ran

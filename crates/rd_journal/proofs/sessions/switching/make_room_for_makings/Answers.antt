@@ -1,15 +1,14 @@
 use Rattle.std.proofs.Common.{◌≡◌, ℕ, zero, suc, ◌+◌, ◌-◌, ◌<◌, ◌∙◌, IsSome, List, get_or, subst, sym, ap, arith, rules}
 use Rattle.rd_journal.proofs.Prelude.{World, model, room, Entry, error_passed_up, room_returned_by, room_without}
-use Rattle.rd_journal.proofs.Switching.{room_for_one_more, room_for_actors, makings_known}
+use Rattle.rd_journal.proofs.Switching.{room_for_one_more, room_for_actors}
 use Rattle.rd_journal.proofs.sessions.switching.make_room_for_makings.Goals as goal
 
--- for how many makings room is asked
-abbrev missing : List Entry → List Entry → ℕ → ℕ
-missing dropped given m = room_returned_by given m - room_returned_by dropped m
-
-counted : (dropped given : List Entry) (counts left : List ℕ) → ((m : ℕ) → m < 256 → get_or counts m 0 ≡ room_returned_by given m)
-    → ((m : ℕ) → m < 256 → get_or left m 0 ≡ get_or counts m 0 - room_returned_by dropped m) → (m : ℕ) → m < 256 → get_or left m 0 ≡ missing dropped given m
-counted dropped given counts left all less m small = less m small ∙ ap (λ (n : ℕ). n - room_returned_by dropped m) (all m small)
+-- for how many makings of the next actor room is asked
+asked : (dropped given : List Entry) (counts left : List ℕ) (number actor : ℕ) → ((m : ℕ) → m < 256 → get_or counts m 0 ≡ room_returned_by given m)
+    → ((m : ℕ) → m < 256 → get_or left m 0 ≡ get_or counts m 0 - room_returned_by dropped m) → actor ≡ number + 1 → number + 1 < 256
+    → get_or left actor 0 ≡ room_returned_by given (number + 1) - room_returned_by dropped (number + 1)
+asked dropped given counts left number actor all less its small =
+    ap (λ (n : ℕ). get_or left n 0) its ∙ less (number + 1) small ∙ ap (λ (n : ℕ). n - room_returned_by dropped (number + 1)) (all (number + 1) small)
 
 pub make_room-requires : goal.make_room-requires
 make_room-requires g c =
@@ -28,8 +27,8 @@ loop-number-preserved g c = record {
   same = c.make_room.ensures.unchanged ∙ c.loop-number.invariant.same;
   made =
       room_for_one_more c.args.given.now c.loop-number.number (room_without c.args.dropped.now (room c.loop-number.world)) (room_without c.args.dropped.now (room c.make_room.new.self))
-      c.loop-number.invariant.made (λ m. let b = c.make_room.ensures.room m in omega arith) (let h = c.in_ok-make_room.ensures.ok in let its = makings_known (missing c.args.dropped.now c.args.given.now) c.makings_missing-counts.result c.loop-number.number c.from.result c.from.ensures
-      (counted c.args.dropped.now c.args.given.now c.makings_of.result c.makings_missing-counts.result c.makings_of.ensures c.makings_missing-counts.ensures) (omega (arith, c.loop-number-test.true, c.actors-number-end.ensures.within)) in omega arith);
+      c.loop-number.invariant.made (λ m. let b = c.make_room.ensures.room m in omega arith) (let h = c.in_ok-make_room.ensures.ok in let its = asked c.args.dropped.now c.args.given.now c.makings_of.result c.makings_missing-counts.result c.loop-number.number c.from.result c.makings_of.ensures
+      c.makings_missing-counts.ensures c.from.ensures (omega (arith, c.loop-number-test.true, c.actors-number-end.ensures.within)) in omega arith);
   more = λ m. let a = c.loop-number.invariant.more m in let b = c.make_room.ensures.room m in omega arith;
 }
 
@@ -48,15 +47,15 @@ returns-in_err-make_room-clause-err g c =
       lacks.0,
       (
         c.loop-number.number + 1,
-        let its = makings_known (missing c.args.dropped.now c.args.given.now) c.makings_missing-counts.result c.loop-number.number c.from.result c.from.ensures
-            (counted c.args.dropped.now c.args.given.now c.makings_of.result c.makings_missing-counts.result c.makings_of.ensures c.makings_missing-counts.ensures) (omega (arith, c.loop-number-test.true, c.actors-number-end.ensures.within)) in omega arith,
+        let its = asked c.args.dropped.now c.args.given.now c.makings_of.result c.makings_missing-counts.result c.loop-number.number c.from.result c.makings_of.ensures
+            c.makings_missing-counts.ensures c.from.ensures (omega (arith, c.loop-number-test.true, c.actors-number-end.ensures.within)) in omega arith,
       ),
     )
 
 pub returns-in_err-make_room-clause-succeeds : goal.returns-in_err-make_room-clause-succeeds
 returns-in_err-make_room-clause-succeeds g c none =
-    let its = makings_known (missing c.args.dropped.now c.args.given.now) c.makings_missing-counts.result c.loop-number.number c.from.result c.from.ensures
-    (counted c.args.dropped.now c.args.given.now c.makings_of.result c.makings_missing-counts.result c.makings_of.ensures c.makings_missing-counts.ensures) (omega (arith, c.loop-number-test.true, c.actors-number-end.ensures.within)) in
+    let its = asked c.args.dropped.now c.args.given.now c.makings_of.result c.makings_missing-counts.result c.loop-number.number c.from.result c.makings_of.ensures
+    c.makings_missing-counts.ensures c.from.ensures (omega (arith, c.loop-number-test.true, c.actors-number-end.ensures.within)) in
     let lacks = c.in_err-make_room.ensures.err in
     let zero_of : room_returned_by c.args.given.now (c.loop-number.number + 1) ≡ 0 = ap (λ xs. room_returned_by xs (c.loop-number.number + 1)) none in
     absurd (omega (arith, lacks.1))
