@@ -73,7 +73,7 @@ pub opened_session : (R : ℕ) (j : Journal) (room : ℕ → ℕ) → IsWellForm
 opened_session R j room formed live undone = grind arith
 
 -- a session whose journal is as it was is a session still, with as much room
-pub same_session : (R : ℕ) (old new : Journal) (before after : ℕ → ℕ) → IsSession R old before → new ≡ old → ((m : ℕ) → before m ≤ after m)
+same_session : (R : ℕ) (old new : Journal) (before after : ℕ → ℕ) → IsSession R old before → new ≡ old → ((m : ℕ) → before m ≤ after m)
     → IsSession R new after
 same_session R old new before after session same more =
     subst (λ (j : Journal). IsSession R j after) (sym same) (record {

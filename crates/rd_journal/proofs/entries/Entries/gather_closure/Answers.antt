@@ -1,5 +1,5 @@
-use Rattle.std.proofs.Common.{◌∙◌, ◌-◌, List, length, take, drop, sym, subst, arith, length-take-le}
-use Rattle.rd_journal.proofs.Prelude.{Entry, HasRoomFor, all_entries, live_entries, ahead_entries, at_numbers, IsOrder}
+use Rattle.std.proofs.Common.{◌-◌, List, take, drop, sym, subst, arith, length-take-le}
+use Rattle.rd_journal.proofs.Prelude.{Entry, HasRoomFor, all_entries, live_entries, ahead_entries, at_numbers}
 use Rattle.rd_journal.proofs.IndexRoom.{fits_first}
 use Rattle.rd_journal.proofs.Numbers.{at-length, order_below}
 use Rattle.rd_journal.proofs.EntryLemmas.{live-length}
@@ -14,10 +14,4 @@ gather-requires-clause-room c =
 
 pub returns-clause-len : goal.returns-clause-len
 unfolding all_entries
-returns-clause-len c =
-    let self = c.args.self.now in
-    let es = self.slots.items in
-    let new = c.gather.new.order.items in
-    let ordered : IsOrder (length es) new = subst (λ (ys : List Entry). IsOrder (length ys) new) c.deref.ensures.value c.gather.ensures.ordered in
-    let long = at-length es new (order_below (length es) new ordered) in
-    length-take-le self.live (at_numbers es new) (omega (arith, long, ordered.all, self.within, self.order_of_all.all)) ∙ sym (live-length self)
+returns-clause-len c = grind (arith, live-length, at-length, order_below, length-take-le)

@@ -1,4 +1,4 @@
-use Rattle.std.proofs.Common.{◌≡◌, ℕ, ◌+◌, ◌∷◌, ◌++◌, take, drop, ap, subst, arith}
+use Rattle.std.proofs.Common.{◌≡◌, ℕ, ◌+◌, ◌∷◌, ◌++◌, take, drop, subst, arith}
 use Rattle.rd_journal.proofs.Prelude.{at_numbers, all_entries}
 use Rattle.rd_journal.proofs.EntryLemmas.{all-length, live-length, none_ahead, put_last}
 use Rattle.rd_journal.proofs.entries.Entries.push.Goals as goal
@@ -27,6 +27,4 @@ returns-clause-live c =
 
 pub returns-clause-ahead : goal.returns-clause-ahead
 unfolding all_entries
-returns-clause-ahead c =
-    let self = c.args.self.now in
-    ap (λ (n : ℕ). take n (drop (self.live + 1) (at_numbers c.put_at.new.slots.items c.put_at.new.order.items))) (none_ahead self c.requires.none_ahead)
+returns-clause-ahead c = grind (arith, none_ahead)
