@@ -22,3 +22,4 @@ pub mod RunsAgree
 pub mod Converse
 pub mod ComparingLemmas
 pub mod LastWritersLemmas
+pub mod Closures

@@ -1,11 +1,8 @@
 //! The laws of the journal, for every list of steps: each is the contract of a function that does
 //! nothing.
 
-ghost use Rattle.std.specs.Prelude.{◌≡◌, ◌≤◌, ◌↔◌, ℕ, true, List, length, None, Some, Ok};
-ghost use Rattle.rd_step.specs.declared.entries.Entry.{Entry as SomeEntry};
-ghost use Rattle.rd_step.specs.Prelude.{closure, closure_of};
-ghost use Rattle.rd_step.specs.Dependence.{IsInClosure, AreLoneUndos, number_after};
-ghost use Rattle.rd_step.specs.Lists.{numbered};
+ghost use Rattle.std.specs.Prelude.{◌≡◌, ℕ, length, Ok};
+ghost use Rattle.rd_step.specs.Prelude.{closure_of};
 ghost use Rattle.rd_journal.specs.Journal.{Journal, IsRun};
 ghost use Rattle.rd_journal.specs.Laws.{IsMovedLast, IsClosureLast, IsOneRun};
 ghost use Rattle.rd_journal.specs.State.{State, state_of, undo_at, back, redo, forward, roll};
@@ -48,21 +45,6 @@ pub fn live_and_undone_are_one_run()
 pub fn a_step_undone_alone_and_redone_is_the_last()
     ensures { (R : ℕ) (i j k : Journal) (n : ℕ) → IsRun R i → IsRun R k → undo_at R (state_of i) n ≡ Ok (state_of j)
         → redo (state_of j) ≡ Ok (state_of k) → IsMovedLast n i k }
-{}
-
-/// The closure of a step among entries, whose marks `Session::roll` takes out, is just the least
-/// set of positions that holds the step's and, with each position, every later one whose entry
-/// depends on that one's.
-pub fn the_closure_is_the_least_set()
-    ensures { (entries : List SomeEntry) (k j : ℕ) → 1 ≤ k → k ≤ length entries
-        → ((numbered (closure entries k) j ≡ Some true) ↔ IsInClosure entries k j) }
-{}
-
-/// If undos of single steps, none refused, take a step out of a run, they take out all of its
-/// closure. So `Session::roll` takes out no step that could stay.
-pub fn lone_undos_that_take_a_step_out_take_its_closure_out()
-    ensures { (entries : List SomeEntry) (ns : List ℕ) (k j : ℕ) → AreLoneUndos ns entries → number_after ns k ≡ None
-        → IsInClosure entries k j → number_after ns j ≡ None }
 {}
 
 /// If all steps that a rollback undid are redone, the world is that from before it, no entry has

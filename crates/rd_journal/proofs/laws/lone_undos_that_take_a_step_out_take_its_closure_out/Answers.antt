@@ -1,5 +1,0 @@
-use Rattle.rd_journal.proofs.Closures.{all_out}
-use Rattle.rd_journal.proofs.laws.lone_undos_that_take_a_step_out_take_its_closure_out.Goals as goal
-
-pub returns : goal.returns
-returns c = all_out
