@@ -1,6 +1,6 @@
 -- The calls of an index, from what they do to its lists.
 use Rattle.std.proofs.Common.{◌≡◌, ℕ, zero, suc, ◌+◌, ◌-◌, ◌<◌, ◌≤◌, Bool, true, false, ◌&&◌, ◌||◌, ◌==◌, if◌then◌else◌, List, [], ◌∷◌, ◌++◌, length, take, drop, Option, Some, slice_get, refl, sym, ap, subst, ◌∙◌, append_assoc, arith, length-append, eq-eqb, Result, IsOk, OnOk, is_err, rules}
-use Rattle.rd_depend.proofs.Prelude.{Entry, DependIndex, Home, Homes, Key, Table, Lists, list_at, spare_at, one_if, kept_in, spare_in, counts, AreReady, KeepsLists, Puts, TakesLast, HasLast, Touch, By, Under, touches, kept, spare, number_of, IsIndexOf, HasRoomFor, IsLast, homes_of, Adds, Keeps, Drops, EndsWith}
+use Rattle.rd_depend.proofs.Prelude.{Entry, DependIndex, Home, Homes, Key, Table, Lists, list_at, spare_at, one_if, kept_in, spare_in, counts, AreReady, KeepsLists, Puts, TakesLast, HasLast, Touch, By, Under, touches, kept, spare, number_of, IsIndexOf, HasRoomFor, GivesRoom, UsesRoom, IsLast, homes_of, Adds, Keeps, EndsWith}
 use Rattle.rd_depend.proofs.IndexKeys.{is_home, is_in, under, AreSeparate, separate}
 use Rattle.rd_depend.proofs.IndexPositions.{positions-push, positions-pop, number-append}
 
@@ -53,6 +53,13 @@ pub adds : (old new : DependIndex) (x : Entry) (h : Homes) (one two : Table) (p 
     → Adds x old new
 adds old new x h one two p actor homes same is len lists_by room_by a b c = grind arith
 
+-- the index lost its last entry, this one: each list that kept it lost its last position, and each
+-- other list is as before
+pub record Drops (x : Entry) (old new : DependIndex) : Type 0 where
+  pub lists : (t : Touch) → kept new t ≡ (if touches t x then take (length (kept old t) - 1) (kept old t) else kept old t)
+  pub room : (t : Touch) → spare new t ≡ spare old t + one_if (touches t x)
+  pub len : new.len + 1 ≡ old.len
+
 pub drops : (old new : DependIndex) (x : Entry) (h : Homes) (one two : Table) (actor : ℕ) → h ≡ homes_of x → actor ≡ x.event.actor → new.len + 1 ≡ old.len
     → ((i : ℕ) → list_at new.by_actor.items i ≡ (if i == actor then take (length (list_at old.by_actor.items i) - 1) (list_at old.by_actor.items i) else list_at old.by_actor.items i))
     → ((i : ℕ) → spare_at new.by_actor.items i ≡ spare_at old.by_actor.items i + one_if (i == actor))
@@ -94,6 +101,9 @@ dropped old new x es drop_x is = record {
   len = omega (arith, length-append es (x ∷ []));
 }
 
+pub gives_room : (old new : DependIndex) (x : Entry) → Drops x old new → GivesRoom old new (x ∷ [])
+gives_room old new x drop_x = λ t. omega (arith, drop_x.room t)
+
 -- what the calls ask for
 
 pub last_touched : (old : DependIndex) (x : Entry) → IsLast old x → (t : Touch) → touches t x ≡ true → 1 ≤ length (kept old t)
@@ -126,19 +136,17 @@ drop_one (y ∷ ys) (suc n) x h = drop_one ys n x h
 pub record HasAdded (start now : DependIndex) (entries : List Entry) (n : ℕ) : Type 0 where
   pub index : (es : List Entry) → IsIndexOf start es → IsIndexOf now (es ++ take n entries)
   pub room : (t : Touch) → spare start t ≤ spare now t + number_of (touches t) (take n entries)
-  pub len : now.len ≡ start.len + n
 
 pub one_added : (start old new : DependIndex) (entries : List Entry) (n : ℕ) (x : Entry) → slice_get entries n ≡ Some x → HasAdded start old entries n
-    → Adds x old new → HasAdded start new entries (n + 1)
-one_added start old new entries n x there was more =
+    → ((es : List Entry) → IsIndexOf old es → IsIndexOf new (es ++ x ∷ [])) → UsesRoom old new (x ∷ []) → HasAdded start new entries (n + 1)
+one_added start old new entries n x there was more used =
     let next : n + 1 ≡ suc n = omega arith in
     let longer : take (n + 1) entries ≡ take n entries ++ x ∷ [] = ap (λ (m : ℕ). take m entries) next ∙ take_more entries n x there in
     record {
       index = λ es is.
           let e : (es ++ take n entries) ++ x ∷ [] ≡ es ++ take (n + 1) entries = append_assoc es (take n entries) (x ∷ []) ∙ ap (λ (l : List Entry). es ++ l) (sym longer) in
-          subst (λ (l : List Entry). IsIndexOf new l) e (added old new x (es ++ take n entries) more (was.index es is));
+          subst (λ (l : List Entry). IsIndexOf new l) e (more (es ++ take n entries) (was.index es is));
       room = grind (arith, number-append);
-      len = omega (arith, more.len);
     }
 
 number-among : (test : Entry → Bool) (es : List Entry) (n : ℕ) (x : Entry) → slice_get es n ≡ Some x → number_of test (take n es) + one_if (test x) ≤ number_of test es
@@ -148,9 +156,8 @@ number-among test (y ∷ ys) (suc n) x h = omega (arith, number-among test ys n 
 
 -- where there was room for all of them, there is room for the next one
 pub room_next : (start now : DependIndex) (entries : List Entry) (n : ℕ) (x : Entry) → slice_get entries n ≡ Some x → HasRoomFor start entries
-    → HasAdded start now entries n → (t : Touch) → touches t x ≡ true → 0 < spare now t
-room_next start now entries n x there has was t h =
-    let e : one_if (touches t x) ≡ 1 = ap one_if h in omega (arith, number-among (touches t) entries n x there)
+    → HasAdded start now entries n → HasRoomFor now (x ∷ [])
+room_next start now entries n x there has was = record { lists = λ t. omega (arith, number-among (touches t) entries n x there, has.lists t, was.room t) }
 
 -- what some pops have done so far
 pub record HasDropped (start now : DependIndex) (entries : List Entry) (left : ℕ) : Type 0 where
@@ -165,9 +172,10 @@ last_left start now entries left n x next there ends was = record {
 }
 
 pub one_dropped : (start old new : DependIndex) (entries : List Entry) (left n : ℕ) (x : Entry) → left ≡ suc n → slice_get entries n ≡ Some x
-    → HasDropped start old entries left → Drops x old new → HasDropped start new entries n
-one_dropped start old new entries left n x next there was drop_x = record {
-  index = λ es is. dropped old new x (es ++ take n entries) drop_x
+    → HasDropped start old entries left → ((es : List Entry) → IsIndexOf old (es ++ x ∷ []) → IsIndexOf new es) → GivesRoom old new (x ∷ [])
+    → HasDropped start new entries n
+one_dropped start old new entries left n x next there was left_out gives = record {
+  index = λ es is. left_out (es ++ take n entries)
       (subst (λ (l : List Entry). IsIndexOf old l)
       (ap (λ (m : ℕ). es ++ take m entries) next ∙ ap (λ (l : List Entry). es ++ l) (take_more entries n x there) ∙ sym (append_assoc es (take n entries) (x ∷ [])))
       (was.index es is));

@@ -62,8 +62,8 @@ first-is es k x h =
     ∙ sym (ap (option_and_then (λ (y : Entry). first_from y (k + 1) (drop k es))) h)
 
 -- what is found after the first k tells whether the step depends on one of those
-pub found-behind : (x : Entry) (k : ℕ) (es : List Entry) → is_some (first_above k (positions (depends x) es)) ≡ depends_on_one (drop k es) x
-found-behind x k es =
+pub found-after : (x : Entry) (k : ℕ) (es : List Entry) → is_some (first_above k (positions (depends x) es)) ≡ depends_on_one (drop k es) x
+found-after x k es =
     ap is_some (skipped (depends x) k 1 k es (omega arith) ∙ scanned x k (1 + k) (drop k es) (omega arith)) ∙ some (1 + k) (drop k es)
   where
     some : (n : ℕ) (ys : List Entry) → is_some (first_from x n ys) ≡ depends_on_one ys x
@@ -113,8 +113,8 @@ overlaps-keys p o = grind arith
 pub kept-ascends : (index : DependIndex) (es : List Entry) → IsIndexOf index es → (t : Touch) → IsAscending (kept index t)
 kept-ascends index es is t = subst (λ (l : List ℕ). IsAscending l) (sym (is.lists t)) (ascending (touches t) es)
 
-pub kept-short : (index : DependIndex) (es : List Entry) → IsIndexOf index es → index.len ≤ 65535 → (t : Touch) → length (kept index t) < 131072
-kept-short index es is few t = grind (arith, positions-number, number-within)
+pub kept-short : (index : DependIndex) (es : List Entry) → IsIndexOf index es → (t : Touch) → length (kept index t) < 131072
+kept-short index es is t = let few = index.few in grind (arith, positions-number, number-within)
 
 -- a step depends on those of its actor, and on those that interfere with its access
 pub depends-some : (x y : Entry) (p : Place) → x.place ≡ Some p → depends x y ≡ (touches (By x.event.actor) y || interfere (Some p) x.wrote y.place y.wrote)
@@ -131,9 +131,9 @@ under_either p o v = grind arith
 
 -- what the searches find
 
-pub found_in : (index : DependIndex) (es : List Entry) → IsIndexOf index es → index.len ≤ 65535 → (t : Touch) (k : ℕ) (r : Option ℕ)
+pub found_in : (index : DependIndex) (es : List Entry) → IsIndexOf index es → (t : Touch) (k : ℕ) (r : Option ℕ)
     → (IsAscending (kept index t) → length (kept index t) < 131072 → r ≡ first_above k (kept index t)) → r ≡ first_above k (positions (touches t) es)
-found_in index es is few t k r found = found (kept-ascends index es is t) (kept-short index es is few t) ∙ ap (first_above k) (is.lists t)
+found_in index es is t k r found = found (kept-ascends index es is t) (kept-short index es is t) ∙ ap (first_above k) (is.lists t)
 
 -- an access interferes with this step, if it wrote this of its place
 abbrev pub meets : Place → Wrote → Entry → Bool

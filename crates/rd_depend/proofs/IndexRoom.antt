@@ -1,7 +1,7 @@
 -- How much room an index has, from what its lists can have.
-use Rattle.std.proofs.Common.{◌≡◌, ◌+◌, ◌-◌, ◌≤◌, List, ◌++◌, length, ap, ◌∙◌, arith}
-use Rattle.rd_depend.proofs.Prelude.{Entry, DependIndex, Touch, touches, number_of, kept, capacity, spare, IsIndexOf, HasRoomFor}
-use Rattle.rd_depend.proofs.IndexPositions.{positions-number, number-append}
+use Rattle.std.proofs.Common.{◌≡◌, ◌+◌, ◌-◌, ◌≤◌, List, [], ◌∷◌, length, ap, ◌∙◌, arith}
+use Rattle.rd_depend.proofs.Prelude.{Entry, DependIndex, Touch, touches, number_of, kept, capacity, spare, IsIndexOf, HasRoomFor, UsesRoom}
+use Rattle.rd_depend.proofs.IndexPositions.{positions-number}
 
 -- no list has more positions than it can have
 fits : (index : DependIndex) (t : Touch) → length (kept index t) ≤ capacity index t
@@ -16,9 +16,9 @@ kept-number index es is t = ap length (is.lists t) ∙ positions-number (touches
 -- where the capacities stay, what one index has less in its lists it has more room for
 pub room_stays : (old new : DependIndex) (es fs : List Entry) → IsIndexOf old es → IsIndexOf new fs → ((t : Touch) → capacity new t ≡ capacity old t)
     → (t : Touch) → spare new t + number_of (touches t) fs ≡ spare old t + number_of (touches t) es
-room_stays old new es fs was is stays t = grind (arith, spare_is, kept-number)
+room_stays old new es fs was is stays t =
+    omega (arith, spare_is new t, spare_is old t, kept-number new fs is t, kept-number old es was t, fits new t, fits old t, stays t)
 
--- what some entries needed of the room, the others did not
-pub room_behind : (old new : DependIndex) (xs : List Entry) → ((t : Touch) → spare old t ≤ spare new t + number_of (touches t) xs)
-    → (rest : List Entry) → HasRoomFor old (xs ++ rest) → HasRoomFor new rest
-room_behind old new xs used rest has = record { lists = λ t. omega (arith, number-append (touches t) xs rest) }
+-- what one entry needed of the room, the others did not
+pub room_left : (old new : DependIndex) (x : Entry) → UsesRoom old new (x ∷ []) → (rest : List Entry) → HasRoomFor old (x ∷ rest) → HasRoomFor new rest
+room_left old new x used rest has = record { lists = λ t. omega (arith, has.lists t, used t) }

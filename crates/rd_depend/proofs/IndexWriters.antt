@@ -61,9 +61,9 @@ later-last t u v h (x ∷ xs) = grind (arith, later-last t u v h xs)
 
 -- what the searches find
 
-pub last_in : (index : DependIndex) (es : List Entry) → IsIndexOf index es → index.len ≤ 65535 → (t : Touch) (n : ℕ) (r : Option ℕ)
+pub last_in : (index : DependIndex) (es : List Entry) → IsIndexOf index es → (t : Touch) (n : ℕ) (r : Option ℕ)
     → (IsAscending (kept index t) → length (kept index t) < 131072 → r ≡ last_of (up_to n (kept index t))) → r ≡ last_position (touches t) (take n es)
-last_in index es is few t n r found = grind (arith, common_steps, kept-ascends, kept-short, positions-up_to, last-is)
+last_in index es is t n r found = grind (arith, common_steps, kept-ascends, kept-short, positions-up_to, last-is)
 
 meet : (o p : Option Place) → some_overlap o p ≡ some_overlap p o
 meet o p = grind arith

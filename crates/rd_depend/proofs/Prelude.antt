@@ -24,10 +24,10 @@ pub use Rattle.rd_step.specs.Prelude.{CellAt, Head, IsFree, Place, Ran, Stepped,
 pub use Rattle.rd_step.specs.Run.{IsRunFrom, events, run_entries}
 pub use Rattle.rd_step.specs.declared.entries.Entry.{Entry}
 pub use Rattle.rd_step.specs.declared.entries.Event.{Event}
-pub use Rattle.rd_depend.specs.Changes.{Adds, CutsAll, Drops, EndsWith, Keeps, MovesAll, homes_of}
+pub use Rattle.rd_depend.specs.Changes.{Adds, EndsWith, Keeps, homes_of}
 pub use Rattle.rd_depend.specs.ComparedSteps.{GoesOn, StandsElsewhere, left_of, reached_of, reached_or_nothing}
 pub use Rattle.rd_depend.specs.Equivalence.{DecidesEquivalence}
-pub use Rattle.rd_depend.specs.Index.{By, GivesRoom, HasRoomFor, IsIndexOf, IsLast, Touch, Under, capacity, is_value_written, kept, number_of, positions, positions_from, reached, spare, touches}
+pub use Rattle.rd_depend.specs.Index.{By, GivesRoom, HasRoomFor, IsIndexOf, IsLast, Touch, Under, UsesRoom, capacity, is_value_written, kept, number_of, positions, positions_from, reached, spare, touches}
 pub use Rattle.rd_depend.specs.KeyLaws.{is_key-refl, is_key-sym, is_key-true}
 pub use Rattle.rd_depend.specs.Keys.{is_kept_at, is_key, is_that, is_under, is_under_some, own_key, place_key, segment_key, segment_of_place, slot_in, value_key, value_of_place, whole_key}
 pub use Rattle.rd_depend.specs.LastWriters.{AreAlike, IsBehind, IsInOrder, KeepsOrder, Placed, bound, by_actor, enumerated, is_making, is_whole_of, moved, moved_under, nothing_reached, passed, with_steps, wrote_under}

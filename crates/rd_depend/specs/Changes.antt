@@ -1,27 +1,27 @@
 -- How the calls of an index change its lists.
-use Rattle.std.specs.Prelude.{◌≡◌, ℕ, ◌+◌, ◌-◌, ◌≤◌, ◌<◌, not, if◌then◌else◌, List, [], ◌∷◌, ◌++◌, length, take}
+use Rattle.std.specs.Prelude.{◌≡◌, ◌+◌, ◌≤◌, ◌<◌, not, if◌then◌else◌, List, [], ◌∷◌, ◌++◌}
 use Rattle.rd_step.specs.Prelude.{is_nothing}
 use Rattle.rd_step.specs.declared.entries.Entry.{Entry}
 use Rattle.rd_depend.specs.declared.index.DependIndex.{DependIndex}
 use Rattle.rd_depend.specs.declared.index.changing.Homes.{Homes}
 use Rattle.rd_depend.specs.declared.index.changing.Slots.{Slots}
-use Rattle.rd_depend.specs.Index.{Touch, touches, is_value_written, kept, spare, capacity, IsIndexOf}
+use Rattle.rd_depend.specs.Index.{Touch, touches, is_value_written, kept, spare, position_count, IsIndexOf}
 use Rattle.rd_depend.specs.Keys.{place_key, value_key, segment_key}
-use Rattle.rd_depend.specs.Lists.{spare_at, one_if, up_to, IsAscending, IsMoved}
+use Rattle.rd_depend.specs.Lists.{spare_at, one_if}
 use Rattle.rd_depend.specs.Tables.{AreReady}
 
 -- the index got this entry: each list that is to keep it has one more position at its end, and each
 -- other list is as before
 pub record Adds (x : Entry) (old new : DependIndex) : Type 0 where
-  pub lists : (t : Touch) → kept new t ≡ (if touches t x then kept old t ++ (old.len + 1) ∷ [] else kept old t)
+  pub lists : (t : Touch) → kept new t ≡ (if touches t x then kept old t ++ (position_count old + 1) ∷ [] else kept old t)
   pub room : (t : Touch) → spare old t ≤ spare new t + one_if (touches t x)
-  pub len : new.len ≡ old.len + 1
+  pub len : position_count new ≡ position_count old + 1
 
 -- nothing changed except that there may be more room
 pub record Keeps (old new : DependIndex) : Type 0 where
   pub lists : (t : Touch) → kept new t ≡ kept old t
   pub room : (t : Touch) → spare old t ≤ spare new t
-  pub len : new.len ≡ old.len
+  pub len : position_count new ≡ position_count old
 
 -- the keys under which an entry is kept, each with whether it is kept there as a write
 abbrev pub homes_of : Entry → Homes
@@ -39,26 +39,7 @@ pub record IsReadyFor (index : DependIndex) (x : Entry) (homes : Homes) (slots :
   pub value : AreReady index.by_key homes.value.key homes.value.wrote slots.value
   pub segment : AreReady index.by_key homes.segment.key homes.segment.wrote slots.segment
 
--- the index lost its last entry, this one: each list that kept it lost its last position, and each
--- other list is as before
-pub record Drops (x : Entry) (old new : DependIndex) : Type 0 where
-  pub lists : (t : Touch) → kept new t ≡ (if touches t x then take (length (kept old t) - 1) (kept old t) else kept old t)
-  pub room : (t : Touch) → spare new t ≡ spare old t + one_if (touches t x)
-  pub len : new.len + 1 ≡ old.len
-
--- in each list, position k, if it was there, was moved after those up to n, and these are one less
-pub record MovesAll (k n : ℕ) (old new : DependIndex) : Type 0 where
-  pub lists : (t : Touch) → IsMoved k n (kept old t) (kept new t)
-  pub capacity_stays : (t : Touch) → capacity new t ≡ capacity old t
-  pub len : new.len ≡ old.len
-
 -- the index is that of some entries, which end with these
 pub record EndsWith (index : DependIndex) (last : List Entry) : Type 0 where
   pub before : List Entry
   pub is : IsIndexOf index (before ++ last)
-
--- each list lost its positions above n
-pub record CutsAll (n : ℕ) (old new : DependIndex) : Type 0 where
-  pub lists : (t : Touch) → IsAscending (kept old t) → kept new t ≡ up_to n (kept old t)
-  pub capacity_stays : (t : Touch) → capacity new t ≡ capacity old t
-  pub len : new.len ≡ n

@@ -55,11 +55,15 @@ abbrev pub spare : DependIndex → Touch → ℕ
 spare index (By a) = spare_at index.by_actor.items a
 spare index (Under w k) = spare_in index.by_key w k
 
+-- how many positions the index has
+abbrev pub position_count : DependIndex → ℕ
+position_count index = index.len
+
 -- the index is that of these entries: each list has just the positions of those entries that it is
 -- to keep
 pub record IsIndexOf (index : DependIndex) (entries : List Entry) : Type 0 where
   pub lists : (t : Touch) → kept index t ≡ positions (touches t) entries
-  pub len : index.len ≡ length entries
+  pub len : position_count index ≡ length entries
 
 -- each list has room for the positions of those of these entries that it is to keep
 pub record HasRoomFor (index : DependIndex) (entries : List Entry) : Type 0 where
@@ -73,6 +77,10 @@ pub record HasRoomInstead (index : DependIndex) (gone given : List Entry) : Type
 -- positions of these entries were taken out of the index, and each list has more room by its own
 abbrev pub GivesRoom : DependIndex → DependIndex → List Entry → Type 0
 GivesRoom old new gone = (t : Touch) → spare new t ≡ spare old t + number_of (touches t) gone
+
+-- positions of these entries were put into the index, and each list has less room by its own at most
+abbrev pub UsesRoom : DependIndex → DependIndex → List Entry → Type 0
+UsesRoom old new given = (t : Touch) → spare old t ≤ spare new t + number_of (touches t) given
 
 -- the index is that of some entries, and the last of them is this one
 pub record IsLast (index : DependIndex) (x : Entry) : Type 0 where

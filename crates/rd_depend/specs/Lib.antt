@@ -5,6 +5,7 @@ pub mod Keys
 pub mod Lists
 pub mod Tables
 pub mod Index
+pub mod Probes
 pub mod Changes
 pub mod Writers
 pub mod Sharing

@@ -1,6 +1,6 @@
 -- Lists of positions: what one has, and what is found in it.
 use Rattle.std.specs.Option.{option_map_or}
-use Rattle.std.specs.Prelude.{◌≡◌, ℕ, suc, ◌-◌, ◌≤◌, Bool, nat_lt, if◌then◌else◌, List, [], ◌∷◌, ◌++◌, length, map, min, max, Option, Some, None, Vec, slice_get, vec_capacity, unwrap_or}
+use Rattle.std.specs.Prelude.{◌≡◌, ℕ, suc, ◌-◌, ◌^◌, ◌<◌, ◌≤◌, Bool, nat_lt, if◌then◌else◌, List, [], ◌∷◌, ◌++◌, length, map, min, max, Option, Some, None, Vec, slice_get, vec_capacity, unwrap_or}
 use Rattle.std.specs.declared.alloc.Global.{Global}
 
 -- the type of lists of positions by their numbers
@@ -63,11 +63,11 @@ AreUpTo n (p ∷ ps) = (p ≤ n) × AreUpTo n ps
 abbrev pub with_first : Bool → ℕ → List ℕ → List ℕ
 with_first there p ps = if there then p ∷ ps else ps
 
--- in a list of ascending positions, k, if it was there, is moved after those up to n and becomes n,
--- these are one less, and all others are as they were
+-- in a list of fewer than 2^17 ascending positions, k, if it was there, is moved after those up to n
+-- and becomes n, these are one less, and all others are as they were
 abbrev pub IsMoved : ℕ → ℕ → List ℕ → List ℕ → Type 0
 IsMoved k n old new =
-    (low mid high : List ℕ) (held : Bool) → IsAscending old → AreUpTo (k - 1) low → AscendsFrom (suc k) mid → AreUpTo n mid → AscendsFrom (suc n) high
+    (low mid high : List ℕ) (held : Bool) → length old < 2 ^ 17 → IsAscending old → AreUpTo (k - 1) low → AscendsFrom (suc k) mid → AreUpTo n mid → AscendsFrom (suc n) high
     → old ≡ low ++ (with_first held k mid ++ high) → new ≡ low ++ (map (λ p. p - 1) mid ++ with_first held n high)
 
 -- the positions before the first that is greater than n

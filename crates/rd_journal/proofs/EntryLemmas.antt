@@ -1,7 +1,7 @@
 -- The entries of a session as one list that is cut twice: how long its parts are, and how they
 -- change.
 use Rattle.std.proofs.Common.{◌≡◌, ℕ, ◌+◌, ◌-◌, ◌<◌, ◌≤◌, List, [], ◌∷◌, ◌++◌, length, take, drop, sym, ◌∙◌, ap, arith, length-append, length-drop}
-use Rattle.rd_journal.proofs.Prelude.{take-add, length-take-le, take-take, drop-take, drop-drop, take_at, drop_at, drop-append-le, moved_behind, all_entries, live_entries, ahead_entries, kept_entries, entries_capacity}
+use Rattle.rd_journal.proofs.Prelude.{take-add, length-take-le, take-take, drop-take, drop-drop, take_at, drop_at, drop-append-le, moved_to, all_entries, live_entries, ahead_entries, kept_entries, entries_capacity}
 use Rattle.rd_journal.specs.declared.entries.Entries.{Entries}
 use Rattle.rd_journal.proofs.ListLemmas.{behind_from, drop_before}
 use Rattle.rd_journal.proofs.Numbers.{at-length, order_below}
@@ -60,7 +60,7 @@ cut_on_rest {X} l m u n enough =
 
 -- the k-th of the first part goes to the front of the second
 pub taken_out : {X : Type 0} (l : List X) (k m u : ℕ) → 1 ≤ k → k ≤ m → m ≤ length l
-    → take (u + 1) (drop (m - 1) (moved_behind l k m)) ≡ take 1 (drop (k - 1) (take m l)) ++ take u (drop m l)
+    → take (u + 1) (drop (m - 1) (moved_to l k m)) ≡ take 1 (drop (k - 1) (take m l)) ++ take u (drop m l)
 taken_out {X} l k m u some position within = grind (arith, length-take-le, length-drop, behind_from, take_over)
 
 -- one more is put after both parts
@@ -85,5 +85,5 @@ border_moved {X} l m u n v same = sym (take-add n v l) ∙ ap (λ (k : ℕ). tak
 
 -- the k-th of the first elements moved after them, whatever else is there
 pub moved_among : {X : Type 0} (xs ys : List X) (k : ℕ)
-    → (take (k - 1) xs ++ drop k xs) ++ (take 1 (drop (k - 1) xs) ++ ys) ≡ moved_behind (xs ++ ys) k (length xs)
+    → (take (k - 1) xs ++ drop k xs) ++ (take 1 (drop (k - 1) xs) ++ ys) ≡ moved_to (xs ++ ys) k (length xs)
 moved_among {X} xs ys k = grind (arith, take_at, drop_at)

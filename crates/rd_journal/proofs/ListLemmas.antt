@@ -1,6 +1,6 @@
 -- Lists cut in two, the last element of a list, and one moved after others.
 use Rattle.std.proofs.Common.{◌≡◌, ℕ, zero, suc, ◌+◌, ◌-◌, ◌<◌, ◌≤◌, List, [], ◌∷◌, ◌++◌, length, get_or, take, drop, refl, sym, ◌∙◌, ap, arith, length-append, length-drop}
-use Rattle.rd_journal.proofs.Prelude.{put_mid, mid_of, drop-cons, take_at, drop_at, append-nil, take_all, append_assoc, take-append-drop, length-take-le, take-take, drop-take, drop-append-le, drop-drop, moved_behind}
+use Rattle.rd_journal.proofs.Prelude.{put_mid, mid_of, drop-cons, take_at, drop_at, append-nil, take_all, append_assoc, take-append-drop, length-take-le, take-take, drop-take, drop-append-le, drop-drop, moved_to}
 use Rattle.std.proofs.Math.ListN.{drop_of_length-le}
 
 -- an element that is there
@@ -32,12 +32,12 @@ others_length : {X : Type 0} (es : List X) (k l : ℕ) → 1 ≤ k → k ≤ l �
     → length (take (k - 1) (take l es) ++ drop k (take l es)) ≡ l - 1
 others_length es k l some below within = grind (arith, length-take-le, length-append, length-drop)
 
-pub moved_behind-length : {X : Type 0} (es : List X) (k l : ℕ) → 1 ≤ k → k ≤ l → l ≤ length es → length (moved_behind es k l) ≡ length es
-moved_behind-length es k l some below within = grind (arith, length-take-le, length-drop, length-append, others_length)
+pub moved_to-length : {X : Type 0} (es : List X) (k l : ℕ) → 1 ≤ k → k ≤ l → l ≤ length es → length (moved_to es k l) ≡ length es
+moved_to-length es k l some below within = grind (arith, length-take-le, length-drop, length-append, others_length)
 
 -- the rest of the first l elements, from the k-th on, turned by one
 pub turned : {X : Type 0} (es : List X) (k l : ℕ) → 1 ≤ k → k ≤ l
-    → put_mid (k - 1) (l - (k - 1)) es (drop 1 (mid_of (k - 1) (l - (k - 1)) es) ++ take 1 (mid_of (k - 1) (l - (k - 1)) es)) ≡ moved_behind es k l
+    → put_mid (k - 1) (l - (k - 1)) es (drop 1 (mid_of (k - 1) (l - (k - 1)) es) ++ take 1 (mid_of (k - 1) (l - (k - 1)) es)) ≡ moved_to es k l
 turned {X} es k l some below =
     let i = k - 1 in
     let m = l - i in
@@ -54,9 +54,9 @@ turned {X} es k l some below =
     ∙ sym (append_assoc (take i L) (drop k L) (take 1 (drop i L) ++ drop l es))
 
 pub behind_before : {X : Type 0} (es : List X) (k l : ℕ) → 1 ≤ k → k ≤ l → l ≤ length es
-    → take (l - 1) (moved_behind es k l) ≡ take (k - 1) (take l es) ++ drop k (take l es)
+    → take (l - 1) (moved_to es k l) ≡ take (k - 1) (take l es) ++ drop k (take l es)
 behind_before {X} es k l some below within = grind (arith, others_length, take_at)
 
 pub behind_from : {X : Type 0} (es : List X) (k l : ℕ) → 1 ≤ k → k ≤ l → l ≤ length es
-    → drop (l - 1) (moved_behind es k l) ≡ take 1 (drop (k - 1) (take l es)) ++ drop l es
+    → drop (l - 1) (moved_to es k l) ≡ take 1 (drop (k - 1) (take l es)) ++ drop l es
 behind_from {X} es k l some below within = grind (arith, others_length, drop_at)

@@ -1,7 +1,7 @@
 -- Entries at numbers: parts of them, one more and one written over; and orders of slots, as their
 -- numbers move.
 use Rattle.std.proofs.Common.{◌≡◌, ℕ, zero, suc, ◌+◌, ◌-◌, ◌<◌, ◌≤◌, ◌==◌, nat_lt, Bool, cond, if◌then◌else◌, List, [], ◌∷◌, ◌++◌, length, get_or, take, drop, set, refl, sym, ◌∙◌, ap, subst, arith, length-append, length-drop}
-use Rattle.rd_journal.proofs.Prelude.{All, count_by, flat_map-append, drop_more, length-take-le, take-append-drop, drop-append-le, length-set, get_or-set_same, drop_at, take_all, drop_all, drop-drop, get_or_default, sum_by-append, sum_by-cons, sum_by_push, sum_by-take-drop, get_or-le-sum_by, moved_behind, at_numbers, IsOrder}
+use Rattle.rd_journal.proofs.Prelude.{All, count_by, flat_map-append, drop_more, length-take-le, take-append-drop, drop-append-le, length-set, get_or-set_same, drop_at, take_all, drop_all, drop-drop, get_or_default, sum_by-append, sum_by-cons, sum_by_push, sum_by-take-drop, get_or-le-sum_by, moved_to, at_numbers, IsOrder}
 use Rattle.std.proofs.lemmas.Bool.Decides.{nat_tests}
 use Rattle.std.proofs.lemmas.List.Elements.{All-take, All-drop}
 use Rattle.rd_journal.proofs.ListLemmas.{nth}
@@ -143,8 +143,8 @@ put_new {X} es ns place x o end = grind (arith, order_below, at-length, at-appen
 
 -- moves
 
-pub count-moved_behind : (test : ℕ → Bool) (ns : List ℕ) (k l : ℕ) → 1 ≤ k → count_by test (moved_behind ns k l) ≡ count_by test ns
-count-moved_behind test ns k l some =
+pub count-moved_to : (test : ℕ → Bool) (ns : List ℕ) (k l : ℕ) → 1 ≤ k → count_by test (moved_to ns k l) ≡ count_by test ns
+count-moved_to test ns k l some =
     let f : ℕ → ℕ = λ m. cond (test m) 1 0 in
     let L = take l ns in
     let rest = drop (k - 1) L in
@@ -161,9 +161,9 @@ count-moved_behind test ns k l some =
       ap (count_by test) later,
     )
 
-pub at-moved_behind : {X : Type 0} (es : List X) (ns : List ℕ) (k l : ℕ) → AreBelow (length es) ns
-    → at_numbers es (moved_behind ns k l) ≡ moved_behind (at_numbers es ns) k l
-at-moved_behind {X} es ns k l below =
+pub at-moved_to : {X : Type 0} (es : List X) (ns : List ℕ) (k l : ℕ) → AreBelow (length es) ns
+    → at_numbers es (moved_to ns k l) ≡ moved_to (at_numbers es ns) k l
+at-moved_to {X} es ns k l below =
     let L = take l ns in
     let first : AreBelow (length es) L = All-take (λ (m : ℕ). m < length es) l ns below in
     let turned : AreBelow (length es) (drop (k - 1) L) = All-drop (λ (m : ℕ). m < length es) (k - 1) L first in

@@ -11,7 +11,7 @@ pub use Rattle.std.specs.Vec.{vec_capacity}
 pub use borrow.Rule.Slice.PartMut.{mid_of, put_mid}
 pub use Rattle.rd_depend.proofs.IndexChanges.{not_refused, ok_then}
 pub use Rattle.rd_depend.specs.Index.{GivesRoom, HasRoomFor, HasRoomInstead, IsIndexOf, number_of, spare, touches}
-pub use Rattle.rd_depend.specs.Moved.{moved_behind}
+pub use Rattle.rd_depend.specs.Moved.{moved_to}
 pub use Rattle.rd_depend.specs.declared.index.DependIndex.{DependIndex}
 pub use Rattle.rd_step.proofs.Inverse.{ran_on, run-cons, undoes}
 pub use Rattle.rd_step.proofs.PassedUp.{error_passed_up, fact_passed_up}

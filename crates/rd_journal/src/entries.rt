@@ -13,7 +13,7 @@
 ghost use Rattle.std.specs.Prelude.{◌≡◌, ◌++◌, ◌+◌, ◌-◌, ◌<◌, ◌≤◌, ◌∷◌, [], length, get_or, take, drop, vec_capacity, OnOk, OnErr};
 ghost use Rattle.rd_step.specs.Prelude.{closure_of, without_closure, MOST_STEPS};
 ghost use Rattle.rd_depend.specs.Index.{IsIndexOf, HasRoomFor};
-ghost use Rattle.rd_depend.specs.Moved.{moved_behind};
+ghost use Rattle.rd_depend.specs.Moved.{moved_to};
 ghost use Rattle.rd_journal.specs.Numbers.{IsOrder};
 
 mod gathering;
@@ -167,7 +167,7 @@ impl Entries {
         requires position { k ≤ length (live_entries self.old) }
         ensures live { live_entries self.new ≡ take (k - 1) (live_entries self.old) ++ drop k (live_entries self.old) }
         ensures ahead { ahead_entries self.new ≡ take 1 (drop (k - 1) (live_entries self.old)) ++ ahead_entries self.old }
-        ensures kept { kept_entries self.new ≡ moved_behind (kept_entries self.old) k (length (live_entries self.old)) }
+        ensures kept { kept_entries self.new ≡ moved_to (kept_entries self.old) k (length (live_entries self.old)) }
         ensures capacity { entries_capacity self.new ≡ entries_capacity self.old }
     {
         move_behind(&mut self.order, k, self.live);

@@ -8,7 +8,7 @@
 ghost use Rattle.std.specs.Prelude.{◌++◌, ◌+◌, ◌<◌, ◌≤◌, [], List, ◌∷◌, OnOk, OnErr, length, take, drop};
 ghost use Rattle.rd_step.specs.declared.entries.Entry.{Entry as SomeEntry};
 ghost use Rattle.rd_step.specs.Prelude.{MOST_STEPS};
-ghost use Rattle.rd_depend.specs.Index.{IsIndexOf, HasRoomFor, HasRoomInstead, GivesRoom};
+ghost use Rattle.rd_depend.specs.Index.{IsIndexOf, HasRoomFor, HasRoomInstead, GivesRoom, position_count};
 ghost use Rattle.rd_journal.specs.Entries.{kept_entries};
 
 use super::entries::Entries;
@@ -77,8 +77,8 @@ fn pop_behind(index: &mut DependIndex, entries: &Entries, n: usize)
 
 /// Puts the entries after those in the index into it. There must be room for them.
 pub(crate) fn fill_index(index: &mut DependIndex, entries: &Entries)
-    requires indexed { IsIndexOf index.old (take index.old.len (kept_entries entries.now)) }
-    requires room { HasRoomFor index.old (drop index.old.len (kept_entries entries.now)) }
+    requires indexed { IsIndexOf index.old (take (position_count index.old) (kept_entries entries.now)) }
+    requires room { HasRoomFor index.old (drop (position_count index.old) (kept_entries entries.now)) }
     ensures { IsIndexOf index.new (kept_entries entries.now) }
 {
     for next in index.len() as usize..entries.kept_len() {
@@ -87,8 +87,9 @@ pub(crate) fn fill_index(index: &mut DependIndex, entries: &Entries)
 }
 
 /// Puts an entry into the index, which must have room for it.
+#[tactic(auto, using(rd_depend::proofs::IndexRoom::room_left))]
 pub(crate) fn put_back(index: &mut DependIndex, entry: &Entry)
-    requires few { index.old.len < MOST_STEPS }
+    requires few { position_count index.old < MOST_STEPS }
     requires room { HasRoomFor index.old (entry.now ∷ []) }
     ensures put { (es : List SomeEntry) → IsIndexOf index.old es → IsIndexOf index.new (es ++ entry.now ∷ []) }
     ensures room { (rest : List SomeEntry) → HasRoomFor index.old (entry.now ∷ rest) → HasRoomFor index.new rest }

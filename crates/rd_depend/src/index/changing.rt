@@ -1,15 +1,17 @@
-//! What the calls of the index do to its lists.
+//! The calls that change the index, and what they do to its lists.
 
-ghost use Rattle.std.specs.Prelude.{◌≡◌, ◌+◌, ◌<◌, ◌≤◌, ◌++◌, length, take, not, true, List, IsOk, IfOk, OnOk, OnErr};
+ghost use Rattle.std.specs.Prelude.{◌≡◌, ◌+◌, ◌<◌, ◌≤◌, ◌++◌, ◌∷◌, [], length, take, drop, not, true, List, Some, IsOk, IfOk, OnOk, OnErr};
 ghost use Rattle.rd_step.specs.declared.entries.Entry.{Entry as SomeEntry};
+ghost use Rattle.rd_step.specs.Lists.{numbered, without};
 ghost use Rattle.rd_cell.specs.Places.{is_nothing};
 ghost use Rattle.rd_depend.specs.Keys.{place_key, value_key, segment_key};
-ghost use Rattle.rd_depend.specs.Index.{Touch, IsIndexOf, IsIndex, IsLast, HasRoomFor, number_of, touches, spare, is_value_written};
-ghost use Rattle.rd_depend.specs.Changes.{Adds, Keeps, Drops, MovesAll, CutsAll, homes_of, IsReadyFor, EndsWith};
+ghost use Rattle.rd_depend.specs.Index.{Touch, IsIndexOf, IsIndex, IsHeld, IsLast, HasRoomFor, GivesRoom, UsesRoom, position_count, touches, spare, capacity, is_value_written};
+ghost use Rattle.rd_depend.specs.Changes.{Adds, Keeps, homes_of, IsReadyFor, EndsWith};
+ghost use Rattle.rd_depend.specs.Moved.{moved_to};
 
 use super::DependIndex;
 use super::keys::Key;
-use super::lists::{cut_all, grow, move_all, put_in, reserve_in, take_last_in};
+use super::lists::{grow, move_all, put_in, reserve_in, take_last_in, truncate_all};
 use rd_cell::limits::MOST_STEPS;
 use rd_cell::{Place, Wrote};
 use rd_step::Entry;
@@ -40,17 +42,124 @@ struct Slots {
 }
 
 impl DependIndex {
-    /// Puts the entry at the next position.
-    pub(super) fn add(&mut self, entry: &Entry) -> Result<(), AllocError>
-        requires { self.old.len < MOST_STEPS }
-        ensures ok { OnOk result (Adds entry.now self.old self.new) }
-        ensures err { OnErr result (Keeps self.old self.new) }
-        ensures succeeds { ((t : Touch) → touches t entry.now ≡ true → 0 < spare self.old t) → IsOk result }
+    /// Puts the entry at the next position. It costs one access by the actor's number and one
+    /// look-up of the place and of its segment.
+    ///
+    /// # Errors
+    ///
+    /// `AllocError` if memory was refused. No position has changed then, and no room is lost.
+    pub fn push(&mut self, entry: &Entry) -> Result<(), AllocError>
+        requires { position_count self.old < MOST_STEPS }
+        ensures ok { OnOk result ((es : List SomeEntry) → IsIndexOf self.old es → IsIndexOf self.new (es ++ entry.now ∷ [])) }
+        ensures err { OnErr result ((es : List SomeEntry) → IsIndexOf self.old es → IsIndexOf self.new es) }
+        ensures succeeds { (rest : List SomeEntry) → HasRoomFor self.old (entry.now ∷ rest) → IsOk result }
+        ensures room { OnOk result (UsesRoom self.old self.new (entry.now ∷ [])) }
+        ensures room_stays { OnErr result (UsesRoom self.old self.new []) }
     {
         let homes = homes_of(entry);
         let slots = self.reserve(entry, &homes)?;
         self.put(entry, &homes, slots);
         Ok(())
+    }
+
+    /// Puts these entries at the next positions, all or none.
+    ///
+    /// # Errors
+    ///
+    /// `AllocError` if memory was refused, which is asked for only if room is missing. No position
+    /// has changed then, and no room is lost.
+    pub fn push_all(&mut self, entries: &[Entry]) -> Result<(), AllocError>
+        requires index { IsIndex self.old }
+        requires few { position_count self.old + length entries.now ≤ MOST_STEPS }
+        ensures ok { OnOk result ((es : List SomeEntry) → IsIndexOf self.old es → IsIndexOf self.new (es ++ entries.now)) }
+        ensures err { OnErr result ((es : List SomeEntry) → IsIndexOf self.old es → IsIndexOf self.new es) }
+        ensures succeeds { HasRoomFor self.old entries.now → IsOk result }
+        ensures room { OnOk result (UsesRoom self.old self.new entries.now) }
+        ensures room_stays { OnErr result (UsesRoom self.old self.new []) }
+    {
+        let pushed = self.push_some(entries);
+        if pushed < entries.len() {
+            self.pop_all(&entries[..pushed]);
+            return Err(AllocError);
+        }
+        Ok(())
+    }
+
+    /// Makes room for these entries: pushing them in order, at once or after positions were taken
+    /// away, is then not refused. No room is lost.
+    ///
+    /// # Errors
+    ///
+    /// `AllocError` if memory was refused, which is asked for only if room is missing. No position
+    /// has changed then.
+    pub fn make_room(&mut self, entries: &[Entry]) -> Result<(), AllocError>
+        requires index { IsIndex self.old }
+        requires few { position_count self.old + length entries.now ≤ MOST_STEPS }
+        ensures same { (es : List SomeEntry) → IsIndexOf self.old es → IsIndexOf self.new es }
+        ensures room { OnOk result (HasRoomFor self.new entries.now) }
+        ensures succeeds { HasRoomFor self.old entries.now → IsOk result }
+        ensures room_stays { UsesRoom self.old self.new [] }
+    {
+        self.push_all(entries)?;
+        self.pop_all(entries);
+        Ok(())
+    }
+
+    /// Removes the last position, which is the entry's. It makes room for that entry again, and
+    /// takes no memory.
+    pub fn pop(&mut self, entry: &Entry)
+        requires { IsLast self.old entry.now }
+        ensures left { (es : List SomeEntry) → IsIndexOf self.old (es ++ entry.now ∷ []) → IsIndexOf self.new es }
+        ensures room { GivesRoom self.old self.new (entry.now ∷ []) }
+    {
+        self.len -= 1;
+        take_last_in(&mut self.by_actor, usize::from(entry.event.actor));
+        let homes = homes_of(entry);
+        self.by_key.take_last(homes.place.key, homes.place.wrote);
+        self.by_key.take_last(homes.value.key, homes.value.wrote);
+        self.by_key
+            .take_last(homes.segment.key, homes.segment.wrote);
+    }
+
+    /// Removes position k, which is the entry's; later positions are one less. It goes over all
+    /// lists, makes room for that entry again, and takes no memory.
+    pub fn remove(&mut self, k: u64, entry: &Entry)
+        requires { IsHeld self.old k entry.now }
+        ensures left { (es : List SomeEntry) → IsIndexOf self.old es → numbered es k ≡ Some entry.now → IsIndexOf self.new (without es k) }
+        ensures room { GivesRoom self.old self.new (entry.now ∷ []) }
+    {
+        self.move_to(k, self.len());
+        self.pop(entry);
+    }
+
+    /// Moves position k to `n`; the later ones up to `n` become one less. It goes over all lists,
+    /// and takes no memory.
+    pub fn move_to(&mut self, k: u64, n: u64)
+        requires index { IsIndex self.old }
+        requires some { 1 ≤ k }
+        requires order { k ≤ n }
+        requires within { n ≤ position_count self.old }
+        ensures moved { (es : List SomeEntry) → IsIndexOf self.old es → IsIndexOf self.new (moved_to es k n) }
+        ensures room { GivesRoom self.old self.new [] }
+        ensures capacity { (t : Touch) → capacity self.new t ≡ capacity self.old t }
+    {
+        let k = k as u32;
+        let n = n as u32;
+        move_all(&mut self.by_actor, k, n);
+        self.by_key.move_to(k, n);
+    }
+
+    /// Removes all positions above `n`. It goes over all lists, makes room for the entries that
+    /// were there, and takes no memory.
+    pub fn truncate(&mut self, n: u64)
+        ensures left { (es : List SomeEntry) → IsIndexOf self.old es → IsIndexOf self.new (take n es) }
+        ensures room { (es : List SomeEntry) → IsIndexOf self.old es → GivesRoom self.old self.new (drop n es) }
+    {
+        if n < self.len() {
+            self.len = n as usize;
+            truncate_all(&mut self.by_actor, n as u32);
+            self.by_key.truncate(n as u32);
+        }
     }
 
     /// Makes room for one more position in each list that is to keep the entry, and returns the
@@ -82,7 +191,7 @@ impl DependIndex {
 
     /// Puts the entry at the next position, for which there is room.
     fn put(&mut self, entry: &Entry, homes: &Homes, slots: Slots)
-        requires few { self.old.len < MOST_STEPS }
+        requires few { position_count self.old < MOST_STEPS }
         requires homes { homes.now ≡ homes_of entry.now }
         requires ready { IsReadyFor self.old entry.now homes.now slots }
         ensures { Adds entry.now self.old self.new }
@@ -97,87 +206,33 @@ impl DependIndex {
             .put(slots.segment, position, homes.segment.wrote);
     }
 
-    /// Takes the last position away, which is the entry's.
-    pub(super) fn drop_last(&mut self, entry: &Entry)
-        requires { IsLast self.old entry.now }
-        ensures { Drops entry.now self.old self.new }
-    {
-        self.len -= 1;
-        take_last_in(&mut self.by_actor, usize::from(entry.event.actor));
-        let homes = homes_of(entry);
-        self.by_key.take_last(homes.place.key, homes.place.wrote);
-        self.by_key.take_last(homes.value.key, homes.value.wrote);
-        self.by_key
-            .take_last(homes.segment.key, homes.segment.wrote);
-    }
-
-    /// Moves a position after those above it up to `n`, which become one less.
-    pub(super) fn move_position(&mut self, k: u32, n: u32)
-        requires some { 1 ≤ k }
-        requires order { k ≤ n }
-        ensures { MovesAll k n self.old self.new }
-    {
-        move_all(&mut self.by_actor, k, n);
-        self.by_key.move_behind(k, n);
-    }
-
-    /// Takes the positions above `n` away.
-    pub(super) fn cut(&mut self, n: u32)
-        ensures { CutsAll n self.old self.new }
-    {
-        self.len = n as usize;
-        cut_all(&mut self.by_actor, n);
-        self.by_key.cut(n);
-    }
-
-    /// Puts these entries at the next positions, all or none.
-    ///
-    /// # Errors
-    ///
-    /// `AllocError` if memory was refused.
-    pub(super) fn add_all(&mut self, entries: &[Entry]) -> Result<(), AllocError>
-        requires index { IsIndex self.old }
-        requires few { self.old.len + length entries.now ≤ MOST_STEPS }
-        ensures ok { OnOk result ((es : List SomeEntry) → IsIndexOf self.old es → IsIndexOf self.new (es ++ entries.now)) }
-        ensures err { OnErr result ((es : List SomeEntry) → IsIndexOf self.old es → IsIndexOf self.new es) }
-        ensures succeeds { HasRoomFor self.old entries.now → IsOk result }
-        ensures room { OnOk result ((t : Touch) → spare self.old t ≤ spare self.new t + number_of (touches t) entries.now) }
-        ensures room_stays { OnErr result ((t : Touch) → spare self.old t ≤ spare self.new t) }
-    {
-        let added = self.add_some(entries);
-        if added < entries.len() {
-            self.drop_all(&entries[..added]);
-            return Err(AllocError);
-        }
-        Ok(())
-    }
-
     /// Pushes these entries until one is refused memory, and returns how many were pushed.
-    pub(super) fn add_some(&mut self, entries: &[Entry]) -> usize
-        requires { self.old.len + length entries.now ≤ MOST_STEPS }
+    fn push_some(&mut self, entries: &[Entry]) -> usize
+        requires index { IsIndex self.old }
+        requires few { position_count self.old + length entries.now ≤ MOST_STEPS }
         ensures within { result ≤ length entries.now }
         ensures succeeds { HasRoomFor self.old entries.now → result ≡ length entries.now }
         ensures index { (es : List SomeEntry) → IsIndexOf self.old es → IsIndexOf self.new (es ++ take result entries.now) }
-        ensures room { (t : Touch) → spare self.old t ≤ spare self.new t + number_of (touches t) (take result entries.now) }
+        ensures room { UsesRoom self.old self.new (take result entries.now) }
     {
         for count in 0..entries.len() {
-            if self.add(&entries[count]).is_err() {
+            if self.push(&entries[count]).is_err() {
                 return count;
             }
         }
         entries.len()
     }
 
-    /// Takes the positions of these entries away, which are the last ones.
-    pub(super) fn drop_all(&mut self, entries: &[Entry])
+    /// Removes the last positions, which are those of these entries.
+    fn pop_all(&mut self, entries: &[Entry])
         requires { EndsWith self.old entries.now }
         ensures index { (es : List SomeEntry) → IsIndexOf self.old (es ++ entries.now) → IsIndexOf self.new es }
-        ensures room { (t : Touch) → spare self.new t ≡ spare self.old t + number_of (touches t) entries.now }
+        ensures room { GivesRoom self.old self.new entries.now }
     {
         let mut left = entries.len();
         while left > 0 {
             left -= 1;
-            self.drop_last(&entries[left]);
+            self.pop(&entries[left]);
         }
     }
 }

@@ -1,13 +1,14 @@
 //! The first dependant by look-ups: the first later position of the actor, and for each place that
 //! the step touched the first one that touched it, or if the step only read it that wrote it.
 
-ghost use Rattle.std.specs.Prelude.{◌≡◌, ◌+◌, ◌<◌, ◌≤◌, ◌^◌, List, Some, IsSome, length};
-ghost use Rattle.std.specs.Option.{is_some};
+ghost use Rattle.std.specs.Prelude.{◌≡◌, ◌+◌, ◌<◌, ◌≤◌, ◌^◌, List, Some, IsSome, length, drop};
 ghost use Rattle.rd_cell.specs.Places.{interfere};
 ghost use Rattle.rd_step.specs.declared.entries.Entry.{Entry as SomeEntry};
-ghost use Rattle.rd_step.specs.Prelude.{depends};
+ghost use Rattle.rd_step.specs.Lists.{numbered};
+ghost use Rattle.rd_step.specs.Prelude.{depends, depends_on_one, first_dependant};
 ghost use Rattle.rd_depend.specs.Lists.{list_at, first_above, earlier, IsAscending};
-ghost use Rattle.rd_depend.specs.Index.{IsIndexOf, positions, reached};
+ghost use Rattle.rd_depend.specs.Index.{IsIndexOf, position_count, positions, reached};
+ghost use Rattle.rd_depend.specs.Probes.{probe_count};
 ghost use Rattle.rd_depend.specs.Keys.{is_under_some};
 
 use super::DependIndex;
@@ -15,19 +16,21 @@ use super::changing::{is_value_written, value_key};
 use super::keys::Key;
 use super::positions::Positions;
 use super::probes::Probes;
-use rd_cell::limits::MOST_STEPS;
 use rd_cell::{Place, Wrote};
 use rd_step::Entry;
 
 impl DependIndex {
-    /// The first position greater than `k` that depends on the entry.
-    pub(super) fn first_above(&self, k: u32, entry: &Entry, probes: &mut Probes) -> Option<u64>
-        requires few { self.now.len ≤ MOST_STEPS }
-        requires counted { probes.old.count < 2 ^ 32 }
-        ensures answer { (es : List SomeEntry) → IsIndexOf self.now es → result ≡ first_above k (positions (depends entry.now) es) }
-        ensures cost { probes.new.count ≤ probes.old.count + 96 }
-        ensures counts { probes.old.count < probes.new.count }
+    /// Returns the first position after k whose entry depends on the given one; none if there is no
+    /// such position. It makes at least one probe and at most 96, and takes no memory.
+    pub fn first(&self, k: u64, entry: &Entry, probes: &mut Probes) -> Option<u64>
+        requires within { k ≤ position_count self.now }
+        requires counted { probe_count probes.old < 2 ^ 32 }
+        ensures answer { (es : List SomeEntry) → IsIndexOf self.now es → numbered es k ≡ Some entry.now → result ≡ first_dependant es k }
+        ensures above { (es : List SomeEntry) → IsIndexOf self.now es → result ≡ first_above k (positions (depends entry.now) es) }
+        ensures cost { probe_count probes.new ≤ probe_count probes.old + 96 }
+        ensures counts { probe_count probes.old < probe_count probes.new }
     {
+        let k = k as u32;
         let by_actor = self.first_by(k, entry.event.actor, probes);
         match entry.place {
             None => by_actor,
@@ -35,28 +38,30 @@ impl DependIndex {
         }
     }
 
-    /// Whether there is a position greater than `k` that depends on the entry. The actor's
-    /// positions are looked at first, which mostly decide.
-    pub(super) fn is_one_above(&self, k: u32, entry: &Entry, probes: &mut Probes) -> bool
-        requires few { self.now.len ≤ MOST_STEPS }
-        requires counted { probes.old.count < 2 ^ 31 }
-        ensures { (es : List SomeEntry) → IsIndexOf self.now es → result ≡ is_some (first_above k (positions (depends entry.now) es)) }
+    /// Whether an entry depends on one of those after the first `n`. The actor's positions are
+    /// looked at first, which mostly decide. It takes no memory.
+    pub fn depends_after(&self, n: u64, entry: &Entry) -> bool
+        requires { n ≤ position_count self.now }
+        ensures { (es : List SomeEntry) → IsIndexOf self.now es → result ≡ depends_on_one (drop n es) entry.now }
     {
-        if self.first_by(k, entry.event.actor, probes).is_some() {
+        let mut probes = Probes::new();
+        if self
+            .first_by(n as u32, entry.event.actor, &mut probes)
+            .is_some()
+        {
             return true;
         }
-        self.first_above(k, entry, probes).is_some()
+        self.first(n, entry, &mut probes).is_some()
     }
 
     /// Returns the first position greater than `k` of a step that interferes with an access at this
     /// place that wrote this of it; none if there is no such step.
     fn first_at(&self, k: u32, place: Place, wrote: Wrote, probes: &mut Probes) -> Option<u64>
-        requires few { self.now.len ≤ MOST_STEPS }
-        requires counted { probes.old.count < 2 ^ 33 }
+        requires { probe_count probes.old < 2 ^ 33 }
         ensures answer { (es : List SomeEntry) → IsIndexOf self.now es
             → result ≡ first_above k (positions (λ y. interfere (Some place) wrote y.place y.wrote) es) }
-        ensures cost { probes.new.count ≤ probes.old.count + 57 }
-        ensures counts { probes.old.count ≤ probes.new.count }
+        ensures cost { probe_count probes.new ≤ probe_count probes.old + 57 }
+        ensures counts { probe_count probes.old ≤ probe_count probes.new }
     {
         let reads = wrote.is_nothing();
         let keeps_value = !is_value_written(wrote);
@@ -75,13 +80,12 @@ impl DependIndex {
         writes: bool,
         probes: &mut Probes,
     ) -> Option<u64>
-        requires few { self.now.len ≤ MOST_STEPS }
-        requires counted { probes.old.count < 2 ^ 34 }
+        requires { probe_count probes.old < 2 ^ 34 }
         ensures answer { (es : List SomeEntry) → IsIndexOf self.now es
             → result ≡ first_above k (positions (λ y. is_under_some key (reached writes y)) es) }
-        ensures cost { probes.new.count ≤ probes.old.count + 19 }
-        ensures counts { probes.old.count ≤ probes.new.count }
-        ensures looks { IsSome key → probes.old.count < probes.new.count }
+        ensures cost { probe_count probes.new ≤ probe_count probes.old + 19 }
+        ensures counts { probe_count probes.old ≤ probe_count probes.new }
+        ensures looks { IsSome key → probe_count probes.old < probe_count probes.new }
     {
         let Some(key) = key else {
             return None;
@@ -92,11 +96,11 @@ impl DependIndex {
     /// Returns the first position greater than `k` of a step of this actor, if there is one. It
     /// makes at most 19 probes.
     fn first_by(&self, k: u32, actor: u8, probes: &mut Probes) -> Option<u64>
-        requires { probes.old.count < 2 ^ 34 }
+        requires { probe_count probes.old < 2 ^ 34 }
         ensures answer { IsAscending (list_at self.now.by_actor.items actor) → length (list_at self.now.by_actor.items actor) < 2 ^ 17
             → result ≡ first_above k (list_at self.now.by_actor.items actor) }
-        ensures cost { probes.new.count ≤ probes.old.count + 19 }
-        ensures counts { probes.old.count < probes.new.count }
+        ensures cost { probe_count probes.new ≤ probe_count probes.old + 19 }
+        ensures counts { probe_count probes.old < probe_count probes.new }
     {
         let list = positions_of(&self.by_actor, actor);
         Positions::found(list, probes).first_above(k, probes)

@@ -1,8 +1,10 @@
 //! Lists of positions by number, and what is done to one or to all of them.
 
-ghost use Rattle.std.specs.Prelude.{◌≡◌, ◌+◌, ◌-◌, ◌==◌, ◌&&◌, true, ◌<◌, ◌≤◌, ◌++◌, ◌∷◌, [], ℕ, suc, Bool, List, IsOk, OnOk, length, map, take, vec_capacity, if◌then◌else◌};
+ghost use Rattle.std.specs.Prelude.{◌≡◌, ◌+◌, ◌-◌, ◌==◌, ◌&&◌, true, ◌<◌, ◌≤◌, ◌^◌, ◌++◌, ◌∷◌, [], ℕ, suc, Bool, List, IsOk, OnOk, length, map, take, vec_capacity, if◌then◌else◌};
 ghost use Rattle.rd_depend.specs.Lists.{one_if, list_at, capacity_at, spare_at, spare_of, with_first, up_to, number_up_to, AscendsFrom, AreUpTo, IsAscending, IsMoved};
 
+use super::positions::Positions;
+use super::probes::Probes;
 use std::alloc::{AllocError, Global};
 
 /// How many positions a full list makes room for at least.
@@ -170,8 +172,8 @@ fn move_among(positions: &mut [u32], k: u32, n: u32)
     if ends_before(positions, k) {
         return;
     }
-    let start = number_up_to(k - 1, positions);
-    let end = start + number_up_to(n, &positions[start..]);
+    let start = count_up_to(positions, k - 1);
+    let end = start + count_up_to(&positions[start..], n);
     move_first(&mut positions[start..end], k, n);
 }
 
@@ -211,38 +213,28 @@ fn lower(positions: &mut [u32])
     }
 }
 
-/// Returns how many positions are before the first that is greater than `k`, by halving.
-fn number_up_to(k: u32, list: &[u32]) -> usize
-    ensures within { result ≤ length list.now }
-    ensures number { IsAscending list.now → result ≡ number_up_to k list.now }
+/// Returns how many positions are at most `k`, where they ascend and are few enough.
+fn count_up_to(positions: &[u32], k: u32) -> usize
+    ensures within { result ≤ length positions.now }
+    ensures count { IsAscending positions.now → length positions.now < 2 ^ 17 → result ≡ number_up_to k positions.now }
 {
-    let mut low = 0;
-    let mut high = list.len();
-    'halving: while low < high {
-        let middle = low + (high - low) / 2;
-        let position = list[middle];
-        if position <= k {
-            low = middle + 1;
-        } else {
-            high = middle;
-        }
-    }
-    low
+    let mut probes = Probes::new();
+    Positions::found(positions, &mut probes).count_up_to(k, &mut probes)
 }
 
 /// Takes the positions above `n` out of each list.
-pub(crate) fn cut_all(lists: &mut Vec<Vec<u32>>, n: u32)
+pub(crate) fn truncate_all(lists: &mut Vec<Vec<u32>>, n: u32)
     ensures lists { (i : ℕ) → IsAscending (list_at lists.old.items i) → list_at lists.new.items i ≡ up_to n (list_at lists.old.items i) }
     ensures capacity { (i : ℕ) → capacity_at lists.new.items i ≡ capacity_at lists.old.items i }
     ensures number { length lists.new.items ≡ length lists.old.items }
 {
     for index in 0..lists.len() {
-        cut(&mut lists[index], n);
+        truncate_list(&mut lists[index], n);
     }
 }
 
 /// Takes the positions above `n` out of a list.
-fn cut(list: &mut Vec<u32>, n: u32)
+fn truncate_list(list: &mut Vec<u32>, n: u32)
     ensures items { IsAscending list.old.items → list.new.items ≡ up_to n list.old.items }
     ensures capacity { vec_capacity list.new ≡ vec_capacity list.old }
 {

@@ -1,6 +1,7 @@
 //! Ascending positions, which are read by probes alone.
 
 ghost use Rattle.std.specs.Prelude.{◌≡◌, ◌+◌, ◌<◌, ◌^◌, length, slice_index_or};
+ghost use Rattle.rd_depend.specs.Probes.{probe_count};
 
 use super::probes::Probes;
 
@@ -14,11 +15,11 @@ pub(crate) struct Positions<'a> {
 impl<'a> Positions<'a> {
     /// Returns the positions of this list, which a look-up found.
     pub(crate) fn found(items: &'a [u32], probes: &mut Probes) -> Positions<'a>
-        requires { probes.old.count < 2 ^ 63 }
+        requires { probe_count probes.old < 2 ^ 63 }
         ensures items { result.items.now ≡ items.now }
-        ensures cost { probes.new.count ≡ probes.old.count + 1 }
+        ensures cost { probe_count probes.new ≡ probe_count probes.old + 1 }
     {
-        probes.look_up();
+        probes.tick();
         Positions { items }
     }
 
@@ -32,11 +33,11 @@ impl<'a> Positions<'a> {
     /// Returns the position at this index.
     pub(crate) fn look(&self, index: usize, probes: &mut Probes) -> u32
         requires within { index < length self.now.items.now }
-        requires few { probes.old.count < 2 ^ 63 }
+        requires few { probe_count probes.old < 2 ^ 63 }
         ensures position { result ≡ slice_index_or self.now.items.now index result }
-        ensures cost { probes.new.count ≡ probes.old.count + 1 }
+        ensures cost { probe_count probes.new ≡ probe_count probes.old + 1 }
     {
-        probes.look();
+        probes.tick();
         self.items[index]
     }
 }

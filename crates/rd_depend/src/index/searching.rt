@@ -2,17 +2,18 @@
 
 ghost use Rattle.std.specs.Prelude.{◌≡◌, ◌+◌, ◌<◌, ◌≤◌, ◌^◌, length};
 ghost use Rattle.rd_depend.specs.Lists.{IsAscending, first_above, last_of, number_up_to, up_to};
+ghost use Rattle.rd_depend.specs.Probes.{probe_count};
 
 use super::positions::Positions;
 use super::probes::Probes;
 
 impl<'a> Positions<'a> {
     /// Returns how many of the positions are at most `k`, by halving. It makes at most 17 probes.
-    fn count_up_to(&self, k: u32, probes: &mut Probes) -> usize
-        requires { probes.old.count < 2 ^ 62 }
+    pub(crate) fn count_up_to(&self, k: u32, probes: &mut Probes) -> usize
+        requires { probe_count probes.old < 2 ^ 62 }
         ensures within { result ≤ length self.now.items.now }
-        ensures cost { probes.new.count ≤ probes.old.count + 17 }
-        ensures counts { probes.old.count ≤ probes.new.count }
+        ensures cost { probe_count probes.new ≤ probe_count probes.old + 17 }
+        ensures counts { probe_count probes.old ≤ probe_count probes.new }
         ensures count { IsAscending self.now.items.now → length self.now.items.now < 2 ^ 17 → result ≡ number_up_to k self.now.items.now }
     {
         let mut low = 0;
@@ -34,10 +35,10 @@ impl<'a> Positions<'a> {
     /// Returns the least position that is greater than `k`, if there is one. It makes at most 18
     /// probes.
     pub(crate) fn first_above(&self, k: u32, probes: &mut Probes) -> Option<u64>
-        requires { probes.old.count < 2 ^ 61 }
+        requires { probe_count probes.old < 2 ^ 61 }
         ensures first { IsAscending self.now.items.now → length self.now.items.now < 2 ^ 17 → result ≡ first_above k self.now.items.now }
-        ensures cost { probes.new.count ≤ probes.old.count + 18 }
-        ensures counts { probes.old.count ≤ probes.new.count }
+        ensures cost { probe_count probes.new ≤ probe_count probes.old + 18 }
+        ensures counts { probe_count probes.old ≤ probe_count probes.new }
     {
         let index = self.count_up_to(k, probes);
         if index < self.len() {
@@ -50,10 +51,10 @@ impl<'a> Positions<'a> {
     /// Returns the greatest position that is at most `k`, if there is one. It makes at most 18
     /// probes.
     pub(crate) fn last_up_to(&self, k: u32, probes: &mut Probes) -> Option<u64>
-        requires { probes.old.count < 2 ^ 61 }
+        requires { probe_count probes.old < 2 ^ 61 }
         ensures last { IsAscending self.now.items.now → length self.now.items.now < 2 ^ 17 → result ≡ last_of (up_to k self.now.items.now) }
-        ensures cost { probes.new.count ≤ probes.old.count + 18 }
-        ensures counts { probes.old.count ≤ probes.new.count }
+        ensures cost { probe_count probes.new ≤ probe_count probes.old + 18 }
+        ensures counts { probe_count probes.old ≤ probe_count probes.new }
     {
         let number = self.count_up_to(k, probes);
         if number > 0 {

@@ -8,7 +8,7 @@ ghost use Rattle.std.specs.Prelude.{◌≡◌, ◌<◌, length};
 
 use super::keys::Key;
 use super::lists::{
-    cut_all, move_all, put_if, put_in, reserve_if, reserve_in, take_last_if, take_last_in,
+    move_all, put_if, put_in, reserve_if, reserve_in, take_last_if, take_last_in, truncate_all,
 };
 use indexmap::IndexSet;
 use std::alloc::{AllocError, Global};
@@ -211,7 +211,7 @@ impl Table {
 
     /// Moves a position after those above it up to `n` in each list that has it, and takes 1 off
     /// these in each list.
-    pub(crate) fn move_behind(&mut self, k: u32, n: u32)
+    pub(crate) fn move_to(&mut self, k: u32, n: u32)
         requires some { 1 ≤ k }
         requires order { k ≤ n }
         ensures { Moves k n self.old self.new }
@@ -221,11 +221,11 @@ impl Table {
     }
 
     /// Takes the positions above `n` out of each list.
-    pub(crate) fn cut(&mut self, n: u32)
+    pub(crate) fn truncate(&mut self, n: u32)
         ensures { Cuts n self.old self.new }
     {
-        cut_all(&mut self.all, n);
-        cut_all(&mut self.writes, n);
+        truncate_all(&mut self.all, n);
+        truncate_all(&mut self.writes, n);
     }
 }
 

@@ -4,7 +4,8 @@
 ghost use Rattle.std.specs.Prelude.{◌≡◌, ◌+◌, ◌<◌, ◌≤◌, ◌^◌, true, IsSome, List, take};
 ghost use Rattle.rd_step.specs.declared.entries.Entry.{Entry as SomeEntry};
 ghost use Rattle.rd_depend.specs.Lists.{later};
-ghost use Rattle.rd_depend.specs.Index.{IsIndexOf, reached};
+ghost use Rattle.rd_depend.specs.Index.{IsIndexOf, position_count, reached};
+ghost use Rattle.rd_depend.specs.Probes.{probe_count};
 ghost use Rattle.rd_depend.specs.Keys.{is_under_some};
 ghost use Rattle.rd_depend.specs.Writers.{last_position, writes_to};
 
@@ -14,17 +15,19 @@ use super::keys::Key;
 use super::positions::Positions;
 use super::probes::Probes;
 use rd_cell::Place;
-use rd_cell::limits::MOST_STEPS;
 
 impl DependIndex {
-    /// The last position up to `n` that wrote this place, or one of the places that it names.
-    pub(super) fn last_write(&self, n: u32, place: Place, probes: &mut Probes) -> Option<u64>
-        requires few { self.now.len ≤ MOST_STEPS }
-        requires counted { probes.old.count < 2 ^ 33 }
+    /// The last position up to `n` whose entry wrote this place, or one of the places that it
+    /// names; none if no such entry did. It makes at least one probe and at most 57, and takes no
+    /// memory.
+    pub fn last_writer(&self, n: u64, place: Place, probes: &mut Probes) -> Option<u64>
+        requires within { n ≤ position_count self.now }
+        requires counted { probe_count probes.old < 2 ^ 32 }
         ensures answer { (es : List SomeEntry) → IsIndexOf self.now es → result ≡ last_position (writes_to place) (take n es) }
-        ensures cost { probes.new.count ≤ probes.old.count + 57 }
-        ensures counts { probes.old.count < probes.new.count }
+        ensures cost { probe_count probes.new ≤ probe_count probes.old + 57 }
+        ensures counts { probe_count probes.old < probe_count probes.new }
     {
+        let n = n as u32;
         let by_value = self.last_under(n, value_key(Some(place)), probes);
         let own = self.last_under(n, Some(Key::of_place(place)), probes);
         let whole = self.last_under(n, Key::of_whole(place), probes);
@@ -34,13 +37,12 @@ impl DependIndex {
     /// Returns the last position up to `n` of a step that is kept under the key and wrote, if there
     /// is one. It makes at most 19 probes.
     fn last_under(&self, n: u32, key: Option<Key>, probes: &mut Probes) -> Option<u64>
-        requires few { self.now.len ≤ MOST_STEPS }
-        requires counted { probes.old.count < 2 ^ 34 }
+        requires { probe_count probes.old < 2 ^ 34 }
         ensures answer { (es : List SomeEntry) → IsIndexOf self.now es
             → result ≡ last_position (λ y. is_under_some key (reached true y)) (take n es) }
-        ensures cost { probes.new.count ≤ probes.old.count + 19 }
-        ensures counts { probes.old.count ≤ probes.new.count }
-        ensures looks { IsSome key → probes.old.count < probes.new.count }
+        ensures cost { probe_count probes.new ≤ probe_count probes.old + 19 }
+        ensures counts { probe_count probes.old ≤ probe_count probes.new }
+        ensures looks { IsSome key → probe_count probes.old < probe_count probes.new }
     {
         let Some(key) = key else {
             return None;

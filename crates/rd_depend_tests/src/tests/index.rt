@@ -4,7 +4,7 @@
 ghost use Rattle.std.specs.Prelude.{◌≡◌, ◌≤◌, length, List};
 ghost use Rattle.rd_step.specs.declared.entries.Entry.{Entry as SomeEntry};
 ghost use Rattle.rd_depend.specs.Index.{IsIndexOf, HasRoomFor};
-ghost use Rattle.rd_depend.specs.Moved.{moved_behind};
+ghost use Rattle.rd_depend.specs.Moved.{moved_to};
 
 use super::{Access, MADE, OTHER};
 use rd_cell::limits::MOST_STEPS;
@@ -63,11 +63,11 @@ impl Both {
     }
 
     /// Moves the `k`-th entry, from 1, after the later ones up to the `n`-th, if they are there.
-    fn move_behind(&mut self, k: usize, n: usize) {
+    fn move_to(&mut self, k: usize, n: usize) {
         let len = self.entries.len();
         if 1 <= k && k <= n && n <= len && len <= MOST_STEPS {
             move_entry(&mut self.entries, k, n);
-            self.index.move_behind(k as u64, n as u64);
+            self.index.move_to(k as u64, n as u64);
         }
     }
 
@@ -88,16 +88,16 @@ impl Both {
 
     /// Compares whether this entry depends on one of those after the first `n` with what a scan
     /// finds.
-    fn compare_behind(&self, rt: &impl Abort, n: usize, entry: &Entry) {
+    fn compare_after(&self, rt: &impl Abort, n: usize, entry: &Entry) {
         if n <= self.entries.len()
             && self.entries.len() <= MOST_STEPS
             && n as u64 <= self.index.len()
         {
-            let found = self.index.depends_behind(n as u64, entry);
+            let found = self.index.depends_after(n as u64, entry);
             assert_eq!(rt;
                 found,
                 depends_on_one(&self.entries[n..], entry),
-                "behind {n}"
+                "after {n}"
             );
         }
     }
@@ -184,7 +184,7 @@ fn move_entry(entries: &mut [Entry], k: usize, n: usize)
     requires some { 1 ≤ k }
     requires order { k ≤ n }
     requires within { n ≤ length entries.old }
-    ensures { entries.new ≡ moved_behind entries.old k n }
+    ensures { entries.new ≡ moved_to entries.old k n }
 {
     entries[k - 1..n].rotate_left(1);
 }
@@ -302,7 +302,7 @@ fn change(both: &mut Both, draws: &mut Draws, actors: u8) -> Result<(), Fail> {
         2 => {
             let k = draws.below(64) as usize;
             let n = draws.below(64) as usize;
-            both.move_behind(k.min(len), n.min(len));
+            both.move_to(k.min(len), n.min(len));
         }
         _ => both.push(record(draws.access(actors)))?,
     }
@@ -376,7 +376,7 @@ fn a_position_that_moved_is_found_where_the_scan_finds_it(rt: HostRuntime) -> Re
             for access in WHOLE {
                 both.push(record(access))?;
             }
-            both.move_behind(k, n);
+            both.move_to(k, n);
             both.compare_all(&rt);
         }
     }
@@ -401,7 +401,7 @@ fn an_entry_depends_on_one_behind_as_the_scan_finds(rt: HostRuntime) -> Result<(
     let both = Both::new(rt.alloc()).push_all(&entries)?;
     for n in 0..WHOLE.len() + 1 {
         for entry in entries {
-            both.compare_behind(&rt, n, &entry);
+            both.compare_after(&rt, n, &entry);
         }
     }
     Ok(())

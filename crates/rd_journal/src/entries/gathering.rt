@@ -55,7 +55,7 @@ pub(crate) fn gather(
     for next in k..live {
         let number = order[next];
         let entry = entry_in(slots, number);
-        if index.depends_behind(k as u64 - 1, entry) {
+        if index.depends_after(k as u64 - 1, entry) {
             put_back(index, entry);
             gathered.push_reserved(number);
         } else {

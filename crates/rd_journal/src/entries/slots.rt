@@ -2,7 +2,7 @@
 
 ghost use Rattle.std.specs.Prelude.{◌≡◌, ◌++◌, ◌∷◌, ◌+◌, ◌<◌, ◌≤◌, ℕ, length, take, drop, vec_capacity, OnOk, OnErr};
 ghost use Rattle.rd_step.specs.Prelude.{MOST_STEPS};
-ghost use Rattle.rd_depend.specs.Moved.{moved_behind};
+ghost use Rattle.rd_depend.specs.Moved.{moved_to};
 ghost use Rattle.rd_journal.specs.Numbers.{at_numbers, IsOrder};
 
 use rd_step::Entry;
@@ -52,7 +52,7 @@ pub(crate) fn move_behind(order: &mut Vec<u32>, k: usize, live: usize)
     requires some { 1 ≤ k }
     requires position { k ≤ live }
     requires within { live ≤ length order.old.items }
-    ensures moved { order.new.items ≡ moved_behind order.old.items k live }
+    ensures moved { order.new.items ≡ moved_to order.old.items k live }
     ensures capacity { vec_capacity order.new ≡ vec_capacity order.old }
 {
     let later = &mut order[k - 1..live];

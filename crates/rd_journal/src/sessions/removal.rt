@@ -25,7 +25,7 @@ impl<const R: usize> Session<R> {
         ensures capacity { capacity self.new ≡ capacity self.old }
     {
         unstep(&mut self.world, self.entries.live_at(k as usize - 1));
-        self.index.move_behind(k, self.entries.live_len() as u64);
+        self.index.move_to(k, self.entries.live_len() as u64);
         self.entries.undo_alone(k as usize);
         self.undone += 1;
     }

@@ -1,6 +1,5 @@
-use Rattle.std.proofs.Common.{◌≡◌, ◌∙◌, ℕ, List, [], ◌++◌, take, drop, sym, subst, arith}
-use Rattle.rd_journal.proofs.Prelude.{append-nil, length-take-le, Entry, HasRoomFor, HasRoomInstead, touches, not_refused, kept_entries}
-use Rattle.rd_depend.proofs.IndexPositions.{number-append}
+use Rattle.std.proofs.Common.{◌≡◌, ◌∙◌, ℕ, take, drop, sym, subst, arith}
+use Rattle.rd_journal.proofs.Prelude.{length-take-le, HasRoomFor, HasRoomInstead, not_refused, kept_entries}
 use Rattle.rd_journal.proofs.Outcomes.{err_then, in_error}
 use Rattle.rd_journal.proofs.indexing.index_instead.Goals as goal
 
@@ -12,10 +11,9 @@ fill_index-requires-clause-room c =
     let err = sym c.is_err.ensures.value ∙ c.if-is_err.true in
     let is = err_then c.push_all-put.result err c.push_all-put.ensures.err (take n kept) c.cut_index.ensures.left in
     let long : n ≡ index.len = omega (arith, is.len, length-take-le n kept c.requires.within) in
-    let given_back : HasRoomFor c.cut_index.new.index (drop n kept ++ []) =
-    record { lists = λ t. omega (arith, number-append (touches t) (drop n kept) [], c.cut_index.ensures.room t) } in
-    let room = err_then c.push_all-put.result err c.push_all-put.ensures.room_stays (drop n kept ++ []) given_back in
-    subst (λ (m : ℕ). HasRoomFor index (drop m kept)) long (subst (λ (es : List Entry). HasRoomFor index es) (append-nil (drop n kept)) room)
+    let stays = err_then c.push_all-put.result err c.push_all-put.ensures.room_stays in
+    let room : HasRoomFor index (drop n kept) = record { lists = λ t. omega (arith, stays t, c.cut_index.ensures.room t) } in
+    subst (λ (m : ℕ). HasRoomFor index (drop m kept)) long room
 
 pub returns-then-is_err-clause-lacks : goal.returns-then-is_err-clause-lacks
 returns-then-is_err-clause-lacks c =

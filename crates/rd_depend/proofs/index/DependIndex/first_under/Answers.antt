@@ -9,7 +9,7 @@ returns-in_default-clause-answer c = λ es is.
 
 pub returns-clause-answer : goal.returns-clause-answer
 returns-clause-answer c = λ es is.
-    found_in c.args.self.now es is c.requires.few (Under c.args.writes c.in-Some.key) c.args.k c.first_above.result
+    found_in c.args.self.now es is (Under c.args.writes c.in-Some.key) c.args.k c.first_above.result
     (subst (λ (l : List ℕ). IsAscending l → length l < 131072 → c.first_above.result ≡ first_above c.args.k l) (c.found.ensures.items ∙ c.list.ensures)
     c.first_above.ensures.first)
     ∙ sym (ap (λ (o : Option Key). first_above c.args.k (positions (λ y. is_under_some o (reached c.args.writes y)) es)) c.in-Some.is)

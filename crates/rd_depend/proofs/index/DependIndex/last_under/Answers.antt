@@ -9,7 +9,7 @@ returns-in_default-clause-answer c = λ es is.
 
 pub returns-clause-answer : goal.returns-clause-answer
 returns-clause-answer c = λ es is.
-    last_in c.args.self.now es is c.requires.few (Under true c.in-Some.key) c.args.n c.last_up_to.result
+    last_in c.args.self.now es is (Under true c.in-Some.key) c.args.n c.last_up_to.result
     (subst (λ (l : List ℕ). IsAscending l → length l < 131072 → c.last_up_to.result ≡ last_of (up_to c.args.n l)) (c.found.ensures.items ∙ c.list.ensures)
     c.last_up_to.ensures.last)
     ∙ sym (ap (λ (o : Option Key). last_position (λ y. is_under_some o (reached true y)) (take c.args.n es)) c.in-Some.is)

@@ -1,6 +1,11 @@
-use Rattle.rd_depend.proofs.Prelude.{on_ok_weaker}
-use Rattle.rd_depend.proofs.IndexChanges.{added}
+use Rattle.std.proofs.Common.{arith}
+use Rattle.rd_depend.proofs.IndexChanges.{added, then_adds}
 use Rattle.rd_depend.proofs.index.DependIndex.push.Goals as goal
 
 pub returns-clause-ok : goal.returns-clause-ok
-returns-clause-ok c = on_ok_weaker c.add.result (λ more es is. added c.args.self.now c.add.new.self c.args.entry.now es more is) c.add.ensures.ok
+returns-clause-ok c = λ es is.
+    added c.args.self.now c.put.new.self c.args.entry.now es
+    (then_adds c.args.self.now c.reserve.new.self c.put.new.self c.args.entry.now c.reserve.ensures.same c.put.ensures) is
+
+pub returns-clause-room : goal.returns-clause-room
+returns-clause-room c = λ t. omega (arith, c.reserve.ensures.same.room t, c.put.ensures.room t)

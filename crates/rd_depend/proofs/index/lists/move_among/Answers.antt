@@ -7,7 +7,7 @@ use Rattle.rd_depend.proofs.index.lists.move_among.Goals as goal
 
 -- where all are below k, none is moved
 none_moved : (k n : ℕ) (ps : List ℕ) → 1 ≤ k → k ≤ n → AreUpTo (k - 1) ps → IsMoved k n ps ps
-none_moved k n ps some order up low mid high held h below after until above is =
+none_moved k n ps some order up low mid high held short h below after until above is =
     is ∙ ap (λ (qs : List ℕ). low ++ qs) (none mid high held after above (behind low (with_first held k mid ++ high) (subst (AreUpTo (k - 1)) is up)))
   where
     behind : (xs ys : List ℕ) → AreUpTo (k - 1) (xs ++ ys) → AreUpTo (k - 1) ys

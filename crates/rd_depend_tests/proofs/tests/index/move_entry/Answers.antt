@@ -2,12 +2,12 @@ use Rattle.std.proofs.Common.{◌≡◌, ℕ, ◌+◌, ◌-◌, ◌≤◌, List,
 use Rattle.std.proofs.lemmas.List.{take-take, drop-take, drop-drop}
 use borrow.Rule.Slice.PartMut.{put_mid, mid_of}
 use Rattle.rd_step.specs.declared.entries.Entry.{Entry}
-use Rattle.rd_depend.specs.Moved.{moved_behind}
+use Rattle.rd_depend.specs.Moved.{moved_to}
 use Rattle.rd_depend_tests.proofs.tests.index.move_entry.Goals as goal
 
 -- a part that is turned by one has its first entry after the others
 turned : (es turn : List Entry) (k n : ℕ) → 1 ≤ k → k ≤ n
-    → let part = mid_of (k - 1) (n - (k - 1)) es in turn ≡ drop 1 part ++ take 1 part → put_mid (k - 1) (n - (k - 1)) es turn ≡ moved_behind es k n
+    → let part = mid_of (k - 1) (n - (k - 1)) es in turn ≡ drop 1 part ++ take 1 part → put_mid (k - 1) (n - (k - 1)) es turn ≡ moved_to es k n
 turned es turn k n some order after =
     let a = k - 1 in
     let m = n - a in

@@ -4,6 +4,7 @@ use Rattle.rd_step.specs.declared.entries.Entry.{Entry}
 use Rattle.rd_depend.specs.declared.index.DependIndex.{DependIndex}
 use Rattle.rd_depend.specs.Index.{HasRoomFor}
 use Rattle.rd_depend.proofs.IndexChanges.{drop_one}
+use Rattle.rd_depend.proofs.IndexRoom.{room_left}
 use Rattle.std.proofs.lemmas.Option.{slice_get-get_or}
 use Rattle.rd_depend_tests.proofs.tests.index.push_in_room.Goals as goal
 
@@ -23,5 +24,5 @@ loop-at-preserved c =
     let es = c.args.entries.now in
     let next : c.loop-at.at + 1 ≡ suc c.loop-at.at = omega arith in
     subst (λ (n : ℕ). HasRoomFor c.push.new.self (drop n es)) (sym next)
-    (c.in-Ok.ensures.room (drop (suc c.loop-at.at) es)
+    (room_left c.loop-at.index c.push.new.self _ c.in-Ok.ensures.room (drop (suc c.loop-at.at) es)
     (room_from c.loop-at.index es c.loop-at.at _ (slice_get-get_or es c.loop-at.at _ c.loop-at-test.true) c.loop-at.invariant))

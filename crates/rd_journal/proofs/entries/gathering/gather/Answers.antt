@@ -4,7 +4,7 @@ use Rattle.rd_journal.proofs.GatheringLoop.{live_of, live-length, UnderWay, next
 use Rattle.rd_journal.proofs.IndexRoom.{fits_one, fits_between}
 use Rattle.rd_journal.proofs.ListLemmas.{overwritten}
 use Rattle.rd_journal.proofs.entries.gathering.gather.Goals as goal
-use Rattle.rd_journal.proofs.entries.gathering.gather.Goals.{then-depends_behind, else-depends_behind}
+use Rattle.rd_journal.proofs.entries.gathering.gather.Goals.{then-depends_after, else-depends_after}
 
 -- what is told of the index is told of what is gathered
 told : (before block : List Entry) (x : Entry) (b : Bool) (n : ℕ) → length before ≡ n → b ≡ depends_on_one (drop n (before ++ block)) x → depends_on_one block x ≡ b
@@ -53,11 +53,11 @@ entry_in-entry-requires c =
     (next_one c.args.slots.now c.args.order.now.items c.loop-next.order.items c.args.live c.loop-next.next c.index-number.result.now c.requires.ordered c.requires.within
     (omega (arith, c.loop-next-test.true)) u.long u.later c.index-number.ensures).below
 
-pub depends_behind-requires-clause-within : goal.depends_behind-requires-clause-within
-depends_behind-requires-clause-within c = grind (arith, live_of, live-length, length-append, length-take-le)
+pub depends_after-requires : goal.depends_after-requires
+depends_after-requires c = grind (arith, live_of, live-length, length-append, length-take-le)
 
-pub put_back-requires-then-depends_behind-clause-room : goal.put_back-requires-then-depends_behind-clause-room
-put_back-requires-then-depends_behind-clause-room c =
+pub put_back-requires-then-depends_after-clause-room : goal.put_back-requires-then-depends_after-clause-room
+put_back-requires-then-depends_after-clause-room c =
     let es = c.args.slots.now in
     let ns = c.args.order.now.items in
     let now = c.loop-next.order.items in
@@ -92,27 +92,27 @@ loop-next-preserved c =
     let len : length (take (k - 1) L) ≡ k - 1 =
     length-take-le (k - 1) L (omega (arith, live-length es ns live c.requires.ordered c.requires.within, c.requires.position)) in
     let said =
-    told (take (k - 1) L) (at_numbers es gathered) x c.depends_behind.result (k - 1) len (c.depends_behind.ensures (take (k - 1) L ++ at_numbers es gathered) u.indexed) in
+    told (take (k - 1) L) (at_numbers es gathered) x c.depends_after.result (k - 1) len (c.depends_after.ensures (take (k - 1) L ++ at_numbers es gathered) u.indexed) in
     let later : drop (next + 1) now ≡ drop (next + 1) ns =
     sym (drop-drop 1 next now ∙ ap (λ (m : ℕ). drop m now) (omega arith)) ∙ ap (λ (ms : List ℕ). drop 1 ms) u.later ∙ (drop-drop 1 next ns ∙ ap (λ (m : ℕ). drop m ns) (omega arith)) in
-    elim c.if-depends_behind.branch [
-      | then-depends_behind w ↦
+    elim c.if-depends_after.branch [
+      | then-depends_after w ↦
           record {
             under_way =
-                carried es ns now (gathered ++ v ∷ []) c.args.index.now w.put_back-then-depends_behind.new.index k live front (next + 1) _ _ _ _
-                ((λ i. (w.order-is i).items)) ((λ i. (w.gathered-is i).items) ∙ w.push_reserved-then-depends_behind.ensures.items) w.index-is w.front-is
-                (joined es ns now gathered c.args.index.now c.loop-next.index w.put_back-then-depends_behind.new.index k live front next v x u low n c.entry_in-entry.ensures
-                (said ∙ w.if-depends_behind.true) w.put_back-then-depends_behind.ensures.put w.put_back-then-depends_behind.ensures.room later);
+                carried es ns now (gathered ++ v ∷ []) c.args.index.now w.put_back-then-depends_after.new.index k live front (next + 1) _ _ _ _
+                ((λ i. (w.order-is i).items)) ((λ i. (w.gathered-is i).items) ∙ w.push_reserved-then-depends_after.ensures.items) w.index-is w.front-is
+                (joined es ns now gathered c.args.index.now c.loop-next.index w.put_back-then-depends_after.new.index k live front next v x u low n c.entry_in-entry.ensures
+                (said ∙ w.if-depends_after.true) w.put_back-then-depends_after.ensures.put w.put_back-then-depends_after.ensures.room later);
             order = ap vec_capacity w.order-is ∙ c.loop-next.invariant.order;
-            place = ap vec_capacity w.gathered-is ∙ w.push_reserved-then-depends_behind.ensures.capacity ∙ c.loop-next.invariant.place;
+            place = ap vec_capacity w.gathered-is ∙ w.push_reserved-then-depends_after.ensures.capacity ∙ c.loop-next.invariant.place;
           }
-      | else-depends_behind w ↦
+      | else-depends_after w ↦
           record {
             under_way =
                 carried es ns (set now front v) gathered c.args.index.now c.loop-next.index k live (front + 1) (next + 1) _ _ _ _
                 ((λ i. (w.order-is i).items)) ((λ i. (w.gathered-is i).items)) w.index-is w.front-is
                 (stayed es ns now gathered c.args.index.now c.loop-next.index k live front next v x u low c.requires.within n c.entry_in-entry.ensures
-                (said ∙ w.if-depends_behind.false) later);
+                (said ∙ w.if-depends_after.false) later);
             order = ap vec_capacity w.order-is ∙ c.loop-next.invariant.order;
             place = ap vec_capacity w.gathered-is ∙ c.loop-next.invariant.place;
           }

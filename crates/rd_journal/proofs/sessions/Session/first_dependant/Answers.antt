@@ -1,10 +1,12 @@
-use Rattle.std.proofs.Common.{◌≡◌, ◌∙◌, Bool, true, false, nat_lt, None, Some, if◌then◌else◌, length, sym, ap, arith}
+use Rattle.std.proofs.Common.{◌≡◌, ◌∙◌, Bool, true, false, nat_lt, None, Some, if◌then◌else◌, length, sym, ap, arith, length-append}
 use Rattle.rd_journal.proofs.Prelude.{lt-ltb, le-ltb, live_entries, ahead_entries, kept_entries}
 use Rattle.rd_journal.proofs.Finding.{numbered_before, if_live, found_live}
 use Rattle.rd_journal.proofs.sessions.Session.first_dependant.Goals as goal
 
-pub first-requires-clause-held : goal.first-requires-clause-held
-first-requires-clause-held g c = grind (arith, numbered_before)
+pub first-requires-clause-within : goal.first-requires-clause-within
+first-requires-clause-within g c =
+    let entries = c.args.self.now.entries in
+    omega (arith, c.requires.within, c.args.self.now.indexed.len, length-append (live_entries entries) (ahead_entries entries))
 
 pub returns-in-None : goal.returns-in-None
 returns-in-None g c =

@@ -1,5 +1,5 @@
 use Rattle.std.proofs.Common.{ℕ, ◌+◌, ◌∙◌, List, ap, sym, subst, arith, length, rules}
-use Rattle.rd_journal.proofs.Prelude.{model, room, Entry, IsIndexOf, moved_behind, kept_entries, IsUndoneAlone, whole_journal, with_undone, journal}
+use Rattle.rd_journal.proofs.Prelude.{model, room, Entry, IsIndexOf, moved_to, kept_entries, IsUndoneAlone, whole_journal, with_undone, journal}
 use Rattle.rd_journal.proofs.Ahead.{out_undone}
 use Rattle.rd_journal.proofs.LoneUndo.{IsNumber, may_undo_at, undone_alone_state, taken_out_front, taken_out_few}
 use Rattle.rd_journal.proofs.RoomLemmas.{given_back}
@@ -31,9 +31,9 @@ invariant_of-self g c =
       };
       within = omega (arith, self.within, ap length front);
       indexed =
-          subst (λ (es : List Entry). IsIndexOf c.move_behind.new.self es)
-          (ap (λ (n : ℕ). moved_behind (kept_entries self.entries) c.args.k n) c.live_len.ensures ∙ sym c.undo_alone.ensures.kept)
-          (c.move_behind.ensures.moved (kept_entries self.entries) self.indexed);
+          subst (λ (es : List Entry). IsIndexOf c.move_to.new.self es)
+          (ap (λ (n : ℕ). moved_to (kept_entries self.entries) c.args.k n) c.live_len.ensures ∙ sym c.undo_alone.ensures.kept)
+          (c.move_to.ensures.moved (kept_entries self.entries) self.indexed);
     }
 
 pub returns-clause-entries : goal.returns-clause-entries

@@ -1,5 +1,5 @@
 use Rattle.rd_journal.proofs.Prelude.{common_steps, append-nil, length-take-le, take_at, drop_at, take-append-le, drop-append-le, model, room, closure_of, without_closure, Entry, IsIndexOf, HasRoomFor, live_entries, ahead_entries, kept_entries, whole_journal, journal_of, journal}
-use Rattle.std.proofs.Common.{◌≡◌, ◌∙◌, ◌-◌, List, [], ◌++◌, refl, ap, subst, arith, take, drop, length, length-append}
+use Rattle.std.proofs.Common.{◌≡◌, ◌∙◌, ◌-◌, List, [], ◌++◌, refl, ap, subst, arith, take, drop, length}
 use Rattle.rd_journal.proofs.Ahead.{is_session}
 use Rattle.rd_journal.proofs.Finding.{cut_before}
 use Rattle.rd_journal.proofs.IndexRoom.{fits_none, fits_back, fits_turned}
@@ -16,25 +16,6 @@ gather_closure-count-requires-clause-room g c =
     subst (λ (es : List Entry). HasRoomFor c.cut_index.new.index es)
     (append-nil (drop n (kept_entries self.entries)) ∙ drop-append-le n (live_entries self.entries) (ahead_entries self.entries) (omega (arith, c.requires.position)))
     (fits_back self.index c.cut_index.new.index (drop n (kept_entries self.entries)) [] c.cut_index.ensures.room (fits_none self.index))
-
-pub truncate-requires : goal.truncate-requires
-truncate-requires g c =
-    let self = c.args.self.now in
-    let live = live_entries self.entries in
-    let k = c.args.k in
-    let said = c.gather_closure-count.ensures in
-    let cut = cut_before live (ahead_entries self.entries) k c.requires.some c.requires.position in
-    omega (
-      arith,
-      said.index.len,
-      length-append (take (k - 1) live) (closure_of live k),
-      length-take-le (k - 1) live (omega (arith, c.requires.position)),
-      length-append (without_closure live k) (closure_of live k),
-      ap length said.live,
-      said.len,
-      cut.long,
-      self.kept.few,
-    )
 
 pub fill_index-requires : goal.fill_index-requires
 fill_index-requires g c =

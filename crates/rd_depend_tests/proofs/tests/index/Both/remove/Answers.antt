@@ -15,8 +15,8 @@ out_at es i k next =
     let e : suc i - 1 ≡ i = omega arith in
     ap (without es) next ∙ ap (λ (m : ℕ). take m es ++ drop (suc i) es) e
 
-pub remove-requires-clause-held : goal.remove-requires-clause-held
-remove-requires-clause-held c =
+pub remove-requires : goal.remove-requires
+remove-requires c =
     let es = c.args.self.now.entries.items in
     let within : c.args.at < length es = omega (arith, c.if-at-len.true, c.len.ensures, c.args.self.now.entries.ok.0) in
     record {

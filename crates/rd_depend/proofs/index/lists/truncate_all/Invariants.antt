@@ -1,6 +1,6 @@
 use Rattle.std.proofs.Common.{◌≡◌, ℕ, ◌<◌, ◌≤◌, length}
 use Rattle.rd_depend.proofs.Prelude.{list_at, capacity_at, up_to, IsAscending}
-use Rattle.rd_depend.proofs.index.lists.cut_all.Given as goal
+use Rattle.rd_depend.proofs.index.lists.truncate_all.Given as goal
 
 abbrev pub invariant-loop-index : goal.invariant-loop-index
 invariant-loop-index l = record {

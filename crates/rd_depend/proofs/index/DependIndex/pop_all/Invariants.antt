@@ -1,6 +1,6 @@
 use Rattle.std.proofs.Common.{◌≤◌, length}
 use Rattle.rd_depend.proofs.IndexChanges.{HasDropped}
-use Rattle.rd_depend.proofs.index.DependIndex.drop_all.Given as goal
+use Rattle.rd_depend.proofs.index.DependIndex.pop_all.Given as goal
 
 abbrev pub invariant-loop-left : goal.invariant-loop-left
 invariant-loop-left l = record {

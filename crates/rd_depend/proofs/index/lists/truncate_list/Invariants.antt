@@ -1,6 +1,6 @@
 use Rattle.std.proofs.Common.{◌≡◌, ◌≤◌, length, take}
 use Rattle.rd_depend.proofs.Prelude.{up_to}
-use Rattle.rd_depend.proofs.index.lists.cut.Given as goal
+use Rattle.rd_depend.proofs.index.lists.truncate_list.Given as goal
 
 abbrev pub decreases-falling : goal.decreases-falling
 decreases-falling l = l.end

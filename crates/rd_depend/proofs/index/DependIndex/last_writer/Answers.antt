@@ -1,7 +1,7 @@
 use Rattle.std.proofs.Common.{true, take, ◌∙◌}
 use Rattle.rd_depend.proofs.Prelude.{is_under, is_under_some, reached, last_position}
 use Rattle.rd_depend.proofs.IndexWriters.{last_at}
-use Rattle.rd_depend.proofs.index.DependIndex.last_write.Goals as goal
+use Rattle.rd_depend.proofs.index.DependIndex.last_writer.Goals as goal
 
 pub returns-clause-answer : goal.returns-clause-answer
 returns-clause-answer c = λ es is.

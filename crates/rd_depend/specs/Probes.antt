@@ -1,0 +1,7 @@
+-- The count of probes.
+use Rattle.std.specs.Prelude.{ℕ}
+use Rattle.rd_depend.specs.declared.index.probes.Probes.{Probes}
+
+-- how many probes were counted
+abbrev pub probe_count : Probes → ℕ
+probe_count probes = probes.count
