@@ -1,6 +1,6 @@
 -- A comparison of two runs as it goes on over the steps of the first one.
 use Rattle.rd_depend.proofs.Prelude.{common_steps, drop_all, drop-cons, Entry, Key, Reached, DecidesEquivalence, Placed, by_actor, nothing_reached, KeepsOrder, enumerated, GoesOn, StandsElsewhere}
-use Rattle.std.proofs.Common.{◌≡◌, ◌↔◌, ℕ, ◌+◌, ◌<◌, ◌≤◌, Bool, false, IsTrue, List, [], ◌∷◌, ◌++◌, length, drop, get_or, refl, sym, subst, ◌∙◌, arith}
+use Rattle.std.proofs.Common.{◌≡◌, ◌↔◌, ℕ, ◌+◌, ◌<◌, ◌≤◌, Bool, false, IsTrue, List, [], ◌∷◌, length, drop, get_or, refl, sym, ap, subst, ◌∙◌, arith, length-append}
 use Rattle.rd_depend.proofs.KeepingOrder.{kept_taken, taken_kept}
 use Rattle.rd_depend.proofs.RunsAgree.{taken_equivalent, untaken_different}
 
@@ -45,9 +45,6 @@ decided_at_end a b k s left same all h g =
 
 pub some_and_none : (a b : List Entry) → (length a ≡ 0 → ⊥) → length b ≡ 0 → DecidesEquivalence a b false
 some_and_none [] b some none = absurd (some refl)
-some_and_none (x ∷ xs) [] some none = untaken_different (x ∷ xs) [] (λ h. nowhere h.1.earlier h.1.entry h.1.later h.1.stands)
-  where
-    nowhere : (earlier : List Entry) (y : Entry) (later : List Entry) → [] ≡ earlier ++ y ∷ later → ⊥
-    nowhere [] y later h = cc
-    nowhere (z ∷ earlier) y later h = cc
+some_and_none (x ∷ xs) [] some none =
+    untaken_different (x ∷ xs) [] (λ h. omega (arith, ap length h.1.stands, length-append h.1.earlier (h.1.entry ∷ h.1.later)))
 some_and_none (x ∷ xs) (y ∷ ys) some none = absurd (omega arith)

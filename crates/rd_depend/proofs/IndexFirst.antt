@@ -11,10 +11,7 @@ positions-same t u h n es = grind arith
 -- what is found is not before the start
 found-from : (k n : ℕ) (ps : List ℕ) (m : ℕ) → AscendsFrom n ps → first_above k ps ≡ Some m → n ≤ m
 found-from k n [] m h e = absurd cc
-found-from k n (p ∷ ps) m h e = by (nat_lt k p) (found-from k (suc p) ps m h.1) e
-  where
-    by : (b : Bool) → (first_above k ps ≡ Some m → suc p ≤ m) → (if b then Some p else first_above k ps) ≡ Some m → n ≤ m
-    by b rest g = grind arith
+found-from k n (p ∷ ps) m h e = grind (arith, found-from k (suc p) ps m h.1)
 
 pulled : (k n : ℕ) (b : Bool) (ps : List ℕ) → first_above k (if b then n ∷ ps else ps) ≡ (if b then (if nat_lt k n then Some n else first_above k ps) else first_above k ps)
 pulled k n b ps = grind arith

@@ -1,7 +1,7 @@
 -- What is kept under a key, and the three keys of a place: its own, that of a cell's value half,
 -- and its segment's.
-use Rattle.std.proofs.Common.{◌≡◌, Bool, true, false, not, ◌&&◌, ◌||◌, Option, Some, ap, ◌∙◌, arith}
-use Rattle.rd_depend.proofs.Prelude.{and_from, or_right, Place, is_place, index_half, is_nothing, Entry, Wrote, Home, Homes, Key, is_that, is_kept_at, is_under, place_key, value_key, segment_key, counts, reached, is_value_written, homes_of, is_key-refl}
+use Rattle.std.proofs.Common.{◌≡◌, Bool, true, false, ◌&&◌, ◌||◌, Option, Some, ap, ◌∙◌, arith}
+use Rattle.rd_depend.proofs.Prelude.{and_from, or_right, Place, is_place, index_half, Entry, Home, Homes, Key, is_that, is_kept_at, is_under, place_key, value_key, segment_key, counts, reached, homes_of, is_key-refl}
 
 -- the index half of a cell, like any other place, is kept under its own key alone
 pub kept_half : (p r : Place) → is_kept_at p (index_half r) ≡ is_place p (index_half r)
@@ -14,14 +14,6 @@ is_home h w q = counts w h.wrote && is_that q h.key
 -- or of one of three keys
 abbrev pub is_in : Homes → Bool → Key → Bool
 is_in h w q = (is_home h.place w q || is_home h.value w q) || is_home h.segment w q
-
--- the keys of a step at this place that wrote this
-abbrev homes_at : Option Place → Wrote → Homes
-homes_at o v = record {
-  place = record { key = place_key o; wrote = not (is_nothing v) };
-  value = record { key = value_key o; wrote = is_value_written v };
-  segment = record { key = segment_key o; wrote = not (is_nothing v) };
-}
 
 -- a step is kept where one of its three keys holds it, and nowhere else
 pub under : (w : Bool) (q : Key) (x : Entry) → is_under q (reached w x) ≡ is_in (homes_of x) w q

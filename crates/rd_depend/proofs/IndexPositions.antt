@@ -1,7 +1,7 @@
 -- Positions of the entries that pass a test: of a list with one more entry, of two lists one after
 -- the other.
 use Rattle.rd_depend.proofs.Prelude.{common_steps, append-nil, Entry, AscendsFrom, IsAscending, AreUpTo, positions_from, positions, number_of}
-use Rattle.std.proofs.Common.{◌≡◌, ℕ, suc, ◌+◌, ◌-◌, ◌≤◌, Bool, if◌then◌else◌, List, [], ◌∷◌, ◌++◌, length, map, take, refl, ap, ◌∙◌, arith}
+use Rattle.std.proofs.Common.{◌≡◌, ℕ, suc, ◌+◌, ◌-◌, ◌≤◌, Bool, if◌then◌else◌, List, [], ◌∷◌, ◌++◌, length, map, take, refl, ap, arith}
 use Rattle.rd_depend.proofs.IndexLists.{ascends_lower}
 
 -- they ascend
@@ -44,11 +44,7 @@ positions-lower test m n (x ∷ xs) e = grind (arith, positions-lower test (m + 
 -- one more entry
 pub positions-push : (test : Entry → Bool) (n : ℕ) (es : List Entry) (x : Entry)
     → positions_from test n (es ++ x ∷ []) ≡ (if test x then positions_from test n es ++ (n + length es) ∷ [] else positions_from test n es)
-positions-push test n es x = positions-append test n (n + length es) es (x ∷ []) refl ∙ by (test x)
-  where
-    by : (b : Bool) → positions_from test n es ++ (if b then (n + length es) ∷ [] else [])
-        ≡ (if b then positions_from test n es ++ (n + length es) ∷ [] else positions_from test n es)
-    by b = grind (arith, append-nil)
+positions-push test n es x = grind (arith, positions-append test n (n + length es) es (x ∷ []), append-nil)
 
 -- the last entry taken away: the last position goes where it passed the test
 pub positions-pop : (test : Entry → Bool) (es : List Entry) (x : Entry) (ps : List ℕ) → ps ≡ positions test (es ++ x ∷ [])

@@ -1,7 +1,7 @@
 -- The last writer of a place, from the last positions up to a number in a place's list and a
 -- segment's.
-use Rattle.rd_depend.proofs.Prelude.{common_steps, Place, some_overlap, Entry, DependIndex, is_under, is_under_some, own_key, value_of_place, whole_key, IsAscending, number_up_to, up_to, last_or, last_of, later, Touch, reached, touches, positions_from, positions, kept, IsIndexOf, behind, last_position, writes_to}
-use Rattle.std.proofs.Common.{◌≡◌, ℕ, suc, ◌+◌, ◌-◌, ◌<◌, ◌≤◌, Bool, true, false, ◌||◌, if◌then◌else◌, nat_lt, List, [], ◌∷◌, length, get_or, take, Option, Some, None, refl, sym, ap, ◌∙◌, arith}
+use Rattle.rd_depend.proofs.Prelude.{common_steps, nat_tests, Place, some_overlap, Entry, DependIndex, is_under, is_under_some, own_key, value_of_place, whole_key, IsAscending, number_up_to, up_to, last_of, later, Touch, reached, touches, positions_from, positions, kept, IsIndexOf, behind, last_position, writes_to}
+use Rattle.std.proofs.Common.{◌≡◌, ℕ, zero, suc, ◌+◌, ◌-◌, ◌<◌, ◌≤◌, Bool, true, false, ◌||◌, List, [], ◌∷◌, length, get_or, take, Option, Some, None, refl, sym, ap, ◌∙◌, arith}
 use Rattle.rd_depend.proofs.IndexCuts.{positions-up_to}
 use Rattle.rd_depend.proofs.IndexFirst.{kept-ascends, kept-short, overlaps-keys}
 
@@ -13,16 +13,8 @@ last-none k (p ∷ ps) h = grind arith
 
 last-there : (k : ℕ) (ps : List ℕ) (i d : ℕ) → number_up_to k ps ≡ suc i → last_of (up_to k ps) ≡ Some (get_or ps i d)
 last-there k [] i d h = absurd (omega (arith, h))
-last-there k (p ∷ ps) i d h = by (nat_lt k p) (λ j. last-there k ps j d) h
-  where
-    front : ((j : ℕ) → number_up_to k ps ≡ suc j → last_of (up_to k ps) ≡ Some (get_or ps j d))
-        → (j : ℕ) → number_up_to k ps ≡ j → last_or p (last_of (up_to k ps)) ≡ Some (get_or (p ∷ ps) j d)
-    front rest j g = grind (arith, last-none)
-
-    by : (b : Bool) → ((j : ℕ) → number_up_to k ps ≡ suc j → last_of (up_to k ps) ≡ Some (get_or ps j d)) → (if b then 0 else suc (number_up_to k ps)) ≡ suc i
-        → last_of (if b then [] else p ∷ up_to k ps) ≡ Some (get_or (p ∷ ps) i d)
-    by true rest g = absurd (omega arith)
-    by false rest g = let e : number_up_to k ps ≡ i = omega arith in front rest i e
+last-there k (p ∷ ps) zero d h = grind (arith, nat_tests, last-none k ps)
+last-there k (p ∷ ps) (suc i) d h = grind (arith, nat_tests, last-there k ps i d)
 
 pub last-missing : (k : ℕ) (ps : List ℕ) (number : ℕ) → number ≡ number_up_to k ps → number ≤ 0 → None ≡ last_of (up_to k ps)
 last-missing k ps number count none = let e : number_up_to k ps ≡ 0 = omega arith in sym (last-none k ps e)
@@ -41,17 +33,10 @@ last-from : (test : Entry → Bool) (m n : ℕ) (es : List Entry) → n ≡ suc 
 last-from test m n [] h = refl
 last-from test m n (x ∷ xs) h =
     let e : n + 1 ≡ suc (suc m) = omega arith in
-    by (test x) (last_position test xs) (last-from test (suc m) (n + 1) xs e)
-  where
-    by : (b : Bool) (o : Option ℕ) → last_of (positions_from test (n + 1) xs) ≡ moved (suc m) o
-        → last_of (if b then n ∷ positions_from test (n + 1) xs else positions_from test (n + 1) xs) ≡ moved m (behind b o)
-    by b o g = grind arith
+    grind (arith, last-from test (suc m) (n + 1) xs e)
 
 last-is : (test : Entry → Bool) (es : List Entry) → last_of (positions test es) ≡ last_position test es
-last-is test es = last-from test 0 1 es refl ∙ plain (last_position test es)
-  where
-    plain : (o : Option ℕ) → moved 0 o ≡ o
-    plain o = grind arith
+last-is test es = grind (arith, last-from test 0 1 es refl)
 
 -- the later of two is the last that passes one test or the other
 later-last : (t u v : Entry → Bool) → ((y : Entry) → v y ≡ (t y || u y)) → (es : List Entry)

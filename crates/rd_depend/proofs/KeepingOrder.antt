@@ -1,7 +1,7 @@
 -- Steps keep the order of dependent ones at the places where they are in another list exactly where
 -- they may be taken out of it one after another.
 use Rattle.rd_depend.proofs.Prelude.{common_steps, eqb-false, map-append, Entry, Key, Reached, is_under, wrote_under, bound, passed, nothing_reached, moved, IsInOrder, AreAlike, Placed, by_actor, with_steps, KeepsOrder, enumerated}
-use Rattle.std.proofs.Common.{◌≡◌, ◌≢◌, ℕ, suc, ◌<◌, ◌≤◌, Bool, true, false, ◌==◌, if◌then◌else◌, List, [], ◌∷◌, ◌++◌, map, refl, sym, ap, subst, ◌∙◌, arith, eqb-true}
+use Rattle.std.proofs.Common.{◌≡◌, ◌≢◌, ℕ, suc, ◌<◌, ◌≤◌, Bool, true, false, ◌==◌, if◌then◌else◌, List, [], ◌∷◌, ◌++◌, length, map, refl, sym, ap, subst, ◌∙◌, arith, eqb-true, length-append}
 use Rattle.rd_depend.proofs.FirstOfActor.{HasNoneBy}
 use Rattle.rd_depend.proofs.TouchedKeys.{wrote_touched}
 use Rattle.rd_depend.proofs.TakingOut.{touched-alike, wrote-alike, AreApart, IsApartFrom, TakesAll}
@@ -44,13 +44,9 @@ Each P (p ∷ ps) = P p × Each P ps
 each-append : (P : Placed → Type 0) (ps qs : List Placed) → Each P ps → Each P qs → Each P (ps ++ qs)
 each-append h ps qs k g = grind (arith, common_steps)
 
-each-first : (P : Placed → Type 0) (ps qs : List Placed) → Each P (ps ++ qs) → Each P ps
-each-first P [] qs h = tt
-each-first P (p ∷ ps) qs h = (h.0, each-first P ps qs h.1)
-
-each-second : (P : Placed → Type 0) (ps qs : List Placed) → Each P (ps ++ qs) → Each P qs
-each-second P [] qs h = h
-each-second P (p ∷ ps) qs h = each-second P ps qs h.1
+each-parts : (P : Placed → Type 0) (ps qs : List Placed) → Each P (ps ++ qs) → Each P ps × Each P qs
+each-parts P [] qs h = (tt, h)
+each-parts P (p ∷ ps) qs h = let rest = each-parts P ps qs h.1 in ((h.0, rest.0), rest.1)
 
 each-more : (P Q : Placed → Type 0) (ps : List Placed) → ((p : Placed) → P p → Q p) → Each P ps → Each Q ps
 each-more P Q [] f h = tt
@@ -75,11 +71,11 @@ around : (ps : List Placed) (p : Placed) (qs : List Placed) → Ascends (ps ++ p
 around [] p qs h = record { before = tt; behind = h.0; rest = h.1 }
 around (r ∷ ps) p qs h =
     let a = around ps p qs h.1 in
-    let its = each-second (λ q. r.0 < q.0) ps (p ∷ qs) h.0 in
+    let its = (each-parts (λ q. r.0 < q.0) ps (p ∷ qs) h.0).1 in
     record {
       before = (its.0, a.before);
       behind = a.behind;
-      rest = (each-append (λ q. r.0 < q.0) ps qs (each-first (λ q. r.0 < q.0) ps (p ∷ qs) h.0) its.1, a.rest);
+      rest = (each-append (λ q. r.0 < q.0) ps qs ((each-parts (λ q. r.0 < q.0) ps (p ∷ qs) h.0).0) its.1, a.rest);
     }
 
 enumerated-behind : (P : ℕ → Type 0) (i : ℕ) (xs : List Entry) → ((j : ℕ) → i ≤ j → P j) → Each (λ q. P q.0) (enumerated i xs)
@@ -183,7 +179,7 @@ kept_more : (s : Key → Reached) (x : Entry) (xs : List Entry) (ps qs : List Pl
     → IsInOrder s x p.0 → HasNoneBy p.1.event.actor (entries_of ps) → Kept (moved s x p.0) xs (ps ++ qs) → Kept s (x ∷ xs) (ps ++ p ∷ qs)
 kept_more s x xs ps qs p ascends alike order none h =
     let its = subst (λ (t : Key → Reached). AreInOrder t (ps ++ qs)) (moved-alike s x p.1 p.0 alike) h.order in
-    let first = each-first _ ps qs its in
+    let first = (each-parts _ ps qs its).0 in
     let before = each-more _ (λ q. IsInOrder s q.1 q.0) (ps ++ qs) (λ q g. in_order-before s p.1 q.1 p.0 q.0 g) its in
     record {
       taken = (
@@ -199,7 +195,7 @@ kept_more s x xs ps qs p ascends alike order none h =
         },
         h.taken,
       );
-      order = each-append _ ps (p ∷ qs) (each-first _ ps qs before) (in_order-alike s x p.1 p.0 alike order, each-second _ ps qs before);
+      order = each-append _ ps (p ∷ qs) ((each-parts _ ps qs before).0) (in_order-alike s x p.1 p.0 alike order, (each-parts _ ps qs before).1);
     }
 
 kept : (s : Key → Reached) (xs : List Entry) (ps : List Placed) → Ascends ps → KeepsOrder s xs (λ n. by_actor n ps) → Kept s xs ps
@@ -234,11 +230,7 @@ record Found (ps : List Placed) (xs : List Entry) (y : Entry) (ys : List Entry) 
   behind : entries_of later ≡ ys
 
 find : (ps : List Placed) (xs : List Entry) (y : Entry) (ys : List Entry) → entries_of ps ≡ xs ++ y ∷ ys → Found ps xs y ys
-find [] xs y ys h = absurd (nowhere xs h)
-  where
-    nowhere : (zs : List Entry) → [] ≡ zs ++ y ∷ ys → ⊥
-    nowhere [] e = cc
-    nowhere (z ∷ zs) e = cc
+find [] xs y ys h = absurd (omega (arith, ap length h, length-append xs (y ∷ ys)))
 find (p ∷ ps) [] y ys h = record { earlier = []; step = p; later = ps; stands = refl; before = refl; itself = cc; behind = cc }
 find (p ∷ ps) (x ∷ xs) y ys h =
     let f = find ps xs y ys (let e : entries_of ps ≡ xs ++ y ∷ ys = cc in e) in
@@ -266,10 +258,10 @@ taken_more : (s : Key → Reached) (x : Entry) (xs : List Entry) (ps qs : List P
 taken_more s x xs ps qs p order ascends alike apart on =
     let n = x.event.actor in
     let e : n ≡ p.1.event.actor = ap (λ e. e.actor) alike.event in
-    let its = each-second _ ps (p ∷ qs) order in
+    let its = (each-parts _ ps (p ∷ qs) order).1 in
     let behind = each-more _ (λ q. IsInOrder (moved s p.1 p.0) q.1 q.0) qs (λ q both. in_order-behind s p.1 q.1 p.0 q.0 both.0 both.1)
     (each-both _ _ qs its.1 (around ps p qs ascends).behind) in
-    let rest = each-append _ ps qs (still_in_order s p.1 p.0 ps (each-first _ ps (p ∷ qs) order) apart) behind in
+    let rest = each-append _ ps qs (still_in_order s p.1 p.0 ps ((each-parts _ ps (p ∷ qs) order).0) apart) behind in
     let same = sym (moved-alike s x p.1 p.0 alike) in (
       p,
       by_actor n (ps ++ qs),

@@ -149,18 +149,8 @@ pub(crate) fn move_all(lists: &mut Vec<Vec<u32>>, k: u32, n: u32)
     ensures number { length lists.new.items ≡ length lists.old.items }
 {
     for index in 0..lists.len() {
-        move_in(&mut lists[index], k, n);
+        move_among(&mut lists[index], k, n);
     }
-}
-
-/// Moves a position, if it is in the list, after those above it up to `n`, and takes 1 off these.
-fn move_in(list: &mut Vec<u32>, k: u32, n: u32)
-    requires some { 1 ≤ k }
-    requires order { k ≤ n }
-    ensures items { IsMoved k n list.old.items list.new.items }
-    ensures capacity { vec_capacity list.new ≡ vec_capacity list.old }
-{
-    move_among(list, k, n);
 }
 
 /// Moves a position, if it is there, after those above it up to `n`, and takes 1 off these.
