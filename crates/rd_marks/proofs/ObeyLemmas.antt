@@ -2,11 +2,11 @@
 use Rattle.std.proofs.Common.{◌≡◌, ℕ, sym, subst, List, [], ◌∷◌, ◌++◌, length, Some, None, Result, Ok, Err, OnErr, IfErr, ◌∙◌, arith}
 use Rattle.std.proofs.lemmas.Option.{same_Some}
 use Rattle.rd_journal.specs.Sessions.{MayRefuse}
-use Rattle.rd_marks.proofs.Prelude.{Refusal, Event, Session, State, apply, reply_to, undo, undo_at, roll, back, redo, forward, Command, BookState, MarkName, with_session, goto_mark, Answered, answer_with, move_answer, query_answer, happens, Happened, IsMade, NeedsNoMemory, IsObeyed, AreObeyed}
-use Rattle.rd_marks.specs.declared.commands.Command.TheVariants.{Enq, Deq, ArrayEnq, ArrayDeq, Go, Starve, Undo, UndoAt, Roll, Back, Redo, Forward, Mark as MarkAs, DropMark, GotoMark, Marks, MarkAt, Same, Origin, Writer, Show, Actor, Step, Len}
+use Rattle.rd_marks.proofs.Prelude.{Refusal, Event, Session, State, apply, reply_to, undo, undo_at, roll, back, redo, forward, Command, BookState, MarkName, with_session, goto_mark, Answered, answer_with, move_answer, happens, Happened, IsMade, NeedsNoMemory, IsObeyed, AreObeyed}
+use Rattle.rd_marks.specs.declared.commands.Command.TheVariants as command
 use Rattle.rd_marks.specs.declared.replies.Reply.{Reply}
 use Rattle.rd_marks.specs.declared.replies.Reply.TheVariants.{Applied}
-use Rattle.rd_actor.specs.declared.actors.Act.TheVariants.{Enq as CallsEnq, Deq as CallsDeq, AEnq as CallsArrayEnq, ADeq as CallsArrayDeq, Go as GoesOn, Starve as Starves}
+use Rattle.rd_actor.specs.declared.actors.Act.TheVariants as act
 use Rattle.rd_marks.specs.BookViews.{MayRefuseAsGoing}
 use Rattle.rd_marks.specs.declared.books.Book.{Book}
 use Rattle.rd_marks.specs.Commands.{event}
@@ -31,8 +31,8 @@ happens_leaves R b e = of_applied (apply R b.session e) (apply_start R b.session
 goto_start : (b : BookState) (name : MarkName) (t : BookState) → goto_mark b name ≡ Ok t → t.session.start ≡ b.session.start
 goto_start b name t h = grind arith
 
-query_leaves : (b : BookState) (answer : Result Reply Refusal) → LeavesStart b (query_answer b answer)
-query_leaves b answer = grind arith
+query_leaves : (b : BookState) (a : Answered) → a.state ≡ b → LeavesStart b a
+query_leaves b a same = grind arith
 
 -- an answer that is this one leaves what this one leaves
 as_this : (b : BookState) (a c : Answered) → LeavesStart b c → a ≡ c → LeavesStart b a
@@ -46,39 +46,31 @@ made_leaves : (b : BookState) (reply : BookState → Reply) (r : Result BookStat
 made_leaves b reply r P a starts k = grind arith
 
 pub obeyed_leaves : (R : ℕ) (b : BookState) (c : Command) (a : Answered) → IsObeyed R b c a → LeavesStart b a
-obeyed_leaves R b (Enq actor value) a h = happened_leaves R b (event actor (CallsEnq value)) a h
-obeyed_leaves R b (Deq actor) a h = happened_leaves R b (event actor CallsDeq) a h
-obeyed_leaves R b (ArrayEnq actor value) a h = happened_leaves R b (event actor (CallsArrayEnq value)) a h
-obeyed_leaves R b (ArrayDeq actor) a h = happened_leaves R b (event actor CallsArrayDeq) a h
-obeyed_leaves R b (Go actor) a h = happened_leaves R b (event actor GoesOn) a h
-obeyed_leaves R b (Starve actor choice) a h = happened_leaves R b (event actor (Starves choice)) a h
-obeyed_leaves R b Undo a h = as_this b a _ (move_leaves b (undo b.session) (undo_start b.session)) h
-obeyed_leaves R b (UndoAt k) a h = as_this b a _ (move_leaves b (undo_at R b.session k) (undo_at_start R b.session k)) h
-obeyed_leaves R b (Roll k) a h = as_this b a _ (move_leaves b (roll R b.session k) (roll_start R b.session k)) h
-obeyed_leaves R b (Back n) a h = as_this b a _ (move_leaves b (back b.session n) (back_start b.session n)) h
-obeyed_leaves R b Redo a h = as_this b a _ (move_leaves b (redo b.session) (redo_start b.session)) h
-obeyed_leaves R b (Forward n) a h = as_this b a _ (move_leaves b (forward b.session n) (forward_start b.session n)) h
-obeyed_leaves R b (MarkAs name) a h = grind (arith, made_leaves)
-obeyed_leaves R b (DropMark name) a h = grind (arith, as_this)
-obeyed_leaves R b (GotoMark name) a h = made_leaves b _ (goto_mark b name) _ a (goto_start b name) h
-obeyed_leaves R b Marks a h = as_this b a _ (query_leaves b _) h
-obeyed_leaves R b (MarkAt i) a h = as_this b a _ (query_leaves b _) h
-obeyed_leaves R b (Same one other) a h = as_this b a _ (query_leaves b _) h.answers
-obeyed_leaves R b (Origin k) a h = as_this b a _ (query_leaves b _) h
-obeyed_leaves R b (Writer place) a h = as_this b a _ (query_leaves b _) h
-obeyed_leaves R b (Show place) a h = as_this b a _ (query_leaves b _) h
-obeyed_leaves R b (Actor n) a h = as_this b a _ (query_leaves b _) h
-obeyed_leaves R b (Step k) a h = as_this b a _ (query_leaves b _) h
-obeyed_leaves R b Len a h = as_this b a _ (query_leaves b _) h
+obeyed_leaves R b (command.Enq actor value) a h = happened_leaves R b (event actor (act.Enq value)) a h
+obeyed_leaves R b (command.Deq actor) a h = happened_leaves R b (event actor act.Deq) a h
+obeyed_leaves R b (command.ArrayEnq actor value) a h = happened_leaves R b (event actor (act.AEnq value)) a h
+obeyed_leaves R b (command.ArrayDeq actor) a h = happened_leaves R b (event actor act.ADeq) a h
+obeyed_leaves R b (command.Go actor) a h = happened_leaves R b (event actor act.Go) a h
+obeyed_leaves R b (command.Starve actor choice) a h = happened_leaves R b (event actor (act.Starve choice)) a h
+obeyed_leaves R b command.Undo a h = as_this b a _ (move_leaves b (undo b.session) (undo_start b.session)) h
+obeyed_leaves R b (command.UndoAt k) a h = as_this b a _ (move_leaves b (undo_at R b.session k) (undo_at_start R b.session k)) h
+obeyed_leaves R b (command.Roll k) a h = as_this b a _ (move_leaves b (roll R b.session k) (roll_start R b.session k)) h
+obeyed_leaves R b (command.Back n) a h = as_this b a _ (move_leaves b (back b.session n) (back_start b.session n)) h
+obeyed_leaves R b command.Redo a h = as_this b a _ (move_leaves b (redo b.session) (redo_start b.session)) h
+obeyed_leaves R b (command.Forward n) a h = as_this b a _ (move_leaves b (forward b.session n) (forward_start b.session n)) h
+obeyed_leaves R b (command.Mark name) a h = grind (arith, made_leaves)
+obeyed_leaves R b (command.DropMark name) a h = grind (arith, as_this)
+obeyed_leaves R b (command.GotoMark name) a h = made_leaves b _ (goto_mark b name) _ a (goto_start b name) h
+obeyed_leaves R b _ a h = grind (arith, query_leaves)
 
 -- a command that is an event is answered as the event is
-pub event_obeyed : (R : ℕ) (b : BookState) (command : Command) (e : Event) (a : Answered) → as_event command ≡ Some e → Happened R b e a → IsObeyed R b command a
-event_obeyed R b (Enq actor value) e a is h = subst (λ (x : Event). Happened R b x a) (sym (same_Some _ e is)) h
-event_obeyed R b (Deq actor) e a is h = subst (λ (x : Event). Happened R b x a) (sym (same_Some _ e is)) h
-event_obeyed R b (ArrayEnq actor value) e a is h = subst (λ (x : Event). Happened R b x a) (sym (same_Some _ e is)) h
-event_obeyed R b (ArrayDeq actor) e a is h = subst (λ (x : Event). Happened R b x a) (sym (same_Some _ e is)) h
-event_obeyed R b (Go actor) e a is h = subst (λ (x : Event). Happened R b x a) (sym (same_Some _ e is)) h
-event_obeyed R b (Starve actor choice) e a is h = subst (λ (x : Event). Happened R b x a) (sym (same_Some _ e is)) h
+pub event_obeyed : (R : ℕ) (b : BookState) (c : Command) (e : Event) (a : Answered) → as_event c ≡ Some e → Happened R b e a → IsObeyed R b c a
+event_obeyed R b (command.Enq actor value) e a is h = subst (λ (x : Event). Happened R b x a) (sym (same_Some _ e is)) h
+event_obeyed R b (command.Deq actor) e a is h = subst (λ (x : Event). Happened R b x a) (sym (same_Some _ e is)) h
+event_obeyed R b (command.ArrayEnq actor value) e a is h = subst (λ (x : Event). Happened R b x a) (sym (same_Some _ e is)) h
+event_obeyed R b (command.ArrayDeq actor) e a is h = subst (λ (x : Event). Happened R b x a) (sym (same_Some _ e is)) h
+event_obeyed R b (command.Go actor) e a is h = subst (λ (x : Event). Happened R b x a) (sym (same_Some _ e is)) h
+event_obeyed R b (command.Starve actor choice) e a is h = subst (λ (x : Event). Happened R b x a) (sym (same_Some _ e is)) h
 event_obeyed R b _ e a is h = cc
 
 -- One more command of a list

@@ -27,7 +27,7 @@ pub use Rattle.rd_step.specs.declared.entries.Event.{Event}
 pub use Rattle.rd_marks.specs.BookViews.{book_state}
 pub use Rattle.rd_marks.specs.Books.{AnswersEvents, AnswersSame, BookState, MakesSteps, Mark, at_events, drop_mark, goto_mark, mark, mark_at, mark_events, marked_events, name_and_length, with_marks, with_session, without_mark}
 pub use Rattle.rd_marks.specs.Changes.{IsGrown, IsLow, IsShrunk, IsUnchanged, Stays, shifted}
-pub use Rattle.rd_marks.specs.Commands.{Answered, AreObeyed, Happened, IsMade, IsObeyed, NeedsNoMemory, answer_with, happens, move_answer, query_answer}
+pub use Rattle.rd_marks.specs.Commands.{Answered, AreObeyed, Happened, IsMade, IsObeyed, NeedsNoMemory, answer_with, happens, move_answer}
 pub use Rattle.rd_marks.specs.Kept.{IsPlaceIn, here_in, lists_in, entries_in}
 pub use Rattle.rd_marks.specs.Layout.{AreRuns, IsKept, IsPruned, AreEntriesOfRun, named_lists, places_of}
 pub use Rattle.rd_marks.specs.Marks.{mark_of, marks_of}

@@ -1,9 +1,6 @@
 //! The queries: what the session of a book shows.
 
-ghost use Rattle.std.specs.Prelude.{◌≡◌, length, ok_or};
-ghost use Rattle.rd_step.specs.Prelude.{NoActor, NoSuchPlace, NoSuchStep, content_at, numbered};
-ghost use Rattle.rd_origin.specs.Origins.{origin_in};
-ghost use Rattle.rd_origin.specs.Writers.{last_writer_in};
+ghost use Rattle.std.specs.Prelude.{◌≡◌};
 
 use super::super::replies::Reply;
 use super::Book;
@@ -12,8 +9,8 @@ use rd_origin::{last_writer, origin};
 
 impl<const R: usize> Book<R> {
     ghost use Rattle.rd_marks.specs.BookViews.{book_state};
-    ghost use Rattle.rd_marks.specs.Commands.{step_counts, query_reply};
-    ghost use Rattle.rd_marks.specs.declared.replies.Reply.TheVariants.{Origin as OriginIs, Writer as WriterIs, Content as ContentIs, Actor as ActorIs, Step as StepIs};
+    ghost use Rattle.rd_marks.specs.Commands.{AnswersQuery, step_counts};
+    ghost use Rattle.rd_marks.specs.declared.commands.Command.TheVariants as command;
 
     /// How many steps are live and how many are undone.
     pub(super) fn step_counts(&self) -> Reply
@@ -27,21 +24,21 @@ impl<const R: usize> Book<R> {
 
     /// Where the value came from that the live step of this number took.
     pub(super) fn answer_origin(&self, k: u64) -> Result<Reply, Refusal>
-        ensures { result ≡ query_reply R (book_state self.now) OriginIs (λ ran. origin_in ran.entries k) }
+        ensures { AnswersQuery R (book_state self.now) (command.Origin k) result }
     {
         Ok(Reply::Origin(origin(&self.session, k)?))
     }
 
     /// The live step that last wrote a place.
     pub(super) fn answer_writer(&self, place: Place) -> Result<Reply, Refusal>
-        ensures { result ≡ query_reply R (book_state self.now) WriterIs (λ ran. last_writer_in ran place) }
+        ensures { AnswersQuery R (book_state self.now) (command.Writer place) result }
     {
         Ok(Reply::Writer(last_writer(&self.session, place)?))
     }
 
     /// What is at a place in the session's world.
     pub(super) fn answer_show(&self, place: Place) -> Result<Reply, Refusal>
-        ensures { result ≡ query_reply R (book_state self.now) ContentIs (λ ran. ok_or (content_at ran.world.at place) NoSuchPlace) }
+        ensures { AnswersQuery R (book_state self.now) (command.Show place) result }
     {
         match self.session.world().content(place) {
             None => Err(Refusal::NoSuchPlace),
@@ -51,7 +48,7 @@ impl<const R: usize> Book<R> {
 
     /// The words of an actor in the session's world.
     pub(super) fn answer_actor(&self, actor: u8) -> Result<Reply, Refusal>
-        ensures { result ≡ query_reply R (book_state self.now) ActorIs (λ ran. ok_or (ran.world.actor actor) NoActor) }
+        ensures { AnswersQuery R (book_state self.now) (command.Actor actor) result }
     {
         match self.session.world().actor(actor) {
             None => Err(Refusal::NoActor),
@@ -61,7 +58,7 @@ impl<const R: usize> Book<R> {
 
     /// The entry of the live step of this number.
     pub(super) fn answer_step(&self, number: u64) -> Result<Reply, Refusal>
-        ensures { result ≡ query_reply R (book_state self.now) (StepIs number) (λ ran. ok_or (numbered ran.entries number) (NoSuchStep (length ran.entries))) }
+        ensures { AnswersQuery R (book_state self.now) (command.Step number) result }
     {
         let entry = self.session.entry(number)?;
         Ok(Reply::Step { number, entry })
