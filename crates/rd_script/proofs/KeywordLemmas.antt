@@ -1,17 +1,13 @@
 -- The keywords and the kinds of places: each has a text of its own, by which it is found among all
 -- of them.
 use Rattle.std.proofs.Common.{◌≡◌, ◌≢◌, ◌∙◌, ℕ, suc, ◌<◌, Bool, true, false, true≢false, List, [], ◌∷◌, length, Option, Some, None, if◌then◌else◌, nat_eq, slice_index_or, refl, sym, ap, arith}
-use Rattle.rd_script.proofs.Prelude.{Keyword, Go, Len, Enq, Deq, Undo, Redo, Back, Forward, Roll, Step, Show, Actor, Starve, Mark, Goto, Drop, Same, Origin, Writer, Marks, MarkAt, ArrayEnq, ArrayDeq, PlaceKind, QHeadWord, QTailWord, HeadOf, TailOf, NextOf, CellWord, ValueWord, IndexWord, WholeWord, ArrHeadWord, ArrTailWord, ArrCellWord, keyword_text, kind_text}
+use Rattle.rd_script.proofs.Prelude.{Keyword, PlaceKind, keyword_text, kind_text}
+use Rattle.rd_script.specs.declared.reading.keywords.Keyword.TheVariants as keyword
+use Rattle.rd_script.specs.declared.reading.places.PlaceKind.TheVariants as kind
+use Rattle.rd_script.specs.declared.reading.keywords.TheConstants.Keyword.{ALL as keywords}
+use Rattle.rd_script.specs.declared.reading.places.TheConstants.PlaceKind.{ALL as kinds}
 use Rattle.std.specs.Cmp.Lexicographic.{pointwise, same_text}
 use Rattle.std.specs.Option.{unwrap_or, is_some}
-
--- all keywords, in the order in which they are tried
-abbrev pub keywords : List Keyword
-keywords = Go ∷ Len ∷ Enq ∷ Deq ∷ Undo ∷ Redo ∷ Back ∷ Forward ∷ Roll ∷ Step ∷ Show ∷ Actor ∷ Starve ∷ Mark ∷ Goto ∷ Drop ∷ Same ∷ Origin ∷ Writer ∷ Marks ∷ MarkAt ∷ ArrayEnq ∷ ArrayDeq ∷ []
-
--- all kinds of places, in the order in which they are tried
-abbrev pub kinds : List PlaceKind
-kinds = QHeadWord ∷ QTailWord ∷ HeadOf ∷ TailOf ∷ NextOf ∷ CellWord ∷ ValueWord ∷ IndexWord ∷ WholeWord ∷ ArrHeadWord ∷ ArrTailWord ∷ ArrCellWord ∷ []
 
 -- the first of these that has the text
 abbrev first_with : {K : Type 0} → (K → List ℕ) → List ℕ → List K → Option K
@@ -46,12 +42,12 @@ kind_is_found k = grind arith
 pub one_keyword : (k m : Keyword) → keyword_text k ≡ keyword_text m → k ≡ m
 one_keyword k m e = one_of_text keyword_text keywords keyword_is_found k m e
 
-pub none_of_all : (word : List ℕ) → ((k : ℕ) → k < 23 → word ≢ keyword_text (slice_index_or keywords k Go)) → (keyword : Keyword) → word ≢ keyword_text keyword
-none_of_all word none keyword = none_of_text keyword_text keywords keyword_is_found word Go none keyword
+pub none_of_all : (word : List ℕ) → ((i : ℕ) → i < length keywords → word ≢ keyword_text (slice_index_or keywords i keyword.Go)) → (k : Keyword) → word ≢ keyword_text k
+none_of_all word none k = none_of_text keyword_text keywords keyword_is_found word keyword.Go none k
 
 -- and kinds of places
 pub one_kind : (k m : PlaceKind) → kind_text k ≡ kind_text m → k ≡ m
 one_kind k m e = one_of_text kind_text kinds kind_is_found k m e
 
-pub none_of_kinds : (word : List ℕ) → ((k : ℕ) → k < 12 → word ≢ kind_text (slice_index_or kinds k QHeadWord)) → (kind : PlaceKind) → word ≢ kind_text kind
-none_of_kinds word none kind = none_of_text kind_text kinds kind_is_found word QHeadWord none kind
+pub none_of_kinds : (word : List ℕ) → ((i : ℕ) → i < length kinds → word ≢ kind_text (slice_index_or kinds i kind.QHead)) → (k : PlaceKind) → word ≢ kind_text k
+none_of_kinds word none k = none_of_text kind_text kinds kind_is_found word kind.QHead none k

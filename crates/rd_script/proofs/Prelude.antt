@@ -24,7 +24,5 @@ pub use Rattle.rd_script.specs.Spelling.{AreOne, IsInRange, IsMisnamed, NamesBad
 pub use Rattle.rd_script.specs.Texts.{yes_or_no}
 pub use Rattle.rd_script.specs.declared.faults.LineFault.{LineFault}
 pub use Rattle.rd_script.specs.declared.reading.keywords.Keyword.{Keyword}
-pub use Rattle.rd_script.specs.declared.reading.keywords.Keyword.TheVariants.{Actor, ArrayDeq, ArrayEnq, Back, Deq, Drop, Enq, Forward, Go, Goto, Len, Mark, MarkAt, Marks, Origin, Redo, Roll, Same, Show, Starve, Step, Undo, Writer}
 pub use Rattle.rd_script.specs.declared.reading.lines.Line.{Line}
 pub use Rattle.rd_script.specs.declared.reading.places.PlaceKind.{PlaceKind}
-pub use Rattle.rd_script.specs.declared.reading.places.PlaceKind.TheVariants.{ArrCell as ArrCellWord, ArrHead as ArrHeadWord, ArrTail as ArrTailWord, Cell as CellWord, Head as HeadOf, Index as IndexWord, Next as NextOf, QHead, QHead as QHeadWord, QTail as QTailWord, Tail as TailOf, Value as ValueWord, Whole as WholeWord}

@@ -6,96 +6,69 @@ use Rattle.rd_step.specs.Prelude.{SegName, Place, QHead, QTail, Head, Tail, Next
 use Rattle.rd_marks.specs.NameBytes.{is_mark_name}
 use Rattle.rd_marks.specs.Names.{bytes_of}
 use Rattle.rd_marks.specs.declared.commands.Command.{Command}
-use Rattle.rd_marks.specs.declared.commands.Command.TheVariants.{Enq, Deq, ArrayEnq, ArrayDeq, Go, Starve, Undo, UndoAt, Roll, Back, Redo, Forward, Mark, DropMark, GotoMark, Marks, MarkAt, Same, Origin, Writer, Show, Actor, Step, Len}
+use Rattle.rd_marks.specs.declared.commands.Command.TheVariants as command
 use Rattle.rd_script.specs.declared.reading.keywords.Keyword.{Keyword}
-use Rattle.rd_script.specs.declared.reading.keywords.Keyword.TheVariants.{Enq as EnqWord, Deq as DeqWord, ArrayEnq as ArrayEnqWord, ArrayDeq as ArrayDeqWord, Go as GoWord, Starve as StarveWord, Undo as UndoWord, Roll as RollWord, Back as BackWord, Redo as RedoWord, Forward as ForwardWord, Mark as MarkWord, Drop as DropWord, Goto as GotoWord, Marks as MarksWord, MarkAt as MarkAtWord, Same as SameWord, Origin as OriginWord, Writer as WriterWord, Show as ShowWord, Actor as ActorWord, Step as StepWord, Len as LenWord}
+use Rattle.rd_script.specs.declared.reading.keywords.Keyword.TheVariants as keyword
 use Rattle.rd_script.specs.declared.reading.places.PlaceKind.{PlaceKind}
-use Rattle.rd_script.specs.declared.reading.places.PlaceKind.TheVariants.{QHead as QHeadWord, QTail as QTailWord, Head as HeadOf, Tail as TailOf, Next as NextOf, Cell as CellWord, Value as ValueWord, Index as IndexWord, Whole as WholeWord, ArrHead as ArrHeadWord, ArrTail as ArrTailWord, ArrCell as ArrCellWord}
+use Rattle.rd_script.specs.declared.reading.places.PlaceKind.TheVariants as kind
 use Rattle.rd_script.specs.Texts.{yes_or_no}
 use Rattle.rd_script.specs.Contents.{name_words}
 
 -- the text of a keyword
 abbrev pub keyword_text : Keyword → List ℕ
-keyword_text EnqWord = codes "enq"
-keyword_text DeqWord = codes "deq"
-keyword_text ArrayEnqWord = codes "aenq"
-keyword_text ArrayDeqWord = codes "adeq"
-keyword_text GoWord = codes "go"
-keyword_text StarveWord = codes "starve"
-keyword_text UndoWord = codes "undo"
-keyword_text RollWord = codes "roll"
-keyword_text BackWord = codes "back"
-keyword_text RedoWord = codes "redo"
-keyword_text ForwardWord = codes "forward"
-keyword_text MarkWord = codes "mark"
-keyword_text DropWord = codes "drop"
-keyword_text GotoWord = codes "goto"
-keyword_text MarksWord = codes "marks"
-keyword_text MarkAtWord = codes "markat"
-keyword_text SameWord = codes "same"
-keyword_text OriginWord = codes "origin"
-keyword_text WriterWord = codes "writer"
-keyword_text ShowWord = codes "show"
-keyword_text ActorWord = codes "actor"
-keyword_text StepWord = codes "step"
-keyword_text LenWord = codes "len"
-
--- the keyword of a command
-abbrev pub keyword_of : Command → Keyword
-keyword_of (Enq actor x) = EnqWord
-keyword_of (Deq actor) = DeqWord
-keyword_of (ArrayEnq actor x) = ArrayEnqWord
-keyword_of (ArrayDeq actor) = ArrayDeqWord
-keyword_of (Go actor) = GoWord
-keyword_of (Starve actor choice) = StarveWord
-keyword_of Undo = UndoWord
-keyword_of (UndoAt k) = UndoWord
-keyword_of (Roll k) = RollWord
-keyword_of (Back n) = BackWord
-keyword_of Redo = RedoWord
-keyword_of (Forward n) = ForwardWord
-keyword_of (Mark name) = MarkWord
-keyword_of (DropMark name) = DropWord
-keyword_of (GotoMark name) = GotoWord
-keyword_of Marks = MarksWord
-keyword_of (MarkAt i) = MarkAtWord
-keyword_of (Same one other) = SameWord
-keyword_of (Origin k) = OriginWord
-keyword_of (Writer place) = WriterWord
-keyword_of (Show place) = ShowWord
-keyword_of (Actor actor) = ActorWord
-keyword_of (Step k) = StepWord
-keyword_of Len = LenWord
+keyword_text keyword.Enq = codes "enq"
+keyword_text keyword.Deq = codes "deq"
+keyword_text keyword.ArrayEnq = codes "aenq"
+keyword_text keyword.ArrayDeq = codes "adeq"
+keyword_text keyword.Go = codes "go"
+keyword_text keyword.Starve = codes "starve"
+keyword_text keyword.Undo = codes "undo"
+keyword_text keyword.Roll = codes "roll"
+keyword_text keyword.Back = codes "back"
+keyword_text keyword.Redo = codes "redo"
+keyword_text keyword.Forward = codes "forward"
+keyword_text keyword.Mark = codes "mark"
+keyword_text keyword.Drop = codes "drop"
+keyword_text keyword.Goto = codes "goto"
+keyword_text keyword.Marks = codes "marks"
+keyword_text keyword.MarkAt = codes "markat"
+keyword_text keyword.Same = codes "same"
+keyword_text keyword.Origin = codes "origin"
+keyword_text keyword.Writer = codes "writer"
+keyword_text keyword.Show = codes "show"
+keyword_text keyword.Actor = codes "actor"
+keyword_text keyword.Step = codes "step"
+keyword_text keyword.Len = codes "len"
 
 -- the text of a kind of place
 abbrev pub kind_text : PlaceKind → List ℕ
-kind_text QHeadWord = codes "qhead"
-kind_text QTailWord = codes "qtail"
-kind_text HeadOf = codes "head"
-kind_text TailOf = codes "tail"
-kind_text NextOf = codes "next"
-kind_text CellWord = codes "cell"
-kind_text ValueWord = codes "value"
-kind_text IndexWord = codes "index"
-kind_text WholeWord = codes "whole"
-kind_text ArrHeadWord = codes "ahead"
-kind_text ArrTailWord = codes "atail"
-kind_text ArrCellWord = codes "acell"
+kind_text kind.QHead = codes "qhead"
+kind_text kind.QTail = codes "qtail"
+kind_text kind.Head = codes "head"
+kind_text kind.Tail = codes "tail"
+kind_text kind.Next = codes "next"
+kind_text kind.Cell = codes "cell"
+kind_text kind.Value = codes "value"
+kind_text kind.Index = codes "index"
+kind_text kind.Whole = codes "whole"
+kind_text kind.ArrHead = codes "ahead"
+kind_text kind.ArrTail = codes "atail"
+kind_text kind.ArrCell = codes "acell"
 
 -- the kind of a place
 abbrev pub kind_of : Place → PlaceKind
-kind_of QHead = QHeadWord
-kind_of QTail = QTailWord
-kind_of (Head s) = HeadOf
-kind_of (Tail s) = TailOf
-kind_of (Next s) = NextOf
-kind_of (CellAt s i) = CellWord
-kind_of (ValAt s i) = ValueWord
-kind_of (IdxAt s i) = IndexWord
-kind_of (WholeOf s) = WholeWord
-kind_of ArrHead = ArrHeadWord
-kind_of ArrTail = ArrTailWord
-kind_of (ArrCell i) = ArrCellWord
+kind_of QHead = kind.QHead
+kind_of QTail = kind.QTail
+kind_of (Head s) = kind.Head
+kind_of (Tail s) = kind.Tail
+kind_of (Next s) = kind.Next
+kind_of (CellAt s i) = kind.Cell
+kind_of (ValAt s i) = kind.Value
+kind_of (IdxAt s i) = kind.Index
+kind_of (WholeOf s) = kind.Whole
+kind_of ArrHead = kind.ArrHead
+kind_of ArrTail = kind.ArrTail
+kind_of (ArrCell i) = kind.ArrCell
 
 -- an argument of a command: an actor's or a cell's number, any other number, a segment, a choice,
 -- the bytes of a bookmark's name, or a kind of place
@@ -114,7 +87,7 @@ word_of (Long n) = decimal n
 word_of (Segment s) = name_words s
 word_of (Choice choice) = yes_or_no choice
 word_of (Name name) = name
-word_of (Kind kind) = kind_text kind
+word_of (Kind k) = kind_text k
 
 -- the arguments of a place after its kind
 abbrev pub place_arguments : Place → List Argument
@@ -128,29 +101,40 @@ place_arguments (WholeOf s) = Segment s ∷ []
 place_arguments (ArrCell i) = Byte i ∷ []
 place_arguments _ = []
 
+-- the keyword of a command, and the arguments that follow it
+abbrev pub keyword_and_arguments : Command → Keyword × List Argument
+keyword_and_arguments (command.Enq actor x) = (keyword.Enq, Byte actor ∷ Long x ∷ [])
+keyword_and_arguments (command.Deq actor) = (keyword.Deq, Byte actor ∷ [])
+keyword_and_arguments (command.ArrayEnq actor x) = (keyword.ArrayEnq, Byte actor ∷ Long x ∷ [])
+keyword_and_arguments (command.ArrayDeq actor) = (keyword.ArrayDeq, Byte actor ∷ [])
+keyword_and_arguments (command.Go actor) = (keyword.Go, Byte actor ∷ [])
+keyword_and_arguments (command.Starve actor choice) = (keyword.Starve, Byte actor ∷ Choice choice ∷ [])
+keyword_and_arguments command.Undo = (keyword.Undo, [])
+keyword_and_arguments (command.UndoAt k) = (keyword.Undo, Long k ∷ [])
+keyword_and_arguments (command.Roll k) = (keyword.Roll, Long k ∷ [])
+keyword_and_arguments (command.Back n) = (keyword.Back, Long n ∷ [])
+keyword_and_arguments command.Redo = (keyword.Redo, [])
+keyword_and_arguments (command.Forward n) = (keyword.Forward, Long n ∷ [])
+keyword_and_arguments (command.Mark name) = (keyword.Mark, Name (bytes_of name) ∷ [])
+keyword_and_arguments (command.DropMark name) = (keyword.Drop, Name (bytes_of name) ∷ [])
+keyword_and_arguments (command.GotoMark name) = (keyword.Goto, Name (bytes_of name) ∷ [])
+keyword_and_arguments command.Marks = (keyword.Marks, [])
+keyword_and_arguments (command.MarkAt i) = (keyword.MarkAt, Long i ∷ [])
+keyword_and_arguments (command.Same one other) = (keyword.Same, Name (bytes_of one) ∷ Name (bytes_of other) ∷ [])
+keyword_and_arguments (command.Origin k) = (keyword.Origin, Long k ∷ [])
+keyword_and_arguments (command.Writer place) = (keyword.Writer, Kind (kind_of place) ∷ place_arguments place)
+keyword_and_arguments (command.Show place) = (keyword.Show, Kind (kind_of place) ∷ place_arguments place)
+keyword_and_arguments (command.Actor actor) = (keyword.Actor, Byte actor ∷ [])
+keyword_and_arguments (command.Step k) = (keyword.Step, Long k ∷ [])
+keyword_and_arguments command.Len = (keyword.Len, [])
+
+-- the keyword of a command
+abbrev pub keyword_of : Command → Keyword
+keyword_of c = (keyword_and_arguments c).0
+
 -- the arguments of a command
 abbrev pub arguments_of : Command → List Argument
-arguments_of (Enq actor x) = Byte actor ∷ Long x ∷ []
-arguments_of (Deq actor) = Byte actor ∷ []
-arguments_of (ArrayEnq actor x) = Byte actor ∷ Long x ∷ []
-arguments_of (ArrayDeq actor) = Byte actor ∷ []
-arguments_of (Go actor) = Byte actor ∷ []
-arguments_of (Starve actor choice) = Byte actor ∷ Choice choice ∷ []
-arguments_of (UndoAt k) = Long k ∷ []
-arguments_of (Roll k) = Long k ∷ []
-arguments_of (Back n) = Long n ∷ []
-arguments_of (Forward n) = Long n ∷ []
-arguments_of (Mark name) = Name (bytes_of name) ∷ []
-arguments_of (DropMark name) = Name (bytes_of name) ∷ []
-arguments_of (GotoMark name) = Name (bytes_of name) ∷ []
-arguments_of (MarkAt i) = Long i ∷ []
-arguments_of (Same one other) = Name (bytes_of one) ∷ Name (bytes_of other) ∷ []
-arguments_of (Origin k) = Long k ∷ []
-arguments_of (Writer place) = Kind (kind_of place) ∷ place_arguments place
-arguments_of (Show place) = Kind (kind_of place) ∷ place_arguments place
-arguments_of (Actor actor) = Byte actor ∷ []
-arguments_of (Step k) = Long k ∷ []
-arguments_of _ = []
+arguments_of c = (keyword_and_arguments c).1
 
 -- the words of a list of arguments, one of each
 abbrev pub words_of : List Argument → List (List ℕ)
@@ -177,8 +161,8 @@ AreArgumentsInRange (argument ∷ arguments) = IsArgumentInRange argument × Are
 
 -- how many bookmarks' names follow this keyword in a line
 abbrev pub names_after : Keyword → ℕ
-names_after MarkWord = 1
-names_after DropWord = 1
-names_after GotoWord = 1
-names_after SameWord = 2
+names_after keyword.Mark = 1
+names_after keyword.Drop = 1
+names_after keyword.Goto = 1
+names_after keyword.Same = 2
 names_after _ = 0

@@ -3,10 +3,10 @@ use Rattle.std.specs.Option.{option_map_or}
 use Rattle.std.specs.Prelude.{ℕ, List, [], ◌∷◌, ◌++◌, codes, Option, Some, None, Result, Ok, Err}
 use Rattle.std.specs.Fmt.{decimal}
 use Rattle.rd_step.specs.Prelude.{OpReply}
-use Rattle.rd_origin.specs.declared.origins.Origin.{Origin as OriginOf}
+use Rattle.rd_origin.specs.declared.origins.Origin.{Origin}
 use Rattle.rd_marks.specs.Names.{bytes_of}
 use Rattle.rd_marks.specs.declared.replies.Reply.{Reply}
-use Rattle.rd_marks.specs.declared.replies.Reply.TheVariants.{Applied, At, Marked, Dropped, Marks, Mark, Same, Origin, Writer, Content, Actor, Step}
+use Rattle.rd_marks.specs.declared.replies.Reply.TheVariants as reply
 use Rattle.rd_script.specs.declared.answers.AnyRefusal.{AnyRefusal}
 use Rattle.rd_script.specs.Texts.{spaced_number, yes_or_no}
 use Rattle.rd_script.specs.Contents.{content_words}
@@ -16,36 +16,36 @@ use Rattle.rd_script.specs.Refusals.{any_words}
 
 -- the words of what a call replied, after a space, if the event ended one; else none
 abbrev pub event_reply : Option OpReply → List ℕ
-event_reply o = option_map_or (λ reply. codes " " ++ reply_word reply) o []
+event_reply o = option_map_or (λ r. codes " " ++ reply_word r) o []
 
 -- the words of a step's number, or a hyphen if there is no such step
 abbrev pub step_number : Option ℕ → List ℕ
 step_number o = option_map_or decimal o (codes "-")
 
 -- the words of an origin: the steps that called, put and took a value
-abbrev pub origin_words : OriginOf → List ℕ
+abbrev pub origin_words : Origin → List ℕ
 origin_words origin =
     codes "origin call " ++ step_number origin.call ++ codes " put " ++ step_number origin.put ++ codes " take" ++ spaced_number origin.take
 
--- the words of the step that last wrote a place, if one did
-abbrev pub writer_words : Option ℕ → List ℕ
-writer_words None = codes "writer none"
-writer_words (Some k) = codes "writer" ++ spaced_number k
+-- this word, and a number after a space, or `none` if there is none
+abbrev pub number_or_none : List ℕ → Option ℕ → List ℕ
+number_or_none word None = word ++ codes " none"
+number_or_none word (Some n) = word ++ spaced_number n
 
 -- the words of a reply
 abbrev pub reply_words : Reply → List ℕ
-reply_words (Applied step reply) = codes "ok" ++ spaced_number step ++ event_reply reply
-reply_words (At live undone) = codes "at" ++ spaced_number live ++ spaced_number undone
-reply_words (Marked len) = codes "marked" ++ spaced_number len
-reply_words Dropped = codes "dropped"
-reply_words (Marks count) = codes "marks" ++ spaced_number count
-reply_words (Mark name len) = codes "mark " ++ bytes_of name ++ spaced_number len
-reply_words (Same same) = codes "same " ++ yes_or_no same
-reply_words (Origin origin) = origin_words origin
-reply_words (Writer writer) = writer_words writer
-reply_words (Content content) = codes "is " ++ content_words content
-reply_words (Actor actor) = actor_words actor
-reply_words (Step number entry) = step_words number entry
+reply_words (reply.Applied step ended) = codes "ok" ++ spaced_number step ++ event_reply ended
+reply_words (reply.At live undone) = codes "at" ++ spaced_number live ++ spaced_number undone
+reply_words (reply.Marked len) = codes "marked" ++ spaced_number len
+reply_words reply.Dropped = codes "dropped"
+reply_words (reply.Marks count) = codes "marks" ++ spaced_number count
+reply_words (reply.Mark name len) = codes "mark " ++ bytes_of name ++ spaced_number len
+reply_words (reply.Same same) = codes "same " ++ yes_or_no same
+reply_words (reply.Origin origin) = origin_words origin
+reply_words (reply.Writer step) = number_or_none (codes "writer") step
+reply_words (reply.Content content) = codes "is " ++ content_words content
+reply_words (reply.Actor actor) = actor_words actor
+reply_words (reply.Step number entry) = step_words number entry
 
 -- the answer to one line: a reply, or a refusal
 abbrev pub LineAnswer : Type 0
@@ -53,7 +53,7 @@ LineAnswer = Result Reply AnyRefusal
 
 -- the words of an answer to a line
 abbrev pub words_of : LineAnswer → List ℕ
-words_of (Ok reply) = reply_words reply
+words_of (Ok r) = reply_words r
 words_of (Err refusal) = codes "refused " ++ any_words refusal
 
 -- the line of an answer, with its line feed

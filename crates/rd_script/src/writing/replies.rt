@@ -1,8 +1,9 @@
 //! The words of a book's replies.
 
+ghost use Rattle.std.specs.Prelude.{◌≤◌, ◌+◌, length};
 ghost use Rattle.rd_marks.specs.Names.{bytes_of};
-ghost use Rattle.rd_script.specs.Puts.{PutsUpTo};
-ghost use Rattle.rd_script.specs.Replies.{event_reply, step_number, origin_words, writer_words, reply_words};
+ghost use Rattle.rd_script.specs.Puts.{Puts, PutsUpTo};
+ghost use Rattle.rd_script.specs.Replies.{event_reply, step_number, origin_words, number_or_none, reply_words};
 
 use super::actors::put_actor;
 use super::contents::put_content;
@@ -39,7 +40,7 @@ pub fn put_reply(text: &mut Text, reply: &Reply)
             put(text, yes_or_no(same));
         }
         Reply::Origin(origin) => put_origin(text, origin),
-        Reply::Writer(writer) => put_writer(text, writer),
+        Reply::Writer(step) => put_number_or_none(text, b"writer", step),
         Reply::Content(content) => {
             put(text, b"is ");
             put_content(text, content);
@@ -83,13 +84,17 @@ fn put_step_number(text: &mut Text, step: Option<u64>)
     }
 }
 
-/// Appends to the text the words of the step that last wrote a place, if one did.
-fn put_writer(text: &mut Text, writer: Option<u64>)
-    ensures { PutsUpTo 27 text.old.items text.new.items (writer_words writer) }
+/// Appends to the text this word, and a number after a space, or `none` if there is none.
+fn put_number_or_none(text: &mut Text, word: &[u8], number: Option<u64>)
+    ensures words { Puts text.old.items text.new.items (number_or_none word.now number) }
+    ensures len { length (number_or_none word.now number) ≤ length word.now + 21 }
 {
-    match writer {
-        None => put(text, b"writer none"),
-        Some(step) => put_words_and_number(text, b"writer", step),
+    match number {
+        None => {
+            put(text, word);
+            put(text, b" none");
+        }
+        Some(number) => put_words_and_number(text, word, number),
     }
 }
 
